@@ -142,6 +142,12 @@ typedef struct dspec_config {
     uint32_t policy;     /* DSPEC_POLICY_SWITCH or DSPEC_POLICY_FILL */
 } dspec_config;
 
+/* So many CPUs, 8 speculations at a time, principal buffers of 64 KiB, speculative ones of 4 KiB, the greatest bounds, and DSPEC_POLICY_SWITCH. */
+DSPEC_INLINE dspec_config dspec_config_of_cpus(uint32_t cpus) DSPEC_NOEXCEPT {
+    const dspec_config config = { cpus, 8, 65536, 4096, DSPEC_MAX_ISSUES, DSPEC_MAX_CALLS, DSPEC_POLICY_SWITCH };
+    return config;
+}
+
 /* A CPU's counts. Each record that was offered stands in exactly one of accepted, dropped, specdropped, lost, discarded, void_
  * and held, and each that the schema refused in refused; the rest counts events. */
 typedef struct dspec_report {
@@ -155,7 +161,7 @@ typedef struct dspec_report {
     uint64_t held;        /* records that wait in speculative buffers */
     uint64_t drops;       /* reservations that the principal buffer refused: one a dropped record, and one a lost commit */
     uint64_t unavailable; /* calls answered DSPEC_UNAVAILABLE */
-    uint64_t busy;        /* calls answered DSPEC_BUSY */
+    uint64_t busy;        /* calls of dspec_speculation answered DSPEC_BUSY */
     uint64_t stopped;     /* calls answered DSPEC_STOPPED */
     uint64_t worn;        /* calls answered DSPEC_WORN, of which nothing else is counted */
     uint64_t refused;     /* calls answered DSPEC_BAD_RECORD, whose records weren't offered; it stays at 2^64 - 1 */
@@ -253,6 +259,13 @@ dspec_status dspec_put_in(dspec_cpu *cpu, uint64_t id, uint64_t claim, uint64_t 
  * DSPEC_OK: they were copied. DSPEC_LOST: no room; the drop was counted. DSPEC_VOID, DSPEC_STOPPED, DSPEC_WORN. DSPEC_BAD_HANDLE. */
 dspec_status dspec_commit(dspec_cpu *cpu, uint64_t id, uint32_t *count) DSPEC_NOEXCEPT;
 
+/* Commits a speculation as dspec_commit does, but not where this CPU's records of it would be lost: then it is DSPEC_BUSY, nothing was done
+ * or counted, and the speculation is as it was. That is so behind a stop too, and where another CPU has decided it. Room comes where dspec_service hands on a batch; under DSPEC_POLICY_FILL none does. It looks
+ * at this CPU's records alone: those of other CPUs go or are lost as after dspec_commit, at their services. count is the number of this
+ * CPU's records, and is written at DSPEC_OK.
+ * DSPEC_OK: they were copied. DSPEC_BUSY: they would be lost now. DSPEC_VOID, DSPEC_STOPPED, DSPEC_WORN. DSPEC_BAD_HANDLE. */
+dspec_status dspec_commit_if_room(dspec_cpu *cpu, uint64_t id, uint32_t *count) DSPEC_NOEXCEPT;
+
 /* Discards a speculation: this CPU's records of it are thrown away; the other CPUs do the same with theirs at their next service.
  * count is the number of this CPU's records, and is written at DSPEC_OK.
  * DSPEC_OK. DSPEC_VOID, DSPEC_STOPPED, DSPEC_WORN. DSPEC_BAD_HANDLE. */
@@ -269,6 +282,25 @@ dspec_status dspec_service(dspec_cpu *cpu, bool *sealed, uint32_t *settled) DSPE
  * has offered a record to a later speculation of the same slot. It stays at 2^32 - 1.
  * DSPEC_OK. DSPEC_BAD_HANDLE. */
 dspec_status dspec_dropped_in(dspec_cpu *cpu, uint64_t id, uint32_t *count) DSPEC_NOEXCEPT;
+
+/* The speculation of a slot, 1 to nspec, of which this CPU holds records: it is open, or another CPU has decided it and this CPU's next
+ * service settles it. id is 0 where this CPU holds records of none of the slot, or there is no such slot. dspec_open_in(cpu, ids, &n), of the
+ * header, writes those of all slots to ids, of which there are 64, and to n how many they are.
+ * DSPEC_OK. DSPEC_BAD_HANDLE. */
+dspec_status dspec_open_at(dspec_cpu *cpu, uint32_t slot, uint64_t *id) DSPEC_NOEXCEPT;
+
+/* Those of all slots, the lowest slot first: n tells how many they are. Nothing is written where it isn't DSPEC_OK. */
+static inline dspec_status dspec_open_in(dspec_cpu *cpu, uint64_t ids[64], size_t *n) DSPEC_NOEXCEPT {
+    size_t found = 0;
+    for (uint32_t slot = 1; slot < 64; slot++) {
+        uint64_t id = 0;
+        dspec_status status = dspec_open_at(cpu, slot, &id);
+        if (status != DSPEC_OK) return status;
+        if (id != 0) ids[found++] = id;
+    }
+    *n = found;
+    return DSPEC_OK;
+}
 
 /* The CPU's counts so far.
  * DSPEC_OK. DSPEC_BAD_HANDLE. */

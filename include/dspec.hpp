@@ -9,6 +9,7 @@
 
 #include <array>
 #include <bit>
+#include <cerrno>
 #include <concepts>
 #include <cstdint>
 #include <initializer_list>
@@ -16,6 +17,8 @@
 #include <optional>
 #include <span>
 #include <stdexcept>
+#include <string>
+#include <system_error>
 #include <tuple>
 #include <type_traits>
 #include <utility>
@@ -265,6 +268,12 @@ public:
         told.status = dspec_commit(get(), id, &told.records);
         return told;
     }
+    /* As `commit`, but DSPEC_BUSY, and nothing done, where this CPU's records would be lost. */
+    decided commit_if_room(std::uint64_t id) noexcept {
+        decided told{DSPEC_OK, 0};
+        told.status = dspec_commit_if_room(get(), id, &told.records);
+        return told;
+    }
     decided discard(std::uint64_t id) noexcept {
         decided told{DSPEC_OK, 0};
         told.status = dspec_discard(get(), id, &told.records);
@@ -276,6 +285,13 @@ public:
         std::uint32_t count = 0;
         dspec_dropped_in(get(), id, &count);
         return count;
+    }
+
+    /* The speculations of which this CPU holds records; how many they are. */
+    std::size_t open_in(std::uint64_t (&ids)[64]) noexcept {
+        std::size_t n = 0;
+        dspec_open_in(get(), ids, &n);
+        return n;
     }
 
     /* To be called now and then between the other calls; whether a batch was handed on. */
@@ -353,6 +369,12 @@ public:
     decided commit() noexcept {
         cpu *on = leave();
         return on ? on->commit(id_) : decided{DSPEC_VOID, 0};
+    }
+    /* As `commit`, but where this CPU's records would be lost it is DSPEC_BUSY, and the path stays as it is. */
+    decided commit_if_room() noexcept {
+        const decided told = on_ ? on_->commit_if_room(id_) : decided{DSPEC_VOID, 0};
+        if (told.status != DSPEC_BUSY) leave();
+        return told;
     }
     decided discard() noexcept {
         cpu *on = leave();
@@ -491,10 +513,32 @@ public:
     const dspec_names *get() const noexcept { return &names_; }
 };
 
+/* This process under a name, as a trace tells it, with stamps of dspec_monotonic; each value has a uuid of its own. */
+class system_identity {
+    std::string name_;
+    char host_[DSPEC_HOST_SIZE];
+    dspec_identity identity_;
+
+public:
+    /* Throws std::system_error where the system doesn't tell. */
+    explicit system_identity(std::string name) : name_(std::move(name)) {
+        if (!dspec_identity_of_system(&identity_, name_.c_str(), host_)) throw std::system_error(errno, std::generic_category(), "dspec::system_identity");
+    }
+    system_identity(const system_identity &) = delete;
+    system_identity &operator=(const system_identity &) = delete;
+    operator const dspec_identity &() const noexcept { return identity_; }
+};
+
 /* Why no trace was begun. */
 struct trace_error : std::runtime_error {
     dspec_loss loss;
     explicit trace_error(dspec_folder &folder) : std::runtime_error(dspec_folder_why(&folder)), loss(folder.last) {}
+};
+
+/* A bound of a trace on disk (dspec_folder_limit): none where there are no folders. */
+struct folder_limit {
+    std::uint64_t bytes = 0;
+    std::uint32_t folders = 0;
 };
 
 /* A trace in a folder, which is written while a session runs (dspec_ctf.h). Where the value ends, the files are closed. */
@@ -509,8 +553,10 @@ class trace_folder {
     dspec_layout layout_;
 
 public:
-    /* Makes the folder and writes the metadata; throws trace_error. The CPUs are as many as the session has. */
-    trace_folder(const char *path, schema &of, std::uint32_t cpus, const dspec_identity &identity, const names &called) : folder_(new dspec_folder{}), layout_(of.layout()) {
+    /* Makes the folder and writes the metadata; throws trace_error. The CPUs are as many as the session has. With a bound the schema stays where it is until the end. */
+    trace_folder(const char *path, schema &of, std::uint32_t cpus, const dspec_identity &identity, const names &called, folder_limit limit = {})
+        : folder_(new dspec_folder{}), layout_(of.layout()) {
+        dspec_folder_limit(folder_.get(), limit.bytes, limit.folders);
         if (!dspec_folder_begin(folder_.get(), path, of.get(), cpus, &identity, called.get())) throw trace_error(*folder_);
     }
     /* Writes a batch; where it answers false, `last` says what of it isn't written, and why. */
@@ -518,6 +564,8 @@ public:
     const dspec_loss &last() const noexcept { return folder_->last; }
     /* How many records weren't written so far. */
     std::uint64_t lost() const noexcept { return folder_->lost ? folder_->first.records : 0; }
+    /* How many records went with folders for which the bound had no room. */
+    std::uint64_t gone() const noexcept { return folder_->gone_records; }
     /* Behind the session's end: writes what was left of each CPU, tells what else its reports count as dropped, specdropped or lost, and closes the files;
      * whether the whole trace is written. No batch is taken behind it. */
     bool close(closed &ended) noexcept { return dspec_folder_close(folder_.get(), &layout_, ended.get()); }

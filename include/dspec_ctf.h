@@ -104,6 +104,7 @@ DSPEC_INLINE void dspec_ctf_drop(dspec_ctf *ctf) DSPEC_NOEXCEPT { dspec_drop(ctf
 
 #ifndef DSPEC_CTF_NO_FOLDER
 #include "dspec_folder.h"
+#include "dspec_system.h"
 #endif
 
 #endif

@@ -1,226 +1,76 @@
 /* dspec_folder.h: writes the files of a trace, for dspec_ctf.h, which includes it. Nothing of it is proved.
  *
- *     static dspec_folder folder;                                 all zeros, some 60 KB
+ *     static dspec_folder folder;                                 all zeros, some 62 KB
+ *     dspec_folder_limit(&folder, bytes, folders)                 where the trace has a bound
  *     dspec_folder_begin(&folder, path, &schema, cpus, &identity, &names)
  *     dspec_folder_take(&folder, &layout, &batch)                 of each batch while the session runs
  *     dspec_folder_close(&folder, &layout, &closed)               behind the session's end
  *
- * Each answers whether all went well. Where it didn't, folder.last says in which file and why, and how many records weren't written; the
+ * Each but the limit answers whether all went well. Where it didn't, folder.last says in which file and why, and how many records weren't written; the
  * program goes on, the next batch is tried, and the trace tells what it misses. Files have whole packets of 1,024 bytes, of which none lies across a page: a
  * process that is killed in a write leaves none torn, and what a failed write left is cut off. On Linux room for the last packet, which tells what
  * is missed, is kept behind each CPU's first file, so that a full disk doesn't take it.
+ *
+ * A BOUND. The trace stands in folders path.0, path.1, .. then, so many at the most, by age; each is a trace of its own, with a uuid of its own, which tools open alone or
+ * with the others. Where the newest has its share of the bytes it is closed, the oldest goes if there are as many as may be, and the next is begun. The sum of the sizes of their
+ * files is never above these bytes; beside them the system has 4,096 bytes of each CPU kept for the newest, and what the folders themselves take. Where the disk is full
+ * the oldest goes too, but not the last one. What went is counted: folder.gone folders with folder.gone_records records. The numbers go on behind those that are there from before, which stay; a name that
+ * is taken is passed over.
  */
 #ifndef DSPEC_FOLDER_H
 #define DSPEC_FOLDER_H
 
-#include "dspec_ctf.h"
-
-#include <errno.h>
-#include <fcntl.h>
-#include <stdio.h>
-#include <stdlib.h>
-#include <sys/stat.h>
-#include <unistd.h>
+#include "dspec_folder_files.h"
 
 #ifdef __cplusplus
 extern "C" {
 #endif
 
-#if defined(__linux__) && !defined(_GNU_SOURCE)
-/* Linux's own, which the system's headers show under _GNU_SOURCE alone. */
-extern int fallocate(int file, int mode, off_t from, off_t len);
-#endif
-
-/* So many bytes are kept for the last packet. */
-#define DSPEC_FOLDER_KEPT 4096
-
-/* Why something of a trace wasn't written. */
-typedef struct dspec_loss {
-    dspec_status status; /* what the library answered; DSPEC_OK where the system refused a write */
-    int code;            /* the system's errno then; else 0 */
-    uint32_t cpu;        /* of cpu_N_K the N, and the K; of `metadata` both are 0 */
-    size_t file;
-    uint64_t records;    /* how many records weren't written */
-    dspec_text name;     /* where the status is DSPEC_BAD_NAME the first such name, */
-    const char *why;     /* and why it isn't allowed; else NULL */
-} dspec_loss;
-
-/* A folder of files. */
-typedef struct dspec_folder {
-    uint32_t cpus;
-    dspec_ctf ctf[DSPEC_MAX_CPUS];
-    int files[DSPEC_MAX_CPUS][DSPEC_CTF_MAX_FILES];        /* descriptors plus 1; 0 is not open, -1 is given up */
-    uint64_t sizes[DSPEC_MAX_CPUS][DSPEC_CTF_MAX_FILES];   /* of their whole packets */
-    uint8_t *room;                                         /* for one packet, of so many bytes */
-    size_t size;
-    dspec_loss last;                                       /* what the last call lost, where it answered false */
-    dspec_loss first;                                      /* what was lost first, with the records of all losses */
-    bool lost;                                             /* whether anything was */
-    bool ending;                                           /* whether the last packets are being written, for which room is kept */
-    char path[4096];
-    char words[512];                                       /* of dspec_folder_why */
-} dspec_folder;
-
-/* Notes a loss, and answers false. */
-DSPEC_INLINE bool dspec_folder_loses(dspec_folder *folder, dspec_status status, int code, uint32_t cpu, size_t file, uint64_t records) DSPEC_NOEXCEPT {
-    folder->last.status = status;
-    folder->last.code = code;
-    folder->last.cpu = cpu;
-    folder->last.file = file;
-    folder->last.records = records;
-    folder->last.why = NULL;
-    if (!folder->lost) {
-        folder->first = folder->last;
-    } else {
-        folder->first.records += records;
-    }
-    folder->lost = true;
-    return false;
+/* Bounds the trace that is begun next: so many bytes in so many folders, 2 to 64. The share of each is at least what its metadata takes, 2 KB a CPU, and 4 KB; else begin answers
+ * false with DSPEC_TOO_SMALL. The schema stays until the end then. */
+DSPEC_INLINE void dspec_folder_limit(dspec_folder *folder, uint64_t bytes, uint32_t folders) DSPEC_NOEXCEPT {
+    folder->most_bytes = bytes;
+    folder->most_folders = folders;
 }
 
-/* Writes all these bytes, and answers 0 or the errno. */
-DSPEC_INLINE int dspec_folder_write(int file, const uint8_t *bytes, size_t len) DSPEC_NOEXCEPT {
-    while (len > 0) {
-        ssize_t count = write(file, bytes, len);
-        if (count < 0 && errno == EINTR) continue;
-        if (count < 0) return errno;
-        if (count == 0) return EIO;
-        bytes += count;
-        len -= DSPEC_AS(size_t, count);
-    }
-    return 0;
+/* Lets go the memory of a trace that has ended, or isn't begun. */
+DSPEC_INLINE void dspec_folder_lets_go(dspec_folder *folder) DSPEC_NOEXCEPT {
+    for (; folder->kept > 0; folder->kept--) close(dspec_folder_newest(folder)->at);
+    if (folder->parent >= 0) close(folder->parent);
+    folder->parent = -1;
+    free(folder->room);
+    free(folder->copy);
+    free(folder->text);
+    folder->room = folder->copy = NULL;
+    folder->text = NULL;
+    folder->size = folder->copy_size = 0;
+    folder->cpus = 0;
 }
 
-/* Has the system keep room behind a file's end, for so many bytes and the last packet behind them: 0, or the errno where there is none. Where the system
- * can't keep any, it is 0, and the write itself will tell. The file's size stays. */
-DSPEC_INLINE int dspec_folder_keeps(int file, uint64_t size, size_t len) DSPEC_NOEXCEPT {
-#ifdef __linux__
-    const int keep_size = 1;
-    while (fallocate(file, keep_size, DSPEC_AS(off_t, size), DSPEC_AS(off_t, len) + DSPEC_FOLDER_KEPT) != 0) {
-        if (errno == EINTR) continue;
-        return errno == ENOSPC || errno == EDQUOT ? errno : 0;
-    }
-#else
-    (void)file;
-    (void)size;
-    (void)len;
-#endif
-    return 0;
-}
-
-/* Opens a new file of the folder for bytes at its end: its descriptor, or -1 with errno. */
-DSPEC_INLINE int dspec_folder_open(dspec_folder *folder, const char *name) DSPEC_NOEXCEPT {
-    char path[4200];
-    int len = snprintf(path, sizeof path, "%s/%s", folder->path, name);
-    if (len < 0 || DSPEC_AS(size_t, len) >= sizeof path) {
-        errno = ENAMETOOLONG;
-        return -1;
-    }
-    return open(path, O_WRONLY | O_CREAT | O_EXCL | O_APPEND | O_CLOEXEC, 0666);
-}
-
-/* Takes a file of the folder away. */
-DSPEC_INLINE void dspec_folder_removes(dspec_folder *folder, const char *name) DSPEC_NOEXCEPT {
-    char path[4200];
-    int len = snprintf(path, sizeof path, "%s/%s", folder->path, name);
-    if (len > 0 && DSPEC_AS(size_t, len) < sizeof path) unlink(path);
-}
-
-/* The name of a CPU's file. */
-DSPEC_INLINE void dspec_folder_name(char name[32], uint32_t cpu, size_t file) DSPEC_NOEXCEPT {
-    snprintf(name, 32, "cpu_%u_%u", DSPEC_AS(unsigned, cpu), DSPEC_AS(unsigned, file));
-}
-
-/* Opens a CPU's file, where it isn't open: 0 or the errno. */
-DSPEC_INLINE int dspec_folder_opens(dspec_folder *folder, uint32_t cpu, size_t file) DSPEC_NOEXCEPT {
-    char name[32];
-    int opened;
-    if (folder->files[cpu][file] != 0) return folder->files[cpu][file] < 0 ? EIO : 0;
-    dspec_folder_name(name, cpu, file);
-    opened = dspec_folder_open(folder, name);
-    if (opened < 0) return errno;
-    folder->files[cpu][file] = opened + 1;
-    return 0;
-}
-
-/* Writes a new file of the folder, which isn't left there where it can't be written whole: 0 or the errno. */
-DSPEC_INLINE int dspec_folder_file(dspec_folder *folder, const char *name, const uint8_t *bytes, size_t len) DSPEC_NOEXCEPT {
-    int file = dspec_folder_open(folder, name);
-    int code = file < 0 ? errno : dspec_folder_write(file, bytes, len);
-    if (file < 0) return code;
-    if (close(file) != 0 && code == 0) code = errno;
-    if (code != 0) dspec_folder_removes(folder, name);
-    return code;
-}
-
-/* Makes room for so many bytes. */
-DSPEC_INLINE bool dspec_folder_grows(dspec_folder *folder, size_t size) DSPEC_NOEXCEPT {
-    uint8_t *room = DSPEC_AS(uint8_t *, realloc(folder->room, size));
-    if (room == NULL) return false;
-    folder->room = room;
-    folder->size = size;
-    return true;
-}
-
-/* Writes a packet that stands in the room, whole or not at all: 0 or the errno. */
-DSPEC_INLINE int dspec_folder_adds(dspec_folder *folder, uint32_t cpu, const dspec_packet *packet) DSPEC_NOEXCEPT {
-    int *file = &folder->files[cpu][packet->file];
-    uint64_t *size = &folder->sizes[cpu][packet->file];
-    int code = dspec_folder_opens(folder, cpu, packet->file);
-    if (code == 0 && packet->file == 0 && !folder->ending) code = dspec_folder_keeps(*file - 1, *size, packet->size);
-    if (code != 0) return code;
-    code = dspec_folder_write(*file - 1, folder->room, packet->size);
-    if (code == 0) {
-        *size += packet->size;
-    } else if (ftruncate(*file - 1, DSPEC_AS(off_t, *size)) != 0) {
-        close(*file - 1);
-        *file = -1;
-    } else if (packet->file == 0) {
-        dspec_folder_keeps(*file - 1, *size, 0); /* what was kept was cut off too */
-    }
-    return code;
-}
-
-/* Closes a CPU's file, and gives back the room that was kept behind it; a file without a packet goes. 0 or the errno. */
-DSPEC_INLINE int dspec_folder_closes(dspec_folder *folder, uint32_t cpu, size_t file) DSPEC_NOEXCEPT {
-    int opened = folder->files[cpu][file];
-    uint64_t size = folder->sizes[cpu][file];
-    char name[32];
-    int code = 0;
-    folder->files[cpu][file] = 0;
-    if (opened <= 0) return 0;
-    if (ftruncate(opened - 1, DSPEC_AS(off_t, size)) != 0) code = errno;
-    if (close(opened - 1) != 0) code = errno;
-    if (size > 0) return code;
-    dspec_folder_name(name, cpu, file);
-    dspec_folder_removes(folder, name);
-    return 0;
-}
-
-/* Opens the first file of each CPU, and keeps room for its last packet: 0 or the errno. */
-DSPEC_INLINE int dspec_folder_first_files(dspec_folder *folder) DSPEC_NOEXCEPT {
-    int code = 0;
-    for (uint32_t cpu = 0; code == 0 && cpu < folder->cpus; cpu++) {
-        code = dspec_folder_opens(folder, cpu, 0);
-        if (code == 0) code = dspec_folder_keeps(folder->files[cpu][0] - 1, 0, 0);
-    }
-    return code;
-}
-
-/* Lets go what a trace has that isn't begun, with the files that are its own, notes why, and answers false. */
+/* Lets go what a trace has that isn't begun, notes why, and answers false. */
 DSPEC_INLINE bool dspec_folder_fails(dspec_folder *folder, dspec_status status, int code, const dspec_names *names) DSPEC_NOEXCEPT {
     size_t at = 0;
-    for (uint32_t cpu = 0; cpu < folder->cpus; cpu++) {
-        dspec_folder_closes(folder, cpu, 0);
-        dspec_ctf_drop(&folder->ctf[cpu]);
-    }
-    free(folder->room);
-    folder->room = NULL;
-    folder->cpus = 0;
+    dspec_folder_lets_go(folder);
     dspec_folder_loses(folder, status, code, 0, 0, 0);
     if (status == DSPEC_BAD_NAME) folder->last.why = dspec_names_refused(names, &at);
     if (folder->last.why != NULL) folder->last.name = names->texts[at];
     return false;
+}
+
+/* Has the text of `metadata`. */
+DSPEC_INLINE dspec_status dspec_folder_text(dspec_folder *folder, dspec_schema *schema, const dspec_identity *identity, const dspec_names *names) DSPEC_NOEXCEPT {
+    dspec_status status;
+    size_t needed = 4096;
+    do {
+        if (!dspec_folder_grows(&folder->room, &folder->size, needed)) return DSPEC_NO_MEMORY;
+        status = dspec_ctf_metadata(schema, identity, names->texts, names->count, names->kinds, names->kind_count, folder->room, folder->size, &needed);
+    } while (status == DSPEC_TOO_SMALL);
+    if (status != DSPEC_OK) return status;
+    folder->text = DSPEC_AS(char *, calloc(needed + 1, 1));
+    if (folder->text == NULL) return DSPEC_NO_MEMORY;
+    memcpy(folder->text, folder->room, needed);
+    folder->text_size = needed;
+    return DSPEC_OK;
 }
 
 /* Begins a trace in a folder, which is made where it isn't there, and may have no trace yet. The CPUs are those of the session, 1 to 64, and each gets its first
@@ -228,32 +78,29 @@ DSPEC_INLINE bool dspec_folder_fails(dspec_folder *folder, dspec_status status, 
 DSPEC_INLINE bool dspec_folder_begin(dspec_folder *folder, const char *path, dspec_schema *schema, uint32_t cpus, const dspec_identity *identity,
                                      const dspec_names *names) DSPEC_NOEXCEPT {
     static dspec_names none; /* no names */
-    size_t needed = 0;
+    const dspec_text nothing = { "", 0 };
+    const uint64_t most_bytes = folder->most_bytes;
+    const uint32_t most_folders = folder->most_folders;
     dspec_status status;
-    int code;
+    int code = 0;
     memset(folder, 0, sizeof *folder);
+    dspec_folder_limit(folder, most_bytes, most_folders);
+    folder->parent = -1;
     if (strlen(path) >= sizeof folder->path) return dspec_folder_loses(folder, DSPEC_OK, ENAMETOOLONG, 0, 0, 0);
     memcpy(folder->path, path, strlen(path));
     if (cpus == 0 || cpus > DSPEC_MAX_CPUS) return dspec_folder_loses(folder, DSPEC_BAD_CPUS, 0, 0, 0, 0);
     if (names == NULL) names = &none;
     if (names->over) return dspec_folder_loses(folder, DSPEC_BAD_NAME_COUNT, 0, 0, 0, 0);
-    if (!dspec_folder_grows(folder, 4096)) return dspec_folder_loses(folder, DSPEC_NO_MEMORY, 0, 0, 0, 0);
-    do {
-        status = dspec_ctf_metadata(schema, identity, names->texts, names->count, names->kinds, names->kind_count, folder->room, folder->size, &needed);
-    } while (status == DSPEC_TOO_SMALL && dspec_folder_grows(folder, needed));
-    if (status == DSPEC_TOO_SMALL) status = DSPEC_NO_MEMORY;
-    for (uint32_t cpu = 0; status == DSPEC_OK && cpu < cpus; cpu++) {
-        status = dspec_ctf_new(schema, identity, cpu, &folder->ctf[cpu]);
-        folder->cpus += status == DSPEC_OK;
+    folder->cpus = cpus;
+    folder->schema = schema;
+    folder->identity = *identity;
+    folder->identity.host = folder->identity.name = nothing; /* they are in the text, and nobody keeps them */
+    status = dspec_folder_text(folder, schema, identity, names);
+    if (status == DSPEC_OK && most_folders > 0) {
+        if (most_folders < 2 || most_folders > DSPEC_FOLDER_MOST || dspec_folder_left(folder) < 4) status = DSPEC_TOO_SMALL;
+        else code = dspec_folder_finds(folder);
     }
-    code = 0;
-    if (status == DSPEC_OK && mkdir(folder->path, 0777) != 0 && errno != EEXIST) code = errno;
-    if (status == DSPEC_OK && code == 0) code = dspec_folder_file(folder, "metadata", folder->room, needed);
-    if (status == DSPEC_OK && code == 0) {
-        code = dspec_folder_first_files(folder);
-        if (code == 0) return true;
-        dspec_folder_removes(folder, "metadata");
-    }
+    if (status == DSPEC_OK && code == 0 && dspec_folder_enters(folder, &status, &code)) return true;
     return dspec_folder_fails(folder, status, code, names);
 }
 
@@ -273,8 +120,9 @@ DSPEC_INLINE bool dspec_folder_gives_up(dspec_folder *folder, dspec_status statu
     return dspec_folder_loses(folder, status, code, cpu, file, records);
 }
 
-/* Writes the packets of a batch. How many records a batch has that isn't opened is for the caller to say. */
-DSPEC_INLINE bool dspec_folder_writes(dspec_folder *folder, const dspec_batch *batch, uint64_t records) DSPEC_NOEXCEPT {
+/* Writes the packets of a batch until one has no room below the bound: then its CPU has no packets in this folder any more. How many records a batch has that
+ * isn't opened is for the caller to say. written: how many records are. */
+DSPEC_INLINE bool dspec_folder_writes(dspec_folder *folder, const dspec_batch *batch, uint64_t records, uint64_t *written) DSPEC_NOEXCEPT {
     dspec_packet packet = { 0, 0, 0 };
     dspec_ctf *ctf;
     dspec_status status;
@@ -286,44 +134,140 @@ DSPEC_INLINE bool dspec_folder_writes(dspec_folder *folder, const dspec_batch *b
         dspec_ctf_miss(ctf, records);
         return dspec_folder_loses(folder, status, 0, batch->cpu, 0, records);
     }
-    for (;;) {
+    for (*written = 0;; *written += packet.records) {
         int code;
         status = dspec_ctf_put(ctf, folder->room, folder->size, &packet);
         if (status == DSPEC_NO_PACKET) return true;
-        if (status == DSPEC_TOO_SMALL && dspec_folder_grows(folder, packet.size)) continue;
+        packet.records = status == DSPEC_TOO_SMALL ? 0 : packet.records;
+        if (status == DSPEC_TOO_SMALL && dspec_folder_grows(&folder->room, &folder->size, packet.size)) continue;
         if (status == DSPEC_TOO_SMALL) status = DSPEC_NO_MEMORY;
         if (status != DSPEC_OK) return dspec_folder_gives_up(folder, status, 0, batch->cpu, 0);
-        code = dspec_folder_adds(folder, batch->cpu, &packet);
+        if (!folder->ending && packet.size > dspec_folder_left(folder) * DSPEC_FOLDER_PACKET) {
+            dspec_ctf_drop(ctf);
+            return true;
+        }
+        do code = dspec_folder_appends(folder, batch->cpu, &packet);
+        while (dspec_folder_gives_room(folder, code));
         if (code != 0) return dspec_folder_gives_up(folder, DSPEC_OK, code, batch->cpu, packet.file);
     }
 }
 
-/* Writes a batch, whose bytes may be given back behind it. layout is the schema's, by which the records of a batch are counted that can't be opened. */
-DSPEC_INLINE bool dspec_folder_take(dspec_folder *folder, const dspec_layout *layout, const dspec_batch *batch) DSPEC_NOEXCEPT {
+/* Tells what isn't told yet of what CPUs missed, and closes the folder that is being written. */
+DSPEC_INLINE void dspec_folder_leaves(dspec_folder *folder) DSPEC_NOEXCEPT {
+    uint64_t written;
+    folder->ending = true;
+    for (uint32_t cpu = 0; cpu < folder->cpus; cpu++) {
+        const dspec_batch none = { folder->room, 0, 0, cpu };
+        if (folder->ctf[cpu].held) dspec_folder_writes(folder, &none, 0, &written);
+    }
+    dspec_folder_shuts(folder);
+    folder->ending = false;
+}
+
+/* Closes the folder that is being written, and begins the next: whether there is one. */
+DSPEC_INLINE bool dspec_folder_turns(dspec_folder *folder, uint32_t cpu) DSPEC_NOEXCEPT {
+    dspec_status status = DSPEC_OK;
+    int code;
+    if (folder->is_open) dspec_folder_leaves(folder);
+    do {
+        code = folder->kept < folder->most_folders ? 0 : dspec_folder_forgets(folder);
+        if (code == 0 && dspec_folder_enters(folder, &status, &code)) return true;
+    } while (dspec_folder_gives_room(folder, code));
+    return dspec_folder_loses(folder, status, code, cpu, 0, 0);
+}
+
+/* Moves behind so many records of a batch: how many there were. */
+DSPEC_INLINE uint64_t dspec_folder_skips(const dspec_layout *layout, const dspec_batch *batch, size_t *at, uint64_t most) DSPEC_NOEXCEPT {
     dspec_record record;
     uint64_t records = 0;
+    while (records < most && dspec_read(layout, batch->bytes, batch->len, at, &record) == DSPEC_READ) records++;
+    return records;
+}
+
+/* Copies records of a batch, so that they stand as a batch does that begins with them: whether there is memory. */
+DSPEC_INLINE bool dspec_folder_copies(dspec_folder *folder, const dspec_layout *layout, dspec_batch *part, uint64_t records, size_t from, const dspec_batch *batch) DSPEC_NOEXCEPT {
+    dspec_record record;
+    size_t at = from, end = 0;
+    if (!dspec_folder_grows(&folder->copy, &folder->copy_size, part->len + 4 * DSPEC_AS(size_t, records))) return false;
+    while (at < from + part->len && dspec_read(layout, batch->bytes, batch->len, &at, &record) == DSPEC_READ) {
+        const size_t start = from + (dspec_number_at(batch->bytes + from, 4) == 0 ? 4 : 0);
+        bool is_wide = false;
+        for (size_t i = 0; i < record.fields; i++) is_wide |= layout->of[record.epid - 1].widths[i] == 8;
+        part->len -= at - from;
+        if (is_wide && end % 8 != 0) {
+            memset(folder->copy + end, 0, 4);
+            end += 4;
+        }
+        memcpy(folder->copy + end, batch->bytes + start, at - start);
+        end += at - start;
+        from = at;
+    }
+    part->bytes = folder->copy;
+    part->len = end;
+    return true;
+}
+
+/* The next records of a batch that have so many bytes at most, or else one, as a batch of its own: how many. What isn't a record ends it, or is all of it. Its bytes are
+ * NULL where there is no memory for them. */
+DSPEC_INLINE uint64_t dspec_folder_part_of(dspec_folder *folder, const dspec_layout *layout, const dspec_batch *batch, size_t *at, uint64_t most, dspec_batch *part) DSPEC_NOEXCEPT {
+    const size_t from = *at;
+    size_t next = from;
+    uint64_t records = 0;
+    for (; dspec_folder_skips(layout, batch, &next, 1) == 1 && (records == 0 || next - from <= most); records++) *at = next;
+    if (records == 0) *at = batch->len;
+    *part = *batch;
+    part->bytes += from;
+    part->len = *at - from;
+    part->drops = from == 0 ? batch->drops : 0;
+    if (from % 8 != 0 && records > 0 && !dspec_folder_copies(folder, layout, part, records, from, batch)) part->bytes = NULL;
+    return records;
+}
+
+/* Writes a batch below a bound, in parts of which each has room where it goes. */
+DSPEC_INLINE bool dspec_folder_takes(dspec_folder *folder, const dspec_layout *layout, const dspec_batch *batch) DSPEC_NOEXCEPT {
+    const uint64_t filled = DSPEC_FOLDER_PACKET - 68 - 75; /* bytes of events in each packet of a run but its last, at the least */
     size_t at = 0;
-    while (dspec_read(layout, batch->bytes, batch->len, &at, &record) == DSPEC_READ) records++;
-    return dspec_folder_writes(folder, batch, records);
+    bool whole = true;
+    do {
+        const bool is_open = folder->is_open && folder->ctf[batch->cpu].held && dspec_folder_left(folder) > DSPEC_FOLDER_LAST + 1;
+        const size_t from = at;
+        uint64_t records, written = 0;
+        dspec_batch part;
+        if (!is_open && !dspec_folder_turns(folder, batch->cpu)) {
+            const uint64_t missed = dspec_folder_skips(layout, batch, &at, UINT64_MAX);
+            folder->untold[batch->cpu] += missed + (from == 0 ? batch->drops : 0);
+            folder->last.records = missed;
+            folder->first.records += missed;
+            return false;
+        }
+        records = dspec_folder_part_of(folder, layout, batch, &at, (dspec_folder_left(folder) - DSPEC_FOLDER_LAST - 1) * filled, &part);
+        if (records > 0 && part.bytes == NULL) {
+            dspec_ctf_miss(&folder->ctf[batch->cpu], records + part.drops);
+            whole = dspec_folder_loses(folder, DSPEC_NO_MEMORY, 0, batch->cpu, 0, records);
+            continue;
+        }
+        whole = dspec_folder_writes(folder, &part, records, &written) && whole;
+        if (folder->ctf[batch->cpu].held) continue;
+        at = from;
+        dspec_folder_skips(layout, batch, &at, written);
+    } while (at < batch->len);
+    return whole;
+}
+
+/* Writes a batch, whose bytes may be given back behind it. layout is the schema's, by which the records of a batch are counted that can't be opened. */
+DSPEC_INLINE bool dspec_folder_take(dspec_folder *folder, const dspec_layout *layout, const dspec_batch *batch) DSPEC_NOEXCEPT {
+    size_t at = 0;
+    uint64_t written;
+    if (folder->most_folders > 0 && batch->cpu < folder->cpus) return dspec_folder_takes(folder, layout, batch);
+    return dspec_folder_writes(folder, batch, dspec_folder_skips(layout, batch, &at, UINT64_MAX), &written);
 }
 
 /* Tells what isn't told yet of what CPUs missed, and closes the files. Whether the whole trace was written; else folder.first says what was lost first,
  * and how many records in all. A program whose session has ended calls dspec_folder_close instead: what speculative buffers dropped, and how many records
  * lost commits had, stands in no batch. */
 DSPEC_INLINE bool dspec_folder_end(dspec_folder *folder) DSPEC_NOEXCEPT {
-    folder->ending = true;
-    for (uint32_t cpu = 0; cpu < folder->cpus; cpu++) {
-        const dspec_batch none = { folder->room, 0, 0, cpu };
-        if (folder->room != NULL) dspec_folder_writes(folder, &none, 0);
-        for (size_t file = 0; file < DSPEC_CTF_MAX_FILES; file++) {
-            int code = dspec_folder_closes(folder, cpu, file);
-            if (code != 0) dspec_folder_loses(folder, DSPEC_OK, code, cpu, file, 0);
-        }
-        dspec_ctf_drop(&folder->ctf[cpu]);
-    }
-    free(folder->room);
-    folder->room = NULL;
-    folder->cpus = 0;
+    if (folder->is_open) dspec_folder_leaves(folder);
+    dspec_folder_lets_go(folder);
     return !folder->lost;
 }
 

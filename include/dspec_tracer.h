@@ -12,7 +12,7 @@
  *
  * THREADS. Any number, and none says that it begins or ends. A lane is a session of one CPU; a path takes a free one, and where none is free it shares one by
  * the lane's lock. A path is in one call at a time and may go to another thread between two; one whose thread ends before another has recorded to it is thrown away.
- * A thread that records waits only for another that is in a call on the same lane, and for a second at the most.
+ * A thread that records waits only for another that is in a call on the same lane, and for a second at the most; with keep_ms one that keeps a path waits for room too.
  *
  * CRASHES. SIGSEGV, SIGBUS, SIGFPE, SIGILL and SIGABRT of a thread of this process: its open paths are kept and written, with an event `dspec_crash`, and then what
  * would have come of the signal comes. The handler makes no call of the library; the consumer's thread does, and the handler waits for it, crash_ms at the most. A stack that overflows is seen
@@ -21,9 +21,14 @@
  * quick_exit lose what wasn't written yet: what the last period_ms brought, and all open paths. A handler that the program installs later has to call the one that it found.
  * A signal's handler may record; where it comes in the middle of a record of the same thread, its own is refused and counted.
  *
+ * LONG PATHS. A path keeps the records that fit into specsize bytes, its first ones. With keep_last it keeps its last ones: at least specsize bytes, less a record's, and at most twice as many.
+ * It takes two speculations of its lane then: paths is 31, and 1 to 31, specsize is 80 or more, and a lane has 2 * paths + 1 times specsize bytes.
+ *
+ * A BOUND. With max_bytes the trace stands in folders folder.0, folder.1, .. by age, each a trace of its own, and the oldest goes where all files would have more bytes (dspec_folder_limit).
+ *
  * FORK. The child's tracer is down, and it leaves the folder alone; it may start another.
  *
- * WHAT ISN'T HERE. A commit that waits for room instead of losing its records; memory that outlives the process; the last records of a path that has too many.
+ * WHAT ISN'T HERE. Memory that outlives the process.
  */
 #ifndef DSPEC_TRACER_H
 #define DSPEC_TRACER_H
@@ -45,7 +50,7 @@ extern "C" {
 /* Zeros are the defaults. */
 typedef struct dspec_tracer_options {
     uint32_t lanes;      /* 16; 1 to DSPEC_MAX_LANES */
-    uint32_t paths;      /* 32: how many are open on a lane at a time; 1 to 63 */
+    uint32_t paths;      /* 32: how many are open on a lane at a time; 1 to 63, with keep_last to 31 */
     uint32_t bufsize;    /* 65536: bytes of a principal buffer, of which each lane has two */
     uint32_t specsize;   /* 4096: bytes of a path, not above bufsize; each lane has `paths` times so many */
     uint32_t period_ms;  /* 10: the consumer's sleep between two rounds */
@@ -56,6 +61,10 @@ typedef struct dspec_tracer_options {
     bool keep_all;       /* a crash keeps the open paths of all threads */
     bool keep_open;      /* stop, exit and SIGTERM keep what is undecided; else it is thrown away */
     bool no_membarrier;  /* each call takes its lane by an exchange, as where the system has no membarrier(2): some nanoseconds more */
+    bool keep_last;      /* a path that has more records than fit keeps its last ones, as told above; else its first */
+    uint64_t max_bytes;  /* of all files of the trace, which stands in folders below that bound then, as told above; 0: there is none */
+    uint32_t max_folders; /* 4, where max_bytes is set; 2 to 64 */
+    uint32_t keep_ms;    /* 0: how long a keep waits for room of its lane, which the consumer makes, before the path's records are lost */
 } dspec_tracer_options;
 
 /* What came of all lanes. */
@@ -71,6 +80,10 @@ typedef struct dspec_tracer_report {
     uint64_t threads;           /* that recorded */
     uint64_t stuck_lanes;       /* whose thread was in a call for longer than the stop waited, or crashed in one: what they had isn't written */
     uint64_t not_written;       /* records that the folder misses */
+    uint64_t cut;               /* paths that were kept without some of their records: with keep_last the first ones, else the last ones */
+    uint64_t cut_records;       /* with keep_last those that were thrown away so, which the trace tells as missed; they are among discarded */
+    uint64_t gone_folders;      /* folders that went, as max_bytes has it or on a full disk */
+    uint64_t gone_records;      /* and the records in them, which had been written */
     int code;                   /* the errno of the first loss, or 0 */
     char why[128];              /* the first loss in words, or empty */
 } dspec_tracer_report;
@@ -113,7 +126,7 @@ bool dspec_tracer_start(dspec_tracer *tracer, const char *folder, const dspec_tr
 
 /* Stops a tracer beside whatever its threads do, writes all, and says what came of it; report may be NULL. A second time the same. A tracer is started once: it
  * starts again only behind dspec_tracer_drop.
- * Whether all was written that was accepted, and each lane came home; false of a tracer that is another process's or was never started. */
+ * It waits for the disk. Whether all was written that was accepted, and each lane came home; false of a tracer that is another process's or was never started. */
 bool dspec_tracer_stop(dspec_tracer *tracer, dspec_tracer_report *report) DSPEC_NOEXCEPT;
 
 /* Stops a tracer, and gives back what stays of it so that late calls find it down: no thread makes a call with it any more, nor with a path of it. */
@@ -128,7 +141,7 @@ DSPEC_INLINE dspec_path dspec_path_begin(dspec_tracer *tracer) DSPEC_NOEXCEPT {
     return path;
 }
 
-/* The end of a path. Keep answers whether its records are on their way to the folder: false where there was no slot, no room or none at all, and behind a stop. Drop answers
+/* The end of a path. Keep answers whether its records are on their way to the folder: false where there was no slot, no room within keep_ms or none at all, and behind a stop. Drop answers
  * whether none of them is. */
 bool dspec_path_keep(dspec_path *path) DSPEC_NOEXCEPT;
 bool dspec_path_drop(dspec_path *path) DSPEC_NOEXCEPT;
@@ -149,6 +162,9 @@ uint64_t dspec_tracer_now(void) DSPEC_NOEXCEPT;
 #define DSPEC_PROBE_TEXT_(AT, TYPE, NAME) #NAME,
 #define DSPEC_PROBE_KINDS_(AT, TYPE, NAME) DSPEC_KIND_OF(TYPE),
 
+/* How many words a record's text takes: its fields stand in it as in a struct behind the EPID. */
+#define DSPEC_PROBE_WORDS_(...) ((sizeof(struct { uint32_t dspec_epid_; DSPEC_PROBE_EACH_(DSPEC_PROBE_FIELD_, __VA_ARGS__) }) + 7) / 8)
+
 /* What DSPEC_PROBE declares beside the rest, where this header stands before it: the event, which is one for all files, and the two functions. */
 #undef DSPEC_PROBE_MORE_
 #define DSPEC_PROBE_MORE_(PROBE, ...)                                                                                                                  \
@@ -160,14 +176,14 @@ uint64_t dspec_tracer_now(void) DSPEC_NOEXCEPT;
         &dspec_event_of_##PROBE, #PROBE, dspec_fields_of_##PROBE, dspec_widths_of_##PROBE, dspec_kinds_of_##PROBE, sizeof dspec_widths_of_##PROBE      \
     };                                                                                                                                                 \
     DSPEC_PROBE_CALL_ dspec_status PROBE##_in(dspec_path *dspec_path_ DSPEC_PROBE_EACH_(DSPEC_PROBE_ARGUMENT_, __VA_ARGS__)) {                         \
-        uint64_t dspec_words_[9] = { 0 };                                                                                                              \
+        uint64_t dspec_words_[DSPEC_PROBE_WORDS_(__VA_ARGS__)] = { 0 };                                                                                \
         size_t dspec_end_ = 4;                                                                                                                         \
         DSPEC_PROBE_EACH_(DSPEC_PROBE_PACK_, __VA_ARGS__)                                                                                              \
         return dspec_path_put(dspec_path_, &dspec_event_of_##PROBE, 0 DSPEC_PROBE_EACH_(DSPEC_PROBE_SIGN_, __VA_ARGS__), dspec_words_,                 \
                               (dspec_end_ + 7) / 8);                                                                                                   \
     }                                                                                                                                                  \
     DSPEC_PROBE_CALL_ dspec_status PROBE##_now(dspec_tracer *dspec_tracer_ DSPEC_PROBE_EACH_(DSPEC_PROBE_ARGUMENT_, __VA_ARGS__)) {                    \
-        uint64_t dspec_words_[9] = { 0 };                                                                                                              \
+        uint64_t dspec_words_[DSPEC_PROBE_WORDS_(__VA_ARGS__)] = { 0 };                                                                                \
         size_t dspec_end_ = 4;                                                                                                                         \
         DSPEC_PROBE_EACH_(DSPEC_PROBE_PACK_, __VA_ARGS__)                                                                                              \
         return dspec_tracer_put(dspec_tracer_, &dspec_event_of_##PROBE, 0 DSPEC_PROBE_EACH_(DSPEC_PROBE_SIGN_, __VA_ARGS__), dspec_words_,             \

@@ -1,6 +1,7 @@
 /* What a tracer's calls cost beside the library's own: `tracer_cost FOLDER WAY NUMBER [CPUS]` makes so many paths, or records, for a tool that counts instructions;
  * `tracer_cost FOLDER times [CPUS]` takes all ways by turns, in slices shorter than a turn on a processor, and prints the 5th percentile of each, in nanoseconds. raw is a session of so many CPUs (1),
  * with the same clock, with a service a path; boxed is the tracer. */
+#include "dspec_system.h"
 #include "dspec_tracer.h"
 
 #include <stdio.h>
@@ -18,7 +19,7 @@ static void raw_path(uint32_t records) {
     uint32_t count;
     bool sealed;
     dspec_speculation(&cpu, &id);
-    for (uint32_t i = 0; i < records; i++) query_speculate(&query, &cpu, id, dspec_tracer_now(), 1, i);
+    for (uint32_t i = 0; i < records; i++) query_speculate(&query, &cpu, id, dspec_monotonic(), 1, i);
     dspec_discard(&cpu, id, &count);
     dspec_service(&cpu, &sealed, &count);
 }
@@ -33,7 +34,7 @@ static void raw20(void) { raw_path(20); }
 static void boxed20(void) { boxed_path(20); }
 static void raw3(void) { raw_path(3); }
 static void boxed3(void) { boxed_path(3); }
-static void raw(void) { query_trace(&query, &cpu, dspec_tracer_now(), 1, 1); }
+static void raw(void) { query_trace(&query, &cpu, dspec_monotonic(), 1, 1); }
 static void boxed(void) { query_now(&tracer, 1, 1); }
 
 static const struct {

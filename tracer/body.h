@@ -30,6 +30,8 @@ enum { LOOK = HELD | GONE | IDLE | SHARED | WANTED };
 /* Within these bounds the consumer waits for a lane, in microseconds: in a round for none. */
 enum { TAKE_US = 20000, CLOSE_US = 5000000 };
 enum { MAX_OPEN = 64, MAX_CRASHES = 16 };
+/* Behind the tracers stand watches (watch.h), which signals know as tracers without lanes. */
+enum { MAX_WATCHES = 64, MAX_SLOTS = DSPEC_MAX_TRACERS + MAX_WATCHES };
 enum { CACHE_LINES = 128 };
 
 #define APART __attribute__((aligned(CACHE_LINES)))
@@ -37,8 +39,13 @@ enum { CACHE_LINES = 128 };
 /* An open path, written by whoever has the lane. */
 typedef struct open_path {
     uint64_t id;    /* 0: none */
+    uint64_t older; /* with keep_last its records before those, in a speculation that is full; 0: none */
+    uint64_t cut;   /* its records before those again, which are thrown away */
     uint32_t token; /* of the thread that recorded last */
     bool saved;     /* a crash has kept it */
+    bool waits;     /* it is being kept, as soon as there is room */
+    bool has_last;  /* its last records are on their way already */
+    bool is_cut;    /* and some of them aren't there */
 } open_path;
 
 struct dspec_tracer_lane {
@@ -46,7 +53,8 @@ struct dspec_tracer_lane {
     uint32_t number, slot;
     body *of;
     dspec_cpu cpu;
-    uint64_t kept, thrown;
+    uint64_t kept, thrown, cut, cut_records;
+    uint64_t turned; /* records that one speculation refused and the next one took */
     APART uint32_t state;
     APART open_path open[MAX_OPEN];
     dspec_session session;
@@ -60,6 +68,7 @@ typedef struct crash {
     int32_t signal, code;
     uint64_t address, at;
     uint32_t token, thread;
+    uint64_t here[2]; /* what a watch asked of the thread */
 } crash;
 
 struct dspec_tracer_body {
@@ -80,6 +89,7 @@ struct dspec_tracer_body {
     bool whole, joined;
     uint32_t epid_of_crash;
     crash crashes[MAX_CRASHES];
+    void (*here)(uint64_t *); /* a watch's */
     APART uint32_t stop, asked, served, deferring, deferred, ended;
     APART uint64_t no_slot, no_room, nested, late, waited, threads;
     lane lanes[]; /* `count`, and one more of the consumer's own */
@@ -115,6 +125,7 @@ void stack_off(void);
 
 bool lane_enter_slowly(seat *me, lane *on);
 lane *lane_for_path(body *of, seat *me); /* one more path is on it; NULL where none has room */
+lane *lane_shared(body *of, uint32_t number); /* likewise, on this one */
 lane *lane_for_record(body *of, seat *me);
 void lane_path_off(seat *me, lane *on, bool own);
 uint64_t lanes_take(body *of, uint64_t which, uint32_t bits, uint64_t wait_us); /* the consumer's: which it got */
@@ -124,6 +135,11 @@ bool barrier_is_there(void);
 /* ---- path.c ---- */
 
 void path_ends_with_thread(body *of, seat *me);
+/* Whether a path's records may be lost, wait for room, or find their buffer empty, as where the consumer commits them. */
+typedef enum room { ANY_ROOM = 0, WAITS_FOR_ROOM = 1, EMPTY_ROOM = 2 } room;
+/* The caller has the lane. Whether the path's last records were kept; DSPEC_BUSY: there is no room yet. */
+dspec_status path_commit(lane *on, open_path *one, room has);
+bool path_discard(lane *on, open_path *one);
 
 /* ---- session.c: what a lane has of the library. ---- */
 
@@ -140,6 +156,7 @@ void lane_drop(lane *on);
 
 void *consumer_runs(void *of);
 void consumer_wakes(body *of);
+void consumer_ends_by_signal(body *of);
 bool consumer_served(body *of, uint32_t ticket, uint32_t timeout_ms);
 
 /* ---- signals.c ---- */
@@ -148,10 +165,13 @@ void signals_hook(const dspec_tracer_options *options);
 void signals_unhook(const dspec_tracer_options *options);
 void signals_end(int signal); /* does what the signal would have done; the last tracer that it closes ends the process */
 bool signal_is_crash(int signal);
+bool signals_are_over(void); /* whether no handler looks at a tracer that is down, within a second */
 
 /* ---- start.c ---- */
 
 body *tracer_at(uint32_t slot); /* the tracer that is up there; a handler may call it */
+void tracer_set(uint32_t slot, body *of);
+void tracers_begin(void); /* once a process */
 void tracers_lock(void);        /* none begins or ends meanwhile */
 void tracers_unlock(void);
 
@@ -160,7 +180,7 @@ void tracers_unlock(void);
 struct naming;
 typedef struct whose {
     dspec_identity identity;
-    char host[256], name[256];
+    char host[DSPEC_HOST_SIZE], name[256];
 } whose;
 bool identify(whose *of);
 dspec_status enable_all(body *of, const dspec_enabling *const *events, struct naming *naming);

@@ -87,12 +87,11 @@ static void make_round(body *of) {
 
 /* Keeps the open paths of a thread, or with 0 all, on a lane that the consumer has: how many. Each finds its buffer empty. */
 static uint32_t keep_paths(body *of, lane *on, uint32_t token) {
-    uint32_t kept = 0, count;
+    uint32_t kept = 0;
     for (uint32_t i = 0; i < MAX_OPEN; i++) {
         open_path *one = &on->open[i];
         if (one->id == 0 || one->saved || (token != 0 && one->token != token)) continue;
-        lane_empty(of, on);
-        one->saved = dspec_commit(&on->cpu, one->id, &count) == DSPEC_OK;
+        one->saved = path_commit(on, one, EMPTY_ROOM) == DSPEC_OK;
         kept += one->saved;
     }
     lane_empty(of, on);
@@ -142,12 +141,12 @@ static void save_crashes(body *of) {
 
 /* Decides what is open on a lane that the consumer has. */
 static void decide_rest(body *of, lane *on) {
-    uint32_t count;
     for (uint32_t i = 0; i < MAX_OPEN; i++) {
         open_path *one = &on->open[i];
         if (one->id == 0) continue;
+        if (one->waits && !one->saved && (one->saved = path_commit(on, one, EMPTY_ROOM) == DSPEC_OK)) on->kept++;
         if (!one->saved) of->report.undecided++;
-        if (!one->saved && !of->options.keep_open) dspec_discard(&on->cpu, one->id, &count);
+        if (!one->saved && !of->options.keep_open) path_discard(on, one);
     }
     if (of->options.keep_open) keep_paths(of, on, 0);
 }
@@ -160,6 +159,8 @@ static void tell_counts(body *of) {
     report->late = LOAD(&of->late);
     report->waited = LOAD(&of->waited);
     report->threads = LOAD(&of->threads);
+    report->gone_folders = folder->gone;
+    report->gone_records = folder->gone_records;
     if (!folder->lost) return;
     report->not_written = folder->first.records;
     report->code = folder->first.code;
@@ -185,6 +186,8 @@ static void end_all(body *of) {
         decide_rest(of, on);
         of->report.kept += on->kept;
         of->report.thrown += on->thrown;
+        of->report.cut += on->cut;
+        of->report.cut_records += on->cut_records;
         if (!lane_end(of, on)) of->report.stuck_lanes++;
     }
     of->whole = dspec_folder_end(&of->folder) && of->report.stuck_lanes == 0;
@@ -212,7 +215,7 @@ static bool turn(body *of) {
 }
 
 /* A signal that was left to this thread ends the process now. One whose handler is still at it, as the last turn was made, is waited for. */
-static void end_by_signal(body *of) {
+void consumer_ends_by_signal(body *of) {
     uint32_t deferred;
     __atomic_store_n(&of->ended, 1, __ATOMIC_SEQ_CST);
     for (int tries = 0; tries < 10; tries++) {
@@ -231,6 +234,6 @@ void *consumer_runs(void *of_tracer) {
     do {
         if (poll(&bell, 1, (int)of->options.period_ms) > 0 && read(of->bell, &rings, sizeof rings) < 0) continue;
     } while (!turn(of));
-    end_by_signal(of);
+    consumer_ends_by_signal(of);
     return NULL;
 }

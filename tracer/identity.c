@@ -2,47 +2,11 @@
 #include "body.h"
 
 #include <errno.h>
-#include <sys/random.h>
-#include <time.h>
-#include <unistd.h>
-
-#define HERTZ UINT64_C(1000000000)
-
-/* A text that the metadata may show. */
-static dspec_text shown(char *text) {
-    size_t len;
-    if (text[0] == 0) strcpy(text, "unknown");
-    len = strlen(text);
-    for (size_t i = 0; i < len; i++)
-        if (text[i] < 32 || text[i] > 126 || text[i] == '"' || text[i] == '\\') text[i] = '_';
-    return (dspec_text){ text, len };
-}
-
-static uint64_t nanos(clockid_t clock) {
-    struct timespec at;
-    clock_gettime(clock, &at);
-    return (uint64_t)at.tv_sec * HERTZ + (uint64_t)at.tv_nsec;
-}
 
 bool identify(whose *of) {
-    dspec_identity *identity = &of->identity;
-    uint64_t before, real, after, began;
-    if (getrandom(identity->uuid, sizeof identity->uuid, 0) != (ssize_t)sizeof identity->uuid) return false;
-    /* A random uuid says of itself that it is one. */
-    identity->uuid[6] = (uint8_t)((identity->uuid[6] & 15) | 64);
-    identity->uuid[8] = (uint8_t)((identity->uuid[8] & 63) | 128);
-    if (gethostname(of->host, sizeof of->host - 1) != 0) of->host[0] = 0;
+    if (!dspec_identity_of_system(&of->identity, program_invocation_short_name, of->host)) return false;
     snprintf(of->name, sizeof of->name, "%s", program_invocation_short_name);
-    before = nanos(CLOCK_MONOTONIC);
-    real = nanos(CLOCK_REALTIME);
-    after = nanos(CLOCK_MONOTONIC);
-    began = real - (before + after) / 2;
-    identity->pid = (uint32_t)getpid();
-    identity->hertz = HERTZ;
-    identity->seconds = began / HERTZ;
-    identity->ticks = began % HERTZ;
-    identity->host = shown(of->host);
-    identity->name = shown(of->name);
+    of->identity.name = dspec_shown(of->name);
     return true;
 }
 

@@ -6,7 +6,7 @@
 #include <sys/syscall.h>
 #include <unistd.h>
 
-enum { SPINS = 100, MOST_WAITS = SPINS + 1000 };
+enum { SPINS = 100, MOST_WAITS = SPINS + 1000, TRY_US = 5000 };
 
 bool barrier_is_there(void) {
     long known = syscall(SYS_membarrier, MEMBARRIER_CMD_QUERY, 0, 0);
@@ -116,13 +116,17 @@ static lane *least(body *of) {
 
 static bool has_room(const body *of, const lane *on) { return LOAD(&on->state) / USER <= of->options.paths; }
 
-lane *lane_for_path(body *of, seat *me) {
-    lane *on = me->lane;
-    if (on == NULL && (on = claim(of, me, 2)) != NULL) return on;
-    if (on == NULL || !has_room(of, on)) on = least(of);
+lane *lane_shared(body *of, uint32_t number) {
+    lane *on = &of->lanes[number];
     if (!has_room(of, on)) return NULL;
     __atomic_fetch_add(&on->state, USER, __ATOMIC_SEQ_CST);
     return on;
+}
+
+lane *lane_for_path(body *of, seat *me) {
+    lane *on = me->lane;
+    if (on == NULL && (on = claim(of, me, 2)) != NULL) return on;
+    return lane_shared(of, on == NULL || !has_room(of, on) ? least(of)->number : on->number);
 }
 
 /* A path of a thread's own lane is over: with the last one the lane is nobody's. own: whether the thread began the path there. */
@@ -149,7 +153,18 @@ lane *lane_for_record(body *of, seat *me) {
 
 /* ---- The consumer. ---- */
 
-static uint64_t micros(void) { return dspec_tracer_now() / 1000; }
+static uint64_t micros(void) { return dspec_monotonic() / 1000; }
+
+/* How long the consumer waits: until a time, and for good for so many tries too: a process that stood still, stopped or frozen, has its time over and no thread has had a turn. */
+typedef struct patience {
+    uint64_t until;
+    unsigned tries, least;
+} patience;
+
+/* Whether it is over; what was waited for is looked at once more behind it. */
+static bool is_over(const patience *left) { return left->tries >= left->least && micros() >= left->until; }
+
+static void wait_on(patience *left) { wait_a_little(left->tries++); }
 
 /* Lets go a lane that wasn't left in time. What is gone stays so, and no thread gets in. */
 static void give_up(lane *on, uint32_t bits) {
@@ -157,15 +172,14 @@ static void give_up(lane *on, uint32_t bits) {
 }
 
 /* Of the lanes whose lock the consumer has just taken, those whose thread is in no call. */
-static uint64_t left_of(body *of, uint64_t held, uint32_t bits, uint64_t until) {
+static uint64_t left_of(body *of, uint64_t held, uint32_t bits, patience *most) {
     uint64_t left = 0;
     bool ordered;
-    unsigned tries = 0;
-    while (!(ordered = barrier(of)) && micros() < until) wait_a_little(tries++);
+    while (!(ordered = barrier(of)) && !is_over(most)) wait_on(most);
     for (uint32_t i = 0; i < of->count; i++) {
         lane *on = &of->lanes[i];
         if (!(held >> i & 1)) continue;
-        while (ordered && is_inside(on) && micros() < until) wait_a_little(tries++);
+        while (ordered && is_inside(on) && !is_over(most)) wait_on(most);
         if (ordered && !is_inside(on)) left |= UINT64_C(1) << i;
         else give_up(on, bits);
     }
@@ -181,13 +195,14 @@ static uint64_t hold(body *of, uint64_t which, uint32_t bits) {
 }
 
 uint64_t lanes_take(body *of, uint64_t which, uint32_t bits, uint64_t wait_us) {
-    const uint64_t until = wait_us == 0 ? 0 : micros() + wait_us;
+    patience most = { wait_us == 0 ? 0 : micros() + wait_us, 0, bits & GONE ? SPINS + (unsigned)(wait_us / TRY_US) : 0 };
     uint64_t got = 0;
-    for (unsigned tries = 0; got != which; tries++) {
+    for (;;) {
+        const bool is_last = is_over(&most);
         uint64_t held = hold(of, which & ~got, bits);
-        if (held != 0) got |= left_of(of, held, bits, until);
-        if (got == which || micros() >= until) break;
-        wait_a_little(tries);
+        if (held != 0) got |= left_of(of, held, bits, &most);
+        if (got == which || is_last) break;
+        wait_on(&most);
     }
     for (uint32_t i = 0; i < of->count; i++)
         if (which >> i & 1) state_clear(&of->lanes[i], WANTED);

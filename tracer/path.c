@@ -1,13 +1,9 @@
 /* path.c: records and paths, as the threads of a program make them. */
 #include "body.h"
 
-#include <time.h>
+#include <poll.h>
 
-uint64_t dspec_tracer_now(void) {
-    struct timespec at;
-    clock_gettime(CLOCK_MONOTONIC, &at);
-    return (uint64_t)at.tv_sec * 1000000000u + (uint64_t)at.tv_nsec;
-}
+uint64_t dspec_tracer_now(void) { return dspec_monotonic(); }
 
 /* NULL of a tracer that isn't started, and of a path that was never begun. */
 static body *body_of(const dspec_tracer *tracer) { return tracer == NULL ? NULL : __atomic_load_n(&tracer->body, __ATOMIC_ACQUIRE); }
@@ -34,13 +30,15 @@ static void wants_room(body *of) {
     if (ADD(&of->no_room, 1) % 64 == 0) consumer_wakes(of);
 }
 
-/* Notes an open path in its lane, which the caller is in: whether there was a place. */
+/* Notes an open path in its lane, which the caller is in: whether there was a place. There are as many as a lane has paths, so that each finds the speculations that it needs. */
 static bool note(lane *on, dspec_path *path, const seat *me) {
-    for (uint32_t i = 0; i < MAX_OPEN; i++) {
-        uint32_t place = ((uint32_t)path->id + i) % MAX_OPEN;
+    const uint32_t places = on->of->options.paths;
+    for (uint32_t i = 0, place = (uint32_t)path->id % MAX_OPEN; i < places; i++, place++) {
+        if (place >= places) place = 0;
         open_path *one = &on->open[place];
         if (one->id != 0) continue;
-        one->saved = false;
+        one->saved = one->waits = one->has_last = false;
+        one->older = one->cut = 0;
         STORE(&one->token, me->token);
         __atomic_store_n(&one->id, path->id, __ATOMIC_RELEASE);
         path->place = (uint16_t)place;
@@ -49,26 +47,26 @@ static bool note(lane *on, dspec_path *path, const seat *me) {
     return false;
 }
 
-/* Opens a path on a lane, on which it counts already: whether there was a slot. */
-static bool begin_on(lane *on, seat *me, dspec_path *path) {
+/* Opens a path on a lane, on which it counts already. DSPEC_UNAVAILABLE: there is no slot. */
+static dspec_status begin_on(lane *on, seat *me, dspec_path *path) {
     uint32_t count;
     bool open;
-    if (!lane_enter(me, on)) return false;
+    if (!lane_enter(me, on)) return DSPEC_STOPPED;
     open = dspec_speculation(&on->cpu, &path->id) == DSPEC_OK;
     if (open && !note(on, path, me)) {
         dspec_discard(&on->cpu, path->id, &count);
         open = false;
     }
     lane_leave(me, on);
-    return open;
+    return open ? DSPEC_OK : DSPEC_UNAVAILABLE;
 }
 
 /* What a record of an event claims in the tracer that the lane is of. */
 static inline uint64_t claim_of(lane *on, const dspec_event *event, uint32_t fields) { return (uint64_t)fields << 32 | LOAD(&event->epids[on->slot]); }
 
 /* A record's words on a lane, into a path's speculation or alone; few of them go in registers. */
-static inline dspec_status put_in(lane *on, uint64_t id, const dspec_event *event, uint32_t fields, const uint64_t *words, size_t n) {
-    const uint64_t claim = claim_of(on, event, fields), now = dspec_tracer_now();
+static inline dspec_status put_in(lane *on, uint64_t id, uint64_t claim, const uint64_t *words, size_t n) {
+    const uint64_t now = dspec_monotonic();
     switch (n) {
     case 1: return dspec_put_in_1(&on->cpu, id, claim, now, words[0]);
     case 2: return dspec_put_in_2(&on->cpu, id, claim, now, words[0], words[1]);
@@ -77,8 +75,8 @@ static inline dspec_status put_in(lane *on, uint64_t id, const dspec_event *even
     }
 }
 
-static inline dspec_status put(lane *on, const dspec_event *event, uint32_t fields, const uint64_t *words, size_t n) {
-    const uint64_t claim = claim_of(on, event, fields), now = dspec_tracer_now();
+static inline dspec_status put(lane *on, uint64_t claim, const uint64_t *words, size_t n) {
+    const uint64_t now = dspec_monotonic();
     switch (n) {
     case 1: return dspec_put_1(&on->cpu, claim, now, words[0]);
     case 2: return dspec_put_2(&on->cpu, claim, now, words[0], words[1]);
@@ -87,13 +85,37 @@ static inline dspec_status put(lane *on, const dspec_event *event, uint32_t fiel
     }
 }
 
+/* A record for which a path's speculation has no room. With keep_last it goes into a new one, and the one before the full one is thrown away. */
+RARELY static dspec_status put_further(lane *on, dspec_path *path, uint64_t claim, const uint64_t *words, size_t n) {
+    open_path *one = &on->open[path->place];
+    uint64_t id;
+    uint32_t count;
+    if (!on->of->options.keep_last || dspec_speculation(&on->cpu, &id) != DSPEC_OK) return DSPEC_DROPPED;
+    if (one->older != 0 && dspec_discard(&on->cpu, one->older, &count) == DSPEC_OK) one->cut += count;
+    one->older = path->id;
+    path->id = id;
+    STORE(&one->id, id);
+    on->turned++;
+    return put_in(on, id, claim, words, n);
+}
+
+/* A record of a path on its lane, which the caller is in. */
+static inline dspec_status put_on(lane *on, dspec_path *path, const dspec_event *event, uint32_t fields, const uint64_t *words, size_t n) {
+    const uint64_t claim = claim_of(on, event, fields);
+    dspec_status status = put_in(on, path->id, claim, words, n);
+    return LIKELY(status != DSPEC_DROPPED) ? status : put_further(on, path, claim, words, n);
+}
+
 /* The first record of a path opens its speculation. Where there is none to be had, the path is refused as a whole. */
 static dspec_status begin(body *of, seat *me, dspec_path *path) {
-    lane *on;
-    for (int tries = 0; tries < 3 && (on = lane_for_path(of, me)) != NULL; tries++) {
+    dspec_status status = DSPEC_UNAVAILABLE;
+    for (uint32_t tries = 0; tries <= of->count && status == DSPEC_UNAVAILABLE; tries++) {
+        lane *on = tries == 0 ? lane_for_path(of, me) : lane_shared(of, tries - 1);
         bool own = on == me->lane;
+        if (on == NULL) continue;
         me->open += own;
-        if (begin_on(on, me, path)) {
+        status = begin_on(on, me, path);
+        if (status == DSPEC_OK) {
             path->lane = on;
             path->token = me->token;
             return DSPEC_OK;
@@ -140,7 +162,7 @@ RARELY static dspec_status put_slowly(dspec_path *path, const dspec_event *event
     lane *on = path->lane;
     status = DSPEC_STOPPED;
     if (lane_enter(me, on)) {
-        status = put_in(on, path->id, event, fields, words, n);
+        status = put_on(on, path, event, fields, words, n);
         lane_leave(me, on);
     }
     seat_leave(me);
@@ -154,7 +176,7 @@ dspec_status dspec_path_put(dspec_path *path, const dspec_event *event, uint32_t
         seat *me = seat_at(on->slot);
         if (LIKELY(path->token == me->token && on == me->lane) && seat_enter(me)) {
             if (LIKELY(lane_enter_alone(on))) {
-                dspec_status status = put_in(on, path->id, event, fields, words, n);
+                dspec_status status = put_on(on, path, event, fields, words, n);
                 lane_leave_alone(on);
                 seat_leave(me);
                 return status;
@@ -165,7 +187,14 @@ dspec_status dspec_path_put(dspec_path *path, const dspec_event *event, uint32_t
     return put_slowly(path, event, fields, words, n);
 }
 
-/* A record that is in no path. */
+/* A record that is in no path, on a lane that the caller is in. */
+static inline dspec_status record_on(lane *on, const dspec_event *event, uint32_t fields, const uint64_t *words, size_t n) {
+    dspec_status status = put(on, claim_of(on, event, fields), words, n);
+    serve_if_asked(on);
+    if (!LIKELY(status != DSPEC_DROPPED)) wants_room(on->of);
+    return status;
+}
+
 RARELY static dspec_status record_slowly(body *of, const dspec_event *event, uint32_t fields, const uint64_t *words, size_t n) {
     seat *me;
     dspec_status status = seat_take(of, &me);
@@ -173,31 +202,27 @@ RARELY static dspec_status record_slowly(body *of, const dspec_event *event, uin
     lane *on = lane_for_record(of, me);
     status = DSPEC_STOPPED;
     if (lane_enter(me, on)) {
-        status = put(on, event, fields, words, n);
-        serve_if_asked(on);
+        status = record_on(on, event, fields, words, n);
         lane_leave(me, on);
     }
     seat_leave(me);
     return status;
 }
 
-/* Into a call for a record that is in no path: the thread's own lane, or the one that it had last, where nobody is on that. */
-static inline bool enter_for_record(seat *me, lane *on) { return LIKELY(on == me->lane) ? lane_enter_alone(on) : me->lane == NULL && lane_enter_free(on); }
-
-static inline void leave_record(seat *me, lane *on) {
-    if (on == me->lane) lane_leave_alone(on);
-    else lane_leave_locked(on);
-    seat_leave(me);
-}
-
-static inline dspec_status record(body *of, const dspec_event *event, uint32_t fields, const uint64_t *words, size_t n) {
-    seat *me = seat_at(of->slot);
+/* On the thread's own lane, or on the one that it had last, where nobody is on that. */
+dspec_status dspec_tracer_put(dspec_tracer *tracer, const dspec_event *event, uint32_t fields, const uint64_t *words, size_t n) {
+    body *of = __atomic_load_n(&tracer->body, __ATOMIC_ACQUIRE);
+    seat *me;
+    if (!LIKELY(of != NULL)) return DSPEC_UNAVAILABLE;
+    me = seat_at(of->slot);
     if (LIKELY(me->run == of->run) && seat_enter(me)) {
         lane *on = me->last;
-        if (LIKELY(enter_for_record(me, on))) {
-            dspec_status status = put(on, event, fields, words, n);
-            serve_if_asked(on);
-            leave_record(me, on);
+        const bool is_own = on == me->lane;
+        if (LIKELY(is_own ? lane_enter_alone(on) : me->lane == NULL && lane_enter_free(on))) {
+            dspec_status status = record_on(on, event, fields, words, n);
+            if (is_own) lane_leave_alone(on);
+            else lane_leave_locked(on);
+            seat_leave(me);
             return status;
         }
         seat_leave(me);
@@ -205,39 +230,80 @@ static inline dspec_status record(body *of, const dspec_event *event, uint32_t f
     return record_slowly(of, event, fields, words, n);
 }
 
-dspec_status dspec_tracer_put(dspec_tracer *tracer, const dspec_event *event, uint32_t fields, const uint64_t *words, size_t n) {
-    body *of = __atomic_load_n(&tracer->body, __ATOMIC_ACQUIRE);
-    dspec_status status = LIKELY(of != NULL) ? record(of, event, fields, words, n) : DSPEC_UNAVAILABLE;
-    if (!LIKELY(status != DSPEC_DROPPED)) wants_room(of);
+/* Commits one part of a path. count: its records. */
+static dspec_status commit_part(lane *on, uint64_t id, uint32_t *count, room has) {
+    if (has == EMPTY_ROOM) lane_empty(on->of, on);
+    return has == WAITS_FOR_ROOM ? dspec_commit_if_room(&on->cpu, id, count) : dspec_commit(&on->cpu, id, count);
+}
+
+/* The last records of a path, or all. */
+static dspec_status commit_last(lane *on, open_path *one, room has) {
+    uint32_t count = 0, dropped = 0;
+    dspec_status status;
+    if (!on->of->options.keep_last) dspec_dropped_in(&on->cpu, one->id, &dropped);
+    status = commit_part(on, one->id, &count, has);
+    if (status == DSPEC_BUSY) return status;
+    on->cut_records += one->cut;
+    one->is_cut = one->cut > 0 || dropped > 0;
+    one->has_last = status == DSPEC_OK;
+    if (!one->has_last && one->older != 0 && dspec_discard(&on->cpu, one->older, &count) == DSPEC_OK) on->cut_records += count;
     return status;
 }
 
-/* Decides a path in its lane, which the caller is in: whether it was decided so. */
-static bool decide(lane *on, open_path *one, bool keep) {
+/* The last records come first: where the buffer has no room for the others, what is kept has no hole. */
+dspec_status path_commit(lane *on, open_path *one, room has) {
+    dspec_status status = one->has_last ? DSPEC_OK : commit_last(on, one, has);
     uint32_t count;
+    if (status == DSPEC_OK && one->older != 0) {
+        status = commit_part(on, one->older, &count, has);
+        if (status != DSPEC_BUSY) {
+            one->is_cut |= status != DSPEC_OK;
+            status = DSPEC_OK;
+        }
+    }
+    one->waits = status == DSPEC_BUSY;
+    on->cut += status == DSPEC_OK && one->is_cut;
+    return status;
+}
+
+bool path_discard(lane *on, open_path *one) {
+    uint32_t count;
+    if (one->older != 0) dspec_discard(&on->cpu, one->older, &count);
+    return dspec_discard(&on->cpu, one->id, &count) == DSPEC_OK;
+}
+
+/* Decides a path in its lane, which the caller is in: DSPEC_OK where it was decided so, DSPEC_BUSY where it waits for room. */
+static dspec_status decide(lane *on, open_path *one, bool keep, bool waits) {
     dspec_status status;
-    if (one->saved) return keep;
-    status = keep ? dspec_commit(&on->cpu, one->id, &count) : dspec_discard(&on->cpu, one->id, &count);
-    if (status != DSPEC_OK) return false;
+    if (one->saved) return keep ? DSPEC_OK : DSPEC_VOID;
+    status = keep ? path_commit(on, one, waits ? WAITS_FOR_ROOM : ANY_ROOM) : path_discard(on, one) ? DSPEC_OK : DSPEC_VOID;
+    if (status != DSPEC_OK) return status;
     if (keep) on->kept++;
     else on->thrown++;
-    return true;
+    return status;
 }
 
 /* Ends a path that is open on this thread: whether it was decided so. Behind a stop the stop has decided it. */
 static bool end(seat *me, dspec_path *path, bool keep) {
     lane *on = path->lane;
     open_path *one = &on->open[path->place];
-    bool done;
+    const uint64_t most = on->of->options.keep_ms * UINT64_C(1000000), began = keep && most > 0 ? dspec_monotonic() : 0;
+    dspec_status status;
     is_over(path);
-    if (!lane_enter(me, on)) return false;
-    done = decide(on, one, keep);
+    for (;;) {
+        if (!lane_enter(me, on)) return false;
+        status = decide(on, one, keep, keep && most > 0 && dspec_monotonic() - began < most);
+        serve_if_asked(on);
+        if (status != DSPEC_BUSY) break;
+        lane_leave(me, on);
+        consumer_wakes(on->of);
+        poll(NULL, 0, 1);
+    }
     STORE(&one->id, 0);
-    serve_if_asked(on);
     lane_leave(me, on);
     lane_path_off(me, on, on == me->lane && me->open > 0);
-    if (!done) wants_room(on->of);
-    return done;
+    if (status != DSPEC_OK) wants_room(on->of);
+    return status == DSPEC_OK;
 }
 
 static bool ends(dspec_path *path, bool keep) {
@@ -263,7 +329,7 @@ static uint32_t throw_away(lane *on, uint32_t token) {
     for (uint32_t i = 0; i < MAX_OPEN; i++) {
         open_path *one = &on->open[i];
         if (one->id == 0 || one->token != token) continue;
-        decide(on, one, false);
+        decide(on, one, false, false);
         STORE(&one->id, 0);
         found++;
     }

@@ -4,7 +4,7 @@
 
 dspec_status lane_start(lane *on, const dspec_tracer_options *options, dspec_schema *schema) {
     const dspec_config config = {
-        .cpus = 1, .nspec = options->paths, .bufsize = options->bufsize, .specsize = options->specsize,
+        .cpus = 1, .nspec = options->keep_last ? 2 * options->paths + 1 : options->paths, .bufsize = options->bufsize, .specsize = options->specsize,
         .max_issues = DSPEC_MAX_ISSUES, .max_calls = DSPEC_MAX_CALLS, .policy = DSPEC_POLICY_SWITCH,
     };
     dspec_status status = dspec_start(&config, schema, &on->session);
@@ -75,7 +75,8 @@ bool lane_end(body *of, lane *on) {
         dspec_folder_take(&of->folder, &of->layout, &batch);
     }
     if (dspec_closed_report(&closed, 0, &report) == DSPEC_OK) {
-        dspec_ctf_miss(&of->folder.ctf[on->number], dspec_folder_untold(&report));
+        report.specdropped -= on->turned;
+        dspec_ctf_miss(&of->folder.ctf[on->number], dspec_folder_untold(&report) + on->cut_records);
         add(&of->report, &report);
     }
     dspec_closed_drop(&closed);

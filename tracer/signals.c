@@ -17,6 +17,7 @@ static struct sigaction old[MOST_SIGNALS];
 static bool hooked[MOST_SIGNALS];
 static uint32_t want_crashes, want_ends; /* tracers */
 static uint32_t to_end;                  /* tracers that a signal closes, until the last of them ends the process */
+static uint32_t in_handlers;             /* threads that may be looking at a tracer that is down since */
 
 bool signal_is_crash(int signal) {
     for (size_t i = 0; i < COUNT_OF(crashes); i++)
@@ -44,9 +45,9 @@ static bool is_wanted(const body *of, bool is_crash) {
 
 /* Leaves a signal to the consumers, since the thread may be in a call and goes on: whether there is one that takes it. All are counted before one is told. */
 static bool defer(int signal, bool is_crash) {
-    body *told[DSPEC_MAX_TRACERS];
+    body *told[MAX_SLOTS];
     uint32_t count = 0, taken = 0;
-    for (uint32_t slot = 0; slot < DSPEC_MAX_TRACERS; slot++) {
+    for (uint32_t slot = 0; slot < MAX_SLOTS; slot++) {
         body *of = tracer_at(slot);
         if (of == NULL || !is_wanted(of, is_crash)) continue;
         bool is_first = __atomic_exchange_n(&of->deferring, 1, __ATOMIC_SEQ_CST) == 0;
@@ -74,7 +75,7 @@ void signals_end(int signal) {
 
 /* Tells a tracer's consumer of this thread's crash: where; NULL where that many crash already. */
 static crash *post(body *of, int signal, const siginfo_t *info) {
-    const seat *me = &dspec_here.seats[of->slot];
+    const seat *me = of->slot < DSPEC_MAX_TRACERS ? &dspec_here.seats[of->slot] : NULL;
     for (uint32_t i = 0; i < MAX_CRASHES; i++) {
         crash *one = &of->crashes[i];
         uint32_t none = CRASH_FREE;
@@ -83,7 +84,8 @@ static crash *post(body *of, int signal, const siginfo_t *info) {
         one->code = info->si_code;
         one->address = info->si_code > 0 ? (uint64_t)(uintptr_t)info->si_addr : 0;
         one->at = dspec_tracer_now();
-        one->token = me->run == of->run ? me->token : (uint32_t)NOBODY;
+        one->token = me != NULL && me->run == of->run ? me->token : (uint32_t)NOBODY;
+        if (of->here != NULL) of->here(one->here);
         one->thread = (uint32_t)syscall(SYS_gettid);
         ADD(&one->serial, 1);
         __atomic_store_n(&one->state, CRASH_READY, __ATOMIC_RELEASE);
@@ -102,32 +104,42 @@ static bool is_saved(const body *of) {
 /* Has the consumers save this thread's paths. It waits for the crashes of other threads too, since the process may end behind this one. */
 static void save_all(int signal, const siginfo_t *info) {
     const uint64_t began = dspec_tracer_now();
-    for (uint32_t slot = 0; slot < DSPEC_MAX_TRACERS; slot++) {
+    for (uint32_t slot = 0; slot < MAX_SLOTS; slot++) {
         body *of = tracer_at(slot);
         if (of != NULL && is_wanted(of, true)) post(of, signal, info);
     }
-    for (uint32_t slot = 0; slot < DSPEC_MAX_TRACERS; slot++) {
+    for (uint32_t slot = 0; slot < MAX_SLOTS; slot++) {
         body *of = tracer_at(slot);
         if (of == NULL || !is_wanted(of, true)) continue;
         while (!is_saved(of) && dspec_tracer_now() - began < of->options.crash_ms * UINT64_C(1000000)) poll(NULL, 0, 1);
     }
 }
 
+bool signals_are_over(void) {
+    for (int tries = 0; __atomic_load_n(&in_handlers, __ATOMIC_SEQ_CST) != 0; tries++) {
+        if (tries == 1000) return false;
+        poll(NULL, 0, 1);
+    }
+    return true;
+}
+
 static void on_crash(int signal, siginfo_t *info, void *context) {
     int saved = errno;
-    bool is_ours = info->si_code > 0 || info->si_pid == getpid();
-    if (!is_ours && defer(signal, true)) {
-        errno = saved;
-        return;
-    }
-    if (!dspec_here.consumer) save_all(signal, info);
+    bool is_ours = info->si_code > 0 || info->si_pid == getpid(), is_taken;
+    __atomic_fetch_add(&in_handlers, 1, __ATOMIC_SEQ_CST);
+    is_taken = !is_ours && defer(signal, true);
+    if (!is_taken && !dspec_here.consumer) save_all(signal, info);
+    __atomic_fetch_sub(&in_handlers, 1, __ATOMIC_SEQ_CST);
     errno = saved;
-    chain(signal, info, context);
+    if (!is_taken) chain(signal, info, context);
 }
 
 static void on_end(int signal, siginfo_t *info, void *context) {
     int saved = errno;
-    bool is_taken = defer(signal, false);
+    bool is_taken;
+    __atomic_fetch_add(&in_handlers, 1, __ATOMIC_SEQ_CST);
+    is_taken = defer(signal, false);
+    __atomic_fetch_sub(&in_handlers, 1, __ATOMIC_SEQ_CST);
     errno = saved;
     if (!is_taken) chain(signal, info, context);
 }

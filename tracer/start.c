@@ -7,10 +7,12 @@
 
 static pthread_mutex_t mutex = PTHREAD_MUTEX_INITIALIZER;
 static pthread_once_t once = PTHREAD_ONCE_INIT;
-static body *tracers[DSPEC_MAX_TRACERS];
+static body *tracers[MAX_SLOTS];
 static uint32_t runs;
 
-body *tracer_at(uint32_t slot) { return __atomic_load_n(&tracers[slot], __ATOMIC_ACQUIRE); }
+body *tracer_at(uint32_t slot) { return __atomic_load_n(&tracers[slot], __ATOMIC_SEQ_CST); }
+
+void tracer_set(uint32_t slot, body *of) { __atomic_store_n(&tracers[slot], of, __ATOMIC_SEQ_CST); }
 
 void tracers_lock(void) { pthread_mutex_lock(&mutex); }
 
@@ -18,7 +20,7 @@ void tracers_unlock(void) { pthread_mutex_unlock(&mutex); }
 
 /* The child has this thread alone: no consumer, and files that are the parent's. */
 static void in_child(void) {
-    for (uint32_t slot = 0; slot < DSPEC_MAX_TRACERS; slot++) {
+    for (uint32_t slot = 0; slot < MAX_SLOTS; slot++) {
         if (tracers[slot] != NULL) tracers[slot]->up = 0;
         tracers[slot] = NULL;
     }
@@ -33,7 +35,7 @@ static void stop(body *of) {
     consumer_wakes(of);
     pthread_join(of->thread, NULL);
     of->joined = true;
-    __atomic_store_n(&tracers[of->slot], NULL, __ATOMIC_RELEASE);
+    tracer_set(of->slot, NULL);
     signals_unhook(&of->options);
 }
 
@@ -50,6 +52,8 @@ static void begin_once(void) {
     atexit(at_exit);
 }
 
+void tracers_begin(void) { pthread_once(&once, begin_once); }
+
 /* ---- The memory of a tracer. ---- */
 
 static size_t events_of(const dspec_enabling *const *events) {
@@ -59,7 +63,6 @@ static size_t events_of(const dspec_enabling *const *events) {
 }
 
 static void free_body(body *of) {
-    for (uint32_t i = 0; of->events != NULL && of->events[i] != NULL; i++) STORE(&of->events[i]->event->epids[of->slot], 0);
     if (of->bell >= 0) close(of->bell);
     free(of->events);
     free(of);
@@ -67,6 +70,7 @@ static void free_body(body *of) {
 
 /* Lets go what a tracer has that never came up. */
 static void unmake(body *of) {
+    for (uint32_t i = 0; of->events != NULL && of->events[i] != NULL; i++) STORE(&of->events[i]->event->epids[of->slot], 0);
     for (uint32_t i = 0; i <= of->count; i++) lane_drop(&of->lanes[i]);
     dspec_schema_drop(&of->schema);
     free_body(of);
@@ -112,16 +116,26 @@ static void set(uint32_t *option, uint32_t value) {
     if (*option == 0) *option = value;
 }
 
-/* Fills in the defaults, and says what of the options can't be; the library looks at the others. */
-static dspec_status complete(dspec_tracer_options *options) {
+/* A record of the most fields has so many bytes at most. */
+enum { MOST_OF_A_RECORD = 80 };
+
+/* Fills in the defaults, and says what of the options can't be, or NULL; the library looks at the others. */
+static const char *complete(dspec_tracer_options *options) {
+    const bool keep_last = options->keep_last;
     set(&options->lanes, 16);
-    set(&options->paths, 32);
+    set(&options->paths, keep_last ? 31 : 32);
     set(&options->bufsize, 65536);
     set(&options->specsize, 4096);
     set(&options->period_ms, 10);
     set(&options->crash_ms, 500);
-    if (options->lanes > DSPEC_MAX_LANES) return DSPEC_BAD_CPUS;
-    return options->specsize > options->bufsize ? DSPEC_BAD_SPECSIZE : DSPEC_OK;
+    if (options->lanes > DSPEC_MAX_LANES) return dspec_status_text(DSPEC_BAD_CPUS);
+    if (options->specsize > options->bufsize) return dspec_status_text(DSPEC_BAD_SPECSIZE);
+    if (options->max_bytes > 0) set(&options->max_folders, 4);
+    else if (options->max_folders > 0) return "max_folders stands without max_bytes";
+    if (options->max_bytes > 0 && (options->max_folders < 2 || options->max_folders > DSPEC_FOLDER_MOST)) return "max_folders is not 2 to 64";
+    if (keep_last && options->paths > 31) return "paths is not 1 to 31, of which each has two speculations by keep_last";
+    if (keep_last && options->specsize < MOST_OF_A_RECORD) return "specsize is below 80, and keep_last needs room for each record";
+    return NULL;
 }
 
 /* The folder with its names, which stay no longer than that takes. */
@@ -132,6 +146,7 @@ static bool begin_folder(dspec_tracer *tracer, body *of, const char *folder, con
     bool begun = false;
     dspec_status status = naming == NULL ? DSPEC_NO_MEMORY : enable_all(of, events != NULL ? events : none, naming);
     if (status == DSPEC_OK) status = start_lanes(of);
+    dspec_folder_limit(&of->folder, of->options.max_bytes, of->options.max_folders);
     if (status != DSPEC_OK) fail(tracer, "the session", dspec_status_text(status));
     else if (!identify(&us)) fail(tracer, "the trace's number", strerror(errno));
     else if (!dspec_folder_begin(&of->folder, folder, &of->schema, of->count + 1, &us.identity, naming_names(naming)))
@@ -168,7 +183,7 @@ static bool make(dspec_tracer *tracer, body *of, const char *folder, const dspec
     if (!begin_folder(tracer, of, folder, events)) return false;
     code = make_thread(of);
     if (code == 0) return true;
-    dspec_folder_removes(&of->folder, "metadata");
+    dspec_folder_undoes(&of->folder);
     dspec_folder_fails(&of->folder, DSPEC_OK, code, NULL);
     return fail(tracer, "the consumer's thread", strerror(code));
 }
@@ -176,13 +191,13 @@ static bool make(dspec_tracer *tracer, body *of, const char *folder, const dspec
 /* The caller has the lock. */
 static bool start(dspec_tracer *tracer, const char *folder, const dspec_tracer_options *options, const dspec_enabling *const *events) {
     dspec_tracer_options all = options != NULL ? *options : (dspec_tracer_options){ 0 };
-    dspec_status status = complete(&all);
+    const char *why = complete(&all);
     uint32_t slot = 0;
     body *of;
     if (tracer->body != NULL) return fail(tracer, "the tracer", "it was started before");
     while (slot < DSPEC_MAX_TRACERS && tracers[slot] != NULL) slot++;
     if (slot == DSPEC_MAX_TRACERS) return fail(tracer, "the tracer", "as many are up as can be");
-    if (status != DSPEC_OK) return fail(tracer, "the options", dspec_status_text(status));
+    if (why != NULL) return fail(tracer, "the options", why);
     of = body_new(&all, events_of(events));
     if (of == NULL) return fail(tracer, "the tracer", dspec_status_text(DSPEC_NO_MEMORY));
     of->slot = slot;
@@ -193,7 +208,7 @@ static bool start(dspec_tracer *tracer, const char *folder, const dspec_tracer_o
         unmake(of);
         return false;
     }
-    __atomic_store_n(&tracers[slot], of, __ATOMIC_RELEASE);
+    tracer_set(slot, of);
     __atomic_store_n(&tracer->body, of, __ATOMIC_RELEASE);
     signals_hook(&of->options);
     return true;
@@ -201,7 +216,7 @@ static bool start(dspec_tracer *tracer, const char *folder, const dspec_tracer_o
 
 bool dspec_tracer_start(dspec_tracer *tracer, const char *folder, const dspec_tracer_options *options, const dspec_enabling *const *events) {
     bool started;
-    pthread_once(&once, begin_once);
+    tracers_begin();
     tracers_lock();
     tracer->why[0] = 0;
     started = start(tracer, folder, options, events);
@@ -226,7 +241,7 @@ void dspec_tracer_drop(dspec_tracer *tracer) {
     body *of = __atomic_load_n(&tracer->body, __ATOMIC_ACQUIRE);
     if (of != NULL && of->pid == getpid()) {
         dspec_tracer_stop(tracer, NULL);
-        free_body(of);
+        if (signals_are_over()) free_body(of);
     }
     memset(tracer, 0, sizeof *tracer);
 }

@@ -10,10 +10,8 @@
 #include <inttypes.h>
 #include <pthread.h>
 #include <stdatomic.h>
-#include <time.h>
 
 #define WORKERS 2u
-#define HERTZ UINT64_C(1000000000)
 
 #define OK(call)                                                                 \
     do {                                                                         \
@@ -41,13 +39,6 @@ typedef struct worker {
     pthread_t thread;
 } worker;
 
-/* Nanoseconds of the system's monotonic clock: the stamps of all workers. */
-static uint64_t now(void) {
-    struct timespec at;
-    clock_gettime(CLOCK_MONOTONIC, &at);
-    return (uint64_t)at.tv_sec * HERTZ + (uint64_t)at.tv_nsec;
-}
-
 /* One request in ten fails, and keeps its path; where no slot is free it has none. */
 static void serve(worker *me, uint32_t round) {
     uint32_t number = round * WORKERS + me->number;
@@ -55,9 +46,9 @@ static void serve(worker *me, uint32_t round) {
     uint64_t id;
     uint32_t count;
     if (dspec_speculation(&me->cpu, &id) != DSPEC_OK) return;
-    begin_speculate(&begin, &me->cpu, id, now(), number, me->number);
-    lookup_speculate(&lookup, &me->cpu, id, now(), number, number * UINT64_C(2654435761), !fails);
-    reply_speculate(&reply, &me->cpu, id, now(), number, fails ? -2 : 0);
+    begin_speculate(&begin, &me->cpu, id, dspec_monotonic(), number, me->number);
+    lookup_speculate(&lookup, &me->cpu, id, dspec_monotonic(), number, number * UINT64_C(2654435761), !fails);
+    reply_speculate(&reply, &me->cpu, id, dspec_monotonic(), number, fails ? -2 : 0);
     if (fails) {
         dspec_commit(&me->cpu, id, &count);
     } else {
@@ -96,29 +87,6 @@ static void consume(dspec_consumer *consumer, dspec_folder *folder, const dspec_
     OK(dspec_clean(consumer, &released));
 }
 
-/* A uuid that no other trace has, this process, and where the clock of the stamps began: what the system says. */
-static void identify(dspec_identity *identity, char host[256]) {
-    struct timespec real, monotonic;
-    uint64_t began;
-    FILE *random = fopen("/dev/urandom", "rb");
-    memset(identity, 0, sizeof *identity);
-    if (random == NULL || fread(identity->uuid, 1, 16, random) != 16 || gethostname(host, 255) != 0) {
-        fprintf(stderr, "ctf: the system doesn't say who this is\n");
-        exit(1);
-    }
-    fclose(random);
-    host[255] = 0;
-    clock_gettime(CLOCK_REALTIME, &real);
-    clock_gettime(CLOCK_MONOTONIC, &monotonic);
-    began = (uint64_t)real.tv_sec * HERTZ + (uint64_t)real.tv_nsec - ((uint64_t)monotonic.tv_sec * HERTZ + (uint64_t)monotonic.tv_nsec);
-    identity->pid = (uint32_t)getpid();
-    identity->hertz = HERTZ;
-    identity->seconds = began / HERTZ;
-    identity->ticks = began % HERTZ;
-    identity->host = (dspec_text){ host, strlen(host) };
-    identity->name = (dspec_text){ "ctf", 3 };
-}
-
 /* How many records the workers accepted. */
 static uint64_t accepted_by(dspec_closed *closed) {
     dspec_report report;
@@ -141,11 +109,8 @@ int main(int argc, char **argv) {
     dspec_layout layout = { .stamped = true };
     dspec_identity identity;
     dspec_cpu *cpus[WORKERS];
-    char host[256];
-    const dspec_config config = {
-        .cpus = WORKERS, .nspec = 8, .bufsize = 65536, .specsize = 1024,
-        .max_issues = DSPEC_MAX_ISSUES, .max_calls = DSPEC_MAX_CALLS, .policy = DSPEC_POLICY_SWITCH,
-    };
+    const dspec_config config = dspec_config_of_cpus(WORKERS);
+    char host[DSPEC_HOST_SIZE];
     if (argc < 2) {
         fprintf(stderr, "usage: ctf FOLDER [ROUNDS]\n");
         return 2;
@@ -160,7 +125,10 @@ int main(int argc, char **argv) {
     begin_name(&names);
     lookup_name(&names);
     reply_name(&names);
-    identify(&identity, host);
+    if (!dspec_identity_of_system(&identity, "ctf", host)) {
+        perror("ctf: the system doesn't say who this is");
+        return 1;
+    }
     if (!dspec_folder_begin(&folder, argv[1], &schema, WORKERS, &identity, &names)) {
         fprintf(stderr, "ctf: %s: %s\n", argv[1], dspec_folder_why(&folder));
         return 1;

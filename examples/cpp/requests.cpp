@@ -90,8 +90,7 @@ void work(dspec::cpu cpu, step_probe step, std::atomic<std::uint32_t> &left) {
 int main() {
     dspec::schema schema;
     const auto step = schema.enable<std::uint32_t, stage, double>();
-    const dspec_config config{workers, 2 * workers, 65536, 256, DSPEC_MAX_ISSUES, DSPEC_MAX_CALLS, DSPEC_POLICY_SWITCH};
-    dspec::session session(config, schema);
+    dspec::session session(dspec_config_of_cpus(workers), schema);
     std::array<seen, workers> of;
     std::atomic<std::uint32_t> left = workers;
     {

@@ -6,6 +6,7 @@
 
 #include <signal.h>
 #include <sys/resource.h>
+#include <time.h>
 
 static const uint8_t FOUR[] = { 4 };
 
@@ -270,6 +271,24 @@ static void batch_that_is_none(const char *path) {
     has(path, "cpu_3_0", &due);
 }
 
+/* What the system says of this process, and of its clock. */
+static void of_system(void) {
+    dspec_identity one, other;
+    char host[DSPEC_HOST_SIZE], odd[16] = "a\"b\\c\n\x7f\xff d", none[16] = "";
+    const uint64_t began = dspec_monotonic(), now = (uint64_t)time(NULL);
+    CHECK(dspec_identity_of_system(&one, "server", host) && dspec_identity_of_system(&other, "server", host));
+    CHECK(memcmp(one.uuid, other.uuid, 16) != 0 && (one.uuid[6] & 0xf0) == 0x40 && (one.uuid[8] & 0xc0) == 0x80);
+    CHECK(one.pid == (uint32_t)getpid() && one.hertz == 1000000000 && !one.has_clock && one.ticks < one.hertz);
+    CHECK(one.name.len == 6 && memcmp(one.name.bytes, "server", 6) == 0 && one.host.bytes == host && one.host.len == strlen(host) && one.host.len > 0);
+    CHECK(one.seconds + began / one.hertz <= now + 2 && now <= one.seconds + began / one.hertz + 2);
+    CHECK(dspec_monotonic() >= began && dspec_monotonic() - began < 60 * one.hertz);
+    CHECK(dspec_shown(odd).len == 10 && strcmp(odd, "a_b_c___ d") == 0);
+    CHECK(dspec_shown(none).len == 7 && strcmp(none, "unknown") == 0);
+    const dspec_config config = dspec_config_of_cpus(3);
+    CHECK(config.cpus == 3 && config.nspec == 8 && config.bufsize == 65536 && config.specsize == 4096 && config.max_issues == DSPEC_MAX_ISSUES);
+    CHECK(config.max_calls == DSPEC_MAX_CALLS && config.policy == DSPEC_POLICY_SWITCH);
+}
+
 int main(int argc, char **argv) {
     char path[4096];
     uint32_t epid;
@@ -282,6 +301,7 @@ int main(int argc, char **argv) {
     one_file_too_many();
     refused();
     metadata();
+    of_system();
     writes_that_fail(argv[1]);
     snprintf(path, sizeof path, "%s.none", argv[1]);
     batch_that_is_none(path);

@@ -27,7 +27,7 @@ static std::string read(const std::string &path) {
 
 /* What was left of the session, and what speculative buffers dropped, is in the trace once that is closed. */
 static void whole_to_its_end(const std::string &folder) {
-    const dspec_identity identity{{2}, {}, false, 7, 1000, 0, 0, {"here", 4}, {"cpp", 3}};
+    const dspec::system_identity identity("cpp");
     constexpr dspec_config config{1, 1, 64, 32, DSPEC_MAX_ISSUES, DSPEC_MAX_CALLS, DSPEC_POLICY_SWITCH};
     dspec::schema schema;
     schema.stamp();
@@ -46,7 +46,32 @@ static void whole_to_its_end(const std::string &folder) {
     CHECK(closed.report(0).specdropped == 3 && trace.close(closed));
     /* Two events of 4 + 8 + 4 bytes, and behind them a packet that tells three as missed. */
     const std::string bytes = read(folder + "/cpu_0_0");
+    CHECK(read(folder + "/metadata").find("procname = \"cpp\"") != std::string::npos);
     CHECK(bytes.size() > 64 + 32 && bytes.find(std::string("\3\0\0\0\0\0\0\0\0\0\0\0", 12), 64) != std::string::npos);
+}
+
+/* A bound: the folders that are there, and what went. */
+static void below_a_bound(const std::string &folder) {
+    const dspec::system_identity identity("cpp");
+    dspec::schema schema;
+    schema.stamp();
+    auto step = schema.enable<std::uint32_t>();
+    dspec::session session(dspec_config_of_cpus(1), schema);
+    std::uint64_t records = 0;
+    dspec::trace_folder trace(folder.c_str(), schema, 1, identity, dspec::names(), {50000, 2});
+    {
+        dspec::cpu cpu = session.cpu_of(0);
+        dspec::consumer consumer = session.consumer_of();
+        for (; records < 10000; records++) {
+            CHECK(cpu.trace_at(step, records, static_cast<std::uint32_t>(records)) == DSPEC_OK);
+            if (records % 500 != 499) continue;
+            consumer.take(0, [&](const dspec_batch &batch) { CHECK(trace.take(batch)); });
+            cpu.service();
+        }
+    }
+    dspec::closed closed = session.finish();
+    CHECK(trace.close(closed) && trace.gone() > 5000 && trace.gone() < records);
+    CHECK(read(folder + ".0/metadata").empty() && read(folder + "/metadata").empty());
 }
 
 /* A name that isn't allowed is told, and why. */
@@ -92,6 +117,7 @@ int main(int argc, char **argv) {
         CHECK(!trace.take(dspec_batch{nullptr, 0, 0, 1}) && trace.last().status == DSPEC_NO_SUCH_CPU);
     }
     whole_to_its_end(folder + ".whole");
+    below_a_bound(folder + ".bound");
     const std::string text = read(folder + "/metadata");
     CHECK(text.find("\t\tinteger { size = 32; align = 8; signed = true; } number;\n\t\tuint8_t last;\n") != std::string::npos);
     CHECK(text.find("\t\tfloating_point { exp_dig = 11; mant_dig = 53; align = 8; } of;\n") != std::string::npos);

@@ -34,6 +34,8 @@ static dspec_status call_put_in_2(void *h, outs *o) { return (void)o, dspec_put_
 static dspec_status call_put_in_3(void *h, outs *o) { return (void)o, dspec_put_in_3(h, 1, CLAIM, 0, 7, 7, 7); }
 static dspec_status call_put_in(void *h, outs *o) { return (void)o, dspec_put_in(h, 1, CLAIM, 0, (const uint64_t[]){ 7 }, 1); }
 static dspec_status call_commit(void *h, outs *o) { return dspec_commit(h, 1, &o->number); }
+static dspec_status call_commit_if_room(void *h, outs *o) { return dspec_commit_if_room(h, 1, &o->number); }
+static dspec_status call_open_at(void *h, outs *o) { return dspec_open_at(h, 1, &o->id); }
 static dspec_status call_discard(void *h, outs *o) { return dspec_discard(h, 1, &o->number); }
 static dspec_status call_service(void *h, outs *o) { return dspec_service(h, &o->flag, &o->number); }
 static dspec_status call_dropped_in(void *h, outs *o) { return dspec_dropped_in(h, 1, &o->number); }
@@ -64,6 +66,7 @@ static const struct row {
     { "put_1", CPU, call_put_1 }, { "put_2", CPU, call_put_2 }, { "put_3", CPU, call_put_3 }, { "put", CPU, call_put },
     { "put_in_1", CPU, call_put_in_1 }, { "put_in_2", CPU, call_put_in_2 }, { "put_in_3", CPU, call_put_in_3 }, { "put_in", CPU, call_put_in },
     { "commit", CPU, call_commit }, { "discard", CPU, call_discard }, { "service", CPU, call_service },
+    { "commit_if_room", CPU, call_commit_if_room }, { "open_at", CPU, call_open_at },
     { "dropped_in", CPU, call_dropped_in }, { "cpu_report", CPU, call_cpu_report }, { "cpu_home", CPU, call_cpu_home },
     { "ask", CONSUMER, call_ask }, { "take", CONSUMER, call_take }, { "give_back", CONSUMER, call_give_back },
     { "clean", CONSUMER, call_clean }, { "waiting_for", CONSUMER, call_waiting_for }, { "stop", CONSUMER, call_stop }, { "consumer_home", CONSUMER, call_consumer_home },

@@ -110,11 +110,16 @@ static bool piece_of(const model_schema *schema, uint32_t epid, uint64_t stamp, 
     return true;
 }
 
+static bool fits_in(const model_text *text, uint32_t len, uint32_t align) {
+    uint32_t at = up(text->len, align);
+    return len == 0 || (at <= text->size && len <= text->size - at);
+}
+
 /* False, with nothing changed, where it doesn't fit whole. */
 static bool push(model_text *text, const uint8_t *bytes, uint32_t len, uint32_t align, uint32_t records) {
     uint32_t at = up(text->len, align);
     if (len == 0) return true;
-    if (at > text->size || len > text->size - at) return false;
+    if (!fits_in(text, len, align)) return false;
     memset(text->bytes + text->len, 0, at - text->len);
     memcpy(text->bytes + at, bytes, len);
     text->len = at + len;
@@ -291,6 +296,15 @@ dspec_status model_commit(model *m, uint32_t cpu, uint64_t id, uint32_t *count) 
     return fits ? DSPEC_OK : DSPEC_LOST;
 }
 
+dspec_status model_commit_if_room(model *m, uint32_t cpu, uint64_t id, uint32_t *count) {
+    const model_cpu *c = &m->cpus[cpu];
+    uint64_t s = id % 64;
+    bool mine = s >= 1 && s <= m->config.nspec && c->marks[s] == id / 64 + 1;
+    uint32_t len = mine ? c->speculative[s].len : 0;
+    bool fits = len == 0 || (!c->closed && fits_in(&c->active, len, 8));
+    return fits || c->calls >= m->config.max_calls ? model_commit(m, cpu, id, count) : DSPEC_BUSY;
+}
+
 dspec_status model_discard(model *m, uint32_t cpu, uint64_t id, uint32_t *count) {
     model_cpu *c = &m->cpus[cpu];
     dspec_status why;
@@ -300,6 +314,12 @@ dspec_status model_discard(model *m, uint32_t cpu, uint64_t id, uint32_t *count)
     if (slot->callers == UINT64_C(1) << cpu) release(slot);
     else slot->code = MODEL_DISCARDED;
     return DSPEC_OK;
+}
+
+uint64_t model_open_at(const model *m, uint32_t cpu, uint32_t slot) {
+    const model_cpu *c = &m->cpus[cpu];
+    if (slot < 1 || slot > m->config.nspec || c->speculative[slot].records == 0) return 0;
+    return 64 * (c->marks[slot] - 1) + slot;
 }
 
 uint32_t model_dropped_in(const model *m, uint32_t cpu, uint64_t id) {

@@ -70,7 +70,10 @@ dspec_status model_put_in(model *m, uint32_t cpu, uint64_t id, uint64_t claim, u
 dspec_status model_speculation(model *m, uint32_t cpu, uint64_t *id);
 dspec_status model_speculate(model *m, uint32_t cpu, uint64_t id, uint32_t epid, uint64_t stamp, const uint64_t *values, size_t n);
 dspec_status model_commit(model *m, uint32_t cpu, uint64_t id, uint32_t *count);
+dspec_status model_commit_if_room(model *m, uint32_t cpu, uint64_t id, uint32_t *count);
 dspec_status model_discard(model *m, uint32_t cpu, uint64_t id, uint32_t *count);
+/* The speculation of a slot of which the CPU holds records, or 0. */
+uint64_t model_open_at(const model *m, uint32_t cpu, uint32_t slot);
 uint32_t model_dropped_in(const model *m, uint32_t cpu, uint64_t id);
 void model_service(model *m, uint32_t cpu, bool *sealed, uint32_t *settled);
 

@@ -122,6 +122,33 @@ void paths() {
     CHECK(records.size() == 1 && w.of_one.read(records[0]) == std::tuple<std::uint64_t>(3));
 }
 
+/* A path whose records would be lost stays as it is until there is room. A record of `of_one` has 16 bytes, of which the buffer takes two. */
+void waits() {
+    world w;
+    dspec_config small = config;
+    small.bufsize = 32;
+    dspec::session session(small, w.schema);
+    {
+        dspec::cpu cpu = session.cpu_of(0);
+        dspec::consumer consumer = session.consumer_of();
+        std::uint64_t ids[64] = {0};
+        CHECK(cpu.trace(w.of_one, 1) == DSPEC_OK);
+        dspec::path path = cpu.open();
+        CHECK(path.record(w.of_one, 2) == DSPEC_OK && path.record(w.of_one, 3) == DSPEC_OK);
+        CHECK(cpu.open_in(ids) == 1 && ids[0] == path.id());
+        dspec::decided told = path.commit_if_room();
+        CHECK(told.status == DSPEC_BUSY && told.records == 0);
+        CHECK(cpu.commit_if_room(path.id()).status == DSPEC_BUSY);
+        CHECK(!consumer.take(0, [](const dspec_batch &) {}));
+        CHECK(cpu.service());
+        told = path.commit_if_room();
+        CHECK(told.status == DSPEC_OK && told.records == 2);
+        CHECK(path.commit_if_room().status == DSPEC_VOID);
+        CHECK(cpu.open_in(ids) == 0);
+        CHECK(cpu.report().lost == 0 && cpu.report().discarded == 0);
+    }
+}
+
 /* A batch goes back behind whoever saw it; stamps come with records. */
 void batches() {
     world w;
@@ -296,6 +323,7 @@ void refusals() {
 int main() {
     values();
     paths();
+    waits();
     batches();
     parking();
     moving();

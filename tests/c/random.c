@@ -150,6 +150,13 @@ static void decide(sequence *s, dspec_cpu *h, uint32_t cpu, bool held, bool comm
     expect(s, count == due_count, "another count");
 }
 
+static void decide_if_room(sequence *s, dspec_cpu *h, uint32_t cpu, bool held, uint64_t id) {
+    uint32_t count = MAGIC, due_count = MAGIC;
+    dspec_status got = dspec_commit_if_room(h, id, &count);
+    answers(s, "commit_if_room", got, held ? model_commit_if_room(&s->m, cpu, id, &due_count) : DSPEC_BAD_HANDLE);
+    expect(s, count == due_count, "another count");
+}
+
 static void open_one(sequence *s, dspec_cpu *h, uint32_t cpu, bool held) {
     uint64_t id = MAGIC, due_id = MAGIC;
     dspec_status got = dspec_speculation(h, &id);
@@ -172,6 +179,13 @@ static void ask_dropped(sequence *s, dspec_cpu *h, uint32_t cpu, bool held, uint
     uint32_t count = MAGIC;
     answers(s, "dropped_in", dspec_dropped_in(h, id, &count), held ? DSPEC_OK : DSPEC_BAD_HANDLE);
     expect(s, count == (held ? model_dropped_in(&s->m, cpu, id) : MAGIC), "another count of dropped records");
+}
+
+static void ask_open(sequence *s, dspec_cpu *h, uint32_t cpu, bool held, uint64_t id) {
+    uint64_t at = MAGIC;
+    uint32_t slot = one_in(&s->dice, 8) ? (uint32_t)draw(&s->dice) : (uint32_t)(id % 64);
+    answers(s, "open_at", dspec_open_at(h, slot, &at), held ? DSPEC_OK : DSPEC_BAD_HANDLE);
+    expect(s, at == (held ? model_open_at(&s->m, cpu, slot) : MAGIC), "another speculation in the slot");
 }
 
 /* Words of any bits, mostly as many as the EPID's fields take, and a claim that is mostly true of it. */
@@ -220,7 +234,7 @@ static void cpu_calls(sequence *s) {
     drawn r = draw_record(&s->dice, &s->m.schema);
     uint64_t id = draw_id(s);
     dspec_status got;
-    switch (below(&s->dice, 18)) {
+    switch (below(&s->dice, 20)) {
     case 0: case 1: case 10:
         got = dspec_trace(h, r.epid, r.stamp, r.values, r.n);
         answers(s, "trace", got, held ? model_trace(&s->m, cpu, r.epid, r.stamp, r.values, r.n) : DSPEC_BAD_HANDLE);
@@ -234,6 +248,8 @@ static void cpu_calls(sequence *s) {
     case 8: decide(s, h, cpu, held, false); break;
     case 12: ask_dropped(s, h, cpu, held, id); break;
     case 13: case 14: put(s, h, cpu, held, &r); break;
+    case 9: decide_if_room(s, h, cpu, held, id); break;
+    case 18: ask_open(s, h, cpu, held, id); break;
     case 15: case 16: put_in(s, h, cpu, held, id, &r); break;
     default: service(s, h, cpu, held); break;
     }

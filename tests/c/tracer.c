@@ -27,10 +27,11 @@ DSPEC_PROBE(tick, uint64_t, number);
 enum { STEPS = 5, CRASH_STEP = 3, MOST_THREADS = 1000 };
 
 static dspec_tracer tracer;
-static dspec_tracer_options options;
+static dspec_tracer_options options = { .crash_ms = 5000 }; /* the machine may have much else to do */
 static const char *folder;
 static _Atomic uint64_t requests;
 static _Atomic bool goes_on = true;
+static size_t number = 8;
 static pthread_t threads[MOST_THREADS];
 static int *volatile nowhere;
 static volatile int zero, endless = 1 << 30;
@@ -148,7 +149,9 @@ static int end(dspec_tracer *one) {
            r.dropped, r.specdropped, r.lost, r.discarded, r.void_, r.refused);
     printf(" kept=%" PRIu64 " thrown=%" PRIu64 " undecided=%" PRIu64 " crash_paths=%" PRIu64 " no_slot=%" PRIu64 " nested=%" PRIu64 " late=%" PRIu64 " waited=%" PRIu64, r.kept, r.thrown,
            r.undecided, r.crash_paths, r.no_slot, r.nested, r.late, r.waited);
-    printf(" threads=%" PRIu64 " stuck=%" PRIu64 " not_written=%" PRIu64 " requests=%" PRIu64 " why=%s\n", r.threads, r.stuck_lanes, r.not_written, (uint64_t)requests, r.why);
+    printf(" threads=%" PRIu64 " stuck=%" PRIu64 " not_written=%" PRIu64 " cut=%" PRIu64 " cut_records=%" PRIu64 " gone=%" PRIu64 " gone_folders=%" PRIu64, r.threads, r.stuck_lanes,
+           r.not_written, r.cut, r.cut_records, r.gone_records, r.gone_folders);
+    printf(" requests=%" PRIu64 " why=%s\n", (uint64_t)requests, r.why);
     return whole ? 0 : 4;
 }
 
@@ -178,6 +181,22 @@ static int mode_main(void) {
     return 2;
 }
 
+/* A keep that waits for room on a disk that hangs waits keep_ms, and its records are lost then. */
+static int mode_patient(void) {
+    begin();
+    hangs = true;
+    for (;;) {
+        uint64_t began;
+        dspec_path path = dspec_path_begin(&tracer);
+        for (uint32_t step = 0; step < STEPS; step++) query_in(&path, 13, step);
+        began = dspec_tracer_now();
+        if (dspec_path_keep(&path)) continue;
+        printf("waited=%" PRIu64 "\n", (dspec_tracer_now() - began) / 1000000);
+        fflush(stdout);
+        _exit(0);
+    }
+}
+
 /* A crash beside a disk that hangs ends the process all the same. */
 static int mode_hang(void) {
     begin();
@@ -186,8 +205,6 @@ static int mode_hang(void) {
     serve(NULL);
     return 2;
 }
-
-static size_t number = 8;
 
 static int mode_churn(void) {
     begin();
@@ -347,6 +364,40 @@ static int mode_lost(void) {
     return end(&tracer);
 }
 
+/* ---- Paths that have more records than fit. ---- */
+
+/* Request 5 crashes where that is asked. */
+static void long_request(uint64_t request, size_t steps) {
+    dspec_path path = dspec_path_begin(&tracer);
+    for (uint32_t step = 0; step < steps; step++) {
+        if (request == 5 && step == 700) {
+            if (is(kind, "segv")) crash(&path, request);
+            if (is(kind, "open")) return;
+        }
+        if (query_in(&path, request, step) != DSPEC_OK && options.keep_last) fail("a record of a long path is refused");
+    }
+    if (request % 10 == 3 && !dspec_path_keep(&path)) fail("a long path isn't kept");
+    else if (request % 10 != 3 && !dspec_path_drop(&path)) fail("a long path isn't thrown away");
+}
+
+static void *long_requests(void *unused) {
+    for (int i = 0; i < 50; i++) long_request(atomic_fetch_add(&requests, 1) + 100, number);
+    return unused;
+}
+
+/* Request 3 and the tenth behind it fit into one speculation and into two; then some of so many records, on this thread and on four. */
+static int mode_long(void) {
+    begin();
+    long_request(3, 16);
+    long_request(13, 32);
+    long_request(4, number);
+    long_request(23, number);
+    long_request(5, number);
+    run_threads(4, long_requests);
+    join_threads(4);
+    return end(&tracer);
+}
+
 static int child(void) {
     static dspec_tracer own;
     char where[4096];
@@ -426,6 +477,34 @@ static int mode_nested(void) {
     return end(&tracer);
 }
 
+/* A handler that comes into the middle of a call, once, and crashes there or stays for longer than a stop waits. */
+static _Atomic bool is_within;
+
+static void within(int signal) {
+    (void)signal;
+    if (is_within || tick_now(&tracer, 1) != DSPEC_BUSY) return;
+    is_within = true;
+    if (is(kind, "segv")) *nowhere = 1;
+    if (write(1, "within\n", 7) != 7) _exit(9);
+    sleep(is(kind, "stopped") ? 2 : 7);
+}
+
+static int mode_within(void) {
+    const struct sigaction action = { .sa_handler = within, .sa_flags = SA_RESTART };
+    int status;
+    begin();
+    sigaction(SIGUSR1, &action, NULL);
+    run_threads(1, serve);
+    while (!is_within) {
+        pthread_kill(threads[0], SIGUSR1);
+        usleep(100);
+    }
+    status = end(&tracer);
+    goes_on = false;
+    join_threads(1);
+    return status;
+}
+
 /* What the consumer costs beside threads that sleep. */
 static int mode_idle(void) {
     struct rusage use;
@@ -487,6 +566,7 @@ static const struct {
     { "serve", mode_serve }, { "main", mode_main }, { "churn", mode_churn }, { "crowd", mode_crowd }, { "waiting", mode_waiting }, { "sleep", mode_sleep },
     { "stop", mode_stop }, { "exit", mode_exit }, { "full", mode_full }, { "lost", mode_lost }, { "fork", mode_fork }, { "handler", mode_handler },
     { "recover", mode_recover }, { "nested", mode_nested }, { "idle", mode_idle }, { "two", mode_two }, { "flush", mode_flush }, { "hang", mode_hang }, { "left", mode_left },
+    { "long", mode_long }, { "within", mode_within }, { "patient", mode_patient },
 };
 
 static void option(const char *word) {
@@ -495,6 +575,11 @@ static void option(const char *word) {
     if (strncmp(word, "lanes=", 6) == 0) options.lanes = given;
     if (strncmp(word, "paths=", 6) == 0) options.paths = given;
     if (strncmp(word, "bufsize=", 8) == 0) options.bufsize = given;
+    if (strncmp(word, "specsize=", 9) == 0) options.specsize = given;
+    if (strncmp(word, "keep_ms=", 8) == 0) options.keep_ms = given;
+    if (strncmp(word, "crash_ms=", 9) == 0) options.crash_ms = given;
+    if (strncmp(word, "max_bytes=", 10) == 0) options.max_bytes = given;
+    if (strncmp(word, "keep_last=", 10) == 0) options.keep_last = given != 0;
     if (strncmp(word, "by_thread=", 10) == 0) options.by_thread = given != 0;
     if (strncmp(word, "exchange=", 9) == 0) options.no_membarrier = given != 0;
     if (strncmp(word, "keep_all=", 9) == 0) options.keep_all = given != 0;

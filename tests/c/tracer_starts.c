@@ -154,6 +154,13 @@ static void options(void) {
     refuses(&(dspec_tracer_options){ .bufsize = 4095 }, DSPEC_PROBES(p00), "specsize");
     refuses(&(dspec_tracer_options){ .bufsize = 8193 }, DSPEC_PROBES(p00), "bufsize");
     refuses(&(dspec_tracer_options){ .specsize = 100 + 1 }, DSPEC_PROBES(p00), "specsize");
+    refuses(&(dspec_tracer_options){ .keep_last = true, .paths = 32 }, DSPEC_PROBES(p00), "paths is not 1 to 31");
+    refuses(&(dspec_tracer_options){ .keep_last = true, .specsize = 72 }, DSPEC_PROBES(p00), "specsize is below 80");
+    refuses(&(dspec_tracer_options){ .max_folders = 2 }, DSPEC_PROBES(p00), "without max_bytes");
+    refuses(&(dspec_tracer_options){ .max_folders = 1, .max_bytes = 10000000 }, DSPEC_PROBES(p00), "max_folders is not 2 to 64");
+    refuses(&(dspec_tracer_options){ .max_folders = 65, .max_bytes = 10000000 }, DSPEC_PROBES(p00), "max_folders is not 2 to 64");
+    refuses(&(dspec_tracer_options){ .max_bytes = 100000 }, DSPEC_PROBES(p00), "the room is too small");
+    goes_well(&(dspec_tracer_options){ .keep_last = true, .lanes = 1, .paths = 31, .specsize = 80 }, DSPEC_PROBES(p00));
     goes_well(&(dspec_tracer_options){ .lanes = 63, .paths = 63, .bufsize = 4096 }, DSPEC_PROBES(p00));
     goes_well(&(dspec_tracer_options){ .lanes = 1, .paths = 1, .bufsize = 256, .specsize = 256 }, NULL);
     goes_well(NULL, DSPEC_PROBES(p00, p01));
@@ -185,7 +192,9 @@ static void folders(void) {
 }
 
 /* Each thing that the system gives, refused in turn. */
-static long each_refused(void) {
+static long each_refused(const dspec_tracer_options *options) {
+    char first[4200];
+    snprintf(first, sizeof first, "%s.0", folder);
     for (long at = 1; CHECK(at < 10000); at++) {
         calls = 0;
         refused = 0;
@@ -193,7 +202,7 @@ static long each_refused(void) {
         const long held = blocks;
         const int files = entries("/proc/self/fd");
         refused = at;
-        bool started = starts(&tracer, &(dspec_tracer_options){ .lanes = 2 }, DSPEC_PROBES(p00, event));
+        bool started = starts(&tracer, options, DSPEC_PROBES(p00, event));
         refused = 0;
         if (started) {
             dspec_tracer_drop(&tracer);
@@ -203,7 +212,7 @@ static long each_refused(void) {
         CHECK(tracer.why[0] != 0);
         CHECK(blocks == held);
         CHECK(entries("/proc/self/fd") == files);
-        CHECK(entries(folder) <= 2);
+        CHECK(entries(folder) <= 2 && entries(first) == -1);
         empty_folder();
     }
     return 0;
@@ -246,6 +255,7 @@ int main(int argc, char **argv) {
     probes();
     folders();
     many();
-    printf("%ld refused\n", each_refused());
+    printf("%ld refused\n", each_refused(&(dspec_tracer_options){ .lanes = 2 }));
+    printf("%ld refused below a bound\n", each_refused(&(dspec_tracer_options){ .lanes = 2, .max_bytes = 1000000 }));
     return check_end();
 }

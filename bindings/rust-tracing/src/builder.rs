@@ -10,6 +10,9 @@ use std::time::Duration;
 /// Slots of one session of the library.
 const SLOTS: u32 = 63;
 
+/// Parts of a path that keeps its last records: its first ones, and two of the last.
+const PARTS: u32 = 3;
+
 /// Which spans are paths.
 #[derive(Clone, Copy, Debug, PartialEq, Eq)]
 pub(crate) enum Paths {
@@ -26,11 +29,14 @@ pub struct Builder {
     pub(crate) outside: bool,
     pub(crate) enter_and_exit: bool,
     pub(crate) patience: Duration,
-    /// How long a path waits for the consumer, where that has slots to free.
+    /// How long a path waits for lanes that somebody is in, where slots are to be freed.
     pub(crate) freeing: Duration,
     pub(crate) pause: Duration,
     pub(crate) longest_pause: Duration,
     pub(crate) clock: Option<fn() -> u64>,
+    /// How long a crash waits; not at all where crashes are left alone.
+    pub(crate) crashes: Duration,
+    pub(crate) keep_last: bool,
     open: u32,
     path_bytes: u32,
     stream_bytes: u32,
@@ -53,10 +59,12 @@ impl Builder {
             outside: true,
             enter_and_exit: false,
             patience: Duration::ZERO,
-            freeing: Duration::from_millis(20),
+            freeing: Duration::from_secs(1),
             pause: Duration::from_millis(1),
             longest_pause: Duration::from_millis(128),
             clock: None,
+            crashes: Duration::from_millis(500),
+            keep_last: false,
             open: SLOTS,
             path_bytes: 8192,
             stream_bytes: 256 * 1024,
@@ -84,7 +92,8 @@ impl Builder {
     }
 
     /// How many bytes one path may have, on each lane that records for it: up to 1 MiB, rounded up to a multiple of 8. An event takes
-    /// 28, 8 for each value that isn't a literal, and the texts that the program made. What has no room is cut, and told with the path; the first ERROR of a path isn't cut.
+    /// 28, 8 for each value that isn't a literal, and the texts that the program made. What has no room is cut, and told with the path, as
+    /// [`Builder::keep_last`] says; the first ERROR of a path isn't cut.
     pub fn bytes_a_path(mut self, bytes: u32) -> Builder {
         self.path_bytes = bytes;
         self
@@ -98,8 +107,8 @@ impl Builder {
     }
 
     /// How long a path may wait at its begin where all that may be open at once are open. Zero, as it is at first: it doesn't wait for another
-    /// path to end. Where paths have ended whose slots the consumer frees as soon as its thread runs, it waits for that, 20 milliseconds at most;
-    /// for a consumer whose sink stands still once.
+    /// path to end. Slots of paths that have ended it frees itself, and doesn't wait for the consumer; where a thread is in a lane just then, it waits
+    /// for that, a second at most, and for one that stays there once.
     pub fn wait_at_most(mut self, patience: Duration) -> Builder {
         self.patience = patience;
         self
@@ -138,16 +147,42 @@ impl Builder {
         self
     }
 
-    /// How many sessions there are, and how many slots each has.
-    fn sessions(&self) -> (u32, u32) {
-        let sessions = self.open.div_ceil(SLOTS).max(1);
+    /// A path that has more records than its bytes have room for keeps its last ones too: so many bytes of the first ones, and one to two times so many of the
+    /// last ones, on each lane. What stood between is counted in [`Path::cut`](crate::Path::cut). A path takes three slots then: 20 paths at once are
+    /// one session, and there are 5,120 at most.
+    pub fn keep_last(mut self) -> Builder {
+        self.keep_last = true;
+        self
+    }
+
+    /// How long a thread that crashes waits, at most, until the path that it is in was handed to the sink; 500 milliseconds at first. SIGSEGV, SIGBUS, SIGFPE,
+    /// SIGILL and SIGABRT are handled for that, and then what would have come of the signal comes. With zero they are left alone.
+    pub fn crash_waits_at_most(mut self, most: Duration) -> Builder {
+        self.crashes = most;
+        self
+    }
+
+    /// How many sessions there are, and how many paths each has at once.
+    pub(crate) fn sessions(&self) -> (u32, u32) {
+        let most = if self.keep_last { SLOTS / PARTS - 1 } else { SLOTS };
+        let sessions = self.open.div_ceil(most).max(1);
         (sessions, self.open.div_ceil(sessions))
+    }
+
+    /// How many slots a session has. Where paths have several parts, there are some more, for those that are to be freed.
+    fn slots(&self) -> u32 {
+        let paths = self.sessions().1;
+        if self.keep_last && paths > 0 {
+            PARTS * (paths + 1)
+        } else {
+            paths
+        }
     }
 
     fn config(&self) -> Config {
         Config {
             cpus: self.lanes,
-            nspec: self.sessions().1,
+            nspec: self.slots(),
             bufsize: rounded_up(self.stream_bytes),
             specsize: rounded_up(self.path_bytes),
             max_issues: path_id::ISSUES,

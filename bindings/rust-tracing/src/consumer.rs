@@ -2,13 +2,13 @@
 
 use crate::exit;
 use crate::lanes::{Kept, Told};
-use crate::layer::{Core, DROPPED, FINISHED};
+use crate::layer::{locked, Core, DROPPED, FINISHED};
 use crate::otlp::mixed;
 use crate::path_id::PathId;
 use crate::schema::{CLOSE, ENTER, EVENT, EXIT, HEAD, MORE, OPEN, SET};
 use crate::sink::{Kind, Line, Missed, Path, Sink};
 use crate::values::{read, Held};
-use dspec::{Batch, Consumer, Record, Session};
+use dspec::{Batch, Record, Session};
 use std::collections::{HashMap, VecDeque};
 use std::fmt;
 use std::hash::{BuildHasher, RandomState};
@@ -16,6 +16,7 @@ use std::io;
 use std::sync::atomic::Ordering;
 use std::sync::Arc;
 use std::thread::{self, JoinHandle};
+use std::time::Duration;
 use tracing_core::{dispatcher, Dispatch, Metadata};
 
 /// The counts at the end.
@@ -33,6 +34,8 @@ pub struct Report {
     pub missed: u64,
     /// Those of them that would have been kept.
     pub wanted: u64,
+    /// Crashes of threads that were told.
+    pub crashes: u64,
     /// Paths that were open when the layer ended, and were thrown away. One that failed, was asked for or was slow by then is kept.
     pub open: u64,
     /// Records of kept paths that had no room among their path's bytes.
@@ -89,12 +92,19 @@ impl<K: Sink> Guard<K> {
         self.end(FINISHED).expect("the thread is joined once")
     }
 
+    /// Has what was kept until now handed to the sink, and that flushed: whether it was, and without a failure of the sink, within this time.
+    #[must_use]
+    pub fn flush(&self, most: Duration) -> bool {
+        self.core.runs() && self.core.flushes.awaited(|| self.core.wake(), most)
+    }
+
     fn end(&mut self, how: u8) -> Option<(K, Report)> {
         if self.core.runs() {
             self.core.ended.store(how, Ordering::Release);
         }
         let thread = self.thread.take()?;
         thread.thread().unpark();
+        self.core.wake();
         match thread.join() {
             Ok(told) => Some(told),
             Err(_) if thread::panicking() => None,
@@ -110,7 +120,7 @@ impl<K: Sink> Drop for Guard<K> {
 }
 
 pub(crate) fn start<K: Sink + 'static>(mut sessions: Vec<Session>, core: Arc<Core>, sink: K) -> Result<Guard<K>, crate::BuildError> {
-    let consumers = sessions.iter_mut().map(Session::consumer).collect::<Result<_, _>>()?;
+    *locked(&core.consumers) = sessions.iter_mut().map(Session::consumer).collect::<Result<_, _>>()?;
     let ends = core.clone();
     let run = move || {
         let visits = vec![0; core.lanes.count()];
@@ -121,6 +131,7 @@ pub(crate) fn start<K: Sink + 'static>(mut sessions: Vec<Session>, core: Arc<Cor
             core,
             sink,
             lines: HashMap::new(),
+            outside: Vec::new(),
             ended: VecDeque::new(),
             visits,
             seed,
@@ -129,7 +140,7 @@ pub(crate) fn start<K: Sink + 'static>(mut sessions: Vec<Session>, core: Arc<Cor
             report: Report::default(),
         };
         // What a sink traces isn't traced.
-        dispatcher::with_default(&Dispatch::none(), || paths.run(sessions, consumers))
+        dispatcher::with_default(&Dispatch::none(), || paths.run(sessions))
     };
     let thread = thread::Builder::new().name("dspec".to_owned()).spawn(run)?;
     exit::watch(&ends);
@@ -144,16 +155,18 @@ struct Ended {
 
 /// What came of a path.
 #[derive(Default)]
-struct Came {
-    lines: Vec<Line>,
+pub(crate) struct Came {
+    pub(crate) lines: Vec<Line>,
     records: u64,
 }
 
-struct Paths<K> {
-    core: Arc<Core>,
+pub(crate) struct Paths<K> {
+    pub(crate) core: Arc<Core>,
     sink: K,
     /// Of paths that were committed and not handed on yet.
-    lines: HashMap<PathId, Came>,
+    pub(crate) lines: HashMap<PathId, Came>,
+    /// Of none, which the sink hasn't got yet.
+    pub(crate) outside: Vec<Line>,
     ended: VecDeque<Ended>,
     /// How often each lane was visited.
     visits: Vec<u64>,
@@ -162,32 +175,45 @@ struct Paths<K> {
     full: bool,
     /// Whether the sink got something since its last flush.
     handed: bool,
-    report: Report,
+    pub(crate) report: Report,
 }
 
 /// A lane's part of a path is copied by the service behind the commit, and the buffer that it is copied to is sealed by the next: with
 /// the visit that the consumer may be in when it learns of the commit, a path is whole three visits behind.
 const VISITS: u64 = 3;
 
+/// How long the consumer waits for a lane that somebody is in, where a flush asks for all.
+const FLUSHING: Duration = Duration::from_millis(20);
+
 impl<K: Sink> Paths<K> {
-    fn run(mut self, sessions: Vec<Session>, mut consumers: Vec<Consumer>) -> (K, Report) {
+    fn run(mut self, sessions: Vec<Session>) -> (K, Report) {
         let (shortest, longest) = (self.core.options.pause, self.core.options.longest_pause);
         let mut rest = shortest;
         while self.core.runs() {
             self.core.idle.store(false, Ordering::Release);
-            let busy = self.round(&mut consumers);
+            let busy = self.crashes() || self.flushes() || self.round(Duration::ZERO);
+            if self.is_killed() {
+                self.core.ended.store(FINISHED, Ordering::Release);
+                break;
+            }
             rest = if busy { shortest } else { (2 * rest).min(longest) };
             self.core.idle.store(rest > shortest, Ordering::Release);
-            thread::park_timeout(rest);
+            self.core.sleep(rest);
         }
-        let lanes = self.core.lanes.count();
+        self.ends(sessions);
+        (self.sink, self.report)
+    }
+
+    /// The sessions end: what is left goes to the sink.
+    fn ends(&mut self, sessions: Vec<Session>) {
         let core = self.core.clone();
-        core.decide_open();
-        let told: Vec<_> = (0..lanes).map(|number| core.lanes.awaited(number).end()).collect();
-        for told in told {
+        self.crashes();
+        core.decide_open(self.is_killed());
+        for number in 0..core.lanes.count() {
+            let told = core.lanes.awaited(number).end();
             self.told(told);
         }
-        drop(consumers);
+        locked(&core.consumers).clear();
         let closed: Vec<_> = sessions.into_iter().map(|session| session.finish().unwrap_or_else(|fault| panic!("{fault}"))).collect();
         for closed in &closed {
             for lane in 0..closed.cpus() {
@@ -203,57 +229,94 @@ impl<K: Sink> Paths<K> {
         let answer = self.sink.end();
         self.answered(answer);
         self.report.stray = self.lines.values().map(|came| came.records).sum();
-        self.report.wanted = self.core.wanted.load(Ordering::Relaxed);
-        self.report.missed = self.core.missed.load(Ordering::Relaxed);
-        self.report.open = self.core.unended.load(Ordering::Relaxed);
-        self.report.late = self.core.lanes.late.load(Ordering::Relaxed);
-        self.report.moved = self.core.lanes.moved.load(Ordering::Relaxed);
-        (self.sink, self.report)
+        self.report.wanted = core.wanted.load(Ordering::Relaxed);
+        self.report.missed = core.missed.load(Ordering::Relaxed);
+        self.report.open = core.unended.load(Ordering::Relaxed);
+        self.report.late = core.lanes.late.load(Ordering::Relaxed);
+        self.report.moved = core.lanes.moved.load(Ordering::Relaxed);
+        self.ends_watch();
+    }
+
+    /// Makes the flush that was asked for last, where it wasn't made and all lanes can be had: whether there was one.
+    fn flushes(&mut self) -> bool {
+        let core = self.core.clone();
+        let asked = core.flushes.asked.load(Ordering::Acquire);
+        if core.flushes.is_made(asked) {
+            return false;
+        }
+        let failures = self.report.failures;
+        if self.whole_rounds(FLUSHING) {
+            self.handed = true;
+            self.flush();
+            core.flushes.made(asked, self.report.failures == failures);
+        }
+        true
+    }
+
+    /// As many rounds as paths need that have ended by now: whether each was of all lanes.
+    pub(crate) fn whole_rounds(&mut self, patience: Duration) -> bool {
+        let due: Vec<_> = self.visits.iter().map(|visits| visits + VISITS + 1).collect();
+        for _ in 0..=VISITS {
+            self.round(patience);
+        }
+        self.visits == due
     }
 
     /// Whether there was something to do.
-    fn round(&mut self, consumers: &mut [Consumer]) -> bool {
+    fn round(&mut self, patience: Duration) -> bool {
         let taken = self.report.taken;
         let mut busy = self.core.opened.swap(0, Ordering::Relaxed) > 0;
         for number in 0..self.core.lanes.count() {
-            let lane_number = u32::try_from(number).expect("64 lanes at most");
-            for consumer in &mut *consumers {
-                consumer.ask(lane_number).expect("a lane of the session");
-            }
-            let core = self.core.clone();
-            let Some(mut lane) = core.lanes.tried(number) else {
-                busy = true;
-                continue;
-            };
-            for cpu in &mut lane.cpus {
-                cpu.service();
-            }
-            let told = std::mem::take(&mut lane.told);
-            drop(lane);
-            self.told(told);
-            self.visits[number] += 1;
-            for consumer in &mut *consumers {
-                if let Some(batch) = consumer.take(lane_number).expect("a lane of the session") {
-                    self.batch(&batch);
-                }
-            }
+            busy |= !self.visit(number, patience);
         }
-        for consumer in consumers {
-            busy |= consumer.clean() > 0;
-        }
+        let freed = locked(&self.core.consumers).iter_mut().map(dspec::Consumer::clean).sum::<u32>() > 0;
+        self.core.freed(freed);
         self.hand_on(false);
         if !self.full && self.core.missed.load(Ordering::Relaxed) > 0 {
             self.full = true;
             let answer = self.sink.full(self.core.options.open());
             self.answered(answer);
         }
+        self.flush();
+        self.report.rounds += 1;
+        busy || freed || !self.ended.is_empty() || self.report.taken > taken
+    }
+
+    /// Serves a lane, and takes what it has: whether it could be had.
+    fn visit(&mut self, number: usize, patience: Duration) -> bool {
+        let core = self.core.clone();
+        let lane_number = u32::try_from(number).expect("64 lanes at most");
+        for consumer in &mut *locked(&core.consumers) {
+            consumer.ask(lane_number).expect("a lane of the session");
+        }
+        let Some(mut lane) = core.lanes.tried(number, patience) else { return false };
+        lane.serves();
+        let told = std::mem::take(&mut lane.told);
+        drop(lane);
+        self.told(told);
+        self.visits[number] += 1;
+        for consumer in &mut *locked(&core.consumers) {
+            if let Some(batch) = consumer.take(lane_number).expect("a lane of the session") {
+                self.batch(&batch);
+            }
+        }
+        self.hand_outside();
+        true
+    }
+
+    pub(crate) fn flush(&mut self) {
         if std::mem::take(&mut self.handed) {
             let answer = self.sink.flush();
             self.answered(answer);
+            self.handed = false;
         }
-        self.report.rounds += 1;
-        self.core.stuck.store(false, Ordering::Relaxed);
-        busy || !self.ended.is_empty() || self.report.taken > taken
+    }
+
+    fn hand_outside(&mut self) {
+        for line in std::mem::take(&mut self.outside) {
+            let answer = self.sink.outside(&line);
+            self.answered(answer);
+        }
     }
 
     fn answered(&mut self, answer: io::Result<()>) {
@@ -276,7 +339,8 @@ impl<K: Sink> Paths<K> {
     }
 
     /// Hands on the paths of which all lanes' parts have come, in the order in which they ended.
-    fn hand_on(&mut self, all: bool) {
+    pub(crate) fn hand_on(&mut self, all: bool) {
+        self.hand_outside();
         let whole = |ended: &Ended, visits: &[u64]| ended.seen.iter().zip(visits).all(|(seen, now)| *now >= seen + VISITS);
         while self.ended.front().is_some_and(|ended| all || whole(ended, &self.visits)) {
             if let Some(Ended { kept, .. }) = self.ended.pop_front() {
@@ -340,8 +404,7 @@ impl<K: Sink> Paths<K> {
         let (path, records) = (reading.path, reading.records);
         let line = reading.end(&self.core);
         if path == PathId::NONE {
-            let answer = self.sink.outside(&line);
-            self.answered(answer);
+            self.outside.push(line);
         } else {
             let came = self.lines.entry(path).or_default();
             came.lines.push(line);

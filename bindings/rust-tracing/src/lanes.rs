@@ -2,13 +2,15 @@
 //! where somebody is in it, it takes the next one, since any CPU may record for a speculation. So there may be more threads than lanes, a thread
 //! may end at any time, and the consumer makes the services of threads that sleep.
 
+use crate::layer::OWN;
 use crate::path_id::PathId;
 use crate::sink::Why;
 use crate::values::Held;
-use dspec::{Cpu, Epid, Error, Spoken, Traced};
+use dspec::{Cpu, Epid, SpecId, Spoken, Traced};
 use std::cell::Cell;
 use std::sync::atomic::{AtomicU64, AtomicUsize, Ordering};
 use std::sync::{Mutex, MutexGuard, PoisonError, TryLockError};
+use std::time::{Duration, Instant};
 
 thread_local! {
     static HOME: Cell<usize> = const { Cell::new(usize::MAX) };
@@ -69,26 +71,33 @@ impl Lane {
     /// Traces a record to the stream of a session. False: it had no room.
     pub(crate) fn trace(&mut self, session: usize, epid: u32, stamp: u64, values: &[u64]) -> bool {
         let Some(cpu) = self.cpus.get_mut(session) else { return false };
-        let traced = cpu.trace(Epid::from_raw(epid), stamp, values).expect("a record of the layer's own schema");
+        let traced = cpu.trace(Epid::from_raw(epid), stamp, values).expect(OWN);
         self.traced += u64::from(traced == Traced::Kept);
         traced == Traced::Kept
     }
 
-    /// Offers a record to a path.
-    pub(crate) fn speculate(&mut self, path: PathId, epid: u32, stamp: u64, values: &[u64]) -> Result<Spoken, Error> {
-        let Some(cpu) = self.cpus.get_mut(path.session()) else { return Ok(Spoken::Void) };
-        cpu.speculate(path.speculation(), Epid::from_raw(epid), stamp, values)
+    /// Offers a record to a speculation of a session.
+    pub(crate) fn speculate(&mut self, session: usize, id: SpecId, epid: u32, stamp: u64, values: &[u64]) -> Spoken {
+        let Some(cpu) = self.cpus.get_mut(session) else { return Spoken::Void };
+        cpu.speculate(id, Epid::from_raw(epid), stamp, values).expect(OWN)
     }
 
-    pub(crate) fn commit(&mut self, path: PathId) {
-        if let Some(cpu) = self.cpus.get_mut(path.session()) {
-            cpu.commit(path.speculation());
+    pub(crate) fn commit(&mut self, session: usize, id: SpecId) {
+        if let Some(cpu) = self.cpus.get_mut(session) {
+            cpu.commit(id);
         }
     }
 
-    pub(crate) fn discard(&mut self, path: PathId) {
-        if let Some(cpu) = self.cpus.get_mut(path.session()) {
-            cpu.discard(path.speculation());
+    pub(crate) fn discard(&mut self, session: usize, id: SpecId) {
+        if let Some(cpu) = self.cpus.get_mut(session) {
+            cpu.discard(id);
+        }
+    }
+
+    /// Makes the services of its CPUs.
+    pub(crate) fn serves(&mut self) {
+        for cpu in &mut self.cpus {
+            cpu.service();
         }
     }
 
@@ -169,6 +178,7 @@ impl Lanes {
     #[allow(clippy::inline_always)]
     #[inline(always)]
     fn lane(&self) -> MutexGuard<'_, Lane> {
+        dspec::crash::reach_down();
         let home = HOME.get();
         match self.places.get(home).map(Place::attempt) {
             Some(Some(lane)) => lane,
@@ -204,18 +214,29 @@ impl Lanes {
         }
     }
 
-    /// A lane, for the consumer's round; none where somebody stays in it.
-    pub(crate) fn tried(&self, number: usize) -> Option<MutexGuard<'_, Lane>> {
-        for _ in 0..YIELDS {
-            for _ in 0..TRIES {
-                if let Some(lane) = self.places[number].attempt() {
-                    return Some(lane);
+    /// A lane, for the consumer's round; none where somebody stays in it for longer than this.
+    pub(crate) fn tried(&self, number: usize, patience: Duration) -> Option<MutexGuard<'_, Lane>> {
+        let begun = Instant::now();
+        loop {
+            for _ in 0..YIELDS {
+                for _ in 0..TRIES {
+                    if let Some(lane) = self.places[number].attempt() {
+                        return Some(lane);
+                    }
+                    std::hint::spin_loop();
                 }
-                std::hint::spin_loop();
+                std::thread::yield_now();
             }
-            std::thread::yield_now();
+            if begun.elapsed() >= patience {
+                return None;
+            }
+            std::thread::sleep(Duration::from_micros(100));
         }
-        None
+    }
+
+    /// Makes the services of the lanes that nobody is in.
+    pub(crate) fn served(&self) {
+        self.places.iter().filter_map(Place::attempt).for_each(|mut lane| lane.serves());
     }
 
     /// A lane, for the consumer, which waits for it.

@@ -1,12 +1,16 @@
 use crate::builder::{Builder, Paths};
 use crate::callsites::Callsites;
-use crate::lanes::{Kept, Lane, Lanes, Wanted, NOTED};
+use crate::crash;
+use crate::flushes::Flushes;
+use crate::lanes::{Kept, Lanes, Wanted, NOTED};
 use crate::path_id::{PathId, SLOTS};
 use crate::schema::{CLOSE, ENTER, EVENT, EXIT, OPEN, SET};
 use crate::sink::Why;
 use crate::spans::{Here, Place, Spans};
+use crate::tail::Tail;
 use crate::values::{Gathering, Held, Values};
-use dspec::{Cpu, Epid, Error, Opening, Spoken};
+use dspec::crash::Watch;
+use dspec::{Consumer, Cpu, Opening, Spoken};
 use std::cell::{Cell, RefCell};
 use std::collections::HashMap;
 use std::sync::atomic::{AtomicBool, AtomicU32, AtomicU64, AtomicU8, Ordering};
@@ -27,6 +31,11 @@ thread_local! {
     static OUTSIDE: RefCell<Vec<(u32, u64, Place)>> = const { RefCell::new(Vec::new()) };
 }
 
+/// Where this thread is; a signal's handler may ask.
+pub(crate) fn place_now() -> Place {
+    NOW.get()
+}
+
 static LAYERS: AtomicU32 = AtomicU32::new(1);
 
 /// Asks for the path that this thread is in to be kept, whatever becomes of it. False: it is in none, or the current subscriber has no
@@ -38,32 +47,34 @@ pub fn keep() -> bool {
 
 /// What is known of a path beside its records.
 #[derive(Debug, Default)]
-struct State {
+pub(crate) struct State {
     path: PathId,
     /// The last path of this slot that was decided.
     closed: PathId,
-    why: Why,
+    pub(crate) why: Why,
     /// The first ERROR.
     held: Option<Box<Held>>,
     /// Of a path without a slot: when it began, and the callsite of its span.
-    begun: u64,
-    callsite: u32,
+    pub(crate) begun: u64,
+    pub(crate) callsite: u32,
 }
 
 /// On cache lines of its own.
 #[derive(Debug, Default)]
 #[repr(align(128))]
-struct Slot {
+pub(crate) struct Slot {
     state: Mutex<State>,
     /// Of the open path: how many spans it has, how many records stand in speculative buffers, and how many had no room there. All that
     /// happens in a path happens before its own span closes.
     spans: AtomicU32,
     records: AtomicU64,
-    cut: AtomicU64,
+    pub(crate) cut: AtomicU64,
     /// The last path that was opened here, when it began, and the callsite of its span.
-    path: AtomicU64,
+    pub(crate) path: AtomicU64,
     begun: AtomicU64,
     callsite: AtomicU32,
+    /// Where the path keeps its last records.
+    pub(crate) tail: Tail,
 }
 
 impl Slot {
@@ -74,7 +85,7 @@ impl Slot {
     }
 
     /// The path that is open here, by its own span.
-    fn open(&self, layer: u32) -> Option<Here> {
+    pub(crate) fn open(&self, layer: u32) -> Option<Here> {
         let closed = locked(&self.state).closed;
         let path = PathId::from_raw(self.path.load(Ordering::Acquire));
         let place = Place { path, span: 1, layer };
@@ -84,10 +95,13 @@ impl Slot {
 
     /// A record of the open path was kept.
     #[inline]
-    fn kept(&self) {
+    pub(crate) fn kept(&self) {
         self.records.fetch_add(1, Ordering::Relaxed);
     }
 }
+
+/// Why a record isn't refused.
+pub(crate) const OWN: &str = "a record of the layer's own schema";
 
 /// How many open spans of a path the layer has room for beside the registry.
 const SPANS: usize = 16;
@@ -110,10 +124,10 @@ pub(crate) struct Core {
     pub(crate) wanted: AtomicU64,
     /// Numbers of paths without a slot.
     slotless_paths: AtomicU64,
-    /// Paths with a slot that aren't decided yet.
-    undecided: AtomicU32,
-    /// Whether a path waited for the consumer in vain, and the consumer has made no round since.
-    pub(crate) stuck: AtomicBool,
+    /// Of each session, the paths that aren't decided yet.
+    undecided: Vec<AtomicU32>,
+    /// Whether a path waited in vain for lanes that somebody was in, and no slot was freed since.
+    stuck: AtomicBool,
     /// Those that were open when the layer ended, and wouldn't have been kept.
     pub(crate) unended: AtomicU64,
     /// [`RUNS`], [`FINISHED`] or [`DROPPED`].
@@ -124,45 +138,38 @@ pub(crate) struct Core {
     pub(crate) idle: AtomicBool,
     /// The consumer's thread.
     pub(crate) consumer: OnceLock<Thread>,
+    /// Of each session, its consumer; none when the sessions have ended. Nobody who has them waits.
+    pub(crate) consumers: Mutex<Vec<Consumer>>,
+    pub(crate) flushes: Flushes,
     /// Nanoseconds since 1970 began, where the layer's clock is 0.
     pub(crate) unix: u64,
-    layer: u32,
+    pub(crate) layer: u32,
+    /// What tells of crashes, where they are waited for.
+    pub(crate) watch: Option<Watch>,
     open_spans: Spans,
-    slots: Vec<Slot>,
+    pub(crate) slots: Vec<Slot>,
     slotless: [Mutex<HashMap<PathId, State>>; PARTS],
     /// Numbers of spans in no path, and in paths without a slot.
     spans: AtomicU32,
     /// The session in which a slot was free last.
     session: AtomicU32,
     sessions: u32,
+    /// How many paths a session has at once.
+    paths: u32,
     /// When the layer's clock was 0.
-    begun: u64,
+    pub(crate) begun: u64,
 }
 
-fn locked<T>(mutex: &Mutex<T>) -> MutexGuard<'_, T> {
+pub(crate) fn locked<T>(mutex: &Mutex<T>) -> MutexGuard<'_, T> {
     mutex.lock().unwrap_or_else(PoisonError::into_inner)
 }
 
 impl Core {
     #[inline]
-    fn now(&self) -> u64 {
+    pub(crate) fn now(&self) -> u64 {
         match self.options.clock {
             Some(clock) => clock(),
             None => dspec::monotonic().wrapping_sub(self.begun),
-        }
-    }
-
-    /// The consumer makes its next round now.
-    pub(crate) fn wake(&self) {
-        if let Some(consumer) = self.consumer.get() {
-            consumer.unpark();
-        }
-    }
-
-    #[inline]
-    fn wake_from_rest(&self) {
-        if self.idle.load(Ordering::Relaxed) && self.idle.swap(false, Ordering::AcqRel) {
-            self.wake();
         }
     }
 
@@ -170,10 +177,25 @@ impl Core {
         self.ended.load(Ordering::Acquire) == RUNS
     }
 
-    /// How long a path may wait for a slot by now. Where not all slots are of paths that are open, the consumer frees some as soon as its thread
-    /// runs; a consumer that is stuck, in a sink say, is waited for once.
-    fn patience(&self) -> Duration {
-        let all = self.undecided.load(Ordering::Relaxed) >= self.options.open();
+    /// Makes the services of lanes that nobody is in, and frees the slots of paths that all lanes are done with: whether there were any. The consumer does
+    /// so each round, and a path that needs a slot doesn't wait for that.
+    pub(crate) fn frees(&self) -> bool {
+        let Ok(mut consumers) = self.consumers.try_lock() else { return false };
+        self.lanes.served();
+        let freed = consumers.iter_mut().map(Consumer::clean).sum::<u32>() > 0;
+        self.freed(freed);
+        freed
+    }
+
+    pub(crate) fn freed(&self, some: bool) {
+        if some {
+            self.stuck.store(false, Ordering::Relaxed);
+        }
+    }
+
+    /// How long a path may wait for a slot by now. Where not all slots are of paths that are open, some are free as soon as whoever is in a lane has left
+    /// it; a thread that stays there is waited for once.
+    fn patience(&self, all: bool) -> Duration {
         let waits = !all && !self.stuck.load(Ordering::Relaxed);
         self.options.patience.max(if waits { self.options.freeing } else { Duration::ZERO })
     }
@@ -189,6 +211,10 @@ impl Core {
             let first = self.session.load(Ordering::Relaxed);
             for further in 0..self.sessions {
                 let session = (first + further) % self.sessions;
+                let undecided = &self.undecided[session as usize];
+                if undecided.load(Ordering::Relaxed) >= self.paths {
+                    continue;
+                }
                 let opening = self.lanes.on_one(|lane| lane.cpus.get_mut(session as usize).map(Cpu::speculation));
                 let Some(Some(opening)) = opening else { return PathId::NONE };
                 if let Opening::Id(id) = opening {
@@ -196,14 +222,21 @@ impl Core {
                         self.session.store(session, Ordering::Relaxed);
                     }
                     let path = PathId::of(session as usize, id);
-                    self.undecided.fetch_add(1, Ordering::Relaxed);
-                    self.slots[path.place()].begins(path, begun, callsite);
+                    undecided.fetch_add(1, Ordering::Relaxed);
+                    let slot = &self.slots[path.place()];
+                    if self.options.keep_last {
+                        slot.tail.begins(path);
+                    }
+                    slot.begins(path, begun, callsite);
                     return path;
                 }
             }
+            let all = self.undecided.iter().map(|one| one.load(Ordering::Relaxed)).sum::<u32>() >= self.options.open();
+            if !all && self.frees() {
+                continue;
+            }
             self.wake();
-            if waits.get_or_insert_with(Instant::now).elapsed() >= self.patience() {
-                let all = self.undecided.load(Ordering::Relaxed) >= self.options.open();
+            if waits.get_or_insert_with(Instant::now).elapsed() >= self.patience(all) {
                 self.stuck.fetch_or(!all, Ordering::Relaxed);
                 return self.open_without_slot(begun, callsite);
             }
@@ -218,12 +251,13 @@ impl Core {
         path
     }
 
-    fn part(&self, path: PathId) -> &Mutex<HashMap<PathId, State>> {
+    pub(crate) fn part(&self, path: PathId) -> &Mutex<HashMap<PathId, State>> {
         &self.slotless[path.without_slot_number() % PARTS]
     }
 
     /// Notes something of a path. False: it was decided already, and nothing is noted.
-    fn note(&self, path: PathId, note: impl FnOnce(&mut State)) -> bool {
+    pub(crate) fn note(&self, path: PathId, note: impl FnOnce(&mut State)) -> bool {
+        dspec::crash::reach_down();
         if !path.has_slot() {
             let mut part = locked(self.part(path));
             return part.get_mut(&path).map(note).is_some();
@@ -267,7 +301,7 @@ impl Core {
             return None;
         }
         let noted = std::mem::replace(&mut *state, State { path, closed: path, ..State::default() });
-        self.undecided.fetch_sub(1, Ordering::Relaxed);
+        self.undecided[path.session()].fetch_sub(1, Ordering::Relaxed);
         Some(if noted.path == path { (noted.why, noted.held) } else { (Why::default(), None) })
     }
 
@@ -287,71 +321,17 @@ impl Core {
     }
 
     /// What has a path, and of no path what is asked for.
-    fn records(&self, path: PathId) -> bool {
+    pub(crate) fn records(&self, path: PathId) -> bool {
         path != PathId::NONE || self.options.outside
     }
 
-    /// Counts a record of a path with a slot that wasn't kept.
-    #[cold]
-    fn not_kept(&self, path: PathId, answer: Result<Spoken, Error>) {
-        if answer.expect("a record of the layer's own schema") == Spoken::Dropped {
-            self.slots[path.place()].cut.fetch_add(1, Ordering::Relaxed);
-        }
-    }
-
-    /// Offers a record to a path, or traces it where there is none. False: it had no room, or the path isn't open.
-    fn offer(&self, lane: &mut Lane, path: PathId, epid: u32, stamp: u64, values: &[u64]) -> bool {
-        if path == PathId::NONE {
-            return lane.trace(0, epid, stamp, values);
-        }
-        let answer = lane.speculate(path, epid, stamp, values);
-        let kept = answer == Ok(Spoken::Kept);
-        if kept {
-            self.slots[path.place()].kept();
-        } else if path.has_slot() {
-            self.not_kept(path, answer);
-        }
-        kept
-    }
-
-    fn put(&self, path: PathId, epid: u32, stamp: u64, span: u32) {
-        if self.records(path) {
-            self.lanes.on_one(|lane| self.offer(lane, path, epid, stamp, &[path.raw(), span.into()]));
-        }
-    }
-
-    #[allow(clippy::inline_always)] // each event makes this call once
-    #[inline(always)]
-    fn put_values(&self, values: &mut Values, place: Place, epid: u32, stamp: u64) {
-        let Place { path, span, .. } = place;
-        values.head(path, span);
-        match values.alone(epid) {
-            Some((epid, row)) if path.has_slot() => {
-                self.lanes.on_cpu(path.session(), |cpu| match cpu.speculate(path.speculation(), Epid::from_raw(epid), stamp, row) {
-                    Ok(Spoken::Kept) => self.slots[path.place()].kept(),
-                    other => self.not_kept(path, other),
-                });
-            }
-            _ => self.put_parts(values, path, epid, stamp),
-        }
-    }
-
-    /// The same of what is more than one record, or has no slot.
-    #[inline(never)]
-    fn put_parts(&self, values: &Values, path: PathId, epid: u32, stamp: u64) {
-        self.lanes.on_one(|lane| match values.alone(epid) {
-            Some((epid, row)) => self.offer(lane, path, epid, stamp, row),
-            None => values.put(epid, &mut |epid, row| self.offer(lane, path, epid, stamp, row)),
-        });
-        if path == PathId::NONE {
-            self.wake_from_rest();
-        }
-    }
-
-    /// The layer ends: each path that is open is kept or thrown away as if it ended now.
-    pub(crate) fn decide_open(&self) {
+    /// The layer ends: each path that is open is kept or thrown away as if it ended now; where the process is killed, kept.
+    pub(crate) fn decide_open(&self, killed: bool) {
         let stamp = self.now();
         for here in self.slots.iter().filter_map(|slot| slot.open(self.layer)) {
+            if killed {
+                self.note(here.place.path, |state| state.why.crashed = true);
+            }
             self.decide(&here, stamp, true);
         }
         for part in &self.slotless {
@@ -364,7 +344,7 @@ impl Core {
     }
 
     /// The path has ended, or is open where the layer ends: it is kept or thrown away.
-    fn decide(&self, here: &Here, stamp: u64, open: bool) {
+    pub(crate) fn decide(&self, here: &Here, stamp: u64, open: bool) {
         let Place { path, span, .. } = here.place;
         let took = stamp.saturating_sub(here.begun);
         let Some((mut why, held)) = self.close(path) else { return };
@@ -382,18 +362,22 @@ impl Core {
                 return;
             }
             if !kept || behind {
-                lane.discard(path);
+                self.parts(path).0.for_each(|part| lane.discard(path.session(), part));
                 self.missed.fetch_add(u64::from(kept), Ordering::Relaxed);
                 self.unended.fetch_add(u64::from(open && !kept), Ordering::Relaxed);
                 return;
             }
             // Of a path that is thrown away nobody asks when it ended.
             if !open {
-                self.offer(lane, path, CLOSE, stamp, &[path.raw(), span.into()]);
+                let answer = self.offer(lane, path, self.part_now(path), CLOSE, stamp, &[path.raw(), span.into()]);
+                if answer == Spoken::Dropped {
+                    self.is_cut(path);
+                }
             }
             let slot = &self.slots[path.place()];
-            let (records, cut) = (slot.records.load(Ordering::Relaxed), slot.cut.load(Ordering::Relaxed));
-            lane.commit(path);
+            let (parts, in_tail) = self.parts(path);
+            let (records, cut) = (slot.records.load(Ordering::Relaxed) + in_tail, slot.cut.load(Ordering::Relaxed));
+            parts.for_each(|part| lane.commit(path.session(), part));
             // What failed stands behind the commit, where nothing of the path can have taken its room; the consumer gets it beside the
             // stream where that is full.
             let before = lane.traced;
@@ -435,21 +419,25 @@ impl DspecLayer {
             missed: AtomicU64::new(0),
             wanted: AtomicU64::new(0),
             slotless_paths: AtomicU64::new(0),
-            undecided: AtomicU32::new(0),
+            undecided: (0..sessions).map(|_| AtomicU32::new(0)).collect(),
             stuck: AtomicBool::new(false),
             unended: AtomicU64::new(0),
             ended: AtomicU8::new(RUNS),
             opened: AtomicU32::new(0),
             idle: AtomicBool::new(false),
             consumer: OnceLock::new(),
+            consumers: Mutex::default(),
+            flushes: Flushes::default(),
             unix: 0,
             layer,
+            watch: crash::watch(options.crashes),
             open_spans: Spans::of(spans, layer),
             slots: (0..SLOTS * sessions).map(|_| Slot::default()).collect(),
             slotless: Default::default(),
             spans: AtomicU32::new(0),
             session: AtomicU32::new(0),
             sessions: u32::try_from(sessions).unwrap_or(u32::MAX),
+            paths: options.sessions().1,
             begun: dspec::monotonic(),
             options,
         };
@@ -625,7 +613,7 @@ where
 
 #[cfg(test)]
 mod tests {
-    use super::DspecLayer;
+    use super::{DspecLayer, Spoken, CLOSE};
     use crate::{each, Builder, Guard, Sink};
     use std::sync::mpsc::channel;
     use std::sync::Arc;
@@ -668,7 +656,7 @@ mod tests {
         }
     }
 
-    /// Requests, of which each sixth fails. Each goes through a second thread, on another lane: so its slot is taken until the consumer was there.
+    /// Requests, of which each sixth fails. Each goes through a second thread, on another lane: so its slot is taken until that was served.
     fn requests(count: u64) {
         for request in 0..count {
             let span = info_span!("request", request);
@@ -681,35 +669,9 @@ mod tests {
         }
     }
 
-    /// How many of fifty failing requests are missed, where a path may wait so long for the consumer, to which each kept path costs a millisecond.
-    fn missed_of_fifty(freeing: Duration) -> u64 {
-        let mut builder = Builder::new().lanes(2).paths_at_once(4);
-        builder.freeing = freeing;
-        let (layer, guard) = builder.build(each(|_| thread::sleep(Duration::from_millis(1)))).unwrap();
-        tracing::subscriber::with_default(tracing_subscriber::registry().with(layer), || requests(300));
-        let (_, report) = guard.finish();
-        assert!(report.balances() && report.paths + report.wanted == 50, "{report:?}");
-        report.wanted
-    }
-
+    /// No path waits for the consumer, which stands still in its sink: each that failed is kept.
     #[test]
-    fn a_path_waits_for_the_consumer_alone() {
-        assert_eq!(missed_of_fifty(Duration::from_secs(60)), 0);
-        assert!(missed_of_fifty(Duration::ZERO) > 0);
-        // Open paths aren't waited for.
-        let mut builder = Builder::new().paths_at_once(1);
-        builder.freeing = Duration::from_secs(60);
-        let (layer, guard) = builder.build(each(|_| ())).unwrap();
-        let open = [layer.core.open(0, 0), layer.core.open(0, 0)];
-        assert!(open[0].has_slot() && !open[1].has_slot());
-        drop(guard);
-    }
-
-    /// A sink that stands still costs one wait, not one a path.
-    #[test]
-    fn a_consumer_that_is_stuck_is_waited_for_once() {
-        let mut builder = Builder::new().lanes(2).paths_at_once(4);
-        builder.freeing = Duration::from_millis(300);
+    fn a_consumer_that_stands_still_costs_no_path() {
         let (go, stands) = channel::<()>();
         let (send, stood) = channel();
         let stands = std::sync::Mutex::new(stands);
@@ -718,18 +680,47 @@ mod tests {
             // Nothing is sent.
             assert!(stands.lock().unwrap().recv().is_err());
         };
-        let (layer, guard) = builder.build(each(stand)).unwrap();
-        let begun = Instant::now();
+        let (layer, guard) = Builder::new().lanes(2).paths_at_once(4).build(each(stand)).unwrap();
         tracing::subscriber::with_default(tracing_subscriber::registry().with(layer), || {
             requests(1);
             stood.recv().unwrap();
-            requests(100);
+            requests(299);
         });
-        // Some ninety paths wait where each of them does.
-        assert!(begun.elapsed() < Duration::from_secs(10), "{:?}", begun.elapsed());
         drop(go);
         let (_, report) = guard.finish();
-        assert!(report.missed > 50 && report.paths + report.wanted == 18, "{report:?}");
+        assert!(report.balances() && report.paths == 51 && report.missed == 0, "{report:?}");
+    }
+
+    /// A thread that stays in a lane costs one wait, not one a path; and paths that are open aren't waited for.
+    #[test]
+    fn a_lane_that_is_taken_is_waited_for_once() {
+        let mut builder = Builder::new().lanes(2).paths_at_once(4);
+        builder.freeing = Duration::from_millis(300);
+        let (layer, guard) = builder.build(each(|_| ())).unwrap();
+        let core = Arc::clone(&layer.core);
+        let begun = tracing::subscriber::with_default(tracing_subscriber::registry().with(layer), || {
+            // Four paths have records on each lane, and one of the lanes doesn't get to know that they have ended.
+            let open = [0; 4].map(|_| core.open(0, 0));
+            for (path, lane) in open.iter().flat_map(|path| [(path, 0), (path, 1)]) {
+                let answer = core.offer(&mut core.lanes.awaited(lane), *path, path.speculation(), CLOSE, 0, &[path.raw(), 1]);
+                assert_eq!(answer, Spoken::Kept);
+            }
+            let _lane = core.lanes.awaited(0);
+            core.decide_open(false);
+            let begun = Instant::now();
+            requests(100);
+            begun.elapsed()
+        });
+        assert!(begun >= Duration::from_millis(300) && begun < Duration::from_secs(10), "{begun:?}");
+        let (_, report) = guard.finish();
+        assert!(report.missed == 100 && report.paths == 0 && report.wanted == 17, "{report:?}");
+
+        let mut builder = Builder::new().paths_at_once(1);
+        builder.freeing = Duration::from_secs(600);
+        let (layer, guard) = builder.build(each(|_| ())).unwrap();
+        let open = [layer.core.open(0, 0), layer.core.open(0, 0)];
+        assert!(open[0].has_slot() && !open[1].has_slot());
+        drop(guard);
     }
 
     #[test]

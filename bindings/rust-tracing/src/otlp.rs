@@ -109,7 +109,7 @@ impl Trace<'_> {
             members.push(("dspec.cut", integer(path.cut)));
             members.push(("dspec.lost", integer(path.lost)));
             dropped_events = path.cut + path.lost;
-            if path.why.failed || path.why.panicked {
+            if path.why.failed || path.why.panicked || path.why.crashed {
                 let failed = path.events().find(|line| line.metadata.is_some_and(|metadata| *metadata.level() == Level::ERROR));
                 let message = failed.map_or("panicked", Line::title);
                 status = format!("{{\"code\":2,\"message\":{}}}", quoted(message));

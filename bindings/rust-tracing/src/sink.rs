@@ -159,12 +159,15 @@ pub struct Why {
     pub asked: bool,
     /// A panic went through it.
     pub panicked: bool,
+    /// A thread that was in it crashed, or the process was killed by such a signal.
+    pub crashed: bool,
 }
 
 impl fmt::Display for Why {
     /// The words that hold, with spaces between them.
     fn fmt(&self, f: &mut fmt::Formatter<'_>) -> fmt::Result {
-        let words = [(self.failed, "failed"), (self.slow, "slow"), (self.asked, "asked"), (self.panicked, "panicked")];
+        let words =
+            [(self.failed, "failed"), (self.slow, "slow"), (self.asked, "asked"), (self.panicked, "panicked"), (self.crashed, "crashed")];
         let words: Vec<_> = words.iter().filter(|word| word.0).map(|word| word.1).collect();
         f.write_str(&words.join(" "))
     }
@@ -185,9 +188,9 @@ pub struct Path {
     pub nanoseconds: u64,
     /// Why it was kept.
     pub why: Why,
-    /// Whether it was open still when the layer ended: it goes as far as it had come by then.
+    /// Whether it was open still when the layer ended or its thread crashed: it goes as far as it had come by then.
     pub open: bool,
-    /// Records that had no room among the path's bytes.
+    /// Records that had no room among the path's bytes: the last ones, or with [`Builder::keep_last`](crate::Builder::keep_last) those between.
     pub cut: u64,
     /// Records that had no room in the stream when the path was committed.
     pub lost: u64,

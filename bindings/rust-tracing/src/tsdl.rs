@@ -164,6 +164,7 @@ fn type_of(value: &Value) -> &'static str {
 fn title(event: &Event<'_>) -> String {
     let name = event.metadata.map_or("unknown", Metadata::name);
     let word = match (event.kind, event.metadata) {
+        (Kind::Event, Some(metadata)) if metadata.target() == name => return name.to_owned(),
         (Kind::Event, Some(metadata)) => {
             let line = metadata.line().map(|line| format!("_{line}")).unwrap_or_default();
             return format!("{}_{}{line}", metadata.target(), metadata.level());

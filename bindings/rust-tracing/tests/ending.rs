@@ -7,11 +7,12 @@ use std::env;
 use std::io;
 use std::mem;
 use std::process::{self, Command};
+use std::sync::mpsc::{channel, Sender};
 use std::sync::Mutex;
 use std::thread;
 use std::time::Duration;
-use tracing::{error, info, info_span};
-use tracing_dspec::{keep, Builder, Guard, Kind, Text};
+use tracing::{error, info, info_span, Dispatch};
+use tracing_dspec::{keep, Builder, Guard, Kind, Sink, Text};
 use tracing_subscriber::prelude::*;
 
 /// Open paths that failed, were asked for or are slow by then are kept as far as they came; the others are counted.
@@ -67,6 +68,61 @@ fn a_path_is_decided_once() {
         drop(open);
         assert_eq!((all.paths.len(), report.paths, report.wanted), (1, 1, 0));
     });
+}
+
+/// A flush hands on all that was kept before it, of however many threads; one of a sink that fails says so, and one that has no time too.
+#[test]
+fn flushes() {
+    let (send, kept) = channel();
+    let (layer, guard) =
+        Builder::new().lanes(3).rests(Duration::from_secs(600), Duration::from_secs(600)).build(Flushed { send, fails: false }).unwrap();
+    let dispatch = Dispatch::new(tracing_subscriber::registry().with(layer));
+    for round in 0..20usize {
+        let work = || tracing::dispatcher::with_default(&dispatch, || info_span!("request").in_scope(|| error!("bad")));
+        thread::scope(|threads| (0..5).for_each(|_| drop(threads.spawn(work))));
+        assert!(guard.flush(Duration::from_secs(60)));
+        let told: Vec<_> = kept.try_iter().collect();
+        assert_eq!((told.iter().filter(|&&one| one == "path").count(), told.last()), (5, Some(&"flush")), "{round}: {told:?}");
+    }
+    let (_, report) = guard.finish();
+    assert!(report.balances() && report.paths == 100, "{report:?}");
+
+    let (send, _kept) = channel();
+    let (layer, guard) = Builder::new().build(Flushed { send, fails: true }).unwrap();
+    assert!(!guard.flush(Duration::from_secs(60)) && !guard.flush(Duration::ZERO));
+    drop(layer);
+    assert!(guard.finish().1.failures >= 1);
+}
+
+/// More layers than crashes are told to: each goes on and is woken.
+#[test]
+fn seventy_layers() {
+    let layers: Vec<_> =
+        (0..70).map(|_| made(Builder::new().lanes(1).paths_at_once(1).rests(Duration::from_secs(600), Duration::from_secs(600)))).collect();
+    for (dispatch, guard) in layers {
+        tracing::dispatcher::with_default(&dispatch, || info_span!("request", request = 1u64).in_scope(|| error!("bad")));
+        assert!(guard.flush(Duration::from_secs(60)));
+        assert_eq!(finished(guard).0.paths.len(), 1);
+    }
+}
+
+/// Tells each path and each flush.
+struct Flushed {
+    send: Sender<&'static str>,
+    fails: bool,
+}
+
+impl Sink for Flushed {
+    fn path(&mut self, _path: &tracing_dspec::Path) -> io::Result<()> {
+        self.send.send("path").map_err(io::Error::other)
+    }
+    fn flush(&mut self) -> io::Result<()> {
+        if self.fails {
+            Err(io::Error::other("a full disk"))
+        } else {
+            self.send.send("flush").map_err(io::Error::other)
+        }
+    }
 }
 
 /// What the layer prints where all places are taken by spans that are never closed, and of an ERROR outside of spans.

@@ -58,10 +58,13 @@ mod clock;
 mod closed;
 mod consumer;
 mod cpu;
+#[doc(hidden)]
+pub mod crash;
 mod ctf;
 mod ctf_folder;
 mod ctf_names;
 mod error;
+mod event;
 mod handle;
 mod path;
 mod probe;
@@ -69,6 +72,7 @@ mod process;
 mod raw;
 mod schema;
 mod session;
+pub mod tracer;
 
 pub use answers::{Decided, Epid, Opening, Report, Served, SpecId, Spoken, Traced};
 pub use batch::{Batch, Record, Records};
@@ -86,6 +90,7 @@ pub use probe::{Field, Fields, Probe};
 pub use process::at_exit;
 pub use schema::{Schema, Width};
 pub use session::{Config, NotHome, Policy, Session};
+pub use tracer::Tracer;
 
 /// The library's version: major, minor and patch.
 #[must_use]

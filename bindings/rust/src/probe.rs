@@ -101,7 +101,8 @@ pub struct Probe<F> {
     fields: PhantomData<F>,
 }
 
-const fn signature(widths: &[Width]) -> u32 {
+/// How many bytes each field has, four bits a field, the first lowest.
+pub(crate) const fn signature(widths: &[Width]) -> u32 {
     let (mut word, mut at) = (0, widths.len());
     while at > 0 {
         at -= 1;
@@ -112,7 +113,7 @@ const fn signature(widths: &[Width]) -> u32 {
 
 /// The text of a record in words, and how many these are: each field at the next multiple of its width behind the EPID's four bytes.
 #[inline]
-fn packed<F: Fields>(values: F) -> ([u64; 9], usize) {
+pub(crate) fn packed<F: Fields>(values: F) -> ([u64; 9], usize) {
     let row = values.row();
     let (mut words, mut end) = ([0; 9], 4_usize);
     for (value, width) in row.iter().zip(F::WIDTHS) {
@@ -133,7 +134,6 @@ impl<F> Clone for Probe<F> {
 impl<F> Copy for Probe<F> {}
 
 impl<F: Fields> Probe<F> {
-    /// How many bytes each field has, four bits a field, the first lowest.
     const SIGNATURE: u32 = signature(F::WIDTHS);
 
     pub(crate) fn of(epid: Epid) -> Probe<F> {

@@ -1,7 +1,8 @@
-//! The calls and types of `dspec.h`; and one of the system's.
+//! The calls and types of `dspec.h` and of `dspec_tracer.h`; and one of the system's.
 
-use crate::Report;
-use std::ffi::c_void;
+use crate::{tracer, Report};
+use std::ffi::{c_char, c_void};
+use std::sync::atomic::AtomicU32;
 
 pub(crate) type Status = u32;
 
@@ -100,6 +101,80 @@ pub(crate) struct Packet {
     pub(crate) records: usize,
 }
 
+/// A crash, as `tracer/watch.h` tells it.
+#[repr(C)]
+#[derive(Debug, Default)]
+pub(crate) struct Watched {
+    pub(crate) signal: i32,
+    pub(crate) code: i32,
+    pub(crate) address: u64,
+    pub(crate) at: u64,
+    pub(crate) here: [u64; 2],
+    pub(crate) thread: u32,
+    pub(crate) place: u32,
+}
+
+extern "C" {
+    pub(crate) fn dspec_watch_begin(crash_ms: u32, tells: extern "C" fn(&mut [u64; 2])) -> *mut c_void;
+    pub(crate) fn dspec_watch_sleep(watch: *mut c_void, nanoseconds: u64);
+    pub(crate) fn dspec_watch_ring(watch: *mut c_void);
+    pub(crate) fn dspec_watch_next(watch: *mut c_void, told: *mut Watched) -> bool;
+    pub(crate) fn dspec_watch_saved(watch: *mut c_void, place: u32);
+    pub(crate) fn dspec_watch_signal(watch: *mut c_void) -> i32;
+    pub(crate) fn dspec_watch_end(watch: *mut c_void);
+}
+
+pub(crate) const MAX_TRACERS: usize = 8;
+
+#[repr(C)]
+pub(crate) struct Tracer {
+    pub(crate) body: *mut c_void,
+    pub(crate) why: [c_char; 256],
+}
+
+#[repr(C)]
+pub(crate) struct TracerPath {
+    pub(crate) tracer: *mut Tracer,
+    pub(crate) lane: *mut c_void,
+    pub(crate) id: u64,
+    pub(crate) token: u32,
+    pub(crate) place: u16,
+    pub(crate) over: bool,
+}
+
+/// The EPID that an event has in each tracer.
+#[repr(C)]
+#[derive(Debug)]
+pub(crate) struct Event {
+    pub(crate) epids: [AtomicU32; MAX_TRACERS],
+}
+
+#[repr(C)]
+pub(crate) struct TracerEnabling {
+    pub(crate) event: *const Event,
+    pub(crate) name: *const c_char,
+    pub(crate) fields: *const *const c_char,
+    pub(crate) widths: *const u8,
+    pub(crate) kinds: *const u8,
+    pub(crate) n: usize,
+}
+
+extern "C" {
+    pub(crate) fn dspec_tracer_start(
+        tracer: *mut Tracer,
+        folder: *const c_char,
+        options: *const tracer::Options,
+        events: *const *const TracerEnabling,
+    ) -> bool;
+    pub(crate) fn dspec_tracer_stop(tracer: *mut Tracer, report: *mut tracer::Report) -> bool;
+    pub(crate) fn dspec_tracer_drop(tracer: *mut Tracer);
+    pub(crate) fn dspec_tracer_flush(tracer: *mut Tracer, timeout_ms: u32) -> bool;
+    pub(crate) fn dspec_path_keep(path: *mut TracerPath) -> bool;
+    pub(crate) fn dspec_path_drop(path: *mut TracerPath) -> bool;
+    pub(crate) fn dspec_path_put(path: *mut TracerPath, event: *const Event, fields: u32, words: *const u64, n: usize) -> Status;
+    pub(crate) fn dspec_tracer_put(tracer: *mut Tracer, event: *const Event, fields: u32, words: *const u64, n: usize) -> Status;
+}
+
 extern "C" {
     pub(crate) fn dspec_version() -> u32;
     pub(crate) fn dspec_drop(handle: *mut c_void);
@@ -113,7 +188,13 @@ extern "C" {
     pub(crate) fn dspec_consumer_of(session: *mut Words, consumer: *mut Words) -> Status;
     pub(crate) fn dspec_tend(session: *mut Words, settled: *mut u64) -> Status;
     pub(crate) fn dspec_finish(session: *mut Words, closed: *mut Words) -> Status;
-    pub(crate) fn dspec_close(session: *mut Words, cpus: *const *mut Words, count: usize, consumer: *mut Words, closed: *mut Words) -> Status;
+    pub(crate) fn dspec_close(
+        session: *mut Words,
+        cpus: *const *mut Words,
+        count: usize,
+        consumer: *mut Words,
+        closed: *mut Words,
+    ) -> Status;
 
     pub(crate) fn dspec_trace(cpu: *mut Words, epid: u32, stamp: u64, values: *const u64, n: usize) -> Status;
     pub(crate) fn dspec_put_1(cpu: *mut Words, claim: u64, stamp: u64, w0: u64) -> Status;

@@ -1,4 +1,5 @@
 pub mod KeptAll
+mod LastPaths
 mod LeftBehind
 pub mod Passing
 pub mod Returning

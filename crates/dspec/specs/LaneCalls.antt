@@ -1,7 +1,8 @@
 -- Cited by calls. What a call on a lane, or of a path on a lane, did: what the call of the lane's CPU did.
-use Rattle.std.specs.Prelude.{ℕ, ◌≡◌, Bool, List, Result}
+use Rattle.std.specs.Prelude.{ℕ, ◌≡◌, Bool, List, Option, Result}
 use Rattle.std.specs.Result.{result_ok}
 use Rattle.dspec_record.specs.Record.{Record}
+use Rattle.dspec_record.specs.declared.field.Shape.{Shape}
 use Rattle.dspec_record.specs.declared.schema.Schema.{Ghosts}
 use Rattle.dspec_word.specs.SpecId.{Speculation}
 use Rattle.dspec_deeds.specs.declared.calls.Decided.{Decided}
@@ -16,9 +17,11 @@ use Rattle.dspec_deeds.specs.Reports.{report}
 use Rattle.dspec_deeds.specs.FateAnswers.{id_given}
 use Rattle.dspec_promise.specs.Promise.{By}
 use Rattle.dspec_cpu.specs.declared.cpu.Cpu.{Cpu}
+use Rattle.dspec_cpu.specs.Between.{cpu_block_fits}
 use Rattle.dspec_cpu.specs.Dropped.{drops_told}
-use Rattle.dspec_cpu.specs.Lists.{config_of, number_in, worn_of}
-use Rattle.dspec_cpu.specs.OneCall.{TracesOne, SpeculatesOne, OpensOne, DecidesOne, ServesOnce, RecordsValues, OffersValues}
+use Rattle.dspec_cpu.specs.Lists.{config_of, number_in, schema_of, worn_of}
+use Rattle.dspec_cpu.specs.OpenAt.{IsOpenAt}
+use Rattle.dspec_cpu.specs.OneCall.{CommitsIfRoom, TracesOne, SpeculatesOne, OpensOne, DecidesOne, ServesOnce, RecordsValues, OffersValues}
 use Rattle.dspec.specs.declared.bad_record.BadRecord.{BadRecord}
 use Rattle.dspec.specs.declared.lane.Lane.{Lane}
 use Rattle.dspec.specs.declared.path.Path.{Path}
@@ -43,6 +46,10 @@ module _ {S : Type 0} {g : Ghosts S} (has : Cpu S → List Deed → Type 0) wher
   abbrev pub DropsOn : Speculation → ℕ → Lane S g → Type 0
   DropsOn id n lane = (p : List Deed) → has lane.cpu.now p → n ≡ drops_told (dropped_in (number_in lane.cpu.now) id p)
 
+  -- of which speculation of a slot the CPU has records, by every list that it has
+  abbrev pub OpenOn : ℕ → Option Speculation → Lane S g → Type 0
+  OpenOn slot a lane = (p : List Deed) → has lane.cpu.now p → IsOpenAt (number_in lane.cpu.now) slot p a
+
   -- its counts, by every list that it has
   abbrev pub ReportOn : Report → Lane S g → Type 0
   ReportOn r lane = (p : List Deed) → has lane.cpu.now p → r ≡ report (config_of lane.cpu.now) (number_in lane.cpu.now) (worn_of lane.cpu.now) p
@@ -53,6 +60,19 @@ module _ {S : Type 0} {g : Ghosts S} (has : Cpu S → List Deed → Type 0) wher
 
   abbrev pub PathDropsOn : Path → ℕ → Lane S g → Type 0
   PathDropsOn path n lane = DropsOn (id_given path.opening) n lane
+
+  module _ (shape_of : S → ℕ → Option Shape) where
+    -- whether the CPU's block of a speculation would fit, by every list that it has
+    abbrev pub RoomOn : Speculation → Bool → Lane S g → Type 0
+    RoomOn id room lane = (p : List Deed) → has lane.cpu.now p → room ≡ cpu_block_fits (shape_of (schema_of lane.cpu.now)) lane.cpu.now id p
+
+    -- a speculation is committed where that loses nothing of the CPU's
+    abbrev pub IfRoomOn : Speculation → Option Decided → Lane S g → Lane S g → Type 0
+    IfRoomOn id a old new = CommitsIfRoom has shape_of id a old.cpu.now new.cpu.now
+
+    -- or a path
+    abbrev pub EndIfRoomOn : Path → Result Decided Path → Lane S g → Lane S g → Type 0
+    EndIfRoomOn path a old new = IfRoomOn (id_given path.opening) (result_ok a) old new
 
   module _ (accepted : S → Record → Bool) where
     -- a record by its values is traced; an error says that the schema doesn't accept it

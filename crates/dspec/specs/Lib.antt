@@ -2,6 +2,7 @@ pub mod ClosedCpus
 pub mod Handing
 pub mod SinkRecords
 pub mod LaneCalls
+pub mod LastPaths
 pub mod Lanes
 pub mod Lent
 pub mod Passed

@@ -2,7 +2,7 @@ ghost use Rattle.std.specs.Prelude.{◌≡◌, IsTrue};
 ghost use Rattle.dspec_record.specs.LaidOut.{IsLaidBy};
 ghost use Rattle.dspec_promise.specs.Promise.{commit, discard};
 ghost use Rattle.dspec_cpu.specs.Lists.{number_in, schema_of};
-ghost use Rattle.dspec.specs.LaneCalls.{TraceOn, SpeculateOn, OpeningOn, DecisionOn, ServiceOn, RecordOn, OfferOn, DropsOn, ReportOn};
+ghost use Rattle.dspec.specs.LaneCalls.{DecisionOn, DropsOn, IfRoomOn, OfferOn, OpenOn, OpeningOn, RecordOn, ReportOn, RoomOn, ServiceOn, SpeculateOn, TraceOn};
 ghost use Rattle.dspec.specs.Lanes.{place_of};
 
 use crate::bad_record::BadRecord;
@@ -80,6 +80,15 @@ impl<'a, S: Schema> Lane<'a, S> {
         self.cpu.commit(self.shared, id)
     }
 
+    /// Commits a speculation, but not where the CPU's own block of it would be lost: then None, and nothing was done.
+    #[inline]
+    pub fn commit_if_room(&mut self, id: SpecId) -> Option<Decided>
+        ensures same { place_of self.new ≡ place_of self.old }
+        ensures does { IfRoomOn ⟦<Cpu<S> as Listed>⟧.has_list S.shape_of id result self.old self.new }
+    {
+        self.cpu.commit_if_room(self.shared, id)
+    }
+
     /// Discards a speculation.
     #[inline]
     pub fn discard(&mut self, id: SpecId) -> Decided
@@ -137,6 +146,22 @@ impl<'a, S: Schema> Lane<'a, S> {
         ensures { DropsOn ⟦<Cpu<S> as Listed>⟧.has_list id result self.now }
     {
         self.cpu.dropped_in(id)
+    }
+
+    /// Whether the CPU's active principal buffer would now take its block of the speculation whole; true where it is no caller.
+    #[inline]
+    pub fn has_room_for(&self, id: SpecId) -> bool
+        ensures { RoomOn ⟦<Cpu<S> as Listed>⟧.has_list S.shape_of id result self.now }
+    {
+        self.cpu.has_room_for(id)
+    }
+
+    /// The speculation of the slot of which the CPU has records: it is open, or decided elsewhere and not settled by this CPU yet.
+    #[inline]
+    pub fn open_at(&self, slot: u32) -> Option<SpecId>
+        ensures { OpenOn ⟦<Cpu<S> as Listed>⟧.has_list slot result self.now }
+    {
+        self.cpu.open_at(slot)
     }
 
     /// Does what the CPU owes: seals where the consumer asked for a batch, and settles what was decided elsewhere.

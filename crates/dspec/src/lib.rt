@@ -16,6 +16,7 @@
 //! |---|---|
 //! | `lane.rt`, `calling.rt` | `Lane`: what is shared, and a CPU that is lent; that it can be called is its ghost field; its calls |
 //! | `path.rt`, `handing.rt` | `Path`, a speculation that can't be let go: it is kept or thrown away, by any lane; `Handed`, the word that a path goes on as |
+//! | `last_path.rt` | `LastPath`, a path over two speculations, which keeps its last records |
 //! | `recording.rt`, `fault.rt` | `Recording`: records of probes on a lane and in a path; `ForeignProbe`, the refusal of `on` |
 //! | `clock.rt`, `steps.rt`, `system.rt` | `Clock`, what stamps records; `Steps`, a lane, a path and a clock; `SystemClock`, the system's time in nanoseconds |
 //! | `work.rt`, `running.rt` | `Work`; `Sink`, whose ghost relation `gets` says what a batch makes of it; `trace`; the consumer's round, and what is passed on at the close |
@@ -24,7 +25,7 @@
 //! | `record_sink.rt`, `both.rt` | sinks: all records kept; two sinks that get the same; one that may be left out, and the law of it |
 //! | `closing.rt`, `each_closed.rt` | `closed_cpu`, `closed_cpus` (`specs/ClosedCpus`: what is left of which CPU, in order) |
 //! | `specs/`: Lanes, Lent | `place_of`, which lane it is: all that a program says of its worker; what the threads are lent, and return |
-//! | `specs/`: Walks, Counts | what steps do to a path; what the system's clock counts |
+//! | `specs/`: Walks, LastPaths, Counts | what steps do to a path; what records do to one that keeps its last; what the system's clock counts |
 //! | `specs/`: Passed, SinkRecords | what a sink got of a session, chained call by call, and how that is what each CPU accepted (`HasLists`); what `RecordSink` keeps |
 //! | `specs/`: Workers | what a worker did on the CPU of its place (`WorkedBy`), and pairs of both |
 //! | `specs/`: Traced, Serving, Visits, Works | `IsTraced`: the work that was done, and the page; `ThenServed`: services behind a work; what the consumer does in a round; what one call does, for a work that says what it does |
@@ -40,6 +41,7 @@ mod each_closed;
 mod fault;
 mod handing;
 mod lane;
+mod last_path;
 mod path;
 mod record_sink;
 mod recording;
@@ -70,6 +72,7 @@ pub use each_closed::ClosedCpus;
 pub use fault::ForeignProbe;
 pub use handing::Handed;
 pub use lane::Lane;
+pub use last_path::LastPath;
 pub use path::Path;
 pub use record_sink::{RecordSink, RecordSinkFault};
 pub use recording::Recording;

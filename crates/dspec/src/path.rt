@@ -1,6 +1,6 @@
-ghost use Rattle.std.specs.Prelude.{◌≡◌};
+ghost use Rattle.std.specs.Prelude.{◌≡◌, IfErr};
 ghost use Rattle.dspec_promise.specs.Promise.{commit, discard};
-ghost use Rattle.dspec.specs.LaneCalls.{EndOn, OpeningOn, PathDropsOn, PathRecordOn};
+ghost use Rattle.dspec.specs.LaneCalls.{EndIfRoomOn, EndOn, OpeningOn, PathDropsOn, PathRecordOn};
 ghost use Rattle.dspec.specs.Lanes.{place_of};
 
 use crate::bad_record::BadRecord;
@@ -58,6 +58,21 @@ impl Path {
     {
         let Path { opening } = self;
         lane.commit(opening.id())
+    }
+
+    /// Keeps what was offered, but not where the CPU's own block of it would be lost: then the path comes back as it was, and nothing
+    /// was done.
+    #[inline]
+    pub fn commit_if_room<S: Schema>(self, lane: &mut Lane<'_, S>) -> Result<Decided, Path>
+        ensures same { place_of lane.new ≡ place_of lane.old }
+        ensures does { EndIfRoomOn ⟦<Cpu<S> as Listed>⟧.has_list S.shape_of self result lane.old lane.new }
+        ensures back { IfErr result (λ path. path ≡ self) }
+    {
+        let Some(decided) = lane.commit_if_room(self.opening.id()) else {
+            return Err(self);
+        };
+        let Path { opening: _ } = self;
+        Ok(decided)
     }
 
     /// Throws away what was offered: the speculation is discarded.

@@ -5,9 +5,11 @@ ghost use Rattle.dspec_deeds.specs.FateAnswers.{id_given};
 ghost use Rattle.dspec_cpu.specs.Lists.{schema_of};
 ghost use Rattle.dspec.specs.LaneCalls.{TraceOn, SpeculateOn};
 ghost use Rattle.dspec.specs.Lanes.{place_of};
+ghost use Rattle.dspec.specs.LastPaths.{LastRecordOn};
 
 use crate::fault::ForeignProbe;
 use crate::lane::Lane;
+use crate::last_path::LastPath;
 use crate::path::Path;
 use dspec_cpu::{Cpu, Listed};
 use dspec_deeds::{Spoken, Traced};
@@ -39,6 +41,18 @@ pub trait Recording<F: Fields>: Copy {
         requires of { is_of self (schema_of lane.old.cpu.now) }
         ensures same { place_of lane.new ≡ place_of lane.old }
         ensures does { SpeculateOn ⟦<Cpu<Enablings> as Listed>⟧.has_list (id_given path.now.opening) (record_is self stamp values) result lane.old lane.new };
+
+    /// Offers a record of the probe to a path that keeps its last records.
+    fn record_in_last(
+        self,
+        lane: &mut Lane<'_, Enablings>,
+        path: &mut LastPath,
+        stamp: u64,
+        values: F,
+    ) -> Spoken
+        requires of { is_of self (schema_of lane.old.cpu.now) }
+        ensures same { place_of lane.new ≡ place_of lane.old }
+        ensures does { LastRecordOn ⟦<Cpu<Enablings> as Listed>⟧.has_list (record_is self stamp values) result path.old path.new lane.old lane.new };
 
     /// Offers a record of the probe to a speculation.
     fn offer(self, lane: &mut Lane<'_, Enablings>, id: SpecId, stamp: u64, values: F) -> Spoken
@@ -80,6 +94,21 @@ impl<F: Fields> Recording<F> for Probe<F> {
         values: F,
     ) -> Spoken {
         self.offer(lane, path.opening().id(), stamp, values)
+    }
+
+    #[inline(always)]
+    fn record_in_last(
+        self,
+        lane: &mut Lane<'_, Enablings>,
+        path: &mut LastPath,
+        stamp: u64,
+        values: F,
+    ) -> Spoken {
+        let rec = self.rec(stamp, values);
+        match self.header() {
+            Header::One => path.offer_recorded(lane, Fired::<F, Unstamped>::of(&rec, values)),
+            Header::Two => path.offer_recorded(lane, Fired::<F, Stamped>::of(&rec, values)),
+        }
     }
 
     #[inline(always)]

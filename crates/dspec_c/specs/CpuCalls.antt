@@ -3,10 +3,11 @@ use Rattle.std.specs.Prelude.{ℕ, ◌≡◌, ◌<◌, ◌+◌, ◌-◌, ◌%◌
 use Rattle.std.specs.Option.{option_map}
 use Rattle.dspec_word.specs.SpecId.{Speculation, id_number}
 use Rattle.dspec_record.specs.Record.{Record}
+use Rattle.dspec_record.specs.declared.field.Shape.{Shape}
 use Rattle.dspec_record.specs.EnablingRows.{EnabledRows}
 use Rattle.dspec_record.specs.Packing.{claimed, packed_record}
 use Rattle.dspec_record.specs.RecordText.{stamp_fits}
-use Rattle.dspec_record.specs.Schemas.{enabled, table_accepts}
+use Rattle.dspec_record.specs.Schemas.{enabled, table_accepts, table_shape}
 use Rattle.dspec_deeds.specs.declared.calls.Decided.{Decided}
 use Rattle.dspec_deeds.specs.declared.calls.Opening.{Opening}
 use Rattle.dspec_deeds.specs.declared.calls.Served.{Served}
@@ -20,13 +21,14 @@ use Rattle.dspec_promise.specs.Promise.{By, commit, discard}
 use Rattle.dspec_cpu.specs.declared.cpu.Cpu.{Cpu}
 use Rattle.dspec_cpu.specs.Dropped.{drops_told}
 use Rattle.dspec_cpu.specs.Lists.{config_of, number_in, schema_of, worn_of}
-use Rattle.dspec_cpu.specs.OneCall.{OpensOne, DecidesOne, ServesOnce, RecordsValues, OffersValues, SpeculatesOne, TracesOne}
+use Rattle.dspec_cpu.specs.OneCall.{CommitsIfRoom, OpensOne, DecidesOne, ServesOnce, RecordsValues, OffersValues, SpeculatesOne, TracesOne}
+use Rattle.dspec_cpu.specs.OpenAt.{IsOpenAt}
 use Rattle.dspec_cpu.specs.Standing.{identity}
 use Rattle.dspec_session_core.specs.Sessions.{Has}
 use Rattle.dspec_c.specs.Answered.{Answered, AnsweredWith}
 use Rattle.dspec_c.specs.Homes.{CpuSide}
 use Rattle.dspec_c.specs.Shows.{TellsReport}
-use Rattle.dspec_c.specs.Statuses.{bad_handle, decided_number, decided_status, opened_number, opening_status, spoken_status, traced_status}
+use Rattle.dspec_c.specs.Statuses.{bad_handle, committed_number, committed_status, decided_number, decided_status, id_or_zero, opened_number, opening_status, spoken_status, traced_status}
 use Rattle.dspec_c.specs.declared.held.Held.{Held}
 use Rattle.dspec_c.specs.declared.held.Held.TheVariants as held
 use Rattle.dspec_c.specs.declared.reports.CReport.{CReport}
@@ -74,6 +76,15 @@ pub record DecidedAs (b : By) (id : Speculation) (a : Decided) (old new : Cpu En
   pub same : identity new ≡ identity old
   pub does : DecidesOne Has b id a old new
 
+-- by the shapes of a CPU's schema
+abbrev pub shape_at : EnabledRows → ℕ → Option Shape
+shape_at e = table_shape e.header (enabled e.rows)
+
+-- `Cpu::commit_if_room`
+pub record CommittedIfRoom (id : Speculation) (a : Option Decided) (old new : Cpu EnabledRows) : Type 0 where
+  pub same : identity new ≡ identity old
+  pub does : CommitsIfRoom Has shape_at id a old new
+
 -- `Cpu::service`
 pub record ServicedSo (a : Served) (old new : Cpu EnabledRows) : Type 0 where
   pub same : identity new ≡ identity old
@@ -91,6 +102,10 @@ one_refused false n = n
 -- `Cpu::dropped_in`
 abbrev pub Drops : Speculation → Cpu EnabledRows → ℕ → Type 0
 Drops id cpu n = (p : List Deed) → Has cpu p → n ≡ drops_told (dropped_in (number_in cpu) id p)
+
+-- `Cpu::open_at`
+abbrev pub OpensAt : ℕ → Cpu EnabledRows → Option Speculation → Type 0
+OpensAt slot cpu a = (p : List Deed) → Has cpu p → IsOpenAt (number_in cpu) slot p a
 
 -- the session that it is of is the same, the CPU came of the other so, and the call's record was refused, or none was
 pub record OnSide (refuses : Bool) (did : Cpu EnabledRows → Cpu EnabledRows → Type 0) (old new : CpuSide) : Type 0 where
@@ -140,6 +155,11 @@ CommitAnswers = DecideAnswers commit
 abbrev pub DiscardAnswers : ℕ → Held → ℕ → ℕ → ℕ → Held → Type 0
 DiscardAnswers = DecideAnswers discard
 
+abbrev pub CommitIfRoomAnswers : ℕ → Held → ℕ → ℕ → ℕ → Held → Type 0
+CommitIfRoomAnswers number was status before count now =
+    OnCpu (λ old new. (id : Speculation) × Names number id × AnsweredWith committed_status committed_number (λ a. OnSide false (CommittedIfRoom id a) old new) status before count)
+    (count ≡ before) was status now
+
 abbrev pub ServiceAnswers : Held → ℕ → Served → Served → Held → Type 0
 ServiceAnswers was status before told now = OnCpu (λ old new. (status ≡ 0) × OnSide false (ServicedSo told) old new) (told ≡ before) was status now
 
@@ -150,3 +170,7 @@ ReportAnswers was status before told now =
 abbrev pub DroppedInAnswers : ℕ → Held → ℕ → ℕ → ℕ → Held → Type 0
 DroppedInAnswers number was status before count now =
     OnCpu (λ old new. (status ≡ 0) × (new ≡ old) × ((id : Speculation) × Names number id × Drops id old.cpu count)) (count ≡ before) was status now
+
+abbrev pub OpenAtAnswers : ℕ → Held → ℕ → ℕ → ℕ → Held → Type 0
+OpenAtAnswers slot was status before id now =
+    OnCpu (λ old new. (status ≡ 0) × (new ≡ old) × ((a : Option Speculation) × OpensAt slot old.cpu a × (id ≡ id_or_zero a))) (id ≡ before) was status now

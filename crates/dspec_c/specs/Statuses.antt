@@ -10,7 +10,7 @@ use Rattle.dspec_deeds.specs.declared.calls.Traced.{Traced}
 use Rattle.dspec_deeds.specs.declared.calls.Traced.TheVariants as traced
 use Rattle.dspec_deeds.specs.declared.config.StartFault.{StartFault}
 use Rattle.dspec_deeds.specs.declared.config.StartFault.TheVariants as start
-use Rattle.dspec_word.specs.SpecId.{id_number}
+use Rattle.dspec_word.specs.SpecId.{Speculation, id_number}
 use Rattle.dspec_c.specs.declared.consumer_side.Found.{Found}
 use Rattle.dspec_c.specs.declared.consumer_side.Found.TheVariants as found
 use Rattle.dspec_c.specs.declared.consumer_side.Returned.{Returned}
@@ -92,6 +92,20 @@ decided_number (decided.Copied n) was = n
 decided_number (decided.Lost n) was = n
 decided_number (decided.Thrown n) was = n
 decided_number a was = was
+
+-- of a commit that isn't made where it would lose the CPU's block
+abbrev pub committed_status : Option Decided → ℕ
+committed_status None = 37
+committed_status (Some a) = decided_status a
+
+abbrev pub committed_number : Option Decided → ℕ → ℕ
+committed_number None was = was
+committed_number (Some a) was = decided_number a was
+
+-- the number of an identifier; 0 where there is none, which names no speculation
+abbrev pub id_or_zero : Option Speculation → ℕ
+id_or_zero None = 0
+id_or_zero (Some id) = id_number id
 
 abbrev pub asked_status : Bool → ℕ
 asked_status true = 0

@@ -2,12 +2,12 @@
 
 ghost use Rattle.std.specs.Prelude.{◌≡◌};
 ghost use Rattle.dspec_c.specs.Handles.{held_in, is_full};
-ghost use Rattle.dspec_c.specs.CpuCalls.{CommitAnswers, DiscardAnswers, DroppedInAnswers, ReportAnswers, ServiceAnswers, SpeculateAnswers, SpeculationAnswers, TraceAnswers};
+ghost use Rattle.dspec_c.specs.CpuCalls.{CommitAnswers, CommitIfRoomAnswers, DiscardAnswers, DroppedInAnswers, OpenAtAnswers, ReportAnswers, ServiceAnswers, SpeculateAnswers, SpeculationAnswers, TraceAnswers};
 
 use crate::handle::Handle;
 use crate::held_calls::{
-    held_commit, held_discard, held_dropped_in, held_report, held_service, held_speculate,
-    held_speculation, held_trace,
+    held_commit, held_commit_if_room, held_discard, held_dropped_in, held_open_at, held_report,
+    held_service, held_speculate, held_speculation, held_trace,
 };
 use crate::reports::CReport;
 use crate::statuses::{BAD_HANDLE, bad_handle};
@@ -66,6 +66,18 @@ pub extern "C" fn dspec_commit(cpu: &mut Handle, id: u64, count: &mut u32) -> u3
     held_commit(cpu.lend(), id, count)
 }
 
+/// Commits a speculation, but not where that would lose the CPU's block.
+#[unsafe(no_mangle)]
+pub extern "C" fn dspec_commit_if_room(cpu: &mut Handle, id: u64, count: &mut u32) -> u32
+    ensures answers { CommitIfRoomAnswers id (held_in cpu.old) result count.old count.new (held_in cpu.new) }
+    ensures stays { is_full cpu.new ≡ is_full cpu.old }
+{
+    if !cpu.is_held() {
+        return BAD_HANDLE;
+    }
+    held_commit_if_room(cpu.lend(), id, count)
+}
+
 /// Discards a speculation.
 #[unsafe(no_mangle)]
 pub extern "C" fn dspec_discard(cpu: &mut Handle, id: u64, count: &mut u32) -> u32
@@ -101,6 +113,18 @@ pub extern "C" fn dspec_dropped_in(cpu: &mut Handle, id: u64, count: &mut u32) -
         return BAD_HANDLE;
     }
     held_dropped_in(cpu.lend(), id, count)
+}
+
+/// The speculation of a slot of which the CPU has records.
+#[unsafe(no_mangle)]
+pub extern "C" fn dspec_open_at(cpu: &mut Handle, slot: u32, id: &mut u64) -> u32
+    ensures answers { OpenAtAnswers slot (held_in cpu.old) result id.old id.new (held_in cpu.new) }
+    ensures stays { is_full cpu.new ≡ is_full cpu.old }
+{
+    if !cpu.is_held() {
+        return BAD_HANDLE;
+    }
+    held_open_at(cpu.lend(), slot, id)
 }
 
 /// The CPU's counts so far.

@@ -1,10 +1,13 @@
 //! The calls of a CPU, on what a handle holds.
 
-ghost use Rattle.dspec_c.specs.CpuCalls.{CommitAnswers, DiscardAnswers, DroppedInAnswers, PutAnswers, PutInAnswers, ReportAnswers, ServiceAnswers, SpeculateAnswers, SpeculationAnswers, TraceAnswers};
+ghost use Rattle.dspec_c.specs.CpuCalls.{CommitAnswers, CommitIfRoomAnswers, DiscardAnswers, DroppedInAnswers, OpenAtAnswers, PutAnswers, PutInAnswers, ReportAnswers, ServiceAnswers, SpeculateAnswers, SpeculationAnswers, TraceAnswers};
 
 use crate::held::Held;
 use crate::reports::CReport;
-use crate::statuses::{BAD_HANDLE, OK, bad_handle, of_decided, of_opening, of_spoken, of_traced};
+use crate::statuses::{
+    BAD_HANDLE, OK, bad_handle, number_of, of_committed, of_decided, of_opening, of_spoken,
+    of_traced,
+};
 use dspec_word::SpecId;
 
 #[inline(always)]
@@ -28,11 +31,11 @@ pub fn held_put(held: &mut Held, claim: u64, stamp: u64, words: &[u64]) -> u32
 }
 
 #[inline(always)]
-pub fn held_put_in(held: &mut Held, id: u64, claim: u64, stamp: u64, words: &[u64]) -> u32
+pub fn held_put_in<N>(held: &mut Held, id: u64, claim: u64, stamp: u64, words: &[u64]) -> u32
     ensures { PutInAnswers id claim stamp words.now held.old result held.new }
 {
     match held {
-        Held::Cpu(side) => of_spoken(side.put_in(SpecId::from_raw(id), claim, stamp, words)),
+        Held::Cpu(side) => of_spoken(side.put_in::<N>(SpecId::from_raw(id), claim, stamp, words)),
         _ => bad_handle(),
     }
 }
@@ -61,6 +64,15 @@ pub fn held_commit(held: &mut Held, id: u64, count: &mut u32) -> u32
 {
     match held {
         Held::Cpu(side) => of_decided(side.commit(SpecId::from_raw(id)), count),
+        _ => BAD_HANDLE,
+    }
+}
+
+pub fn held_commit_if_room(held: &mut Held, id: u64, count: &mut u32) -> u32
+    ensures { CommitIfRoomAnswers id held.old result count.old count.new held.new }
+{
+    match held {
+        Held::Cpu(side) => of_committed(side.commit_if_room(SpecId::from_raw(id)), count),
         _ => BAD_HANDLE,
     }
 }
@@ -95,6 +107,18 @@ pub fn held_dropped_in(held: &mut Held, id: u64, count: &mut u32) -> u32
     match held {
         Held::Cpu(side) => {
             *count = side.dropped_in(SpecId::from_raw(id));
+            OK
+        }
+        _ => BAD_HANDLE,
+    }
+}
+
+pub fn held_open_at(held: &mut Held, slot: u32, id: &mut u64) -> u32
+    ensures { OpenAtAnswers slot held.old result id.old id.new held.new }
+{
+    match held {
+        Held::Cpu(side) => {
+            *id = number_of(side.open_at(slot));
             OK
         }
         _ => BAD_HANDLE,

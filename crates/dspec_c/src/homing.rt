@@ -45,7 +45,7 @@ impl Homing {
     ghost use Rattle.dspec_cpu.specs.Standing.{IsCallable};
     ghost use Rattle.dspec_promise.specs.Promise.{commit, discard};
     ghost use Rattle.dspec_c.specs.Homes.{IsSameSide, at_home};
-    ghost use Rattle.dspec_c.specs.CpuCalls.{DecidedAs, Drops, Offered, OnSide, Opened, Put, PutIn, Recorded, Reports, ServicedSo, one_refused};
+    ghost use Rattle.dspec_c.specs.CpuCalls.{CommittedIfRoom, DecidedAs, Drops, Offered, OnSide, Opened, OpensAt, Put, PutIn, Recorded, Reports, ServicedSo, one_refused};
 
     pub fn of(shared: Arc<Shared, Global>, home: HomeCpu) -> Homing
         requires { IsCallable (arc_value shared) home.cpu }
@@ -110,12 +110,18 @@ impl Homing {
     /// The record that these words stand for, offered to a speculation. None: the claim isn't true of the schema, and the record is
     /// counted as refused.
     #[inline(always)]
-    pub fn put_in(&mut self, id: SpecId, claim: u64, stamp: u64, words: &[u64]) -> Option<Spoken>
+    pub fn put_in<N>(&mut self, id: SpecId, claim: u64, stamp: u64, words: &[u64]) -> Option<Spoken>
         ensures same { IsSameSide self.old self.new }
         ensures did { OnSide (is_none result) (PutIn id claim stamp words.now result) self.old self.new }
     {
-        let Some(answer) = recording::put_in(&mut *self.cpu, id, &*self.shared, claim, stamp, words)
-        else {
+        let Some(answer) = recording::put_in::<N>(
+            &mut *self.cpu,
+            id,
+            &*self.shared,
+            claim,
+            stamp,
+            words,
+        ) else {
             self.refuse();
             return None;
         };
@@ -147,6 +153,14 @@ impl Homing {
         self.cpu.commit(&self.shared, id)
     }
 
+    /// None: it would lose the CPU's block, and nothing was done.
+    pub fn commit_if_room(&mut self, id: SpecId) -> Option<Decided>
+        ensures same { IsSameSide self.old self.new }
+        ensures did { OnSide false (CommittedIfRoom id result) self.old self.new }
+    {
+        self.cpu.commit_if_room(&self.shared, id)
+    }
+
     pub fn discard(&mut self, id: SpecId) -> Decided
         ensures same { IsSameSide self.old self.new }
         ensures did { OnSide false (DecidedAs discard id result) self.old self.new }
@@ -165,6 +179,13 @@ impl Homing {
         ensures { Drops id self.now.cpu result }
     {
         self.cpu.dropped_in(id)
+    }
+
+    /// The speculation of the slot of which the CPU has records.
+    pub fn open_at(&self, slot: u32) -> Option<SpecId>
+        ensures { OpensAt slot self.now.cpu result }
+    {
+        self.cpu.open_at(slot)
     }
 
     /// How many records the schema refused.

@@ -12,7 +12,7 @@
 //! | `schema_calls.rt`, `session_calls.rt`, `cpu_calls.rt`, `put_calls.rt`, `consumer_calls.rt`, `home_calls.rt`, `rest_calls.rt` | the exports |
 //! | `held_calls.rt`, `held_consumer_calls.rt` | the calls of a CPU and of the consumer on what a handle holds, by cases |
 //! | `ctf_calls.rt`, `ctf_statuses.rt` | the exports of a trace that C writes, and what they answer (`specs/CtfCalls`, `specs/CtfStatuses`) |
-//! | `recording.rt` | a record by its EPID and values, or by a claim and the words of its text (`specs/Puts`: by a header that is known) |
+//! | `recording.rt`, `word_counts.rt` | a record by its EPID and values, or by a claim and the words of its text (`specs/Puts`: by a header that is known); how many words an export takes, as a type |
 //! | `specs/`: Homes, Statuses, Shows, Handles, Lending | that a call leaves the same CPU of the same session; which number an answer is, and what goes out; what C reads, field by field; which handles are full, and of what; what lending keeps |
 //! | `specs/`: Answered, CpuCalls, ConsumerCalls | what a status and an out parameter tell of an answer; what each call of a CPU and of the consumer did, by what its handle held before and after |
 //! | `specs/`: SessionCalls, Widths, Configs, ClosedCalls | the same of schemas, sessions and what is left; fields by their widths; a configuration in C's memory |
@@ -58,6 +58,7 @@ mod session_calls;
 mod statuses;
 mod tending;
 mod under_way;
+mod word_counts;
 
 pub use batches::CBatch;
 pub use configs::CConfig;

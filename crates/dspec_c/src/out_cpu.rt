@@ -29,7 +29,7 @@ impl OutCpu {
     ghost use Rattle.rtrb.specs.Ring.{known_free, sent};
     ghost use Rattle.dspec_promise.specs.Promise.{commit, discard};
     ghost use Rattle.dspec_c.specs.Homes.{HasGone, IsOut};
-    ghost use Rattle.dspec_c.specs.CpuCalls.{DecidedAs, Drops, Offered, OnSide, Opened, Put, PutIn, Recorded, Reports, ServicedSo};
+    ghost use Rattle.dspec_c.specs.CpuCalls.{CommittedIfRoom, DecidedAs, Drops, Offered, OnSide, Opened, OpensAt, Put, PutIn, Recorded, Reports, ServicedSo};
 
     pub fn of(way: Producer<Homing, Global, HomeRule>, homing: Homing) -> OutCpu
         requires out { IsOut (sent way) homing }
@@ -50,10 +50,10 @@ impl OutCpu {
     /// The record that these words stand for, offered to a speculation. None: the claim isn't true of the schema, and the record is
     /// counted as refused.
     #[inline(always)]
-    pub fn put_in(&mut self, id: SpecId, claim: u64, stamp: u64, words: &[u64]) -> Option<Spoken>
+    pub fn put_in<N>(&mut self, id: SpecId, claim: u64, stamp: u64, words: &[u64]) -> Option<Spoken>
         ensures did { OnSide (is_none result) (PutIn id claim stamp words.now result) self.old self.new }
     {
-        self.homing.put_in(id, claim, stamp, words)
+        self.homing.put_in::<N>(id, claim, stamp, words)
     }
 
     /// None: it isn't a record of the schema, and is counted as refused.
@@ -90,6 +90,13 @@ impl OutCpu {
         self.homing.commit(id)
     }
 
+    /// None: it would lose the CPU's block, and nothing was done.
+    pub fn commit_if_room(&mut self, id: SpecId) -> Option<Decided>
+        ensures did { OnSide false (CommittedIfRoom id result) self.old self.new }
+    {
+        self.homing.commit_if_room(id)
+    }
+
     pub fn discard(&mut self, id: SpecId) -> Decided
         ensures did { OnSide false (DecidedAs discard id result) self.old self.new }
     {
@@ -107,6 +114,13 @@ impl OutCpu {
         ensures { Drops id self.now.cpu result }
     {
         self.homing.dropped_in(id)
+    }
+
+    /// The speculation of the slot of which the CPU has records.
+    pub fn open_at(&self, slot: u32) -> Option<SpecId>
+        ensures { OpensAt slot self.now.cpu result }
+    {
+        self.homing.open_at(slot)
     }
 
     /// How many records the schema refused.

@@ -8,6 +8,7 @@ ghost use Rattle.dspec_c.specs.CpuCalls.{PutAnswers, PutInAnswers};
 use crate::handle::Handle;
 use crate::held_calls::{held_put, held_put_in};
 use crate::statuses::bad_handle;
+use crate::word_counts::{AllWords, OneWord, ThreeWords, TwoWords};
 
 /// Traces the record of a claim whose text is one word.
 #[unsafe(no_mangle)]
@@ -73,7 +74,7 @@ pub extern "C" fn dspec_put_in_1(cpu: &mut Handle, id: u64, claim: u64, stamp: u
     if !cpu.is_held() {
         return bad_handle();
     }
-    held_put_in(cpu.lend(), id, claim, stamp, &[w0])
+    held_put_in::<OneWord>(cpu.lend(), id, claim, stamp, &[w0])
 }
 
 /// Offers the record of a claim whose text is two words, to a speculation.
@@ -92,7 +93,7 @@ pub extern "C" fn dspec_put_in_2(
     if !cpu.is_held() {
         return bad_handle();
     }
-    held_put_in(cpu.lend(), id, claim, stamp, &[w0, w1])
+    held_put_in::<TwoWords>(cpu.lend(), id, claim, stamp, &[w0, w1])
 }
 
 /// Offers the record of a claim whose text is three words, to a speculation.
@@ -112,7 +113,7 @@ pub extern "C" fn dspec_put_in_3(
     if !cpu.is_held() {
         return bad_handle();
     }
-    held_put_in(cpu.lend(), id, claim, stamp, &[w0, w1, w2])
+    held_put_in::<ThreeWords>(cpu.lend(), id, claim, stamp, &[w0, w1, w2])
 }
 
 /// Offers the record of a claim whose text is so many words, to a speculation.
@@ -130,5 +131,5 @@ pub extern "C" fn dspec_put_in(
     if !cpu.is_held() {
         return bad_handle();
     }
-    held_put_in(cpu.lend(), id, claim, stamp, words)
+    held_put_in::<AllWords>(cpu.lend(), id, claim, stamp, words)
 }

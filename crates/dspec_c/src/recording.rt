@@ -5,6 +5,7 @@ ghost use Rattle.dspec_cpu.specs.Standing.{IsCallable};
 ghost use Rattle.dspec_c.specs.CpuCalls.{Offered, Put, PutIn, Recorded};
 ghost use Rattle.dspec_c.specs.Puts.{PutAs, PutInAs};
 
+use crate::word_counts::Worded;
 use dspec_cpu::{Cpu, Shared};
 use dspec_deeds::{Spoken, Traced};
 use dspec_record::{Enablings, KnownHeader, Schema, Stamped, Unstamped};
@@ -73,7 +74,7 @@ fn put_in_as<H: KnownHeader>(
     ensures { PutInAs H.header_is id claim stamp words.now result cpu.old cpu.new }
 {
     let rec = cpu.schema().packed::<H>(claim, stamp, words)?;
-    Some(cpu.speculate_recorded(shared, id, &rec))
+    Some(cpu.speculate_packed(shared, id, &rec))
 }
 
 /// Traces the record that these words stand for. None: the claim isn't true of the schema. Each header has code of its own, which asks
@@ -97,7 +98,7 @@ pub fn put(
 
 /// Offers the record that these words stand for to a speculation. None: the claim isn't true of the schema.
 #[inline(always)]
-pub fn put_in(
+pub fn put_in<N>(
     cpu: &mut Cpu<Enablings>,
     id: SpecId,
     shared: &Shared,
@@ -108,8 +109,8 @@ pub fn put_in(
     requires of { IsCallable shared.now cpu.old }
     ensures { PutIn id claim stamp words.now result cpu.old cpu.new }
 {
-    match put_in_as::<Unstamped>(cpu, id, shared, claim, stamp, words) {
+    match put_in_as::<Worded<N, Unstamped>>(cpu, id, shared, claim, stamp, words) {
         Some(answer) => Some(answer),
-        None => put_in_as::<Stamped>(cpu, id, shared, claim, stamp, words),
+        None => put_in_as::<Worded<N, Stamped>>(cpu, id, shared, claim, stamp, words),
     }
 }

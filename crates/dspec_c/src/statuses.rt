@@ -1,10 +1,11 @@
 //! What every call answers, as a number; `dspec.h` has their names.
 
 ghost use Rattle.std.specs.Prelude.{◌≡◌};
-ghost use Rattle.dspec_c.specs.Statuses.{asked_status, bad_handle, decided_number, decided_status, found_status, opened_number, opening_status, returned_status, spoken_status, start_status, traced_status};
+ghost use Rattle.dspec_c.specs.Statuses.{asked_status, bad_handle, committed_number, committed_status, decided_number, decided_status, found_status, id_or_zero, opened_number, opening_status, returned_status, spoken_status, start_status, traced_status};
 
 use crate::consumer_side::{Found, Returned};
 use dspec_deeds::{Decided, Opening, Spoken, StartFault, Traced};
+use dspec_word::SpecId;
 
 pub const OK: u32 = 0;
 
@@ -116,6 +117,16 @@ pub fn of_opening(answer: Opening, id: &mut u64) -> u32
     }
 }
 
+/// The number of an identifier; 0 where there is none.
+pub fn number_of(found: Option<SpecId>) -> u64
+    ensures { result ≡ id_or_zero found }
+{
+    match found {
+        Some(id) => id.raw(),
+        None => 0,
+    }
+}
+
 /// What a commit or a discard answered, whose number of records goes out where there is one.
 pub fn of_decided(answer: Decided, count: &mut u32) -> u32
     ensures status { result ≡ decided_status answer }
@@ -137,6 +148,17 @@ pub fn of_decided(answer: Decided, count: &mut u32) -> u32
         Decided::Void => VOID,
         Decided::Stopped => STOPPED,
         Decided::Worn => WORN,
+    }
+}
+
+/// What a commit answered that isn't made where it would lose the CPU's block; None: it would.
+pub fn of_committed(answer: Option<Decided>, count: &mut u32) -> u32
+    ensures status { result ≡ committed_status answer }
+    ensures count { count.new ≡ committed_number answer count.old }
+{
+    match answer {
+        Some(decided) => of_decided(decided, count),
+        None => BUSY,
     }
 }
 

@@ -14,7 +14,7 @@ some_of : (w : Option Batch) → is_some w ≡ true → (b : Batch) × (w ≡ So
 some_of None e = absurd (true≢false (sym e))
 some_of (Some b) e = (b, refl)
 
-none_of : (w : Option Batch) → is_some w ≡ false → w ≡ None
+pub none_of : (w : Option Batch) → is_some w ≡ false → w ≡ None
 none_of None e = refl
 none_of (Some b) e = absurd (true≢false e)
 

@@ -6,6 +6,8 @@ pub mod Ready
 pub mod Traces
 pub mod Mine
 pub mod Outside
+pub mod OpenAts
+pub mod Rooms
 pub mod Touching
 pub mod Retries
 pub mod Stopping

@@ -1,22 +1,24 @@
 -- What the mark of a slot tells of an identifier: whether the CPU is a caller, where it isn't older than the mark.
 use Rattle.std.proofs.Common.{◌≡◌, ℕ, ◌+◌, ◌==◌, ◌≤◌, ◌<◌, Bool, true, false, ◌&&◌, ◌||◌, List, [], ◌∷◌, Some, None, if◌then◌else◌, refl, sym, ap, ◌∙◌, subst, ⊎_elim, arith, true≢false}
+use Rattle.std.specs.Prelude.{nat_lt}
+use Rattle.std.proofs.lemmas.Bool.Decides.{nat_tests}
 use Rattle.dspec_word.specs.SpecId.{Speculation}
 use Rattle.dspec_deeds.specs.declared.config.Config.{Config}
 use Rattle.dspec_deeds.specs.declared.calls.Actor.TheVariants.{Cpu}
 use Rattle.dspec_deeds.specs.declared.deed.Deed.{Deed}
 use Rattle.dspec_deeds.specs.declared.deed.Deed.TheVariants.{Trace, Scan, Opened, Miss, Speculate, Commit, Discard, Settle, Seal, Release, Halt}
 use Rattle.dspec_deeds.specs.FateKinds.{spoken_granted, spoken_stopped}
-use Rattle.dspec_deeds.specs.History.{same_id, is_among, joined, callers, issue, present, part}
+use Rattle.dspec_deeds.specs.History.{same_id, is_among, joined, callers, issue, part}
 use Rattle.dspec_deeds.specs.Legal.{IsSound}
 use Rattle.dspec_deeds.specs.Marks.{mark}
 use Rattle.dspec_deeds.specs.Own.{held}
 use Rattle.dspec_deeds.specs.Weaving.{bare}
 use Rattle.dspec_deeds.proofs.TestLemmas.{either_way, off, and_tells, same_number, number_is_itself, same_id_tells, id_is_itself, has_joined}
-use Rattle.dspec_deeds.proofs.PresentIds.{open_is_now, present_is}
+use Rattle.dspec_deeds.proofs.Emptied.{callers_hold, past_empty}
+use Rattle.dspec_deeds.proofs.PresentIds.{open_is_now}
 use Rattle.dspec_deeds.proofs.SoundLists.{granted_goes, answered_open}
 use Rattle.dspec_deeds.proofs.Marks.{mark_tells, mark_part}
 use Rattle.dspec_deeds.proofs.OwnReads.{reads, apart_bare}
-use Rattle.dspec_deeds.proofs.OwnStates.{tells_present}
 
 -- who was granted a speculation last is a caller of it
 pub marked_among : (c : ℕ) (id : Speculation) (h : List Deed) → mark c id.slot h ≡ id.issue + 1 → is_among c (callers id h) ≡ true
@@ -108,12 +110,20 @@ own_mine_tells k c id h own s its le =
     let calls : is_among c (callers id own) ≡ is_among c (callers id h) = ap (λ l. is_among c (callers id l)) (sym its) ∙ (reads k c h).apart.called id in
     ap (λ m. m == id.issue + 1) marks ∙ (mine_tells k c id h s (subst (λ m. m ≤ id.issue + 1) marks le) ∙ sym calls)
 
--- where the identifier is the slot's present one and the CPU isn't marked for it, the CPU holds nothing of it
+-- where the CPU isn't marked for the speculation, it holds nothing of it: of an older one, since it was released; else it is no caller
+pub unmarked_holds : (k : Config) (c : ℕ) (id : Speculation) (h : List Deed) → c < k.cpus → IsSound k h → (mark c id.slot h == id.issue + 1) ≡ false → held c id h ≡ []
+unmarked_holds k c id h few s none = ⊎_elim
+    (λ (past : nat_lt id.issue (issue id.slot h) ≡ true). past_empty k c id h few s (grind (arith, nat_tests)))
+    (λ (here : nat_lt id.issue (issue id.slot h) ≡ false).
+    let most = (mark_tells k c id.slot h s).bound in
+    let le : mark c id.slot h ≤ id.issue + 1 = grind (arith, nat_tests) in
+    callers_hold c id h (sym (mine_tells k c id h s le) ∙ none))
+    (either_way (nat_lt id.issue (issue id.slot h)))
+
+-- so it is by the CPU's own list, which without its Seals is its part of one
 pub unmarked_empty : (k : Config) (c : ℕ) (id : Speculation) (h own p : List Deed) → c < k.cpus → IsSound k h → part (Cpu c) h ≡ own → bare p ≡ own
-    → issue id.slot h ≡ id.issue → (mark c id.slot p == id.issue + 1) ≡ false → held c id p ≡ []
-unmarked_empty k c id h own p few s its is now none =
-    let here : present id.slot h ≡ id = present_is id h now in
+    → (mark c id.slot p == id.issue + 1) ≡ false → held c id p ≡ []
+unmarked_empty k c id h own p few s its is none =
     let marks : mark c id.slot p ≡ mark c id.slot h = (apart_bare k c p).marking id.slot ∙ (ap (mark c id.slot) (is ∙ sym its) ∙ mark_part c id.slot h) in
-    let un : (mark c id.slot h == issue id.slot h + 1) ≡ false = ap (λ n. mark c id.slot h == n + 1) now ∙ (ap (λ m. m == id.issue + 1) (sym marks) ∙ none) in
-    let empty : held c id h ≡ [] = subst (λ x. held c x h ≡ []) here ((tells_present k c id.slot h few s).unmarked un) in
-    (apart_bare k c p).buffers id ∙ (ap (held c id) (is ∙ sym its) ∙ ((reads k c h).apart.buffers id ∙ empty))
+    let un : (mark c id.slot h == id.issue + 1) ≡ false = ap (λ m. m == id.issue + 1) (sym marks) ∙ none in
+    (apart_bare k c p).buffers id ∙ (ap (held c id) (is ∙ sym its) ∙ ((reads k c h).apart.buffers id ∙ unmarked_holds k c id h few s un))

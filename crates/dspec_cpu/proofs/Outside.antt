@@ -1,5 +1,5 @@
--- Nothing was dropped of a speculation that isn't one of the session's slots.
-use Rattle.std.proofs.Common.{◌≡◌, ℕ, ◌+◌, ◌≤◌, ◌==◌, true, false, ◌&&◌, List, sym, ap, ◌∙◌, ⊎_elim, arith, true≢false}
+-- Nothing is held and nothing was dropped of a speculation that isn't one of the session's slots.
+use Rattle.std.proofs.Common.{◌≡◌, ℕ, ◌+◌, ◌≤◌, ◌<◌, ◌==◌, true, false, ◌&&◌, List, [], sym, ap, ◌∙◌, ⊎_elim, arith, true≢false}
 use Rattle.std.specs.Prelude.{nat_le}
 use Rattle.std.proofs.lemmas.Bool.Decides.{nat_tests}
 use Rattle.dspec_word.specs.SpecId.{Speculation}
@@ -9,21 +9,22 @@ use Rattle.dspec_deeds.specs.declared.deed.Deed.{Deed}
 use Rattle.dspec_deeds.specs.History.{in_range, is_among, opened, part}
 use Rattle.dspec_deeds.specs.Legal.{IsSound}
 use Rattle.dspec_deeds.specs.Marks.{mark}
-use Rattle.dspec_deeds.specs.Own.{dropped_in}
+use Rattle.dspec_deeds.specs.Own.{dropped_in, held}
 use Rattle.dspec_deeds.specs.Weaving.{bare}
 use Rattle.dspec_deeds.proofs.Dropping.{unmarked_drops}
-use Rattle.dspec_deeds.proofs.OwnReads.{reads, apart_bare}
+use Rattle.dspec_deeds.proofs.Marks.{mark_part}
+use Rattle.dspec_deeds.proofs.OwnReads.{apart_bare}
 use Rattle.dspec_deeds.proofs.SoundLists.{opened_in_range, unseen}
 use Rattle.dspec_deeds.proofs.TestLemmas.{either_way, same_number}
-use Rattle.dspec_cpu.proofs.Mine.{marked_among}
+use Rattle.dspec_cpu.proofs.Mine.{marked_among, unmarked_empty}
 
 pub inside_of : (k : Config) (id : Speculation) → 1 ≤ id.slot → id.slot ≤ k.nspec → in_range k id ≡ true
 inside_of k id low high = let a : nat_le 1 id.slot ≡ true = grind (arith, nat_tests) in let b : nat_le id.slot k.nspec ≡ true = grind (arith, nat_tests) in
     ap (λ x. x && nat_le id.slot k.nspec) a ∙ b
 
 -- of a list that is legal in its common part
-outside_of_all : (k : Config) (c : ℕ) (id : Speculation) (h : List Deed) → 1 ≤ k.nspec → IsSound k h → in_range k id ≡ false → dropped_in c id h ≡ 0
-outside_of_all k c id h some sound out = ⊎_elim
+outside_unmarked : (k : Config) (c : ℕ) (id : Speculation) (h : List Deed) → 1 ≤ k.nspec → IsSound k h → in_range k id ≡ false → (mark c id.slot h == id.issue + 1) ≡ false
+outside_unmarked k c id h some sound out = ⊎_elim
     (λ (t : (mark c id.slot h == id.issue + 1) ≡ true).
     let called = marked_among c id h (same_number (mark c id.slot h) (id.issue + 1) t) in
     absurd (⊎_elim
@@ -32,11 +33,17 @@ outside_of_all k c id h some sound out = ⊎_elim
     true≢false (sym (inside_of k id within.0 within.1) ∙ out))
     (λ (un : opened id h ≡ false). true≢false (sym called ∙ ap (is_among c) (unseen k h id sound un).1))
     (either_way (opened id h))))
-    (λ (f : (mark c id.slot h == id.issue + 1) ≡ false). unmarked_drops c id h f)
+    (λ (f : (mark c id.slot h == id.issue + 1) ≡ false). f)
     (either_way (mark c id.slot h == id.issue + 1))
 
 -- of the CPU's own list, which without its Seals is its part of one
-pub outside_drops : (k : Config) (c : ℕ) (id : Speculation) (h own p : List Deed) → 1 ≤ k.nspec → IsSound k h → part (Cpu c) h ≡ own → bare p ≡ own
-    → in_range k id ≡ false → dropped_in c id p ≡ 0
-outside_drops k c id h own p some sound its is out =
-    (apart_bare k c p).dropping id ∙ (ap (dropped_in c id) (is ∙ sym its) ∙ ((reads k c h).apart.dropping id ∙ outside_of_all k c id h some sound out))
+module _ (k : Config) (c : ℕ) (id : Speculation) (h own p : List Deed) (some : 1 ≤ k.nspec) (sound : IsSound k h) (its : part (Cpu c) h ≡ own) (is : bare p ≡ own)
+    (out : in_range k id ≡ false) where
+  unmarked : (mark c id.slot p == id.issue + 1) ≡ false
+  unmarked = ap (λ m. m == id.issue + 1) ((apart_bare k c p).marking id.slot ∙ (ap (mark c id.slot) (is ∙ sym its) ∙ mark_part c id.slot h)) ∙ outside_unmarked k c id h some sound out
+
+  pub outside_drops : dropped_in c id p ≡ 0
+  outside_drops = unmarked_drops c id p unmarked
+
+  pub outside_holds : c < k.cpus → held c id p ≡ []
+  outside_holds few = unmarked_empty k c id h own p few sound its is unmarked

@@ -83,6 +83,10 @@ pub belonging : (shape : ℕ → Option Shape) (accepted : Record → Bool) (tex
     → IsSteady shape accepted text cpu → IsReady shape accepted text words cpu
 belonging shape accepted text words cpu of steady = record { at = (of.table, steady.config ∙ of.config); config = sym of.config; steady = steady }
 
+-- it is one of the session's CPUs
+pub steady_few : (shape : ℕ → Option Shape) (accepted : Record → Bool) (text : Record → List ℕ) {S : Type 0} (cpu : Cpu S) → IsSteady shape accepted text cpu → cpu.cpu < cpu.config.cpus
+steady_few shape accepted text cpu steady = subst (λ (x : ℕ × Config). x.0 < x.1.cpus) (λ i. (steady.seat i, steady.config i)) cpu.seat.is_one
+
 module _ (shape : ℕ → Option Shape) (accepted : Record → Bool) (text : Record → List ℕ) {S : Type 0} (words : Words) (cpu : Cpu S) (was : IsReady shape accepted text words cpu) where
   -- the CPU's number, as its steps read it off the seat
   pub number : number_of (known cpu.seat).who ≡ cpu.cpu
@@ -159,4 +163,4 @@ module _ (shape : ℕ → Option Shape) (accepted : Record → Bool) (text : Rec
   told p had answer is = told_by cpu.config cpu.cpu cpu.side.counts p had.shown.counted (balanced p had) answer is
 
   pub few : cpu.cpu < cpu.config.cpus
-  few = subst (λ (x : ℕ × Config). x.0 < x.1.cpus) (λ i. (was.steady.seat i, set_up_is i)) cpu.seat.is_one
+  few = steady_few shape accepted text cpu was.steady

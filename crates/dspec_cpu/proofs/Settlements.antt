@@ -141,7 +141,7 @@ module _ (shape : ℕ → Option Shape) (k : Config) (c : ℕ) (log p : List Dee
       shown = shown;
       low = low;
       high = high;
-      unmarked = unmarked_empty k c id log (bare p) p few its.sound (sym its.part_is) refl issues;
+      unmarked = unmarked_empty k c id log (bare p) p few its.sound (sym its.part_is) refl;
       waits = waits;
       room = room;
       drops = dropped;

@@ -45,7 +45,7 @@ grant_deeds c doing id r x b g is = ⊎_elim (λ (e : x ≡ reach.Granted). ap (
 -- what the mark tells of a speculation that is the slot's present one, and that of one that it isn't marked for the CPU holds nothing
 pub caller_of : (k : Config) (c : ℕ) (id : Speculation) (own : List Deed) (mine : Bool) → c < k.cpus → IsPresentAt k c id own → (p : List Deed) → bare p ≡ own
     → mine ≡ (mark c id.slot p == id.issue + 1) → IsCaller c id mine p
-caller_of k c id own mine few at p is marked = record { marked = marked; empty = λ none. unmarked_empty k c id at.log own p few at.sound at.its is at.now (sym marked ∙ none) }
+caller_of k c id own mine few at p is marked = record { marked = marked; empty = λ none. unmarked_empty k c id at.log own p few at.sound at.its is (sym marked ∙ none) }
 
 -- the mark as the seat's own list has it
 pub own_mark : (c s : ℕ) (own p : List Deed) (k : Config) → bare p ≡ own → mark c s p ≡ mark c s own

@@ -2,6 +2,7 @@ pub mod Sealed
 pub mod Lists
 pub mod Calls
 pub mod Dropped
+pub mod OpenAt
 pub mod Stops
 pub mod Touching
 pub mod Reaching

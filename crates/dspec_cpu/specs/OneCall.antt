@@ -1,8 +1,10 @@
 -- Cited by calls. One call of a CPU: what it did, first in the words of the page, and what it kept.
-use Rattle.std.specs.Prelude.{ℕ, ◌≡◌, ◌≤◌, ◌+◌, ◌*◌, ◌&&◌, ◌↔◌, nat_le, Bool, List, length, Option, IsSome, IfSome, IfNone, IsTrue}
+use Rattle.std.specs.Prelude.{ℕ, ◌≡◌, ◌≤◌, ◌+◌, ◌*◌, ◌&&◌, ◌||◌, ◌↔◌, nat_le, Bool, true, false, List, length, Option, IsSome, IfSome, IfNone, IsTrue}
 use Rattle.dspec_record.specs.Record.{Record}
+use Rattle.dspec_record.specs.declared.field.Shape.{Shape}
 use Rattle.dspec_word.specs.SpecId.{Speculation}
 use Rattle.dspec_deeds.specs.declared.calls.Decided.{Decided}
+use Rattle.dspec_deeds.specs.declared.calls.Decided.TheVariants as decided
 use Rattle.dspec_deeds.specs.declared.calls.Opening.{Opening}
 use Rattle.dspec_deeds.specs.declared.calls.Served.{Served}
 use Rattle.dspec_deeds.specs.declared.calls.Spoken.{Spoken}
@@ -14,10 +16,11 @@ use Rattle.dspec_promise.specs.Promise.{By, commit, discard, service}
 use Rattle.dspec_cpu_state.specs.Counting.{is_stopped_opening}
 use Rattle.dspec_table.specs.Seats.{known}
 use Rattle.dspec_cpu.specs.declared.parts.CpuParts.{CpuParts as Cpu}
+use Rattle.dspec_cpu.specs.Between.{cpu_block_fits}
 use Rattle.dspec_cpu.specs.Called.{called, with_trace, with_speculate, with_decision, with_speculation, WithService}
 use Rattle.dspec_cpu.specs.Calls.{Decides, Does, is_worn_decided, is_worn_spoken, is_worn_trace, spoken_deeds, traced_deeds}
 use Rattle.dspec_cpu.specs.Keeping.{CallLeaves}
-use Rattle.dspec_cpu.specs.Lists.{config_of, end_of, held_back_of, number_in, schema_of, seat_of, worn_of}
+use Rattle.dspec_cpu.specs.Lists.{calls_of, config_of, end_of, held_back_of, number_in, schema_of, seat_of, worn_of}
 use Rattle.dspec_cpu.specs.Scans.{Opens, is_worn_opening}
 use Rattle.dspec_cpu.specs.Serving.{Serves}
 use Rattle.dspec_cpu.specs.Stops.{is_stopped_decided, is_stopped_spoken, is_stopped_trace}
@@ -33,6 +36,15 @@ decision_deed service = Settle
 -- the record of an enabling with these values
 abbrev pub with_values : ℕ → ℕ → List ℕ → Record
 with_values epid stamp values = record { epid = epid; stamp = stamp; values = values }
+
+-- the CPU made all its calls
+abbrev pub made_all_calls : {S : Type 0} → Cpu S → Bool
+made_all_calls cpu = nat_le (config_of cpu).max_calls (calls_of cpu)
+
+-- the answer tells of a block that was lost
+abbrev pub is_lost_block : Decided → Bool
+is_lost_block (decided.Lost n) = true
+is_lost_block a = false
 
 -- by which lists each CPU has
 module _ {S : Type 0} (has : Cpu S → List Deed → Type 0) where
@@ -86,3 +98,14 @@ module _ {S : Type 0} (has : Cpu S → List Deed → Type 0) where
       pub due : IsSome a ↔ IsTrue (takes_values old epid stamp values)
       pub refused : IfNone a (new ≡ old)
       pub one : IfSome a (λ s. SpeculatesOne id (with_values epid stamp values) s old new)
+
+  -- by the shapes of each schema's records
+  module _ (shape_of : S → ℕ → Option Shape) where
+    -- A speculation was committed, but not where that would lose the CPU's block: there is an answer where the call is worn or the
+    -- principal buffer would take the block, by each list that the CPU has, and only there. It never tells of a lost block. Where
+    -- there is none, nothing was done.
+    pub record CommitsIfRoom (id : Speculation) (a : Option Decided) (old new : Cpu S) : Type 0 where
+      pub due : (p : List Deed) → has old p → IsSome a ↔ IsTrue (made_all_calls old || cpu_block_fits (shape_of (schema_of old)) old id p)
+      pub refused : IfNone a (new ≡ old)
+      pub kept : IfSome a (λ d. is_lost_block d ≡ false)
+      pub one : IfSome a (λ d. DecidesOne commit id d old new)

@@ -20,6 +20,15 @@ impl<S: Schema> CpuParts<S> {
         (id.slot() as usize).wrapping_sub(1) < self.config.nspec as usize
     }
 
+    /// As `is_inside`, where it is known whether the CPU is a caller.
+    #[inline(always)]
+    pub(crate) fn is_inside_too(&self, id: SpecId, mine: bool) -> bool
+        requires { mine ≡ true → in_range self.now.config id ≡ true }
+        ensures { result ≡ in_range self.now.config id }
+    {
+        mine || self.is_inside(id)
+    }
+
     /// Whether the CPU is a caller of the speculation, by the slot's mark; false outside the slots, of which none needs to ask first.
     #[inline(always)]
     pub(crate) fn is_mine(&self, id: SpecId) -> bool

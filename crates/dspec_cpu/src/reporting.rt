@@ -4,6 +4,7 @@ ghost use Rattle.dspec_deeds.specs.declared.deed.Deed.{Deed};
 ghost use Rattle.dspec_deeds.specs.Reports.{report};
 ghost use Rattle.dspec_cpu.specs.Dropped.{drops_told};
 ghost use Rattle.dspec_cpu.specs.Lists.{config_of, number_in, words_of, worn_of};
+ghost use Rattle.dspec_cpu.specs.OpenAt.{IsOpenAt};
 ghost use Rattle.dspec_cpu.specs.Standing.{Belongs, identity};
 
 use crate::cpu::Cpu;
@@ -44,5 +45,21 @@ impl<S: Schema> Cpu<S> {
             return 0;
         }
         told(self.parts.side.dropped_in::<S>(id))
+    }
+
+    /// The speculation of the slot of which this CPU has records: granted to it last, and neither decided nor settled by it. Another
+    /// CPU may have decided it, which the next service settles. None: it has records of none of the slot, or the session has no
+    /// such slot. It takes no step at the words.
+    pub fn open_at(&self, slot: u32) -> Option<SpecId>
+        ensures { (p : List Deed) → ⟦<Cpu<S> as Listed>⟧.has_list self.now p → IsOpenAt (number_in self.now) slot p result }
+    {
+        if slot == 0 || slot > self.parts.config.nspec {
+            return None;
+        }
+        let (mark, count) = self.parts.side.last_kept::<S>(slot);
+        if count == 0 {
+            return None;
+        }
+        Some(SpecId::of(mark - 1, slot))
     }
 }

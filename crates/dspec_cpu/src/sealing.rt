@@ -1,4 +1,4 @@
-ghost use Rattle.std.specs.Prelude.{◌≡◌, ◌≤◌, ◌+◌, ◌<◌, ◌^◌, ◌++◌, List, length, reverse};
+ghost use Rattle.std.specs.Prelude.{◌≡◌, ◌≤◌, ◌+◌, ◌<◌, ◌^◌, ◌++◌, List, None, Some, length, reverse};
 ghost use Rattle.dspec_deeds.specs.declared.deed.Deed.{Deed};
 ghost use Rattle.dspec_table.specs.Seats.{known};
 ghost use Rattle.dspec_cpu.specs.Lists.{IsSameCpu, batches_of, config_of, end_of, held_back_of, number_in, seat_of, spare_count};
@@ -16,34 +16,45 @@ use dspec_record::Schema;
 use dspec_ring::{Batch, CpuEnd};
 use dspec_table::Words;
 
+// Hands on a batch, by one push. The answer is the batch where the ring refuses it.
+#[inline(always)]
+fn hand_over(end: &mut CpuEnd, batch: Batch) -> Option<Batch>
+    requires few { length end.old.handed < 2 ^ 62 }
+    ensures { HandsOn end.old (Some batch) end.new result }
+{
+    end.hand(batch).err()
+}
+
 // Hands on the batch held back, by one push. It stays held back where the ring refuses it.
 fn hand_on(end: &mut CpuEnd, held_back: &mut Option<Batch>)
     requires few { length (waiting held_back.old ++ reverse end.old.handed) ≤ 2 ^ 62 }
     ensures { HandsOn end.old held_back.old end.new held_back.new }
 {
+    // asked first by itself: what is taken out is moved, though it is none
+    if held_back.is_none() {
+        return;
+    }
     let Some(batch) = held_back.take() else {
         return;
     };
-    if let Err(back) = end.hand(batch) {
-        *held_back = Some(back);
-    }
+    *held_back = hand_over(end, batch);
 }
 
-// Finds the buffer that is active next: the spare in hand, or by one pop the next that was given back. A batch of another size
+// Takes the buffer that is active next: the spare in hand, or by one pop the next that was given back. A batch of another size
 // is dropped.
-fn find_spare(end: &mut CpuEnd, spare: &mut Option<ByteBuffer>, bufsize: u32)
-    ensures { FindsSpare bufsize end.old spare.old end.new spare.new }
+fn take_spare(end: &mut CpuEnd, spare: &mut Option<ByteBuffer>, bufsize: u32) -> Option<ByteBuffer>
+    ensures found { FindsSpare bufsize end.old spare.old end.new result }
+    ensures taken { spare.new ≡ None }
 {
     if spare.is_some() {
-        return;
+        return spare.take();
     }
-    let Some(came) = end.spare() else {
-        return;
-    };
+    let came = end.spare()?;
     let Batch { buffer, .. } = came;
-    if buffer.size() == bufsize {
-        *spare = Some(buffer);
+    if buffer.size() != bufsize {
+        return None;
     }
+    Some(buffer)
 }
 
 // Seals the active buffer: the spare, cleared, is active, and the one that was active a batch.
@@ -74,15 +85,18 @@ impl<S: Schema> CpuParts<S> {
         if ask <= self.side.seals || self.config.max_calls <= self.side.seals {
             return false;
         }
-        find_spare(&mut self.end, &mut self.spare, self.config.bufsize);
+        let found = take_spare(&mut self.end, &mut self.spare, self.config.bufsize);
         if self.held_back.is_some() {
+            self.spare = found;
             return false;
         }
-        let Some(spare) = self.spare.take() else {
+        let Some(spare) = found else {
             return false;
         };
-        self.held_back = Some(seal::<S>(self.cpu, &mut self.side, spare));
-        hand_on(&mut self.end, &mut self.held_back);
+        let batch = seal::<S>(self.cpu, &mut self.side, spare);
+        if let Some(back) = hand_over(&mut self.end, batch) {
+            self.held_back = Some(back);
+        }
         true
     }
 

@@ -49,6 +49,33 @@ impl<S: Schema> CpuParts<S> {
         }
     }
 
+    // As `Cpu::speculate_packed`.
+    #[inline(always)]
+    pub(crate) fn speculate_packed<R: Recorded>(
+        &mut self,
+        shared: &Shared,
+        id: SpecId,
+        rec: R,
+    ) -> Spoken
+        requires ready { ⟦<CpuParts<S> as Callable>⟧.is_ready (words_of shared.now) self.old }
+        requires accepted { IsTrue (S.accepted (schema_of self.old) (R.as_record rec)) }
+        requires laid { IsLaidBy (S.shape_of (schema_of self.old)) (S.text (schema_of self.old)) (R.as_record rec) (R.laid_as rec) }
+        ensures ready { ⟦<CpuParts<S> as Callable>⟧.is_ready (words_of shared.now) self.new }
+        ensures same { IsSameCpu self.old self.new }
+        ensures leaves { CallLeaves (is_worn_spoken result) (is_stopped_spoken result) 4 (of_slot (config_of self.old) id) self.old self.new }
+        ensures did { Goes (known (seat_of self.old)) (spoken_deeds (number_in self.old) id (R.as_record rec) result) (known (seat_of self.new)) }
+        ensures list { (p : List Deed) → ⟦<Cpu<S> as Listed>⟧.has_list self.old p
+            → ⟦<Cpu<S> as Listed>⟧.has_list self.new (spoken_deeds (number_in self.old) id (R.as_record rec) result ++ p) }
+    {
+        if self.side.calls >= self.config.max_calls {
+            self.side.counts.wear();
+            return Spoken::Worn;
+        }
+        let mine = self.is_mine(id);
+        let inside = self.is_inside_too(id, mine);
+        self.offer(shared, id, rec, inside, mine)
+    }
+
     // A call that isn't worn, of a CPU of which it is known whether it is a caller.
     #[inline(always)]
     fn offer<R: Recorded>(

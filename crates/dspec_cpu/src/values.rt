@@ -70,4 +70,17 @@ impl<S: Schema> Cpu<S> {
     {
         self.parts.speculate(shared, id, rec)
     }
+
+    /// As `speculate_recorded`, of a record that is long as code: the call stands in it once, and asks where it has to whether the CPU
+    /// is a caller.
+    #[inline(always)]
+    pub fn speculate_packed<R: Recorded>(&mut self, shared: &Shared, id: SpecId, rec: R) -> Spoken
+        requires of { Belongs (words_of shared.now) (identity self.old) }
+        requires accepted { IsTrue (S.accepted (schema_of self.old) (R.as_record rec)) }
+        requires laid { IsLaidBy (S.shape_of (schema_of self.old)) (S.text (schema_of self.old)) (R.as_record rec) (R.laid_as rec) }
+        ensures same { identity self.new ≡ identity self.old }
+        ensures does { SpeculatesOne ⟦<Cpu<S> as Listed>⟧.has_list id (R.as_record rec) result self.old self.new }
+    {
+        self.parts.speculate_packed(shared, id, rec)
+    }
 }

@@ -31,6 +31,10 @@ use Rattle.dspec_cpu_state.proofs.Tallies.{commit_counts, discard_counts, settle
 use Rattle.dspec_cpu_state.proofs.Places.{got_set, got_other}
 use Rattle.dspec_cpu_state.proofs.Ones.{last_is, mine_last}
 
+pub count_held : (os : List Offer) → length (contents os) ≡ length os
+count_held [] = refl
+count_held (o ∷ os) = ap suc (count_held os)
+
 module _ {B : Type 0} (keeps : B → List Piece → Type 0) (capacity : B → ℕ) (shape : ℕ → Option Shape) {k : Config} {c : ℕ} {side : CpuState B} (p : List Deed)
     (was : ShowsList keeps capacity k c p side) (id : Speculation) (mine : Bool)
     (low : 1 ≤ id.slot) (high : id.slot ≤ length side.speculative.items) (caller : IsCaller c id mine p) where
@@ -43,10 +47,6 @@ module _ {B : Type 0} (keeps : B → List Piece → Type 0) (capacity : B → �
       go : (m : Bool) → (m ≡ false → have ≡ []) → (if m then have else []) ≡ have
       go true e = refl
       go false e = sym (e refl)
-
-  pub count_held : (os : List Offer) → length (contents os) ≡ length os
-  count_held [] = refl
-  count_held (o ∷ os) = ap suc (count_held os)
 
   pub inside : id.slot ≤ k.nspec
   inside = let count = was.parts.buffer_count in omega arith

@@ -6,7 +6,8 @@ ghost use Rattle.dspec_deeds.specs.declared.config.Config.{Config};
 ghost use Rattle.dspec_deeds.specs.declared.deed.Deed.{Deed};
 ghost use Rattle.dspec_deeds.specs.declared.deed.Deed.TheVariants.{Speculate};
 ghost use Rattle.dspec_deeds.specs.FateKinds.{spoken_granted};
-ghost use Rattle.dspec_deeds.specs.Own.{dropped_in};
+ghost use Rattle.dspec_deeds.specs.CpuShown.{last_called};
+ghost use Rattle.dspec_deeds.specs.Own.{dropped_in, held};
 ghost use Rattle.dspec_cpu_state.specs.Counting.{IsRoomy, with_spoken};
 ghost use Rattle.dspec_cpu_state.specs.CpuStates.{ShowsList};
 ghost use Rattle.dspec_cpu_state.specs.Showing.{ChangesAt, KeepsRecord, ShowsGrant, ShowsNext, TellsSlotRoom, kept_grant};
@@ -91,6 +92,19 @@ impl<B> CpuState<B> {
             return 0;
         }
         self.specdrops[id.slot() as usize - 1]
+    }
+
+    /// The mark of a slot, and how many records the CPU's buffer there has: they are of the speculation that the mark is of.
+    #[inline]
+    pub fn last_kept<S: Schema>(&self, slot: u32) -> (u64, u32)
+    where
+        B: TraceBuffer<S>,
+        requires slot { (1 ≤ slot) × (slot ≤ length self.now.marks) × (slot ≤ length self.now.speculative.items) }
+        ensures mark { slice_get self.now.marks (slot - 1) ≡ Some result.0 }
+        ensures count { (s : S) (k : Config) (c : ℕ) (p : List Deed) → ShowsList (λ b. B.has b s) B.capacity k c p self.now → result.1 ≡ length (held c (last_called c slot p) p) }
+    {
+        let count = self.speculative[slot as usize - 1].count();
+        (self.marks.of_slot(slot), count)
     }
 
     /// Offers a record to a speculation that was granted to the CPU, of which it was a caller before or not: marked as granted,

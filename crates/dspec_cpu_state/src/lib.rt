@@ -11,7 +11,7 @@
 //! |---|---|
 //! | `cpu_state.rt`, `counts.rt` | `CpuState`: calls and seals made, acknowledgements, marks, speculative buffers of the slots and the drops from each, the active buffer, its drops, the counts; `Counts` |
 //! | `marks.rt` | `Marks`: a place for each number that an identifier's slot can have, so that it is looked up before it is known to be one of the session's |
-//! | `fitting.rt`, `tracing.rt`, `granting.rt` | whether a record fits, whether the buffer is closed; a trace; a record that a speculation is granted |
+//! | `fitting.rt`, `tracing.rt`, `granting.rt` | whether a record fits, whether the buffer is closed; a trace; a record that a speculation is granted, and what the CPU has of a slot |
 //! | `blocks.rt` | a block measured; a decision and a settlement, by which it is copied, lost or thrown away; a call that decided nothing |
 //! | `scanning.rt`, `sealing.rt` | a scan begun, a slot missed; a seal |
 //! | `specs/`: CpuStates, Counting | `ShowsList`, that a side shows a list of its CPU's own deeds, and `IsCaller`; the counts of a list, and what a deed adds to them |

@@ -46,6 +46,15 @@ impl Marks {
         self.held[id.slot() as usize] == id.issue() + 1
     }
 
+    // The mark of a slot.
+    #[inline]
+    pub(crate) fn of_slot(&self, slot: u32) -> u64
+        requires slot { (1 ≤ slot) × (slot ≤ length self.now) }
+        ensures { slice_get self.now (slot - 1) ≡ Some result }
+    {
+        self.held[slot as usize]
+    }
+
     // Marks the identifier's slot with its speculation.
     #[inline(always)]
     pub(crate) fn mark(&mut self, id: SpecId)

@@ -13,6 +13,7 @@ const PAGE: [u8; 4096] = [0; 4096];
 
 /// Room on the disk of a folder, kept by a hidden file in it, `.room`, which tools pass over. Where it is given back right before `tell_untold`, a trace
 /// tells what it couldn't write on a disk that is full by then. The file stays where nobody gives it back.
+#[must_use]
 #[derive(Drop)]
 pub struct Room<'a> {
     host: &'a HostRuntime,

@@ -11,18 +11,22 @@ use crate::kv::probes::StoreProbes;
 use crate::kv::serving::Server;
 use anyhow::{Result, bail};
 use dspec::{Both, Config, Probes, SystemClock, closed_cpus, trace_workers};
-use dspec_ctf_sink::{Identity, Names, SystemFolder, Telling, TraceFolder, tell_untold};
+use dspec_ctf_sink::{Identity, Names, Room, SystemFolder, Telling, TraceFolder, tell_untold};
 use std::sync::atomic::AtomicU64;
 use std::thread::Threads;
 
-type Trace<'a> = Telling<'a, TraceFolder<SystemFolder<'a>>>;
+/// How many workers there are.
+const WORKERS: u32 = 3;
+
+/// A trace that is being written, and room on its disk for what its end tells, where the disk has it.
+type Begun<'a> = (Telling<'a, TraceFolder<SystemFolder<'a>>>, Option<Room<'a>>);
 
 /// A trace of this process, with the names of these probes, if the command line asks for one. What it loses is told on the error output.
 fn trace_asked<'a>(
     rt: &'a HostRuntime,
     words: &[String],
     probes: &Probes<'_>,
-) -> Result<Option<Trace<'a>>> {
+) -> Result<Option<Begun<'a>>> {
     let mut words = words.iter().skip(1);
     let Some(flag) = words.next() else {
         return Ok(None);
@@ -31,10 +35,11 @@ fn trace_asked<'a>(
         bail!("usage: examples kv [--ctf FOLDER]");
     };
     let folder = SystemFolder::new(rt, path.as_str())?;
+    let room = folder.keep_room(WORKERS).ok();
     let identity = Identity::of_system(rt)?;
     let (origin, names) = (identity.origin("kv"), Names::Given(probes.names()));
     let begun = TraceFolder::of(rt.alloc(), folder, &origin, &probes.enablings(), &names)?;
-    Ok(Some(Telling::new(rt, "kv", begun)))
+    Ok(Some((Telling::new(rt, "kv", begun), room)))
 }
 
 /// Serves by these words, the first of which is the program's name.
@@ -42,7 +47,8 @@ pub fn main<R: Threads + Sync>(rt: &HostRuntime, threads: &R, words: &[String]) 
     let alloc = rt.alloc();
     let mut declared = Probes::new(alloc);
     let probes = StoreProbes::declare(&mut declared)?;
-    let (first, schema) = (trace_asked(rt, words, &declared)?, declared.enablings());
+    let (first, room) = trace_asked(rt, words, &declared)?.unzip();
+    let schema = declared.enablings();
     let second = Some(Live {
         rt,
         probes,
@@ -50,12 +56,13 @@ pub fn main<R: Threads + Sync>(rt: &HostRuntime, threads: &R, words: &[String]) 
     });
     let (clock, table) = (SystemClock::start(rt)?, [0u8; 8].map(|_| AtomicU64::new(0)));
     let mut workers = Vec::new(alloc);
-    for _ in 0..3 {
+    for _ in 0..WORKERS {
         workers.push(Server::new(&table, &clock, probes))?;
     }
-    let (config, sink) = (Config::of(3, 4, 65536, 512), Both { first, second });
+    let (config, sink) = (Config::of(WORKERS, 4, 65536, 512), Both { first, second });
     let (closed, workers, sink) = trace_workers(threads, alloc, &config, schema, workers, sink)?;
     let Both { mut first, second } = sink;
+    let _ = room.flatten().map(Room::give_back);
     tell_untold(alloc, &schema, &closed, &mut first)?;
     if let Some(folder) = first {
         folder.sink.finish()?;

@@ -27,7 +27,7 @@ use crate::store::serving::{Server, WORKERS};
 use crate::store::telling::{tell_paths, tell_report};
 use dspec::{Both, Closed, Config, Probes, Rec, RecordSink, closed_cpus, trace};
 use dspec_command::{Asked, ended, output_fault, print_text};
-use dspec_ctf_sink::tell_untold;
+use dspec_ctf_sink::{Room, tell_untold};
 use std::io;
 use std::process::ExitCode;
 use std::thread::Threads;
@@ -53,13 +53,14 @@ fn transfers<'a, R: Threads + Sync>(
         board: Board::new(),
         probes: StoreProbes::declare(&mut declared)?,
     };
-    let second = trace_asked(rt, name, &declared)?;
+    let (second, room) = trace_asked(rt, name, &declared)?.unzip();
     let first = RecordSink::new(rt.alloc());
     let sink = Both { first, second };
     let schema = declared.enablings();
     let config = Config::of(WORKERS, 16, 16384, 512);
     let (closed, sink) = trace(threads, rt.alloc(), &config, schema, &server, sink)?;
     let Both { first, mut second } = sink;
+    let _ = room.flatten().map(Room::give_back);
     tell_untold(rt.alloc(), &schema, &closed, &mut second)?;
     finish(name, second)?;
     let mut records = first.records()?;

@@ -26,13 +26,16 @@ use crate::watch::serving::Server;
 use dspec::{Both, Config, Probes, RecordSink, closed_cpus, trace};
 use dspec_command::{ended, output_fault, print_text};
 use dspec_ctf_sink::{
-    FolderFault, Identity, Names, SystemFolder, Telling, TraceFolder, tell_untold,
+    FolderFault, Identity, Names, Room, SystemFolder, Telling, TraceFolder, tell_untold,
 };
 use std::process::ExitCode;
 use std::thread::Threads;
 
 /// A trace that is being written. What it loses is told on the error output while the workers run.
-type Begun<'a> = Telling<'a, TraceFolder<SystemFolder<'a>>>;
+type Trace<'a> = Telling<'a, TraceFolder<SystemFolder<'a>>>;
+
+/// The same, and room on its disk for what its end tells, where the disk has it.
+type Begun<'a> = (Trace<'a>, Option<Room<'a>>);
 
 /// Begins a trace of this process in the folder of that path, with the names of the probes in its metadata.
 fn begun_trace<'a>(
@@ -42,10 +45,11 @@ fn begun_trace<'a>(
 ) -> Result<Begun<'a>, FolderFault> {
     let names = Names::Given(probes.names());
     let folder = SystemFolder::new(rt, name)?;
+    let room = folder.keep_room(WORKERS).ok();
     let identity = Identity::of_system(rt)?;
     let origin = identity.origin("watch");
     let sink = TraceFolder::of(rt.alloc(), folder, &origin, &probes.enablings(), &names)?;
-    Ok(Telling::new(rt, name, sink))
+    Ok((Telling::new(rt, name, sink), room))
 }
 
 /// The same, by the program's fault.
@@ -73,7 +77,7 @@ fn trace_asked<'a>(
 }
 
 /// Ends a trace.
-fn finish<'a>(folder: Option<&'a str>, begun: Option<Begun<'a>>) -> Result<(), ExampleFault<'a>> {
+fn finish<'a>(folder: Option<&'a str>, begun: Option<Trace<'a>>) -> Result<(), ExampleFault<'a>> {
     match begun {
         Some(begun) => told_end(folder, begun.sink.finish()),
         None => Ok(()),
@@ -89,7 +93,7 @@ fn watch<'a, R: Threads + Sync>(
     let seed = ask.seed;
     let mut declared = Probes::unstamped(rt.alloc());
     let probes = ServerProbes::declare(&mut declared)?;
-    let second = trace_asked(rt, ask.folder, &declared)?;
+    let (second, room) = trace_asked(rt, ask.folder, &declared)?.unzip();
     let first = RecordSink::new(rt.alloc());
     let sink = Both { first, second };
     let config = Config::of(WORKERS, 16, 8192, 128);
@@ -97,6 +101,7 @@ fn watch<'a, R: Threads + Sync>(
     let schema = declared.enablings();
     let (closed, sink) = trace(threads, rt.alloc(), &config, schema, &server, sink)?;
     let Both { first, mut second } = sink;
+    let _ = room.flatten().map(Room::give_back);
     tell_untold(rt.alloc(), &schema, &closed, &mut second)?;
     finish(ask.folder, second)?;
     let seen = first.records()?;

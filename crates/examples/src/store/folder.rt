@@ -1,9 +1,10 @@
 //! The trace that is written while the workers run.
 
 use crate::fault::{ExampleFault, told_end};
+use crate::store::serving::WORKERS;
 use dspec::Probes;
 use dspec_ctf_sink::{
-    ClockStart, FolderFault, Identity, Names, SystemFolder, Telling, TimedFolder,
+    ClockStart, FolderFault, Identity, Names, Room, SystemFolder, Telling, TimedFolder,
 };
 use std::time::{SystemTime, UNIX_EPOCH};
 
@@ -11,7 +12,10 @@ use std::time::{SystemTime, UNIX_EPOCH};
 const HERTZ: u64 = 1_000_000;
 
 /// A trace that is being written. What it loses is told on the error output while the workers run.
-pub type Begun<'a> = Telling<'a, TimedFolder<SystemFolder<'a>>>;
+pub type Trace<'a> = Telling<'a, TimedFolder<SystemFolder<'a>>>;
+
+/// The same, and room on its disk for what its end tells, where the disk has it.
+pub type Begun<'a> = (Trace<'a>, Option<Room<'a>>);
 
 /// Where the clock of the stamps begins. The workers make up its time, from 0 on, so it is placed at the system's time when the trace
 /// begins; None where the system doesn't tell that.
@@ -33,12 +37,13 @@ fn begun_trace<'a>(
 ) -> Result<Begun<'a>, FolderFault> {
     let names = Names::Given(probes.names());
     let folder = SystemFolder::new(rt, name)?;
+    let room = folder.keep_room(WORKERS).ok();
     let identity = Identity::of_system(rt)?;
     let mut origin = identity.origin("store");
     origin.start = clock_start(rt);
     let schema = probes.enablings();
     let sink = TimedFolder::of(rt.alloc(), folder, &origin, HERTZ, &schema, &names)?;
-    Ok(Telling::new(rt, name, sink))
+    Ok((Telling::new(rt, name, sink), room))
 }
 
 /// The trace in the folder that is asked for, if one is.
@@ -59,7 +64,7 @@ pub fn trace_asked<'a>(
 /// Ends a trace.
 pub fn finish<'a>(
     folder: Option<&'a str>,
-    begun: Option<Begun<'a>>,
+    begun: Option<Trace<'a>>,
 ) -> Result<(), ExampleFault<'a>> {
     match begun {
         Some(begun) => told_end(folder, begun.sink.finish()),

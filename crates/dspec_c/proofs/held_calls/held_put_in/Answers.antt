@@ -8,7 +8,7 @@ use Rattle.dspec_c.proofs.Calls.{on_cpu}
 use Rattle.dspec_c.proofs.held_calls.held_put_in.Goals as goal
 
 pub returns-in-Cpu : goal.returns-in-Cpu
-returns-in-Cpu c = on_cpu (λ old new. (id : Speculation) × Names c.args.id id
+returns-in-Cpu g c = on_cpu (λ old new. (id : Speculation) × Names c.args.id id
     × Answered spoken_status (λ a. OnSide (is_none a) (PutIn id c.args.claim c.args.stamp c.args.words.now a) old new) c.of_spoken.result) ⊤ _ _ _ _ _ c.in-Cpu.is refl (
       c.from_raw.result,
       record { numbered = c.from_raw.ensures.number; slot = c.from_raw.ensures.slot },

@@ -11,10 +11,10 @@ use Rattle.dspec_c.proofs.recording.put_in_as.Goals as goal
 pub returns : goal.returns
 returns g c =
     let h = g.H.KnownHeader.header_is in
-    let Did : Record → Type 0 = λ r. SpeculatesOne Has c.args.id r c.speculate_recorded.result c.args.cpu.now c.speculate_recorded.new.self in
+    let Did : Record → Type 0 = λ r. SpeculatesOne Has c.args.id r c.speculate_packed.result c.args.cpu.now c.speculate_packed.new.self in
     let Of : EnabledRows → Type 0 = λ e. (true ≡ is_some (record_as h e c.args.claim c.args.stamp c.args.words.now))
     × IfSome (record_as h e c.args.claim c.args.stamp c.args.words.now) Did in
     let done = subst Of c.schema.ensures
     (some_put h c.schema.result.now c.args.claim c.args.stamp c.args.words.now Did (packed_of c.in_ok-rec.rec)
-    (c.in_ok-rec.ensures.due.0 refl) c.in_ok-rec.ensures.holds c.speculate_recorded.ensures.does) in
-    record { same = c.speculate_recorded.ensures.same; due = done.0; refused = tt; one = done.1 }
+    (c.in_ok-rec.ensures.due.0 refl) c.in_ok-rec.ensures.holds c.speculate_packed.ensures.does) in
+    record { same = c.speculate_packed.ensures.same; due = done.0; refused = tt; one = done.1 }

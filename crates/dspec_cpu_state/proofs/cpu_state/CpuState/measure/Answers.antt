@@ -34,4 +34,4 @@ returns-clause-count g c = λ s cpu p shown caller.
     let b = c.index-buffer.result.now in
     let has = buffer_there _ _ shape p shown id c.args.mine low high caller b (c.index-buffer.ensures ∙ ap (λ n. get_or self.speculative.items n b) place) in
     let rs = contents (held cpu (last_called cpu id.slot p) p) in
-    c.measure-room.ensures.count s rs has.has ∙ (ap length (block_is _ _ shape p shown id c.args.mine low high caller) ∙ count_held _ _ shape p shown id c.args.mine low high caller (held cpu id p))
+    c.measure-room.ensures.count s rs has.has ∙ (ap length (block_is _ _ shape p shown id c.args.mine low high caller) ∙ count_held (held cpu id p))

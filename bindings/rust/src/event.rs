@@ -1,0 +1,79 @@
+use crate::probe::signature;
+use crate::{raw, Fields};
+use std::marker::PhantomData;
+use std::sync::atomic::AtomicU32;
+
+/// An event of a program, with its fields in its type: a static, which all tracers may be started with. What isn't one is refused by the compiler, and so is one
+/// that hasn't a name for each field:
+///
+/// ```compile_fail,E0597
+/// let local = dspec::tracer::Event::<(u32,)>::new("local", &["number"]);
+/// let tracer = dspec::Tracer::start("trace", &Default::default(), &[&local]);
+/// ```
+/// ```compile_fail,E0080
+/// static NAMELESS: dspec::tracer::Event<(u32, u32)> = dspec::tracer::Event::new("nameless", &["number"]);
+/// ```
+#[derive(Debug)]
+pub struct Event<F> {
+    raw: raw::Event,
+    name: &'static str,
+    fields: &'static [&'static str],
+    types: PhantomData<fn(F)>,
+}
+
+impl<F: Fields> Event<F> {
+    pub(crate) const SIGNATURE: u32 = signature(F::WIDTHS);
+
+    /// An event of this name, and names for its one to eight fields.
+    ///
+    /// # Panics
+    ///
+    /// Where there isn't a name for each field, or no field; in a static the program isn't compiled then.
+    #[must_use]
+    pub const fn new(name: &'static str, fields: &'static [&'static str]) -> Event<F> {
+        assert!(fields.len() == F::WIDTHS.len(), "an event has a name for each field");
+        assert!(!fields.is_empty(), "an event has one to eight fields");
+        Event { raw: raw::Event { epids: [const { AtomicU32::new(0) }; raw::MAX_TRACERS] }, name, fields, types: PhantomData }
+    }
+
+    pub(crate) fn at(&self) -> *const raw::Event {
+        &raw const self.raw
+    }
+}
+
+/// An [`Event`] of any fields.
+pub trait AnyEvent: Sync + private::Enabled {}
+impl<F: Fields> AnyEvent for Event<F> {}
+
+pub(crate) mod private {
+    use super::{raw, Event, Fields};
+    use std::ffi::{c_char, CString, NulError};
+
+    /// What a tracer wants of an event, with the texts that it points to.
+    pub struct Enabling {
+        pub(crate) raw: raw::TracerEnabling,
+        _texts: Vec<CString>,
+        _fields: Vec<*const c_char>,
+    }
+
+    pub trait Enabled {
+        #[doc(hidden)]
+        fn enabling(&'static self) -> Result<Enabling, NulError>;
+    }
+
+    impl<F: Fields> Enabled for Event<F> {
+        fn enabling(&'static self) -> Result<Enabling, NulError> {
+            let texts = [self.name].iter().chain(self.fields).map(|&text| CString::new(text)).collect::<Result<Vec<_>, _>>()?;
+            let fields: Vec<_> = texts[1..].iter().map(|text| text.as_ptr()).collect();
+            let raw = raw::TracerEnabling {
+                event: self.at(),
+                name: texts[0].as_ptr(),
+                fields: fields.as_ptr(),
+                widths: F::WIDTHS.as_ptr().cast(),
+                kinds: F::KINDS.as_ptr(),
+                n: fields.len(),
+            };
+            Ok(Enabling { raw, _texts: texts, _fields: fields })
+        }
+    }
+}

@@ -1,0 +1,73 @@
+-- Cited by calls. What calls did of a path of which the last records are kept.
+use Rattle.std.specs.Prelude.{ℕ, ◌≡◌, ◌||◌, is_some, Bool, false, List, Option, Some, None, Result, IsOk, IfOk, IfErr, ◌↔◌, IsTrue}
+use Rattle.dspec_record.specs.Record.{Record}
+use Rattle.dspec_record.specs.declared.schema.Schema.{Ghosts}
+use Rattle.dspec_word.specs.SpecId.{Speculation}
+use Rattle.dspec_deeds.specs.declared.calls.Decided.{Decided}
+use Rattle.dspec_deeds.specs.declared.calls.Opening.{Opening}
+use Rattle.dspec_deeds.specs.declared.calls.Opening.TheVariants as opening
+use Rattle.dspec_deeds.specs.declared.calls.Spoken.{Spoken}
+use Rattle.dspec_deeds.specs.declared.calls.Spoken.TheVariants.{Kept, Dropped}
+use Rattle.dspec_deeds.specs.declared.deed.Deed.{Deed}
+use Rattle.dspec_deeds.specs.FateAnswers.{id_given}
+use Rattle.dspec_promise.specs.Promise.{By, discard}
+use Rattle.dspec_cpu.specs.declared.cpu.Cpu.{Cpu}
+use Rattle.dspec_cpu.specs.OneCall.{takes_values, with_values}
+use Rattle.dspec.specs.declared.bad_record.BadRecord.{BadRecord}
+use Rattle.dspec.specs.declared.lane.Lane.{Lane}
+use Rattle.dspec.specs.declared.last_path.LastPath.{LastPath}
+use Rattle.dspec.specs.LaneCalls.{DecisionOn, OpeningOn, SpeculateOn}
+
+-- of one speculation, and nothing was cut
+abbrev pub path_begun : Opening → LastPath
+path_begun answer = record { older = None; newer = answer; cut = false }
+
+-- The older speculation is gone, the newer one stands in its place, and this one in that of the newer. It is cut where there was an older one.
+abbrev pub moved_on : Opening → LastPath → LastPath
+moved_on answer p = record { older = Some (id_given p.newer); newer = answer; cut = p.cut || is_some p.older }
+
+module _ {S : Type 0} {g : Ghosts S} (has : Cpu S → List Deed → Type 0) where
+  -- a speculation was decided, and the answer; nothing was done where there was none
+  abbrev pub DecidesIfThere : By → Option Speculation → Option Decided → Lane S g → Lane S g → Type 0
+  DecidesIfThere b None a old new = (a ≡ None) × (new ≡ old)
+  DecidesIfThere b (Some id) a old new = (d : Decided) × (a ≡ Some d) × DecisionOn has b id d old new
+
+  -- A new speculation answered so to the record. Where it took that, the older one was discarded, and the path moves on; else the new one
+  -- was, and the path is as it was.
+  abbrev pub SettlesOn : Spoken → Opening → LastPath → LastPath → Lane S g → Lane S g → Type 0
+  SettlesOn Kept answer p q old new = (q ≡ moved_on answer p) × ((d : Option Decided) × DecidesIfThere discard p.older d old new)
+  SettlesOn a answer p q old new = (q ≡ p) × ((d : Decided) × DecisionOn has discard (id_given answer) d old new)
+
+  -- A new speculation was asked for, with this answer. Where one was given, the record was offered to it; else the record is dropped, and
+  -- nothing more was done.
+  abbrev pub OffersNextOn : Opening → Record → Spoken → LastPath → LastPath → Lane S g → Lane S g → Type 0
+  OffersNextOn (opening.Id id) r a p q old new = (offered : Lane S g) × SpeculateOn has id r a old offered × SettlesOn a (opening.Id id) p q offered new
+  OffersNextOn answer r a p q old new = (a ≡ Dropped) × (q ≡ p) × (new ≡ old)
+
+  abbrev pub TurnsOn : Record → Spoken → LastPath → LastPath → Lane S g → Lane S g → Type 0
+  TurnsOn r a p q old new = (answer : Opening) × (opened : Lane S g) × OpeningOn has answer old opened × OffersNextOn answer r a p q opened new
+
+  -- the newer speculation answered so to the record: where it dropped it, a new one was asked for; else that is the answer, and nothing more
+  -- was done
+  abbrev pub FollowsOn : Spoken → Record → Spoken → LastPath → LastPath → Lane S g → Lane S g → Type 0
+  FollowsOn Dropped r a p q old new = TurnsOn r a p q old new
+  FollowsOn first r a p q old new = (a ≡ first) × (q ≡ p) × (new ≡ old)
+
+  -- a record was offered to the path
+  pub record LastRecordOn (r : Record) (a : Spoken) (p q : LastPath) (old new : Lane S g) : Type 0 where
+    pub first : Spoken
+    pub offered : Lane S g
+    pub offers : SpeculateOn has (id_given p.newer) r first old offered
+    pub follows : FollowsOn first r a p q offered new
+
+  -- the end of the path: the older speculation was decided, then the newer one
+  abbrev pub LastEndOn : By → LastPath → Option Decided → Decided → Lane S g → Lane S g → Type 0
+  LastEndOn b p older newer old new =
+      (between : Lane S g) × DecidesIfThere b p.older older old between × DecisionOn has b (id_given p.newer) newer between new
+
+  module _ (accepted : S → Record → Bool) where
+    -- a record was offered by its values; an error says that the schema doesn't accept it, and nothing was done
+    pub record LastValuesOn (epid stamp : ℕ) (values : List ℕ) (a : Result Spoken BadRecord) (p q : LastPath) (old new : Lane S g) : Type 0 where
+      pub due : IsOk a ↔ IsTrue (takes_values has accepted old.cpu.now epid stamp values)
+      pub refused : IfErr a (λ why. (q ≡ p) × (new ≡ old))
+      pub one : IfOk a (λ s. LastRecordOn (with_values epid stamp values) s p q old new)

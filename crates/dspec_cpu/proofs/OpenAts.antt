@@ -1,0 +1,99 @@
+-- Of which speculation of a slot a CPU has records: of the one that the slot's mark is of, or of none.
+use Rattle.std.proofs.Common.{◌≡◌, ◌≢◌, ℕ, zero, suc, ◌+◌, ◌-◌, ◌<◌, ◌≤◌, ◌==◌, Bool, true, false, List, [], ◌∷◌, length, Option, Some, sym, ap, ◌∙◌, ⊎_elim, refl, arith}
+use Rattle.std.specs.Prelude.{slice_get}
+use Rattle.dspec_record.specs.Record.{Record}
+use Rattle.dspec_record.specs.declared.field.Shape.{Shape}
+use Rattle.dspec_word.specs.SpecId.{Speculation}
+use Rattle.dspec_deeds.specs.declared.config.Config.{Config}
+use Rattle.dspec_deeds.specs.declared.calls.Actor.TheVariants.{Cpu as CpuActor}
+use Rattle.dspec_deeds.specs.declared.deed.Deed.{Deed}
+use Rattle.dspec_deeds.specs.CpuShown.{last_called}
+use Rattle.dspec_deeds.specs.History.{part}
+use Rattle.dspec_deeds.specs.Legal.{IsSound}
+use Rattle.dspec_deeds.specs.Marks.{mark}
+use Rattle.dspec_deeds.specs.Own.{Offer, held}
+use Rattle.dspec_deeds.specs.Weaving.{bare}
+use Rattle.dspec_deeds.proofs.Marks.{mark_part, mark_tells}
+use Rattle.dspec_deeds.proofs.OwnReads.{apart_bare}
+use Rattle.dspec_deeds.proofs.TestLemmas.{either_way, same_number}
+use Rattle.dspec_table.specs.Seats.{known}
+use Rattle.dspec_table.proofs.Limits.{issue_within}
+use Rattle.dspec_cpu_state.proofs.Ones.{last_is}
+use Rattle.dspec_cpu.specs.declared.parts.CpuParts.{CpuParts as Cpu}
+use Rattle.dspec_cpu.specs.Lists.{HasList, IsSteady}
+use Rattle.dspec_cpu.specs.OpenAt.{IsOpenAt}
+use Rattle.dspec_cpu.proofs.Mine.{unmarked_empty}
+use Rattle.dspec_cpu.proofs.Ready.{steady_few}
+
+same_inside : {A : Type 0} {x y : A} → Some x ≡ Some y → x ≡ y
+same_inside e = cc (e)
+
+at_least : (n : ℕ) → n ≢ 0 → 1 ≤ n
+at_least zero f = absurd (f refl)
+at_least (suc n) f = omega arith
+
+no_length : (os : List Offer) → length os ≡ 0 → os ≡ []
+no_length [] e = refl
+no_length (o ∷ os) e = absurd (omega arith)
+
+-- a mark by which a speculation of the slot is told
+pub record FoundAt (k : Config) (c slot m : ℕ) (p : List Deed) : Type 0 where
+  pub least : 1 ≤ m
+  pub most : m ≤ k.max_issues + 1
+  pub is_open : IsOpenAt c slot p (Some (record { issue = m - 1; slot = slot }))
+
+-- by the CPU's own list, which without its Seals is its part of one that is legal in its common part
+module _ (k : Config) (c : ℕ) (h own p : List Deed) (few : c < k.cpus) (sound : IsSound k h) (its : part (CpuActor c) h ≡ own) (is : bare p ≡ own) (slot : ℕ) where
+  abbrev pub last : Speculation
+  last = last_called c slot p
+
+  -- where it has no record of that one, it has none of the slot
+  pub none_there : length (held c last p) ≡ 0 → (id : Speculation) → id.slot ≡ slot → held c id p ≡ []
+  none_there none id at = ⊎_elim
+      (λ (t : (mark c id.slot p == id.issue + 1) ≡ true).
+      let here : last_called c slot p ≡ id = ap (λ s. last_called c s p) (sym at) ∙ last_is c id p (same_number (mark c id.slot p) (id.issue + 1) t) in
+      no_length (held c id p) (ap (λ j. length (held c j p)) (sym here) ∙ none))
+      (λ (f : (mark c id.slot p == id.issue + 1) ≡ false). unmarked_empty k c id h own p few sound its is f)
+      (either_way (mark c id.slot p == id.issue + 1))
+
+  -- where it has one, the mark is one more than the issue
+  pub marked_there : 1 ≤ length (held c last p) → mark c slot p ≡ (mark c slot p - 1) + 1
+  marked_there some = ⊎_elim
+      (λ (t : (mark c slot p == (mark c slot p - 1) + 1) ≡ true). same_number (mark c slot p) ((mark c slot p - 1) + 1) t)
+      (λ (f : (mark c slot p == (mark c slot p - 1) + 1) ≡ false). let none = ap length (unmarked_empty k c last h own p few sound its is f) in absurd (omega arith))
+      (either_way (mark c slot p == (mark c slot p - 1) + 1))
+
+  pub mark_within : mark c slot p ≤ k.max_issues + 1
+  mark_within =
+      let marks : mark c slot p ≡ mark c slot h = (apart_bare k c p).marking slot ∙ (ap (mark c slot) (is ∙ sym its) ∙ mark_part c slot h) in
+      let bound = (mark_tells k c slot h sound).bound in
+      let most = issue_within k slot h sound in
+      omega arith
+
+  -- where it has one, the slot's mark tells which
+  found : (m n : ℕ) (marks : List ℕ) → slice_get marks (slot - 1) ≡ Some m → slice_get marks (slot - 1) ≡ Some (mark c slot p) → n ≡ length (held c last p) → n ≢ 0 → FoundAt k c slot m p
+  found m n marks got at count some =
+      let marked : m ≡ mark c slot p = same_inside (sym got ∙ at) in
+      let one = at_least n some in
+      let holds : 1 ≤ length (held c last p) = omega arith in
+      let there = marked_there holds in
+      let most = mark_within in
+      let same : held c record { issue = m - 1; slot = slot } p ≡ held c last p = ap (λ x. held c record { issue = x - 1; slot = slot } p) marked in
+      record {
+        least = omega arith;
+        most = omega arith;
+        is_open = (refl, omega arith, λ none. let zero_of = ap length (sym same ∙ none) in absurd (omega arith));
+      }
+
+-- what a CPU's side tells of a slot that the session has
+module _ (shape : ℕ → Option Shape) (accepted : Record → Bool) (text : Record → List ℕ) {S : Type 0} (cpu : Cpu S) (steady : IsSteady shape accepted text cpu) (slot n : ℕ)
+    (count : (p : List Deed) → HasList shape accepted text cpu p → n ≡ length (held cpu.cpu (last_called cpu.cpu slot p) p)) where
+  pub none_in : n ≡ 0 → (p : List Deed) → HasList shape accepted text cpu p → (id : Speculation) → id.slot ≡ slot → held cpu.cpu id p ≡ []
+  none_in none p had = none_there cpu.config cpu.cpu (known cpu.seat).seen (known cpu.seat).own p (steady_few shape accepted text cpu steady) steady.sound steady.part_is had.own slot
+      (sym (count p had) ∙ none)
+
+  pub found_in : n ≢ 0 → (m : ℕ) → slot ≢ 0 → slot ≤ cpu.config.nspec → slice_get cpu.side.marks (slot - 1) ≡ Some m → (p : List Deed) → HasList shape accepted text cpu p
+      → FoundAt cpu.config cpu.cpu slot m p
+  found_in some m low high got p had =
+      found cpu.config cpu.cpu (known cpu.seat).seen (known cpu.seat).own p (steady_few shape accepted text cpu steady) steady.sound steady.part_is had.own slot m n cpu.side.marks got
+      (had.shown.side.marks slot (at_least slot low) high) (count p had) some

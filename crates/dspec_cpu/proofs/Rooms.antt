@@ -1,0 +1,61 @@
+-- Whether a CPU's principal buffer would take its block of a speculation, and a commit that was made where it would.
+use Rattle.std.proofs.Common.{◌≡◌, ℕ, ◌≤◌, Bool, true, false, ◌&&◌, ◌||◌, List, [], ◌∷◌, ◌++◌, Option, sym, ap, ◌∙◌, subst, ⊎_elim, refl, arith, true≢false}
+use Rattle.std.proofs.lemmas.Bool.Decides.{nat_tests}
+use Rattle.dspec_record.specs.Record.{Record}
+use Rattle.dspec_record.specs.declared.field.Shape.{Shape}
+use Rattle.dspec_buffer.specs.Extent.{block}
+use Rattle.dspec_word.specs.SpecId.{Speculation}
+use Rattle.dspec_deeds.specs.declared.config.Config.{Config}
+use Rattle.dspec_deeds.specs.declared.calls.Decided.{Decided}
+use Rattle.dspec_deeds.specs.declared.calls.Decided.TheVariants as decided
+use Rattle.dspec_deeds.specs.declared.deed.DecideFate.TheVariants as fated
+use Rattle.dspec_deeds.specs.declared.deed.Deed.{Deed}
+use Rattle.dspec_deeds.specs.declared.deed.Deed.TheVariants.{Commit, Release}
+use Rattle.dspec_deeds.specs.Legal.{fits_principal}
+use Rattle.dspec_deeds.specs.Own.{contents, held}
+use Rattle.dspec_deeds.specs.Owning.{CpuRow, IsOwn}
+use Rattle.dspec_deeds.proofs.ReportBounds.{AreFitted, IsFitted, active_within}
+use Rattle.dspec_deeds.proofs.TestLemmas.{or_tells}
+use Rattle.dspec_promise.specs.Promise.{commit}
+use Rattle.dspec_cpu.specs.declared.parts.CpuParts.{CpuParts as Cpu}
+use Rattle.dspec_cpu.specs.Between.{cpu_block_fits}
+use Rattle.dspec_cpu.specs.Calls.{decision}
+use Rattle.dspec_cpu.specs.Lists.{HasList}
+use Rattle.dspec_cpu.specs.OneCall.{DecidesOne, is_lost_block, made_all_calls}
+use Rattle.dspec_cpu.specs.Standing.{Identity, identity}
+
+module _ (shape : ℕ → Option Shape) (k : Config) where
+  fitted_row : (d : Deed) (p : List Deed) → CpuRow shape k p d → IsFitted shape k p d
+  fitted_row (Release s) p row = tt
+  fitted_row d p row = row
+
+  fitted : (c : ℕ) (p : List Deed) → IsOwn shape k c p → AreFitted shape k p
+  fitted c [] own = tt
+  fitted c (d ∷ p) own = (fitted c p own.0, fitted_row d p own.2)
+
+  -- where the CPU holds nothing of the speculation, its block always fits
+  pub nothing_fits : (c : ℕ) (id : Speculation) (p : List Deed) → IsOwn shape k c p → held c id p ≡ [] → true ≡ fits_principal shape k c (block (contents (held c id p))) p
+  nothing_fits c id p own none =
+      sym (ap (λ os. fits_principal shape k c (block (contents os)) p) none ∙ ap (λ b. b && true) (active_within shape k c p (fitted c p own)))
+
+-- by what each schema has
+module _ {S : Type 0} (shape_of : S → ℕ → Option Shape) (accepted : S → Record → Bool) (text : S → Record → List ℕ) where
+  abbrev pub has : Cpu S → List Deed → Type 0
+  has cpu p = HasList (shape_of cpu.schema) (accepted cpu.schema) (text cpu.schema) cpu p
+
+  -- a commit that was worn, or whose block fits, loses none
+  pub none_lost : (old new : Cpu S) (id : Speculation) (a : Decided) → identity new ≡ identity old → DecidesOne has commit id a old new
+      → (p : List Deed) → has old p → (made_all_calls old || cpu_block_fits (shape_of old.schema) old id p) ≡ true → is_lost_block a ≡ false
+  none_lost old new id (decided.Lost n) same one p had due = absurd (⊎_elim
+      (λ (w : made_all_calls old ≡ true). let all : old.config.max_calls ≤ old.side.calls = grind (arith, nat_tests) in true≢false (sym (one.leaves.worn.1 all)))
+      (λ (fits : cpu_block_fits (shape_of old.schema) old id p ≡ true).
+      let legal = subst (λ (i : Identity S). IsOwn (shape_of i.schema) i.config i.number (decision one.decides.alone id.slot (Commit old.cpu id (fated.Lost n)) ++ p)) same
+      (one.decides.list p had).shown.legal in
+      true≢false (sym fits ∙ sym (row one.decides.alone legal)))
+      (or_tells (made_all_calls old) (cpu_block_fits (shape_of old.schema) old id p) due))
+    where
+      row : (alone : Bool) → IsOwn (shape_of old.schema) old.config old.cpu (decision alone id.slot (Commit old.cpu id (fated.Lost n)) ++ p)
+          → false ≡ cpu_block_fits (shape_of old.schema) old id p
+      row true legal = legal.0.2.1
+      row false legal = legal.2.1
+  none_lost old new id a same one p had due = refl

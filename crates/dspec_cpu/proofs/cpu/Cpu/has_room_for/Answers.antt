@@ -1,0 +1,29 @@
+use Rattle.std.proofs.Common.{◌≡◌, ◌∙◌, true, false, List, sym, subst, ⊎_elim}
+use Rattle.dspec_deeds.specs.declared.deed.Deed.{Deed}
+use Rattle.dspec_deeds.specs.History.{in_range}
+use Rattle.dspec_deeds.proofs.TestLemmas.{either_way}
+use Rattle.dspec_table.specs.Seats.{known}
+use Rattle.dspec_cpu.specs.declared.parts.CpuParts.{CpuParts as Cpu}
+use Rattle.dspec_cpu.specs.Between.{cpu_block_fits}
+use Rattle.dspec_cpu.specs.Lists.{HasList}
+use Rattle.dspec_cpu.proofs.Limits.{limits}
+use Rattle.dspec_cpu.proofs.Mine.{unmarked_empty}
+use Rattle.dspec_cpu.proofs.Outside.{outside_holds}
+use Rattle.dspec_cpu.proofs.Ready.{steady_few}
+use Rattle.dspec_cpu.proofs.Rooms.{nothing_fits}
+use Rattle.dspec_cpu.proofs.cpu.Cpu.has_room_for.Goals as goal
+
+pub returns-then-not-is_mine : goal.returns-then-not-is_mine
+returns-then-not-is_mine g c =
+    let cpu = c.self.inside.parts in
+    let id = c.args.id in
+    let steady = c.self.invariant in
+    let few = steady_few _ _ _ cpu steady in
+    let some = (limits cpu.config steady.checked).specs.least in
+    subst (λ (x : Cpu g.row.S.Denot). (p : List Deed) → HasList (g.S.Schema.shape_of x.schema) (g.S.Schema.accepted x.schema) (g.S.Schema.text x.schema) x p
+    → true ≡ cpu_block_fits (g.S.Schema.shape_of x.schema) x id p) c.self.view_is
+    (λ p had. nothing_fits (g.S.Schema.shape_of cpu.schema) cpu.config cpu.cpu id p had.shown.legal (⊎_elim
+    (λ (t : in_range cpu.config id ≡ true). unmarked_empty cpu.config cpu.cpu id (known cpu.seat).seen (known cpu.seat).own p few steady.sound steady.part_is had.own
+    (sym (c.is_mine.ensures.is t p had.shown) ∙ c.if-not-is_mine.true))
+    (λ (out : in_range cpu.config id ≡ false). outside_holds cpu.config cpu.cpu id (known cpu.seat).seen (known cpu.seat).own p some steady.sound steady.part_is had.own out few)
+    (either_way (in_range cpu.config id))))

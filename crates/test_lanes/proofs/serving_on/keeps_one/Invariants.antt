@@ -1,7 +1,0 @@
--- It is the same lane.
-use Rattle.std.proofs.Common.{◌≡◌}
-use Rattle.dspec.specs.Lanes.{place_of}
-use Rattle.test_lanes.proofs.serving_on.keeps_one.Given as goal
-
-abbrev pub invariant-loop : goal.invariant-loop
-invariant-loop l = place_of l.lane ≡ place_of l.fn.lane

@@ -1,0 +1,7 @@
+-- It is the same lane.
+use Rattle.std.proofs.Common.{◌≡◌}
+use Rattle.dspec.specs.Lanes.{place_of}
+use Rattle.test_works.proofs.last_paths.LongWorkerEnablings.work.Given as goal
+
+abbrev pub invariant-loop-number : goal.invariant-loop-number
+invariant-loop-number l = place_of l.lane ≡ place_of l.fn.lane

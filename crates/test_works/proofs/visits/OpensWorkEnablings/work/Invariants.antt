@@ -1,0 +1,7 @@
+-- It is the same lane.
+use Rattle.std.proofs.Common.{◌≡◌}
+use Rattle.dspec.specs.Lanes.{place_of}
+use Rattle.test_works.proofs.visits.OpensWorkEnablings.work.Given as goal
+
+abbrev pub invariant-loop-look : goal.invariant-loop-look
+invariant-loop-look l = place_of l.lane ≡ place_of l.fn.lane
