@@ -83,7 +83,7 @@ impl<S: Schema> TraceBuffer<S> for ListBuffer {
         };
         let mut room = [0; LONGEST];
         let text = &mut room[..shape.size as usize];
-        schema.put_recorded(rec, text);
+        schema.put(&rec.to_rec(), text);
         self.texts.extend_from_slice(text).unwrap();
         self.count += 1;
         self.offset = place + shape.size;

@@ -74,29 +74,8 @@ pub(crate) fn pad(bytes: &mut [u8], from: usize, to: usize)
     }
 }
 
-// Writes a padding word and an accepted record behind it.
-#[inline(never)]
-fn put_padded<S: Schema, R: Recorded>(
-    schema: &S,
-    rec: R,
-    bytes: &mut [u8],
-    from: usize,
-    place: usize,
-    end: usize,
-)
-    requires accepted { IsTrue (S.accepted schema.now (R.as_record rec)) }
-    requires gap { place ≡ from + 4 }
-    requires end { end ≡ place + length (S.text schema.now (R.as_record rec)) }
-    requires within { end ≤ length bytes.old }
-    ensures { take end bytes.new ≡ take from bytes.old ++ (replicate (place - from) 0 ++ S.text schema.now (R.as_record rec)) }
-{
-    pad(bytes, from, place);
-    schema.put_recorded(rec, &mut bytes[place..end]);
-}
-
-/// Writes an accepted record, and the padding word before it if there is room for one. A padded one is written by a call of
-/// its own: where there is no padding, nothing is stored between the question of the record's shape and its bytes, so that its
-/// row is looked up once.
+/// Writes an accepted record, and the padding word before it. That word is always written: where there is no padding, the record
+/// goes over it.
 #[inline(always)]
 pub(crate) fn put_behind<S: Schema, R: Recorded>(
     schema: &S,
@@ -113,18 +92,21 @@ pub(crate) fn put_behind<S: Schema, R: Recorded>(
     requires room { end + 8 ≤ length bytes.old }
     ensures { take end bytes.new ≡ take from bytes.old ++ (replicate (place - from) 0 ++ S.text schema.now (R.as_record rec)) }
 {
-    // a record that knows its shape itself is written in few stores: it needs no call of its own, and where there is no padding it
-    // goes over that word
+    pad_before(bytes, from);
+    put_text(schema, rec, &mut bytes[place..]);
+}
+
+// Writes an accepted record's text, as the record knows it or else the schema.
+#[inline(always)]
+fn put_text<S: Schema, R: Recorded>(schema: &S, rec: R, out: &mut [u8])
+    requires accepted { IsTrue (S.accepted schema.now (R.as_record rec)) }
+    requires laid { IsLaidBy (S.shape_of schema.now) (S.text schema.now) (R.as_record rec) (R.laid_as rec) }
+    requires room { length (S.text schema.now (R.as_record rec)) + 8 ≤ length out.old }
+    ensures { take (length (S.text schema.now (R.as_record rec))) out.new ≡ S.text schema.now (R.as_record rec) }
+{
     if rec.laid_shape().is_some() {
-        pad_before(bytes, from);
-        rec.put_laid(&mut bytes[place..]);
-        return;
-    }
-    if from < place {
-        // a copy for that call, so that a borrowed record needs no place in memory where there is no padding
-        let copied = rec;
-        put_padded(schema, copied, bytes, from, place, end);
+        rec.put_laid(out);
     } else {
-        schema.put_recorded(rec, &mut bytes[place..end]);
+        schema.put_recorded(rec, out);
     }
 }

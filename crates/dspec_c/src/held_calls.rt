@@ -21,11 +21,11 @@ pub fn held_trace(held: &mut Held, epid: u32, stamp: u64, values: &[u64]) -> u32
 }
 
 #[inline(always)]
-pub fn held_put(held: &mut Held, claim: u64, stamp: u64, words: &[u64]) -> u32
+pub fn held_put<N>(held: &mut Held, claim: u64, stamp: u64, words: &[u64]) -> u32
     ensures { PutAnswers claim stamp words.now held.old result held.new }
 {
     match held {
-        Held::Cpu(side) => of_traced(side.put(claim, stamp, words)),
+        Held::Cpu(side) => of_traced(side.put::<N>(claim, stamp, words)),
         _ => bad_handle(),
     }
 }

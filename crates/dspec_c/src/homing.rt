@@ -75,11 +75,13 @@ impl Homing {
 
     /// The record that these words stand for, traced. None: the claim isn't true of the schema, and the record is counted as refused.
     #[inline(always)]
-    pub fn put(&mut self, claim: u64, stamp: u64, words: &[u64]) -> Option<Traced>
+    pub fn put<N>(&mut self, claim: u64, stamp: u64, words: &[u64]) -> Option<Traced>
         ensures same { IsSameSide self.old self.new }
         ensures did { OnSide (is_none result) (Put claim stamp words.now result) self.old self.new }
     {
-        let Some(answer) = recording::put(&mut *self.cpu, &*self.shared, claim, stamp, words) else {
+        let Some(answer) =
+            recording::put::<N>(&mut *self.cpu, &*self.shared, claim, stamp, words)
+        else {
             self.refuse();
             return None;
         };

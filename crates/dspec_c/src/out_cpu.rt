@@ -41,10 +41,10 @@ impl OutCpu {
 
     /// The record that these words stand for, traced. None: the claim isn't true of the schema, and the record is counted as refused.
     #[inline(always)]
-    pub fn put(&mut self, claim: u64, stamp: u64, words: &[u64]) -> Option<Traced>
+    pub fn put<N>(&mut self, claim: u64, stamp: u64, words: &[u64]) -> Option<Traced>
         ensures did { OnSide (is_none result) (Put claim stamp words.now result) self.old self.new }
     {
-        self.homing.put(claim, stamp, words)
+        self.homing.put::<N>(claim, stamp, words)
     }
 
     /// The record that these words stand for, offered to a speculation. None: the claim isn't true of the schema, and the record is

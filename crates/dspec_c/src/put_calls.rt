@@ -19,7 +19,7 @@ pub extern "C" fn dspec_put_1(cpu: &mut Handle, claim: u64, stamp: u64, w0: u64)
     if !cpu.is_held() {
         return bad_handle();
     }
-    held_put(cpu.lend(), claim, stamp, &[w0])
+    held_put::<OneWord>(cpu.lend(), claim, stamp, &[w0])
 }
 
 /// Traces the record of a claim whose text is two words.
@@ -31,7 +31,7 @@ pub extern "C" fn dspec_put_2(cpu: &mut Handle, claim: u64, stamp: u64, w0: u64,
     if !cpu.is_held() {
         return bad_handle();
     }
-    held_put(cpu.lend(), claim, stamp, &[w0, w1])
+    held_put::<TwoWords>(cpu.lend(), claim, stamp, &[w0, w1])
 }
 
 /// Traces the record of a claim whose text is three words.
@@ -50,7 +50,7 @@ pub extern "C" fn dspec_put_3(
     if !cpu.is_held() {
         return bad_handle();
     }
-    held_put(cpu.lend(), claim, stamp, &[w0, w1, w2])
+    held_put::<ThreeWords>(cpu.lend(), claim, stamp, &[w0, w1, w2])
 }
 
 /// Traces the record of a claim whose text is so many words.
@@ -62,7 +62,7 @@ pub extern "C" fn dspec_put(cpu: &mut Handle, claim: u64, stamp: u64, words: &[u
     if !cpu.is_held() {
         return bad_handle();
     }
-    held_put(cpu.lend(), claim, stamp, words)
+    held_put::<AllWords>(cpu.lend(), claim, stamp, words)
 }
 
 /// Offers the record of a claim whose text is one word, to a speculation.

@@ -80,7 +80,7 @@ fn put_in_as<H: KnownHeader>(
 /// Traces the record that these words stand for. None: the claim isn't true of the schema. Each header has code of its own, which asks
 /// for it once.
 #[inline(always)]
-pub fn put(
+pub fn put<N>(
     cpu: &mut Cpu<Enablings>,
     shared: &Shared,
     claim: u64,
@@ -90,9 +90,9 @@ pub fn put(
     requires of { IsCallable shared.now cpu.old }
     ensures { Put claim stamp words.now result cpu.old cpu.new }
 {
-    match put_as::<Unstamped>(cpu, shared, claim, stamp, words) {
+    match put_as::<Worded<N, Unstamped>>(cpu, shared, claim, stamp, words) {
         Some(answer) => Some(answer),
-        None => put_as::<Stamped>(cpu, shared, claim, stamp, words),
+        None => put_as::<Worded<N, Stamped>>(cpu, shared, claim, stamp, words),
     }
 }
 

@@ -1,4 +1,4 @@
-//! How many words an export takes, as a type. What offers a packed record to a speculation is built once for each, so that it has one
+//! How many words an export takes, as a type. What puts a packed record is built once for each, so that it has one
 //! caller, and the compiler puts it there.
 
 use dspec_record::{Header, KnownHeader};

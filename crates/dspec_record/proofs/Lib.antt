@@ -8,7 +8,7 @@ pub mod ReadBack
 pub mod Fronts
 pub mod ReadsBack
 pub mod Gets
-pub mod WideFronts
+pub mod Headers
 pub mod LittleEndian
 pub mod Cutting
 pub mod Masking

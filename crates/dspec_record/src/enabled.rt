@@ -1,6 +1,9 @@
 use crate::codec::{fits_fields, fits_header, put_record, read_epid, read_record};
 use crate::{BorrowedRec, Enablings, Header, ReadKind, Rec, Recorded, Schema, Shape};
 
+/// How many bytes the longest text has that a buffer can reserve, and eight behind it.
+const ROOM: usize = 136;
+
 impl Schema for Enablings {
     ghost use Rattle.dspec_record.specs.Schemas.{enabled, table_shape, table_accepts, table_text};
     ghost use Rattle.dspec_record.specs.Laws.Tables.{enabled-IsLimited, table-shapes_fit, table-texts_fit, table-texts_differ};
@@ -34,7 +37,10 @@ impl Schema for Enablings {
 
     #[inline(always)]
     fn put(&self, rec: &Rec, out: &mut [u8]) {
-        self.put_recorded(rec, out);
+        let mut room = [0; ROOM];
+        self.put_recorded(rec, &mut room);
+        let size = out.len();
+        out.copy_from_slice(&room[..size]);
     }
 
     fn accepts_recorded<R: Recorded>(&self, rec: R) -> bool {

@@ -31,7 +31,6 @@ mod enabling;
 pub mod field;
 pub mod header;
 mod known_header;
-pub mod laid_out;
 pub mod laws;
 mod layout;
 pub mod packed;

@@ -175,13 +175,13 @@ fn put_first(word: u64, out: &mut [u8])
     requires { 8 ≤ length out.old }
     ensures { out.new ≡ little_endian 8 word ++ drop 8 out.old }
 {
-    // an array's bytes are one store, and nothing asks how long the slice is
-    *out.first_chunk_mut::<8>().unwrap() = word.to_le_bytes();
+    // one store, and nothing asks how long the slice is
+    out[..8].copy_from_slice(&word.to_le_bytes());
 }
 
 /// Writes a word of eight bytes at `at`.
 #[inline(always)]
-fn put_word(word: u64, at: usize, out: &mut [u8])
+pub(crate) fn put_word(word: u64, at: usize, out: &mut [u8])
     requires { at + 8 ≤ length out.old }
     ensures { take (at + 8) out.new ≡ take at out.old ++ little_endian 8 word }
 {

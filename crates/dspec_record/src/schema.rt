@@ -1,4 +1,4 @@
-ghost use Rattle.std.specs.Prelude.{◌≡◌, ◌↔◌, ◌&&◌, ℕ, Bool, IsTrue, IfSome, IsSome, List, length, nat_le, Option, Some, None, ◌++◌};
+ghost use Rattle.std.specs.Prelude.{◌≡◌, ◌↔◌, ◌&&◌, ℕ, Bool, IsTrue, IfSome, IsSome, List, length, take, ◌+◌, ◌≤◌, nat_le, Option, Some, None, ◌++◌};
 ghost use Rattle.dspec_record.specs.Borrowed.{borrowed_record};
 ghost use Rattle.dspec_record.specs.Record.{Record};
 ghost use Rattle.dspec_record.specs.Reading.{IsShape, IsTextOf, Answers};
@@ -39,13 +39,16 @@ pub trait Schema: Copy {
         self.accepts(&rec.to_rec())
     }
 
-    /// As `put`, of what can be traced as a record. A schema that says nothing of it has the record copied.
+    /// As `put`, of what can be traced as a record, over the first bytes of a slice that has eight more, which may change. A schema
+    /// that says nothing of it has the record copied.
     fn put_recorded<R: Recorded>(&self, rec: R, out: &mut [u8])
         requires accepted { IsTrue (accepted self.now (R.as_record rec)) }
-        requires exact { length out.old ≡ length (text self.now (R.as_record rec)) }
-        ensures { out.new ≡ text self.now (R.as_record rec) }
+        requires room { length (text self.now (R.as_record rec)) + 8 ≤ length out.old }
+        ensures { take (length (text self.now (R.as_record rec))) out.new ≡ text self.now (R.as_record rec) }
     {
-        self.put(&rec.to_rec(), out);
+        let copied = rec.to_rec();
+        let size = self.shape_recorded(&copied).size as usize;
+        self.put(&copied, &mut out[..size]);
     }
 
     /// The shape of an accepted record.

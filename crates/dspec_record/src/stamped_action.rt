@@ -1,8 +1,11 @@
-use crate::codec::{BySlices, fits_header, put_header, read_epid, read_record};
+use crate::codec::{fits_header, put_header, read_epid, read_record};
 use crate::{Header, ReadKind, Rec, Recorded, Schema, Shape};
 
 /// How many bytes a record has: its EPID and its stamp.
 const SIZE: usize = 12;
+
+/// How many bytes its stores need, which have eight each.
+const ROOM: usize = 16;
 
 /// The default action with a stamp on each record: every EPID but zero, without fields, in 12 bytes.
 #[derive(Debug, Clone, Copy, PartialEq, Eq)]
@@ -41,8 +44,9 @@ impl Schema for StampedAction {
 
     #[inline(always)]
     fn put(&self, rec: &Rec, out: &mut [u8]) {
-        // no field is written, whatever the compiler knows of the values
-        put_header::<_, BySlices>(Header::Two, rec, true, out);
+        let mut room = [0; ROOM];
+        put_header(Header::Two, rec, &mut room);
+        out.copy_from_slice(&room[..SIZE]);
     }
 
     #[inline(always)]

@@ -6,15 +6,21 @@ use dspec_record::{
 use dspec_samples::four_enablings;
 use std::test::Fail;
 
+/// How many bytes the longest text has that a buffer can reserve.
+const LONGEST: usize = 128;
+
 /// Writes the record into a slice that fits it; whether it did.
 pub fn put_whole<S: Schema, R: Recorded>(schema: &S, rec: R, out: &mut [u8]) -> bool {
     if !schema.accepts_recorded(rec) {
         return false;
     }
-    if schema.shape_recorded(rec).size as usize != out.len() {
+    let size = schema.shape_recorded(rec).size as usize;
+    if size != out.len() || size > LONGEST {
         return false;
     }
-    schema.put_recorded(rec, out);
+    let mut room = [0xFF; LONGEST + 8];
+    schema.put_recorded(rec, &mut room);
+    out.copy_from_slice(&room[..size]);
     true
 }
 

@@ -29,8 +29,8 @@ slice_bounds-text-end g c =
     let fit = g.met.S.Schema.shapes_fit s r.epid c.unwrap-shape.result named in
     sym (length-take-le c.unwrap-shape.result.size _ fit.bounded)
 
-pub put_recorded-requires-clause-exact : goal.put_recorded-requires-clause-exact
-put_recorded-requires-clause-exact g c =
+pub put-requires-clause-exact : goal.put-requires-clause-exact
+put-requires-clause-exact g c =
     let s = c.args.schema.now in
     let r = g.R.Recorded.as_record c.args.rec in
     let named : g.S.Schema.shape_of s r.epid ≡ Some c.unwrap-shape.result = ap (g.S.Schema.shape_of s) (sym c.epid.ensures) ∙ sym c.shape.ensures ∙ c.unwrap-shape.ensures in
@@ -43,7 +43,10 @@ put_recorded-requires-clause-exact g c =
     } in
     let says = shape_says (g.S.Schema.shape_of s) r c.unwrap-shape.result named in
     let t = text_facts (g.S.Schema.shape_of s) (g.S.Schema.accepted s) (g.S.Schema.text s) laws r c.requires.accepted in
-    length-take-le c.unwrap-shape.result.size _ fit.bounded ∙ sym (t.size ∙ says.0)
+    length-take-le c.unwrap-shape.result.size _ fit.bounded ∙ sym (ap (λ q. length (g.S.Schema.text s q)) c.to_rec.ensures ∙ t.size ∙ says.0)
+
+pub put-requires-clause-accepted : goal.put-requires-clause-accepted
+put-requires-clause-accepted g c = ap (g.S.Schema.accepted c.args.schema.now) c.to_rec.ensures ∙ c.requires.accepted
 
 pub unwrap-requires : goal.unwrap-requires
 unwrap-requires g c =
@@ -59,7 +62,7 @@ unwrap-requires g c =
     } in
     let says = shape_says (g.S.Schema.shape_of s) r c.unwrap-shape.result named in
     let t = text_facts (g.S.Schema.shape_of s) (g.S.Schema.accepted s) (g.S.Schema.text s) laws r c.requires.accepted in
-    let written : length c.put_recorded.new.out ≡ c.unwrap-shape.result.size = ap length c.put_recorded.ensures ∙ t.size ∙ says.0 in
+    let written : length c.put.new.out ≡ c.unwrap-shape.result.size = ap length (c.put.ensures ∙ ap (g.S.Schema.text s) c.to_rec.ensures) ∙ t.size ∙ says.0 in
     let with_epid = fit.with_epid in
     let p = placed c.self.inside.offset c.unwrap-shape.result.align c.unwrap-shape.result.size c.in-Some.place c.self.invariant.words fit.aligned fit.whole_words
     (λ z. omega arith) c.in-Some.ensures.0 in
@@ -83,7 +86,7 @@ invariant_of-self g c =
     } in
     let says = shape_says (g.S.Schema.shape_of s) r c.unwrap-shape.result named in
     let t = text_facts (g.S.Schema.shape_of s) (g.S.Schema.accepted s) (g.S.Schema.text s) laws r c.requires.accepted in
-    let written : length c.put_recorded.new.out ≡ c.unwrap-shape.result.size = ap length c.put_recorded.ensures ∙ t.size ∙ says.0 in
+    let written : length c.put.new.out ≡ c.unwrap-shape.result.size = ap length (c.put.ensures ∙ ap (g.S.Schema.text s) c.to_rec.ensures) ∙ t.size ∙ says.0 in
     let with_epid = fit.with_epid in
     let p = placed c.self.inside.offset c.unwrap-shape.result.align c.unwrap-shape.result.size c.in-Some.place c.self.invariant.words fit.aligned fit.whole_words
     (λ z. omega arith) c.in-Some.ensures.0 in
@@ -137,8 +140,8 @@ returns-clause-kept g c = λ ps h.
     let count = ap (λ b. b.count) c.self.view_is in
     listed (g.S.Schema.shape_of s) (g.S.Schema.accepted s) (g.S.Schema.text s) c.args.self.now _ (one r) ps h (record {
       all_accepted = one_accepted (g.S.Schema.shape_of s) (g.S.Schema.accepted s) (g.S.Schema.text s) r c.requires.accepted;
-      texts_are = items ∙ ap (λ b. b.texts ++ c.put_recorded.new.out) c.self.view_is ∙ ap (λ z. c.args.self.now.texts ++ z)
-          (c.put_recorded.ensures ∙ sym (one_text (g.S.Schema.shape_of s) (g.S.Schema.accepted s) (g.S.Schema.text s) r));
+      texts_are = items ∙ ap (λ b. b.texts ++ c.put.new.out) c.self.view_is ∙ ap (λ z. c.args.self.now.texts ++ z)
+          (c.put.ensures ∙ ap (g.S.Schema.text s) c.to_rec.ensures ∙ sym (one_text (g.S.Schema.shape_of s) (g.S.Schema.accepted s) (g.S.Schema.text s) r));
       count_is = omega arith;
       offset_is = p.end_is ∙ ap (λ z. reserved z c.unwrap-shape.result.align c.unwrap-shape.result.size) at
           ∙ ap (λ z. reserved (extent (g.S.Schema.shape_of s) ps) z c.unwrap-shape.result.size) (sym says.1)

@@ -1,0 +1,17 @@
+-- The value is written over what is clear, and leaves what is behind it clear.
+use Rattle.std.proofs.Common.{◌≡◌, ◌+◌, ◌++◌, ℕ, List, take, sym, subst, ap, ◌∙◌}
+use Rattle.dspec_record.specs.Layout.{width}
+use Rattle.dspec_record.specs.Writing.{IsClearBehind}
+use Rattle.dspec_record.proofs.Clearing.{written-put, written-clear}
+use Rattle.dspec_record.proofs.codec.put_field.Goals as goal
+
+pub returns-clause-put : goal.returns-clause-put
+returns-clause-put c =
+    ap (λ n. take (c.args.place + n) c.put_word.new.out) c.width.ensures
+    ∙ written-put c.args.field c.args.value c.args._end c.args.place c.args.out.now c.put_word.new.out c.put_word.ensures c.requires.place c.requires.room c.requires.clear
+
+pub returns-clause-clear : goal.returns-clause-clear
+returns-clause-clear c =
+    let Behind : ℕ → Type 0 = λ n. IsClearBehind (c.args.place + n) c.put_word.new.out in
+    subst Behind (sym c.width.ensures)
+    (written-clear c.args.field c.args.value c.args._end c.args.place c.args.out.now c.put_word.new.out c.put_word.ensures c.requires.holds c.requires.place c.requires.room)
