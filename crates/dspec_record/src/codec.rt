@@ -13,77 +13,38 @@ const EPID_SIZE: usize = 4;
 /// How many numbers a word of four bytes holds.
 const WORD: u64 = 1 << 32;
 
-/// How a value is stored; the bytes are the same.
-pub(crate) trait Store {
-    /// Writes the value's lowest 8, 4, 2 bytes or 1, the most that there is room for: stores of fixed sizes, the zeros
-    /// of a gap behind a short value among them. Whether there is room for all eight the caller tells.
-    fn write_wide(value: u64, wide: bool, out: &mut [u8])
-        requires wide { wide ≡ nat_le 8 (length out.old) }
-        requires some { 1 ≤ length out.old }
-        ensures { IsWrittenWide value out.old out.new };
-
-    /// As `write_wide`, where there is room for four.
-    fn write_word(value: u64, wide: bool, out: &mut [u8])
-        requires wide { wide ≡ nat_le 8 (length out.old) }
-        requires some { 4 ≤ length out.old }
-        ensures { IsWrittenWide value out.old out.new };
-}
-
-/// By slices: the fewest instructions where the fields are looked up when the program runs.
-pub(crate) struct BySlices;
-
-impl Store for BySlices {
-    #[inline(always)]
-    fn write_wide(value: u64, wide: bool, out: &mut [u8]) {
-        let bytes = value.to_le_bytes();
-        if wide {
-            out[..8].copy_from_slice(&bytes);
-        } else if out.len() >= 4 {
-            out[..4].copy_from_slice(&bytes[..4]);
-        } else if out.len() >= 2 {
-            out[..2].copy_from_slice(&bytes[..2]);
-        } else {
-            out[0] = bytes[0];
-        }
-    }
-
-    #[inline(always)]
-    fn write_word(value: u64, wide: bool, out: &mut [u8]) {
-        let bytes = value.to_le_bytes();
-        if wide {
-            out[..8].copy_from_slice(&bytes);
-        } else {
-            out[..4].copy_from_slice(&bytes[..4]);
-        }
+/// Writes the value's lowest 8, 4, 2 bytes or 1, the most that there is room for: stores of fixed sizes, the zeros of a gap behind a
+/// short value among them. Whether there is room for all eight the caller tells.
+#[inline(always)]
+fn write_wide(value: u64, wide: bool, out: &mut [u8])
+    requires wide { wide ≡ nat_le 8 (length out.old) }
+    requires some { 1 ≤ length out.old }
+    ensures { IsWrittenWide value out.old out.new }
+{
+    let bytes = value.to_le_bytes();
+    if wide {
+        out[..8].copy_from_slice(&bytes);
+    } else if out.len() >= 4 {
+        out[..4].copy_from_slice(&bytes[..4]);
+    } else if out.len() >= 2 {
+        out[..2].copy_from_slice(&bytes[..2]);
+    } else {
+        out[0] = bytes[0];
     }
 }
 
-/// By arrays: no code is left that asks how long a slice is, where the fields are known when the program is compiled.
-pub(crate) struct ByArrays;
-
-impl Store for ByArrays {
-    #[inline(always)]
-    fn write_wide(value: u64, wide: bool, out: &mut [u8]) {
-        let bytes = value.to_le_bytes();
-        if wide {
-            *out.first_chunk_mut::<8>().unwrap() = bytes;
-        } else if out.len() >= 4 {
-            *out.first_chunk_mut::<4>().unwrap() = [bytes[0], bytes[1], bytes[2], bytes[3]];
-        } else if out.len() >= 2 {
-            *out.first_chunk_mut::<2>().unwrap() = [bytes[0], bytes[1]];
-        } else {
-            out[0] = bytes[0];
-        }
-    }
-
-    #[inline(always)]
-    fn write_word(value: u64, wide: bool, out: &mut [u8]) {
-        let bytes = value.to_le_bytes();
-        if wide {
-            *out.first_chunk_mut::<8>().unwrap() = bytes;
-        } else {
-            *out.first_chunk_mut::<4>().unwrap() = [bytes[0], bytes[1], bytes[2], bytes[3]];
-        }
+/// As `write_wide`, where there is room for four.
+#[inline(always)]
+fn write_word(value: u64, wide: bool, out: &mut [u8])
+    requires wide { wide ≡ nat_le 8 (length out.old) }
+    requires some { 4 ≤ length out.old }
+    ensures { IsWrittenWide value out.old out.new }
+{
+    let bytes = value.to_le_bytes();
+    if wide {
+        out[..8].copy_from_slice(&bytes);
+    } else {
+        out[..4].copy_from_slice(&bytes[..4]);
     }
 }
 
@@ -158,12 +119,12 @@ fn put_values<R: Recorded>(
     ensures { out.new ≡ record_text header fields.now (R.as_record rec) }
 {
     let wide = has_wide_front(header, values);
-    let mut end = put_header::<R, BySlices>(header, rec, wide, out);
+    let mut end = put_header(header, rec, wide, out);
     let moved = header.stamp_size();
     // each place is known: no running code is left of the ends
     for (i, value) in values.iter().enumerate() {
         let place = places[i] as usize + moved;
-        end = put_field::<BySlices>(fields[i], *value, end, place, out);
+        end = put_field(fields[i], *value, end, place, out);
     }
 }
 
@@ -180,12 +141,7 @@ fn has_wide_front(header: Header, values: &[u64]) -> bool
 
 /// Writes what stands before the fields; answers where they begin. Whether there is room for eight bytes the caller tells.
 #[inline(always)]
-pub(crate) fn put_header<R: Recorded, W: Store>(
-    header: Header,
-    rec: R,
-    wide: bool,
-    out: &mut [u8],
-) -> usize
+pub(crate) fn put_header<R: Recorded>(header: Header, rec: R, wide: bool, out: &mut [u8]) -> usize
     requires wide { wide ≡ nat_le 8 (length out.old) }
     requires whole_words { length out.old % 4 ≡ 0 }
     requires room { fields_start header ≤ length out.old }
@@ -193,14 +149,14 @@ pub(crate) fn put_header<R: Recorded, W: Store>(
     ensures put { take (fields_start header) out.new ≡ header_text header (R.as_record rec) }
     ensures clear { IsClearBehind (fields_start header) out.new }
 {
-    let end = put_word::<W>(u64::from(rec.epid()), 0, wide, out);
+    let end = put_word(u64::from(rec.epid()), 0, wide, out);
     match header {
         Header::One => end,
         Header::Two => {
             let wide = end + 8 <= out.len();
-            let low = put_word::<W>(rec.stamp() % WORD, end, wide, out);
+            let low = put_word(rec.stamp() % WORD, end, wide, out);
             let wide = low + 8 <= out.len();
-            put_word::<W>(rec.stamp() / WORD, low, wide, out)
+            put_word(rec.stamp() / WORD, low, wide, out)
         }
     }
 }
@@ -208,7 +164,7 @@ pub(crate) fn put_header<R: Recorded, W: Store>(
 /// Writes a value of four bytes at `end`, where a word begins; answers where it ends. What is behind it is zero, up to the next
 /// multiple of eight. Whether there is room for eight bytes the caller tells.
 #[inline(always)]
-fn put_word<W: Store>(value: u64, end: usize, wide: bool, out: &mut [u8]) -> usize
+fn put_word(value: u64, end: usize, wide: bool, out: &mut [u8]) -> usize
     requires wide { wide ≡ nat_le (end + 8) (length out.old) }
     requires holds { value < 256 ^ 4 }
     requires whole_words { length out.old % 4 ≡ 0 }
@@ -219,20 +175,14 @@ fn put_word<W: Store>(value: u64, end: usize, wide: bool, out: &mut [u8]) -> usi
     ensures put { take result out.new ≡ take end out.old ++ (gap end 4 ++ little_endian 4 value) }
     ensures clear { IsClearBehind result out.new }
 {
-    W::write_word(value, wide, &mut out[end..]);
+    write_word(value, wide, &mut out[end..]);
     end + 4
 }
 
 /// Writes a value at the field's place behind `end`; answers where the field ends. What is between is zero already,
 /// and so is what is behind the field, up to the next multiple of eight: no gap is longer.
 #[inline(always)]
-pub(crate) fn put_field<W: Store>(
-    field: Field,
-    value: u64,
-    end: usize,
-    place: usize,
-    out: &mut [u8],
-) -> usize
+fn put_field(field: Field, value: u64, end: usize, place: usize, out: &mut [u8]) -> usize
     requires holds { value < 256 ^ width field }
     requires whole_words { length out.old % 4 ≡ 0 }
     requires place { place ≡ rounded_up end (width field) }
@@ -244,12 +194,12 @@ pub(crate) fn put_field<W: Store>(
     ensures clear { IsClearBehind result out.new }
 {
     let wide = place + 8 <= out.len();
-    put_in_room::<W>(field, value, end, place, wide, out)
+    put_in_room(field, value, end, place, wide, out)
 }
 
 /// As `put_field`, where the caller tells whether there is room for eight bytes.
 #[inline(always)]
-fn put_in_room<W: Store>(
+fn put_in_room(
     field: Field,
     value: u64,
     _end: usize,
@@ -268,7 +218,7 @@ fn put_in_room<W: Store>(
         ≡ take _end out.old ++ (gap _end (width field) ++ little_endian (width field) value) }
     ensures clear { IsClearBehind result out.new }
 {
-    W::write_wide(value, wide, &mut out[place..]);
+    write_wide(value, wide, &mut out[place..]);
     place + field.width()
 }
 

@@ -1,4 +1,4 @@
-use crate::codec::{BySlices, fits_header, put_header, read_epid, read_record};
+use crate::codec::{fits_header, put_header, read_epid, read_record};
 use crate::{Header, ReadKind, Rec, Recorded, Schema, Shape};
 
 /// How many bytes a record has: its EPID and its stamp.
@@ -42,7 +42,7 @@ impl Schema for StampedAction {
     #[inline(always)]
     fn put(&self, rec: &Rec, out: &mut [u8]) {
         // no field is written, whatever the compiler knows of the values
-        put_header::<_, BySlices>(Header::Two, rec, true, out);
+        put_header(Header::Two, rec, true, out);
     }
 
     #[inline(always)]

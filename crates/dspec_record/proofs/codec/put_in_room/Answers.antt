@@ -7,7 +7,7 @@ use Rattle.dspec_record.proofs.Clearing.{written-put, written-clear, post-none}
 use Rattle.dspec_record.proofs.codec.put_in_room.Goals as goal
 
 pub returns-clause-put : goal.returns-clause-put
-returns-clause-put g c =
+returns-clause-put c =
     let place : ℕ = c.args.place in
     let end : ℕ = c.args._end in
     let out : List ℕ = c.args.out.now in
@@ -20,7 +20,7 @@ returns-clause-put g c =
     ∙ written-put c.args.field c.args.value end place out c.write_wide.new.out wide c.requires.holds c.requires.place room c.requires.clear
 
 pub returns-clause-clear : goal.returns-clause-clear
-returns-clause-clear g c =
+returns-clause-clear c =
     let place : ℕ = c.args.place in
     let end : ℕ = c.args._end in
     let out : List ℕ = c.args.out.now in

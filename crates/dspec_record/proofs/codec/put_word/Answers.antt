@@ -7,7 +7,7 @@ use Rattle.dspec_record.proofs.Clearing.{written-put, written-clear, post-none}
 use Rattle.dspec_record.proofs.codec.put_word.Goals as goal
 
 pub returns-clause-put : goal.returns-clause-put
-returns-clause-put g c =
+returns-clause-put c =
     let end : ℕ = c.args.end in
     let out : List ℕ = c.args.out.now in
     let rest : take (length out - end) (drop end out) ≡ drop end out = take_rest out end in
@@ -17,7 +17,7 @@ returns-clause-put g c =
     ∙ written-put Four c.args.value end end out c.write_word.new.out wide c.requires.holds c.requires.place c.requires.room c.requires.clear
 
 pub returns-clause-clear : goal.returns-clause-clear
-returns-clause-clear g c =
+returns-clause-clear c =
     let end : ℕ = c.args.end in
     let out : List ℕ = c.args.out.now in
     let new : List ℕ = c.write_word.new.out in

@@ -1,7 +1,7 @@
--- Eight bytes, or four where there is no room for eight.
+-- Each branch writes the most bytes that there is room for.
 use Rattle.std.proofs.Common.{◌++◌, ◌∙◌, length, sym, ap, take, drop, refl, inl, inr, arith}
 use Rattle.std.proofs.lemmas.Bool.{leb-true, leb-false}
-use Rattle.dspec_record.proofs.codec.BySlicesStore.write_word.Goals as goal
+use Rattle.dspec_record.proofs.codec.write_wide.Goals as goal
 
 pub returns-then-wide : goal.returns-then-wide
 returns-then-wide c =
@@ -12,11 +12,18 @@ returns-then-wide c =
       bytes = ap (λ b. b ++ drop 8 c.args.out.now) (c.copy_from_slice.ensures.after ∙ c.to_le_bytes-bytes.ensures);
     }
 
-pub returns-else-wide : goal.returns-else-wide
-returns-else-wide c =
+pub returns-then-out-ge4 : goal.returns-then-out-ge4
+returns-then-out-ge4 c =
     let short = leb-false 8 (length c.args.out.now) (sym c.requires.wide ∙ c.if-wide.false) in
     record {
       count = 4;
       wide = inr (inl (refl, omega arith, omega arith));
-      bytes = ap (λ b. b ++ drop 4 c.args.out.now) (c.copy_from_slice-else-wide.ensures.after ∙ ap (take 4) c.to_le_bytes-bytes.ensures);
+      bytes = ap (λ b. b ++ drop 4 c.args.out.now) (c.copy_from_slice-then-out-ge4.ensures.after ∙ ap (take 4) c.to_le_bytes-bytes.ensures);
     }
+
+pub returns-then-out-ge2 : goal.returns-then-out-ge2
+returns-then-out-ge2 c = record {
+  count = 2;
+  wide = inr (inr (inl (refl, omega arith, omega arith)));
+  bytes = ap (λ b. b ++ drop 2 c.args.out.now) (c.copy_from_slice-then-out-ge2.ensures.after ∙ ap (take 2) c.to_le_bytes-bytes.ensures);
+}

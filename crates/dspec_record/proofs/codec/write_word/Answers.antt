@@ -1,7 +1,7 @@
 -- Eight bytes, or four where there is no room for eight.
-use Rattle.std.proofs.Common.{◌++◌, ◌∙◌, ◌∷◌, length, sym, ap, drop, slice_index_or, refl, inl, inr, arith}
+use Rattle.std.proofs.Common.{◌++◌, ◌∙◌, length, sym, ap, take, drop, refl, inl, inr, arith}
 use Rattle.std.proofs.lemmas.Bool.{leb-true, leb-false}
-use Rattle.dspec_record.proofs.codec.ByArraysStore.write_word.Goals as goal
+use Rattle.dspec_record.proofs.codec.write_word.Goals as goal
 
 pub returns-then-wide : goal.returns-then-wide
 returns-then-wide c =
@@ -9,7 +9,7 @@ returns-then-wide c =
     record {
       count = 8;
       wide = inl (refl, long);
-      bytes = ap (λ b. b ++ drop 8 c.args.out.now) c.to_le_bytes-bytes.ensures;
+      bytes = ap (λ b. b ++ drop 8 c.args.out.now) (c.copy_from_slice.ensures.after ∙ c.to_le_bytes-bytes.ensures);
     }
 
 pub returns-else-wide : goal.returns-else-wide
@@ -18,5 +18,5 @@ returns-else-wide c =
     record {
       count = 4;
       wide = inr (inl (refl, omega arith, omega arith));
-      bytes = ap (λ b. slice_index_or b 0 0 ∷ slice_index_or b 1 0 ∷ slice_index_or b 2 0 ∷ slice_index_or b 3 0 ∷ drop 4 c.args.out.now) c.to_le_bytes-bytes.ensures;
+      bytes = ap (λ b. b ++ drop 4 c.args.out.now) (c.copy_from_slice-else-wide.ensures.after ∙ ap (take 4) c.to_le_bytes-bytes.ensures);
     }
