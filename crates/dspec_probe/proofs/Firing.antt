@@ -1,22 +1,24 @@
 -- A record of a probe, written by the probe's own fields.
-use Rattle.std.proofs.Common.{◌≡◌, ◌≤◌, ◌∙◌, ℕ, List, IsTrue, option_map, length, take, refl, sym, ap, subst, arith}
+use Rattle.std.proofs.Common.{◌≡◌, ◌≤◌, ◌<◌, ◌+◌, ◌*◌, ◌/◌, ◌%◌, ◌^◌, ◌∙◌, ℕ, List, IsTrue, option_map, length, take, get_or, replicate, refl, sym, ap, subst, arith}
+use Rattle.std.proofs.Math.Nat.{pow-le-pow_right}
 use Rattle.std.proofs.lemmas.List.{length-take-le}
 use Rattle.dspec_record.specs.EnablingRows.{EnabledRows}
 use Rattle.dspec_record.specs.LaidOut.{IsSaid}
-use Rattle.dspec_record.specs.Layout.{fields_start, layout, rounded_up}
-use Rattle.dspec_record.specs.Reading.{IsShape}
+use Rattle.dspec_record.specs.Layout.{fields_start, fields_end, layout, rounded_up}
+use Rattle.dspec_record.specs.Packing.{number_of_words, value_number, packed_record, ArePacked, IsClean}
 use Rattle.dspec_record.specs.Record.{Record}
 use Rattle.dspec_record.specs.RecordText.{record_text, fits}
 use Rattle.dspec_record.specs.Schemas.{enabled, table_shape, table_text}
-use Rattle.dspec_record.specs.Writing.{IsClearBehind}
-use Rattle.dspec_record.specs.Laws.Layouts.{layout-IsShape}
+use Rattle.dspec_record.specs.Laws.Layouts.{fields_end-ge}
 use Rattle.dspec_record.specs.Laws.Texts.{length-record_text}
 use Rattle.dspec_record.specs.declared.field.Field.{Field}
-use Rattle.dspec_record.specs.declared.field.Shape.{Shape}
 use Rattle.dspec_record.specs.declared.header.Header.{Header}
+use Rattle.dspec_record.specs.declared.header.Header.TheVariants as header
+use Rattle.dspec_record.proofs.Cutting.{packed}
 use Rattle.dspec_record.proofs.Gets.{enabled-row, table_text-is}
+use Rattle.dspec_record.proofs.Masking.{pow256, ends-within, value_number-packed, value_number-below, record-of_number, clean-of_number, taken-number}
+use Rattle.dspec_record.proofs.PackedRecords.{first-zeros, room-of}
 use Rattle.dspec_probe.specs.Probes.{HasProbe}
-use Rattle.dspec_probe.specs.Putting.{IsRoomFor}
 
 -- each schema that has the probe lays the record out as the probe does
 pub said_of_probe : (h : Header) (fs : List Field) (r : Record) (schema : EnabledRows) → length fs ≤ 8 → HasProbe h r.epid fs schema
@@ -28,23 +30,54 @@ said_of_probe h fs r schema few has =
       same_text = table_text-is schema.header (enabled schema.rows) fs r row ∙ ap (λ d. record_text d fs r) has.header;
     }
 
--- the shape is as long as the text
-pub size_of_fields : (h k : Header) (fs gs : List Field) (shape : Shape) (r : Record) → k ≡ h → gs ≡ fs → shape ≡ layout k gs → IsTrue (fits fs r.values)
-    → shape.size ≡ length (record_text h fs r)
-size_of_fields h k fs gs shape r header fields is fit =
-    ap (λ s. s.size) (is ∙ ap (λ d. layout d gs) header ∙ ap (layout h) fields) ∙ sym (length-record_text h fs r fit)
+-- the last field ends within nine words
+pub end-near : (fs : List Field) (end : ℕ) → length fs ≤ 8 → end ≡ fields_end 4 fs → end ≤ 72
+end-near fs end few is = omega (arith, is, ends-within fs few)
 
--- so it is within a slice that has room for the words of the text
-pub size_within : (size : ℕ) (text out : List ℕ) → size ≡ length text → rounded_up (length text) 8 ≤ length out → size ≤ length out
-size_within size text out is room = omega arith
+-- the words that hold a probe's values: as many as the last field needs
+pub record AreWords (fs : List Field) (vs : List ℕ) (n : ℕ) (ws : List ℕ) : Type 0 where
+  pub some : 0 < n
+  pub few : n ≤ 9
+  pub long : length (take n ws) ≡ n
+  pub whole : rounded_up (layout header.One fs).size 8 ≡ 8 * n
+  pub room : (layout header.One fs).size ≤ 8 * length (take n ws)
+  pub clean : IsClean fs (take n ws)
+  pub zeros : get_or (take n ws) 0 0 % 2 ^ 32 ≡ 0
+  pub record_is : (epid stamp : ℕ) → packed_record epid stamp fs (take n ws) ≡ record { epid = epid; stamp = stamp; values = vs }
 
-pub length-part : (n : ℕ) (out : List ℕ) → n ≤ length out → length (take n out) ≡ n
-length-part n out within = length-take-le n out within
+pub words-of_values : (fs : List Field) (vs us ws : List ℕ) (end : ℕ) → length fs ≤ 8 → vs ≡ us → IsTrue (fits fs vs) → length ws ≡ 9 → ArePacked 4 fs us (replicate 9 0) end ws
+    → AreWords fs vs ((end + 7) / 8) ws
+words-of_values fs vs us ws end few tied fit nine packed_in =
+    let n : ℕ = (end + 7) / 8 in
+    let last : ℕ = fields_end 4 fs in
+    let at : end ≡ last = packed_in.end_is in
+    let past : 4 ≤ last = fields_end-ge 4 fs in
+    let short : n ≤ 9 = omega (arith, end-near fs end few at) in
+    let long : length (take n ws) ≡ n = length-take-le n ws (omega (arith, short, nine)) in
+    let is : number_of_words ws ≡ value_number 4 fs vs = omega (arith, packed_in.added, ap (value_number 4 fs) tied) in
+    let bits : 8 * (8 * n) ≡ 64 * n = omega arith in
+    let most : 256 ^ last ≤ 2 ^ (64 * n) =
+    subst (λ p. 256 ^ last ≤ p) (pow256 (8 * n) ∙ ap (λ b. 2 ^ b) bits) (pow-le-pow_right {n = 256} (omega arith) {i = last} {j = 8 * n} (omega (arith, at))) in
+    let number : number_of_words (take n ws) ≡ packed 4 fs vs * 256 ^ 4 =
+    taken-number n ws (omega (arith, is, value_number-below fs vs fit, most)) ∙ is ∙ value_number-packed 4 fs vs in
+    let room : (layout header.One fs).size ≤ 8 * length (take n ws) = omega (arith, at, long) in
+    let clean : IsClean fs (take n ws) = clean-of_number fs vs (take n ws) fit room number in
+    record {
+      some = omega (arith, at, past);
+      few = short;
+      long = long;
+      whole = omega (arith, at);
+      room = room;
+      clean = clean;
+      zeros = first-zeros fs (take n ws) (omega (arith, long, at, past)) clean;
+      record_is = λ epid stamp. record-of_number epid stamp fs vs (take n ws) fit number;
+    }
 
--- behind the front there is room for just the fields
-pub room_behind : (h : Header) (fs : List Field) (start : ℕ) (bytes : List ℕ) → length fs ≤ 8 → start ≡ fields_start h → length bytes ≡ (layout h fs).size
-    → IsClearBehind (fields_start h) bytes → IsRoomFor start fs bytes
-room_behind h fs start bytes few at long clear =
-    let shape : IsShape (layout h fs) = layout-IsShape h fs few in
-    let At : ℕ → Type 0 = λ n. IsRoomFor n fs bytes in
-    subst At (sym at) (record { exact = long; short = omega (arith, shape.bounded, long); clear = clear })
+-- there is room for them, and for the stamp's before them
+pub room-for_words : (h k : Header) (fs : List Field) (vs : List ℕ) (n room : ℕ) (ws : List ℕ) (r : Record) → k ≡ h → IsTrue (fits fs r.values) → AreWords fs vs n ws
+    → rounded_up (length (record_text h fs r)) 8 ≤ room → fields_start k + 8 * length (take n ws) ≤ room + 4
+room-for_words h k fs vs n room ws r is fit words enough =
+    let Room : ℕ → Type 0 = λ size. rounded_up size 8 ≤ room in
+    let Start : Header → Type 0 = λ d. fields_start d + 8 * n ≤ room + 4 in
+    let own : fields_start k + 8 * n ≤ room + 4 = subst Start (sym is) (room-of h fs n room words.whole (subst Room (length-record_text h fs r fit) enough)) in
+    omega (arith, own, words.long)

@@ -1,7 +1,6 @@
 pub mod Values
 pub mod Tuples
 pub mod FieldLists
-pub mod Putting
 pub mod Laws
 pub mod Probes
 pub mod Declarations

@@ -1,8 +1,8 @@
 ghost use Rattle.std.specs.Prelude.{◌≡◌, ◌≤◌, ℕ, List, Option, Some, length, IsTrue};
+ghost use Rattle.dspec_record.specs.Packing.{AreFree, ArePacked};
 ghost use Rattle.dspec_record.specs.RecordText.{fits};
 ghost use Rattle.dspec_record.specs.declared.field.Field.{Field};
 ghost use Rattle.dspec_probe.specs.declared.kind.Kind.{Kind};
-ghost use Rattle.dspec_probe.specs.Putting.{IsRoomFor, ArePut};
 
 use crate::{FieldList, Kind};
 use dspec_record::Rec;
@@ -39,10 +39,11 @@ pub trait Fields: Copy {
     fn values(numbers: &[u64]) -> Option<Self>
         ensures { result ≡ values_of numbers.now };
 
-    /// Writes the values from `start` on, each at its place, into a slice that ends where their record ends.
-    fn put(self, start: usize, out: &mut [u8])
-        requires { IsRoomFor start fields_are out.old }
-        ensures { ArePut start fields_are (numbers_of self) out.old out.new };
+    /// Adds the values to words of eight bytes that hold nothing behind the first four bytes, each at its place in a record without a
+    /// stamp; answers where the last one ends.
+    fn pack(self, words: &mut [u64; 9]) -> usize
+        requires { AreFree 4 fields_are words.old }
+        ensures { ArePacked 4 fields_are (numbers_of self) words.old result words.new };
 
     /// They are eight at the most.
     ghost few: { length fields_are ≤ 8 };

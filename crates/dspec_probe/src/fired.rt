@@ -2,7 +2,7 @@ ghost use Rattle.std.specs.Prelude.{◌≡◌, IsTrue};
 ghost use Rattle.dspec_record.specs.RecordText.{fits};
 
 use crate::Fields;
-use dspec_record::laid_out::{laid_shape, put_front};
+use dspec_record::laid_out::{laid_shape, put_packed};
 use dspec_record::{KnownHeader, Rec, Recorded, Shape};
 use std::alloc::AllocError;
 use std::marker::PhantomData;
@@ -88,12 +88,16 @@ impl<'a, F: Fields, H: KnownHeader> Recorded for Fired<'a, F, H> {
     // too large by it become calls themselves
     #[inline]
     fn put_laid(&self, out: &mut [u8]) -> bool {
-        let header = H::header();
-        // told by the fields, so that no running code asks how long the slice is
-        let size = laid_shape(header, F::fields().as_slice()).size as usize;
-        let text = &mut out[..size];
-        let start = put_front(header, self.rec, text);
-        self.values.put(start, text);
+        let mut words = [0; 9];
+        let end = self.values.pack(&mut words);
+        let count = (end + 7) / 8;
+        put_packed(
+            H::header(),
+            self.rec.epid(),
+            self.rec.stamp(),
+            &words[..count],
+            out,
+        );
         true
     }
 }

@@ -45,9 +45,9 @@ impl<A: Value> Fields for (A,) {
     }
 
     #[inline(always)]
-    fn put(self, start: usize, out: &mut [u8]) {
+    fn pack(self, words: &mut [u64; 9]) -> usize {
         let (a,) = self;
-        (a, ()).put_row(start, out);
+        (a, ()).pack_row(4, words)
     }
 
     #[inline(always)]
@@ -100,9 +100,9 @@ impl<A: Value, B: Value> Fields for (A, B) {
     }
 
     #[inline(always)]
-    fn put(self, start: usize, out: &mut [u8]) {
+    fn pack(self, words: &mut [u64; 9]) -> usize {
         let (a, b) = self;
-        (a, (b, ())).put_row(start, out);
+        (a, (b, ())).pack_row(4, words)
     }
 
     #[inline(always)]
@@ -155,9 +155,9 @@ impl<A: Value, B: Value, C: Value> Fields for (A, B, C) {
     }
 
     #[inline(always)]
-    fn put(self, start: usize, out: &mut [u8]) {
+    fn pack(self, words: &mut [u64; 9]) -> usize {
         let (a, b, c) = self;
-        (a, (b, (c, ()))).put_row(start, out);
+        (a, (b, (c, ()))).pack_row(4, words)
     }
 
     #[inline(always)]
@@ -215,9 +215,9 @@ impl<A: Value, B: Value, C: Value, D: Value> Fields for (A, B, C, D) {
     }
 
     #[inline(always)]
-    fn put(self, start: usize, out: &mut [u8]) {
+    fn pack(self, words: &mut [u64; 9]) -> usize {
         let (a, b, c, d) = self;
-        (a, (b, (c, (d, ())))).put_row(start, out);
+        (a, (b, (c, (d, ())))).pack_row(4, words)
     }
 
     #[inline(always)]
@@ -275,9 +275,9 @@ impl<A: Value, B: Value, C: Value, D: Value, E: Value> Fields for (A, B, C, D, E
     }
 
     #[inline(always)]
-    fn put(self, start: usize, out: &mut [u8]) {
+    fn pack(self, words: &mut [u64; 9]) -> usize {
         let (a, b, c, d, e) = self;
-        (a, (b, (c, (d, (e, ()))))).put_row(start, out);
+        (a, (b, (c, (d, (e, ()))))).pack_row(4, words)
     }
 
     #[inline(always)]
@@ -355,9 +355,9 @@ impl<A: Value, B: Value, C: Value, D: Value, E: Value, F: Value> Fields for (A, 
     }
 
     #[inline(always)]
-    fn put(self, start: usize, out: &mut [u8]) {
+    fn pack(self, words: &mut [u64; 9]) -> usize {
         let (a, b, c, d, e, f) = self;
-        (a, (b, (c, (d, (e, (f, ())))))).put_row(start, out);
+        (a, (b, (c, (d, (e, (f, ())))))).pack_row(4, words)
     }
 
     #[inline(always)]
@@ -439,9 +439,9 @@ impl<A: Value, B: Value, C: Value, D: Value, E: Value, F: Value, G: Value> Field
     }
 
     #[inline(always)]
-    fn put(self, start: usize, out: &mut [u8]) {
+    fn pack(self, words: &mut [u64; 9]) -> usize {
         let (a, b, c, d, e, f, g) = self;
-        (a, (b, (c, (d, (e, (f, (g, ()))))))).put_row(start, out);
+        (a, (b, (c, (d, (e, (f, (g, ()))))))).pack_row(4, words)
     }
 
     #[inline(always)]
@@ -525,9 +525,9 @@ impl<A: Value, B: Value, C: Value, D: Value, E: Value, F: Value, G: Value, H: Va
     }
 
     #[inline(always)]
-    fn put(self, start: usize, out: &mut [u8]) {
+    fn pack(self, words: &mut [u64; 9]) -> usize {
         let (a, b, c, d, e, f, g, h) = self;
-        (a, (b, (c, (d, (e, (f, (g, (h, ())))))))).put_row(start, out);
+        (a, (b, (c, (d, (e, (f, (g, (h, ())))))))).pack_row(4, words)
     }
 
     #[inline(always)]

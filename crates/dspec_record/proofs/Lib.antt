@@ -12,6 +12,7 @@ pub mod Headers
 pub mod LittleEndian
 pub mod Cutting
 pub mod Masking
+pub mod AddingValues
 pub mod MakingMasks
 pub mod Claiming
 pub mod OneWord

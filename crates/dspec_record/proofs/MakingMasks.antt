@@ -1,15 +1,14 @@
 -- The masks of fields while they are made, field by field.
 use Rattle.std.proofs.Common.{◌≡◌, ◌≤◌, ◌<◌, ◌+◌, ◌*◌, ◌/◌, ◌%◌, ◌^◌, ℕ, zero, suc, List, ◌∷◌, length, get_or, drop, set, replicate, refl, sym, ◌∙◌, ap, subst, arith}
-use Rattle.std.proofs.Math.Nat.{mul_assoc, pow-le-pow_right}
-use Rattle.std.proofs.lemmas.Nat.{pow-add, shr_below, shr-shr, mul-add-lt}
+use Rattle.std.proofs.Math.Nat.{mul_assoc}
+use Rattle.std.proofs.lemmas.Nat.{pow-add, shr-shr}
 use Rattle.std.proofs.lemmas.List.{drop_more, drop_all}
 use Rattle.dspec_record.specs.Layout.{width, limit, rounded_up, after}
 use Rattle.dspec_record.specs.Packing.{mask_number, words_of_number}
-use Rattle.dspec_record.specs.Laws.Layouts.{rounded_up-ge}
-use Rattle.dspec_record.proofs.LittleEndian.{pow_pos256, pow-add256}
-use Rattle.dspec_record.proofs.Masking.{pow256}
+use Rattle.dspec_record.proofs.LittleEndian.{pow_pos256}
+use Rattle.dspec_record.proofs.AddingValues.{next-near, place-near, width-some, sum-in-word, sum-below, at-place}
 use Rattle.dspec_record.specs.declared.field.Field.{Field}
-use Rattle.dspec_record.specs.declared.field.Field.TheVariants.{One, Two, Four, Eight}
+use Rattle.dspec_record.specs.declared.field.Field.TheVariants.{One}
 
 -- a number is added to one word, which holds the sum
 words_of_number-add : (k j n x : ℕ) → j < k → get_or (words_of_number k n) j 0 + x < 2 ^ 64
@@ -39,25 +38,6 @@ word-le (suc k) (suc j) n =
     let left : n / 2 ^ 64 / 2 ^ (64 * j) ≡ n / 2 ^ (64 * suc j) = shr-shr n 64 (64 * j) ∙ ap (λ b. n / 2 ^ b) bits in
     omega (arith, word-le k j (n / 2 ^ 64), left)
 
--- a field stands within one word
-within-word : (f : Field) (end : ℕ) → rounded_up end (width f) % 8 + width f ≤ 8
-within-word One end = omega arith
-within-word Two end = omega arith
-within-word Four end = omega arith
-within-word Eight end = omega arith
-
-next-near : (f : Field) (end : ℕ) → rounded_up (after end (width f) (width f)) 8 ≤ rounded_up end 8 + 8
-next-near One end = omega arith
-next-near Two end = omega arith
-next-near Four end = omega arith
-next-near Eight end = omega arith
-
-place-near : (f : Field) (end : ℕ) → rounded_up end (width f) + width f ≤ rounded_up end 8 + 8
-place-near One end = omega arith
-place-near Two end = omega arith
-place-near Four end = omega arith
-place-near Eight end = omega arith
-
 -- the masks of the first `i` fields, which end at `end`
 pub record AreMasked (i end : ℕ) (masks : List ℕ) (fs : List Field) : Type 0 where
   pub so_far : ℕ
@@ -74,34 +54,13 @@ pub AreMasked-place : (i end place : ℕ) (masks : List ℕ) (fs : List Field) �
 AreMasked-place i end place masks fs within few is at =
     let f : Field = get_or fs i One in
     omega (arith, at, is.near, place-near f end, width-some f)
-  where
-    width-some : (f : Field) → 1 ≤ width f
-    width-some One = omega arith
-    width-some Two = omega arith
-    width-some Four = omega arith
-    width-some Eight = omega arith
 
 -- with this field's mask its word still holds the sum
 sum-fits : (f : Field) (end n place : ℕ) → n < 256 ^ end → place ≡ rounded_up end (width f)
     → get_or (words_of_number 9 n) (place / 8) 0 + limit f * 2 ^ (place % 8 * 8) < 2 ^ 64
 sum-fits f end n place below at =
-    let bits : ℕ = place % 8 * 8 in
-    let high : ℕ = 64 * (place / 8) in
-    let low : end ≤ place = omega (arith, at, rounded_up-ge f end) in
-    let up : 256 ^ end ≤ 256 ^ place = pow-le-pow_right (omega arith) low in
-    let all_bits : 8 * place ≡ bits + high = omega arith in
-    let split : 256 ^ place ≡ 2 ^ (bits + high) = pow256 place ∙ ap (λ b. 2 ^ b) all_bits in
-    let left : n / 2 ^ high < 2 ^ bits = shr_below n bits high (omega (arith, below, up, split)) in
-    let old : get_or (words_of_number 9 n) (place / 8) 0 < 2 ^ bits = omega (arith, word-le 9 (place / 8) n, left) in
     let most : limit f < 256 ^ width f = omega (arith, pow_pos256 (width f)) in
-    let sum : limit f * 2 ^ bits + get_or (words_of_number 9 n) (place / 8) 0 < 2 ^ bits * 256 ^ width f =
-    mul-add-lt (limit f) (2 ^ bits) (get_or (words_of_number 9 n) (place / 8) 0) (256 ^ width f) most old in
-    let wide : 2 ^ bits * 256 ^ width f ≡ 2 ^ (bits + 8 * width f) =
-    ap (λ p. 2 ^ bits * p) (pow256 (width f)) ∙ sym (pow-add 2 bits (8 * width f)) in
-    let inside : place % 8 + width f ≤ 8 = subst (λ p. p % 8 + width f ≤ 8) (sym at) (within-word f end) in
-    let few : bits + 8 * width f ≤ 64 = omega (arith, inside) in
-    let word : 2 ^ (bits + 8 * width f) ≤ 2 ^ 64 = pow-le-pow_right {n = 2} (omega arith) {i = bits + 8 * width f} {j = 64} few in
-    omega (arith, sum, wide, word)
+    sum-in-word f (limit f) end n (get_or (words_of_number 9 n) (place / 8) 0) place most below at (word-le 9 (place / 8) n)
 
 -- so the shift loses no bit of it
 pub AreMasked-shifted : (f : Field) (end place : ℕ) → place ≡ rounded_up end (width f) → limit f * 2 ^ (place % 8 * 8) < 2 ^ 64
@@ -123,30 +82,22 @@ AreMasked-next i end place masks fs within few is at =
     let x : ℕ = limit f * 2 ^ (place % 8 * 8) in
     let j : ℕ = place / 8 in
     let room : j < 9 = AreMasked-place i end place masks fs within few is at in
-    let all_bits : place % 8 * 8 + 64 * j ≡ 8 * place = omega arith in
-    let added : x * 2 ^ (64 * j) ≡ limit f * 256 ^ place =
-    mul_assoc (limit f) (2 ^ (place % 8 * 8)) (2 ^ (64 * j))
-    ∙ ap (λ p. limit f * p) (sym (pow-add 2 (place % 8 * 8) (64 * j)) ∙ ap (λ b. 2 ^ b) all_bits ∙ sym (pow256 place)) in
     let words : set masks j (get_or masks j 0 + x) ≡ words_of_number 9 (n + limit f * 256 ^ place) =
     ap (λ ms. set ms j (get_or ms j 0 + x)) is.masks_are
     ∙ sym (words_of_number-add 9 j n x room (sum-fits f end n place is.below at))
-    ∙ ap (λ y. words_of_number 9 (n + y)) added in
+    ∙ ap (λ y. words_of_number 9 (n + y)) (at-place (limit f) place) in
     let more : mask_number end (drop i fs) ≡ limit f * 256 ^ rounded_up end (width f) + mask_number (after end (width f) (width f)) (drop (i + 1) fs) =
     ap (mask_number end) (drop_more fs i One within) in
     let here : limit f * 256 ^ rounded_up end (width f) ≡ limit f * 256 ^ place = ap (λ p. limit f * 256 ^ p) (sym at) in
     let next : after end (width f) (width f) ≡ place + width f = ap (λ p. p + width f) (sym at) in
     let rest : mask_number (after end (width f) (width f)) (drop (i + 1) fs) ≡ mask_number (place + width f) (drop (i + 1) fs) =
     ap (λ e. mask_number e (drop (i + 1) fs)) next in
-    let low : end ≤ place = omega (arith, at, rounded_up-ge f end) in
-    let up : 256 ^ end ≤ 256 ^ place = pow-le-pow_right (omega arith) low in
     let most : limit f < 256 ^ width f = omega (arith, pow_pos256 (width f)) in
-    let small : limit f * 256 ^ place + n < 256 ^ place * 256 ^ width f =
-    mul-add-lt (limit f) (256 ^ place) n (256 ^ width f) most (omega (arith, up, is.below)) in
     record {
       so_far = n + limit f * 256 ^ place;
       masks_are = words;
       whole = omega (arith, is.whole, more, here, rest);
-      below = omega (arith, small, pow-add256 place (width f) (place + width f) refl);
+      below = sum-below f (limit f) end n place most is.below at;
       near = subst (λ e. rounded_up e 8 ≤ 8 + 8 * (i + 1)) next (omega (arith, is.near, next-near f end));
     }
 

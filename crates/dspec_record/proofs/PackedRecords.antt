@@ -4,7 +4,7 @@ use Rattle.std.proofs.lemmas.List.{length-take-le, length-append, get_or-take, g
 use Rattle.std.proofs.lemmas.Bool.{cases_lt}
 use Rattle.std.specs.Int.RustNames.{bit_and}
 use Rattle.dspec_record.specs.FirstWords.{with_low}
-use Rattle.dspec_record.specs.Layout.{rounded_up, layout}
+use Rattle.dspec_record.specs.Layout.{rounded_up, fields_start, layout}
 use Rattle.dspec_record.specs.Record.{Record}
 use Rattle.dspec_record.specs.RecordText.{little_endian, record_text}
 use Rattle.dspec_record.specs.Packing.{number_of_words, packed_record, words_in, bytes_of_words, masked_words, IsClean}
@@ -86,78 +86,64 @@ pub size-of_text : (h : Header) (epid stamp : ℕ) (fs : List Field) (ws : List 
 size-of_text h epid stamp fs ws = length-record_text h fs (packed_record epid stamp fs ws) (cuts_fit 4 fs (number_of_words ws))
 
 -- what is written where there is no stamp
-pub text-of_words : (epid stamp size n : ℕ) (fs : List Field) (ws out : List ℕ) → 0 < n → length ws ≡ n → n ≡ words_in fs → All (λ w. w < 2 ^ 64) ws → epid < 2 ^ 32 → IsClean fs ws
-    → size ≡ (layout header.One fs).size → take (8 * n) out ≡ bytes_of_words (with_low epid ws)
-    → take size out ≡ record_text header.One fs (packed_record epid stamp fs ws)
-text-of_words epid stamp size n fs [] out some long many small fits clean at put = absurd (omega arith)
-text-of_words epid stamp size n fs (w ∷ rest) out some long many small fits clean at put =
-    let room : size ≤ 8 * n = omega (arith, at, many, size-in-words fs (omega arith)) in
-    begins out (little_endian 8 (w + epid) ++ bytes_of_words rest) (record_text header.One fs (packed_record epid stamp fs (w ∷ rest))) (8 * n) size put room
-    (ap (λ k. take k (little_endian 8 (w + epid) ++ bytes_of_words rest)) at ∙ stored-words epid fs w rest small fits clean)
+text-of_words : (epid stamp : ℕ) (fs : List Field) (ws out : List ℕ) → 0 < length ws → All (λ w. w < 2 ^ 64) ws → epid < 2 ^ 32 → IsClean fs ws
+    → (layout header.One fs).size ≤ 8 * length ws → take (8 * length ws) out ≡ bytes_of_words (with_low epid ws)
+    → take (layout header.One fs).size out ≡ record_text header.One fs (packed_record epid stamp fs ws)
+text-of_words epid stamp fs [] out some small fits clean room put = absurd (omega arith)
+text-of_words epid stamp fs (w ∷ rest) out some small fits clean room put =
+    begins out (little_endian 8 (w + epid) ++ bytes_of_words rest) (record_text header.One fs (packed_record epid stamp fs (w ∷ rest))) (8 * length (w ∷ rest))
+    (layout header.One fs).size put room (stored-words epid fs w rest small fits clean)
 
 -- and where there is one
-pub text-of_stamped : (epid stamp size n first : ℕ) (fs : List Field) (ws out : List ℕ) → 0 < n → length ws ≡ n → n ≡ words_in fs → All (λ w. w < 2 ^ 64) ws → epid < 2 ^ 32 → stamp < 2 ^ 64
-    → IsClean fs ws → size ≡ (layout header.Two fs).size → first ≡ epid + 2 ^ 32 * (stamp % 2 ^ 32)
-    → take (8 + 8 * n) out ≡ little_endian 8 first ++ bytes_of_words (with_low (stamp / 2 ^ 32) ws)
-    → take size out ≡ record_text header.Two fs (packed_record epid stamp fs ws)
-text-of_stamped epid stamp size n first fs [] out some long many small fits stamp_fits clean at is put = absurd (omega arith)
-text-of_stamped epid stamp size n first fs (w ∷ rest) out some long many small fits stamp_fits clean at is put =
+text-of_stamped : (epid stamp : ℕ) (fs : List Field) (ws out : List ℕ) → 0 < length ws → All (λ w. w < 2 ^ 64) ws → epid < 2 ^ 32 → stamp < 2 ^ 64 → IsClean fs ws
+    → (layout header.One fs).size ≤ 8 * length ws
+    → take (8 + 8 * length ws) out ≡ little_endian 8 (epid + 2 ^ 32 * (stamp % 2 ^ 32)) ++ bytes_of_words (with_low (stamp / 2 ^ 32) ws)
+    → take (layout header.Two fs).size out ≡ record_text header.Two fs (packed_record epid stamp fs ws)
+text-of_stamped epid stamp fs [] out some small fits stamp_fits clean room put = absurd (omega arith)
+text-of_stamped epid stamp fs (w ∷ rest) out some small fits stamp_fits clean room put =
     let behind : List ℕ = little_endian 8 (w + stamp / 2 ^ 32) ++ bytes_of_words rest in
-    let room : size ≤ 8 + 8 * n = omega (arith, at, many, size-stamped fs, size-in-words fs (omega arith)) in
-    begins out (little_endian 8 first ++ behind) (record_text header.Two fs (packed_record epid stamp fs (w ∷ rest))) (8 + 8 * n) size put room
-    (ap (λ k. take k (little_endian 8 first ++ behind)) at
-    ∙ ap (λ x. take (layout header.Two fs).size (little_endian 8 x ++ behind)) is
-    ∙ stored-stamped-words epid stamp fs w rest small fits stamp_fits clean)
+    begins out (little_endian 8 (epid + 2 ^ 32 * (stamp % 2 ^ 32)) ++ behind) (record_text header.Two fs (packed_record epid stamp fs (w ∷ rest))) (8 + 8 * length (w ∷ rest))
+    (layout header.Two fs).size put (omega (arith, room, size-stamped fs)) (stored-stamped-words epid stamp fs w rest small fits stamp_fits clean)
 
--- the same of what is written of a packed record, whose words are handed out as a slice
-pub text-put : (epid stamp low n size : ℕ) (fs : List Field) (ws held out : List ℕ) → low ≡ epid → low < 2 ^ 32 → held ≡ ws → length held ≡ n → 0 < n → n ≡ words_in fs
-    → All (λ w. w < 2 ^ 64) held → IsClean fs ws → size ≡ (layout header.One fs).size → take (0 + 8 * length held) out ≡ bytes_of_words (with_low low held)
-    → take size out ≡ record_text header.One fs (packed_record epid stamp fs ws)
-text-put epid stamp low n size fs ws held out is half same many some count small clean at put =
-    let Small : List ℕ → Type 0 = λ us. All (λ w. w < 2 ^ 64) us in
-    let all : 8 * n ≡ 0 + 8 * length held = omega (arith, many) in
-    text-of_words epid stamp size n fs ws out some (ap length (sym same) ∙ many) count (subst Small same small) (omega (arith, is, half)) clean at
-    (ap (λ k. take k out) all ∙ put ∙ ap (λ l. bytes_of_words (with_low l held)) is ∙ ap (λ us. bytes_of_words (with_low epid us)) same)
+-- the same under a header that is one of the two
+pub text-put_one : (h : Header) (epid stamp low : ℕ) (fs : List Field) (ws out : List ℕ) → h ≡ header.One → low ≡ epid → low < 2 ^ 32 → 0 < length ws → All (λ w. w < 2 ^ 64) ws → IsClean fs ws
+    → (layout header.One fs).size ≤ 8 * length ws → take (0 + 8 * length ws) out ≡ bytes_of_words (with_low low ws)
+    → take (layout h fs).size out ≡ record_text h fs (packed_record epid stamp fs ws)
+text-put_one h epid stamp low fs ws out one is half some small clean room put =
+    let Done : Header → Type 0 = λ k. take (layout k fs).size out ≡ record_text k fs (packed_record epid stamp fs ws) in
+    let all : 8 * length ws ≡ 0 + 8 * length ws = omega arith in
+    subst Done (sym one) (
+    text-of_words epid stamp fs ws out some small (omega (arith, is, half)) clean room (
+    ap (λ k. take k out) all ∙ put ∙ ap (λ l. bytes_of_words (with_low l ws)) is))
 
-pub text-put_one : (h : Header) (epid stamp low n : ℕ) (fs : List Field) (ws held out : List ℕ) → header.One ≡ h → low ≡ epid → low < 2 ^ 32 → held ≡ ws → length held ≡ n → 0 < n
-    → n ≡ words_in fs → All (λ w. w < 2 ^ 64) held → IsClean fs ws → take (0 + 8 * length held) out ≡ bytes_of_words (with_low low held)
-    → take (length (record_text h fs (packed_record epid stamp fs ws))) out ≡ record_text h fs (packed_record epid stamp fs ws)
-text-put_one h epid stamp low n fs ws held out one is half same many some count small clean put =
-    let r : Record = packed_record epid stamp fs ws in
-    let Done : Header → Type 0 = λ k. take (length (record_text k fs r)) out ≡ record_text k fs r in
-    subst Done one (text-put epid stamp low n (length (record_text header.One fs r)) fs ws held out is half same many some count small clean (size-of_text header.One epid stamp fs ws) put)
-
-pub text-put_two : (h : Header) (epid stamp word id low n : ℕ) (fs : List Field) (ws held begun out : List ℕ) → header.Two ≡ h → word ≡ id + stamp % 2 ^ 32 * 2 ^ 32 → id ≡ epid → id < 2 ^ 32
-    → low ≡ stamp / 2 ^ 32 → low < 2 ^ 32 → held ≡ ws → length held ≡ n → 0 < n → n ≡ words_in fs → All (λ w. w < 2 ^ 64) held → IsClean fs ws
-    → take 8 begun ≡ little_endian 8 word → take (8 + 8 * length held) out ≡ take 8 begun ++ bytes_of_words (with_low low held)
-    → take (length (record_text h fs (packed_record epid stamp fs ws))) out ≡ record_text h fs (packed_record epid stamp fs ws)
-text-put_two h epid stamp word id low n fs ws held begun out two is epid_is half low_is low_half same many some count small clean first put =
-    let r : Record = packed_record epid stamp fs ws in
-    let Done : Header → Type 0 = λ k. take (length (record_text k fs r)) out ≡ record_text k fs r in
-    let Small : List ℕ → Type 0 = λ us. All (λ w. w < 2 ^ 64) us in
-    let all : 8 + 8 * n ≡ 8 + 8 * length held = omega (arith, many) in
+pub text-put_two : (h : Header) (epid stamp word id : ℕ) (fs : List Field) (ws begun out : List ℕ) → h ≡ header.Two → word ≡ id + stamp % 2 ^ 32 * 2 ^ 32 → id ≡ epid → epid < 2 ^ 32 → stamp < 2 ^ 64
+    → 0 < length ws → All (λ w. w < 2 ^ 64) ws → IsClean fs ws → (layout header.One fs).size ≤ 8 * length ws
+    → take 8 begun ≡ little_endian 8 word → take (8 + 8 * length ws) out ≡ take 8 begun ++ bytes_of_words (with_low (stamp / 2 ^ 32) ws)
+    → take (layout h fs).size out ≡ record_text h fs (packed_record epid stamp fs ws)
+text-put_two h epid stamp word id fs ws begun out two is epid_is fits stamp_fits some small clean room first put =
+    let Done : Header → Type 0 = λ k. take (layout k fs).size out ≡ record_text k fs (packed_record epid stamp fs ws) in
     let turned : word ≡ epid + 2 ^ 32 * (stamp % 2 ^ 32) = omega (arith, is, epid_is) in
-    subst Done two (
-    text-of_stamped epid stamp (length (record_text header.Two fs r)) n word fs ws out some (ap length (sym same) ∙ many) count (subst Small same small) (omega (arith, epid_is, half))
-    (omega (arith, low_is, low_half)) clean (size-of_text header.Two epid stamp fs ws) turned
-    (ap (λ k. take k out) all ∙ put ∙ ap (λ t. t ++ bytes_of_words (with_low low held)) first
-    ∙ ap (λ l. little_endian 8 word ++ bytes_of_words (with_low l held)) low_is
-    ∙ ap (λ us. little_endian 8 word ++ bytes_of_words (with_low (stamp / 2 ^ 32) us)) same))
+    subst Done (sym two) (
+    text-of_stamped epid stamp fs ws out some small fits stamp_fits clean room (
+    put
+    ∙ ap (λ t. t ++ bytes_of_words (with_low (stamp / 2 ^ 32) ws)) first
+    ∙ ap (λ x. little_endian 8 x ++ bytes_of_words (with_low (stamp / 2 ^ 32) ws)) turned))
+
+-- bytes that begin with the text of all fields whose words are clean begin with that of the record which the words stand for
+pub text-put : (h k : Header) (epid stamp : ℕ) (fs : List Field) (ws out : List ℕ) (r : Record) → k ≡ h → packed_record epid stamp fs ws ≡ r → IsClean fs ws → (layout header.One fs).size ≤ 8 * length ws
+    → ((gs : List Field) → IsClean gs ws → (layout header.One gs).size ≤ 8 * length ws → take (layout k gs).size out ≡ record_text k gs (packed_record epid stamp gs ws))
+    → take (length (record_text h fs r)) out ≡ record_text h fs r
+text-put h k epid stamp fs ws out r is same clean room put =
+    let Text : Header → Type 0 = λ d. take (layout d fs).size out ≡ record_text d fs (packed_record epid stamp fs ws) in
+    let Done : Record → Type 0 = λ q. take (length (record_text h fs q)) out ≡ record_text h fs q in
+    subst Done same (ap (λ n. take n out) (size-of_text h epid stamp fs ws) ∙ subst Text is (put fs clean room))
 
 -- whole words have room for the text, and no more room than it rounds up to
 pub rounds-up : (fs : List Field) (n : ℕ) → 0 < n → n ≡ words_in fs → rounded_up (layout header.One fs).size 8 ≡ 8 * n
 rounds-up [] n some is = absurd (omega arith)
 rounds-up (f ∷ fs) n some is = omega (arith, is)
 
--- the same under a header that is one of the two
-pub room-of_one : (h : Header) (fs : List Field) (size room n : ℕ) → header.One ≡ h → size ≡ (layout h fs).size → rounded_up size 8 ≤ room → 0 < n → n ≡ words_in fs → 8 * n ≤ room
-room-of_one h fs size room n is at enough some many =
-    let Size : Header → Type 0 = λ k. size ≡ (layout k fs).size in
-    let own : size ≡ (layout header.One fs).size = subst Size (sym is) at in
-    omega (arith, own, enough, rounds-up fs n some many)
-
-pub room-of_two : (h : Header) (fs : List Field) (size room n : ℕ) → header.Two ≡ h → size ≡ (layout h fs).size → rounded_up size 8 ≤ room → 0 < n → n ≡ words_in fs → 8 + 8 * n ≤ room
-room-of_two h fs size room n is at enough some many =
-    let Size : Header → Type 0 = λ k. size ≡ (layout k fs).size in
-    let own : size ≡ (layout header.Two fs).size = subst Size (sym is) at in
-    omega (arith, own, size-stamped fs, enough, rounds-up fs n some many)
+-- there is room for so many words, and for the stamp's before them
+pub room-of : (h : Header) (fs : List Field) (n room : ℕ) → rounded_up (layout header.One fs).size 8 ≡ 8 * n → rounded_up (layout h fs).size 8 ≤ room → fields_start h + 8 * n ≤ room + 4
+room-of header.One fs n room whole enough = omega (arith, whole, enough)
+room-of header.Two fs n room whole enough = omega (arith, whole, enough, size-stamped fs)

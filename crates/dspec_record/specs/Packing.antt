@@ -1,8 +1,8 @@
 -- Cited by calls. A record as the words of its text, of eight bytes each: what record they stand for, and which of their bits count.
-use Rattle.std.specs.Prelude.{◌≡◌, ℕ, zero, suc, ◌+◌, ◌-◌, ◌*◌, ◌/◌, ◌%◌, ◌^◌, ◌==◌, ◌&&◌, nat_lt, List, [], ◌∷◌, ◌++◌, length, take, replicate, Option, Some, None, option_and_then, if◌then◌else◌}
+use Rattle.std.specs.Prelude.{◌≡◌, ℕ, zero, suc, ◌+◌, ◌-◌, ◌*◌, ◌/◌, ◌%◌, ◌^◌, ◌≤◌, ◌<◌, ◌==◌, ◌&&◌, nat_lt, List, [], ◌∷◌, ◌++◌, length, map, take, replicate, Option, Some, None, option_and_then, if◌then◌else◌}
 use Rattle.std.specs.Int.RustNames.{bit_and}
 use Rattle.dspec_record.specs.Record.{Record}
-use Rattle.dspec_record.specs.Layout.{width, limit, rounded_up, after, layout}
+use Rattle.dspec_record.specs.Layout.{width, limit, rounded_up, after, fields_end, layout}
 use Rattle.dspec_record.specs.RecordText.{little_endian, record_text}
 use Rattle.dspec_record.specs.Schemas.{enabling_of}
 use Rattle.dspec_record.specs.declared.field.Field.{Field}
@@ -55,11 +55,25 @@ claims_from epid (fs ∷ rows) = claim_of epid fs ∷ claims_from (epid + 1) row
 abbrev pub padded_claims : List (List Field) → List ℕ
 padded_claims rows = claims_from 1 rows ++ replicate (64 - length rows) 0
 
+-- values of fields that are laid one behind the other from `start` on, each at its place, as one number
+abbrev pub value_number : ℕ → List Field → List ℕ → ℕ
+value_number start (f ∷ fs) (v ∷ vs) =
+    v * 256 ^ rounded_up start (width f) + value_number (after start (width f) (width f)) fs vs
+value_number start _ _ = 0
+
+-- nine words hold nothing from `start` on, and there is room for these fields
+pub record AreFree (start : ℕ) (fs : List Field) (ws : List ℕ) : Type 0 where
+  pub near : rounded_up start 8 + 8 * length fs ≤ 72
+  pub below : number_of_words ws < 256 ^ start
+
+-- these values of fields are added to words behind `start`, and the last field ends at `end`
+pub record ArePacked (start : ℕ) (fs : List Field) (vs : List ℕ) (old : List ℕ) (end : ℕ) (new : List ℕ) : Type 0 where
+  pub end_is : end ≡ fields_end start fs
+  pub added : number_of_words new ≡ number_of_words old + value_number start fs vs
+
 -- which bits of the words are bits of fields: a number
 abbrev pub mask_number : ℕ → List Field → ℕ
-mask_number start [] = 0
-mask_number start (f ∷ fs) =
-    limit f * 256 ^ rounded_up start (width f) + mask_number (after start (width f) (width f)) fs
+mask_number start fs = value_number start fs (map limit fs)
 
 -- the first so many words of a number
 abbrev pub words_of_number : ℕ → ℕ → List ℕ

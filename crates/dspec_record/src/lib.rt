@@ -13,6 +13,7 @@
 //! | `header.rt`, `field.rt`, `record.rt` | `Header`; `Field` and `Shape`; `Rec`, into which a reader puts a record field by field (`bare`, `add`) |
 //! | `recorded.rt`, `borrowed.rt` | the trait `Recorded`: what can be traced as a record, a reference to a `Rec`, a `BorrowedRec`, whose values stand elsewhere, or a reference to a `Packed` |
 //! | `packed.rt`, `packing.rt`, `known_header.rt` | `Packed`: a record whose text its caller packed into words of eight bytes, and what is worked out once of an enabling for it; headers that are known when a program is compiled |
+//! | `laid_out.rt` | the parts of writing a typed record, from C or from Rattle: its values added to words, the words written with EPID and stamp |
 //! | `schema.rt`, `laws.rt` | the trait `Schema`; what follows from its laws over every schema |
 //! | `enabling.rt`, `enabled.rt` | `Enablings`. An enabling keeps its layout, each field's place, without a stamp (with one each size is eight more), each field's greatest value, and which bits of its words are bits of fields; all of them how many bytes a stamp has, and the claim that is true of each |
 //! | `default_action.rt`, `stamped_action.rt` | the schemas without fields |
@@ -31,6 +32,7 @@ mod enabling;
 pub mod field;
 pub mod header;
 mod known_header;
+pub mod laid_out;
 pub mod laws;
 mod layout;
 pub mod packed;

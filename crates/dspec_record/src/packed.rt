@@ -7,12 +7,13 @@ ghost use Rattle.dspec_record.specs.declared.header.Header.TheVariants.{One};
 
 use crate::codec::fits_header;
 use crate::enabling::{Enabling, MAX_FIELDS, MAX_WORDS};
+use crate::laid_out::put_packed;
 use crate::{Enablings, Field, Header, KnownHeader, Rec, Recorded, Schema, Shape};
 use std::alloc::AllocError;
 use std::marker::PhantomData;
 
 /// How many numbers half a word holds.
-const HALF: u64 = 1 << 32;
+pub(crate) const HALF: u64 = 1 << 32;
 
 /// A record whose text its caller packed into words of eight bytes: they are stored as they are, so that no field is looked at.
 /// What is no field is cleared from them; EPID and stamp stand beside.
@@ -104,15 +105,6 @@ impl<H: KnownHeader> Packed<H> {
         }
     }
 
-    /// The EPID as it stands in a word.
-    #[inline(always)]
-    fn epid_word(&self) -> u64
-        ensures same { result ≡ self.now.epid }
-        ensures half { result < 2 ^ 32 }
-    {
-        u64::from(self.epid)
-    }
-
     /// The words that hold the text, of which the first has zeros in its lower half.
     #[inline(always)]
     fn words(&self) -> &[u64]
@@ -190,7 +182,7 @@ pub(crate) fn put_word(word: u64, at: usize, out: &mut [u8])
 
 /// Writes words one behind the other, the first at `at` and with this number in the place of its zeros.
 #[inline(always)]
-fn put_from(words: &[u64], low: u64, at: usize, out: &mut [u8])
+pub(crate) fn put_from(words: &[u64], low: u64, at: usize, out: &mut [u8])
     requires some { 0 < length words.now }
     requires zeros { slice_index_or words.now 0 0 % 2 ^ 32 ≡ 0 }
     requires low { low < 2 ^ 32 }
@@ -259,14 +251,7 @@ impl<'a, H: KnownHeader> Recorded for &'a Packed<H> {
 
     #[inline(always)]
     fn put_laid(&self, out: &mut [u8]) -> bool {
-        let epid = self.epid_word();
-        match H::header() {
-            Header::One => put_from(self.words(), epid, 0, out),
-            Header::Two => {
-                put_word(epid + self.stamp % HALF * HALF, 0, out);
-                put_from(self.words(), self.stamp / HALF, 8, out);
-            }
-        }
+        put_packed(H::header(), self.epid, self.stamp, self.words(), out);
         true
     }
 }

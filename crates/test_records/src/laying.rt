@@ -1,23 +1,33 @@
 //! The parts of a record that writes itself.
 use crate::same::same;
-use dspec_record::laid_out::{laid_shape, put_behind, put_front};
-use dspec_record::{Field, Header, Rec, Shape};
+use dspec_record::laid_out::{laid_shape, pack_behind, put_packed};
+use dspec_record::{Field, Header, Shape};
 use std::test::Fail;
+
+/// The word of two fields: a byte of 5 at place 4, two bytes of 515 at place 6.
+const WORD: u64 = 0x0203_0005_0000_0000;
 
 #[test]
 fn record_by_its_parts(rt: HostRuntime) -> Result<(), Fail> {
-    let rec = Rec::stamped(7, 9, &[5, 515]).ok_or("two values")?;
     let shape = Shape { size: 16, align: 4 };
     same(
         &rt,
         laid_shape(Header::Two, &[Field::One, Field::Two]),
         shape,
     );
+    let mut words = [0; 9];
+    let next = pack_behind(Field::One, 5, 4, &mut words);
+    let end = pack_behind(Field::Two, 515, next, &mut words);
+    same(&rt, [next, end], [5, 8]);
+    same(&rt, words, [WORD, 0, 0, 0, 0, 0, 0, 0, 0]);
     let mut text = [255; 16];
-    let start = put_front(Header::Two, &rec, &mut text);
-    let next = put_behind(Field::One, 5, start, &mut text);
-    let end = put_behind(Field::Two, 515, next, &mut text);
-    same(&rt, [start, next, end], [12, 13, 16]);
-    same(&rt, text, [7, 0, 0, 0, 9, 0, 0, 0, 0, 0, 0, 0, 5, 0, 3, 2]);
+    put_packed(Header::One, 7, 0, &[WORD], &mut text);
+    same(
+        &rt,
+        text,
+        [7, 0, 0, 0, 5, 0, 3, 2, 255, 255, 255, 255, 255, 255, 255, 255],
+    );
+    put_packed(Header::Two, 7, 9 + (1 << 32), &[WORD], &mut text);
+    same(&rt, text, [7, 0, 0, 0, 9, 0, 0, 0, 1, 0, 0, 0, 5, 0, 3, 2]);
     Ok(())
 }

@@ -1,60 +1,51 @@
-use Rattle.std.proofs.Common.{◌≡◌, ◌≤◌, ◌∙◌, ℕ, List, length, take, sym, ap, arith}
-use Rattle.dspec_record.specs.Layout.{layout}
-use Rattle.dspec_record.specs.Reading.{IsShape}
-use Rattle.dspec_record.specs.RecordText.{record_text}
-use Rattle.dspec_record.specs.Laws.Layouts.{layout-IsShape, header-within}
-use Rattle.dspec_record.specs.declared.field.Field.{Field}
-use Rattle.dspec_record.specs.declared.header.Header.{Header}
-use Rattle.dspec_probe.proofs.Firing.{size_of_fields, size_within, length-part, room_behind}
+-- The values' words are stored as the text of the header that there is.
+use Rattle.std.proofs.Common.{◌≡◌, ℕ, length, sym, ◌∙◌, arith}
+use Rattle.dspec_record.specs.Record.{Record}
+use Rattle.dspec_record.proofs.PackedRecords.{text-put}
+use Rattle.dspec_probe.proofs.Firing.{words-of_values, room-for_words, end-near}
 use Rattle.dspec_probe.proofs.fired.FiredRecorded.put_laid.Goals as goal
 
-pub slice_bounds-text-end : goal.slice_bounds-text-end
-slice_bounds-text-end g c =
-    let size : c.laid_shape-size.result.size ≤ length c.args.out.now =
-    size_within c.laid_shape-size.result.size (record_text g.H.KnownHeader.header_is g.F.Fields.fields_are c.args.self.now.rec.now) c.args.out.now
-    (size_of_fields g.H.KnownHeader.header_is c.header-header.result g.F.Fields.fields_are c.as_slice.result.now c.laid_shape-size.result c.args.self.now.rec.now
-    c.header-header.ensures (c.as_slice.ensures.fields ∙ c.fields.ensures) c.laid_shape-size.ensures c.args.self.now.fit) c.requires.room in
-    omega (arith, size)
+pub overflow_add-count : goal.overflow_add-count
+overflow_add-count g c = record { fits = omega (arith, end-near g.F.Fields.fields_are c.pack-end.result g.met.F.Fields.few c.pack-end.ensures.end_is) }
 
-pub slice_bounds-text-end-2 : goal.slice_bounds-text-end-2
-slice_bounds-text-end-2 g c =
-    sym (length-part c.laid_shape-size.result.size c.args.out.now
-    (size_within c.laid_shape-size.result.size (record_text g.H.KnownHeader.header_is g.F.Fields.fields_are c.args.self.now.rec.now) c.args.out.now
-    (size_of_fields g.H.KnownHeader.header_is c.header-header.result g.F.Fields.fields_are c.as_slice.result.now c.laid_shape-size.result c.args.self.now.rec.now
-    c.header-header.ensures (c.as_slice.ensures.fields ∙ c.fields.ensures) c.laid_shape-size.ensures c.args.self.now.fit) c.requires.room))
+pub slice_bounds-words-end : goal.slice_bounds-words-end
+slice_bounds-words-end g c =
+    let words = words-of_values g.F.Fields.fields_are c.args.self.now.rec.now.values _ c.pack-end.new.words c.pack-end.result g.met.F.Fields.few c.args.self.now.tied c.args.self.now.fit
+    c.pack-end.array_long c.pack-end.ensures in
+    omega (arith, words.few, c.pack-end.array_long)
 
--- the part is as long as the layout says
-part : (h : Header) (fs gs : List Field) (n : ℕ) (text : List ℕ) → n ≡ length text → gs ≡ fs → n ≡ (layout h gs).size → length text ≡ (layout h fs).size
-part h fs gs n text whole same size = sym whole ∙ size ∙ ap (λ f. (layout h f).size) same
+pub slice_bounds-put_packed-end : goal.slice_bounds-put_packed-end
+slice_bounds-put_packed-end g c =
+    let words = words-of_values g.F.Fields.fields_are c.args.self.now.rec.now.values _ c.pack-end.new.words c.pack-end.result g.met.F.Fields.few c.args.self.now.tied c.args.self.now.fit
+    c.pack-end.array_long c.pack-end.ensures in
+    sym words.long
 
-pub put_front-start-requires-clause-whole_words : goal.put_front-start-requires-clause-whole_words
-put_front-start-requires-clause-whole_words g c =
-    let whole : length (take c.laid_shape-size.result.size c.args.out.now) ≡ c.laid_shape-size.result.size =
-    length-part c.laid_shape-size.result.size c.args.out.now
-    (size_within c.laid_shape-size.result.size (record_text g.H.KnownHeader.header_is g.F.Fields.fields_are c.args.self.now.rec.now) c.args.out.now
-    (size_of_fields g.H.KnownHeader.header_is c.header-header.result g.F.Fields.fields_are c.as_slice.result.now c.laid_shape-size.result c.args.self.now.rec.now
-    c.header-header.ensures (c.as_slice.ensures.fields ∙ c.fields.ensures) c.laid_shape-size.ensures c.args.self.now.fit) c.requires.room) in
-    let shape : IsShape (layout c.header-header.result c.as_slice.result.now) = layout-IsShape c.header-header.result c.as_slice.result.now c.as_slice.ensures.few in
-    omega (arith, whole, ap (λ s. s.size) c.laid_shape-size.ensures, shape.whole_words)
+pub put_packed-requires-clause-some : goal.put_packed-requires-clause-some
+put_packed-requires-clause-some g c =
+    let words = words-of_values g.F.Fields.fields_are c.args.self.now.rec.now.values _ c.pack-end.new.words c.pack-end.result g.met.F.Fields.few c.args.self.now.tied c.args.self.now.fit
+    c.pack-end.array_long c.pack-end.ensures in
+    omega (arith, words.some, words.long)
 
-pub put_front-start-requires-clause-room : goal.put_front-start-requires-clause-room
-put_front-start-requires-clause-room g c =
-    let whole : length (take c.laid_shape-size.result.size c.args.out.now) ≡ c.laid_shape-size.result.size =
-    length-part c.laid_shape-size.result.size c.args.out.now
-    (size_within c.laid_shape-size.result.size (record_text g.H.KnownHeader.header_is g.F.Fields.fields_are c.args.self.now.rec.now) c.args.out.now
-    (size_of_fields g.H.KnownHeader.header_is c.header-header.result g.F.Fields.fields_are c.as_slice.result.now c.laid_shape-size.result c.args.self.now.rec.now
-    c.header-header.ensures (c.as_slice.ensures.fields ∙ c.fields.ensures) c.laid_shape-size.ensures c.args.self.now.fit) c.requires.room) in
-    omega (arith, whole, ap (λ s. s.size) c.laid_shape-size.ensures, header-within c.header-header.result c.as_slice.result.now)
+pub put_packed-requires-clause-zeros : goal.put_packed-requires-clause-zeros
+put_packed-requires-clause-zeros g c =
+    (words-of_values g.F.Fields.fields_are c.args.self.now.rec.now.values _ c.pack-end.new.words c.pack-end.result g.met.F.Fields.few c.args.self.now.tied c.args.self.now.fit
+    c.pack-end.array_long c.pack-end.ensures).zeros
 
-pub put-requires : goal.put-requires
-put-requires g c =
-    let whole : length (take c.laid_shape-size.result.size c.args.out.now) ≡ c.laid_shape-size.result.size =
-    length-part c.laid_shape-size.result.size c.args.out.now
-    (size_within c.laid_shape-size.result.size (record_text g.H.KnownHeader.header_is g.F.Fields.fields_are c.args.self.now.rec.now) c.args.out.now
-    (size_of_fields g.H.KnownHeader.header_is c.header-header.result g.F.Fields.fields_are c.as_slice.result.now c.laid_shape-size.result c.args.self.now.rec.now
-    c.header-header.ensures (c.as_slice.ensures.fields ∙ c.fields.ensures) c.laid_shape-size.ensures c.args.self.now.fit) c.requires.room) in
-    room_behind c.header-header.result g.F.Fields.fields_are c.put_front-start.result c.put_front-start.new.out g.met.F.Fields.few c.put_front-start.ensures.end
-    (c.put_front-start.auto.out
-    ∙ part c.header-header.result g.F.Fields.fields_are c.as_slice.result.now c.laid_shape-size.result.size (take c.laid_shape-size.result.size c.args.out.now) (sym whole)
-    (c.as_slice.ensures.fields ∙ c.fields.ensures) (ap (λ s. s.size) c.laid_shape-size.ensures))
-    c.put_front-start.ensures.clear
+pub put_packed-requires-clause-room : goal.put_packed-requires-clause-room
+put_packed-requires-clause-room g c =
+    let words = words-of_values g.F.Fields.fields_are c.args.self.now.rec.now.values _ c.pack-end.new.words c.pack-end.result g.met.F.Fields.few c.args.self.now.tied c.args.self.now.fit
+    c.pack-end.array_long c.pack-end.ensures in
+    room-for_words g.H.KnownHeader.header_is c.header.result g.F.Fields.fields_are c.args.self.now.rec.now.values _ (length c.args.out.now) c.pack-end.new.words c.args.self.now.rec.now
+    c.header.ensures c.args.self.now.fit words c.requires.room
+
+-- the record by its parts
+same_record : (epid stamp : ℕ) (r : Record) → epid ≡ r.epid → stamp ≡ r.stamp → record { epid = epid; stamp = stamp; values = r.values } ≡ r
+same_record epid stamp r same_epid same_stamp = λ i. record { epid = same_epid i; stamp = same_stamp i; values = r.values }
+
+pub returns-clause-put : goal.returns-clause-put
+returns-clause-put g c =
+    let r : Record = c.args.self.now.rec.now in
+    let words = words-of_values g.F.Fields.fields_are c.args.self.now.rec.now.values _ c.pack-end.new.words c.pack-end.result g.met.F.Fields.few c.args.self.now.tied c.args.self.now.fit
+    c.pack-end.array_long c.pack-end.ensures in
+    text-put g.H.KnownHeader.header_is c.header.result c.epid.result c.stamp.result g.F.Fields.fields_are _ c.put_packed.new.out r c.header.ensures
+    (words.record_is c.epid.result c.stamp.result ∙ same_record c.epid.result c.stamp.result r c.epid.ensures c.stamp.ensures) words.clean words.room c.put_packed.ensures
