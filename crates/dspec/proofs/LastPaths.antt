@@ -20,8 +20,8 @@ use Rattle.dspec.specs.LastPaths.{DecidesIfThere, FollowsOn, LastEndOn, LastReco
 
 module _ {S : Type 0} {g : Ghosts S} (has : Cpu S → List Deed → Type 0) where
   pub ends_so : (b : By) (p : LastPath) (id : Speculation) (older : Option Decided) (newer : Decided) (old mid new : Lane S g)
-      → id ≡ id_given p.newer → DecidesIfThere has b p.older older old mid → DecisionOn has b id newer mid new → LastEndOn has b p older newer old new
-  ends_so b p id older newer old mid new is first second = (mid, first, subst (λ i. DecisionOn has b i newer mid new) is second)
+      → id ≡ id_given p.newer → DecisionOn has b id newer old mid → DecidesIfThere has b p.older older mid new → LastEndOn has b p older newer old new
+  ends_so b p id older newer old mid new is first second = (mid, subst (λ i. DecisionOn has b i newer old mid) is first, second)
 
   pub offers_next_so : (answer : Opening) (id : Speculation) (r : Record) (a : Spoken) (p q : LastPath) (old mid new : Lane S g)
       → answer ≡ opening.Id id → SpeculateOn has id r a old mid → SettlesOn has a (opening.Id id) p q mid new → OffersNextOn has answer r a p q old new

@@ -19,15 +19,15 @@ use Rattle.dspec_cpu.specs.Called.{CallsMade, called, no_calls}
 use Rattle.dspec_cpu.specs.Lists.{number_in, seat_of}
 use Rattle.dspec_cpu.specs.Sealed.{waiting}
 use Rattle.dspec_session_core.specs.declared.left.Left.{Left}
-use Rattle.dspec_session_core.specs.Closing.{HoldInOrder, IsClosedBy}
+use Rattle.dspec_session_core.specs.Closing.{ClosesAs, HoldInOrder, IsClosedBy}
 use Rattle.dspec_session_core.specs.Consumers.{Consuming, set_up_of, view_of}
 use Rattle.dspec_session_core.specs.Leaving.{AllSteady, Has}
-use Rattle.dspec_session_core.specs.Promised.{IsPromisedBy, called_at, entered_at}
+use Rattle.dspec_session_core.specs.Promised.{IsPromised, IsPromisedBy, called_at, entered_at}
 use Rattle.dspec_session_core.specs.Sessions.{HasAt, IsFresh, taken_at}
 use Rattle.dspec_session_core.proofs.PromisedBy.{there_is, called_there, entered_there, had_tells}
-use Rattle.dspec_promise.specs.Deeds.{did}
+use Rattle.dspec_promise.specs.Deeds.{all_did, did}
 use Rattle.dspec.specs.Passed.{Passed, AreFrom, passed_from, left_batches, rests_passed, GotAll, PassesOn, HasLists}
-use Rattle.dspec.specs.Traced.{IsTraced}
+use Rattle.dspec.specs.Traced.{IsOneList, IsKept, IsTraced}
 use Rattle.dspec.proofs.Passing.{from_both, got_both, rest_there, rests_from}
 
 -- nothing was taken yet
@@ -74,26 +74,32 @@ module _ {S : Type 0} (shape_of : S → ℕ → Option Shape) (accepted : S → 
     all_got : GotAll gets old (passes.passed ++ rests_passed 0 left) new
     all_got = got_both gets passes.passed (rests_passed 0 left) old mid new passes.got rests
 
+    -- by a list that closes the lists of the CPUs
+    listed_by : (k : Config) (worn : ℕ → ℕ) (deeds : List Deed) (p : ℕ → List Deed) (g : List Deed)
+        → ClosesAs (shape_of schema) (accepted schema) (text schema) k worn (taken_at y) deeds left p g
+        → HasLists gets (shape_of schema) (accepted schema) (text schema) k old left new
+    listed_by k worn deeds p g closes = record {
+      passed = passes.passed ++ rests_passed 0 left;
+      got = all_got;
+      worn = worn;
+      taken = taken_at y;
+      consumer = deeds;
+      own = p;
+      deeds = g;
+      closes = closes;
+      whole = whole;
+      accepts = λ c l at.
+          subst (λ bs. HoldInOrder (shape_of schema) (accepted schema) (text schema) bs (stream c g))
+          (append_assoc (taken_at y c) (waiting l.rest) (l.last ∷ []) ∙ sym (whole c l at)) (closes.each c l at).kept;
+    }
+
     pub listed : (k : Config) (cpus : List (Cpu S)) (worn : ℕ → ℕ) (deeds : List Deed) → AllSteady shape_of accepted text cpus
         → IsClosedBy (shape_of schema) (accepted schema) (text schema) k (HasAt (Has shape_of accepted text) cpus) worn (taken_at y) deeds left
         → HasLists gets (shape_of schema) (accepted schema) (text schema) k old left new
     listed k cpus worn deeds steady closed =
         let had = lists_had cpus steady in
         let made = closed had.0 (λ c lt. had.1 c) in
-        record {
-          passed = passes.passed ++ rests_passed 0 left;
-          got = all_got;
-          worn = worn;
-          taken = taken_at y;
-          consumer = deeds;
-          own = had.0;
-          deeds = made.0;
-          closes = made.1;
-          whole = whole;
-          accepts = λ c l at.
-              subst (λ bs. HoldInOrder (shape_of schema) (accepted schema) (text schema) bs (stream c made.0))
-              (append_assoc (taken_at y c) (waiting l.rest) (l.last ∷ []) ∙ sym (whole c l at)) (made.1.each c l at).kept;
-        }
+        listed_by k worn deeds had.0 made.0 made.1
 
     -- what the consumer's seat entered
     entered_last : (view_of x).own ≡ [] → (view_of y).own ≡ map (λ s. Release s) passes.released
@@ -107,27 +113,67 @@ module _ {S : Type 0} (shape_of : S → ℕ → Option Shape) (accepted : S → 
         All-append (λ (p : Passed). p.from < k.cpus) passes.passed (rests_passed 0 left) (subst (λ (s : Config). AreFrom s.cpus passes.passed) is passes.from)
         (rests_from k.cpus 0 left all)
 
-    pub traced : (does : ℕ → CallsMade → CallsMade → Type 0) (k : Config) (cpus : List (Cpu S)) → set_up_of x ≡ k → length left ≡ k.cpus
-        → length cpus ≡ k.cpus → (view_of x).own ≡ []
-        → ((c : ℕ) (cpu : Cpu S) → slice_get cpus c ≡ Some cpu → number_in cpu ≡ c)
-        → ((c : ℕ) (cpu : Cpu S) → slice_get cpus c ≡ Some cpu → does c no_calls (called cpu))
-        → IsPromisedBy (shape_of schema) (accepted schema) (text schema) k (entered_at cpus) (view_of y).own (called_at cpus) (taken_at y) left
-        → IsTraced gets does (shape_of schema) (accepted schema) (text schema) k old left new
-    traced does k cpus is lefts count none numbers worked promised = record {
-      passed = passes.passed ++ rests_passed 0 left;
-      from = from_all k is lefts;
-      got = all_got;
-      calls = called_at cpus;
-      worked = λ c lt.
-          let (cpu, at) = there_is cpus c (subst (λ n. c < n) (sym count) lt) in
-          subst (does c no_calls) (sym (called_there cpus c cpu at)) (worked c cpu at);
-      entered = entered_at cpus;
-      told = λ c lt.
-          let (cpu, at) = there_is cpus c (subst (λ n. c < n) (sym count) lt) in
-          ap (did c) (entered_there cpus c cpu at)
-          ∙ (ap (λ n. did n (known (seat_of cpu)).own) (sym (numbers c cpu at)) ∙ ap (λ (z : CallsMade). z.done) (sym (called_there cpus c cpu at)));
-      released = passes.released;
-      taken = taken_at y;
-      whole = whole;
-      promised = subst (λ ds. IsPromisedBy (shape_of schema) (accepted schema) (text schema) k (entered_at cpus) ds (called_at cpus) (taken_at y) left) (entered_last none) promised;
-    }
+    module _ (does : ℕ → CallsMade → CallsMade → Type 0) (k : Config) (cpus : List (Cpu S)) (is : set_up_of x ≡ k) (lefts : length left ≡ k.cpus)
+        (count : length cpus ≡ k.cpus) (none : (view_of x).own ≡ [])
+        (numbers : (c : ℕ) (cpu : Cpu S) → slice_get cpus c ≡ Some cpu → number_in cpu ≡ c)
+        (worked : (c : ℕ) (cpu : Cpu S) → slice_get cpus c ≡ Some cpu → does c no_calls (called cpu)) where
+      -- by what the consumer's seat entered
+      traced_by : IsPromisedBy (shape_of schema) (accepted schema) (text schema) k (entered_at cpus) (map (λ s. Release s) passes.released) (called_at cpus) (taken_at y) left
+          → IsTraced gets does (shape_of schema) (accepted schema) (text schema) k old left new
+      traced_by promised = record {
+        passed = passes.passed ++ rests_passed 0 left;
+        from = from_all k is lefts;
+        got = all_got;
+        calls = called_at cpus;
+        worked = λ c lt.
+            let (cpu, at) = there_is cpus c (subst (λ n. c < n) (sym count) lt) in
+            subst (does c no_calls) (sym (called_there cpus c cpu at)) (worked c cpu at);
+        entered = entered_at cpus;
+        told = λ c lt.
+            let (cpu, at) = there_is cpus c (subst (λ n. c < n) (sym count) lt) in
+            ap (did c) (entered_there cpus c cpu at)
+            ∙ (ap (λ n. did n (known (seat_of cpu)).own) (sym (numbers c cpu at)) ∙ ap (λ (z : CallsMade). z.done) (sym (called_there cpus c cpu at)));
+        released = passes.released;
+        taken = taken_at y;
+        whole = whole;
+        promised = promised;
+      }
+
+      pub traced : IsPromisedBy (shape_of schema) (accepted schema) (text schema) k (entered_at cpus) (view_of y).own (called_at cpus) (taken_at y) left
+          → IsTraced gets does (shape_of schema) (accepted schema) (text schema) k old left new
+      traced promised =
+          traced_by
+          (subst (λ ds. IsPromisedBy (shape_of schema) (accepted schema) (text schema) k (entered_at cpus) ds (called_at cpus) (taken_at y) left) (entered_last none) promised)
+
+      -- the list that closes the lists of the CPUs is the one of the page
+      pub by_one_list : (worn : ℕ → ℕ) → AllSteady shape_of accepted text cpus
+          → ((p : ℕ → List Deed) → ((c : ℕ) → c < k.cpus → HasAt (Has shape_of accepted text) cpus c (p c))
+          → (g : List Deed) × ClosesAs (shape_of schema) (accepted schema) (text schema) k worn (taken_at y) (view_of y).own left p g
+          × ((promised : IsPromisedBy (shape_of schema) (accepted schema) (text schema) k (entered_at cpus) (view_of y).own (called_at cpus) (taken_at y) left) × (promised.deeds ≡ g)))
+          → IsOneList gets does (shape_of schema) (accepted schema) (text schema) k old left new
+      unfolding traced_by listed_by
+      by_one_list worn steady one =
+          let had = lists_had cpus steady in
+          let made = one had.0 (λ c lt. had.1 c) in
+          let said = subst (λ ds. (promised : IsPromisedBy (shape_of schema) (accepted schema) (text schema) k (entered_at cpus) ds (called_at cpus) (taken_at y) left)
+          × (promised.deeds ≡ made.0)) (entered_last none) made.2 in
+          (traced_by said.0, listed_by k worn (view_of y).own had.0 made.0 made.1, said.1)
+
+module _ {K : Type 0} (gets : K → Batch → K → Type 0) (does : ℕ → CallsMade → CallsMade → Type 0) (shape : ℕ → Option Shape) (accepted : Record → Bool)
+    (text : Record → List ℕ) where
+  -- the page alone, without the list
+  pub kept_alone : (k : Config) (old : K) (left : List Left) (new : K) → IsTraced gets does shape accepted text k old left new → IsKept gets does shape accepted text k old left new
+  kept_alone k old left new t = record {
+    passed = t.passed;
+    from = t.from;
+    got = t.got;
+    calls = t.calls;
+    worked = t.worked;
+    page = record {
+      all = all_did t.promised.deeds;
+      closed = t.promised.closed;
+      each = λ c l at.
+          subst (λ bs. IsPromised shape accepted text k.cpus (all_did t.promised.deeds) c (t.calls c) (t.promised.closed c) bs l.report)
+          (append_assoc (t.taken c) (waiting l.rest) (l.last ∷ []) ∙ sym (t.whole c l at)) (t.promised.each c l at);
+    };
+  }

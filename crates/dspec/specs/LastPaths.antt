@@ -1,9 +1,10 @@
 -- Cited by calls. What calls did of a path of which the last records are kept.
-use Rattle.std.specs.Prelude.{ℕ, ◌≡◌, ◌||◌, is_some, Bool, false, List, Option, Some, None, Result, IsOk, IfOk, IfErr, ◌↔◌, IsTrue}
+use Rattle.std.specs.Prelude.{ℕ, ◌≡◌, ◌+◌, ◌-◌, ◌^◌, min, Bool, List, Option, Some, None, Result, IsOk, IfOk, IfErr, ◌↔◌, IsTrue}
 use Rattle.dspec_record.specs.Record.{Record}
 use Rattle.dspec_record.specs.declared.schema.Schema.{Ghosts}
 use Rattle.dspec_word.specs.SpecId.{Speculation}
 use Rattle.dspec_deeds.specs.declared.calls.Decided.{Decided}
+use Rattle.dspec_deeds.specs.declared.calls.Decided.TheVariants as decided
 use Rattle.dspec_deeds.specs.declared.calls.Opening.{Opening}
 use Rattle.dspec_deeds.specs.declared.calls.Opening.TheVariants as opening
 use Rattle.dspec_deeds.specs.declared.calls.Spoken.{Spoken}
@@ -20,11 +21,17 @@ use Rattle.dspec.specs.LaneCalls.{DecisionOn, OpeningOn, SpeculateOn}
 
 -- of one speculation, and nothing was cut
 abbrev pub path_begun : Opening → LastPath
-path_begun answer = record { older = None; newer = answer; cut = false }
+path_begun answer = record { older = None; newer = answer; cut = 0 }
 
--- The older speculation is gone, the newer one stands in its place, and this one in that of the newer. It is cut where there was an older one.
-abbrev pub moved_on : Opening → LastPath → LastPath
-moved_on answer p = record { older = Some (id_given p.newer); newer = answer; cut = p.cut || is_some p.older }
+-- how many records went with a discard, where there was one
+abbrev pub records_thrown : Option Decided → ℕ
+records_thrown (Some (decided.Thrown n)) = n
+records_thrown x = 0
+
+-- The older speculation is gone, with what its discard answered, the newer one stands in its place, and this one in that of the newer.
+-- What went is counted, to the largest number that the count can tell.
+abbrev pub moved_on : Opening → Option Decided → LastPath → LastPath
+moved_on answer gone p = record { older = Some (id_given p.newer); newer = answer; cut = min (p.cut + records_thrown gone) (2 ^ 32 - 1) }
 
 module _ {S : Type 0} {g : Ghosts S} (has : Cpu S → List Deed → Type 0) where
   -- a speculation was decided, and the answer; nothing was done where there was none
@@ -35,7 +42,7 @@ module _ {S : Type 0} {g : Ghosts S} (has : Cpu S → List Deed → Type 0) wher
   -- A new speculation answered so to the record. Where it took that, the older one was discarded, and the path moves on; else the new one
   -- was, and the path is as it was.
   abbrev pub SettlesOn : Spoken → Opening → LastPath → LastPath → Lane S g → Lane S g → Type 0
-  SettlesOn Kept answer p q old new = (q ≡ moved_on answer p) × ((d : Option Decided) × DecidesIfThere discard p.older d old new)
+  SettlesOn Kept answer p q old new = (gone : Option Decided) × DecidesIfThere discard p.older gone old new × (q ≡ moved_on answer gone p)
   SettlesOn a answer p q old new = (q ≡ p) × ((d : Decided) × DecisionOn has discard (id_given answer) d old new)
 
   -- A new speculation was asked for, with this answer. Where one was given, the record was offered to it; else the record is dropped, and
@@ -60,10 +67,10 @@ module _ {S : Type 0} {g : Ghosts S} (has : Cpu S → List Deed → Type 0) wher
     pub offers : SpeculateOn has (id_given p.newer) r first old offered
     pub follows : FollowsOn first r a p q offered new
 
-  -- the end of the path: the older speculation was decided, then the newer one
+  -- the end of the path: the newer speculation was decided, then the older one, if there is one
   abbrev pub LastEndOn : By → LastPath → Option Decided → Decided → Lane S g → Lane S g → Type 0
   LastEndOn b p older newer old new =
-      (between : Lane S g) × DecidesIfThere b p.older older old between × DecisionOn has b (id_given p.newer) newer between new
+      (between : Lane S g) × DecisionOn has b (id_given p.newer) newer old between × DecidesIfThere b p.older older between new
 
   module _ (accepted : S → Record → Bool) where
     -- a record was offered by its values; an error says that the schema doesn't accept it, and nothing was done

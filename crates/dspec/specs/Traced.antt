@@ -11,8 +11,8 @@ use Rattle.dspec_promise.specs.Deeds.{did}
 use Rattle.dspec_ring.specs.declared.batch.Batch.{Batch}
 use Rattle.dspec_cpu.specs.Called.{CallsMade, no_calls}
 use Rattle.dspec_session_core.specs.declared.left.Left.{Left}
-use Rattle.dspec_session_core.specs.Promised.{IsPromisedBy}
-use Rattle.dspec.specs.Passed.{Passed, AreFrom, passed_from, left_batches, GotAll}
+use Rattle.dspec_session_core.specs.Promised.{IsPromisedBy, KeepsPage}
+use Rattle.dspec.specs.Passed.{Passed, AreFrom, passed_from, left_batches, GotAll, HasLists}
 
 module _ {K : Type 0} (gets : K → Batch → K → Type 0) (does : ℕ → CallsMade → CallsMade → Type 0) (shape : ℕ → Option Shape) (accepted : Record → Bool)
     (text : Record → List ℕ) where
@@ -33,7 +33,29 @@ module _ {K : Type 0} (gets : K → Batch → K → Type 0) (does : ℕ → Call
     pub whole : (c : ℕ) (l : Left) → slice_get left c ≡ Some l → passed_from c passed ≡ taken c ++ left_batches l
     pub promised : IsPromisedBy shape accepted text k entered (map (λ s. Release s) released) calls taken left
 
+  -- The same in short, for whoever asks whether a record leaks or is lost: each CPU is promised the page of what the sink got of it, by
+  -- what its calls did.
+  pub record IsKept (k : Config) (old : K) (left : List Left) (new : K) : Type 0 where
+    pub passed : List Passed
+    pub from : AreFrom k.cpus passed
+    pub got : GotAll gets old passed new
+    pub calls : ℕ → CallsMade
+    pub worked : (c : ℕ) → c < k.cpus → does c no_calls (calls c)
+    pub page : KeepsPage shape accepted text k.cpus calls (λ c l. passed_from c passed) left
+
+  -- the list by which each CPU is promised the page is the one that closes the session
+  abbrev pub IsOneList : Config → K → List Left → K → Type 0
+  IsOneList k old left new = (traced : IsTraced k old left new) × (listed : HasLists gets shape accepted text k old left new) × (traced.promised.deeds ≡ listed.deeds)
+
 -- the same, of a session whose records are those of enablings
 abbrev pub IsTracedWith : {K : Type 0} → EnabledRows → (K → Batch → K → Type 0) → (ℕ → CallsMade → CallsMade → Type 0) → Config → K → List Left → K → Type 0
 IsTracedWith s gets does =
     IsTraced gets does (table_shape s.header (enabled s.rows)) (table_accepts s.header (enabled s.rows)) (table_text s.header (enabled s.rows))
+
+abbrev pub IsKeptWith : {K : Type 0} → EnabledRows → (K → Batch → K → Type 0) → (ℕ → CallsMade → CallsMade → Type 0) → Config → K → List Left → K → Type 0
+IsKeptWith s gets does =
+    IsKept gets does (table_shape s.header (enabled s.rows)) (table_accepts s.header (enabled s.rows)) (table_text s.header (enabled s.rows))
+
+abbrev pub IsOneListWith : {K : Type 0} → EnabledRows → (K → Batch → K → Type 0) → (ℕ → CallsMade → CallsMade → Type 0) → Config → K → List Left → K → Type 0
+IsOneListWith s gets does =
+    IsOneList gets does (table_shape s.header (enabled s.rows)) (table_accepts s.header (enabled s.rows)) (table_text s.header (enabled s.rows))

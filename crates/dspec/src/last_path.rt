@@ -5,7 +5,7 @@ ghost use Rattle.dspec_promise.specs.Promise.{commit, discard};
 ghost use Rattle.dspec_cpu.specs.Lists.{schema_of};
 ghost use Rattle.dspec.specs.LaneCalls.{OpeningOn};
 ghost use Rattle.dspec.specs.Lanes.{place_of};
-ghost use Rattle.dspec.specs.LastPaths.{DecidesIfThere, FollowsOn, LastEndOn, LastRecordOn, LastValuesOn, OffersNextOn, SettlesOn, TurnsOn, path_begun};
+ghost use Rattle.dspec.specs.LastPaths.{DecidesIfThere, FollowsOn, LastEndOn, LastRecordOn, LastValuesOn, OffersNextOn, SettlesOn, TurnsOn, path_begun, records_thrown};
 
 use crate::bad_record::BadRecord;
 use crate::lane::Lane;
@@ -28,7 +28,7 @@ use dspec_word::SpecId;
 pub struct LastPath {
     pub(crate) older: Option<SpecId>,
     pub(crate) newer: Opening,
-    pub(crate) cut: bool,
+    pub(crate) cut: u32,
 }
 
 impl LastPath {
@@ -40,9 +40,9 @@ impl LastPath {
         self.newer
     }
 
-    /// Whether records at its beginning were thrown away for those behind them.
+    /// How many records at its beginning were thrown away for those behind them, as the answers to the discards tell.
     #[inline]
-    pub fn is_cut(&self) -> bool
+    pub fn cut(&self) -> u32
         ensures { result ≡ self.now.cut }
     {
         self.cut
@@ -144,11 +144,10 @@ impl LastPath {
     {
         match answer {
             Spoken::Kept => {
-                let older = self.older;
-                self.cut = self.cut || older.is_some();
+                let gone = discard_if_there(lane, self.older);
+                self.cut = self.cut.saturating_add(thrown_by(gone));
                 self.older = Some(self.newer.id());
                 self.newer = Opening::Id(id);
-                discard_if_there(lane, older);
             }
             Spoken::Dropped | Spoken::Void | Spoken::Stopped | Spoken::Worn => {
                 lane.discard(id);
@@ -156,7 +155,9 @@ impl LastPath {
         }
     }
 
-    /// Keeps its last records: the older speculation is committed where there is one, and then the newer. Both answers, in that order.
+    /// Keeps its last records: the newer speculation is committed, and then the older where there is one, so that where the principal
+    /// buffer has room for one alone the path's last records are kept. Both answers, the older one's first. In the trace the older
+    /// records stand behind the newer.
     #[inline]
     pub fn commit<S: Schema>(self, lane: &mut Lane<'_, S>) -> (Option<Decided>, Decided)
         ensures same { place_of lane.new ≡ place_of lane.old }
@@ -167,8 +168,8 @@ impl LastPath {
             newer,
             cut: _,
         } = self;
-        let first = commit_if_there(lane, older);
-        (first, lane.commit(newer.id()))
+        let last = lane.commit(newer.id());
+        (commit_if_there(lane, older), last)
     }
 
     /// Throws away what was offered: both speculations are discarded. Both answers, the older one's first.
@@ -182,8 +183,25 @@ impl LastPath {
             newer,
             cut: _,
         } = self;
-        let first = discard_if_there(lane, older);
-        (first, lane.discard(newer.id()))
+        let last = lane.discard(newer.id());
+        (discard_if_there(lane, older), last)
+    }
+}
+
+// How many records a discard threw away, where there was one.
+fn thrown_by(gone: Option<Decided>) -> u32
+    ensures { result ≡ records_thrown gone }
+{
+    match gone {
+        Some(Decided::Thrown(count)) => count,
+        Some(
+            Decided::Copied(_)
+            | Decided::Lost(_)
+            | Decided::Void
+            | Decided::Stopped
+            | Decided::Worn,
+        )
+        | None => 0,
     }
 }
 
@@ -218,7 +236,7 @@ impl<'a, S: Schema> Lane<'a, S> {
         LastPath {
             older: None,
             newer: self.speculation(),
-            cut: false,
+            cut: 0,
         }
     }
 }

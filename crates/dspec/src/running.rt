@@ -12,7 +12,7 @@ ghost use Rattle.dspec_session_core.specs.Sessions.{IsSession};
 ghost use Rattle.dspec.specs.Lent.{AllCallable, AllReturned};
 ghost use Rattle.dspec.specs.Passed.{GotAll, HasListsWith, PassesOn, rests_passed};
 ghost use Rattle.dspec.specs.Serving.{ThenServed};
-ghost use Rattle.dspec.specs.Traced.{IsTracedWith};
+ghost use Rattle.dspec.specs.Traced.{IsOneListWith, IsKeptWith, IsTracedWith};
 ghost use Rattle.dspec.specs.Visits.{MakesRound, MakesRounds, VisitsOne};
 
 use crate::lane::Lane;
@@ -216,8 +216,10 @@ pub fn trace<R: Threads + Sync, W: Work<Enablings>, K: Sink<Enablings>>(
     ensures refused { IfErr result (λ fault. fault ≢ start.Memory → start_fault config.now ≡ Some fault) }
     ensures memory { IfErr result (λ fault. fault ≡ start.Memory → start_fault config.now ≡ None) }
     ensures all { IfOk result (λ r. length r.0 ≡ config.now.cpus) }
+    ensures keeps { IfOk result (λ r. IsKeptWith schema (K.gets schema) (ThenServed (W.does schema work.now)) config.now sink r.0 r.1) }
     ensures traced { IfOk result (λ r. IsTracedWith schema (K.gets schema) (ThenServed (W.does schema work.now)) config.now sink r.0 r.1) }
     ensures listed { IfOk result (λ r. HasListsWith schema (K.gets schema) config.now sink r.0 r.1) }
+    ensures one_list { IfOk result (λ r. IsOneListWith schema (K.gets schema) (ThenServed (W.does schema work.now)) config.now sink r.0 r.1) }
 {
     let session = Session::start(alloc, config, schema)?;
     let (session, mut sink) = run(rt, session, &schema, config.cpus, work, sink);

@@ -10,7 +10,7 @@ ghost use Rattle.dspec_session_core.specs.Sessions.{IsSession};
 ghost use Rattle.dspec.specs.Lent.{AllCallable, AllReturned};
 ghost use Rattle.dspec.specs.Passed.{HasListsWith, PassesOn};
 ghost use Rattle.dspec.specs.Serving.{ThenServed};
-ghost use Rattle.dspec.specs.Traced.{IsTracedWith};
+ghost use Rattle.dspec.specs.Traced.{IsOneListWith, IsKeptWith, IsTracedWith};
 ghost use Rattle.dspec.specs.Visits.{MakesRounds};
 ghost use Rattle.dspec.specs.Workers.{AllNumbered, AllWorked, WorkedBy, WorkedOne, cpus_of, with_cpus, workers_of};
 
@@ -199,8 +199,10 @@ pub fn trace_workers<R: Threads + Sync, W: Worker<Enablings>, K: Sink<Enablings>
     ensures refused { IfErr result (λ fault. fault ≢ start.Memory → start_fault (with_cpus (length workers.items) config.now) ≡ Some fault) }
     ensures memory { IfErr result (λ fault. fault ≡ start.Memory → start_fault (with_cpus (length workers.items) config.now) ≡ None) }
     ensures all { IfOk result (λ r. (length r.0 ≡ length workers.items) × (length r.1.items ≡ length workers.items)) }
+    ensures keeps { IfOk result (λ r. IsKeptWith schema (K.gets schema) (ThenServed (WorkedBy (W.does schema) workers.items r.1.items)) (with_cpus (length workers.items) config.now) sink r.0 r.2) }
     ensures traced { IfOk result (λ r. IsTracedWith schema (K.gets schema) (ThenServed (WorkedBy (W.does schema) workers.items r.1.items)) (with_cpus (length workers.items) config.now) sink r.0 r.2) }
     ensures listed { IfOk result (λ r. HasListsWith schema (K.gets schema) (with_cpus (length workers.items) config.now) sink r.0 r.2) }
+    ensures one_list { IfOk result (λ r. IsOneListWith schema (K.gets schema) (ThenServed (WorkedBy (W.does schema) workers.items r.1.items)) (with_cpus (length workers.items) config.now) sink r.0 r.2) }
 {
     let Ok(cpus) = u32::try_from(workers.len()) else {
         return Err(StartFault::Cpus);

@@ -33,8 +33,8 @@ impl<S: Schema> Cpu<S> {
         self.parts.measure_slot(id, true, true).0
     }
 
-    /// Commits a speculation as `commit` does, but not where this CPU's own block of it would be lost: then the answer is None, nothing
-    /// was done, and the path stays open. A service that switches the principal buffers makes room. It is never Lost.
+    /// Commits a speculation as `commit` does, but not where this CPU's own block of it would be lost: then the answer is None, and the
+    /// CPU is as it was. A service that switches the principal buffers makes room. The answer is never Lost.
     #[inline]
     pub fn commit_if_room(&mut self, shared: &Shared, id: SpecId) -> Option<Decided>
         requires of { Belongs (words_of shared.now) (identity self.old) }

@@ -1,5 +1,5 @@
 -- What each deed of a legal list does for a CPU, as the page tells it: nothing, it offers a record, or it empties a buffer.
-use Rattle.std.proofs.Common.{◌≡◌, ◌⊎◌, ℕ, true, false, ◌==◌, List, [], ◌∷◌, length, Option, None, Some, refl, sym, ◌∙◌, subst, inl, inr, ⊎_elim, true≢false}
+use Rattle.std.proofs.Common.{◌≡◌, ℕ, true, false, ◌==◌, List, [], ◌∷◌, length, Option, None, Some, refl, sym, ◌∙◌, subst, inl, inr, ⊎_elim, true≢false}
 use Rattle.dspec_record.specs.declared.field.Shape.{Shape}
 use Rattle.dspec_record.specs.Record.{Record}
 use Rattle.dspec_word.specs.SpecId.{Speculation}
@@ -20,13 +20,12 @@ use Rattle.dspec_deeds.specs.Reports.{traces_dropped_now, specdrops_now}
 use Rattle.dspec_deeds.specs.Fates as told
 use Rattle.dspec_deeds.proofs.TestLemmas.{either_way, and_false, same_number, number_is_itself, id_is_itself}
 use Rattle.dspec_deeds.proofs.Verdicts.{Told, verdict_told}
-use Rattle.dspec_deeds.proofs.DeedOffers.{Empties, offering, emptying, own_trace}
+use Rattle.dspec_deeds.proofs.DeedOffers.{Empties, own_trace}
 use Rattle.dspec_deeds.proofs.DeedOffers.{own_speculate}
 use Rattle.dspec_deeds.proofs.DeedEffects.{copied_commit, lost_commit, thrown_discard, copied_settle, lost_settle, thrown_settle, legal_effect}
 use Rattle.dspec_promise.specs.Deeds.{done_by}
-use Rattle.dspec_promise.specs.Promise.{By, commit, discard, service, emptied, taken, dropped, discarded}
+use Rattle.dspec_promise.specs.Promise.{By, commit, discard, service, emptied}
 use Rattle.dspec_promise.specs.Promise.{traced_fate, speculated_fate}
-use Rattle.dspec_promise.proofs.Emptying.{one}
 use Rattle.dspec_promise.proofs.DoingKinds.{Does, DoesEmpty, DoesOffer, does_not, does_not_decide, empties_one, nothing, offers_one}
 
 -- the CPU's own offers

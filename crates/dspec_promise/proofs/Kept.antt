@@ -11,13 +11,13 @@ use Rattle.dspec_deeds.specs.declared.deed.Deed.{Deed}
 use Rattle.dspec_deeds.specs.Closes.{WaitsUndecided}
 use Rattle.dspec_deeds.specs.Headline.{FateLaw}
 use Rattle.dspec_deeds.specs.Legal.{IsAllowed, IsLegal}
-use Rattle.dspec_deeds.specs.Own.{held as buffer, stream as stream_of, taken as taken_first, offers as offers_of}
+use Rattle.dspec_deeds.specs.Own.{stream as stream_of, taken as taken_first, offers as offers_of}
 use Rattle.dspec_deeds.specs.Reports.{report, total, traces_dropped_now, specdrops_now}
 use Rattle.dspec_deeds.specs.Fates as told
 use Rattle.dspec_deeds.proofs.Verdicts.{one_decision}
 use Rattle.dspec_deeds.proofs.DeedEffects.{legal_before}
 use Rattle.dspec_deeds.proofs.Headlines.{headline}
-use Rattle.dspec_promise.specs.Deeds.{did, all_did}
+use Rattle.dspec_promise.specs.Deeds.{did, all_did, AtEachMoment, DecidedSoFar}
 use Rattle.dspec_promise.specs.Promise.{RecordFate, taken, dropped, specdropped, lost, discarded, void, held, emptied_fate, same_fate, Handed}
 use Rattle.dspec_promise.specs.Promise.{once_emptied, handed, cpu_stream, number, of, KeepsPromise, Promise}
 use Rattle.dspec_promise.specs.SameFates.{IsFate}
@@ -154,12 +154,20 @@ three_drops (o ∷ os) = let e = three_drops os in by o.fate e
 same_stream : (shape : ℕ → Option Shape) (k : Config) (c : ℕ) (h : List Deed) → IsAllowed shape k h → stream_of c h ≡ reverse (cpu_stream (did c h))
 same_stream shape k c h l = ap reverse (accepted_stream shape k c h l)
 
+-- what a fate follows was done by then
+decided_so_far : (shape : ℕ → Option Shape) (k : Config) (h : List Deed) → IsLegal shape k h → DecidedSoFar k.cpus h
+decided_so_far shape k h l c = all_follow k h l.1 (handed (did c h)) (all_decided shape k c h l.0)
+
+pub always : (shape : ℕ → Option Shape) (k : Config) (h : List Deed) → IsLegal shape k h → AtEachMoment (DecidedSoFar k.cpus) h
+always shape k [] l = decided_so_far shape k [] l
+always shape k (d ∷ h) l = (always shape k h (legal_before shape k d h l.0, l.1.0), decided_so_far shape k (d ∷ h) l)
+
 -- at every moment, of whatever is the beginning of the stream
 keeps : (shape : ℕ → Option Shape) (k : Config) (c : ℕ) (h : List Deed) (seen rest : List Record) → IsLegal shape k h → stream_of c h ≡ seen ++ rest → KeepsPromise k.cpus (all_did h) c seen
 keeps shape k c h seen rest l begins = record {
   in_order = (rest, sym (same_stream shape k c h l.0) ∙ begins);
   once = λ test. once test (did c h);
-  decided = all_follow k h l.1 (handed (did c h)) (all_decided shape k c h l.0);
+  decided = decided_so_far shape k h l c;
   one_decision = λ id t. λ b less. never_discarded b id h (one_decision k id h l.0.0 (has_committed t.0 id h t.2));
   numbers = numbers_told shape k c h l.0;
 }

@@ -1,5 +1,5 @@
 -- That the fates which a list tells are those of the page, and each follows its decision.
-use Rattle.std.proofs.Common.{◌≡◌, ℕ, ◌+◌, ◌<◌, Bool, true, false, ◌&&◌, ◌||◌, if◌then◌else◌, List, [], ◌∷◌, ◌++◌}
+use Rattle.std.proofs.Common.{◌≡◌, ℕ, ◌<◌, Bool, true, false, ◌&&◌, ◌||◌, if◌then◌else◌, List, [], ◌∷◌, ◌++◌}
 use Rattle.std.proofs.Common.{map, length, Option, None, Some, refl, sym, ap, ◌∙◌, subst, ⊎_elim, true≢false, arith}
 use Rattle.std.specs.List.{AllByRecursion}
 use Rattle.dspec_record.specs.declared.field.Shape.{Shape}
@@ -18,10 +18,9 @@ use Rattle.dspec_deeds.proofs.DeedOffers.{waits_for as waits_told}
 use Rattle.dspec_deeds.proofs.DeedEffects.{legal_before}
 use Rattle.dspec_promise.specs.Deeds.{did, all_did}
 use Rattle.dspec_promise.specs.Promise.{RecordFate, taken, dropped, specdropped, lost, discarded, void, held, emptied_fate, same_fate, is_same_id, Handed, is_for}
-use Rattle.dspec_promise.specs.Promise.{waits_for, once_emptied, handed, held_for, cpu_stream, is_commit_of, is_discard_of, number, of, TellNumbers, Never, WasDecided}
+use Rattle.dspec_promise.specs.Promise.{waits_for, once_emptied, handed, held_for, cpu_stream, is_commit_of, is_discard_of, TellNumbers, Never, AllDecided, WasDecided}
 use Rattle.dspec_promise.specs.SameFates.{IsFate, AreOffers}
 use Rattle.dspec_promise.proofs.Emptying.{waits_tells, emptied_one, emptied_other, waiting_emptied}
-use Rattle.dspec_promise.proofs.Once.{once}
 use Rattle.dspec_promise.proofs.DoingKinds.{as_told, IsDue, DoesEmpty, Does, nothing, offers_one, empties_one}
 use Rattle.dspec_promise.proofs.Doings.{does}
 use Rattle.dspec_promise.proofs.Decisions.{committed_by, discarded_by, never_committed, never_discarded}
@@ -187,7 +186,7 @@ follows k h id void a t = tt
 follows k h id held a t = tt
 
 pub all_follow : (k : Config) (h : List Deed) → HasAuthors k h → (os : List Handed) → AllByRecursion (IsDecided h) os
-    → AllByRecursion (λ o. (id : Speculation) → o.to ≡ Some id → WasDecided k.cpus (all_did h) id o.fate) os
+    → AllDecided k.cpus (all_did h) os
 all_follow k h a [] t = tt
 all_follow k h a (o ∷ os) t = (λ id e. follows k h id o.fate a (t.0 id e), all_follow k h a os t.1)
 

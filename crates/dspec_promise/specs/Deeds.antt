@@ -2,7 +2,7 @@
 use Rattle.std.specs.Prelude.{ℕ, ◌==◌, List, [], ◌∷◌, ◌++◌, if◌then◌else◌}
 use Rattle.dspec_deeds.specs.declared.deed.Deed.{Deed}
 use Rattle.dspec_deeds.specs.declared.deed.Deed.TheVariants.{Trace, Speculate, Commit, Discard, Settle}
-use Rattle.dspec_promise.specs.Promise.{commit, discard, service, Did, traced, speculated, emptied}
+use Rattle.dspec_promise.specs.Promise.{commit, discard, service, Did, traced, speculated, emptied, handed, AllDecided}
 
 abbrev pub done_by : ℕ → Deed → List Did
 done_by c (Trace a r f) = if c == a then traced r f ∷ [] else []
@@ -20,3 +20,12 @@ did c (d ∷ h) = done_by c d ++ did c h
 -- what each of them did
 abbrev pub all_did : List Deed → ℕ → List Did
 all_did h c = did c h
+
+-- by what was done so far, each record of each CPU has a fate of which the decision was made
+abbrev pub DecidedSoFar : ℕ → List Deed → Type 0
+DecidedSoFar cpus h = (c : ℕ) → AllDecided cpus (all_did h) (handed (did c h))
+
+-- so it was at the beginning, and behind each deed of the list
+abbrev pub AtEachMoment : (List Deed → Type 0) → List Deed → Type 0
+AtEachMoment P [] = P []
+AtEachMoment P (d ∷ h) = AtEachMoment P h × P (d ∷ h)

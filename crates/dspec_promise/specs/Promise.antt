@@ -165,6 +165,10 @@ module _ (cpus : ℕ) (all : ℕ → List Did) where
   WasDecided id discarded = Happened (is_discard_of id)
   WasDecided id f = Unit {0}
 
+  -- of these records each has a fate of which that has been decided
+  abbrev pub AllDecided : List Handed → Type 0
+  AllDecided os = AllByRecursion (λ o. (id : Speculation) → o.to ≡ Some id → WasDecided id o.fate) os
+
   -- 7. AT EVERY MOMENT, of CPU c: `seen` are its records that came out so far, the first one first.
   pub record KeepsPromise (c : ℕ) (seen : List Record) : Type 0 where
     -- in order and without a gap: what came out is the beginning of the stream
@@ -172,7 +176,7 @@ module _ (cpus : ℕ) (all : ℕ → List Did) where
     -- each once: any test passes as many records of the stream as taken ones
     pub once : (test : Record → Bool) → number test (cpu_stream (all c)) ≡ number (λ o. of taken o && test o.content) (handed (all c))
     -- no leak: a record for a speculation was taken, or lost, only after its commit, and thrown away only after its discard
-    pub decided : AllByRecursion (λ o. (id : Speculation) → o.to ≡ Some id → WasDecided id o.fate) (handed (all c))
+    pub decided : AllDecided (handed (all c))
     -- no speculation has both a commit and a discard
     pub one_decision : (id : Speculation) → Happened (is_commit_of id) → Never (is_discard_of id)
     -- the numbers in the answers are right

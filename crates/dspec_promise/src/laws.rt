@@ -17,13 +17,15 @@ ghost use Rattle.dspec_deeds.specs.Closes.{WaitsUndecided};
 ghost use Rattle.dspec_deeds.specs.Own.{offers as offers_of, stream, taken};
 ghost use Rattle.dspec_deeds.specs.Reports.{report};
 ghost use Rattle.dspec_promise.specs.Promise.{commit, discard, service, traced, speculated, emptied, handed, KeepsPromise, Promise};
-ghost use Rattle.dspec_promise.specs.Deeds.{did, all_did};
+ghost use Rattle.dspec_promise.specs.Deeds.{AtEachMoment, DecidedSoFar, all_did, did};
 ghost use Rattle.dspec_promise.specs.Reasons.{GivenOnce, HaveReasons};
 ghost use Rattle.dspec_promise.specs.SameFates.{AreOffers};
 
-/// At every moment the page's promise is kept of what the consumer has taken, however many batches.
+/// At every moment the page's promise is kept of what the consumer has taken, however many batches; and at each moment before it each
+/// record had a fate of which the decision was made by then.
 pub fn underway_law()
-    ensures { (shape : ℕ → Option Shape) (k : Config) (h : List Deed) (c n : ℕ) → IsLegal shape k h → KeepsPromise k.cpus (all_did h) c (taken n c h) }
+    ensures always { (shape : ℕ → Option Shape) (k : Config) (h : List Deed) → IsLegal shape k h → AtEachMoment (DecidedSoFar k.cpus) h }
+    ensures keeps { (shape : ℕ → Option Shape) (k : Config) (h : List Deed) (c n : ℕ) → IsLegal shape k h → KeepsPromise k.cpus (all_did h) c (taken n c h) }
 {}
 
 /// Once a session is closed, the page's promise holds of each of its CPUs: of its stream, and of its report.

@@ -16,5 +16,7 @@ mod demonstration;
 mod gate;
 
 pub use demonstration::{DemoFault, DemoLine, Demonstration, demo, demonstrate};
-pub use dspec_session_core::{Closed, Consumer, Session, close_of_lists, one_batch_left};
+pub use dspec_session_core::{
+    Closed, Consumer, Session, close_of_lists, one_batch_left, settles_what_is_owed,
+};
 pub use gate::{Free, Gate, RoundGate};

@@ -21,14 +21,13 @@ use Rattle.dspec_session_core.specs.Promised.{settle_deeds}
 abbrev pub AddsSettlements : ℕ → List Deed → List Deed → Type 0
 AddsSettlements c p q = (ss : List (Speculation × DecideFate)) × (q ≡ settle_deeds c ss ++ p)
 
-module _ (shape : ℕ → Option Shape) (k : Config) (words : ℕ → SlotState) (c : ℕ) where
-  settles : (b : Bool) (id : Speculation) (f : DecideFate) (p q : List Deed) → AddsSettlements c p q → AddsSettlements c p (if b then Settle c id f ∷ q else q)
-  settles true id f p q a = ((id, f) ∷ a.0, ap (λ ds. Settle c id f ∷ ds) a.1)
-  settles false id f p q a = a
+pub settles : (c : ℕ) (b : Bool) (id : Speculation) (f : DecideFate) (p q : List Deed) → AddsSettlements c p q → AddsSettlements c p (if b then Settle c id f ∷ q else q)
+settles c true id f p q a = ((id, f) ∷ a.0, ap (λ ds. Settle c id f ∷ ds) a.1)
+settles c false id f p q a = a
 
-  pub close_adds : (n : ℕ) (p : List Deed) → AddsSettlements c p (own_closed shape k words c n p)
-  close_adds zero p = ([], refl)
-  close_adds (suc n) p = settles _ _ _ p (own_closed shape k words c n p) (close_adds n p)
+pub close_adds : (shape : ℕ → Option Shape) (k : Config) (words : ℕ → SlotState) (c n : ℕ) (p : List Deed) → AddsSettlements c p (own_closed shape k words c n p)
+close_adds shape k words c zero p = ([], refl)
+close_adds shape k words c (suc n) p = settles c _ _ _ p (own_closed shape k words c n p) (close_adds shape k words c n p)
 
 -- what they did
 pub did_settlements : (c : ℕ) (ss : List (Speculation × DecideFate)) (p : List Deed) → did c (settle_deeds c ss ++ p) ≡ settled_did ss ++ did c p

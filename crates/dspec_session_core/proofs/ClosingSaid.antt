@@ -1,118 +1,50 @@
--- The settlements of the close are those that the page says: what each CPU owes by the list before it, CPU by CPU.
-use Rattle.std.proofs.Common.{◌≡◌, ℕ, zero, suc, ◌<◌, ◌≤◌, Bool, true, false, not, ◌&&◌, ◌==◌, if◌then◌else◌, List, ◌∷◌, ◌++◌, Option, None, refl, sym, ap, ◌∙◌, subst, ⊎_elim, true≢false, arith}
-use Rattle.std.specs.Prelude.{is_none, nat_le}
+-- The settlements of the close stand in front of the list before it, CPU by CPU.
+use Rattle.std.proofs.Common.{◌≡◌, ℕ, zero, suc, ◌<◌, ◌≤◌, true, false, ◌==◌, List, [], ◌++◌, Option, refl, sym, ap, ◌∙◌, subst, ⊎_elim, arith}
 use Rattle.std.proofs.lemmas.Bool.Decides.{nat_tests}
 use Rattle.dspec_record.specs.declared.field.Shape.{Shape}
-use Rattle.dspec_word.specs.declared.act.Act.TheVariants.{Granted, Idle}
-use Rattle.dspec_word.specs.declared.code.Code.TheVariants.{Inactive, Committing, CommittingMany}
-use Rattle.dspec_word.specs.Code.{awaits}
 use Rattle.dspec_word.specs.SpecId.{Speculation}
-use Rattle.dspec_word.specs.Tables.{settle_at}
 use Rattle.dspec_deeds.specs.declared.config.Config.{Config}
 use Rattle.dspec_deeds.specs.declared.deed.DecideFate.{DecideFate}
 use Rattle.dspec_deeds.specs.declared.deed.Deed.{Deed}
-use Rattle.dspec_deeds.specs.declared.deed.Deed.TheVariants.{Settle}
-use Rattle.dspec_deeds.specs.Closes.{CanClose, is_granted, closed_slot, closed_slots, closed_cpus, closing}
-use Rattle.dspec_deeds.specs.History.{Verdict, undecided, committed, discarded, verdict, is_undecided, callers, is_busy, is_sole_or_none, standing, issue, present, owed, settled, solo, word_at, ack}
-use Rattle.dspec_deeds.specs.Legal.{IsSound}
-use Rattle.dspec_deeds.specs.Ranges.{start_fault}
-use Rattle.dspec_deeds.specs.Settling.{settle_fate}
-use Rattle.dspec_deeds.proofs.Acked.{ack_tells}
-use Rattle.dspec_deeds.proofs.Awaiting.{awaits_is}
-use Rattle.dspec_deeds.proofs.PresentIds.{decided_given}
-use Rattle.dspec_deeds.proofs.TestLemmas.{either_way, and_tells, same_number, other_number}
-use Rattle.dspec_interleaving.proofs.Closing.{slots_settle, cpus_settle}
+use Rattle.dspec_deeds.specs.Closes.{closed_slots, closed_cpus, closing}
+use Rattle.dspec_deeds.proofs.TestLemmas.{either_way, same_number, other_number}
 use Rattle.dspec_promise.specs.Deeds.{did}
 use Rattle.dspec_cpu.specs.Called.{settled_did}
-use Rattle.dspec_session_core.specs.Promised.{settle_deeds, owes_settlement, owed_fate, owed_more, owed_in, closed_up, closed_for}
-use Rattle.dspec_session_core.proofs.ClosedDeeds.{did_settlements, did_others}
-
-granted_is : (b : Bool) → is_granted (if b then Granted else Idle) ≡ b
-granted_is true = refl
-granted_is false = refl
-
-not_tells : (b : Bool) → not b ≡ true → b ≡ false
-not_tells true e = absurd (true≢false (sym e))
-not_tells false e = refl
+use Rattle.dspec_session_core.specs.Promised.{settle_deeds, closed_up}
+use Rattle.dspec_session_core.proofs.ClosedDeeds.{AddsSettlements, did_settlements, did_others, settles}
 
 module _ (shape : ℕ → Option Shape) (k : Config) where
-  -- a CPU settles in a slot exactly where it owes that
-  owed_is : (c s : ℕ) (h : List Deed) → IsSound k h → owed h ≡ 0 → is_granted (settle_at (word_at s h) (ack c s h)) ≡ owes_settlement c s h
-  owed_is c s h sound rests =
-      granted_is (awaits (word_at s h).code && nat_le (ack c s h) (issue s h)) ∙ (λ i. awaits_is k s h sound rests i && ack_tells k c s h sound i)
+  -- what the slots add
+  slots_add : (c n : ℕ) (h : List Deed) → AddsSettlements c h (closed_slots shape k c n h)
+  slots_add c zero h = ([], refl)
+  slots_add c (suc n) h = settles c _ _ _ h (closed_slots shape k c n h) (slots_add c n h)
 
-  -- what the word's code says is what the decision says
-  fate_said : (c s : ℕ) (h : List Deed) → IsSound k h → is_undecided (verdict (present s h) h) ≡ false
-      → settle_fate shape k c h (present s h) (word_at s h).code ≡ owed_fate shape k c (present s h) h (verdict (present s h) h)
-  fate_said c s h sound ruled =
-      ap (λ b. settle_fate shape k c h (present s h) (if b then standing (verdict (present s h) h) (callers (present s h) h) else Inactive))
-      (decided_given k h (present s h) sound ruled) ∙ go (verdict (present s h) h) (callers (present s h) h) ruled
-    where
-      by : (a : ℕ) (b : Bool) → settle_fate shape k c h (present s h) (if b then Committing else CommittingMany) ≡ owed_fate shape k c (present s h) h (committed a)
-      by a true = refl
-      by a false = refl
+  -- what the close settles for a CPU
+  pub closed_for : List Deed → ℕ → List (Speculation × DecideFate)
+  closed_for h c = (slots_add c k.nspec (closed_cpus shape k c h)).0
 
-      go : (v : Verdict) (cs : List ℕ) → is_undecided v ≡ false → settle_fate shape k c h (present s h) (standing v cs) ≡ owed_fate shape k c (present s h) h v
-      go undecided cs r = absurd (true≢false r)
-      go (committed a) cs r = by a (is_sole_or_none a cs)
-      go (discarded a) cs r = refl
+  cpus_said : (n : ℕ) (h : List Deed) → closed_cpus shape k n h ≡ closed_up (closed_for h) n h
+  unfolding closed_for
+  cpus_said zero h = refl
+  cpus_said (suc n) h = (slots_add n k.nspec (closed_cpus shape k n h)).1 ∙ ap (λ p. settle_deeds n (closed_for h n) ++ p) (cpus_said n h)
 
-  slot_said : (c s : ℕ) (ss : List (Speculation × DecideFate)) (h : List Deed) → IsSound k (settle_deeds c ss ++ h) → owed (settle_deeds c ss ++ h) ≡ 0
-      → settle_deeds c (owed_more shape k c s ss (settle_deeds c ss ++ h)) ++ h ≡ closed_slot shape k c s (settle_deeds c ss ++ h)
-  slot_said c s ss h sound rests =
-      let g = settle_deeds c ss ++ h in
-      let id = present s g in
-      let said = owed_fate shape k c id g (verdict id g) in
-      let done = settle_fate shape k c g id (word_at s g).code in
-      let same = owed_is c s g sound rests in
-      ⊎_elim
-      (λ (t : owes_settlement c s g ≡ true).
-      let both = and_tells (is_busy s g && is_none (solo id g)) (not (settled c id g)) t in
-      let busy = and_tells (is_busy s g) (is_none (solo id g)) both.0 in
-      let ruled : is_undecided (verdict id g) ≡ false = not_tells (is_undecided (verdict id g)) busy.0 in
-      ap (λ b. settle_deeds c (if b then (id, said) ∷ ss else ss) ++ h) t
-      ∙ (ap (λ x. Settle c id x ∷ g) (sym (fate_said c s g sound ruled))
-      ∙ sym (ap (λ b. if b then Settle c id done ∷ g else g) (same ∙ t))))
-      (λ (f : owes_settlement c s g ≡ false).
-      ap (λ b. settle_deeds c (if b then (id, said) ∷ ss else ss) ++ h) f
-      ∙ sym (ap (λ b. if b then Settle c id done ∷ g else g) (same ∙ f)))
-      (either_way (owes_settlement c s g))
+  pub closing_said : (h : List Deed) → closing shape k h ≡ closed_up (closed_for h) k.cpus h
+  closing_said h = cpus_said k.cpus h
 
-  module _ (fine : start_fault k ≡ None) where
-    slots_said : (c n : ℕ) (h : List Deed) → CanClose shape k h → c < k.cpus → n ≤ k.nspec
-        → settle_deeds c (owed_in shape k c n h) ++ h ≡ closed_slots shape k c n h
-    slots_said c zero h rest lt most = refl
-    slots_said c (suc n) h rest lt most =
-        let before = slots_said c n h rest lt (omega arith) in
-        let settle = slots_settle shape k fine c n h rest lt (omega arith) in
-        let can : CanClose shape k (settle_deeds c (owed_in shape k c n h) ++ h) = subst (CanClose shape k) (sym before) settle.0.rest in
-        slot_said c (suc n) (owed_in shape k c n h) h can.legal.0 can.rests ∙ ap (closed_slot shape k c (suc n)) before
-
-    cpus_said : (n : ℕ) (h : List Deed) → CanClose shape k h → n ≤ k.cpus → closed_up shape k n h ≡ closed_cpus shape k n h
-    cpus_said zero h rest most = refl
-    cpus_said (suc n) h rest most =
-        let before = cpus_said n h rest (omega arith) in
-        let settle = cpus_settle shape k fine n h rest (omega arith) in
-        let can : CanClose shape k (closed_up shape k n h) = subst (CanClose shape k) (sym before) settle.0.rest in
-        slots_said n k.nspec (closed_up shape k n h) can (omega arith) (omega arith) ∙ ap (closed_slots shape k n k.nspec) before
-
-    pub closing_said : (h : List Deed) → CanClose shape k h → closing shape k h ≡ closed_up shape k k.cpus h
-    closing_said h rest = sym (cpus_said k.cpus h rest (omega arith))
-
+module _ (closed : ℕ → List (Speculation × DecideFate)) where
   -- what a CPU did, with what the close settled for it
-  did_beyond : (n c : ℕ) (h : List Deed) → n ≤ c → did c (closed_up shape k n h) ≡ did c h
+  did_beyond : (n c : ℕ) (h : List Deed) → n ≤ c → did c (closed_up closed n h) ≡ did c h
   did_beyond zero c h le = refl
-  did_beyond (suc n) c h le =
-      did_others c n (owed_in shape k n k.nspec (closed_up shape k n h)) (closed_up shape k n h) (other_number c n (omega arith)) ∙ did_beyond n c h (omega arith)
+  did_beyond (suc n) c h le = did_others c n (closed n) (closed_up closed n h) (other_number c n (omega arith)) ∙ did_beyond n c h (omega arith)
 
-  pub did_closed : (n c : ℕ) (h : List Deed) → c < n → did c (closed_up shape k n h) ≡ settled_did (closed_for shape k h c) ++ did c h
+  pub did_closed : (n c : ℕ) (h : List Deed) → c < n → did c (closed_up closed n h) ≡ settled_did (closed c) ++ did c h
   did_closed zero c h lt = absurd (omega arith)
   did_closed (suc n) c h lt = ⊎_elim
       (λ (t : (c == n) ≡ true).
       let is = same_number c n t in
-      subst (λ x. did x (closed_up shape k (suc n) h) ≡ settled_did (closed_for shape k h x) ++ did x h) (sym is)
-      (did_settlements n (closed_for shape k h n) (closed_up shape k n h) ∙ ap (λ ds. settled_did (closed_for shape k h n) ++ ds) (did_beyond n n h (omega arith))))
+      subst (λ x. did x (closed_up closed (suc n) h) ≡ settled_did (closed x) ++ did x h) (sym is)
+      (did_settlements n (closed n) (closed_up closed n h) ∙ ap (λ ds. settled_did (closed n) ++ ds) (did_beyond n n h (omega arith))))
       (λ (f : (c == n) ≡ false).
       let below : c < n = grind (arith, nat_tests) in
-      did_others c n (closed_for shape k h n) (closed_up shape k n h) f ∙ did_closed n c h below)
+      did_others c n (closed n) (closed_up closed n h) f ∙ did_closed n c h below)
       (either_way (c == n))

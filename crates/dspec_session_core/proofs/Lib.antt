@@ -18,5 +18,6 @@ pub mod AllParted
 mod Standing
 pub mod ClosedDeeds
 pub mod ClosingSaid
+pub mod OwedSaid
 pub mod Mixes
 pub mod PromisedBy

@@ -1,22 +1,23 @@
 -- A list that closes the lists of the CPUs promises each of them what the page says of its calls.
-use Rattle.std.proofs.Common.{◌≡◌, ℕ, zero, suc, ◌<◌, Bool, List, [], ◌∷◌, ◌++◌, length, Option, Some, None, refl, sym, ap, ◌∙◌, subst, arith}
+use Rattle.std.proofs.Common.{◌≡◌, ℕ, zero, suc, ◌<◌, Bool, List, [], ◌∷◌, ◌++◌, length, Option, Some, refl, sym, ap, ◌∙◌, subst, arith}
 use Rattle.std.specs.Prelude.{reverse, slice_get}
 use Rattle.std.specs.Option.{option_map_or}
 use Rattle.std.proofs.lemmas.Option.{slice_get_within}
 use Rattle.dspec_record.specs.Record.{Record}
 use Rattle.dspec_record.specs.declared.field.Shape.{Shape}
+use Rattle.dspec_word.specs.SpecId.{Speculation}
 use Rattle.dspec_deeds.specs.declared.config.Config.{Config}
 use Rattle.dspec_deeds.specs.declared.calls.Actor.TheVariants.{Cpu as CpuActor}
+use Rattle.dspec_deeds.specs.declared.deed.DecideFate.{DecideFate}
 use Rattle.dspec_deeds.specs.declared.deed.Deed.{Deed}
 use Rattle.dspec_deeds.specs.declared.report.Report.{Report}
 use Rattle.dspec_deeds.specs.History.{part, word_at}
 use Rattle.dspec_deeds.specs.Own.{stream}
-use Rattle.dspec_deeds.specs.Ranges.{start_fault}
 use Rattle.dspec_deeds.specs.Weaving.{bare}
 use Rattle.dspec_interleaving.specs.CpuClose.{own_closed}
 use Rattle.dspec_promise.specs.Deeds.{did, all_did}
 use Rattle.dspec_promise.specs.Promise.{Promise}
-use Rattle.dspec_promise.proofs.Kept.{promise}
+use Rattle.dspec_promise.proofs.Kept.{always, promise}
 use Rattle.dspec_promise.proofs.OwnDid.{did_part, did_bare}
 use Rattle.dspec_promise.proofs.Refused.{given_once, reasons}
 use Rattle.dspec_ring.specs.declared.batch.Batch.{Batch}
@@ -28,10 +29,10 @@ use Rattle.dspec_cpu.specs.Sealed.{AreSealed, waiting}
 use Rattle.dspec_session_core.specs.declared.left.Left.{Left}
 use Rattle.dspec_session_core.specs.Closing.{ClosesAs}
 use Rattle.dspec_session_core.specs.Leaving.{Has}
-use Rattle.dspec_session_core.specs.Promised.{IsPromised, IsPromisedBy, called_at, closed_for, closed_up, entered_at, settle_deeds}
+use Rattle.dspec_session_core.specs.Promised.{IsPromised, IsPromisedBy, KeepsPage, called_at, closed_up, entered_at, settle_deeds}
 use Rattle.dspec_session_core.specs.Sessions.{worn_at}
 use Rattle.dspec_session_core.proofs.ClosedDeeds.{AddsSettlements, close_adds, sealed_before}
-use Rattle.dspec_session_core.proofs.ClosingSaid.{closing_said, did_closed}
+use Rattle.dspec_session_core.proofs.ClosingSaid.{closed_for, closing_said, did_closed}
 use Rattle.dspec_session_core.proofs.Mixes.{mix_of_all, with_seals}
 
 -- there is one at each place
@@ -61,18 +62,21 @@ module _ {S : Type 0} (shape_of : S → ℕ → Option Shape) (accepted : S → 
   had_tells c cpu p number has = sym (did_bare c p) ∙ (ap (did c) has.own ∙ ap (λ n. did n (known (seat_of cpu)).own) (sym number))
 
 module _ (shape : ℕ → Option Shape) (accepted : Record → Bool) (text : Record → List ℕ) (k : Config) (worn : ℕ → ℕ) (taken : ℕ → List Batch) (consumer : List Deed)
-    (left : List Left) (p : ℕ → List Deed) (g : List Deed) (checked : start_fault k ≡ None)
+    (left : List Left) (p : ℕ → List Deed) (g : List Deed)
     (closes : ClosesAs shape accepted text k worn taken consumer left p g) where
-  -- the settlements of the close are those that the CPUs owe
-  closing_is : g ≡ closed_up shape k k.cpus closes.before
-  closing_is = closes.closing_is ∙ closing_said shape k checked closes.before closes.all_before.can_close
+  -- what the close settled for each CPU
+  abbrev closed : ℕ → List (Speculation × DecideFate)
+  closed c = closed_for shape k closes.before c
+
+  closing_is : g ≡ closed_up closed k.cpus closes.before
+  closing_is = closes.closing_is ∙ closing_said shape k closes.before
 
   -- what a CPU did is what its list did, and what the close settled for it
-  answered : (c : ℕ) → c < k.cpus → did c g ≡ settled_did (closed_for shape k closes.before c) ++ did c (p c)
+  answered : (c : ℕ) → c < k.cpus → did c g ≡ settled_did (closed c) ++ did c (p c)
   answered c lt =
       ap (did c) closing_is
-      ∙ (did_closed shape k k.cpus c closes.before lt
-      ∙ ap (λ ds. settled_did (closed_for shape k closes.before c) ++ ds) (sym (did_part c closes.before) ∙ ap (did c) (closes.all_before.own c lt)))
+      ∙ (did_closed closed k.cpus c closes.before lt
+      ∙ ap (λ ds. settled_did (closed c) ++ ds) (sym (did_part c closes.before) ∙ ap (did c) (closes.all_before.own c lt)))
 
   -- a CPU's part has settlements in front of its list
   added : (c : ℕ) → AddsSettlements c (p c) (own_closed shape k (λ s. word_at s g) c k.nspec (p c))
@@ -82,19 +86,19 @@ module _ (shape : ℕ → Option Shape) (accepted : Record → Bool) (text : Rec
   own_part c l at = (closes.each c l at).own ∙ (added c).1
 
   each_promised : (c : ℕ) (l : Left) (calls : CallsMade) → slice_get left c ≡ Some l → did c (p c) ≡ calls.done → worn c ≡ calls.worn
-      → IsPromised shape accepted text k.cpus (all_did g) c calls (closed_for shape k closes.before c) (taken c ++ waiting l.rest ++ l.last ∷ []) l.report
+      → IsPromised shape accepted text k.cpus (all_did g) c calls (closed c) (taken c ++ waiting l.rest ++ l.last ∷ []) l.report
   each_promised c l calls at done wears =
       let each = closes.each c l at in
       let lt : c < k.cpus = subst (λ n. c < n) closes.all (slice_get_within left c l at) in
       record {
-        answered = answered c lt ∙ ap (λ ds. settled_did (closed_for shape k closes.before c) ++ ds) done;
+        answered = answered c lt ∙ ap (λ ds. settled_did (closed c) ++ ds) done;
         worn = ap (λ (r : Report). r.worn) each.reported ∙ wears;
         seen = stream c g;
         hold = each.kept;
         promise = subst (Promise k.cpus (all_did g) c (stream c g)) (sym each.reported) (promise shape k c (worn c) g closes.legal closes.waits lt);
       }
 
-  pub promised_by : (entered : ℕ → List Deed) (calls : ℕ → CallsMade) → ((c : ℕ) → c < k.cpus → bare (p c) ≡ entered c)
+  promised_by : (entered : ℕ → List Deed) (calls : ℕ → CallsMade) → ((c : ℕ) → c < k.cpus → bare (p c) ≡ entered c)
       → ((c : ℕ) → c < k.cpus → did c (p c) ≡ (calls c).done) → ((c : ℕ) → c < k.cpus → worn c ≡ (calls c).worn)
       → IsPromisedBy shape accepted text k entered consumer calls taken left
   promised_by entered calls bares done wears = record {
@@ -106,11 +110,27 @@ module _ (shape : ℕ → Option Shape) (accepted : Record → Bool) (text : Rec
         let bs = reverse (taken c ++ waiting l.rest) in
         with_seals shape accepted text k c (entered c) bs (p c) (bares c lt) (sealed_before shape accepted text k c (added c).0 (p c) bs
         (subst (λ q. AreSealed shape accepted text k c q bs) (own_part c l at) (closes.each c l at).sealed));
+    closed = closed;
     deeds = g;
     closing = closing_is;
     reasons = reasons shape k g closes.legal.0;
     once = given_once k g closes.legal.0.0;
+    always = always shape k g closes.legal;
     each = λ c l at.
         let lt : c < k.cpus = subst (λ n. c < n) closes.all (slice_get_within left c l at) in
         each_promised c l (calls c) at (done c lt) (wears c lt);
   }
+
+  -- and the list is that one
+  pub promised_with : (entered : ℕ → List Deed) (calls : ℕ → CallsMade) → ((c : ℕ) → c < k.cpus → bare (p c) ≡ entered c)
+      → ((c : ℕ) → c < k.cpus → did c (p c) ≡ (calls c).done) → ((c : ℕ) → c < k.cpus → worn c ≡ (calls c).worn)
+      → (promised : IsPromisedBy shape accepted text k entered consumer calls taken left) × (promised.deeds ≡ g)
+  unfolding promised_by
+  promised_with entered calls bares done wears = (promised_by entered calls bares done wears, refl)
+
+module _ (shape : ℕ → Option Shape) (accepted : Record → Bool) (text : Record → List ℕ) where
+  -- the page alone, without the list
+  pub page_alone : (k : Config) (entered : ℕ → List Deed) (consumer : List Deed) (calls : ℕ → CallsMade) (taken : ℕ → List Batch) (left : List Left)
+      → IsPromisedBy shape accepted text k entered consumer calls taken left
+      → KeepsPage shape accepted text k.cpus calls (λ c l. taken c ++ waiting l.rest ++ l.last ∷ []) left
+  page_alone k entered consumer calls taken left by = record { all = all_did by.deeds; closed = by.closed; each = by.each }

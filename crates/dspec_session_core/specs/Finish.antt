@@ -1,16 +1,17 @@
 -- Believed. What the end of a session promises, said of the session that is ended.
-use Rattle.std.specs.Prelude.{ℕ, Bool, List, Option}
+use Rattle.std.specs.Prelude.{ℕ, ◌≡◌, ◌<◌, Bool, List, [], ◌∷◌, ◌++◌, Option}
 use Rattle.dspec_record.specs.Record.{Record}
 use Rattle.dspec_record.specs.declared.field.Shape.{Shape}
 use Rattle.dspec_deeds.specs.declared.deed.Deed.{Deed}
 use Rattle.dspec_table.specs.Seats.{set_up}
 use Rattle.dspec_cpu.specs.declared.cpu.Cpu.{Cpu}
 use Rattle.dspec_cpu.specs.Lists.{words_of}
+use Rattle.dspec_cpu.specs.Sealed.{waiting}
 use Rattle.dspec_session_core.specs.declared.left.Left.{Left}
 use Rattle.dspec_session_core.specs.declared.session.Session.{Session}
-use Rattle.dspec_session_core.specs.Closing.{IsClosedBy}
+use Rattle.dspec_session_core.specs.Closing.{ClosesAs, IsClosedBy}
 use Rattle.dspec_session_core.specs.Consumers.{view_of}
-use Rattle.dspec_session_core.specs.Promised.{IsPromisedBy, called_at, entered_at}
+use Rattle.dspec_session_core.specs.Promised.{IsPromisedBy, KeepsPage, called_at, entered_at}
 use Rattle.dspec_session_core.specs.Sessions.{HasAt, taken_at, worn_at}
 
 -- by what each schema has
@@ -24,3 +25,14 @@ module _ {S : Type 0} (shape_of : S → ℕ → Option Shape) (accepted : S → 
   abbrev pub FinishPromises : S → Session S → List Left → Type 0
   FinishPromises schema it left = IsPromisedBy (shape_of schema) (accepted schema) (text schema) (set_up (words_of it.shared))
       (entered_at it.cpus.items) (view_of it.consumer).own (called_at it.cpus.items) (taken_at it.consumer) left
+
+  -- one list does both, for whichever lists its CPUs had: it closes the session, and by it each CPU is promised the page
+  abbrev pub FinishByOneList : (Cpu S → List Deed → Type 0) → S → Session S → List Left → Type 0
+  FinishByOneList has schema it left = (p : ℕ → List Deed) → ((c : ℕ) → c < (set_up (words_of it.shared)).cpus → HasAt has it.cpus.items c (p c))
+      → (g : List Deed) × ClosesAs (shape_of schema) (accepted schema) (text schema) (set_up (words_of it.shared)) (worn_at it.cpus.items) (taken_at it.consumer) (view_of it.consumer).own left p g
+      × ((promised : FinishPromises schema it left) × (promised.deeds ≡ g))
+
+  -- in short: each CPU is promised the page, of its batches that were taken, and then those that are left
+  abbrev pub FinishKeeps : S → Session S → List Left → Type 0
+  FinishKeeps schema it left = KeepsPage (shape_of schema) (accepted schema) (text schema) (set_up (words_of it.shared)).cpus (called_at it.cpus.items)
+      (λ c l. taken_at it.consumer c ++ waiting l.rest ++ l.last ∷ []) left

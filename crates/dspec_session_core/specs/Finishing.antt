@@ -1,16 +1,19 @@
 -- Cited by calls. The laws of a session's close, as sentences.
 use mathlib.Core.List.{IsPrefix}
-use Rattle.std.specs.Prelude.{ℕ, ◌≡◌, ◌≤◌, ◌+◌, Bool, List, ◌++◌, length, reverse, Option}
+use Rattle.std.specs.Prelude.{ℕ, ◌≡◌, ◌≤◌, ◌+◌, Bool, List, ◌++◌, length, reverse, Option, None}
 use Rattle.dspec_record.specs.Record.{Record}
 use Rattle.dspec_record.specs.declared.field.Shape.{Shape}
 use Rattle.dspec_deeds.specs.declared.config.Config.{Config}
 use Rattle.dspec_deeds.specs.declared.deed.Deed.{Deed}
+use Rattle.dspec_deeds.specs.Closes.{CanClose, closing}
+use Rattle.dspec_deeds.specs.Ranges.{start_fault}
 use Rattle.dspec_table.specs.declared.rule.View.{View}
 use Rattle.dspec_table.specs.declared.seats.CpuSeat.{CpuSeat}
 use Rattle.dspec_ring.specs.declared.batch.Batch.{Batch}
 use Rattle.dspec_cpu.specs.Sealed.{waiting}
 use Rattle.dspec_session_core.specs.declared.left.Left.{Left}
 use Rattle.dspec_session_core.specs.Closing.{ClosedFrom, ClosesAs, rest_of}
+use Rattle.dspec_session_core.specs.Owed.{owed_up}
 
 -- Once all seats and ring ends are back, and each CPU has settled by the last words, one legal list of deeds closes whichever lists the
 -- CPUs had.
@@ -26,3 +29,7 @@ OneBatchIsLeft = (held_back : Option Batch) (spare : ℕ) (handed spares taken g
     → length (waiting held_back ++ reverse handed) + spare ≤ 1 + length spares → IsPrefix spares given
     → length given ≤ length taken → taken ++ drained ≡ handed
     → reverse (taken ++ waiting (rest_of held_back drained)) ≡ waiting held_back ++ reverse handed
+
+-- What the close settles is what each CPU owes by the decisions and the settlements before, CPU by CPU and slot by slot, and nothing else.
+abbrev pub SettlesWhatIsOwed : Type 0
+SettlesWhatIsOwed = (shape : ℕ → Option Shape) (k : Config) (h : List Deed) → start_fault k ≡ None → CanClose shape k h → closing shape k h ≡ owed_up shape k k.cpus h

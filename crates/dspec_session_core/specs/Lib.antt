@@ -9,6 +9,7 @@ pub mod Stopping
 pub mod Sessions
 pub mod Closing
 pub mod Promised
+pub mod Owed
 pub mod Leaving
 pub mod Finish
 pub mod Finishing

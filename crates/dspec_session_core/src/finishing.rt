@@ -1,7 +1,7 @@
 ghost use Rattle.std.specs.Prelude.{◌≡◌, length};
 ghost use Rattle.dspec_table.specs.Seats.{set_up};
 ghost use Rattle.dspec_cpu.specs.Lists.{words_of};
-ghost use Rattle.dspec_session_core.specs.Finish.{FinishCloses, FinishPromises};
+ghost use Rattle.dspec_session_core.specs.Finish.{FinishByOneList, FinishCloses, FinishKeeps, FinishPromises};
 ghost use Rattle.dspec_session_core.specs.Sessions.{IsSession};
 
 use crate::closed::Closed;
@@ -17,10 +17,14 @@ impl<S: Schema> Session<S> {
     pub fn finish(self) -> Closed
         requires session { (schema : S) × IsSession schema self }
         ensures all { length result ≡ (set_up (words_of self.shared)).cpus }
+        ensures keeps { (schema : S) → IsSession schema self
+            → FinishKeeps S.shape_of S.accepted S.text schema self result }
         ensures closed { (schema : S) → IsSession schema self
             → FinishCloses S.shape_of S.accepted S.text ⟦<Cpu<S> as Listed>⟧.has_list schema self result }
         ensures promised { (schema : S) → IsSession schema self
             → FinishPromises S.shape_of S.accepted S.text schema self result }
+        ensures one_list { (schema : S) → IsSession schema self
+            → FinishByOneList S.shape_of S.accepted S.text ⟦<Cpu<S> as Listed>⟧.has_list schema self result }
     {
         let Session {
             shared,

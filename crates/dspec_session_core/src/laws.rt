@@ -1,5 +1,5 @@
 //! The laws of the close of a session, each a function without a body.
-ghost use Rattle.dspec_session_core.specs.Finishing.{ListsClose, OneBatchIsLeft};
+ghost use Rattle.dspec_session_core.specs.Finishing.{ListsClose, OneBatchIsLeft, SettlesWhatIsOwed};
 
 /// Once all seats and ring ends are back, and each CPU has settled by the last words, one legal list of deeds closes whichever
 /// lists the CPUs had; what was taken, then what is left, is what was accepted.
@@ -11,4 +11,10 @@ pub fn close_of_lists()
 /// not taken: the one that is drained, or else the one in hand.
 pub fn one_batch_left()
     ensures { OneBatchIsLeft }
+{}
+
+/// What the close settles is what each CPU owes: each speculation that was decided, that no CPU decided alone, and that the CPU hasn't
+/// settled, with what becomes of its buffer of it; and nothing else.
+pub fn settles_what_is_owed()
+    ensures { SettlesWhatIsOwed }
 {}

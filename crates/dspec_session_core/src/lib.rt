@@ -14,11 +14,11 @@
 //! | `consumer.rt`, `counted.rt`, `making.rt` | `Consumer`, which has the room that the close needs; an end of a ring with the numbers of batches taken and given back |
 //! | `asking.rt`, `awaiting.rt`, `batches.rt`, `cleaning.rt`, `stopping.rt`, `meeting.rt` | its calls |
 //! | `specs/`: Sessions, Closing, Leaving | what a session is, by the identities of its CPUs; what its end promises, a clause for each sentence; the parts of the close between its steps |
-//! | `specs/`: Finish, Finishing | `FinishPromises` and `FinishCloses`, which the two clauses of `finish` name, said of the session that is ended; the laws of the close, as sentences |
-//! | `specs/`: Promised | `IsPromisedBy`: what the close promises each CPU, by what its calls did (`called_at`); which settlements the close makes (`owes_settlement`, `closed_up`, `closed_for`) |
+//! | `specs/`: Finish, Finishing | `FinishKeeps`, `FinishPromises`, `FinishCloses` and `FinishByOneList`, which the clauses of `finish` name, said of the session that is ended; the laws of the close, as sentences |
+//! | `specs/`: Promised, Owed | `KeepsPage` and `IsPromisedBy`: what the close promises each CPU, by what its calls did (`called_at`), in short and by one list of all deeds; which settlements the close makes (`owes_settlement`, `owed_up`) |
 //! | `specs/`: Consumers, ConsumerFields | a consumer as its seat and the list of what its ends know; its invariant; `Stays` |
 //! | `specs/`: Asking, Awaiting, Batches, Cleaning, Stopping | one relation a call: `Asked`, `Awaited`, `Took` and `GaveBack`, `Cleaned` (the whole chain of the seat's steps), `Stopped` |
-//! | `proofs/`, the close | ClosingLists, ClosingRecords, ClosingRests, Partings, Leavings, Ending; ClosingSaid, ClosedDeeds, PromisedBy |
+//! | `proofs/`, the close | ClosingLists, ClosingRecords, ClosingRests, Partings, Leavings, Ending; ClosingSaid, ClosedDeeds, PromisedBy, OwedSaid |
 //! | `proofs/`, the clean | Waiting (a word that waits for every CPU stands until the consumer's exchange), Acknowledging, Halts, Ends, Asks |
 //! | `proofs/`, the rest | Begins (a session at its start), Passing (batches), Standing; Callings, for the crates above: a session stays one where a part of it is called |
 #![tactic(auto)]
@@ -44,5 +44,5 @@ mod stopping;
 
 pub use closed::Closed;
 pub use consumer::Consumer;
-pub use laws::{close_of_lists, one_batch_left};
+pub use laws::{close_of_lists, one_batch_left, settles_what_is_owed};
 pub use session::Session;

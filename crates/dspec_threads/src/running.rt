@@ -9,7 +9,7 @@ ghost use Rattle.dspec_cpu.specs.Called.{CallsMade, called, no_calls};
 ghost use Rattle.dspec_cpu.specs.Lists.{number_in, schema_of, words_of};
 ghost use Rattle.dspec_session_core.specs.Consumers.{view_of};
 ghost use Rattle.dspec_session_core.specs.Sessions.{IsSession};
-ghost use Rattle.dspec.specs.Traced.{IsTracedWith};
+ghost use Rattle.dspec.specs.Traced.{IsKeptWith, IsTracedWith};
 ghost use Rattle.dspec_threads.specs.Runs.{AreNew, BeginsRun, LooksLater, RoundMade, Run};
 
 use crate::duty::Duty;
@@ -147,6 +147,7 @@ impl<D: Duty, K: Sink<Enablings>> Running<D, K> {
     fn close(self) -> Result<(Closed, K), Running<D, K>>
         requires { self.out ≡ 0 }
         ensures all { IfOk result (λ r. length r.0 ≡ self.config.cpus) }
+        ensures keeps { IfOk result (λ r. IsKeptWith self.schema (K.gets self.schema) (λ c _ calls. D.done c calls) self.config self.began r.0 r.1) }
         ensures traced { IfOk result (λ r. IsTracedWith self.schema (K.gets self.schema) (λ c _ calls. D.done c calls) self.config self.began r.0 r.1) }
         ensures back { IfErr result (λ r. r ≡ self) }
     {
@@ -191,6 +192,7 @@ impl<D: Duty, K: Sink<Enablings>> Running<D, K> {
     /// the session comes back as it was.
     pub fn end(self) -> Result<(Closed, K), Running<D, K>>
         ensures all { IfOk result (λ r. length r.0 ≡ self.config.cpus) }
+        ensures keeps { IfOk result (λ r. IsKeptWith self.schema (K.gets self.schema) (λ c _ calls. D.done c calls) self.config self.began r.0 r.1) }
         ensures traced { IfOk result (λ r. IsTracedWith self.schema (K.gets self.schema) (λ c _ calls. D.done c calls) self.config self.began r.0 r.1) }
         ensures out { IfErr result (λ r. LooksLater self r) }
     {

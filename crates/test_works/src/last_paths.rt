@@ -17,7 +17,7 @@ struct Long {
     records: u64,
     keeps: bool,
     kept: u64,
-    is_cut: bool,
+    cut: u32,
     answers: Option<(Option<Decided>, Decided)>,
 }
 
@@ -27,7 +27,7 @@ impl Long {
             records,
             keeps,
             kept: 0,
-            is_cut: false,
+            cut: 0,
             answers: None,
         }
     }
@@ -52,22 +52,23 @@ impl Worker<Enablings> for Long {
                 self.kept = self.kept.wrapping_add(1);
             }
         }
-        self.is_cut = path.is_cut();
+        self.cut = path.cut();
         self.answers = Some(ended(path, lane, self.keeps));
     }
 }
 
-/// What the path was told (how many records it kept, whether it was cut, the answers to its end), its CPU's report, and the records.
+/// What the path was told (how many records it kept, how many were thrown away, the answers to its end), its CPU's report, and the records.
 fn traced<R: Abort + AllocGlobal + Threads + Sync>(
     rt: &R,
     nspec: u32,
+    bufsize: u32,
     worker: Long,
 ) -> Result<(Long, Report, Vec<Rec>), Fail> {
     let mut schema = Enablings::new();
     schema.enable(&[Field::One])?;
     let mut workers = Vec::new(rt.alloc());
     assert!(rt; workers.push(worker).is_ok());
-    let config = Config::of(1, nspec, 256, 64);
+    let config = Config::of(1, nspec, bufsize, 64);
     let kept = RecordSink::new(rt.alloc());
     let (closed, mut workers, kept) = trace_workers(
         rt,
@@ -95,13 +96,22 @@ fn are_from(first: u64, records: &[Rec]) -> bool {
     true
 }
 
+/// Whether the newer block stands first, so many records from that number on, and then the older one, from this number on.
+fn are_blocks(newer: u64, count: usize, older: u64, records: &[Rec]) -> bool {
+    if records.len() < count {
+        return false;
+    }
+    let (first, behind) = records.split_at(count);
+    are_from(newer, first) && are_from(older, behind)
+}
+
 /// Of 100 the last twelve: the eight of a full buffer, and the four behind them. Each turn is a record that is offered twice.
 #[test]
 fn long_path_keeps_its_last_records(rt: HostRuntime) -> Result<(), Fail> {
-    let (path, report, records) = traced(&rt, 3, Long::of(100, true))?;
-    assert!(rt; path.kept == 100 && path.is_cut);
+    let (path, report, records) = traced(&rt, 3, 256, Long::of(100, true))?;
+    assert!(rt; path.kept == 100 && path.cut == 88);
     assert!(rt; path.answers == Some((Some(Decided::Copied(8)), Decided::Copied(4))));
-    assert!(rt; records.len() == 12 && are_from(88, &records));
+    assert!(rt; records.len() == 12 && are_blocks(96, 4, 88, &records));
     let due = Report {
         offered: 112,
         accepted: 12,
@@ -113,10 +123,20 @@ fn long_path_keeps_its_last_records(rt: HostRuntime) -> Result<(), Fail> {
     Ok(())
 }
 
+/// Where the principal buffer has room for one of both, the path's last records are kept.
+#[test]
+fn path_without_room_keeps_its_newer(rt: HostRuntime) -> Result<(), Fail> {
+    let (path, report, records) = traced(&rt, 3, 64, Long::of(20, true))?;
+    assert!(rt; path.kept == 20 && path.cut == 8);
+    assert!(rt; path.answers == Some((Some(Decided::Lost(8)), Decided::Copied(4))));
+    assert!(rt; records.len() == 4 && are_from(16, &records) && report.lost == 8);
+    Ok(())
+}
+
 #[test]
 fn long_path_is_thrown_away(rt: HostRuntime) -> Result<(), Fail> {
-    let (path, report, records) = traced(&rt, 3, Long::of(25, false))?;
-    assert!(rt; path.kept == 25 && path.is_cut && records.is_empty());
+    let (path, report, records) = traced(&rt, 3, 256, Long::of(25, false))?;
+    assert!(rt; path.kept == 25 && path.cut == 16 && records.is_empty());
     assert!(rt; path.answers == Some((Some(Decided::Thrown(8)), Decided::Thrown(1))));
     let due = Report {
         offered: 28,
@@ -131,13 +151,13 @@ fn long_path_is_thrown_away(rt: HostRuntime) -> Result<(), Fail> {
 /// Two buffers hold 16 records, and one holds eight.
 #[test]
 fn path_that_fits_is_not_cut(rt: HostRuntime) -> Result<(), Fail> {
-    let (path, report, records) = traced(&rt, 3, Long::of(16, true))?;
-    assert!(rt; path.kept == 16 && !path.is_cut);
+    let (path, report, records) = traced(&rt, 3, 256, Long::of(16, true))?;
+    assert!(rt; path.kept == 16 && path.cut == 0);
     assert!(rt; path.answers == Some((Some(Decided::Copied(8)), Decided::Copied(8))));
-    assert!(rt; records.len() == 16 && are_from(0, &records));
+    assert!(rt; records.len() == 16 && are_blocks(8, 8, 0, &records));
     assert!(rt; report.accepted == 16 && report.specdropped == 1);
-    let (path, report, records) = traced(&rt, 3, Long::of(8, true))?;
-    assert!(rt; path.kept == 8 && !path.is_cut);
+    let (path, report, records) = traced(&rt, 3, 256, Long::of(8, true))?;
+    assert!(rt; path.kept == 8 && path.cut == 0);
     assert!(rt; path.answers == Some((None, Decided::Copied(8))));
     assert!(rt; records.len() == 8 && are_from(0, &records));
     assert!(rt; report.offered == 8 && report.accepted == 8);
@@ -147,10 +167,10 @@ fn path_that_fits_is_not_cut(rt: HostRuntime) -> Result<(), Fail> {
 /// Without a third slot nothing is thrown away: what comes behind two full buffers is dropped.
 #[test]
 fn path_without_a_slot_stays(rt: HostRuntime) -> Result<(), Fail> {
-    let (path, report, records) = traced(&rt, 2, Long::of(20, true))?;
-    assert!(rt; path.kept == 16 && !path.is_cut);
+    let (path, report, records) = traced(&rt, 2, 256, Long::of(20, true))?;
+    assert!(rt; path.kept == 16 && path.cut == 0);
     assert!(rt; path.answers == Some((Some(Decided::Copied(8)), Decided::Copied(8))));
-    assert!(rt; records.len() == 16 && are_from(0, &records));
+    assert!(rt; records.len() == 16 && are_blocks(8, 8, 0, &records));
     let due = Report {
         offered: 21,
         accepted: 16,
@@ -226,7 +246,7 @@ fn record_that_no_buffer_holds_cuts_nothing(rt: HostRuntime) -> Result<(), Fail>
     let [first, last] = records.as_slice() else {
         return Err(Fail::from("two records"));
     };
-    assert!(rt; step.read(first) == Some((1,)) && step.read(last) == Some((2,)));
+    assert!(rt; step.read(first) == Some((2,)) && step.read(last) == Some((1,)));
     let report = closed_cpus(&closed).next().map(|cpu| *cpu.report);
     let due = Report {
         offered: 7,

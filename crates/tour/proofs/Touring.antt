@@ -13,7 +13,6 @@ use Rattle.dspec_cpu.specs.Called.{no_calls}
 use Rattle.dspec_cpu.specs.Sealed.{waiting}
 use Rattle.dspec_session_core.specs.declared.left.Left.{Left}
 use Rattle.dspec_session_core.specs.Closing.{HoldInOrder}
-use Rattle.dspec_session_core.specs.Promised.{closed_for}
 use Rattle.dspec_session_core.proofs.PromisedBy.{there_is}
 use Rattle.dspec.specs.SinkRecords.{SinkRecords, KeepsBatch, no_records}
 use Rattle.dspec.specs.Passed.{AreFrom}
@@ -46,7 +45,7 @@ module _ (e : EnabledRows) (work : Requests) (k : Config) (old new : SinkRecords
       let deeds = traced.promised.deeds in
       let worked = traced.worked 0 first in
       let behind = settled_by worked.served.services worked.returned (traced.calls 0) worked.served.serves in
-      let closed = closed_for (table_shape e.header (enabled e.rows)) k traced.promised.before 0 in
+      let closed = traced.promised.closed 0 in
       record {
         calls = worked.returned;
         worked = subst (λ n. MakesRequests 1 n no_calls worked.returned) touch-is

@@ -1,19 +1,20 @@
-use Rattle.std.proofs.Common.{ap, sym, ◌∙◌, subst}
+use Rattle.std.proofs.Common.{◌≡◌, ◌<◌, ℕ, List, ap, sym, ◌∙◌, subst}
 use Rattle.dspec_record.specs.EnablingRows.{EnabledRows}
 use Rattle.dspec_record.specs.Schemas.{enabled, table_shape, table_accepts, table_text}
 use Rattle.dspec_deeds.specs.declared.config.Config.{Config}
+use Rattle.dspec_deeds.specs.declared.deed.Deed.{Deed}
 use Rattle.dspec_cpu.specs.declared.shared.Shared.{Shared}
 use Rattle.dspec_table.specs.declared.rule.View.{View}
 use Rattle.dspec_table.specs.Seats.{set_up}
 use Rattle.dspec_cpu.specs.Lists.{words_of}
-use Rattle.dspec_session_core.specs.Closing.{IsClosedBy}
+use Rattle.dspec_session_core.specs.Closing.{ClosesAs, IsClosedBy}
 use Rattle.dspec_session_core.specs.Consumers.{view_of}
 use Rattle.dspec_session_core.specs.Leaving.{Has}
 use Rattle.dspec_session_core.specs.Promised.{IsPromisedBy, called_at, entered_at}
 use Rattle.dspec_session_core.specs.Sessions.{HasAt, taken_at, worn_at}
 use Rattle.dspec.specs.Serving.{ThenServed}
 use Rattle.dspec.proofs.Returning.{worked}
-use Rattle.dspec.proofs.Tracing.{fresh_none, listed, traced}
+use Rattle.dspec.proofs.Tracing.{by_one_list, fresh_none, kept_alone, listed, traced}
 use Rattle.dspec.proofs.running.trace.Goals as goal
 
 pub run-session-requires-clause-count : goal.run-session-requires-clause-count
@@ -40,6 +41,12 @@ returns-clause-traced g c =
     (called_at back.cpus.items) (taken_at back.consumer) c.finish-closed.result) same
     (c.finish-closed.ensures.promised schema lent))
 
+pub returns-clause-keeps : goal.returns-clause-keeps
+returns-clause-keeps g c =
+    let schema = c.args.schema in
+    kept_alone (g.K.Sink.gets schema) _ (table_shape schema.header (enabled schema.rows)) (table_accepts schema.header (enabled schema.rows))
+    (table_text schema.header (enabled schema.rows)) c.args.config.now c.args.sink c.finish-closed.result c.pass_rests.new.sink (returns-clause-traced g c)
+
 pub returns-clause-listed : goal.returns-clause-listed
 returns-clause-listed g c =
     let started = c.in_ok-session.ensures in
@@ -55,3 +62,27 @@ returns-clause-listed g c =
     (view_of back.consumer).own c.all_stand.ensures
     (subst (λ (k : Config). IsClosedBy (shape schema) (accepts schema) (text schema) k (HasAt (Has shape accepts text) back.cpus.items) (worn_at back.cpus.items)
     (taken_at back.consumer) (view_of back.consumer).own c.finish-closed.result) same (c.finish-closed.ensures.closed schema c.run-session.ensures.lent))
+
+pub returns-clause-one_list : goal.returns-clause-one_list
+returns-clause-one_list g c =
+    let started = c.in_ok-session.ensures in
+    let s = c.in_ok-session.session in
+    let back = c.run-session.result.0 in
+    let schema = c.args.schema in
+    let shape : EnabledRows → _ = λ e. table_shape e.header (enabled e.rows) in
+    let accepts : EnabledRows → _ = λ e. table_accepts e.header (enabled e.rows) in
+    let text : EnabledRows → _ = λ e. table_text e.header (enabled e.rows) in
+    let same = ap (λ (w : Shared). set_up (words_of w)) c.run-session.ensures.words ∙ started.config in
+    let does = λ (x : EnabledRows). ThenServed (g.W.Work.does x c.args.work.now) in
+    let lent = c.run-session.ensures.lent in
+    by_one_list shape accepts text (g.K.Sink.gets schema) schema (words_of s.shared) s.consumer back.consumer c.args.sink c.run-session.result.1 c.pass_rests.new.sink
+    c.finish-closed.result started.consumer.1 c.run-session.ensures.passes c.pass_rests.ensures (does schema) c.args.config.now back.cpus.items
+    (ap (λ (v : View). v.config) started.consumer.0) (c.finish-closed.ensures.all ∙ ap (λ (k : Config). k.cpus) same)
+    (lent.all ∙ ap (λ (k : Config). k.cpus) same) (ap (λ (v : View). v.own) started.consumer.0) (λ n cpu at. (lent.each n cpu at).number)
+    (worked (Has shape accepts text) (fresh_none shape accepts text) does schema s back started.session started.fresh c.run-session.ensures.returned)
+    (worn_at back.cpus.items) c.all_stand.ensures
+    (subst (λ (k : Config). (p : ℕ → List Deed) → ((n : ℕ) → n < k.cpus → HasAt (Has shape accepts text) back.cpus.items n (p n))
+    → (h : List Deed) × ClosesAs (shape schema) (accepts schema) (text schema) k (worn_at back.cpus.items) (taken_at back.consumer) (view_of back.consumer).own c.finish-closed.result p h
+    × ((promised : IsPromisedBy (shape schema) (accepts schema) (text schema) k (entered_at back.cpus.items) (view_of back.consumer).own (called_at back.cpus.items)
+    (taken_at back.consumer) c.finish-closed.result) × (promised.deeds ≡ h))) same
+    (c.finish-closed.ensures.one_list schema lent))

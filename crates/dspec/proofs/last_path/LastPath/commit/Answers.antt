@@ -4,5 +4,5 @@ use Rattle.dspec.proofs.last_path.LastPath.commit.Goals as goal
 
 pub returns-clause-does : goal.returns-clause-does
 returns-clause-does g c =
-    ends_so _ commit c.args.self c.id.result c.commit_if_there-first.result c.commit.result c.args.lane.now c.commit_if_there-first.new.lane c.commit.new.self c.id.ensures
-    c.commit_if_there-first.ensures.does c.commit.ensures.does
+    ends_so _ commit c.args.self c.id.result c.commit_if_there.result c.commit-last.result c.args.lane.now c.commit-last.new.self c.commit_if_there.new.lane c.id.ensures
+    c.commit-last.ensures.does c.commit_if_there.ensures.does

@@ -9,7 +9,7 @@ use Rattle.dspec_cpu.specs.Called.{CallsMade}
 use Rattle.dspec_session_core.specs.Consumers.{view_of}
 use Rattle.dspec_session_core.specs.Promised.{called_at, entered_at}
 use Rattle.dspec_session_core.specs.Sessions.{taken_at, worn_at}
-use Rattle.dspec_session_core.proofs.PromisedBy.{there_is, called_there, entered_there, same_worn, had_tells, promised_by}
+use Rattle.dspec_session_core.proofs.PromisedBy.{there_is, called_there, entered_there, same_worn, had_tells, page_alone, promised_with}
 use Rattle.dspec_session_core.proofs.session.Session.finish.Goals as goal
 
 pub part_all-last-requires-clause-parting : goal.part_all-last-requires-clause-parting
@@ -35,27 +35,39 @@ returns-clause-closed g c = λ schema is.
     c.into_words.ensures none c.consumer.view_is c.consumer.invariant.all c.consumer.invariant.config _ last.result.1.items c.reverse.new.self.items last.ensures.ended
     (sym last.result.1.ok.0 ∙ (last.ensures.count ∙ c.args.self.cpus.ok.0)) last.ensures.left c.reverse.ensures.items
 
-pub returns-clause-promised : goal.returns-clause-promised
-returns-clause-promised g c = λ schema is.
+pub returns-clause-one_list : goal.returns-clause-one_list
+returns-clause-one_list g c = λ schema is p had.
     let shape_of = g.S.Schema.shape_of in
     let accepted = g.S.Schema.accepted in
     let text = g.S.Schema.text in
     let k = set_up (words_of c.args.self.shared) in
     let cpus = c.args.self.cpus.items in
-    let lists = some_lists shape_of accepted text schema c.args.self is c.all_stand.ensures in
-    let closed = returns-clause-closed g c schema is lists.0 (λ n lt cpu at. lists.1 n cpu at) in
-    promised_by (shape_of schema) (accepted schema) (text schema) k (worn_at cpus) (taken_at c.args.self.consumer) (view_of c.args.self.consumer).own _ lists.0 closed.0 is.checked
-    closed.1
-    (entered_at cpus) (called_at cpus)
-    (λ n lt.
-    let (cpu, at) = there_is cpus n (subst (λ m. n < m) (sym is.all) lt) in
-    (lists.1 n cpu at).own ∙ sym (entered_there cpus n cpu at))
-    (λ n lt.
-    let (cpu, at) = there_is cpus n (subst (λ m. n < m) (sym is.all) lt) in
-    had_tells shape_of accepted text n cpu (lists.0 n) (is.each n cpu at).number (lists.1 n cpu at) ∙ sym (ap (λ (x : CallsMade). x.done) (called_there cpus n cpu at)))
-    (λ n lt.
-    let (cpu, at) = there_is cpus n (subst (λ m. n < m) (sym is.all) lt) in
-    same_worn cpus n cpu at)
+    let closed = returns-clause-closed g c schema is p had in (
+      closed.0,
+      closed.1,
+      promised_with (shape_of schema) (accepted schema) (text schema) k (worn_at cpus) (taken_at c.args.self.consumer) (view_of c.args.self.consumer).own _ p closed.0 closed.1
+          (entered_at cpus) (called_at cpus)
+          (λ n lt.
+          let (cpu, at) = there_is cpus n (subst (λ m. n < m) (sym is.all) lt) in
+          (had n lt cpu at).own ∙ sym (entered_there cpus n cpu at))
+          (λ n lt.
+          let (cpu, at) = there_is cpus n (subst (λ m. n < m) (sym is.all) lt) in
+          had_tells shape_of accepted text n cpu (p n) (is.each n cpu at).number (had n lt cpu at) ∙ sym (ap (λ (x : CallsMade). x.done) (called_there cpus n cpu at)))
+          (λ n lt.
+          let (cpu, at) = there_is cpus n (subst (λ m. n < m) (sym is.all) lt) in
+          same_worn cpus n cpu at),
+    )
+
+pub returns-clause-promised : goal.returns-clause-promised
+returns-clause-promised g c = λ schema is.
+    let lists = some_lists g.S.Schema.shape_of g.S.Schema.accepted g.S.Schema.text schema c.args.self is c.all_stand.ensures in
+    (returns-clause-one_list g c schema is lists.0 (λ n lt cpu at. lists.1 n cpu at)).2.0
+
+pub returns-clause-keeps : goal.returns-clause-keeps
+returns-clause-keeps g c = λ schema is.
+    let s = c.args.self in
+    page_alone (g.S.Schema.shape_of schema) (g.S.Schema.accepted schema) (g.S.Schema.text schema) (set_up (words_of s.shared)) (entered_at s.cpus.items)
+    (view_of s.consumer).own (called_at s.cpus.items) (taken_at s.consumer) _ (returns-clause-promised g c schema is)
 
 pub invariant_of-result : goal.invariant_of-result
 invariant_of-result g c =

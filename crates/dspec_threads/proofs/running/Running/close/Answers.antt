@@ -12,7 +12,7 @@ use Rattle.dspec_session_core.specs.Consumers.{view_of}
 use Rattle.dspec_session_core.specs.Promised.{IsPromisedBy, called_at, entered_at}
 use Rattle.dspec_session_core.specs.Sessions.{IsSession, taken_at}
 use Rattle.dspec.specs.Traced.{IsTraced}
-use Rattle.dspec.proofs.Tracing.{traced}
+use Rattle.dspec.proofs.Tracing.{kept_alone, traced}
 use Rattle.dspec_threads.specs.Homes.{came_by}
 use Rattle.dspec_threads.specs.Runs.{Run}
 use Rattle.dspec_threads.proofs.Runs.{nothing_out, session_again}
@@ -52,3 +52,6 @@ returns-clause-traced g c =
     (called_at s.back.items) (taken_at s.consumer) c.finish-closed.result) same (c.finish-closed.ensures.promised schema is)) in
     subst (λ (r : Run g.row.K.Denot). IsTraced (g.K.Sink.gets r.schema) (λ n x y. done n y) (shape r.schema) (accepts r.schema) (text r.schema) r.config r.began
     c.finish-closed.result c.pass_rests.new.sink) c.self.view_is here
+
+pub returns-clause-keeps : goal.returns-clause-keeps
+returns-clause-keeps g c = kept_alone _ _ _ _ _ _ _ _ _ (returns-clause-traced g c)
