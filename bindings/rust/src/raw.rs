@@ -2,7 +2,7 @@
 
 use crate::{tracer, Report};
 use std::ffi::{c_char, c_void};
-use std::sync::atomic::AtomicU32;
+use std::sync::atomic::AtomicU64;
 
 pub(crate) type Status = u32;
 
@@ -129,6 +129,8 @@ pub(crate) const MAX_TRACERS: usize = 8;
 #[repr(C)]
 pub(crate) struct Tracer {
     pub(crate) body: *mut c_void,
+    pub(crate) seat: u32,
+    pub(crate) run: u32,
     pub(crate) why: [c_char; 256],
 }
 
@@ -139,14 +141,15 @@ pub(crate) struct TracerPath {
     pub(crate) id: u64,
     pub(crate) token: u32,
     pub(crate) place: u16,
+    pub(crate) own: bool,
     pub(crate) over: bool,
 }
 
-/// The EPID that an event has in each tracer.
+/// What an event's records claim in each tracer.
 #[repr(C)]
 #[derive(Debug)]
 pub(crate) struct Event {
-    pub(crate) epids: [AtomicU32; MAX_TRACERS],
+    pub(crate) claims: [AtomicU64; MAX_TRACERS],
 }
 
 #[repr(C)]
@@ -171,8 +174,8 @@ extern "C" {
     pub(crate) fn dspec_tracer_flush(tracer: *mut Tracer, timeout_ms: u32) -> bool;
     pub(crate) fn dspec_path_keep(path: *mut TracerPath) -> bool;
     pub(crate) fn dspec_path_drop(path: *mut TracerPath) -> bool;
-    pub(crate) fn dspec_path_put(path: *mut TracerPath, event: *const Event, fields: u32, words: *const u64, n: usize) -> Status;
-    pub(crate) fn dspec_tracer_put(tracer: *mut Tracer, event: *const Event, fields: u32, words: *const u64, n: usize) -> Status;
+    pub(crate) fn dspec_path_put(path: *mut TracerPath, event: *const Event, words: *const u64, n: usize) -> Status;
+    pub(crate) fn dspec_tracer_put(tracer: *mut Tracer, event: *const Event, words: *const u64, n: usize) -> Status;
 }
 
 extern "C" {
