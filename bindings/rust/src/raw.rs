@@ -125,6 +125,8 @@ extern "C" {
 }
 
 pub(crate) const MAX_TRACERS: usize = 8;
+/// The most speculations at a time of a session.
+pub(crate) const MAX_NSPEC: u32 = 63;
 
 #[repr(C)]
 pub(crate) struct Tracer {
@@ -211,9 +213,11 @@ extern "C" {
     pub(crate) fn dspec_put_in_3(cpu: *mut Words, id: u64, claim: u64, stamp: u64, w0: u64, w1: u64, w2: u64) -> Status;
     pub(crate) fn dspec_put_in(cpu: *mut Words, id: u64, claim: u64, stamp: u64, words: *const u64, n: usize) -> Status;
     pub(crate) fn dspec_commit(cpu: *mut Words, id: u64, count: *mut u32) -> Status;
+    pub(crate) fn dspec_commit_if_room(cpu: *mut Words, id: u64, count: *mut u32) -> Status;
     pub(crate) fn dspec_discard(cpu: *mut Words, id: u64, count: *mut u32) -> Status;
     pub(crate) fn dspec_service(cpu: *mut Words, sealed: *mut bool, settled: *mut u32) -> Status;
     pub(crate) fn dspec_dropped_in(cpu: *mut Words, id: u64, count: *mut u32) -> Status;
+    pub(crate) fn dspec_open_at(cpu: *mut Words, slot: u32, id: *mut u64) -> Status;
     pub(crate) fn dspec_cpu_report(cpu: *mut Words, report: *mut Report) -> Status;
     pub(crate) fn dspec_cpu_home(cpu: *mut Words) -> Status;
 
