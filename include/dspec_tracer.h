@@ -19,7 +19,7 @@
  * too, on a stack for handlers that each thread gets with its first record. A thread that crashes in the middle of a call loses that lane's open paths. A signal of these that another
  * process sends keeps all open paths. SIGTERM, SIGINT and SIGHUP, where nobody handles them, and exit stop the tracer, and the signal ends the process then. SIGKILL, _exit and
  * quick_exit lose what wasn't written yet: what the last period_ms brought, and all open paths. A handler that the program installs later has to call the one that it found.
- * A signal's handler may record; where it comes in the middle of a record of the same thread, its own is refused and counted.
+ * A signal's handler may record; where it comes in the middle of a record of the same thread, or of another call on a path, its own may be refused, which is counted.
  *
  * LONG PATHS. A path keeps the records that fit into specsize bytes, its first ones. With keep_last it keeps its last ones: at least specsize bytes, less a record's, and at most twice as many.
  * It takes two speculations of its lane then: paths is 31, and 1 to 31, specsize is 80 or more, and a lane has 2 * paths + 1 times specsize bytes.
@@ -91,7 +91,8 @@ typedef struct dspec_tracer_report {
 /* All zeros until it is started; it stays where it is, and outlives each thread that records, as a static one does. Nobody writes to it. */
 typedef struct dspec_tracer {
     struct dspec_tracer_body *body;
-    char why[256]; /* why the last start answered false */
+    uint32_t seat, run; /* where a thread's seat is for it, in bytes, and a number that no other tracer of the process has or had */
+    char why[256];      /* why the last start answered false */
 } dspec_tracer;
 
 /* A path. Nothing is taken before its first record: one without any costs nothing. Nobody writes to the fields. */
@@ -99,14 +100,15 @@ typedef struct dspec_path {
     dspec_tracer *tracer;
     struct dspec_tracer_lane *lane; /* NULL until the first record */
     uint64_t id;                    /* its speculation */
-    uint32_t token;                 /* of the thread that recorded last */
+    uint32_t token;                 /* of the thread whose lane it is, where that recorded last; else 0 */
     uint16_t place;                 /* among the open paths of its lane */
+    bool own;                       /* it began on its thread's own lane */
     bool over;                      /* decided, or refused */
 } dspec_path;
 
-/* An event of a program, by the EPID that it has in each tracer. */
+/* An event of a program, by what its records claim in each tracer (dspec_put). */
 typedef struct dspec_event {
-    uint32_t epids[DSPEC_MAX_TRACERS];
+    uint64_t claims[DSPEC_MAX_TRACERS];
 } dspec_event;
 
 /* What a tracer wants of an event: its name, and of its n fields their names, widths in bytes and kinds (dspec_names.h). */
@@ -137,7 +139,7 @@ bool dspec_tracer_flush(dspec_tracer *tracer, uint32_t timeout_ms) DSPEC_NOEXCEP
 
 /* A path begins. */
 DSPEC_INLINE dspec_path dspec_path_begin(dspec_tracer *tracer) DSPEC_NOEXCEPT {
-    dspec_path path = { tracer, NULL, 0, 0, 0, false };
+    dspec_path path = { tracer, NULL, 0, 0, 0, false, false };
     return path;
 }
 
@@ -146,18 +148,28 @@ DSPEC_INLINE dspec_path dspec_path_begin(dspec_tracer *tracer) DSPEC_NOEXCEPT {
 bool dspec_path_keep(dspec_path *path) DSPEC_NOEXCEPT;
 bool dspec_path_drop(dspec_path *path) DSPEC_NOEXCEPT;
 
-/* What query_in and query_now call: a record of an event whose fields have these widths, four bits each, the first lowest, and whose text is these n words (dspec_put), with the
- * time as its stamp. As dspec_put_in and dspec_put. DSPEC_UNAVAILABLE: there is no slot, or no lane. DSPEC_STOPPED: the tracer is down. DSPEC_BUSY: in a signal's handler, in the middle of another call. DSPEC_VOID: the path is
- * decided. */
-dspec_status dspec_path_put(dspec_path *path, const dspec_event *event, uint32_t fields, const uint64_t *words, size_t n) DSPEC_NOEXCEPT;
-dspec_status dspec_tracer_put(dspec_tracer *tracer, const dspec_event *event, uint32_t fields, const uint64_t *words, size_t n) DSPEC_NOEXCEPT;
+/* A record of an event whose text is these n words (dspec_put), with the time as its stamp. As dspec_put_in and dspec_put. DSPEC_UNAVAILABLE: there is no slot, or no lane. DSPEC_STOPPED: the tracer is down.
+ * DSPEC_BUSY: in a signal's handler, in the middle of another call. DSPEC_VOID: the path is decided. query_in and query_now, and dspec_tracer.hpp, call dspec_path_record and dspec_tracer_record, which
+ * answer the same, and go into their callers (dspec_tracer_record.h). */
+dspec_status dspec_path_put(dspec_path *path, const dspec_event *event, const uint64_t *words, size_t n) DSPEC_NOEXCEPT;
+dspec_status dspec_path_put_1(dspec_path *path, const dspec_event *event, uint64_t w0) DSPEC_NOEXCEPT;
+dspec_status dspec_path_put_2(dspec_path *path, const dspec_event *event, uint64_t w0, uint64_t w1) DSPEC_NOEXCEPT;
+dspec_status dspec_path_put_3(dspec_path *path, const dspec_event *event, uint64_t w0, uint64_t w1, uint64_t w2) DSPEC_NOEXCEPT;
+dspec_status dspec_tracer_put(dspec_tracer *tracer, const dspec_event *event, const uint64_t *words, size_t n) DSPEC_NOEXCEPT;
+dspec_status dspec_tracer_put_1(dspec_tracer *tracer, const dspec_event *event, uint64_t w0) DSPEC_NOEXCEPT;
+dspec_status dspec_tracer_put_2(dspec_tracer *tracer, const dspec_event *event, uint64_t w0, uint64_t w1) DSPEC_NOEXCEPT;
+dspec_status dspec_tracer_put_3(dspec_tracer *tracer, const dspec_event *event, uint64_t w0, uint64_t w1, uint64_t w2) DSPEC_NOEXCEPT;
 
 /* The stamps' clock: nanoseconds of the system's monotonic one. */
 uint64_t dspec_tracer_now(void) DSPEC_NOEXCEPT;
 
 #ifdef __cplusplus
 } /* extern "C" */
-#else
+#endif
+
+#include "dspec_tracer_record.h"
+
+#ifndef __cplusplus
 
 #define DSPEC_PROBE_TEXT_(AT, TYPE, NAME) #NAME,
 #define DSPEC_PROBE_KINDS_(AT, TYPE, NAME) DSPEC_KIND_OF(TYPE),
@@ -179,15 +191,13 @@ uint64_t dspec_tracer_now(void) DSPEC_NOEXCEPT;
         uint64_t dspec_words_[DSPEC_PROBE_WORDS_(__VA_ARGS__)] = { 0 };                                                                                \
         size_t dspec_end_ = 4;                                                                                                                         \
         DSPEC_PROBE_EACH_(DSPEC_PROBE_PACK_, __VA_ARGS__)                                                                                              \
-        return dspec_path_put(dspec_path_, &dspec_event_of_##PROBE, 0 DSPEC_PROBE_EACH_(DSPEC_PROBE_SIGN_, __VA_ARGS__), dspec_words_,                 \
-                              (dspec_end_ + 7) / 8);                                                                                                   \
+        return dspec_path_record(dspec_path_, &dspec_event_of_##PROBE, dspec_words_, (dspec_end_ + 7) / 8);                                            \
     }                                                                                                                                                  \
     DSPEC_PROBE_CALL_ dspec_status PROBE##_now(dspec_tracer *dspec_tracer_ DSPEC_PROBE_EACH_(DSPEC_PROBE_ARGUMENT_, __VA_ARGS__)) {                    \
         uint64_t dspec_words_[DSPEC_PROBE_WORDS_(__VA_ARGS__)] = { 0 };                                                                                \
         size_t dspec_end_ = 4;                                                                                                                         \
         DSPEC_PROBE_EACH_(DSPEC_PROBE_PACK_, __VA_ARGS__)                                                                                              \
-        return dspec_tracer_put(dspec_tracer_, &dspec_event_of_##PROBE, 0 DSPEC_PROBE_EACH_(DSPEC_PROBE_SIGN_, __VA_ARGS__), dspec_words_,             \
-                                (dspec_end_ + 7) / 8);                                                                                                 \
+        return dspec_tracer_record(dspec_tracer_, &dspec_event_of_##PROBE, dspec_words_, (dspec_end_ + 7) / 8);                                        \
     }
 
 /* The events of so many probes, at most 64, for dspec_tracer_start: DSPEC_PROBES(query, reply). */

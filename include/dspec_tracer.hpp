@@ -37,7 +37,6 @@ public:
     event(const event &) = delete;
     event &operator=(const event &) = delete;
 
-    static constexpr std::uint32_t signature = detail::signature<Fields...>();
     const dspec_event *get() const noexcept { return &at_; }
     const dspec_enabling *enabling() const noexcept { return &enabling_; }
 };
@@ -59,13 +58,13 @@ public:
         explicit path(dspec_tracer *of) noexcept : path_(dspec_path_begin(of)) {}
 
     public:
-        path(path &&other) noexcept : path_(std::exchange(other.path_, dspec_path{other.path_.tracer, nullptr, 0, 0, 0, true})) {}
+        path(path &&other) noexcept : path_(std::exchange(other.path_, dspec_path{other.path_.tracer, nullptr, 0, 0, 0, false, true})) {}
         path &operator=(path &&) = delete;
         ~path() { dspec_path_drop(&path_); }
 
         /* As dspec_path_put. */
         template <field... Fields> dspec_status record(const event<Fields...> &of, std::type_identity_t<Fields>... values) noexcept {
-            return dspec_path_put(&path_, of.get(), of.signature, detail::packed<Fields...>{values...}.words, detail::packed<Fields...>::count());
+            return dspec_path_record(&path_, of.get(), detail::packed<Fields...>{values...}.words, detail::packed<Fields...>::count());
         }
         /* Whether its records are on their way to the folder, and whether none of them is. */
         bool keep() noexcept { return dspec_path_keep(&path_); }
@@ -89,7 +88,7 @@ public:
 
     /* As dspec_tracer_put. */
     template <field... Fields> dspec_status record(const event<Fields...> &of, std::type_identity_t<Fields>... values) noexcept {
-        return dspec_tracer_put(tracer_.get(), of.get(), of.signature, detail::packed<Fields...>{values...}.words, detail::packed<Fields...>::count());
+        return dspec_tracer_record(tracer_.get(), of.get(), detail::packed<Fields...>{values...}.words, detail::packed<Fields...>::count());
     }
     /* Whether what was kept until now is in the folder, within this time. */
     bool flush(std::chrono::milliseconds most) noexcept { return dspec_tracer_flush(tracer_.get(), static_cast<std::uint32_t>(most.count())); }

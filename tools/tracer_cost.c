@@ -94,8 +94,10 @@ int main(int argc, char **argv) {
     }
     start_raw((uint32_t)strtoul(cpus, NULL, 10));
     if (strcmp(way, "times") == 0) times();
-    for (int i = 0; argc > 3 && i < (int)WAYS; i++)
-        for (unsigned long k = 0; strcmp(way, ways[i].name) == 0 && k < strtoul(argv[3], NULL, 10); k++) ways[i].run();
+    for (int i = 0; i < (int)WAYS; i++) {
+        if (strcmp(way, ways[i].name) != 0) continue;
+        for (unsigned long number = argc > 3 ? strtoul(argv[3], NULL, 10) : 0; number > 0; number--) ways[i].run();
+    }
     fflush(stdout);
     _exit(0); /* what the end costs isn't asked */
 }

@@ -20,13 +20,12 @@
 #pragma GCC visibility push(hidden)
 
 typedef struct dspec_tracer_body body;
-typedef struct dspec_tracer_lane lane;
+typedef struct dspec_tracer_seat seat;
 
 /* Of a lane's state: six bits, and above them how many paths are on it, and 1 more where it is a thread's own. WANTED has threads that share a lane hold back, so that the consumer gets
  * its turn. */
-enum { HELD = 1, GONE = 2, SERVE = 4, IDLE = 8, SHARED = 16, WANTED = 32, USER = 64 };
-/* With one of these a thread doesn't get into a call on its own lane without a closer look. */
-enum { LOOK = HELD | GONE | IDLE | SHARED | WANTED };
+enum { HELD = DSPEC_TRACER_HELD_, GONE = 2, SERVE = 4, IDLE = 8, SHARED = 16, WANTED = 32, USER = 64 };
+static_assert((HELD | GONE | IDLE | SHARED | WANTED) == DSPEC_TRACER_LOOK_, "the header's LOOK is these");
 /* Within these bounds the consumer waits for a lane, in microseconds: in a round for none. */
 enum { TAKE_US = 20000, CLOSE_US = 5000000 };
 enum { MAX_OPEN = 64, MAX_CRASHES = 16 };
@@ -35,6 +34,7 @@ enum { MAX_WATCHES = 64, MAX_SLOTS = DSPEC_MAX_TRACERS + MAX_WATCHES };
 enum { CACHE_LINES = 128 };
 
 #define APART __attribute__((aligned(CACHE_LINES)))
+static_assert(_Alignof(dspec_tracer_lane) == CACHE_LINES, "what a record looks at has lines of its own");
 
 /* An open path, written by whoever has the lane. */
 typedef struct open_path {
@@ -48,18 +48,16 @@ typedef struct open_path {
     bool is_cut;    /* and some of them aren't there */
 } open_path;
 
-struct dspec_tracer_lane {
-    APART uint32_t inside; /* the thread whose lane it is, is in a call; no other writes it */
-    uint32_t number, slot;
+typedef struct lane {
+    dspec_tracer_lane front; /* first: what the header knows of a lane is at the same place */
+    uint32_t number;
     body *of;
-    dspec_cpu cpu;
     uint64_t kept, thrown, cut, cut_records;
     uint64_t turned; /* records that one speculation refused and the next one took */
-    APART uint32_t state;
     APART open_path open[MAX_OPEN];
     dspec_session session;
     dspec_consumer consumer;
-};
+} lane;
 
 /* What a handler tells the consumer of a thread that crashed. */
 typedef enum crash_state { CRASH_FREE = 0, CRASH_FILLING = 1, CRASH_READY = 2 } crash_state;
@@ -97,25 +95,17 @@ struct dspec_tracer_body {
 
 /* ---- thread.c: what a thread has in each tracer. ---- */
 
-typedef struct seat {
-    uint32_t run; /* of the tracer; another's is stale */
-    uint32_t token, thread;
-    uint32_t open; /* paths that it began on its lane and hasn't ended */
-    lane *last;    /* the one that it had last */
-    bool busy;     /* in the middle of the tracer, where a signal's handler may come */
-    bool locked;   /* whether it is in its call by the lane's lock */
-    lane *lane;    /* its own, or NULL */
-} seat;
-
 typedef struct here {
-    seat seats[DSPEC_MAX_TRACERS];
     void *stack;
     bool consumer;
 } here;
-/* A handler may look at it: it stands where the thread's memory is, and is never made at its first use. That room is scarce where a library is loaded late. */
+/* A handler may look at it, as at the seats (dspec_tracer.h). */
 extern __thread here dspec_here __attribute__((tls_model("initial-exec")));
 
-dspec_status seat_take(body *of, seat **me); /* makes it where it isn't there; else counted: DSPEC_BUSY in a handler, DSPEC_STOPPED where the tracer is down */
+/* No thread has this token, and a thread has it that has none yet. */
+#define NO_TOKEN UINT32_MAX
+
+dspec_status seat_take_slowly(body *of, seat *me); /* makes it where it isn't there; else counted: DSPEC_BUSY in a handler, DSPEC_STOPPED where the tracer is down */
 void threads_begin(void);  /* once a process */
 void threads_in_child(void);
 void stack_on(void);
@@ -195,43 +185,44 @@ const dspec_names *naming_names(const struct naming *naming);
 #define STORE(AT, VALUE) __atomic_store_n((AT), (VALUE), __ATOMIC_RELAXED)
 #define ADD(AT, N) __atomic_fetch_add((AT), (N), __ATOMIC_RELAXED)
 
-static inline uint32_t state_of(const lane *on) { return __atomic_load_n(&on->state, __ATOMIC_SEQ_CST); }
-static inline uint32_t state_set(lane *on, uint32_t bits) { return __atomic_fetch_or(&on->state, bits, __ATOMIC_SEQ_CST); }
-static inline uint32_t state_clear(lane *on, uint32_t bits) { return __atomic_fetch_and(&on->state, ~bits, __ATOMIC_SEQ_CST); }
+static inline uint32_t state_of(const lane *on) { return __atomic_load_n(&on->front.state, __ATOMIC_SEQ_CST); }
+static inline uint32_t state_set(lane *on, uint32_t bits) { return __atomic_fetch_or(&on->front.state, bits, __ATOMIC_SEQ_CST); }
+static inline uint32_t state_clear(lane *on, uint32_t bits) { return __atomic_fetch_and(&on->front.state, ~bits, __ATOMIC_SEQ_CST); }
 static inline bool state_becomes(lane *on, uint32_t *was, uint32_t is) {
-    return __atomic_compare_exchange_n(&on->state, was, is, false, __ATOMIC_SEQ_CST, __ATOMIC_SEQ_CST);
+    return __atomic_compare_exchange_n(&on->front.state, was, is, false, __ATOMIC_SEQ_CST, __ATOMIC_SEQ_CST);
 }
 
 #define LIKELY(IS) __builtin_expect(!!(IS), 1)
 #define RARELY __attribute__((noinline, cold))
+#define INTO_CALLER __attribute__((always_inline)) static inline
 
-/* ---- What each record does: into the tracer, into a call on a lane, out of both. ---- */
+/* ---- Into the tracer, into a call on a lane, out of both. ---- */
 
-/* A commit takes some 3,600 bytes of stack (docs/C.md). */
-enum { STACK_OF_A_CALL = 6144 };
+static inline lane *lane_of(dspec_tracer_lane *front) { return (lane *)front; }
 
 static inline seat *seat_at(uint32_t slot) {
-    seat *me = &dspec_here.seats[slot];
-    __asm__("" : "+r"(me)); /* where it stands is found once a record */
+    seat *me = &dspec_tracer_seats_1[slot];
+    __asm__("" : "+r"(me)); /* where it stands is found once a call */
     return me;
 }
 
-/* A stack that ends here ends before the call, where a crash can still keep the path, and not in the middle of it. */
-static inline void reach_down(void) {
-#if defined(__x86_64__)
-    __asm__ volatile("testb $0, %c0(%%rsp)" : : "i"(-STACK_OF_A_CALL) : "cc");
-#else
-    (void)*(volatile const char *)((const char *)__builtin_frame_address(0) - STACK_OF_A_CALL);
-#endif
+/* Whether the thread is in the middle of this tracer, as a handler's may be: between these calls, in one on its own lane, or in a record that is in no path. */
+static inline bool seat_is_in(const seat *me) {
+    return me->busy || me->recording || (me->own != NULL && LOAD(&me->own->inside) != 0);
 }
 
-/* Whether the thread isn't in the middle of the tracer already, as a handler's may be. */
 static inline bool seat_enter(seat *me) {
-    reach_down();
-    if (!LIKELY(!me->busy)) return false;
+    dspec_tracer_reach_();
+    if (!LIKELY(!seat_is_in(me))) return false;
     me->busy = true;
     __atomic_signal_fence(__ATOMIC_SEQ_CST);
     return true;
+}
+
+/* Into the tracer: DSPEC_OK, and where the thread's seat is. */
+static inline dspec_status seat_take(body *of, seat **me) {
+    *me = seat_at(of->slot);
+    return LIKELY((*me)->run == of->run) && seat_enter(*me) ? DSPEC_OK : seat_take_slowly(of, *me);
 }
 
 static inline void seat_leave(seat *me) {
@@ -239,25 +230,20 @@ static inline void seat_leave(seat *me) {
     me->busy = false;
 }
 
-/* Into a call on the thread's own lane, where nobody wants it: whether it is in. */
-static inline bool lane_enter_alone(lane *on) {
-    __atomic_store_n(&on->inside, 1, __ATOMIC_RELAXED);
-    __atomic_signal_fence(__ATOMIC_SEQ_CST);
-    if (LIKELY(!(__atomic_load_n(&on->state, __ATOMIC_ACQUIRE) & LOOK))) return true;
-    __atomic_store_n(&on->inside, 0, __ATOMIC_RELEASE);
-    return false;
+/* Which lane is the thread's own now; NULL: none. */
+static inline void seat_owns(seat *me, dspec_tracer_lane *own) {
+    me->own = own;
+    STORE(&me->plain, own != NULL ? DSPEC_TRACER_NONE_ : me->run);
 }
-
-static inline void lane_leave_alone(lane *on) { __atomic_store_n(&on->inside, 0, __ATOMIC_RELEASE); }
 
 static inline bool lane_enter(seat *me, lane *on) {
     me->locked = false;
-    return (LIKELY(on == me->lane) && lane_enter_alone(on)) || lane_enter_slowly(me, on);
+    return (LIKELY(&on->front == me->own) && dspec_tracer_enter_(&on->front)) || lane_enter_slowly(me, on);
 }
 
 /* Into a call on a lane that nobody is on, by its lock: whether it is in. */
 static inline bool lane_enter_free(lane *on) {
-    uint32_t state = LOAD(&on->state);
+    uint32_t state = LOAD(&on->front.state);
     return LIKELY((state & ~(uint32_t)(SERVE | SHARED)) == 0) && state_becomes(on, &state, state | HELD);
 }
 
@@ -265,7 +251,7 @@ static inline void lane_leave_locked(lane *on) { state_clear(on, HELD); }
 
 static inline void lane_leave(seat *me, lane *on) {
     if (me->locked) lane_leave_locked(on);
-    else lane_leave_alone(on);
+    else dspec_tracer_leave_(&on->front);
 }
 
 #endif

@@ -125,7 +125,7 @@ static void save(body *of, crash *of_thread) {
     lane *own = &of->lanes[of->count];
     uint32_t stuck, kept = save_paths(of, of->options.keep_all ? 0 : of_thread->token, &stuck);
     const uint64_t values[] = { (uint32_t)of_thread->signal, (uint32_t)of_thread->code, of_thread->address, of_thread->thread, kept, stuck };
-    dspec_trace(&own->cpu, of->epid_of_crash, of_thread->at, values, sizeof values / sizeof values[0]);
+    dspec_trace(&own->front.cpu, of->epid_of_crash, of_thread->at, values, sizeof values / sizeof values[0]);
     lane_empty(of, own);
     drain(of);
     drain(of);
@@ -168,7 +168,7 @@ static void tell_counts(body *of) {
 }
 
 static void forget_events(body *of) {
-    for (const dspec_enabling **one = of->events; *one != NULL; one++) STORE(&(*one)->event->epids[of->slot], 0);
+    for (const dspec_enabling **one = of->events; *one != NULL; one++) STORE(&(*one)->event->claims[of->slot], 0);
 }
 
 /* Takes all lanes for good, and ends each by itself. One whose thread didn't come out of its call stays as it is: that thread may be in its memory. */

@@ -49,7 +49,14 @@ static dspec_status enable_crash(body *of, struct naming *naming) {
     return enable(of, &own, &of->epid_of_crash, naming);
 }
 
-/* The events that the tracer was handed, each with its EPID in this tracer. */
+/* The widths of its fields, four bits each, the first lowest, above its EPID (dspec_put). */
+static uint64_t claim_of(const dspec_enabling *one, uint32_t epid) {
+    uint64_t claim = epid;
+    for (size_t i = 0; i < one->n; i++) claim |= (uint64_t)one->widths[i] << (32 + 4 * i);
+    return claim;
+}
+
+/* The events that the tracer was handed, each with what its records claim in this tracer. */
 dspec_status enable_all(body *of, const dspec_enabling *const *events, struct naming *naming) {
     dspec_status status = dspec_schema_new(&of->schema);
     if (status == DSPEC_OK) status = dspec_schema_stamp(&of->schema);
@@ -59,7 +66,7 @@ dspec_status enable_all(body *of, const dspec_enabling *const *events, struct na
         status = enable(of, events[i], &epid, naming);
         if (status != DSPEC_OK) break;
         of->events[i] = events[i];
-        STORE(&events[i]->event->epids[of->slot], epid);
+        STORE(&events[i]->event->claims[of->slot], claim_of(events[i], epid));
     }
     if (status == DSPEC_OK && !of->options.no_crash) status = enable_crash(of, naming);
     return status;

@@ -30,7 +30,7 @@ static void wait_a_little(unsigned tries) {
     }
 }
 
-static bool is_inside(const lane *on) { return __atomic_load_n(&on->inside, __ATOMIC_ACQUIRE) != 0; }
+static bool is_inside(const lane *on) { return __atomic_load_n(&on->front.inside, __ATOMIC_ACQUIRE) != 0; }
 
 /* Whether the thread whose lane this is has left its call; the caller has set HELD. */
 static bool is_left(const lane *on) {
@@ -49,9 +49,9 @@ static bool is_left(const lane *on) {
 /* Into a call on the thread's own lane, once more: whether nobody was in the way. */
 static bool enter_alone(lane *on, uint32_t state) {
     if (state & IDLE) state_clear(on, IDLE); /* the consumer has to look again */
-    __atomic_exchange_n(&on->inside, 1, __ATOMIC_SEQ_CST);
-    if (!(state_of(on) & LOOK)) return true;
-    __atomic_store_n(&on->inside, 0, __ATOMIC_RELEASE);
+    __atomic_exchange_n(&on->front.inside, 1, __ATOMIC_SEQ_CST);
+    if (!(state_of(on) & DSPEC_TRACER_LOOK_)) return true;
+    __atomic_store_n(&on->front.inside, 0, __ATOMIC_RELEASE);
     return false;
 }
 
@@ -75,7 +75,7 @@ bool lane_enter_slowly(seat *me, lane *on) {
             wait_a_little(tries);
             continue;
         }
-        me->locked = on != me->lane || state & SHARED;
+        me->locked = &on->front != me->own || state & SHARED;
         if (me->locked ? enter_locked(on, state) : enter_alone(on, state)) return true;
     }
     ADD(&on->of->waited, 1);
@@ -86,7 +86,7 @@ bool lane_enter_slowly(seat *me, lane *on) {
 
 /* The lane so many behind the one that the thread had last. */
 static lane *lane_behind(body *of, const seat *me, uint32_t many) {
-    uint32_t at = me->last->number + many;
+    uint32_t at = lane_of(me->last)->number + many;
     return &of->lanes[at < of->count ? at : at - of->count];
 }
 
@@ -94,12 +94,12 @@ static lane *lane_behind(body *of, const seat *me, uint32_t many) {
 static lane *claim(body *of, seat *me, uint32_t users) {
     for (uint32_t i = 0; i < of->count; i++) {
         lane *on = lane_behind(of, me, i);
-        uint32_t state = LOAD(&on->state);
+        uint32_t state = LOAD(&on->front.state);
         while (state < USER && !(state & GONE)) {
             uint32_t is = (of->locked ? state : state & ~(uint32_t)SHARED) + users * USER;
             if (!state_becomes(on, &state, is)) continue;
-            me->last = on;
-            me->lane = on;
+            me->last = &on->front;
+            seat_owns(me, &on->front);
             return on;
         }
     }
@@ -110,45 +110,45 @@ static lane *claim(body *of, seat *me, uint32_t users) {
 static lane *least(body *of) {
     lane *found = &of->lanes[0];
     for (uint32_t i = 1; i < of->count; i++)
-        if (LOAD(&of->lanes[i].state) / USER < LOAD(&found->state) / USER) found = &of->lanes[i];
+        if (LOAD(&of->lanes[i].front.state) / USER < LOAD(&found->front.state) / USER) found = &of->lanes[i];
     return found;
 }
 
-static bool has_room(const body *of, const lane *on) { return LOAD(&on->state) / USER <= of->options.paths; }
+static bool has_room(const body *of, const lane *on) { return LOAD(&on->front.state) / USER <= of->options.paths; }
 
 lane *lane_shared(body *of, uint32_t number) {
     lane *on = &of->lanes[number];
     if (!has_room(of, on)) return NULL;
-    __atomic_fetch_add(&on->state, USER, __ATOMIC_SEQ_CST);
+    __atomic_fetch_add(&on->front.state, USER, __ATOMIC_SEQ_CST);
     return on;
 }
 
 lane *lane_for_path(body *of, seat *me) {
-    lane *on = me->lane;
+    lane *on = lane_of(me->own);
     if (on == NULL && (on = claim(of, me, 2)) != NULL) return on;
     return lane_shared(of, on == NULL || !has_room(of, on) ? least(of)->number : on->number);
 }
 
-/* A path of a thread's own lane is over: with the last one the lane is nobody's. own: whether the thread began the path there. */
+/* A path is over: with the last one that its thread began there, a lane is nobody's own. own: whether the path is such a one. */
 void lane_path_off(seat *me, lane *on, bool own) {
     uint32_t users = 1;
     if (own && --me->open == 0 && !on->of->by_thread) {
-        me->lane = NULL;
+        seat_owns(me, NULL);
         users = 2;
     }
-    __atomic_fetch_sub(&on->state, users * USER, __ATOMIC_SEQ_CST);
+    __atomic_fetch_sub(&on->front.state, users * USER, __ATOMIC_SEQ_CST);
 }
 
 lane *lane_for_record(body *of, seat *me) {
-    lane *on = me->lane;
+    lane *on = lane_of(me->own);
     if (on != NULL || (of->by_thread && (on = claim(of, me, 1)) != NULL)) return on;
     for (uint32_t i = 0; i < of->count; i++) {
         uint32_t state;
         on = lane_behind(of, me, i);
-        state = LOAD(&on->state);
-        if (state < USER && !(state & (HELD | WANTED))) return me->last = on;
+        state = LOAD(&on->front.state);
+        if (state < USER && !(state & (HELD | WANTED))) return me->last = &on->front, on;
     }
-    return me->last;
+    return lane_of(me->last);
 }
 
 /* ---- The consumer. ---- */

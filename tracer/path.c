@@ -1,4 +1,4 @@
-/* path.c: records and paths, as the threads of a program make them. */
+/* path.c: records and paths, as the threads of a program make them; but a record that nobody hinders is made in its caller (dspec_tracer_record.h). */
 #include "body.h"
 
 #include <poll.h>
@@ -8,10 +8,10 @@ uint64_t dspec_tracer_now(void) { return dspec_monotonic(); }
 /* NULL of a tracer that isn't started, and of a path that was never begun. */
 static body *body_of(const dspec_tracer *tracer) { return tracer == NULL ? NULL : __atomic_load_n(&tracer->body, __ATOMIC_ACQUIRE); }
 
-/* A path is over with a token that no thread has, so that its next call takes a closer look. */
+/* A path is over without a token, so that its next call takes a closer look. */
 static void is_over(dspec_path *path) {
     path->over = true;
-    path->token = UINT32_MAX;
+    path->token = 0;
 }
 
 RARELY static void serve(lane *on) {
@@ -22,7 +22,7 @@ RARELY static void serve(lane *on) {
 
 /* What the consumer asked for, where this thread comes by: so it never waits for the consumer. */
 static inline void serve_if_asked(lane *on) {
-    if (!LIKELY(!(LOAD(&on->state) & SERVE))) serve(on);
+    if (!LIKELY(!(LOAD(&on->front.state) & SERVE))) serve(on);
 }
 
 /* Each 64th that finds no room wakes the consumer, whose round makes some. */
@@ -31,7 +31,7 @@ static void wants_room(body *of) {
 }
 
 /* Notes an open path in its lane, which the caller is in: whether there was a place. There are as many as a lane has paths, so that each finds the speculations that it needs. */
-static bool note(lane *on, dspec_path *path, const seat *me) {
+static bool note(lane *on, dspec_path *path) {
     const uint32_t places = on->of->options.paths;
     for (uint32_t i = 0, place = (uint32_t)path->id % MAX_OPEN; i < places; i++, place++) {
         if (place >= places) place = 0;
@@ -39,7 +39,7 @@ static bool note(lane *on, dspec_path *path, const seat *me) {
         if (one->id != 0) continue;
         one->saved = one->waits = one->has_last = false;
         one->older = one->cut = 0;
-        STORE(&one->token, me->token);
+        STORE(&one->token, dspec_tracer_token_1);
         __atomic_store_n(&one->id, path->id, __ATOMIC_RELEASE);
         path->place = (uint16_t)place;
         return true;
@@ -47,78 +47,61 @@ static bool note(lane *on, dspec_path *path, const seat *me) {
     return false;
 }
 
-/* Opens a path on a lane, on which it counts already. DSPEC_UNAVAILABLE: there is no slot. */
-static dspec_status begin_on(lane *on, seat *me, dspec_path *path) {
+/* Opens a path on a lane, which the caller is in: whether there is a slot. own: whether it is the thread's own. */
+static bool open_on(lane *on, dspec_path *path, bool own) {
     uint32_t count;
-    bool open;
-    if (!lane_enter(me, on)) return DSPEC_STOPPED;
-    open = dspec_speculation(&on->cpu, &path->id) == DSPEC_OK;
-    if (open && !note(on, path, me)) {
-        dspec_discard(&on->cpu, path->id, &count);
-        open = false;
+    if (dspec_speculation(&on->front.cpu, &path->id) != DSPEC_OK) return false;
+    if (!note(on, path)) {
+        dspec_discard(&on->front.cpu, path->id, &count);
+        return false;
     }
-    lane_leave(me, on);
-    return open ? DSPEC_OK : DSPEC_UNAVAILABLE;
+    path->lane = &on->front;
+    path->own = own;
+    path->token = own ? dspec_tracer_token_1 : 0;
+    return true;
 }
 
-/* What a record of an event claims in the tracer that the lane is of. */
-static inline uint64_t claim_of(lane *on, const dspec_event *event, uint32_t fields) { return (uint64_t)fields << 32 | LOAD(&event->epids[on->slot]); }
-
-/* A record's words on a lane, into a path's speculation or alone; few of them go in registers. */
-static inline dspec_status put_in(lane *on, uint64_t id, uint64_t claim, const uint64_t *words, size_t n) {
+/* A record of a path on its lane, which the caller is in. */
+static inline dspec_status put_on(lane *on, dspec_path *path, const dspec_event *event, const uint64_t *words, size_t n) {
     const uint64_t now = dspec_monotonic();
-    switch (n) {
-    case 1: return dspec_put_in_1(&on->cpu, id, claim, now, words[0]);
-    case 2: return dspec_put_in_2(&on->cpu, id, claim, now, words[0], words[1]);
-    case 3: return dspec_put_in_3(&on->cpu, id, claim, now, words[0], words[1], words[2]);
-    default: return dspec_put_in(&on->cpu, id, claim, now, words, n);
-    }
+    dspec_status status;
+    do {
+        status = dspec_tracer_put_in_(&on->front.cpu, path->id, dspec_tracer_claim_(event, on->front.slot), now, words, n);
+    } while (!LIKELY(status != DSPEC_DROPPED) && dspec_path_turn(path));
+    return status;
 }
 
-static inline dspec_status put(lane *on, uint64_t claim, const uint64_t *words, size_t n) {
-    const uint64_t now = dspec_monotonic();
-    switch (n) {
-    case 1: return dspec_put_1(&on->cpu, claim, now, words[0]);
-    case 2: return dspec_put_2(&on->cpu, claim, now, words[0], words[1]);
-    case 3: return dspec_put_3(&on->cpu, claim, now, words[0], words[1], words[2]);
-    default: return dspec_put(&on->cpu, claim, now, words, n);
-    }
-}
-
-/* A record for which a path's speculation has no room. With keep_last it goes into a new one, and the one before the full one is thrown away. */
-RARELY static dspec_status put_further(lane *on, dspec_path *path, uint64_t claim, const uint64_t *words, size_t n) {
+/* With keep_last a path whose speculation is full goes on in a new one, and the one before the full one is thrown away. */
+RARELY bool dspec_path_turn(dspec_path *path) {
+    lane *on = lane_of(path->lane);
     open_path *one = &on->open[path->place];
     uint64_t id;
     uint32_t count;
-    if (!on->of->options.keep_last || dspec_speculation(&on->cpu, &id) != DSPEC_OK) return DSPEC_DROPPED;
-    if (one->older != 0 && dspec_discard(&on->cpu, one->older, &count) == DSPEC_OK) one->cut += count;
+    if (!on->of->options.keep_last || dspec_speculation(&on->front.cpu, &id) != DSPEC_OK) return false;
+    if (one->older != 0 && dspec_discard(&on->front.cpu, one->older, &count) == DSPEC_OK) one->cut += count;
     one->older = path->id;
     path->id = id;
     STORE(&one->id, id);
     on->turned++;
-    return put_in(on, id, claim, words, n);
-}
-
-/* A record of a path on its lane, which the caller is in. */
-static inline dspec_status put_on(lane *on, dspec_path *path, const dspec_event *event, uint32_t fields, const uint64_t *words, size_t n) {
-    const uint64_t claim = claim_of(on, event, fields);
-    dspec_status status = put_in(on, path->id, claim, words, n);
-    return LIKELY(status != DSPEC_DROPPED) ? status : put_further(on, path, claim, words, n);
+    return true;
 }
 
 /* The first record of a path opens its speculation. Where there is none to be had, the path is refused as a whole. */
-static dspec_status begin(body *of, seat *me, dspec_path *path) {
+static dspec_status begin(body *of, seat *me, dspec_path *path, const dspec_event *event, const uint64_t *words, size_t n) {
     dspec_status status = DSPEC_UNAVAILABLE;
     for (uint32_t tries = 0; tries <= of->count && status == DSPEC_UNAVAILABLE; tries++) {
         lane *on = tries == 0 ? lane_for_path(of, me) : lane_shared(of, tries - 1);
-        bool own = on == me->lane;
         if (on == NULL) continue;
+        const bool own = &on->front == me->own;
         me->open += own;
-        status = begin_on(on, me, path);
-        if (status == DSPEC_OK) {
-            path->lane = on;
-            path->token = me->token;
-            return DSPEC_OK;
+        if (!lane_enter(me, on)) {
+            status = DSPEC_STOPPED;
+        } else if (open_on(on, path, own)) {
+            status = put_on(on, path, event, words, n);
+            lane_leave(me, on);
+            return status;
+        } else {
+            lane_leave(me, on);
         }
         lane_path_off(me, on, own);
     }
@@ -129,124 +112,137 @@ static dspec_status begin(body *of, seat *me, dspec_path *path) {
     return DSPEC_UNAVAILABLE;
 }
 
-/* A path that comes from another thread is this one's, where it is still open. */
-static dspec_status adopt(seat *me, dspec_path *path) {
-    lane *on = path->lane;
+/* A path is this thread's from now on: whether it is still open. The caller is in its lane. */
+static bool adopt(lane *on, const dspec_path *path) {
     open_path *one = &on->open[path->place];
-    if (!lane_enter(me, on)) return DSPEC_STOPPED;
-    bool open = one->id == path->id;
-    if (open) STORE(&one->token, me->token);
-    lane_leave(me, on);
-    path->token = me->token;
-    if (open) return DSPEC_OK;
-    is_over(path);
-    return DSPEC_VOID;
+    if (one->id != path->id) return false;
+    STORE(&one->token, dspec_tracer_token_1);
+    return true;
 }
 
-/* Has the path open on this thread, and the thread in the tracer. */
-static dspec_status ready(dspec_path *path, seat **me) {
-    body *of = path->lane != NULL ? path->lane->of : body_of(path->tracer);
-    dspec_status status;
-    if (path->over || of == NULL) return path->lane != NULL ? DSPEC_VOID : DSPEC_UNAVAILABLE;
-    if ((status = seat_take(of, me)) != DSPEC_OK) return status;
-    if (path->lane == NULL) status = begin(of, *me, path);
-    else if (path->token != (*me)->token) status = adopt(*me, path);
-    if (status != DSPEC_OK) seat_leave(*me);
+/* A further record of a path: one that comes from another thread, or whose lane several share or the consumer has. */
+static dspec_status go_on(seat *me, dspec_path *path, const dspec_event *event, const uint64_t *words, size_t n) {
+    lane *on = lane_of(path->lane);
+    dspec_status status = DSPEC_VOID;
+    if (!lane_enter(me, on)) return DSPEC_STOPPED;
+    if (adopt(on, path)) {
+        path->token = path->own && path->lane == me->own ? dspec_tracer_token_1 : 0;
+        status = put_on(on, path, event, words, n);
+    } else {
+        is_over(path);
+    }
+    lane_leave(me, on);
     return status;
 }
 
-RARELY static dspec_status put_slowly(dspec_path *path, const dspec_event *event, uint32_t fields, const uint64_t *words, size_t n) {
+/* The tracer that a path is of; NULL: none is up, or the path is over. */
+static body *body_of_path(const dspec_path *path) {
+    if (path->over) return NULL;
+    return path->lane != NULL ? lane_of(path->lane)->of : body_of(path->tracer);
+}
+
+static dspec_status put_slowly(dspec_path *path, const dspec_event *event, const uint64_t *words, size_t n) {
+    body *of = body_of_path(path);
     seat *me;
-    dspec_status status = ready(path, &me);
-    if (status != DSPEC_OK) return status;
-    lane *on = path->lane;
-    status = DSPEC_STOPPED;
-    if (lane_enter(me, on)) {
-        status = put_on(on, path, event, fields, words, n);
-        lane_leave(me, on);
-    }
+    dspec_status status;
+    if (of == NULL) return path->lane != NULL ? DSPEC_VOID : DSPEC_UNAVAILABLE;
+    if ((status = seat_take(of, &me)) != DSPEC_OK) return status;
+    status = path->lane == NULL ? begin(of, me, path, event, words, n) : go_on(me, path, event, words, n);
     seat_leave(me);
     return status;
 }
 
-/* A path that is open on its thread's own lane is what takes no closer look. */
-dspec_status dspec_path_put(dspec_path *path, const dspec_event *event, uint32_t fields, const uint64_t *words, size_t n) {
-    lane *on = path->lane;
-    if (LIKELY(on != NULL)) {
-        seat *me = seat_at(on->slot);
-        if (LIKELY(path->token == me->token && on == me->lane) && seat_enter(me)) {
-            if (LIKELY(lane_enter_alone(on))) {
-                dspec_status status = put_on(on, path, event, fields, words, n);
-                lane_leave_alone(on);
-                seat_leave(me);
-                return status;
-            }
-            seat_leave(me);
-        }
-    }
-    return put_slowly(path, event, fields, words, n);
+dspec_status dspec_path_put(dspec_path *path, const dspec_event *event, const uint64_t *words, size_t n) {
+    dspec_status status;
+    return dspec_path_try_(path, event, words, n, &status) ? status : put_slowly(path, event, words, n);
 }
 
-/* A record that is in no path, on a lane that the caller is in. */
-static inline dspec_status record_on(lane *on, const dspec_event *event, uint32_t fields, const uint64_t *words, size_t n) {
-    dspec_status status = put(on, claim_of(on, event, fields), words, n);
+dspec_status dspec_path_put_1(dspec_path *path, const dspec_event *event, uint64_t w0) { return put_slowly(path, event, &w0, 1); }
+
+dspec_status dspec_path_put_2(dspec_path *path, const dspec_event *event, uint64_t w0, uint64_t w1) {
+    const uint64_t words[] = { w0, w1 };
+    return put_slowly(path, event, words, 2);
+}
+
+dspec_status dspec_path_put_3(dspec_path *path, const dspec_event *event, uint64_t w0, uint64_t w1, uint64_t w2) {
+    const uint64_t words[] = { w0, w1, w2 };
+    return put_slowly(path, event, words, 3);
+}
+
+RARELY void dspec_tracer_dropped(dspec_tracer *tracer) { wants_room(tracer->body); }
+
+/* A record that is in no path, on its thread's own lane, where nobody is in its way: whether it was made. A handler that comes in between finds `inside`. */
+INTO_CALLER bool record_on_own(dspec_tracer *tracer, const dspec_event *event, const uint64_t *words, size_t n, dspec_status *status) {
+    const seat *me = dspec_tracer_seat_of_(tracer);
+    lane *on = lane_of(me->own);
+    if (!LIKELY(me->run == LOAD(&tracer->run) && on != NULL && LOAD(&on->front.inside) == 0)) return false;
+    dspec_tracer_reach_();
+    if (!LIKELY(dspec_tracer_enter_(&on->front))) return false;
+    *status = dspec_tracer_put_(&on->front.cpu, dspec_tracer_claim_(event, on->front.slot), dspec_monotonic(), words, n);
     serve_if_asked(on);
-    if (!LIKELY(status != DSPEC_DROPPED)) wants_room(on->of);
-    return status;
+    dspec_tracer_leave_(&on->front);
+    if (!LIKELY(*status != DSPEC_DROPPED)) wants_room(on->of);
+    return true;
 }
 
-RARELY static dspec_status record_slowly(body *of, const dspec_event *event, uint32_t fields, const uint64_t *words, size_t n) {
+/* On a lane that has to be served, on another than the one that the thread had last, or where others are in the way. */
+static dspec_status record_slowly(dspec_tracer *tracer, const dspec_event *event, const uint64_t *words, size_t n) {
+    body *of = body_of(tracer);
     seat *me;
-    dspec_status status = seat_take(of, &me);
-    if (status != DSPEC_OK) return status;
+    dspec_status status;
+    if (of == NULL) return DSPEC_UNAVAILABLE;
+    if ((status = seat_take(of, &me)) != DSPEC_OK) return status;
     lane *on = lane_for_record(of, me);
     status = DSPEC_STOPPED;
     if (lane_enter(me, on)) {
-        status = record_on(on, event, fields, words, n);
+        status = dspec_tracer_put_(&on->front.cpu, dspec_tracer_claim_(event, of->slot), dspec_monotonic(), words, n);
+        serve_if_asked(on);
         lane_leave(me, on);
+        if (status == DSPEC_DROPPED) wants_room(of);
     }
     seat_leave(me);
     return status;
 }
 
-/* On the thread's own lane, or on the one that it had last, where nobody is on that. */
-dspec_status dspec_tracer_put(dspec_tracer *tracer, const dspec_event *event, uint32_t fields, const uint64_t *words, size_t n) {
-    body *of = __atomic_load_n(&tracer->body, __ATOMIC_ACQUIRE);
-    seat *me;
-    if (!LIKELY(of != NULL)) return DSPEC_UNAVAILABLE;
-    me = seat_at(of->slot);
-    if (LIKELY(me->run == of->run) && seat_enter(me)) {
-        lane *on = me->last;
-        const bool is_own = on == me->lane;
-        if (LIKELY(is_own ? lane_enter_alone(on) : me->lane == NULL && lane_enter_free(on))) {
-            dspec_status status = record_on(on, event, fields, words, n);
-            if (is_own) lane_leave_alone(on);
-            else lane_leave_locked(on);
-            seat_leave(me);
-            return status;
-        }
-        seat_leave(me);
-    }
-    return record_slowly(of, event, fields, words, n);
+INTO_CALLER dspec_status record(dspec_tracer *tracer, const dspec_event *event, const uint64_t *words, size_t n) {
+    dspec_status status;
+    return record_on_own(tracer, event, words, n, &status) ? status : record_slowly(tracer, event, words, n);
+}
+
+dspec_status dspec_tracer_put(dspec_tracer *tracer, const dspec_event *event, const uint64_t *words, size_t n) {
+    dspec_status status;
+    return dspec_tracer_try_(tracer, event, words, n, &status) ? status : record(tracer, event, words, n);
+}
+
+dspec_status dspec_tracer_put_1(dspec_tracer *tracer, const dspec_event *event, uint64_t w0) { return record(tracer, event, &w0, 1); }
+
+dspec_status dspec_tracer_put_2(dspec_tracer *tracer, const dspec_event *event, uint64_t w0, uint64_t w1) {
+    const uint64_t words[] = { w0, w1 };
+    return record(tracer, event, words, 2);
+}
+
+dspec_status dspec_tracer_put_3(dspec_tracer *tracer, const dspec_event *event, uint64_t w0, uint64_t w1, uint64_t w2) {
+    const uint64_t words[] = { w0, w1, w2 };
+    return record(tracer, event, words, 3);
 }
 
 /* Commits one part of a path. count: its records. */
 static dspec_status commit_part(lane *on, uint64_t id, uint32_t *count, room has) {
     if (has == EMPTY_ROOM) lane_empty(on->of, on);
-    return has == WAITS_FOR_ROOM ? dspec_commit_if_room(&on->cpu, id, count) : dspec_commit(&on->cpu, id, count);
+    return has == WAITS_FOR_ROOM ? dspec_commit_if_room(&on->front.cpu, id, count) : dspec_commit(&on->front.cpu, id, count);
 }
 
 /* The last records of a path, or all. */
 static dspec_status commit_last(lane *on, open_path *one, room has) {
     uint32_t count = 0, dropped = 0;
     dspec_status status;
-    if (!on->of->options.keep_last) dspec_dropped_in(&on->cpu, one->id, &dropped);
+    if (!on->of->options.keep_last) dspec_dropped_in(&on->front.cpu, one->id, &dropped);
     status = commit_part(on, one->id, &count, has);
     if (status == DSPEC_BUSY) return status;
     on->cut_records += one->cut;
     one->is_cut = one->cut > 0 || dropped > 0;
     one->has_last = status == DSPEC_OK;
-    if (!one->has_last && one->older != 0 && dspec_discard(&on->cpu, one->older, &count) == DSPEC_OK) on->cut_records += count;
+    if (!one->has_last && one->older != 0 && dspec_discard(&on->front.cpu, one->older, &count) == DSPEC_OK) on->cut_records += count;
     return status;
 }
 
@@ -268,12 +264,12 @@ dspec_status path_commit(lane *on, open_path *one, room has) {
 
 bool path_discard(lane *on, open_path *one) {
     uint32_t count;
-    if (one->older != 0) dspec_discard(&on->cpu, one->older, &count);
-    return dspec_discard(&on->cpu, one->id, &count) == DSPEC_OK;
+    if (one->older != 0) dspec_discard(&on->front.cpu, one->older, &count);
+    return dspec_discard(&on->front.cpu, one->id, &count) == DSPEC_OK;
 }
 
 /* Decides a path in its lane, which the caller is in: DSPEC_OK where it was decided so, DSPEC_BUSY where it waits for room. */
-static dspec_status decide(lane *on, open_path *one, bool keep, bool waits) {
+INTO_CALLER dspec_status decide(lane *on, open_path *one, bool keep, bool waits) {
     dspec_status status;
     if (one->saved) return keep ? DSPEC_OK : DSPEC_VOID;
     status = keep ? path_commit(on, one, waits ? WAITS_FOR_ROOM : ANY_ROOM) : path_discard(on, one) ? DSPEC_OK : DSPEC_VOID;
@@ -283,16 +279,21 @@ static dspec_status decide(lane *on, open_path *one, bool keep, bool waits) {
     return status;
 }
 
-/* Ends a path that is open on this thread: whether it was decided so. Behind a stop the stop has decided it. */
-static bool end(seat *me, dspec_path *path, bool keep) {
-    lane *on = path->lane;
+/* Ends a path: whether it was decided so. Behind a stop the stop has decided it, and at a thread's end that has. */
+INTO_CALLER bool end(seat *me, dspec_path *path, bool keep) {
+    lane *on = lane_of(path->lane);
     open_path *one = &on->open[path->place];
-    const uint64_t most = on->of->options.keep_ms * UINT64_C(1000000), began = keep && most > 0 ? dspec_monotonic() : 0;
+    const bool own = path->own && path->lane == me->own;
+    const uint64_t most = keep ? on->of->options.keep_ms * UINT64_C(1000000) : 0, began = most > 0 ? dspec_monotonic() : 0;
     dspec_status status;
     is_over(path);
     for (;;) {
         if (!lane_enter(me, on)) return false;
-        status = decide(on, one, keep, keep && most > 0 && dspec_monotonic() - began < most);
+        if (!adopt(on, path)) {
+            lane_leave(me, on);
+            return false;
+        }
+        status = decide(on, one, keep, most > 0 && dspec_monotonic() - began < most);
         serve_if_asked(on);
         if (status != DSPEC_BUSY) break;
         lane_leave(me, on);
@@ -301,15 +302,16 @@ static bool end(seat *me, dspec_path *path, bool keep) {
     }
     STORE(&one->id, 0);
     lane_leave(me, on);
-    lane_path_off(me, on, on == me->lane && me->open > 0);
+    lane_path_off(me, on, own);
     if (status != DSPEC_OK) wants_room(on->of);
     return status == DSPEC_OK;
 }
 
-static bool ends(dspec_path *path, bool keep) {
+INTO_CALLER bool ends(dspec_path *path, bool keep) {
+    body *of = body_of_path(path);
     seat *me;
     bool done;
-    if (ready(path, &me) != DSPEC_OK) return false;
+    if (of == NULL || seat_take(of, &me) != DSPEC_OK) return false;
     done = end(me, path, keep);
     seat_leave(me);
     return done;
@@ -346,11 +348,10 @@ void path_ends_with_thread(body *of, seat *me) {
     for (uint32_t i = 0; i < of->count; i++) {
         lane *on = &of->lanes[i];
         uint32_t found;
-        if (!has_path_of(on, me->token) || !lane_enter(me, on)) continue;
-        found = throw_away(on, me->token);
+        if (!has_path_of(on, dspec_tracer_token_1) || !lane_enter(me, on)) continue;
+        found = throw_away(on, dspec_tracer_token_1);
         lane_leave(me, on);
-        __atomic_fetch_sub(&on->state, found * USER, __ATOMIC_SEQ_CST);
+        __atomic_fetch_sub(&on->front.state, found * USER, __ATOMIC_SEQ_CST);
     }
-    if (me->lane != NULL) __atomic_fetch_sub(&me->lane->state, USER, __ATOMIC_SEQ_CST);
-    me->lane = NULL;
+    if (me->own != NULL) __atomic_fetch_sub(&me->own->state, USER, __ATOMIC_SEQ_CST);
 }

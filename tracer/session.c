@@ -9,12 +9,12 @@ dspec_status lane_start(lane *on, const dspec_tracer_options *options, dspec_sch
     };
     dspec_status status = dspec_start(&config, schema, &on->session);
     if (status == DSPEC_OK) status = dspec_consumer_of(&on->session, &on->consumer);
-    if (status == DSPEC_OK) status = dspec_cpu_of(&on->session, 0, &on->cpu);
+    if (status == DSPEC_OK) status = dspec_cpu_of(&on->session, 0, &on->front.cpu);
     return status;
 }
 
 void lane_drop(lane *on) {
-    dspec_cpu_drop(&on->cpu);
+    dspec_cpu_drop(&on->front.cpu);
     dspec_consumer_drop(&on->consumer);
     dspec_session_drop(&on->session);
 }
@@ -25,7 +25,7 @@ void lane_ask(lane *on) { dspec_ask(&on->consumer, 0); }
 void lane_serve(lane *on, bool *is_empty) {
     bool sealed = false;
     uint32_t settled = 0;
-    dspec_service(&on->cpu, &sealed, &settled);
+    dspec_service(&on->front.cpu, &sealed, &settled);
     *is_empty = sealed && settled == 0;
 }
 
@@ -64,7 +64,7 @@ static void add(dspec_tracer_report *sum, const dspec_report *one) {
 
 /* The end of a lane that no thread is in: whether its session ended. */
 bool lane_end(body *of, lane *on) {
-    dspec_cpu *const cpus[] = { &on->cpu };
+    dspec_cpu *const cpus[] = { &on->front.cpu };
     dspec_closed closed = DSPEC_EMPTY;
     dspec_report report;
     dspec_batch batch;

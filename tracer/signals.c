@@ -7,8 +7,6 @@
 #include <unistd.h>
 
 enum { MOST_SIGNALS = 65 };
-/* No thread has this token. */
-enum { NOBODY = -1 };
 
 static const int crashes[] = { SIGSEGV, SIGBUS, SIGFPE, SIGILL, SIGABRT }, ends[] = { SIGTERM, SIGINT, SIGHUP };
 #define COUNT_OF(ARRAY) (sizeof(ARRAY) / sizeof(ARRAY)[0])
@@ -75,7 +73,6 @@ void signals_end(int signal) {
 
 /* Tells a tracer's consumer of this thread's crash: where; NULL where that many crash already. */
 static crash *post(body *of, int signal, const siginfo_t *info) {
-    const seat *me = of->slot < DSPEC_MAX_TRACERS ? &dspec_here.seats[of->slot] : NULL;
     for (uint32_t i = 0; i < MAX_CRASHES; i++) {
         crash *one = &of->crashes[i];
         uint32_t none = CRASH_FREE;
@@ -84,7 +81,7 @@ static crash *post(body *of, int signal, const siginfo_t *info) {
         one->code = info->si_code;
         one->address = info->si_code > 0 ? (uint64_t)(uintptr_t)info->si_addr : 0;
         one->at = dspec_tracer_now();
-        one->token = me != NULL && me->run == of->run ? me->token : (uint32_t)NOBODY;
+        one->token = dspec_tracer_token_1;
         if (of->here != NULL) of->here(one->here);
         one->thread = (uint32_t)syscall(SYS_gettid);
         ADD(&one->serial, 1);

@@ -8,7 +8,7 @@
 static pthread_mutex_t mutex = PTHREAD_MUTEX_INITIALIZER;
 static pthread_once_t once = PTHREAD_ONCE_INIT;
 static body *tracers[MAX_SLOTS];
-static uint32_t runs;
+static uint32_t runs = DSPEC_TRACER_NONE_;
 
 body *tracer_at(uint32_t slot) { return __atomic_load_n(&tracers[slot], __ATOMIC_SEQ_CST); }
 
@@ -70,7 +70,7 @@ static void free_body(body *of) {
 
 /* Lets go what a tracer has that never came up. */
 static void unmake(body *of) {
-    for (uint32_t i = 0; of->events != NULL && of->events[i] != NULL; i++) STORE(&of->events[i]->event->epids[of->slot], 0);
+    for (uint32_t i = 0; of->events != NULL && of->events[i] != NULL; i++) STORE(&of->events[i]->event->claims[of->slot], 0);
     for (uint32_t i = 0; i <= of->count; i++) lane_drop(&of->lanes[i]);
     dspec_schema_drop(&of->schema);
     free_body(of);
@@ -92,7 +92,7 @@ static body *body_new(const dspec_tracer_options *options, size_t events) {
     for (uint32_t i = 0; i <= of->count; i++) {
         of->lanes[i].number = i;
         of->lanes[i].of = of;
-        of->lanes[i].state = of->locked ? IDLE | SHARED : IDLE;
+        of->lanes[i].front.state = of->locked ? IDLE | SHARED : IDLE;
     }
     if (of->events != NULL) return of;
     free(of);
@@ -201,7 +201,7 @@ static bool start(dspec_tracer *tracer, const char *folder, const dspec_tracer_o
     of = body_new(&all, events_of(events));
     if (of == NULL) return fail(tracer, "the tracer", dspec_status_text(DSPEC_NO_MEMORY));
     of->slot = slot;
-    for (uint32_t i = 0; i <= of->count; i++) of->lanes[i].slot = slot;
+    for (uint32_t i = 0; i <= of->count; i++) of->lanes[i].front.slot = slot;
     of->run = ++runs;
     of->up = 1;
     if (!make(tracer, of, folder, events)) {
@@ -209,6 +209,8 @@ static bool start(dspec_tracer *tracer, const char *folder, const dspec_tracer_o
         return false;
     }
     tracer_set(slot, of);
+    STORE(&tracer->seat, (uint32_t)(slot * sizeof(seat)));
+    STORE(&tracer->run, of->run);
     __atomic_store_n(&tracer->body, of, __ATOMIC_RELEASE);
     signals_hook(&of->options);
     return true;

@@ -8,6 +8,10 @@
 enum { STACK_SIZE = 65536, GUARD_SIZE = 4096 };
 
 __thread here dspec_here __attribute__((tls_model("initial-exec")));
+#define FREE_SEAT { .run = DSPEC_TRACER_NONE_, .plain = DSPEC_TRACER_NONE_ }
+__thread seat dspec_tracer_seats_1[DSPEC_MAX_TRACERS] __attribute__((tls_model("initial-exec"))) = { FREE_SEAT, FREE_SEAT, FREE_SEAT, FREE_SEAT, FREE_SEAT, FREE_SEAT, FREE_SEAT, FREE_SEAT };
+static_assert(DSPEC_MAX_TRACERS == 8, "a free seat for each");
+__thread uint32_t dspec_tracer_token_1 __attribute__((tls_model("initial-exec"))) = NO_TOKEN;
 
 static pthread_key_t key;
 static bool has_key;
@@ -37,19 +41,23 @@ void stack_off(void) {
     munmap(at, STACK_SIZE + GUARD_SIZE);
 }
 
+/* The thread has no seat, and is none that has been. */
+static void forget(void) {
+    for (uint32_t slot = 0; slot < DSPEC_MAX_TRACERS; slot++) dspec_tracer_seats_1[slot] = (seat)FREE_SEAT;
+    dspec_tracer_token_1 = NO_TOKEN;
+}
+
 /* The thread ends: what it left undecided is thrown away, and its lanes are others'. */
 static void detach(void *unused) {
     (void)unused;
     tracers_lock();
     for (uint32_t slot = 0; slot < DSPEC_MAX_TRACERS; slot++) {
-        seat *me = &dspec_here.seats[slot];
+        seat *me = &dspec_tracer_seats_1[slot];
         body *of = tracer_at(slot);
         /* One that is in a call still was thrown out of it by a signal's handler: that lane stays as it is. */
-        if (of != NULL && me->run == of->run && LOAD(&of->up) && !me->busy) path_ends_with_thread(of, me);
-        me->run = 0;
-        me->lane = NULL;
-        me->busy = false;
+        if (of != NULL && me->run == of->run && LOAD(&of->up) && !seat_is_in(me)) path_ends_with_thread(of, me);
     }
+    forget();
     tracers_unlock();
     stack_off();
 }
@@ -61,31 +69,35 @@ __attribute__((destructor)) static void unloaded(void) {
     if (has_key) pthread_key_delete(key);
 }
 
-void threads_in_child(void) { memset(dspec_here.seats, 0, sizeof dspec_here.seats); }
+void threads_in_child(void) { forget(); }
 
 /* The thread is in the tracer meanwhile, so that no handler comes in between. */
 static void attach(body *of, seat *me) {
-    me->lane = NULL;
+    if (dspec_tracer_token_1 == NO_TOKEN) dspec_tracer_token_1 = __atomic_add_fetch(&tokens, 1, __ATOMIC_RELAXED);
     me->open = 0;
-    me->token = __atomic_add_fetch(&tokens, 1, __ATOMIC_RELAXED);
-    me->thread = (uint32_t)syscall(SYS_gettid);
-    me->last = &of->lanes[me->token % of->count];
+    me->last = &of->lanes[dspec_tracer_token_1 % of->count].front;
+    me->recording = false;
     if (!of->options.no_crash) stack_on();
     if (has_key) pthread_setspecific(key, &dspec_here);
     ADD(&of->threads, 1);
     me->run = of->run;
+    seat_owns(me, NULL);
 }
 
-dspec_status seat_take(body *of, seat **me) {
-    *me = seat_at(of->slot);
-    if ((*me)->run != of->run && !LOAD(&of->up)) {
+RARELY dspec_status seat_take_slowly(body *of, seat *me) {
+    const bool is_new = me->run != of->run;
+    if (is_new && !LOAD(&of->up)) {
         ADD(&of->late, 1);
         return DSPEC_STOPPED;
     }
-    if (!seat_enter(*me)) {
+    /* What an earlier tracer left in the seat says nothing of this one, but for `busy`: the thread may be making the seat. */
+    if (!is_new || me->busy) {
         ADD(&of->nested, 1);
         return DSPEC_BUSY;
     }
-    if ((*me)->run != of->run) attach(of, *me);
+    dspec_tracer_reach_();
+    me->busy = true;
+    __atomic_signal_fence(__ATOMIC_SEQ_CST);
+    attach(of, me);
     return DSPEC_OK;
 }

@@ -62,8 +62,9 @@ fn a_program_of_its_own() {
     let (Ok(way), Ok(folder)) = (env::var("DSPEC_CRASH"), env::var("DSPEC_FOLDER")) else { return };
     let folder = Path::new(&folder);
     let sinks = (Text::new(File::create(folder.join("kept.txt")).unwrap()).with_outside(), Ctf::create(folder.join("ctf")).unwrap());
-    let builder = Builder::new().rests(Duration::from_millis(1), Duration::from_secs(600));
-    let builder = if way == "none" { builder.crash_waits_at_most(Duration::ZERO) } else { builder };
+    // A busy machine may keep the consumer from its processor for longer than half a second.
+    let waits = Duration::from_secs(if way == "none" { 0 } else { 60 });
+    let builder = Builder::new().rests(Duration::from_millis(1), Duration::from_secs(600)).crash_waits_at_most(waits);
     let (layer, _guard) = builder.build(sinks).unwrap();
     tracing::subscriber::set_global_default(tracing_subscriber::registry().with(layer)).unwrap();
     let both = Barrier::new(2);
@@ -153,8 +154,10 @@ fn a_crash_keeps_the_path_of_its_thread() {
         assert_eq!(why, "crashed, open still", "{way}");
         let due = ["request { request=5", "DEBUG crash: stepped step=1", "part { table=orders", "DEBUG crash: stepped step=2"];
         assert_eq!(lines[..4], due, "{way}: {}", left.text);
+        // The second crash stands behind the path, or behind request 3, where that was handed on later.
         assert!(
-            lines.len() == 4 + signals.len() && lines[4].starts_with(&format!("ERROR dspec_crash: signal={} code=", signals[0])),
+            (5..=4 + signals.len()).contains(&lines.len())
+                && lines[4].starts_with(&format!("ERROR dspec_crash: signal={} code=", signals[0])),
             "{way}: {}",
             left.text
         );

@@ -537,11 +537,12 @@ fn a_kill_leaves_whole_packets() {
         let mut writer = Command::new(env::current_exe().unwrap());
         writer.args(["--exact", "until_it_is_killed", "--nocapture"]).env(KILLED, &folder).stdout(std::process::Stdio::null());
         let mut writer = writer.spawn().unwrap();
+        // A path has less than 16 KB, so that two packets are whole.
         let begun = std::time::Instant::now();
-        while !folder.join("stream_0").exists() && begun.elapsed().as_secs() < 30 {
+        while fs::metadata(folder.join("stream_0")).map_or(0, |file| file.len()) < 2 * 16384 && begun.elapsed().as_secs() < 60 {
             std::thread::yield_now();
         }
-        std::thread::sleep(std::time::Duration::from_micros(3000 + 317 * kill));
+        std::thread::sleep(std::time::Duration::from_micros(317 * kill));
         writer.kill().unwrap();
         writer.wait().unwrap();
         let trace = read(&folder);

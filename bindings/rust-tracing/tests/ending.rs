@@ -2,7 +2,7 @@
 
 mod common;
 
-use common::{finished, made, request};
+use common::{finished, in_time, made, request, All};
 use std::env;
 use std::io;
 use std::mem;
@@ -12,16 +12,29 @@ use std::sync::Mutex;
 use std::thread;
 use std::time::Duration;
 use tracing::{error, info, info_span, Dispatch};
-use tracing_dspec::{keep, Builder, Guard, Kind, Sink, Text};
+use tracing_dspec::{keep, Builder, Guard, Kind, Report, Sink, Text};
 use tracing_subscriber::prelude::*;
 
 /// Open paths that failed, were asked for or are slow by then are kept as far as they came; the others are counted.
 #[test]
 fn paths_that_are_open_at_the_end() {
-    let (dispatch, guard) = made(Builder::new().slow(Duration::from_millis(50)));
+    // The slow one takes half a second at least, and the others less than that.
+    let (all, report) = in_time(Duration::from_secs(1), || open_at_the_end(Duration::from_millis(500)));
+    let mut told: Vec<_> = all.paths.iter().map(|path| (request(path), path.why.to_string(), path.open)).collect();
+    told.sort();
+    assert_eq!(told, [(1, "failed", true), (2, "asked", true), (3, "slow", true)].map(|(one, why, open)| (one, why.to_owned(), open)));
+    assert_eq!((report.open, report.sum.held, report.missed), (1, 0, 0));
+    let failed = all.paths.iter().find(|path| path.why.failed).unwrap();
+    assert_eq!(failed.events().map(tracing_dspec::Line::title).collect::<Vec<_>>(), ["stepped", "bad"]);
+    assert!(failed.lines.iter().all(|line| line.kind != Kind::Close));
+}
+
+/// A path that is slow, one that fails, one that is asked for and one that is none of it, all open as the layer ends.
+fn open_at_the_end(slow_from: Duration) -> (All, Report) {
+    let (dispatch, guard) = made(Builder::new().slow(slow_from));
     let spans = tracing::dispatcher::with_default(&dispatch, || {
         let slow = info_span!("request", request = 3u64);
-        thread::sleep(Duration::from_millis(60));
+        thread::sleep(slow_from + Duration::from_millis(10));
         let failed = info_span!("request", request = 1u64);
         failed.in_scope(|| {
             info!(step = 1u64, "stepped");
@@ -31,15 +44,9 @@ fn paths_that_are_open_at_the_end() {
         asked.in_scope(|| assert!(keep()));
         [failed, asked, slow, info_span!("request", request = 4u64)]
     });
-    let (all, report) = finished(guard);
-    let mut told: Vec<_> = all.paths.iter().map(|path| (request(path), path.why.to_string(), path.open)).collect();
-    told.sort();
-    assert_eq!(told, [(1, "failed", true), (2, "asked", true), (3, "slow", true)].map(|(one, why, open)| (one, why.to_owned(), open)));
-    assert_eq!((report.open, report.sum.held, report.missed), (1, 0, 0));
-    let failed = all.paths.iter().find(|path| path.why.failed).unwrap();
-    assert_eq!(failed.events().map(tracing_dspec::Line::title).collect::<Vec<_>>(), ["stepped", "bad"]);
-    assert!(failed.lines.iter().all(|line| line.kind != Kind::Close));
+    let ended = finished(guard);
     drop(spans);
+    ended
 }
 
 /// One that has no slot and failed is told as missed, as if it had ended.
@@ -134,7 +141,7 @@ fn what_text_tells_besides() {
         error!(code = 7u64, "outside");
         (0..100u64).for_each(|request| mem::forget(info_span!("request", request)));
         // Rounds of the consumer.
-        thread::sleep(Duration::from_millis(300));
+        assert!(guard.flush(Duration::from_secs(60)));
     });
     let (text, report) = guard.finish();
     let text = String::from_utf8(text.into_inner()).unwrap();

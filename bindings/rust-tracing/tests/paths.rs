@@ -2,12 +2,12 @@
 
 mod common;
 
-use common::{finished, kept, made, request};
+use common::{finished, in_time, kept, made, request};
 use std::fmt;
 use std::io;
 use std::sync::mpsc::{channel, Receiver, Sender};
 use std::thread;
-use std::time::Duration;
+use std::time::{Duration, Instant};
 use tracing::{debug, debug_span, error, info, info_span, trace, Dispatch};
 use tracing_dspec::{each, keep, BuildError, Builder, Kind, Missed, Path, Sink, Value};
 use tracing_subscriber::filter::{EnvFilter, LevelFilter};
@@ -56,19 +56,22 @@ fn values_come_back() {
 
 #[test]
 fn slow_asked_panicked_and_fine() {
-    let (all, _) = kept(Builder::new().slow(Duration::from_millis(50)), || {
-        info_span!("request", request = 1u64).in_scope(|| thread::sleep(Duration::from_millis(60)));
-        info_span!("request", request = 2u64).in_scope(|| assert!(keep()));
-        let _ = std::panic::catch_unwind(|| info_span!("request", request = 3u64).in_scope(|| std::panic::resume_unwind(Box::new(()))));
-        info_span!("request", request = 4u64).in_scope(|| info!("fine"));
-        info_span!("request", request = 5u64, dspec.keep = true).in_scope(|| info!("asked for by a field"));
-        info_span!("request", request = 6u64, dspec.keep = false).in_scope(|| info!("not asked for"));
-        info_span!("request", request = 7u64, dspec.keep = tracing::field::Empty).record("dspec.keep", true).in_scope(|| ());
-        assert!(!keep());
-    });
+    // The slow one takes half a second at least, and the others less than that.
+    let (all, _) = in_time(Duration::from_secs(1), || kept(Builder::new().slow(Duration::from_millis(500)), slow_asked_and_others));
     let told: Vec<_> = all.paths.iter().map(|path| (request(path), path.why.to_string())).collect();
     let due = [(1, "slow"), (2, "asked"), (3, "panicked"), (5, "asked"), (7, "asked")];
     assert_eq!(told, due.map(|(request, why)| (request, why.to_owned())));
+}
+
+fn slow_asked_and_others() {
+    info_span!("request", request = 1u64).in_scope(|| thread::sleep(Duration::from_millis(510)));
+    info_span!("request", request = 2u64).in_scope(|| assert!(keep()));
+    let _ = std::panic::catch_unwind(|| info_span!("request", request = 3u64).in_scope(|| std::panic::resume_unwind(Box::new(()))));
+    info_span!("request", request = 4u64).in_scope(|| info!("fine"));
+    info_span!("request", request = 5u64, dspec.keep = true).in_scope(|| info!("asked for by a field"));
+    info_span!("request", request = 6u64, dspec.keep = false).in_scope(|| info!("not asked for"));
+    info_span!("request", request = 7u64, dspec.keep = tracing::field::Empty).record("dspec.keep", true).in_scope(|| ());
+    assert!(!keep());
 }
 
 #[test]
@@ -353,14 +356,18 @@ fn sizes_out_of_range() {
 #[test]
 fn rests_when_idle() {
     let (dispatch, guard) = made(Builder::new().rests(Duration::from_millis(1), Duration::from_millis(100)));
+    let begun = Instant::now();
     thread::sleep(Duration::from_millis(1500));
+    let idle = begun.elapsed();
     tracing::dispatcher::with_default(&dispatch, || {
         for request in 0..200u64 {
             info_span!("request", request, dspec.keep = true).in_scope(|| thread::sleep(Duration::from_micros(100)));
         }
     });
     let (all, report) = finished(guard);
-    // Some 15 long rests and 10 short ones, and then what the paths need.
-    assert!(report.rounds < 300, "{report:?}");
+    let busy = begun.elapsed() - idle;
+    // A long rest lasts 100 ms and a short one 1 ms; ten lie between them, and then there is what the paths need.
+    let most = idle.as_millis() / 100 + 10 + busy.as_millis() + 100;
+    assert!(u128::from(report.rounds) < most, "{most} {report:?}");
     assert_eq!((all.paths.len(), report.missed), (200, 0));
 }

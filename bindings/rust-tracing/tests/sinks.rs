@@ -12,9 +12,10 @@ use tracing_subscriber::prelude::*;
 
 const CALLER: &str = "00-4bf92f3577b34da6a3ce929d0e0e4736-00f067aa0ba902b7-01";
 
-/// What a sink has when some requests were traced: two that fail, a slow one in which a span ends on another thread, one that is fine.
+/// What a sink has when some requests were traced: two that fail, a slow one in which a span ends on another thread, one that is fine. Two seconds are slow, so that
+/// a busy machine makes none of the others so.
 fn sunk<K: Sink + 'static>(builder: Builder, sink: K) -> (K, Report) {
-    let (layer, guard) = builder.slow(Duration::from_millis(200)).build(sink).unwrap();
+    let (layer, guard) = builder.slow(Duration::from_secs(2)).build(sink).unwrap();
     let dispatch = tracing::Dispatch::new(tracing_subscriber::registry().with(layer));
     tracing::dispatcher::with_default(&dispatch, || {
         for request in 0..4u64 {
@@ -29,7 +30,7 @@ fn sunk<K: Sink + 'static>(builder: Builder, sink: K) -> (K, Report) {
             query.in_scope(|| debug!(rows = 3u64, "scanned"));
             match request {
                 0 | 1 => error!(code = 500u64, "no such \"order\""),
-                2 => thread::sleep(Duration::from_millis(210)),
+                2 => thread::sleep(Duration::from_millis(2010)),
                 _ => {}
             }
             let inside = dispatch.clone();

@@ -122,6 +122,20 @@ impl Cpu {
         }
     }
 
+    /// Commits a speculation as [`Cpu::commit`] does, but not where this CPU's records of it would be lost: then it is `None`, nothing was done or counted, and
+    /// the speculation is as it was. Room comes where [`Cpu::service`] hands on a batch; under [`Policy::Fill`](crate::Policy::Fill) none does. Records of other
+    /// CPUs go or are lost as after a commit.
+    #[must_use = "where it is None the speculation is still undecided"]
+    pub fn commit_if_room(&mut self, id: SpecId) -> Option<Decided> {
+        let mut count = 0;
+        // SAFETY: as in `speculation`.
+        match unsafe { raw::dspec_commit_if_room(self.handle.at(), id.raw(), &mut count) } {
+            raw::OK => Some(Decided::Copied(count)),
+            raw::BUSY => None,
+            other => Some(undecided(other)),
+        }
+    }
+
     /// Discards a speculation: its records are thrown away.
     pub fn discard(&mut self, id: SpecId) -> Decided {
         let mut count = 0;
@@ -139,6 +153,20 @@ impl Cpu {
         // SAFETY: as in `speculation`.
         never_refused(unsafe { raw::dspec_dropped_in(self.handle.at(), id.raw(), &mut count) });
         count
+    }
+
+    /// The speculation of a slot, 1 to `nspec`, of which this CPU holds records: it is open, or another CPU has decided it and this CPU's next service settles
+    /// it. `None` where this CPU holds records of none of the slot, or there is no such slot.
+    pub fn open_at(&mut self, slot: u32) -> Option<SpecId> {
+        let mut id = 0;
+        // SAFETY: as in `speculation`.
+        never_refused(unsafe { raw::dspec_open_at(self.handle.at(), slot, &mut id) });
+        (id != 0).then(|| SpecId::from_raw(id))
+    }
+
+    /// Those of all slots, the lowest slot first.
+    pub fn open_in(&mut self) -> impl Iterator<Item = SpecId> + '_ {
+        (1..=raw::MAX_NSPEC).filter_map(|slot| self.open_at(slot))
     }
 
     /// Does what this CPU owes the others: switches the principal buffer where the consumer asked, and settles what other CPUs have

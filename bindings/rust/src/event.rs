@@ -1,7 +1,6 @@
-use crate::probe::signature;
 use crate::{raw, Fields};
 use std::marker::PhantomData;
-use std::sync::atomic::AtomicU32;
+use std::sync::atomic::AtomicU64;
 
 /// An event of a program, with its fields in its type: a static, which all tracers may be started with. What isn't one is refused by the compiler, and so is one
 /// that hasn't a name for each field:
@@ -22,8 +21,6 @@ pub struct Event<F> {
 }
 
 impl<F: Fields> Event<F> {
-    pub(crate) const SIGNATURE: u32 = signature(F::WIDTHS);
-
     /// An event of this name, and names for its one to eight fields.
     ///
     /// # Panics
@@ -33,7 +30,7 @@ impl<F: Fields> Event<F> {
     pub const fn new(name: &'static str, fields: &'static [&'static str]) -> Event<F> {
         assert!(fields.len() == F::WIDTHS.len(), "an event has a name for each field");
         assert!(!fields.is_empty(), "an event has one to eight fields");
-        Event { raw: raw::Event { epids: [const { AtomicU32::new(0) }; raw::MAX_TRACERS] }, name, fields, types: PhantomData }
+        Event { raw: raw::Event { claims: [const { AtomicU64::new(0) }; raw::MAX_TRACERS] }, name, fields, types: PhantomData }
     }
 
     pub(crate) fn at(&self) -> *const raw::Event {

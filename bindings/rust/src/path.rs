@@ -57,6 +57,22 @@ impl<'a> Path<'a> {
         self.cpu.commit(id)
     }
 
+    /// Commits it, but not where its CPU's records would be lost: then the path comes back as it was, to be tried again once [`Cpu::service`] has handed on a batch.
+    ///
+    /// # Errors
+    ///
+    /// The path, where there is no room for its CPU's records.
+    pub fn commit_if_room(mut self) -> Result<Decided, Path<'a>> {
+        let id = self.id();
+        match self.cpu.commit_if_room(id) {
+            Some(decided) => {
+                self.leave();
+                Ok(decided)
+            }
+            None => Err(self),
+        }
+    }
+
     /// Discards it, as dropping it does, and tells what became of it.
     pub fn discard(mut self) -> Decided {
         let id = self.leave();

@@ -2,7 +2,7 @@
 
 use crate::{tracer, Report};
 use std::ffi::{c_char, c_void};
-use std::sync::atomic::AtomicU32;
+use std::sync::atomic::AtomicU64;
 
 pub(crate) type Status = u32;
 
@@ -125,10 +125,14 @@ extern "C" {
 }
 
 pub(crate) const MAX_TRACERS: usize = 8;
+/// The most speculations at a time of a session.
+pub(crate) const MAX_NSPEC: u32 = 63;
 
 #[repr(C)]
 pub(crate) struct Tracer {
     pub(crate) body: *mut c_void,
+    pub(crate) seat: u32,
+    pub(crate) run: u32,
     pub(crate) why: [c_char; 256],
 }
 
@@ -139,14 +143,15 @@ pub(crate) struct TracerPath {
     pub(crate) id: u64,
     pub(crate) token: u32,
     pub(crate) place: u16,
+    pub(crate) own: bool,
     pub(crate) over: bool,
 }
 
-/// The EPID that an event has in each tracer.
+/// What an event's records claim in each tracer.
 #[repr(C)]
 #[derive(Debug)]
 pub(crate) struct Event {
-    pub(crate) epids: [AtomicU32; MAX_TRACERS],
+    pub(crate) claims: [AtomicU64; MAX_TRACERS],
 }
 
 #[repr(C)]
@@ -171,8 +176,8 @@ extern "C" {
     pub(crate) fn dspec_tracer_flush(tracer: *mut Tracer, timeout_ms: u32) -> bool;
     pub(crate) fn dspec_path_keep(path: *mut TracerPath) -> bool;
     pub(crate) fn dspec_path_drop(path: *mut TracerPath) -> bool;
-    pub(crate) fn dspec_path_put(path: *mut TracerPath, event: *const Event, fields: u32, words: *const u64, n: usize) -> Status;
-    pub(crate) fn dspec_tracer_put(tracer: *mut Tracer, event: *const Event, fields: u32, words: *const u64, n: usize) -> Status;
+    pub(crate) fn dspec_path_put(path: *mut TracerPath, event: *const Event, words: *const u64, n: usize) -> Status;
+    pub(crate) fn dspec_tracer_put(tracer: *mut Tracer, event: *const Event, words: *const u64, n: usize) -> Status;
 }
 
 extern "C" {
@@ -208,9 +213,11 @@ extern "C" {
     pub(crate) fn dspec_put_in_3(cpu: *mut Words, id: u64, claim: u64, stamp: u64, w0: u64, w1: u64, w2: u64) -> Status;
     pub(crate) fn dspec_put_in(cpu: *mut Words, id: u64, claim: u64, stamp: u64, words: *const u64, n: usize) -> Status;
     pub(crate) fn dspec_commit(cpu: *mut Words, id: u64, count: *mut u32) -> Status;
+    pub(crate) fn dspec_commit_if_room(cpu: *mut Words, id: u64, count: *mut u32) -> Status;
     pub(crate) fn dspec_discard(cpu: *mut Words, id: u64, count: *mut u32) -> Status;
     pub(crate) fn dspec_service(cpu: *mut Words, sealed: *mut bool, settled: *mut u32) -> Status;
     pub(crate) fn dspec_dropped_in(cpu: *mut Words, id: u64, count: *mut u32) -> Status;
+    pub(crate) fn dspec_open_at(cpu: *mut Words, slot: u32, id: *mut u64) -> Status;
     pub(crate) fn dspec_cpu_report(cpu: *mut Words, report: *mut Report) -> Status;
     pub(crate) fn dspec_cpu_home(cpu: *mut Words) -> Status;
 

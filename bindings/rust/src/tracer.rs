@@ -235,7 +235,10 @@ impl Tracer {
         let folder = CString::new(folder.as_ref().as_os_str().as_bytes()).map_err(zero)?;
         let enablings = events.iter().map(|event| event.enabling()).collect::<Result<Vec<_>, _>>().map_err(zero)?;
         let all: Vec<_> = enablings.iter().map(|one| &raw const one.raw).chain([ptr::null()]).collect();
-        let tracer = Tracer { raw: Box::new(UnsafeCell::new(raw::Tracer { body: ptr::null_mut(), why: [0; 256] })), _enablings: enablings };
+        let tracer = Tracer {
+            raw: Box::new(UnsafeCell::new(raw::Tracer { body: ptr::null_mut(), seat: 0, run: 0, why: [0; 256] })),
+            _enablings: enablings,
+        };
         // SAFETY: the tracer is all zeros; the pointers are valid, the list ends with null, and what the library keeps of it stays until the drop.
         if unsafe { raw::dspec_tracer_start(tracer.at(), folder.as_ptr(), options, all.as_ptr()) } {
             return Ok(tracer);
@@ -250,7 +253,7 @@ impl Tracer {
 
     /// A path begins. Nothing is taken before its first record.
     pub fn path(&self) -> Path<'_> {
-        let raw = raw::TracerPath { tracer: self.at(), lane: ptr::null_mut(), id: 0, token: 0, place: 0, over: false };
+        let raw = raw::TracerPath { tracer: self.at(), lane: ptr::null_mut(), id: 0, token: 0, place: 0, own: false, over: false };
         Path { raw, of: PhantomData }
     }
 
@@ -259,7 +262,7 @@ impl Tracer {
     pub fn record<F: Fields>(&self, event: &Event<F>, values: F) -> Recorded {
         let (words, count) = packed(values);
         // SAFETY: the tracer was started and isn't dropped, and the words are as many as is told.
-        recorded(unsafe { raw::dspec_tracer_put(self.at(), event.at(), Event::<F>::SIGNATURE, words.as_ptr(), count) })
+        recorded(unsafe { raw::dspec_tracer_put(self.at(), event.at(), words.as_ptr(), count) })
     }
 
     /// Has what was kept until now written into the folder, and waits for it: whether it is there within this time.
@@ -316,7 +319,7 @@ impl Path<'_> {
     pub fn record<F: Fields>(&mut self, event: &Event<F>, values: F) -> Recorded {
         let (words, count) = packed(values);
         // SAFETY: the tracer stays while it is borrowed, nobody else has the path, and the words are as many as is told.
-        recorded(unsafe { raw::dspec_path_put(&mut self.raw, event.at(), Event::<F>::SIGNATURE, words.as_ptr(), count) })
+        recorded(unsafe { raw::dspec_path_put(&mut self.raw, event.at(), words.as_ptr(), count) })
     }
 
     /// Keeps it: whether its records are on their way to the folder. False where there was no slot, no room or no record, and behind a stop.

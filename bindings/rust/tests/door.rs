@@ -312,6 +312,71 @@ fn a_path_that_cannot_be_opened_says_why() {
     assert_eq!((cpu.report().void, cpu.report().unavailable), (1, 2));
 }
 
+/// Six records stand in a buffer of eight, so that a path of three waits for the next one, and one of two doesn't.
+#[test]
+fn a_commit_waits_for_room() {
+    let (session, mut cpu, mut consumer, epid) = small(1 << 62);
+    for value in 1..=6 {
+        assert_eq!(cpu.trace(epid, 0, &[value]), Ok(Traced::Kept));
+    }
+    let id = cpu.speculation().id();
+    for value in 11..=13 {
+        assert_eq!(cpu.speculate(id, epid, 0, &[value]), Ok(Spoken::Kept));
+    }
+    let before = cpu.report();
+    assert_eq!(cpu.commit_if_room(id), None);
+    assert_eq!((cpu.report(), cpu.open_at(1)), (before, Some(id)));
+    let mut path = cpu.path();
+    for value in 21..=23 {
+        assert_eq!(path.record(epid, 0, &[value]), Ok(Spoken::Kept));
+    }
+    let mut path = path.commit_if_room().unwrap_err();
+    assert_eq!(path.record(epid, 0, &[24]), Ok(Spoken::Dropped));
+    consumer.ask(0).unwrap();
+    assert!(path.cpu().service().sealed);
+    assert_eq!(path.commit_if_room().unwrap(), Decided::Copied(3));
+    assert_eq!(cpu.commit_if_room(id), Some(Decided::Copied(3)));
+    assert_eq!(cpu.commit_if_room(id), Some(Decided::Void));
+    assert_eq!((cpu.report().lost, cpu.report().drops), (0, 0));
+    drop((cpu, consumer));
+    assert_eq!(values(&session.finish().unwrap(), 0), [1, 2, 3, 4, 5, 6, 21, 22, 23, 11, 12, 13]);
+}
+
+/// A path that waits and is dropped then is thrown away; one that couldn't be opened is void.
+#[test]
+fn a_path_without_room_is_dropped() {
+    let (session, mut cpu, _consumer, epid) = small(1 << 62);
+    for value in 1..=8 {
+        assert_eq!(cpu.trace(epid, 0, &[value]), Ok(Traced::Kept));
+    }
+    let mut path = cpu.path();
+    assert_eq!(path.record(epid, 0, &[9]), Ok(Spoken::Kept));
+    drop(path.commit_if_room().unwrap_err());
+    assert_eq!((cpu.report().discarded, cpu.report().held), (1, 0));
+    let _full = [cpu.speculation(), cpu.speculation()];
+    assert_eq!(cpu.path().commit_if_room().unwrap(), Decided::Void);
+    drop(session);
+}
+
+#[test]
+fn open_speculations_are_told() {
+    let (mut session, mut cpu, _consumer, epid) = small(1 << 62);
+    let mut other = session.cpu(1).unwrap();
+    assert_eq!(cpu.open_in().count(), 0);
+    let ids = [cpu.speculation(), cpu.speculation()].map(Opening::id);
+    assert_eq!(cpu.open_at(1), None);
+    for id in ids {
+        assert_eq!(cpu.speculate(id, epid, 0, &[1]), Ok(Spoken::Kept));
+    }
+    assert_eq!(cpu.open_in().collect::<Vec<_>>(), ids);
+    assert_eq!([0, 1, 2, 3, u32::MAX].map(|slot| cpu.open_at(slot)), [None, Some(ids[0]), Some(ids[1]), None, None]);
+    assert_eq!(other.open_in().count(), 0);
+    assert_eq!(other.discard(ids[0]), Decided::Thrown(0));
+    assert_eq!(cpu.open_in().collect::<Vec<_>>(), ids);
+    assert_eq!(cpu.service().settled, 1);
+    assert_eq!(cpu.open_in().collect::<Vec<_>>(), ids[1..]);
+}
+
 #[test]
 fn probes_keep_the_bits_of_their_values() {
     let mut schema = Schema::new().unwrap();

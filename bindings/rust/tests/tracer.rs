@@ -4,7 +4,8 @@ use dspec::tracer::{Event, Options, Path, Recorded};
 use dspec::Tracer;
 use std::path::PathBuf;
 use std::process::Command;
-use std::sync::atomic::{AtomicU32, Ordering};
+use std::sync::atomic::{AtomicBool, AtomicU32, Ordering};
+use std::sync::Arc;
 use std::time::Duration;
 use std::{env, fs, mem, process, thread};
 
@@ -212,10 +213,11 @@ fn paths_and_threads() {
 #[test]
 fn a_stop_beside_running_threads() {
     let folder = Folder::new();
-    let tracer = std::sync::Arc::new(folder.start(&Options { lanes: 2, bufsize: 1 << 20, ..Options::default() }));
+    let tracer = Arc::new(folder.start(&Options { lanes: 2, bufsize: 1 << 20, ..Options::default() }));
+    let first = Arc::new(AtomicBool::new(false));
     let threads: Vec<_> = (0..4u64)
         .map(|thread| {
-            let tracer = tracer.clone();
+            let (tracer, first) = (tracer.clone(), first.clone());
             thread::spawn(move || {
                 let mut kept = 0;
                 for request in 0.. {
@@ -225,12 +227,16 @@ fn a_stop_beside_running_threads() {
                     }
                     if request % 100 == 0 {
                         kept += u64::from(path.keep());
+                        first.fetch_or(kept > 0, Ordering::Relaxed);
                     }
                 }
                 kept
             })
         })
         .collect();
+    while !first.load(Ordering::Relaxed) {
+        thread::yield_now();
+    }
     thread::sleep(Duration::from_millis(50));
     let ended = tracer.stop();
     drop(tracer);
@@ -254,7 +260,8 @@ fn deep(at: u64) -> u64 {
 fn a_program_that_crashes() {
     let Ok(way) = env::var("DSPEC_CRASH") else { return };
     let folder = env::var("DSPEC_FOLDER").unwrap();
-    let tracer = Tracer::start(folder, &Options::default(), &[&STEP, &WIDE]).unwrap();
+    // A busy machine may keep the consumer from its processor for longer than half a second.
+    let tracer = Tracer::start(folder, &Options { crash_ms: 60_000, ..Options::default() }, &[&STEP, &WIDE]).unwrap();
     // Another thread's path isn't the crash's, and nobody decides it.
     let others = thread::scope(|threads| {
         let mut other: Path<'_> = tracer.path();

@@ -2,6 +2,7 @@
 #![allow(dead_code)] // each test uses some of it
 
 use std::io;
+use std::time::{Duration, Instant};
 use tracing::Dispatch;
 use tracing_dspec::{Builder, Guard, Line, Missed, Path, Report, Sink, Value};
 use tracing_subscriber::prelude::*;
@@ -57,6 +58,18 @@ pub fn finished(guard: Guard<All>) -> (All, Report) {
     assert_eq!(report.cut, all.paths.iter().map(|path| path.cut).sum::<u64>());
     assert_eq!(report.lost, all.paths.iter().map(|path| path.lost).sum::<u64>());
     (all, report)
+}
+
+/// What work made, done anew where it took longer than that: it counts on times that a busy machine may not keep to.
+pub fn in_time<T>(most: Duration, work: impl Fn() -> T) -> T {
+    for _ in 0..100 {
+        let begun = Instant::now();
+        let made = work();
+        if begun.elapsed() < most {
+            return made;
+        }
+    }
+    panic!("a hundred times it took longer than {most:?}");
 }
 
 /// The number of a path's request, by a field of its own span.
