@@ -4,18 +4,19 @@ ghost use Rattle.dspec_c.specs.Shows.{TellsBatch};
 
 use dspec_ring::Batch;
 
-/// A batch, as C reads it: its bytes stay where they are.
+/// A batch, as C reads it: its bytes stay where they are. No other file reads or writes what is in it, so that an export tells the batch
+/// that it found, whole, or leaves what C has.
 #[repr(C)]
 #[derive(Drop)]
 pub struct CBatch {
     /// Where they begin.
-    pub bytes: *const u8,
+    bytes: *const u8,
     /// How many bytes.
-    pub len: usize,
+    len: usize,
     /// How many reservations were refused since the last switch.
-    pub drops: u64,
+    drops: u64,
     /// The CPU whose batch it is.
-    pub cpu: u32,
+    cpu: u32,
 }
 
 fn start_of(bytes: &[u8]) -> *const u8

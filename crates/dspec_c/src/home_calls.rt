@@ -4,8 +4,10 @@ ghost use Rattle.std.specs.Prelude.{◌≡◌, false};
 ghost use Rattle.dspec_c.specs.Handles.{held_in, is_full};
 ghost use Rattle.dspec_c.specs.SessionCalls.{HomeAnswers, is_consumer_in, is_cpu_in};
 
+use crate::consumer_side::ConsumerSide;
 use crate::handle::Handle;
 use crate::held::Held;
+use crate::out_cpu::OutCpu;
 use crate::statuses::{BAD_HANDLE, OK};
 use std::alloc::Global;
 
@@ -21,6 +23,22 @@ pub fn is_consumer(held: &Held) -> bool
     matches!(held, Held::Consumer(_))
 }
 
+// Sends the CPU home, and makes no other call of it.
+fn cpu_home(out: OutCpu) -> u32
+    ensures { result ≡ 0 }
+{
+    let _way = out.go_home();
+    OK
+}
+
+// Sends the consumer home, and makes no other call of it.
+fn consumer_home(side: ConsumerSide) -> u32
+    ensures { result ≡ 0 }
+{
+    let _way = side.go_home();
+    OK
+}
+
 /// Gives a CPU back to its session.
 #[unsafe(no_mangle)]
 pub extern "C" fn dspec_cpu_home(alloc: Global, cpu: &mut Handle) -> u32
@@ -30,10 +48,7 @@ pub extern "C" fn dspec_cpu_home(alloc: Global, cpu: &mut Handle) -> u32
         return BAD_HANDLE;
     };
     match held {
-        Held::Cpu(out) => {
-            let _way = out.go_home();
-            OK
-        }
+        Held::Cpu(out) => cpu_home(out),
         other => {
             cpu.put(room, other);
             BAD_HANDLE
@@ -50,10 +65,7 @@ pub extern "C" fn dspec_consumer_home(alloc: Global, consumer: &mut Handle) -> u
         return BAD_HANDLE;
     };
     match held {
-        Held::Consumer(side) => {
-            let _way = side.go_home();
-            OK
-        }
+        Held::Consumer(side) => consumer_home(side),
         other => {
             consumer.put(room, other);
             BAD_HANDLE
