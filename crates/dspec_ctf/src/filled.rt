@@ -81,11 +81,12 @@ fn put_packet(
     put_filled_around(out, stream, span_by(timed, recs), body)
 }
 
-/// Adds the packets of these records, each of which takes records as long as they fit. Without records it is one packet.
+/// Adds the packets of these records, each of which takes records as long as they fit. Without records it is one packet. The body has the events of one
+/// packet at a time; what it had is let go.
 #[tactic(auto, unfolding(crate::specs::Filled::filled_packets))]
 pub(crate) fn put_filled(
-    alloc: Global,
     out: &mut Vec<u8>,
+    body: &mut Vec<u8>,
     stream: &Stream<'_>,
     timed: bool,
     recs: &[Rec],
@@ -94,19 +95,19 @@ pub(crate) fn put_filled(
         ++ filled_packets timed stream.now.enablings.now stream.now.uuid stream.now.missed stream.now.cpu recs.now) }
 {
     let front = front_by(timed);
-    let mut body = Vec::new(alloc);
+    body.clear();
     let mut from = 0;
     for place in 0..recs.len() {
         let (rec, held) = (&recs[place], body.len());
-        put_event(&mut body, stream.enablings, rec)?;
+        put_event(body, stream.enablings, rec)?;
         if front + body.len() > PACKET_SIZE {
             put_packet(out, stream, timed, &recs[from..place], &body[..held])?;
             body.clear();
-            put_event(&mut body, stream.enablings, rec)?;
+            put_event(body, stream.enablings, rec)?;
             from = place;
         }
     }
-    put_packet(out, stream, timed, &recs[from..], &body)
+    put_packet(out, stream, timed, &recs[from..], body)
 }
 
 impl<'a> Stream<'a> {
@@ -133,8 +134,8 @@ impl<'a> Stream<'a> {
             Err(fault) => return Err(fault),
         };
         let stream = Stream { missed, ..*self };
-        let mut bytes = Vec::new(alloc);
-        put_filled(alloc, &mut bytes, &stream, false, &records)?;
+        let (mut bytes, mut body) = (Vec::new(alloc), Vec::new(alloc));
+        put_filled(&mut bytes, &mut body, &stream, false, &records)?;
         self.missed = missed;
         Ok(bytes)
     }

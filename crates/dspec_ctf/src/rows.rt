@@ -83,6 +83,14 @@ impl Rows {
         }
     }
 
+    /// Takes memory for all files that there may be.
+    pub(crate) fn reserve(&mut self) -> Result<(), AllocError>
+        ensures { self.new ≡ self.old }
+    {
+        self.lasts
+            .reserve(MOST_FILES.saturating_sub(self.lasts.len()))
+    }
+
     /// The last stamp of the first file; 0 where there is none.
     fn first_stamp(&self) -> u64
         ensures { result ≡ slice_index self.now 0 }
@@ -162,6 +170,26 @@ impl Rows {
     }
 }
 
+/// Has the records of a batch's text in place of those that the list had. It takes memory where the list has no room for them; then what it has is
+/// a part of them.
+pub(crate) fn read_records(
+    recs: &mut Vec<Rec>,
+    enablings: &Enablings,
+    text: &[u8],
+) -> Result<(), PacketFault>
+    ensures text { OnOk result (IsText enablings.now text.now recs.new.items) }
+    ensures accepted { OnOk result (All (Accepts enablings.now) recs.new.items) }
+    ensures fault { IfErr result (HasNoRecords enablings.now text.now) }
+{
+    let records = match read_all(enablings, text) {
+        Ok(records) => records,
+        Err(fault) => return Err(PacketFault::Text(fault)),
+    };
+    recs.clear();
+    add_records(recs, records)?;
+    Ok(())
+}
+
 /// The records of a batch's text.
 pub fn records_of(
     alloc: Global,
@@ -172,12 +200,8 @@ pub fn records_of(
     ensures accepted { IfOk result (λ recs. All (Accepts enablings.now) recs.items) }
     ensures fault { IfErr result (HasNoRecords enablings.now text.now) }
 {
-    let records = match read_all(enablings, text) {
-        Ok(records) => records,
-        Err(fault) => return Err(PacketFault::Text(fault)),
-    };
     let mut recs = Vec::new(alloc);
-    add_records(&mut recs, records)?;
+    read_records(&mut recs, enablings, text)?;
     Ok(recs)
 }
 
@@ -203,11 +227,25 @@ impl<'a> Stream<'a> {
             (λ bytes. bytes.items ≡ run_packet self.now.uuid self.now.enablings.now self.now.missed self.now.cpu file records.now) }
         ensures fault { IfErr result (IsTooLong (events self.now.enablings.now records.now)) }
     {
+        let (mut bytes, mut body) = (Vec::new(alloc), Vec::new(alloc));
+        self.put_run(&mut bytes, &mut body, file, records)?;
+        Ok(bytes)
+    }
+
+    /// Adds the packets of a run, as `run_packet` gives them. The body has the events of one packet at a time.
+    pub(crate) fn put_run(
+        &self,
+        out: &mut Vec<u8>,
+        body: &mut Vec<u8>,
+        file: usize,
+        records: &[Rec],
+    ) -> Result<(), AllocError>
+        ensures { OnOk result (out.new.items ≡ out.old.items
+            ++ run_packet self.now.uuid self.now.enablings.now self.now.missed self.now.cpu file records.now) }
+    {
         let missed = if file == 0 { self.missed } else { 0 };
         let stream = Stream { missed, ..*self };
-        let mut bytes = Vec::new(alloc);
-        put_filled(alloc, &mut bytes, &stream, true, records)?;
-        Ok(bytes)
+        put_filled(out, body, &stream, true, records)
     }
 
     /// Two packets of 1,024 bytes for the CPU's first file that tell what was missed since so many were: they have no events, and stand at the last
@@ -221,14 +259,27 @@ impl<'a> Stream<'a> {
         ensures { IfOk result
             (λ bytes. bytes.items ≡ missed_packets self.now.uuid before self.now.missed self.now.cpu rows.now) }
     {
-        let stamp = rows.first_stamp();
         let mut bytes = Vec::new(alloc);
+        self.put_missed(&mut bytes, rows, before)?;
+        Ok(bytes)
+    }
+
+    /// Adds the two packets that tell what was missed, as `missed_packets` gives them.
+    pub(crate) fn put_missed(
+        &self,
+        out: &mut Vec<u8>,
+        rows: &Rows,
+        before: u64,
+    ) -> Result<(), AllocError>
+        ensures { OnOk result (out.new.items ≡ out.old.items
+            ++ missed_packets self.now.uuid before self.now.missed self.now.cpu rows.now) }
+    {
+        let stamp = rows.first_stamp();
         let then = Stream {
             missed: before,
             ..*self
         };
-        put_silent(&mut bytes, &then, stamp)?;
-        put_silent(&mut bytes, self, stamp)?;
-        Ok(bytes)
+        put_silent(out, &then, stamp)?;
+        put_silent(out, self, stamp)
     }
 }

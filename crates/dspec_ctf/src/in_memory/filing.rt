@@ -5,10 +5,12 @@ ghost use Rattle.dspec_record.specs.declared.header.Header.TheVariants.{One, Two
 ghost use Rattle.dspec_ctf.specs.InMemory.Filing.{no_packets, unwritten};
 ghost use Rattle.dspec_ctf.specs.InMemory.Calls.{HasNoBatch, OpensBatch, with_more_missed, without_rest};
 
-use crate::rows::records_of;
+use super::scratch::{Scratch, most_records, reserve_in};
+use crate::rows::read_records;
 use crate::{CpuPackets, PacketFault, Rows};
 use dspec_record::{Enablings, Header};
-use std::alloc::Global;
+use std::alloc::{AllocError, Global};
+use std::mem;
 
 impl CpuPackets {
     /// The files of this CPU, of which there is none yet, in a trace with this uuid, which its metadata tells too. None where records have no
@@ -22,7 +24,6 @@ impl CpuPackets {
             return None;
         }
         Some(CpuPackets {
-            alloc,
             uuid,
             enablings: *enablings,
             cpu,
@@ -34,7 +35,17 @@ impl CpuPackets {
             from: 0,
             place: 0,
             run: None,
+            scratch: Scratch::new(alloc),
         })
+    }
+
+    /// Takes memory for batches of so many bytes, so that no call on one of these takes any. What it has stays where there is none.
+    pub fn reserve(&mut self, size: usize) -> Result<(), AllocError>
+        ensures { self.new ≡ self.old }
+    {
+        self.rows.reserve()?;
+        reserve_in(&mut self.records, most_records(size))?;
+        self.scratch.reserve(size)
     }
 
     /// Whose files these are.
@@ -58,13 +69,10 @@ impl CpuPackets {
         let Some(missed) = sum.checked_add(drops) else {
             return Err(PacketFault::Missed);
         };
-        let records = match records_of(self.alloc, &self.enablings, text) {
-            Ok(records) => records,
-            Err(fault) => return Err(fault),
-        };
+        read_records(&mut self.scratch.records, &self.enablings, text)?;
+        mem::swap(&mut self.records, &mut self.scratch.records);
         self.missed = missed;
         self.told_before = self.told;
-        self.records = records;
         self.from = 0;
         self.place = 0;
         self.run = None;
