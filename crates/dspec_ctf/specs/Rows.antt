@@ -5,6 +5,7 @@ use Rattle.std.specs.Prelude.{slice_get, slice_index, slice_range, slice_set, fi
 use Rattle.dspec_record.specs.Record.{Record}
 use Rattle.dspec_record.specs.EnablingRows.{EnabledRows}
 use Rattle.dspec_ctf.specs.Filled.{filled_around, filled_packets}
+use Rattle.dspec_ctf.specs.Streams.{HasNoRecords, IsText}
 use Rattle.dspec_ctf.specs.declared.rows.Run.{Run}
 use Rattle.dspec_ctf.specs.declared.stream.PacketFault.{PacketFault}
 use Rattle.dspec_ctf.specs.declared.stream.PacketFault.TheVariants.{Text, Missed, TooLong, Clock, Memory}
@@ -96,6 +97,14 @@ module _ (uuid : List ℕ) (e : EnabledRows) (missed cpu : ℕ) where
   abbrev pub run_packets : List Record → ℕ → List Run → List (ℕ × List ℕ)
   run_packets rs from [] = []
   run_packets rs from (run ∷ runs) = (run.file, run_packet run.file (slice_range rs from run.end)) ∷ run_packets rs run.end runs
+
+-- why the records of a text aren't in a list that has room for so many: it isn't one, or has more, and memory was wanting
+abbrev pub HasNoRoomFor : EnabledRows → List ℕ → ℕ → PacketFault → Type 0
+HasNoRoomFor e text room (Text fault) = HasNoRecords e text (Text fault)
+HasNoRoomFor e text room Memory = (read : List Record) × (IsText e text read × (room < length read))
+HasNoRoomFor e text room Missed = ⊥
+HasNoRoomFor e text room TooLong = ⊥
+HasNoRoomFor e text room (Clock place) = ⊥
 
 -- a packet without events at this stamp
 abbrev pub silent_packet : List ℕ → ℕ → ℕ → ℕ → List ℕ

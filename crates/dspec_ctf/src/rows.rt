@@ -3,10 +3,11 @@
 //! A CPU's records aren't in the order of their stamps, since those of a committed path stand where it was committed. But each of several
 //! files can be: a record goes to the file that goes on with it (`specs/Rows.antt`), and tools merge the files.
 
-ghost use Rattle.std.specs.Prelude.{◌≡◌, ◌+◌, ◌<◌, ◌++◌, length, All, IfOk, IfErr, OnOk};
+ghost use Rattle.std.specs.Prelude.{◌≡◌, ◌+◌, ◌<◌, ◌≤◌, ◌++◌, length, All, IfOk, IfErr, OnOk};
 ghost use Rattle.dspec_ctf.specs.Packets.{events};
 ghost use Rattle.dspec_ctf.specs.Streams.{Accepts, IsText, IsTooLong, HasNoRecords};
-ghost use Rattle.dspec_ctf.specs.Rows.{IsFoundOf, missed_packets, run_packet, silent_packet};
+ghost use Rattle.std.specs.Vec.{vec_capacity};
+ghost use Rattle.dspec_ctf.specs.Rows.{HasNoRoomFor, IsFoundOf, missed_packets, run_packet, silent_packet};
 
 use crate::by_time::add_records;
 use crate::filled::{put_filled, put_filled_around};
@@ -171,7 +172,7 @@ impl Rows {
 }
 
 /// Has the records of a batch's text in place of those that the list had. It takes memory where the list has no room for them; then what it has is
-/// a part of them.
+/// a part of them, where there was none to take.
 pub(crate) fn read_records(
     recs: &mut Vec<Rec>,
     enablings: &Enablings,
@@ -179,7 +180,8 @@ pub(crate) fn read_records(
 ) -> Result<(), PacketFault>
     ensures text { OnOk result (IsText enablings.now text.now recs.new.items) }
     ensures accepted { OnOk result (All (Accepts enablings.now) recs.new.items) }
-    ensures fault { IfErr result (HasNoRecords enablings.now text.now) }
+    ensures fault { IfErr result (HasNoRoomFor enablings.now text.now (vec_capacity recs.old)) }
+    ensures capacity { vec_capacity recs.old ≤ vec_capacity recs.new }
 {
     let records = match read_all(enablings, text) {
         Ok(records) => records,

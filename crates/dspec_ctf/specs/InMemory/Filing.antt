@@ -29,6 +29,8 @@ pub record CpuFiling : Type 0 where
   pub place : ℕ
   -- the run of which the next packet is, where it was found already
   pub run : Option Run
+  -- a batch of so many records is opened without memory
+  pub room : ℕ
 
 -- a run of records from a place on, which are there
 abbrev pub IsRunWithin : List Record → ℕ → Run → Type 0
@@ -44,7 +46,7 @@ pub record IsSoundFiling (f : CpuFiling) : Type 0 where
 -- no packets yet, and no batch
 abbrev pub no_packets : List ℕ → EnabledRows → ℕ → CpuFiling
 no_packets uuid e cpu =
-    record { uuid = uuid; schema = e; cpu = cpu; lasts = []; missed = 0; told = 0; told_before = 0; records = []; from = 0; place = 0; run = None }
+    record { uuid = uuid; schema = e; cpu = cpu; lasts = []; missed = 0; told = 0; told_before = 0; records = []; from = 0; place = 0; run = None; room = 0 }
 
 -- a number as far as 64 bits count
 abbrev pub as_counted : ℕ → ℕ

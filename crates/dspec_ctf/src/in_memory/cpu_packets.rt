@@ -24,11 +24,13 @@ pub struct CpuPackets {
 }
 
 impl Model for CpuPackets {
+    ghost use Rattle.std.specs.Prelude.{min};
+    ghost use Rattle.std.specs.Vec.{vec_capacity};
     ghost use Rattle.dspec_ctf.specs.InMemory.Filing.{CpuFiling, IsSoundFiling};
 
     ghost Value = { CpuFiling };
 
-    ghost view = { λ i. record { uuid = i.uuid; schema = i.enablings; cpu = i.cpu; lasts = i.rows; missed = i.missed; told = i.told; told_before = i.told_before; records = i.records.items; from = i.from; place = i.place; run = i.run } };
+    ghost view = { λ i. record { uuid = i.uuid; schema = i.enablings; cpu = i.cpu; lasts = i.rows; missed = i.missed; told = i.told; told_before = i.told_before; records = i.records.items; from = i.from; place = i.place; run = i.run; room = min (vec_capacity i.records) (vec_capacity i.scratch.records) } };
 
-    ghost invariant = { λ i. IsSoundFiling (record { uuid = i.uuid; schema = i.enablings; cpu = i.cpu; lasts = i.rows; missed = i.missed; told = i.told; told_before = i.told_before; records = i.records.items; from = i.from; place = i.place; run = i.run }) };
+    ghost invariant = { λ i. IsSoundFiling (record { uuid = i.uuid; schema = i.enablings; cpu = i.cpu; lasts = i.rows; missed = i.missed; told = i.told; told_before = i.told_before; records = i.records.items; from = i.from; place = i.place; run = i.run; room = min (vec_capacity i.records) (vec_capacity i.scratch.records) }) };
 }

@@ -3,7 +3,7 @@
 ghost use Rattle.std.specs.Prelude.{◌≡◌, IfOk, IfErr, IfSome, OnOk, OnErr, None};
 ghost use Rattle.dspec_record.specs.declared.header.Header.TheVariants.{One, Two};
 ghost use Rattle.dspec_ctf.specs.InMemory.Filing.{no_packets, unwritten};
-ghost use Rattle.dspec_ctf.specs.InMemory.Calls.{HasNoBatch, OpensBatch, with_more_missed, without_rest};
+ghost use Rattle.dspec_ctf.specs.InMemory.Calls.{HasAsMuchRoom, HasNoBatch, OpensBatch, Reserves, with_more_missed, without_rest};
 
 use super::scratch::{Scratch, most_records, reserve_in};
 use crate::rows::read_records;
@@ -41,7 +41,8 @@ impl CpuPackets {
 
     /// Takes memory for batches of so many bytes, so that no call on one of these takes any. What it has stays where there is none.
     pub fn reserve(&mut self, size: usize) -> Result<(), AllocError>
-        ensures { self.new ≡ self.old }
+        ensures reserved { OnOk result (Reserves self.old size self.new) }
+        ensures refused { OnErr result (HasAsMuchRoom self.old self.new) }
     {
         self.rows.reserve()?;
         reserve_in(&mut self.records, most_records(size))?;
@@ -60,7 +61,7 @@ impl CpuPackets {
     pub fn open(&mut self, drops: u64, text: &[u8]) -> Result<(), PacketFault>
         ensures opened { OnOk result (OpensBatch self.old drops text.now self.new) }
         ensures fault { IfErr result (HasNoBatch self.old drops text.now) }
-        ensures refused { OnErr result (self.new ≡ self.old) }
+        ensures refused { OnErr result (HasAsMuchRoom self.old self.new) }
     {
         let left = (self.records.len() - self.place) as u64;
         let Some(sum) = self.missed.checked_add(left) else {

@@ -1,6 +1,7 @@
 //! What packets of a batch are made in. It goes from one batch to the next, so that none takes memory again that had it once.
 
-ghost use Rattle.std.specs.Prelude.{◌≡◌, OnOk};
+ghost use Rattle.std.specs.Prelude.{◌≡◌, ◌≤◌, ◌/◌, OnOk};
+ghost use Rattle.std.specs.Vec.{vec_capacity};
 ghost use Rattle.dspec_ctf.specs.Rows.{missed_packets, run_packet};
 
 use crate::filled::PACKET_SIZE;
@@ -29,7 +30,9 @@ pub(crate) struct Scratch {
 
 impl Scratch {
     /// Takes no memory yet.
-    pub(crate) fn new(alloc: Global) -> Scratch {
+    pub(crate) fn new(alloc: Global) -> Scratch
+        ensures { vec_capacity result.records ≡ 0 }
+    {
         Scratch {
             records: Vec::new(alloc),
             bytes: Vec::new(alloc),
@@ -38,7 +41,10 @@ impl Scratch {
     }
 
     /// Takes memory for batches of so many bytes.
-    pub(crate) fn reserve(&mut self, size: usize) -> Result<(), AllocError> {
+    pub(crate) fn reserve(&mut self, size: usize) -> Result<(), AllocError>
+        ensures room { OnOk result (size / 12 ≤ vec_capacity self.new.records) }
+        ensures capacity { vec_capacity self.old.records ≤ vec_capacity self.new.records }
+    {
         let packets = size / LEAST_EVENTS + 2;
         reserve_in(&mut self.records, most_records(size))?;
         reserve_in(&mut self.bytes, packets.saturating_mul(PACKET_SIZE))?;
@@ -52,7 +58,8 @@ impl Scratch {
         rows: &Rows,
         before: u64,
     ) -> Result<(), AllocError>
-        ensures { OnOk result (self.new.bytes.items
+        ensures records { self.new.records ≡ self.old.records }
+        ensures bytes { OnOk result (self.new.bytes.items
             ≡ missed_packets stream.now.uuid before stream.now.missed stream.now.cpu rows.now) }
     {
         self.bytes.clear();
@@ -66,7 +73,8 @@ impl Scratch {
         file: usize,
         records: &[Rec],
     ) -> Result<(), AllocError>
-        ensures { OnOk result (self.new.bytes.items
+        ensures records { self.new.records ≡ self.old.records }
+        ensures bytes { OnOk result (self.new.bytes.items
             ≡ run_packet stream.now.uuid stream.now.enablings.now stream.now.missed stream.now.cpu file records.now) }
     {
         self.bytes.clear();
@@ -75,13 +83,17 @@ impl Scratch {
 }
 
 /// The most records that a batch of so many bytes has.
-pub(crate) fn most_records(size: usize) -> usize {
+pub(crate) fn most_records(size: usize) -> usize
+    ensures { result ≡ size / 12 }
+{
     size / LEAST_RECORD
 }
 
 /// Takes memory for a list of so many.
 pub(crate) fn reserve_in<T>(list: &mut Vec<T>, count: usize) -> Result<(), AllocError>
-    ensures { list.new.items ≡ list.old.items }
+    ensures items { list.new.items ≡ list.old.items }
+    ensures room { OnOk result (count ≤ vec_capacity list.new) }
+    ensures capacity { vec_capacity list.old ≤ vec_capacity list.new }
 {
     list.reserve(count.saturating_sub(list.len()))
 }
