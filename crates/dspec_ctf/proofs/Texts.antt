@@ -11,6 +11,7 @@ use Rattle.dspec_record.specs.declared.field.Field.{Field}
 use Rattle.dspec_record.specs.declared.field.Shape.{Shape}
 use Rattle.dspec_record.specs.declared.header.Header.TheVariants.{Two}
 use Rattle.dspec_buffer.specs.BufferText.{BufferText}
+use Rattle.dspec_ctf.specs.Rows.{most_records}
 use Rattle.dspec_ctf.specs.Streams.{Accepts, IsText}
 
 read-accepted : (shape : ℕ → Option Shape) (accepted : Record → Bool) (text : Record → List ℕ) (place : ℕ) (bytes : List ℕ) (rs : List Record)
@@ -44,6 +45,6 @@ read-few shape accepted text wide place bytes (r ∷ rs) (gap, (rest, (stands, m
     )
 
 -- A text of so many bytes has no more records than there is room for by its size.
-pub text-few : (e : EnabledRows) → e.header ≡ Two → (text : List ℕ) (rs : List Record) → IsText e text rs → length rs ≤ length text / 12
+pub text-few : (e : EnabledRows) → e.header ≡ Two → (text : List ℕ) (rs : List Record) → IsText e text rs → length rs ≤ most_records (length text)
 text-few e stamped text rs is =
     omega (arith, read-few (table_shape e.header (enabled e.rows)) (table_accepts e.header (enabled e.rows)) (table_text e.header (enabled e.rows)) (stamped-wide e stamped) 0 text rs is)

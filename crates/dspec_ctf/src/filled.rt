@@ -3,7 +3,7 @@
 //! Linux copies a page of a write whole, and looks for a kill between two pages alone. A packet of these lies in one page of its file, so it is there or not;
 //! and what is left of a write of several that was cut off between two pages is whole packets.
 
-ghost use Rattle.std.specs.Prelude.{◌≡◌, ◌+◌, ◌≤◌, ◌++◌, IfErr, IfOk, OnErr, OnOk, length, replicate};
+ghost use Rattle.std.specs.Prelude.{◌≡◌, ◌+◌, ◌≤◌, ◌++◌, [], IfErr, IfOk, OnErr, OnOk, length, replicate};
 ghost use Rattle.dspec_ctf.specs.Packets.{events, front_size};
 ghost use Rattle.dspec_ctf.specs.Filled.{AreFilledOf, filled_around, filled_packet, filled_packets, filled_size, front_by, span_by};
 ghost use Rattle.dspec_ctf.specs.Streams.{HasNoPacket};
@@ -82,7 +82,7 @@ fn put_packet(
 }
 
 /// Adds the packets of these records, each of which takes records as long as they fit. Without records it is one packet. The body has the events of one
-/// packet at a time; what it had is let go.
+/// packet at a time.
 #[tactic(auto, unfolding(crate::specs::Filled::filled_packets))]
 pub(crate) fn put_filled(
     out: &mut Vec<u8>,
@@ -91,11 +91,11 @@ pub(crate) fn put_filled(
     timed: bool,
     recs: &[Rec],
 ) -> Result<(), AllocError>
+    requires { body.old.items ≡ [] }
     ensures { OnOk result (out.new.items ≡ out.old.items
         ++ filled_packets timed stream.now.enablings.now stream.now.uuid stream.now.missed stream.now.cpu recs.now) }
 {
     let front = front_by(timed);
-    body.clear();
     let mut from = 0;
     for place in 0..recs.len() {
         let (rec, held) = (&recs[place], body.len());

@@ -3,11 +3,12 @@
 //! A CPU's records aren't in the order of their stamps, since those of a committed path stand where it was committed. But each of several
 //! files can be: a record goes to the file that goes on with it (`specs/Rows.antt`), and tools merge the files.
 
-ghost use Rattle.std.specs.Prelude.{◌≡◌, ◌+◌, ◌<◌, ◌≤◌, ◌++◌, length, All, IfOk, IfErr, OnOk};
+ghost use Rattle.std.specs.Prelude.{◌≡◌, ◌+◌, ◌<◌, ◌≤◌, ◌++◌, [], length, All, IfOk, IfErr, OnErr, OnOk};
 ghost use Rattle.dspec_ctf.specs.Packets.{events};
 ghost use Rattle.dspec_ctf.specs.Streams.{Accepts, IsText, IsTooLong, HasNoRecords};
 ghost use Rattle.std.specs.Vec.{vec_capacity};
-ghost use Rattle.dspec_ctf.specs.Rows.{HasNoRoomFor, IsFoundOf, missed_packets, run_packet, silent_packet};
+ghost use Rattle.dspec_record.specs.declared.header.Header.TheVariants.{Two};
+ghost use Rattle.dspec_ctf.specs.Rows.{HasNoRoomFor, IsFoundOf, most_records, missed_packets, run_packet, silent_packet};
 
 use crate::by_time::add_records;
 use crate::filled::{put_filled, put_filled_around};
@@ -171,24 +172,44 @@ impl Rows {
     }
 }
 
-/// Has the records of a batch's text in place of those that the list had. It takes memory where the list has no room for them; then what it has is
-/// a part of them, where there was none to take.
-pub(crate) fn read_records(
+/// The most records that a batch of so many bytes has, which have stamps.
+pub(crate) fn most_records(size: usize) -> usize
+    ensures { result ≡ most_records size }
+{
+    size / 12
+}
+
+/// Takes memory for a list of so many.
+pub(crate) fn reserve_in<T>(list: &mut Vec<T>, count: usize) -> Result<(), AllocError>
+    ensures items { list.new.items ≡ list.old.items }
+    ensures room { OnOk result (count ≤ vec_capacity list.new) }
+    ensures capacity { vec_capacity list.old ≤ vec_capacity list.new }
+    ensures full { OnErr result (vec_capacity list.old < count) }
+{
+    list.reserve(count.saturating_sub(list.len()))
+}
+
+/// Has the records of a batch's text, which have stamps, in place of those that the list had. It takes memory where there is no room for as many as a text of
+/// that size may have.
+pub(crate) fn read_again(
     recs: &mut Vec<Rec>,
     enablings: &Enablings,
     text: &[u8],
 ) -> Result<(), PacketFault>
+    requires stamped { enablings.now.header ≡ Two }
     ensures text { OnOk result (IsText enablings.now text.now recs.new.items) }
     ensures accepted { OnOk result (All (Accepts enablings.now) recs.new.items) }
     ensures fault { IfErr result (HasNoRoomFor enablings.now text.now (vec_capacity recs.old)) }
+    ensures refused { OnErr result (recs.new.items ≡ recs.old.items) }
     ensures capacity { vec_capacity recs.old ≤ vec_capacity recs.new }
 {
     let records = match read_all(enablings, text) {
         Ok(records) => records,
         Err(fault) => return Err(PacketFault::Text(fault)),
     };
+    reserve_in(recs, most_records(text.len()))?;
     recs.clear();
-    add_records(recs, records)?;
+    add_records(recs, records).unwrap();
     Ok(())
 }
 
@@ -202,8 +223,12 @@ pub fn records_of(
     ensures accepted { IfOk result (λ recs. All (Accepts enablings.now) recs.items) }
     ensures fault { IfErr result (HasNoRecords enablings.now text.now) }
 {
+    let records = match read_all(enablings, text) {
+        Ok(records) => records,
+        Err(fault) => return Err(PacketFault::Text(fault)),
+    };
     let mut recs = Vec::new(alloc);
-    read_records(&mut recs, enablings, text)?;
+    add_records(&mut recs, records)?;
     Ok(recs)
 }
 
@@ -242,6 +267,7 @@ impl<'a> Stream<'a> {
         file: usize,
         records: &[Rec],
     ) -> Result<(), AllocError>
+        requires { body.old.items ≡ [] }
         ensures { OnOk result (out.new.items ≡ out.old.items
             ++ run_packet self.now.uuid self.now.enablings.now self.now.missed self.now.cpu file records.now) }
     {

@@ -5,12 +5,11 @@ ghost use Rattle.dspec_record.specs.declared.header.Header.TheVariants.{One, Two
 ghost use Rattle.dspec_ctf.specs.InMemory.Filing.{no_packets, unwritten};
 ghost use Rattle.dspec_ctf.specs.InMemory.Calls.{HasAsMuchRoom, HasNoBatch, OpensBatch, Reserves, with_more_missed, without_rest};
 
-use super::scratch::{Scratch, most_records, reserve_in};
-use crate::rows::read_records;
+use super::scratch::Scratch;
+use crate::rows::{most_records, read_again, reserve_in};
 use crate::{CpuPackets, PacketFault, Rows};
 use dspec_record::{Enablings, Header};
 use std::alloc::{AllocError, Global};
-use std::mem;
 
 impl CpuPackets {
     /// The files of this CPU, of which there is none yet, in a trace with this uuid, which its metadata tells too. None where records have no
@@ -70,8 +69,7 @@ impl CpuPackets {
         let Some(missed) = sum.checked_add(drops) else {
             return Err(PacketFault::Missed);
         };
-        read_records(&mut self.scratch.records, &self.enablings, text)?;
-        mem::swap(&mut self.records, &mut self.scratch.records);
+        read_again(&mut self.records, &self.enablings, text)?;
         self.missed = missed;
         self.told_before = self.told;
         self.from = 0;

@@ -1,10 +1,6 @@
-//! What follows from the definitions, as clauses of functions that have nothing to do.
+//! What follows from the definitions, as a clause of a function that has nothing to do.
 
-ghost use Rattle.std.specs.Prelude.{◌≡◌, ◌≤◌, ◌/◌, ℕ, List, None, length};
-ghost use Rattle.dspec_record.specs.EnablingRows.{EnabledRows};
-ghost use Rattle.dspec_record.specs.Record.{Record};
-ghost use Rattle.dspec_record.specs.declared.header.Header.TheVariants.{Two};
-ghost use Rattle.dspec_ctf.specs.Streams.{IsText};
+ghost use Rattle.std.specs.Prelude.{◌≡◌, ◌≤◌, List, None, length};
 ghost use Rattle.dspec_ctf.specs.InMemory.Filing.{CpuFiling};
 ghost use Rattle.dspec_ctf.specs.InMemory.Calls.{IsAllHanded};
 ghost use Rattle.dspec_ctf.specs.InMemory.Batches.{HaveAllLeft, PutsPackets};
@@ -15,9 +11,4 @@ ghost use Rattle.dspec_ctf.specs.declared.in_memory.packet.Packet.{Packet};
 pub fn packets_have_all()
     ensures { (f new : CpuFiling) (ps : List Packet) → f.run ≡ None → f.place ≤ length f.records
         → PutsPackets f ps new → IsAllHanded new → HaveAllLeft f ps new }
-{}
-
-/// A batch of records with stamps has no more of them than `reserve` of its size, or of more, makes room for: it is opened without memory.
-pub fn room_is_enough()
-    ensures { (e : EnabledRows) (text : List ℕ) (read : List Record) → e.header ≡ Two → IsText e text read → length read ≤ length text / 12 }
 {}

@@ -1,16 +1,13 @@
 //! What packets of a batch are made in. It goes from one batch to the next, so that none takes memory again that had it once.
 
-ghost use Rattle.std.specs.Prelude.{◌≡◌, ◌≤◌, ◌/◌, OnOk};
-ghost use Rattle.std.specs.Vec.{vec_capacity};
+ghost use Rattle.std.specs.Prelude.{◌≡◌, OnOk};
 ghost use Rattle.dspec_ctf.specs.Rows.{missed_packets, run_packet};
 
 use crate::filled::PACKET_SIZE;
+use crate::rows::reserve_in;
 use crate::{Rows, Stream};
 use dspec_record::Rec;
 use std::alloc::{AllocError, Global};
-
-/// The least bytes of a record with a stamp in a batch, which has no values.
-const LEAST_RECORD: usize = 12;
 
 /// The least bytes of events in a packet that isn't the last of its run: with 76 more, the most of an event, its front and they have more than 1,024.
 const LEAST_EVENTS: usize = 881;
@@ -21,8 +18,6 @@ const MOST_EVENTS: usize = 1032;
 /// Lists that are empty or have what isn't wanted any more.
 #[derive(Drop)]
 pub(crate) struct Scratch {
-    /// Has the records of the next batch before they are the open one's.
-    pub records: Vec<Rec>,
     /// Has what is handed out next.
     pub bytes: Vec<u8>,
     body: Vec<u8>,
@@ -30,23 +25,16 @@ pub(crate) struct Scratch {
 
 impl Scratch {
     /// Takes no memory yet.
-    pub(crate) fn new(alloc: Global) -> Scratch
-        ensures { vec_capacity result.records ≡ 0 }
-    {
+    pub(crate) fn new(alloc: Global) -> Scratch {
         Scratch {
-            records: Vec::new(alloc),
             bytes: Vec::new(alloc),
             body: Vec::new(alloc),
         }
     }
 
     /// Takes memory for batches of so many bytes.
-    pub(crate) fn reserve(&mut self, size: usize) -> Result<(), AllocError>
-        ensures room { OnOk result (size / 12 ≤ vec_capacity self.new.records) }
-        ensures capacity { vec_capacity self.old.records ≤ vec_capacity self.new.records }
-    {
+    pub(crate) fn reserve(&mut self, size: usize) -> Result<(), AllocError> {
         let packets = size / LEAST_EVENTS + 2;
-        reserve_in(&mut self.records, most_records(size))?;
         reserve_in(&mut self.bytes, packets.saturating_mul(PACKET_SIZE))?;
         reserve_in(&mut self.body, MOST_EVENTS)
     }
@@ -58,8 +46,7 @@ impl Scratch {
         rows: &Rows,
         before: u64,
     ) -> Result<(), AllocError>
-        ensures records { self.new.records ≡ self.old.records }
-        ensures bytes { OnOk result (self.new.bytes.items
+        ensures { OnOk result (self.new.bytes.items
             ≡ missed_packets stream.now.uuid before stream.now.missed stream.now.cpu rows.now) }
     {
         self.bytes.clear();
@@ -73,27 +60,11 @@ impl Scratch {
         file: usize,
         records: &[Rec],
     ) -> Result<(), AllocError>
-        ensures records { self.new.records ≡ self.old.records }
-        ensures bytes { OnOk result (self.new.bytes.items
+        ensures { OnOk result (self.new.bytes.items
             ≡ run_packet stream.now.uuid stream.now.enablings.now stream.now.missed stream.now.cpu file records.now) }
     {
         self.bytes.clear();
+        self.body.clear();
         stream.put_run(&mut self.bytes, &mut self.body, file, records)
     }
-}
-
-/// The most records that a batch of so many bytes has.
-pub(crate) fn most_records(size: usize) -> usize
-    ensures { result ≡ size / 12 }
-{
-    size / LEAST_RECORD
-}
-
-/// Takes memory for a list of so many.
-pub(crate) fn reserve_in<T>(list: &mut Vec<T>, count: usize) -> Result<(), AllocError>
-    ensures items { list.new.items ≡ list.old.items }
-    ensures room { OnOk result (count ≤ vec_capacity list.new) }
-    ensures capacity { vec_capacity list.old ≤ vec_capacity list.new }
-{
-    list.reserve(count.saturating_sub(list.len()))
 }

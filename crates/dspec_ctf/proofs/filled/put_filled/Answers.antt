@@ -24,7 +24,7 @@ loop-place-preserved c =
       | then-front-len-gt-PACKET_SIZE+in_ok-put_packet+in_ok-put_event-2 w ↦
           let ended : after.out.items ≡ l.out.items ++ filled_packet c.args.timed e s.uuid s.missed s.cpu (slice_range recs l.from l.place) = search rules in
           let alone : after.body.items ≡ event e (get_or recs l.place one) =
-          ap (λ b. b.items) w.body-is ∙ w.in_ok-put_event-2.ensures.bytes ∙ ap (λ b. b ++ event e one) w.clear-then-front-len-gt-PACKET_SIZE.ensures.items ∙ ap (event e) c.index-recs-place.is in
+          ap (λ b. b.items) w.body-is ∙ w.in_ok-put_event-2.ensures.bytes ∙ ap (λ b. b ++ event e one) w.clear.ensures.items ∙ ap (event e) c.index-recs-place.is in
           filled-anew c.args.timed e s.uuid s.missed s.cpu recs whole l.out.items l.body.items l.from l.place one c.loop-place-test.true at
           after.out.items after.body.items after.from ended alone w.from-is
           (search rules) (search rules)
