@@ -12,6 +12,7 @@
  * Each packet of the format has 1,024 bytes: its events, and zeros behind them. Where all that is put goes to the ends of its files, one write each, a packet lies in one page of its
  * file, and a program that is killed in a write leaves whole packets.
  *
+ *     where memory may be wanting:   dspec_ctf_reserve(&ctf, bufsize), and a room of dspec_ctf_room(bufsize) bytes
  *     for each batch of a CPU:       dspec_ctf_batch(&ctf, &batch)
  *     until DSPEC_NO_PACKET:         dspec_ctf_put(&ctf, room, size, &packet), and its bytes to the end of file packet.file
  *     where they can't be written:   dspec_ctf_lose(&ctf, &records), and the next batch
@@ -71,8 +72,16 @@ dspec_status dspec_ctf_metadata(dspec_schema *schema, const dspec_identity *iden
  * DSPEC_OK. DSPEC_NO_STAMP, DSPEC_NO_MEMORY. DSPEC_FULL_HANDLE (ctf), DSPEC_BAD_HANDLE (schema). */
 dspec_status dspec_ctf_new(dspec_schema *schema, const dspec_identity *identity, uint32_t cpu, dspec_ctf *ctf) DSPEC_NOEXCEPT;
 
-/* Opens the next batch of the CPU, whose bytes may be given back behind this call. Records of the batch before that were in no packet are missed. Takes memory, for the
- * records of one batch.
+/* How many bytes of a room are enough for each packet of a batch of so many bytes, and for what a CPU missed. */
+DSPEC_INLINE size_t dspec_ctf_room(size_t len) DSPEC_NOEXCEPT { return (len / 881 + 2) * 1024; }
+
+/* Takes memory for batches of so many bytes, as a session's bufsize: dspec_ctf_open of one of these takes none from then on, nor does dspec_ctf_put of its packets. It is
+ * some 8 times so much, and 4 KB. So a process that crashes can write what it has. Takes memory.
+ * DSPEC_OK. DSPEC_NO_MEMORY: nothing is changed but that some of it may be there. DSPEC_BAD_HANDLE. */
+dspec_status dspec_ctf_reserve(dspec_ctf *ctf, size_t len) DSPEC_NOEXCEPT;
+
+/* Opens the next batch of the CPU, whose bytes may be given back behind this call. Records of the batch before that were in no packet are missed. Takes memory where
+ * there is no room for as many records as so many bytes may have, and keeps it for the next batch.
  * DSPEC_OK. DSPEC_BAD_RECORD: the bytes are no batch of the schema. DSPEC_WORN: more was missed than 64 bits count. DSPEC_NO_SUCH_CPU: it is another
  * CPU's. DSPEC_NO_MEMORY. DSPEC_BAD_HANDLE. */
 dspec_status dspec_ctf_open(dspec_ctf *ctf, uint32_t cpu, uint64_t drops, const uint8_t *bytes, size_t len) DSPEC_NOEXCEPT;
@@ -82,7 +91,7 @@ DSPEC_INLINE dspec_status dspec_ctf_batch(dspec_ctf *ctf, const dspec_batch *bat
 }
 
 /* Puts the next packet of the batch into a room of so many bytes: what goes to one file in one write. What the CPU missed comes first, in two packets of the format, where that isn't told yet. The packet that was put before counts as
- * written from then on. Takes memory for the packet, and gives it back.
+ * written from then on. Takes memory for the packet where there was none before or less, and keeps it for the next.
  * DSPEC_OK. DSPEC_NO_PACKET: none is left. DSPEC_TOO_SMALL: packet->size says how many bytes are needed; the call with so many puts that packet.
  * DSPEC_BAD_CLOCK: the rest of the batch has no packets, and dspec_ctf_lose gives it up. DSPEC_NO_MEMORY. DSPEC_BAD_HANDLE. */
 dspec_status dspec_ctf_put(dspec_ctf *ctf, uint8_t *room, size_t size, dspec_packet *packet) DSPEC_NOEXCEPT;

@@ -3,6 +3,7 @@
  *     static dspec_folder folder;                                 all zeros, some 62 KB
  *     dspec_folder_limit(&folder, bytes, folders)                 where the trace has a bound
  *     dspec_folder_begin(&folder, path, &schema, cpus, &identity, &names)
+ *     dspec_folder_reserve(&folder, bufsize)                      where no memory may be taken later
  *     dspec_folder_take(&folder, &layout, &batch)                 of each batch while the session runs
  *     dspec_folder_close(&folder, &layout, &closed)               behind the session's end
  *
@@ -102,6 +103,17 @@ DSPEC_INLINE bool dspec_folder_begin(dspec_folder *folder, const char *path, dsp
     }
     if (status == DSPEC_OK && code == 0 && dspec_folder_enters(folder, &status, &code)) return true;
     return dspec_folder_fails(folder, status, code, names);
+}
+
+/* Takes memory for batches of so many bytes: those are written without any from then on, unless the trace has a bound and its next folder begins. Some 8 times so much
+ * for each CPU, of which the system gives what is used. Answers whether there was so much; without it the trace goes on. */
+DSPEC_INLINE bool dspec_folder_reserve(dspec_folder *folder, size_t len) DSPEC_NOEXCEPT {
+    dspec_status status = dspec_folder_grows(&folder->room, &folder->size, dspec_ctf_room(len)) ? DSPEC_OK : DSPEC_NO_MEMORY;
+    if (status == DSPEC_OK && folder->most_folders > 0 && !dspec_folder_grows(&folder->copy, &folder->copy_size, 2 * len)) status = DSPEC_NO_MEMORY;
+    folder->reserved = len;
+    for (uint32_t cpu = 0; status == DSPEC_OK && cpu < folder->cpus; cpu++)
+        if (folder->ctf[cpu].held) status = dspec_ctf_reserve(&folder->ctf[cpu], len);
+    return status == DSPEC_OK;
 }
 
 /* Why the last call answered false, in words: the system's, or the library's, or which name isn't allowed and why. They stay until the next call. */

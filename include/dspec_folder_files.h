@@ -82,6 +82,7 @@ typedef struct dspec_folder {
     uint64_t untold[DSPEC_MAX_CPUS];                       /* records that were missed while no folder could be begun */
     uint8_t *copy;                                         /* for a part of a batch, of so many bytes */
     size_t copy_size;
+    size_t reserved;                                       /* bytes of the batches for which memory was taken */
 } dspec_folder;
 
 DSPEC_INLINE dspec_folder_part *dspec_folder_newest(dspec_folder *folder) DSPEC_NOEXCEPT {
@@ -337,6 +338,7 @@ DSPEC_INLINE bool dspec_folder_enters(dspec_folder *folder, dspec_status *status
     for (uint32_t cpu = 0; *status == DSPEC_OK && cpu < folder->cpus; cpu++) {
         *status = dspec_ctf_new(folder->schema, &identity, cpu, &folder->ctf[cpu]);
         if (*status == DSPEC_OK) dspec_ctf_miss(&folder->ctf[cpu], folder->untold[cpu]);
+        if (*status == DSPEC_OK && folder->reserved > 0) *status = dspec_ctf_reserve(&folder->ctf[cpu], folder->reserved);
     }
     if (*status == DSPEC_OK) *code = dspec_folder_heads(folder);
     if (*status == DSPEC_OK && *code == 0) *code = dspec_folder_first_files(folder);

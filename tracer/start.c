@@ -152,6 +152,7 @@ static bool begin_folder(dspec_tracer *tracer, body *of, const char *folder, con
     else if (!dspec_folder_begin(&of->folder, folder, &of->schema, of->count + 1, &us.identity, naming_names(naming)))
         fail(tracer, folder, dspec_folder_why(&of->folder));
     else begun = true;
+    if (begun) dspec_folder_reserve(&of->folder, of->options.bufsize); /* a crash in malloc has its lock: what is saved then takes no memory */
     free(naming);
     return begun;
 }

@@ -142,6 +142,7 @@ static void refused(void) {
     dspec_schema bare = DSPEC_EMPTY;
     ANSWERS(dspec_ctf_put(&empty, room, sizeof room, &put), DSPEC_BAD_HANDLE);
     ANSWERS(dspec_ctf_open(&empty, 3, 0, room, 0), DSPEC_BAD_HANDLE);
+    ANSWERS(dspec_ctf_reserve(&empty, 64), DSPEC_BAD_HANDLE);
     ANSWERS(dspec_ctf_lose(&empty, &records), DSPEC_BAD_HANDLE);
     ANSWERS(dspec_ctf_miss(&empty, 1), DSPEC_BAD_HANDLE);
     ANSWERS(dspec_ctf_put((dspec_ctf *)&schema, room, sizeof room, &put), DSPEC_BAD_HANDLE);

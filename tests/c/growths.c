@@ -48,9 +48,10 @@ static dspec_cpu cpus[2];
 static dspec_consumer consumer;
 static dspec_closed closed;
 static dspec_schema stamped;
-static dspec_ctf ctf;
+static dspec_ctf ctf, roomy;
 
 static void let_go(void) {
+    dspec_ctf_drop(&roomy);
     dspec_ctf_drop(&ctf);
     dspec_schema_drop(&stamped);
     dspec_closed_drop(&closed);
@@ -151,14 +152,35 @@ static void finish(void) {
     }
 }
 
+static const uint8_t two_records[] = { 1, 0, 0, 0, 9, 0, 0, 0, 0, 0, 0, 0, 7, 0, 0, 0, 1, 0, 0, 0, 8, 0, 0, 0, 0, 0, 0, 0, 6, 0, 0, 0 };
+static dspec_identity identity = { .hertz = 1000, .host = { "here", 4 }, .name = { "growths", 7 } };
+
+/* Batches for which there is room: from there on no call takes memory. The second has what tells of its drops too. */
+static void trace_in_room(void) {
+    static const dspec_ctf nothing = DSPEC_EMPTY;
+    static uint8_t room[2048];
+    dspec_packet packet;
+    uint64_t lost;
+    ASK(dspec_ctf_new(&stamped, &identity, 0, &roomy), &roomy);
+    ASK(dspec_ctf_reserve(&roomy, sizeof two_records), &nothing);
+    if (dspec_ctf_room(sizeof two_records) > sizeof room) fail("a room", DSPEC_OK);
+    const long before = asked;
+    for (uint64_t drops = 0; drops < 2; drops++) {
+        OK(dspec_ctf_open(&roomy, 0, drops, two_records, sizeof two_records));
+        for (uint64_t i = 0; i < 2 + drops; i++) OK(dspec_ctf_put(&roomy, room, sizeof room, &packet));
+        if (packet.records != 1) fail("a packet", DSPEC_OK);
+    }
+    OK(dspec_ctf_lose(&roomy, &lost));
+    if (lost != 1) fail("a packet that is lost", DSPEC_OK);
+    if (asked != before) fail("a batch that has room asked for memory", DSPEC_OK);
+}
+
 /* The metadata of a trace, and two packets of a batch. */
 static void trace(void) {
-    static const uint8_t batch[] = { 1, 0, 0, 0, 9, 0, 0, 0, 0, 0, 0, 0, 7, 0, 0, 0, 1, 0, 0, 0, 8, 0, 0, 0, 0, 0, 0, 0, 6, 0, 0, 0 };
     static const dspec_text names[] = { { "step", 4 }, { "number", 6 } };
     static const uint8_t kinds[] = { DSPEC_KIND_UNSIGNED };
     static const dspec_ctf nothing = DSPEC_EMPTY;
     static uint8_t room[4096];
-    dspec_identity identity = { .hertz = 1000, .host = { "here", 4 }, .name = { "growths", 7 } };
     dspec_packet packet;
     uint32_t epid;
     size_t size = 0;
@@ -168,7 +190,7 @@ static void trace(void) {
     ASK(dspec_ctf_metadata(&stamped, &identity, names, 2, kinds, 1, room, sizeof room, &size), &nothing);
     if (size < 1000 || memcmp(room + size - 5, "};\n};\n" + 1, 5) != 0) fail("the metadata", DSPEC_OK);
     ASK(dspec_ctf_new(&stamped, &identity, 0, &ctf), &ctf);
-    ASK(dspec_ctf_open(&ctf, 0, 0, batch, sizeof batch), &nothing);
+    ASK(dspec_ctf_open(&ctf, 0, 0, two_records, sizeof two_records), &nothing);
     for (size_t file = 0; file < 2; file++) {
         ASK(dspec_ctf_put(&ctf, room, sizeof room, &packet), &nothing);
         if (packet.file != file || packet.records != 1 || packet.size != 1024 || room[80] != 7 - file) fail("a packet", DSPEC_OK);
@@ -185,6 +207,7 @@ int main(int argc, char **argv) {
         return 2;
     }
     trace();
+    trace_in_room();
     start();
     long before = asked;
     record();

@@ -144,6 +144,8 @@ static void ctf_metadata(void) {
 
 static void ctf_new(void) { HAS_TO(dspec_ctf_new(&all.schema, &identity, 0, &ctf)); }
 
+static void ctf_reserve(void) { HAS_TO(dspec_ctf_reserve(&ctf, sizeof records)); }
+
 static void ctf_open(void) { HAS_TO(dspec_ctf_open(&ctf, 0, 3, records, sizeof records)); }
 
 /* The packet that tells of the drops, and those of two files. */
@@ -185,7 +187,8 @@ static const struct step {
     { "dspec_cpu_of", cpu_of, MOST_OF_OTHERS },           { "dspec_consumer_of", consumer_of, MOST_OF_OTHERS },
     { "dspec_close", close_all, MOST },                   { "dspec_closed_drop", closed_drop, MOST_OF_OTHERS },
     { "dspec_schema_stamp", schema_stamp, MOST_OF_OTHERS }, { "dspec_ctf_metadata", ctf_metadata, MOST_OF_OTHERS },
-    { "dspec_ctf_new", ctf_new, MOST_OF_OTHERS },           { "dspec_ctf_open", ctf_open, MOST_OF_OTHERS },
+    { "dspec_ctf_new", ctf_new, MOST_OF_OTHERS },           { "dspec_ctf_reserve", ctf_reserve, MOST_OF_OTHERS },
+    { "dspec_ctf_open", ctf_open, MOST_OF_OTHERS },
     { "dspec_ctf_put", ctf_put, MOST_OF_OTHERS },           { "dspec_ctf_lose", ctf_lose, MOST_OF_OTHERS },
     { "dspec_ctf_miss", ctf_miss, MOST_OF_OTHERS },         { "dspec_ctf_drop", ctf_drop, MOST_OF_OTHERS },
     { "dspec_schema_drop", schema_drop, MOST_OF_OTHERS },

@@ -36,6 +36,19 @@ impl CtfPackets {
         Ok(CtfPackets { handle, room: vec![0; 4096] })
     }
 
+    /// Takes memory for batches of so many bytes, as a session's `bufsize`: opening one of these, and its packets, take none from then on.
+    ///
+    /// # Errors
+    ///
+    /// [`Error::Memory`].
+    pub fn reserve(&mut self, len: usize) -> Result<(), Error> {
+        // SAFETY: the handle is one of files.
+        answered(unsafe { raw::dspec_ctf_reserve(self.handle.at(), len) })?;
+        let room = (len / 881 + 2) * 1024;
+        self.room.resize(room.max(self.room.len()), 0);
+        Ok(())
+    }
+
     /// Opens the next batch of the CPU. Records of the batch before that were in no packet are missed.
     ///
     /// # Errors

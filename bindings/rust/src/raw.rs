@@ -244,6 +244,7 @@ extern "C" {
         needed: *mut usize,
     ) -> Status;
     pub(crate) fn dspec_ctf_new(schema: *mut Words, identity: *const Identity, cpu: u32, ctf: *mut Words) -> Status;
+    pub(crate) fn dspec_ctf_reserve(ctf: *mut Words, len: usize) -> Status;
     pub(crate) fn dspec_ctf_open(ctf: *mut Words, cpu: u32, drops: u64, bytes: *const u8, len: usize) -> Status;
     pub(crate) fn dspec_ctf_put(ctf: *mut Words, room: *mut u8, size: usize, packet: *mut Packet) -> Status;
     pub(crate) fn dspec_ctf_lose(ctf: *mut Words, records: *mut u64) -> Status;

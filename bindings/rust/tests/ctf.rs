@@ -82,6 +82,7 @@ fn a_packet_larger_than_the_room() {
     let stamps: Vec<i32> = (1..=1000).collect();
     let closed = traced(&schema, step, 16000, &stamps);
     let mut packets = CtfPackets::new(&schema, &identity(), 0).unwrap();
+    packets.reserve(16000).unwrap();
     packets.open(&closed.rest(0).unwrap().last).unwrap();
     assert_eq!(packets.put().unwrap().unwrap().records, 0);
     // 68 bytes and 59 records of 16 are 1,012.

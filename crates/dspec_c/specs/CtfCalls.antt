@@ -4,7 +4,7 @@ use Rattle.dspec_record.specs.EnablingRows.{EnabledRows}
 use Rattle.dspec_record.specs.declared.header.Header.TheVariants.{One, Two}
 use Rattle.dspec_ctf.specs.declared.stream.PacketFault.{PacketFault}
 use Rattle.dspec_ctf.specs.InMemory.Filing.{CpuFiling, no_packets, unwritten}
-use Rattle.dspec_ctf.specs.InMemory.Calls.{Hands, HandsNone, HasNoBatch, OpensBatch, with_more_missed, without_rest}
+use Rattle.dspec_ctf.specs.InMemory.Calls.{Hands, HandsNone, HasAsMuchRoom, HasNoBatch, OpensBatch, Reserves, with_more_missed, without_rest}
 use Rattle.dspec_ctf.specs.InMemory.Naming.{PutsMetadata, PutsNone}
 use Rattle.dspec_ctf.specs.declared.in_memory.fault.PutFault.{PutFault}
 use Rattle.dspec_ctf.specs.declared.in_memory.fault.TextFault.{TextFault}
@@ -72,12 +72,20 @@ abbrev pub CtfNewAnswers : List ℕ → ℕ → Held → ℕ → Held → Handle
 CtfNewAnswers uuid cpu (held.Schema e) status left was now = (left ≡ held.Schema e) × FilesSo uuid e cpu status was now
 CtfNewAnswers uuid cpu schema status left was now = (left ≡ schema) × ((status ≡ bad_handle) × (now ≡ was))
 
+-- there is room for batches of so many bytes, or memory was wanting
+abbrev pub ReservesSo : ℕ → CpuFiling → ℕ → CpuFiling → Type 0
+ReservesSo size old status new = ((status ≡ 0) × Reserves old size new) ⊎ ((status ≡ no_memory) × HasAsMuchRoom old new)
+
+abbrev pub CtfReserveAnswers : ℕ → Held → ℕ → Held → Type 0
+CtfReserveAnswers size (held.Files old) status now = (new : CpuFiling) × ((now ≡ held.Files new) × ReservesSo size old status new)
+CtfReserveAnswers size was status now = (status ≡ bad_handle) × (now ≡ was)
+
 -- the batch isn't of this CPU; or it is opened; or not, for that
 pub record OpensNone (drops : ℕ) (bytes : List ℕ) (old : CpuFiling) (status : ℕ) (new : CpuFiling) : Type 0 where
   pub fault : PacketFault
   pub numbered : status ≡ packet_status fault
   pub why : HasNoBatch old drops bytes fault
-  pub same : new ≡ old
+  pub same : HasAsMuchRoom old new
 
 abbrev pub OpensSo : ℕ → ℕ → List ℕ → CpuFiling → ℕ → CpuFiling → Type 0
 OpensSo cpu drops bytes old status new =

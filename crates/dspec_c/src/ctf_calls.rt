@@ -2,7 +2,7 @@
 
 ghost use Rattle.std.specs.Prelude.{◌≡◌, MatchResult, map, true, false};
 ghost use Rattle.dspec_c.specs.Handles.{held_in, is_full};
-ghost use Rattle.dspec_c.specs.CtfCalls.{BeginsFiles, CtfLoseAnswers, CtfMetadataAnswers, CtfMissAnswers, CtfNewAnswers, CtfOpenAnswers, CtfPutAnswers, HasNoFiles, OpensSo, PutsSo, packet_room, text_room};
+ghost use Rattle.dspec_c.specs.CtfCalls.{BeginsFiles, CtfLoseAnswers, CtfMetadataAnswers, CtfMissAnswers, CtfNewAnswers, CtfOpenAnswers, CtfPutAnswers, CtfReserveAnswers, HasNoFiles, OpensSo, PutsSo, ReservesSo, packet_room, text_room};
 
 use crate::boxed::Boxed;
 use crate::ctf_statuses::{NO_PACKET, NO_STAMP, needed_of, of_packet, of_put, of_text, text_size};
@@ -90,6 +90,30 @@ pub extern "C" fn dspec_ctf_new(
     };
     files.put(room, Held::Files(made));
     OK
+}
+
+fn reserve(files: &mut CpuPackets, size: usize) -> u32
+    ensures { ReservesSo size files.old result files.new }
+{
+    match files.reserve(size) {
+        Ok(()) => OK,
+        Err(_) => NO_MEMORY,
+    }
+}
+
+/// Takes memory for batches of so many bytes.
+#[unsafe(no_mangle)]
+pub extern "C" fn dspec_ctf_reserve(files: &mut Handle, size: usize) -> u32
+    ensures answers { CtfReserveAnswers size (held_in files.old) result (held_in files.new) }
+    ensures stays { is_full files.new ≡ is_full files.old }
+{
+    if !files.is_held() {
+        return BAD_HANDLE;
+    }
+    let Some(files) = files.lend().files() else {
+        return BAD_HANDLE;
+    };
+    reserve(files, size)
 }
 
 fn open(files: &mut CpuPackets, cpu: u32, drops: u64, bytes: &[u8]) -> u32

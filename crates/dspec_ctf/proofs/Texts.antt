@@ -1,11 +1,17 @@
--- The records of a text are accepted.
-use Rattle.std.proofs.Common.{ℕ, ◌+◌, Bool, IsTrue, List, [], ◌∷◌, length, Option, All}
+-- The records of a text are accepted, and no more than its size allows.
+use Rattle.std.proofs.Common.{ℕ, ◌≡◌, ◌≤◌, ◌+◌, ◌*◌, ◌/◌, ◌++◌, Bool, IsTrue, List, [], ◌∷◌, length, Option, All, refl, ap, sym, subst, arith, length-append}
+use Rattle.std.specs.Prelude.{unwrap_or}
 use Rattle.std.proofs.lemmas.List.Elements.{All-nil, All-cons}
 use Rattle.dspec_record.specs.Record.{Record}
 use Rattle.dspec_record.specs.EnablingRows.{EnabledRows}
 use Rattle.dspec_record.specs.Schemas.{enabled, table_shape, table_accepts, table_text}
+use Rattle.dspec_record.specs.Layout.{fields_start}
+use Rattle.dspec_record.specs.RecordText.{fields_text, header_text}
+use Rattle.dspec_record.specs.declared.field.Field.{Field}
 use Rattle.dspec_record.specs.declared.field.Shape.{Shape}
+use Rattle.dspec_record.specs.declared.header.Header.TheVariants.{Two}
 use Rattle.dspec_buffer.specs.BufferText.{BufferText}
+use Rattle.dspec_ctf.specs.Rows.{most_records}
 use Rattle.dspec_ctf.specs.Streams.{Accepts, IsText}
 
 read-accepted : (shape : ℕ → Option Shape) (accepted : Record → Bool) (text : Record → List ℕ) (place : ℕ) (bytes : List ℕ) (rs : List Record)
@@ -16,3 +22,29 @@ read-accepted shape accepted text place bytes (r ∷ rs) (gap, (rest, (stands, m
 
 pub text-accepted : (e : EnabledRows) (text : List ℕ) (rs : List Record) → IsText e text rs → All (Accepts e) rs
 text-accepted e text rs is = read-accepted (table_shape e.header (enabled e.rows)) (table_accepts e.header (enabled e.rows)) (table_text e.header (enabled e.rows)) 0 text rs is
+
+-- A record with a stamp has 12 bytes or more.
+stamped-wide : (e : EnabledRows) → e.header ≡ Two → (r : Record) → 12 ≤ length (table_text e.header (enabled e.rows) r)
+stamped-wide e stamped r =
+    let fs : List Field = unwrap_or (enabled e.rows r.epid) [] in
+    let more : List ℕ = fields_text (fields_start e.header) fs r.values in
+    let long : length (header_text e.header r) ≡ 12 = subst (λ h. length (header_text h r) ≡ 12) (sym stamped) refl in
+    omega (arith, long, length-append (header_text e.header r) more)
+
+read-few : (shape : ℕ → Option Shape) (accepted : Record → Bool) (text : Record → List ℕ) → ((r : Record) → 12 ≤ length (text r)) → (place : ℕ) (bytes : List ℕ) (rs : List Record)
+    → BufferText shape accepted text place bytes rs → 12 * length rs ≤ length bytes
+read-few shape accepted text wide place bytes [] is = omega arith
+read-few shape accepted text wide place bytes (r ∷ rs) (gap, (rest, (stands, more))) =
+    omega (
+      arith,
+      ap length stands.bytes_are,
+      length-append gap (text r ++ rest),
+      length-append (text r) rest,
+      wide r,
+      read-few shape accepted text wide (place + length gap + length (text r)) rest rs more,
+    )
+
+-- A text of so many bytes has no more records than there is room for by its size.
+pub text-few : (e : EnabledRows) → e.header ≡ Two → (text : List ℕ) (rs : List Record) → IsText e text rs → length rs ≤ most_records (length text)
+text-few e stamped text rs is =
+    omega (arith, read-few (table_shape e.header (enabled e.rows)) (table_accepts e.header (enabled e.rows)) (table_text e.header (enabled e.rows)) (stamped-wide e stamped) 0 text rs is)

@@ -1,10 +1,11 @@
 -- Cited by calls. A CPU's files in a trace by time that is written while it runs: which file each record goes to. What is known of a
 -- CPU's files is a list: of each, by its number, the stamp of its last event.
-use Rattle.std.specs.Prelude.{true, ◌≡◌, ◌≢◌, ◌<◌, ◌≤◌, ◌-◌, ◌==◌, ◌⊎◌, ℕ, List, [], ◌∷◌, ◌++◌, Option, Some, None, length, map, replicate}
+use Rattle.std.specs.Prelude.{true, ◌≡◌, ◌≢◌, ◌<◌, ◌≤◌, ◌-◌, ◌/◌, ◌==◌, ◌⊎◌, ℕ, List, [], ◌∷◌, ◌++◌, Option, Some, None, length, map, replicate}
 use Rattle.std.specs.Prelude.{slice_get, slice_index, slice_range, slice_set, filter, zip, if◌then◌else◌}
 use Rattle.dspec_record.specs.Record.{Record}
 use Rattle.dspec_record.specs.EnablingRows.{EnabledRows}
 use Rattle.dspec_ctf.specs.Filled.{filled_around, filled_packets}
+use Rattle.dspec_ctf.specs.Streams.{HasNoRecords}
 use Rattle.dspec_ctf.specs.declared.rows.Run.{Run}
 use Rattle.dspec_ctf.specs.declared.stream.PacketFault.{PacketFault}
 use Rattle.dspec_ctf.specs.declared.stream.PacketFault.TheVariants.{Text, Missed, TooLong, Clock, Memory}
@@ -96,6 +97,18 @@ module _ (uuid : List ℕ) (e : EnabledRows) (missed cpu : ℕ) where
   abbrev pub run_packets : List Record → ℕ → List Run → List (ℕ × List ℕ)
   run_packets rs from [] = []
   run_packets rs from (run ∷ runs) = (run.file, run_packet run.file (slice_range rs from run.end)) ∷ run_packets rs run.end runs
+
+-- the most records that a text of so many bytes has, where each has a stamp: then it has 12 bytes at least
+abbrev pub most_records : ℕ → ℕ
+most_records size = size / 12
+
+-- why the records of a text aren't in a list that has room for so many: it isn't one, or may have more, and memory was wanting
+abbrev pub HasNoRoomFor : EnabledRows → List ℕ → ℕ → PacketFault → Type 0
+HasNoRoomFor e text room (Text fault) = HasNoRecords e text (Text fault)
+HasNoRoomFor e text room Memory = room < most_records (length text)
+HasNoRoomFor e text room Missed = ⊥
+HasNoRoomFor e text room TooLong = ⊥
+HasNoRoomFor e text room (Clock place) = ⊥
 
 -- a packet without events at this stamp
 abbrev pub silent_packet : List ℕ → ℕ → ℕ → ℕ → List ℕ

@@ -1,5 +1,6 @@
-ghost use Rattle.std.specs.Prelude.{◌≡◌, ◌<◌, ◌≤◌, ◌*◌, ◌++◌, length, map, take, option_copied, IfOk, IfErr, OnOk};
+ghost use Rattle.std.specs.Prelude.{◌≡◌, ◌<◌, ◌≤◌, ◌*◌, ◌+◌, ◌++◌, length, map, take, option_copied, IfOk, IfErr, OnErr, OnOk};
 ghost use Rattle.std.specs.Option.{option_map_or};
+ghost use Rattle.std.specs.Vec.{vec_capacity, vec_len};
 ghost use Rattle.dspec_ctf.specs.ByTime.{IsByStamp, span_of, packet_count, part_at, packet_at, timed_packets, IsAdded, AreTexts, IsNoText, ArePacketsOf, HasNoPackets};
 ghost use Rattle.dspec_ctf.specs.declared.by_time.TimeFault.TheVariants.{Memory};
 ghost use Rattle.dspec_record.specs.declared.header.Header.TheVariants as header;
@@ -41,7 +42,9 @@ pub(crate) fn add_records(
     recs: &mut Vec<Rec>,
     records: Records<'_, Enablings>,
 ) -> Result<(), AllocError>
-    ensures { OnOk result (recs.new.items ≡ recs.old.items ++ records.entry) }
+    ensures added { OnOk result (recs.new.items ≡ recs.old.items ++ records.entry) }
+    ensures full { OnErr result (vec_capacity recs.old < vec_len recs.old + length records.entry) }
+    ensures capacity { vec_capacity recs.old ≤ vec_capacity recs.new }
 {
     for rec in records {
         recs.push(rec)?;

@@ -3,7 +3,7 @@
 //! Linux copies a page of a write whole, and looks for a kill between two pages alone. A packet of these lies in one page of its file, so it is there or not;
 //! and what is left of a write of several that was cut off between two pages is whole packets.
 
-ghost use Rattle.std.specs.Prelude.{◌≡◌, ◌+◌, ◌≤◌, ◌++◌, IfErr, IfOk, OnErr, OnOk, length, replicate};
+ghost use Rattle.std.specs.Prelude.{◌≡◌, ◌+◌, ◌≤◌, ◌++◌, [], IfErr, IfOk, OnErr, OnOk, length, replicate};
 ghost use Rattle.dspec_ctf.specs.Packets.{events, front_size};
 ghost use Rattle.dspec_ctf.specs.Filled.{AreFilledOf, filled_around, filled_packet, filled_packets, filled_size, front_by, span_by};
 ghost use Rattle.dspec_ctf.specs.Streams.{HasNoPacket};
@@ -81,32 +81,33 @@ fn put_packet(
     put_filled_around(out, stream, span_by(timed, recs), body)
 }
 
-/// Adds the packets of these records, each of which takes records as long as they fit. Without records it is one packet.
+/// Adds the packets of these records, each of which takes records as long as they fit. Without records it is one packet. The body has the events of one
+/// packet at a time.
 #[tactic(auto, unfolding(crate::specs::Filled::filled_packets))]
 pub(crate) fn put_filled(
-    alloc: Global,
     out: &mut Vec<u8>,
+    body: &mut Vec<u8>,
     stream: &Stream<'_>,
     timed: bool,
     recs: &[Rec],
 ) -> Result<(), AllocError>
+    requires { body.old.items ≡ [] }
     ensures { OnOk result (out.new.items ≡ out.old.items
         ++ filled_packets timed stream.now.enablings.now stream.now.uuid stream.now.missed stream.now.cpu recs.now) }
 {
     let front = front_by(timed);
-    let mut body = Vec::new(alloc);
     let mut from = 0;
     for place in 0..recs.len() {
         let (rec, held) = (&recs[place], body.len());
-        put_event(&mut body, stream.enablings, rec)?;
+        put_event(body, stream.enablings, rec)?;
         if front + body.len() > PACKET_SIZE {
             put_packet(out, stream, timed, &recs[from..place], &body[..held])?;
             body.clear();
-            put_event(&mut body, stream.enablings, rec)?;
+            put_event(body, stream.enablings, rec)?;
             from = place;
         }
     }
-    put_packet(out, stream, timed, &recs[from..], &body)
+    put_packet(out, stream, timed, &recs[from..], body)
 }
 
 impl<'a> Stream<'a> {
@@ -133,8 +134,8 @@ impl<'a> Stream<'a> {
             Err(fault) => return Err(fault),
         };
         let stream = Stream { missed, ..*self };
-        let mut bytes = Vec::new(alloc);
-        put_filled(alloc, &mut bytes, &stream, false, &records)?;
+        let (mut bytes, mut body) = (Vec::new(alloc), Vec::new(alloc));
+        put_filled(&mut bytes, &mut body, &stream, false, &records)?;
         self.missed = missed;
         Ok(bytes)
     }

@@ -11,6 +11,7 @@ mod naming;
 pub mod packet;
 mod putting;
 mod room;
+mod scratch;
 
 pub use cpu_packets::CpuPackets;
 pub use fault::{PutFault, TextFault};

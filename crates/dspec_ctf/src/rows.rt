@@ -3,10 +3,12 @@
 //! A CPU's records aren't in the order of their stamps, since those of a committed path stand where it was committed. But each of several
 //! files can be: a record goes to the file that goes on with it (`specs/Rows.antt`), and tools merge the files.
 
-ghost use Rattle.std.specs.Prelude.{◌≡◌, ◌+◌, ◌<◌, ◌++◌, length, All, IfOk, IfErr, OnOk};
+ghost use Rattle.std.specs.Prelude.{◌≡◌, ◌+◌, ◌<◌, ◌≤◌, ◌++◌, [], length, All, IfOk, IfErr, OnErr, OnOk};
 ghost use Rattle.dspec_ctf.specs.Packets.{events};
 ghost use Rattle.dspec_ctf.specs.Streams.{Accepts, IsText, IsTooLong, HasNoRecords};
-ghost use Rattle.dspec_ctf.specs.Rows.{IsFoundOf, missed_packets, run_packet, silent_packet};
+ghost use Rattle.std.specs.Vec.{vec_capacity};
+ghost use Rattle.dspec_record.specs.declared.header.Header.TheVariants.{Two};
+ghost use Rattle.dspec_ctf.specs.Rows.{HasNoRoomFor, IsFoundOf, most_records, missed_packets, run_packet, silent_packet};
 
 use crate::by_time::add_records;
 use crate::filled::{put_filled, put_filled_around};
@@ -81,6 +83,14 @@ impl Rows {
         Rows {
             lasts: Vec::new(alloc),
         }
+    }
+
+    /// Takes memory for all files that there may be.
+    pub(crate) fn reserve(&mut self) -> Result<(), AllocError>
+        ensures { self.new ≡ self.old }
+    {
+        self.lasts
+            .reserve(MOST_FILES.saturating_sub(self.lasts.len()))
     }
 
     /// The last stamp of the first file; 0 where there is none.
@@ -162,6 +172,47 @@ impl Rows {
     }
 }
 
+/// The most records that a batch of so many bytes has, which have stamps.
+pub(crate) fn most_records(size: usize) -> usize
+    ensures { result ≡ most_records size }
+{
+    size / 12
+}
+
+/// Takes memory for a list of so many.
+pub(crate) fn reserve_in<T>(list: &mut Vec<T>, count: usize) -> Result<(), AllocError>
+    ensures items { list.new.items ≡ list.old.items }
+    ensures room { OnOk result (count ≤ vec_capacity list.new) }
+    ensures capacity { vec_capacity list.old ≤ vec_capacity list.new }
+    ensures full { OnErr result (vec_capacity list.old < count) }
+{
+    list.reserve(count.saturating_sub(list.len()))
+}
+
+/// Has the records of a batch's text, which have stamps, in place of those that the list had. It takes memory where there is no room for as many as a text of
+/// that size may have.
+pub(crate) fn read_again(
+    recs: &mut Vec<Rec>,
+    enablings: &Enablings,
+    text: &[u8],
+) -> Result<(), PacketFault>
+    requires stamped { enablings.now.header ≡ Two }
+    ensures text { OnOk result (IsText enablings.now text.now recs.new.items) }
+    ensures accepted { OnOk result (All (Accepts enablings.now) recs.new.items) }
+    ensures fault { IfErr result (HasNoRoomFor enablings.now text.now (vec_capacity recs.old)) }
+    ensures refused { OnErr result (recs.new.items ≡ recs.old.items) }
+    ensures capacity { vec_capacity recs.old ≤ vec_capacity recs.new }
+{
+    let records = match read_all(enablings, text) {
+        Ok(records) => records,
+        Err(fault) => return Err(PacketFault::Text(fault)),
+    };
+    reserve_in(recs, most_records(text.len()))?;
+    recs.clear();
+    add_records(recs, records).unwrap();
+    Ok(())
+}
+
 /// The records of a batch's text.
 pub fn records_of(
     alloc: Global,
@@ -203,11 +254,26 @@ impl<'a> Stream<'a> {
             (λ bytes. bytes.items ≡ run_packet self.now.uuid self.now.enablings.now self.now.missed self.now.cpu file records.now) }
         ensures fault { IfErr result (IsTooLong (events self.now.enablings.now records.now)) }
     {
+        let (mut bytes, mut body) = (Vec::new(alloc), Vec::new(alloc));
+        self.put_run(&mut bytes, &mut body, file, records)?;
+        Ok(bytes)
+    }
+
+    /// Adds the packets of a run, as `run_packet` gives them. The body has the events of one packet at a time.
+    pub(crate) fn put_run(
+        &self,
+        out: &mut Vec<u8>,
+        body: &mut Vec<u8>,
+        file: usize,
+        records: &[Rec],
+    ) -> Result<(), AllocError>
+        requires { body.old.items ≡ [] }
+        ensures { OnOk result (out.new.items ≡ out.old.items
+            ++ run_packet self.now.uuid self.now.enablings.now self.now.missed self.now.cpu file records.now) }
+    {
         let missed = if file == 0 { self.missed } else { 0 };
         let stream = Stream { missed, ..*self };
-        let mut bytes = Vec::new(alloc);
-        put_filled(alloc, &mut bytes, &stream, true, records)?;
-        Ok(bytes)
+        put_filled(out, body, &stream, true, records)
     }
 
     /// Two packets of 1,024 bytes for the CPU's first file that tell what was missed since so many were: they have no events, and stand at the last
@@ -221,14 +287,27 @@ impl<'a> Stream<'a> {
         ensures { IfOk result
             (λ bytes. bytes.items ≡ missed_packets self.now.uuid before self.now.missed self.now.cpu rows.now) }
     {
-        let stamp = rows.first_stamp();
         let mut bytes = Vec::new(alloc);
+        self.put_missed(&mut bytes, rows, before)?;
+        Ok(bytes)
+    }
+
+    /// Adds the two packets that tell what was missed, as `missed_packets` gives them.
+    pub(crate) fn put_missed(
+        &self,
+        out: &mut Vec<u8>,
+        rows: &Rows,
+        before: u64,
+    ) -> Result<(), AllocError>
+        ensures { OnOk result (out.new.items ≡ out.old.items
+            ++ missed_packets self.now.uuid before self.now.missed self.now.cpu rows.now) }
+    {
+        let stamp = rows.first_stamp();
         let then = Stream {
             missed: before,
             ..*self
         };
-        put_silent(&mut bytes, &then, stamp)?;
-        put_silent(&mut bytes, self, stamp)?;
-        Ok(bytes)
+        put_silent(out, &then, stamp)?;
+        put_silent(out, self, stamp)
     }
 }

@@ -3,7 +3,7 @@ use Rattle.std.specs.Prelude.{◌≡◌, ◌≢◌, ℕ, ◌+◌, ◌-◌, ◌^�
 use Rattle.dspec_record.specs.Record.{Record}
 use Rattle.dspec_ctf.specs.Packets.{events}
 use Rattle.dspec_ctf.specs.Streams.{HasNoRecords, IsText, IsTooLong}
-use Rattle.dspec_ctf.specs.Rows.{HasNoRun, IsFileRun, missed_packets, run_packet}
+use Rattle.dspec_ctf.specs.Rows.{HasNoRoomFor, HasNoRun, IsFileRun, most_records, missed_packets, run_packet}
 use Rattle.dspec_ctf.specs.declared.rows.Run.{Run}
 use Rattle.dspec_ctf.specs.declared.stream.PacketFault.{PacketFault}
 use Rattle.dspec_ctf.specs.declared.stream.PacketFault.TheVariants.{Text, Missed, TooLong, Clock, Memory}
@@ -14,18 +14,27 @@ use Rattle.dspec_ctf.specs.declared.in_memory.putting.Next.{Next}
 use Rattle.dspec_ctf.specs.declared.in_memory.putting.Next.TheVariants as next
 use Rattle.dspec_ctf.specs.declared.in_memory.fault.PutFault.TheVariants as put
 
+-- there is as much room for records as there was, or more; else nothing is changed
+abbrev pub HasAsMuchRoom : CpuFiling → CpuFiling → Type 0
+HasAsMuchRoom old new = (old.room ≤ new.room) × (new ≡ record old { room = new.room })
+
+-- there is room for the records of batches of so many bytes
+abbrev pub Reserves : CpuFiling → ℕ → CpuFiling → Type 0
+Reserves old size new = (most_records size ≤ new.room) × HasAsMuchRoom old new
+
 -- A batch is open now, which has the records of this text. What its CPU missed is counted: what it dropped, and the records of the batch
 -- before that no packet has.
 pub record OpensBatch (old : CpuFiling) (drops : ℕ) (text : List ℕ) (new : CpuFiling) : Type 0 where
   pub read : List Record
   pub is_text : IsText old.schema text read
-  pub is : new ≡ record old { missed = old.missed + left old + drops; told_before = old.told; records = read; from = 0; place = 0; run = None }
+  pub room : old.room ≤ new.room
+  pub is : new ≡ record old { missed = old.missed + left old + drops; told_before = old.told; records = read; from = 0; place = 0; run = None; room = new.room }
 
--- why no batch is opened: more was missed than 64 bits count, the bytes are no text, or memory was wanting
+-- why no batch is opened: more was missed than 64 bits count, the bytes are no text, or there is no room for as many records as they may have, and memory was wanting
 abbrev pub HasNoBatch : CpuFiling → ℕ → List ℕ → PacketFault → Type 0
 HasNoBatch f drops text Missed = 2 ^ 64 ≤ f.missed + left f + drops
 HasNoBatch f drops text (Text fault) = (f.missed + left f + drops < 2 ^ 64) × HasNoRecords f.schema text (Text fault)
-HasNoBatch f drops text Memory = Unit {0}
+HasNoBatch f drops text Memory = (f.missed + left f + drops < 2 ^ 64) × HasNoRoomFor f.schema text f.room Memory
 HasNoBatch f drops text (Clock place) = ⊥
 HasNoBatch f drops text TooLong = ⊥
 

@@ -1,7 +1,8 @@
 -- Cited by calls. The files of one CPU in a trace by time whose packets somebody else writes: what is known of them.
-use Rattle.std.specs.Prelude.{ℕ, ◌-◌, ◌^◌, ◌<◌, ◌≤◌, min, All, IfSome, List, [], length, Option, None}
+use Rattle.std.specs.Prelude.{ℕ, ◌≡◌, ◌-◌, ◌^◌, ◌<◌, ◌≤◌, min, All, IfSome, List, [], length, Option, None}
 use Rattle.dspec_record.specs.Record.{Record}
 use Rattle.dspec_record.specs.EnablingRows.{EnabledRows}
+use Rattle.dspec_record.specs.declared.header.Header.TheVariants.{Two}
 use Rattle.dspec_ctf.specs.Streams.{Accepts}
 use Rattle.dspec_ctf.specs.declared.rows.Run.{Run}
 
@@ -29,6 +30,8 @@ pub record CpuFiling : Type 0 where
   pub place : ℕ
   -- the run of which the next packet is, where it was found already
   pub run : Option Run
+  -- so many records of a batch have room
+  pub room : ℕ
 
 -- a run of records from a place on, which are there
 abbrev pub IsRunWithin : List Record → ℕ → Run → Type 0
@@ -36,6 +39,7 @@ IsRunWithin rs place r = (place < r.end) × (r.end ≤ length rs)
 
 -- what is true of all files at all times
 pub record IsSoundFiling (f : CpuFiling) : Type 0 where
+  pub stamped : f.schema.header ≡ Two
   pub accepted : All (Accepts f.schema) f.records
   pub from_place : f.from ≤ f.place
   pub place_within : f.place ≤ length f.records
@@ -44,7 +48,7 @@ pub record IsSoundFiling (f : CpuFiling) : Type 0 where
 -- no packets yet, and no batch
 abbrev pub no_packets : List ℕ → EnabledRows → ℕ → CpuFiling
 no_packets uuid e cpu =
-    record { uuid = uuid; schema = e; cpu = cpu; lasts = []; missed = 0; told = 0; told_before = 0; records = []; from = 0; place = 0; run = None }
+    record { uuid = uuid; schema = e; cpu = cpu; lasts = []; missed = 0; told = 0; told_before = 0; records = []; from = 0; place = 0; run = None; room = 0 }
 
 -- a number as far as 64 bits count
 abbrev pub as_counted : ℕ → ℕ

@@ -3,12 +3,13 @@
 ghost use Rattle.std.specs.Prelude.{◌≡◌, IfOk, IfErr, IfSome, OnOk, OnErr, None};
 ghost use Rattle.dspec_record.specs.declared.header.Header.TheVariants.{One, Two};
 ghost use Rattle.dspec_ctf.specs.InMemory.Filing.{no_packets, unwritten};
-ghost use Rattle.dspec_ctf.specs.InMemory.Calls.{HasNoBatch, OpensBatch, with_more_missed, without_rest};
+ghost use Rattle.dspec_ctf.specs.InMemory.Calls.{HasAsMuchRoom, HasNoBatch, OpensBatch, Reserves, with_more_missed, without_rest};
 
-use crate::rows::records_of;
+use super::scratch::Scratch;
+use crate::rows::{most_records, read_again, reserve_in};
 use crate::{CpuPackets, PacketFault, Rows};
 use dspec_record::{Enablings, Header};
-use std::alloc::Global;
+use std::alloc::{AllocError, Global};
 
 impl CpuPackets {
     /// The files of this CPU, of which there is none yet, in a trace with this uuid, which its metadata tells too. None where records have no
@@ -22,7 +23,6 @@ impl CpuPackets {
             return None;
         }
         Some(CpuPackets {
-            alloc,
             uuid,
             enablings: *enablings,
             cpu,
@@ -34,7 +34,18 @@ impl CpuPackets {
             from: 0,
             place: 0,
             run: None,
+            scratch: Scratch::new(alloc),
         })
+    }
+
+    /// Takes memory for batches of so many bytes, so that no call on one of these takes any. What it has stays where there is none.
+    pub fn reserve(&mut self, size: usize) -> Result<(), AllocError>
+        ensures reserved { OnOk result (Reserves self.old size self.new) }
+        ensures refused { OnErr result (HasAsMuchRoom self.old self.new) }
+    {
+        self.rows.reserve()?;
+        reserve_in(&mut self.records, most_records(size))?;
+        self.scratch.reserve(size)
     }
 
     /// Whose files these are.
@@ -49,7 +60,7 @@ impl CpuPackets {
     pub fn open(&mut self, drops: u64, text: &[u8]) -> Result<(), PacketFault>
         ensures opened { OnOk result (OpensBatch self.old drops text.now self.new) }
         ensures fault { IfErr result (HasNoBatch self.old drops text.now) }
-        ensures refused { OnErr result (self.new ≡ self.old) }
+        ensures refused { OnErr result (HasAsMuchRoom self.old self.new) }
     {
         let left = (self.records.len() - self.place) as u64;
         let Some(sum) = self.missed.checked_add(left) else {
@@ -58,13 +69,9 @@ impl CpuPackets {
         let Some(missed) = sum.checked_add(drops) else {
             return Err(PacketFault::Missed);
         };
-        let records = match records_of(self.alloc, &self.enablings, text) {
-            Ok(records) => records,
-            Err(fault) => return Err(fault),
-        };
+        read_again(&mut self.records, &self.enablings, text)?;
         self.missed = missed;
         self.told_before = self.told;
-        self.records = records;
         self.from = 0;
         self.place = 0;
         self.run = None;

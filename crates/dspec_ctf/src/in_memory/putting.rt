@@ -53,44 +53,20 @@ impl CpuPackets {
         }
     }
 
-    fn stream(&self) -> Stream<'_>
-        ensures uuid { result.uuid ≡ self.now.uuid }
-        ensures enablings { result.enablings.now ≡ self.now.schema }
-        ensures cpu { result.cpu ≡ self.now.cpu }
-        ensures missed { result.missed ≡ self.now.missed }
-    {
-        Stream {
-            uuid: self.uuid,
-            enablings: &self.enablings,
-            cpu: self.cpu,
-            missed: self.missed,
-        }
-    }
-
-    fn missed_bytes(&self) -> Result<Vec<u8>, AllocError>
-        ensures { IfOk result (λ bytes. bytes.items ≡ missed_bytes self.now) }
-    {
-        self.stream()
-            .missed_packets(self.alloc, &self.rows, self.told)
-    }
-
-    fn run_bytes(&self, run: Run) -> Result<Vec<u8>, PacketFault>
-        requires { IsRunWithin self.now.records self.now.place run }
-        ensures bytes { IfOk result (λ bytes. bytes.items ≡ run_bytes self.now run) }
-        ensures fault { IfErr result (IsTooLong (events self.now.schema (slice_range self.now.records self.now.place run.end))) }
-    {
-        self.stream()
-            .run_packet(self.alloc, run.file, &self.records[self.place..run.end])
-    }
-
     // Hands out what was missed.
     fn put_missed(&mut self, room: &mut [u8]) -> Result<Packet, PutFault>
         ensures hands { IfOk result (λ packet. HandsMissed self.old room.old packet room.new self.new) }
         ensures fault { IfErr result (HasNoMissed self.old room.old) }
         ensures refused { OnErr result ((self.new ≡ self.old) × (room.new ≡ room.old)) }
     {
-        let bytes = self.missed_bytes()?;
-        let size = match fill(room, &bytes) {
+        let stream = Stream {
+            uuid: self.uuid,
+            enablings: &self.enablings,
+            cpu: self.cpu,
+            missed: self.missed,
+        };
+        self.scratch.make_missed(&stream, &self.rows, self.told)?;
+        let size = match fill(room, &self.scratch.bytes) {
             Ok(size) => size,
             Err(needed) => return Err(PutFault::TooSmall(needed)),
         };
@@ -109,8 +85,15 @@ impl CpuPackets {
         ensures fault { IfErr result (HasNoRunPacket self.old run room.old) }
         ensures refused { OnErr result ((self.new ≡ self.old) × (room.new ≡ room.old)) }
     {
-        let bytes = self.run_bytes(run)?;
-        let size = match fill(room, &bytes) {
+        let stream = Stream {
+            uuid: self.uuid,
+            enablings: &self.enablings,
+            cpu: self.cpu,
+            missed: self.missed,
+        };
+        let records = &self.records[self.place..run.end];
+        self.scratch.make_run(&stream, run.file, records)?;
+        let size = match fill(room, &self.scratch.bytes) {
             Ok(size) => size,
             Err(needed) => return Err(PutFault::TooSmall(needed)),
         };
