@@ -16,7 +16,8 @@ use Rattle.dspec_record.specs.declared.header.Header.{Header}
 use Rattle.dspec_record.specs.declared.header.Header.TheVariants as header
 use Rattle.dspec_record.proofs.Cutting.{packed}
 use Rattle.dspec_record.proofs.Gets.{enabled-row, table_text-is}
-use Rattle.dspec_record.proofs.Masking.{pow256, ends-within, value_number-packed, value_number-below, record-of_number, clean-of_number, taken-number}
+use Rattle.dspec_record.proofs.Masking.{pow256, ends-within}
+use Rattle.dspec_record.proofs.PackedValues.{value_number-packed, value_number-below, record-of_number, clean-of_number, taken-number}
 use Rattle.dspec_record.proofs.PackedRecords.{first-zeros, room-of}
 use Rattle.dspec_probe.specs.Probes.{HasProbe}
 

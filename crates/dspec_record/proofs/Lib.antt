@@ -11,6 +11,7 @@ pub mod Gets
 pub mod Headers
 pub mod LittleEndian
 pub mod Cutting
+pub mod PackedValues
 pub mod Masking
 pub mod AddingValues
 pub mod MakingMasks

@@ -1,19 +1,19 @@
 -- Words of which a mask has cleared what is no field: they are clean, and stand for the same record.
-use Rattle.std.proofs.Common.{◌≡◌, ◌≤◌, ◌<◌, ◌+◌, ◌-◌, ◌*◌, ◌/◌, ◌%◌, ◌^◌, ◌&&◌, ◌++◌, ℕ, zero, suc, IsTrue, All, List, [], ◌∷◌, length, map, take, get_or, refl, sym, ◌∙◌, ap, ap₂, subst, arith}
-use Rattle.std.proofs.Math.Nat.{div-add-mod', mod-lt, mod-mod, mul_assoc, add-mul, pow-suc, mul-lt-mul_of_pos_right, pow-le-pow_right}
+use Rattle.std.proofs.Common.{◌≡◌, ◌≤◌, ◌<◌, ◌+◌, ◌-◌, ◌*◌, ◌/◌, ◌%◌, ◌^◌, ◌&&◌, ℕ, zero, suc, IsTrue, All, List, [], ◌∷◌, length, map, get_or, refl, sym, ◌∙◌, ap, ap₂, subst, arith}
+use Rattle.std.proofs.Math.Nat.{div-add-mod', mod-lt, mod-mod, pow-suc, pow-le-pow_right}
 use Rattle.std.proofs.lemmas.Nat.{pow_pos, and_block, and_mask, and_comm, pow-add, shr_below}
 use Rattle.std.proofs.lemmas.Bool.{lt-ltb}
 use Rattle.std.proofs.lemmas.List.{ext_get_or}
 use Rattle.std.proofs.lemmas.List.Elements.{All-nil, All-cons, All-head, All-tail}
 use Rattle.std.specs.Int.RustNames.{bit_and}
 use Rattle.dspec_record.specs.Layout.{width, limit, rounded_up, after, fields_end, layout}
-use Rattle.dspec_record.specs.RecordText.{little_endian, fields_text, fits}
-use Rattle.dspec_record.specs.Packing.{number_of_words, cuts, packed_record, words_in, value_number, mask_number, words_of_number, masks_for, masked_words, IsClean}
-use Rattle.dspec_record.specs.Laws.Layouts.{rounded_up-ge, fields_end-ge, fields_end-le}
-use Rattle.dspec_record.proofs.LittleEndian.{pow_pos256, pow-add256, div-more, shifted-back, little_endian-parts, take-little_endian}
-use Rattle.dspec_record.proofs.Cutting.{packed, cuts_fit, cuts-packed, packed-text, packed-below}
+use Rattle.dspec_record.specs.RecordText.{fits}
+use Rattle.dspec_record.specs.Packing.{number_of_words, cuts, packed_record, words_in, mask_number, words_of_number, masks_for, masked_words, IsClean}
+use Rattle.dspec_record.specs.Laws.Layouts.{rounded_up-ge, fields_end-le}
+use Rattle.dspec_record.proofs.LittleEndian.{pow_pos256, div-more}
+use Rattle.dspec_record.proofs.Cutting.{packed, cuts_fit}
+use Rattle.dspec_record.proofs.PackedValues.{value_number-packed, value_number-below, record-of_number, clean-of_number}
 use Rattle.dspec_record.specs.declared.field.Field.{Field}
-use Rattle.dspec_record.specs.declared.field.Field.TheVariants.{Four}
 use Rattle.dspec_record.specs.declared.header.Header.TheVariants as header
 
 -- ---- words
@@ -142,39 +142,9 @@ limits_fit (f ∷ fs) =
     let below : limit f < 256 ^ width f = omega (arith, pow_pos256 (width f)) in
     ap (λ b. b && fits fs (map limit fs)) (lt-ltb (limit f) (256 ^ width f) below) ∙ limits_fit fs
 
--- values at their places, as one number
-pub value_number-packed : (start : ℕ) (fs : List Field) (vs : List ℕ) → value_number start fs vs ≡ packed start fs vs * 256 ^ start
-value_number-packed start [] vs = omega arith
-value_number-packed start (f ∷ fs) [] = omega arith
-value_number-packed start (f ∷ fs) (v ∷ vs) =
-    let w : ℕ = width f in
-    let place : ℕ = rounded_up start w in
-    let next : ℕ = after start w w in
-    let hole : ℕ = place - start in
-    let rest : ℕ = packed next fs vs in
-    let here : ℕ = rest * 256 ^ w + v in
-    let back : 256 ^ hole * 256 ^ start ≡ 256 ^ place = pow-add256 hole start place (omega (arith, rounded_up-ge f start)) in
-    let behind : 256 ^ w * 256 ^ place ≡ 256 ^ next = pow-add256 w place next (omega arith) in
-    let turned : v * 256 ^ place + rest * 256 ^ next ≡ rest * 256 ^ next + v * 256 ^ place = omega arith in
-    ap (λ n. v * 256 ^ place + n) (value_number-packed next fs vs)
-    ∙ turned
-    ∙ ap (λ p. rest * p + v * 256 ^ place) (sym behind)
-    ∙ ap (λ n. n + v * 256 ^ place) (sym (mul_assoc rest (256 ^ w) (256 ^ place)))
-    ∙ sym (add-mul (rest * 256 ^ w) v (256 ^ place))
-    ∙ ap (λ p. here * p) (sym back)
-    ∙ sym (mul_assoc here (256 ^ hole) (256 ^ start))
-
 -- eight fields end within nine words
 pub ends-within : (fs : List Field) → length fs ≤ 8 → fields_end 4 fs ≤ 72
 ends-within fs few = omega (arith, fields_end-le 4 fs)
-
--- what fits the fields has no more bytes than they
-pub value_number-below : (fs : List Field) (vs : List ℕ) → IsTrue (fits fs vs) → value_number 4 fs vs < 256 ^ fields_end 4 fs
-value_number-below fs vs fit =
-    let end : ℕ = fields_end 4 fs in
-    let whole : 256 ^ (end - 4) * 256 ^ 4 ≡ 256 ^ end = pow-add256 (end - 4) 4 end (omega (arith, fields_end-ge 4 fs)) in
-    let below : packed 4 fs vs * 256 ^ 4 < 256 ^ (end - 4) * 256 ^ 4 = mul-lt-mul_of_pos_right (packed-below 4 fs vs fit) (pow_pos256 4) in
-    omega (arith, value_number-packed 4 fs vs, below, whole)
 
 pub mask_number-below : (fs : List Field) → length fs ≤ 8 → mask_number 4 fs < 2 ^ (64 * 9)
 mask_number-below fs few =
@@ -210,57 +180,16 @@ number-masked fs ws few small count =
     number_of_words-masked ws (masks_for fs) small (subst Small (sym (masks_for-is fs)) (All-words_of_number 9 (mask_number 4 fs))) (few-words fs ws few count)
     ∙ ap (bit_and n) mask ∙ above n m ∙ ap (λ x. x * 256 ^ 4) (masked 4 fs n)
 
-cuts-masked : (fs : List Field) (ws : List ℕ) → length fs ≤ 8 → All (λ w. w < 2 ^ 64) ws → length ws ≡ words_in fs
-    → cuts 4 fs (number_of_words (masked_words ws (masks_for fs))) ≡ cuts 4 fs (number_of_words ws)
-cuts-masked fs ws few small count =
-    let vs : List ℕ = cuts 4 fs (number_of_words ws) in
-    cuts-packed 4 fs vs (number_of_words (masked_words ws (masks_for fs))) (cuts_fit 4 fs (number_of_words ws)) (
-    ap (λ n. n / 256 ^ 4) (number-masked fs ws few small count) ∙ shifted-back 4 (packed 4 fs vs))
-
 -- a mask leaves the record as it is
 pub masked-record : (epid stamp : ℕ) (fs : List Field) (ws : List ℕ) → length fs ≤ 8 → All (λ w. w < 2 ^ 64) ws → length ws ≡ words_in fs
     → packed_record epid stamp fs (masked_words ws (masks_for fs)) ≡ packed_record epid stamp fs ws
 masked-record epid stamp fs ws few small count =
-    let same = cuts-masked fs ws few small count in
-    λ i. record { epid = epid; stamp = stamp; values = same i }
+    record-of_number epid stamp fs (cuts 4 fs (number_of_words ws)) (masked_words ws (masks_for fs)) (cuts_fit 4 fs (number_of_words ws)) (number-masked fs ws few small count)
 
--- words whose number is that of values stand for these
-pub record-of_number : (epid stamp : ℕ) (fs : List Field) (vs ws : List ℕ) → IsTrue (fits fs vs) → number_of_words ws ≡ packed 4 fs vs * 256 ^ 4
-    → packed_record epid stamp fs ws ≡ record { epid = epid; stamp = stamp; values = vs }
-record-of_number epid stamp fs vs ws fit is =
-    let same : cuts 4 fs (number_of_words ws) ≡ vs = cuts-packed 4 fs vs (number_of_words ws) fit (ap (λ n. n / 256 ^ 4) is ∙ shifted-back 4 (packed 4 fs vs)) in
-    λ i. record { epid = epid; stamp = stamp; values = same i }
-
--- and hold nothing else
-pub clean-of_number : (fs : List Field) (vs ws : List ℕ) → IsTrue (fits fs vs) → (layout header.One fs).size ≤ 8 * length ws → number_of_words ws ≡ packed 4 fs vs * 256 ^ 4
-    → IsClean fs ws
-clean-of_number fs vs ws fit room is =
-    let n : ℕ = number_of_words ws in
-    let size : ℕ = (layout header.One fs).size in
-    let high : ℕ = packed 4 fs vs in
-    let from_four : size ≡ 4 + (size - 4) = omega (arith, fields_end-ge 4 fs, rounded_up-ge Four (fields_end 4 fs)) in
-    let parts : n ≡ high * 256 ^ 4 + 0 = omega (arith, is) in
-    take-little_endian size (8 * length ws) n room
-    ∙ ap (λ k. little_endian k n) from_four
-    ∙ ap (little_endian (4 + (size - 4))) parts
-    ∙ little_endian-parts 4 (size - 4) high 0 (pow_pos256 4)
-    ∙ ap (λ t. little_endian 4 0 ++ t) (packed-text 4 fs vs fit)
-    ∙ ap (λ r. little_endian 4 0 ++ fields_text 4 fs r.values) (sym (record-of_number 0 0 fs vs ws fit is))
-
--- so does a mask: it clears all that is no field
+-- and clears all that is no field
 pub masked-clean : (fs : List Field) (ws : List ℕ) → length fs ≤ 8 → All (λ w. w < 2 ^ 64) ws → length ws ≡ words_in fs → 0 < length ws
     → IsClean fs (masked_words ws (masks_for fs))
 masked-clean fs ws few small count some =
     let many : length (masked_words ws (masks_for fs)) ≡ length ws = length-masked_words ws (masks_for fs) (few-words fs ws few count) in
     clean-of_number fs (cuts 4 fs (number_of_words ws)) (masked_words ws (masks_for fs)) (cuts_fit 4 fs (number_of_words ws))
     (omega (arith, many, count, size-in-words fs (omega (arith, count, some)))) (number-masked fs ws few small count)
-
--- words behind the last that a number needs hold nothing
-pub taken-number : (n : ℕ) (ws : List ℕ) → number_of_words ws < 2 ^ (64 * n) → number_of_words (take n ws) ≡ number_of_words ws
-taken-number zero ws below = omega (arith, below)
-taken-number (suc n) [] below = refl
-taken-number (suc n) (w ∷ ws) below =
-    let bits : 64 * suc n ≡ 64 * n + 64 = omega arith in
-    let Below : ℕ → Type 0 = λ b. w + 2 ^ 64 * number_of_words ws < 2 ^ b in
-    let less : (w + 2 ^ 64 * number_of_words ws) / 2 ^ 64 < 2 ^ (64 * n) = shr_below (w + 2 ^ 64 * number_of_words ws) (64 * n) 64 (subst Below bits below) in
-    ap (λ m. w + 2 ^ 64 * m) (taken-number n ws (omega (arith, less)))

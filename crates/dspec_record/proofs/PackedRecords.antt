@@ -7,14 +7,14 @@ use Rattle.dspec_record.specs.FirstWords.{with_low}
 use Rattle.dspec_record.specs.Layout.{rounded_up, fields_start, layout}
 use Rattle.dspec_record.specs.Record.{Record}
 use Rattle.dspec_record.specs.RecordText.{little_endian, record_text}
-use Rattle.dspec_record.specs.Packing.{number_of_words, packed_record, words_in, bytes_of_words, masked_words, IsClean}
+use Rattle.dspec_record.specs.Packing.{number_of_words, packed_record, words_in, bytes_of_words, masked_words, IsClean, BeginsWithWords}
 use Rattle.dspec_record.specs.Laws.Layouts.{size-stamped}
 use Rattle.dspec_record.specs.Laws.Texts.{length-record_text}
 use Rattle.dspec_record.specs.declared.field.Field.{Field}
 use Rattle.dspec_record.specs.declared.header.Header.{Header}
 use Rattle.dspec_record.specs.declared.header.Header.TheVariants as header
 use Rattle.dspec_record.proofs.Cutting.{cuts_fit}
-use Rattle.dspec_record.proofs.Masking.{masked_words-is, size-in-words}
+use Rattle.dspec_record.proofs.Masking.{masked_words-is}
 use Rattle.dspec_record.proofs.Storing.{bytes_of_words-more, stored-words, stored-stamped-words, clean-first, begins}
 
 -- one word more is masked
@@ -130,9 +130,8 @@ text-put_two h epid stamp word id fs ws begun out two is epid_is fits stamp_fits
     ∙ ap (λ x. little_endian 8 x ++ bytes_of_words (with_low (stamp / 2 ^ 32) ws)) turned))
 
 -- bytes that begin with the text of all fields whose words are clean begin with that of the record which the words stand for
-pub text-put : (h k : Header) (epid stamp : ℕ) (fs : List Field) (ws out : List ℕ) (r : Record) → k ≡ h → packed_record epid stamp fs ws ≡ r → IsClean fs ws → (layout header.One fs).size ≤ 8 * length ws
-    → ((gs : List Field) → IsClean gs ws → (layout header.One gs).size ≤ 8 * length ws → take (layout k gs).size out ≡ record_text k gs (packed_record epid stamp gs ws))
-    → take (length (record_text h fs r)) out ≡ record_text h fs r
+pub text-put : (h k : Header) (epid stamp : ℕ) (fs : List Field) (ws out : List ℕ) (r : Record) → k ≡ h → packed_record epid stamp fs ws ≡ r → IsClean fs ws
+    → (layout header.One fs).size ≤ 8 * length ws → BeginsWithWords k epid stamp ws out → take (length (record_text h fs r)) out ≡ record_text h fs r
 text-put h k epid stamp fs ws out r is same clean room put =
     let Text : Header → Type 0 = λ d. take (layout d fs).size out ≡ record_text d fs (packed_record epid stamp fs ws) in
     let Done : Record → Type 0 = λ q. take (length (record_text h fs q)) out ≡ record_text h fs q in

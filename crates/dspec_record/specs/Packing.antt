@@ -1,11 +1,13 @@
 -- Cited by calls. A record as the words of its text, of eight bytes each: what record they stand for, and which of their bits count.
-use Rattle.std.specs.Prelude.{◌≡◌, ℕ, zero, suc, ◌+◌, ◌-◌, ◌*◌, ◌/◌, ◌%◌, ◌^◌, ◌≤◌, ◌<◌, ◌==◌, ◌&&◌, nat_lt, List, [], ◌∷◌, ◌++◌, length, map, take, replicate, Option, Some, None, option_and_then, if◌then◌else◌}
+use Rattle.std.specs.Prelude.{◌≡◌, ℕ, zero, suc, ◌+◌, ◌-◌, ◌*◌, ◌/◌, ◌%◌, ◌^◌, ◌==◌, ◌&&◌, nat_lt, List, [], ◌∷◌, ◌++◌, length, take, replicate, Option, Some, None, option_and_then, if◌then◌else◌}
+use Rattle.std.specs.Prelude.{◌≤◌, ◌<◌, map}
 use Rattle.std.specs.Int.RustNames.{bit_and}
 use Rattle.dspec_record.specs.Record.{Record}
 use Rattle.dspec_record.specs.Layout.{width, limit, rounded_up, after, fields_end, layout}
 use Rattle.dspec_record.specs.RecordText.{little_endian, record_text}
 use Rattle.dspec_record.specs.Schemas.{enabling_of}
 use Rattle.dspec_record.specs.declared.field.Field.{Field}
+use Rattle.dspec_record.specs.declared.header.Header.{Header}
 use Rattle.dspec_record.specs.declared.header.Header.TheVariants as header
 
 -- a list of words of eight bytes as one number, the first lowest
@@ -100,3 +102,8 @@ abbrev pub IsClean : List Field → List ℕ → Type 0
 IsClean fs ws =
     take (layout header.One fs).size (little_endian (8 * length ws) (number_of_words ws))
     ≡ record_text header.One fs (packed_record 0 0 fs ws)
+
+-- bytes begin with the text of the record that these words stand for, by whatever fields they hold and nothing else
+abbrev pub BeginsWithWords : Header → ℕ → ℕ → List ℕ → List ℕ → Type 0
+BeginsWithWords h epid stamp ws bytes = (fs : List Field) → IsClean fs ws → (layout header.One fs).size ≤ 8 * length ws
+    → take (layout h fs).size bytes ≡ record_text h fs (packed_record epid stamp fs ws)

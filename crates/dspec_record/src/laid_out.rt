@@ -1,12 +1,9 @@
 //! The parts of writing a record whose fields are known when a program is compiled: its shape, the words that hold its values, and
 //! its text.
 
-ghost use Rattle.std.specs.Prelude.{◌≡◌, ◌≤◌, ◌<◌, ◌+◌, ◌*◌, ◌%◌, ◌^◌, List, length, take, slice_index_or};
+ghost use Rattle.std.specs.Prelude.{◌≡◌, ◌≤◌, ◌<◌, ◌+◌, ◌*◌, ◌%◌, ◌^◌, length, slice_index_or};
 ghost use Rattle.dspec_record.specs.Layout.{width, rounded_up, after, fields_start, layout};
-ghost use Rattle.dspec_record.specs.RecordText.{record_text};
-ghost use Rattle.dspec_record.specs.Packing.{number_of_words, packed_record, IsClean};
-ghost use Rattle.dspec_record.specs.declared.field.Field.{Field};
-ghost use Rattle.dspec_record.specs.declared.header.Header.TheVariants.{One};
+ghost use Rattle.dspec_record.specs.Packing.{number_of_words, BeginsWithWords};
 
 use crate::enabling::MAX_WORDS;
 use crate::layout::layout_of;
@@ -44,8 +41,7 @@ pub fn put_packed(header: Header, epid: u32, stamp: u64, words: &[u64], out: &mu
     requires some { 0 < length words.now }
     requires zeros { slice_index_or words.now 0 0 % 2 ^ 32 ≡ 0 }
     requires room { fields_start header + 8 * length words.now ≤ length out.old + 4 }
-    ensures { (fs : List Field) → IsClean fs words.now → (layout One fs).size ≤ 8 * length words.now
-        → take (layout header fs).size out.new ≡ record_text header fs (packed_record epid stamp fs words.now) }
+    ensures { BeginsWithWords header epid stamp words.now out.new }
 {
     let low = u64::from(epid);
     match header {
