@@ -79,8 +79,7 @@ impl Homing {
         ensures same { IsSameSide self.old self.new }
         ensures did { OnSide (is_none result) (Put claim stamp words.now result) self.old self.new }
     {
-        let Some(answer) =
-            recording::put::<N>(&mut *self.cpu, &*self.shared, claim, stamp, words)
+        let Some(answer) = recording::put::<N>(&mut *self.cpu, &*self.shared, claim, stamp, words)
         else {
             self.refuse();
             return None;

@@ -1,6 +1,6 @@
 -- A value that is written in eight bytes, with the zeros behind it.
 use Rattle.std.proofs.Common.{◌≡◌, ◌≤◌, ◌<◌, ◌+◌, ◌-◌, ◌++◌, ◌^◌, ℕ, zero, suc, List, [], ◌∷◌, length, take, drop, get_or, replicate, sym, ◌∙◌, ap, arith, refl}
-use Rattle.std.proofs.lemmas.List.{append_assoc, take_at, length-append, length-take-le, length-drop, get_or-append_right, get_or-replicate, get_or-take}
+use Rattle.std.proofs.lemmas.List.{append_assoc, length-append, length-take-le, length-drop, get_or-append_right, get_or-replicate, get_or-take}
 use Rattle.std.proofs.lemmas.List.{get_or-drop, take-take, drop-take, take-append-drop}
 use Rattle.std.proofs.Math.Seq.{take-append-add}
 use Rattle.std.specs.Int.{byte_at}

@@ -25,7 +25,9 @@ fn record_by_its_parts(rt: HostRuntime) -> Result<(), Fail> {
     same(
         &rt,
         text,
-        [7, 0, 0, 0, 5, 0, 3, 2, 255, 255, 255, 255, 255, 255, 255, 255],
+        [
+            7, 0, 0, 0, 5, 0, 3, 2, 255, 255, 255, 255, 255, 255, 255, 255,
+        ],
     );
     put_packed(Header::Two, 7, 9 + (1 << 32), &[WORD], &mut text);
     same(&rt, text, [7, 0, 0, 0, 9, 0, 0, 0, 1, 0, 0, 0, 5, 0, 3, 2]);

@@ -1,5 +1,5 @@
 -- The header is written first; then each field finds the room that the layout left for it.
-use Rattle.std.proofs.Common.{◌≡◌, ◌≤◌, ◌<◌, ◌+◌, ◌++◌, ℕ, nat_le, List, length, take, drop, get_or, arith, sym, ◌∙◌, ap, subst, [], ◌∷◌}
+use Rattle.std.proofs.Common.{◌≡◌, ◌≤◌, ◌<◌, ◌+◌, ◌++◌, ℕ, List, length, take, drop, get_or, arith, sym, ◌∙◌, ap, subst, [], ◌∷◌}
 use Rattle.std.proofs.lemmas.List.{drop_more, drop_all}
 use Rattle.dspec_record.specs.Layout.{width, after, fields_start, layout}
 use Rattle.dspec_record.specs.Record.{Record}

@@ -24,7 +24,8 @@ row e r found fs h is at same few accepted =
       text = table_text-is e.header (enabled e.rows) fs r of ∙ ap (λ d. record_text d fs r) is;
     }
 
-room : (e : EnabledRows) (r : Record) (fs : List Field) (h : Header) (out : List ℕ) → Row e r fs h → length (table_text e.header (enabled e.rows) r) + 8 ≤ length out → (layout h fs).size + 8 ≤ length out
+room : (e : EnabledRows) (r : Record) (fs : List Field) (h : Header) (out : List ℕ) → Row e r fs h
+    → length (table_text e.header (enabled e.rows) r) + 8 ≤ length out → (layout h fs).size + 8 ≤ length out
 room e r fs h out of enough = omega (arith, of.size, enough)
 
 put : (e : EnabledRows) (r : Record) (fs : List Field) (h : Header) (out : List ℕ) → Row e r fs h → take (layout h fs).size out ≡ record_text h fs r
