@@ -1,5 +1,5 @@
 -- A record that says itself what its shape and its bytes are, and a schema that says the same.
-use Rattle.std.proofs.Common.{◌≡◌, ◌≤◌, ◌<◌, ◌+◌, ◌/◌, ◌*◌, ◌∙◌, ℕ, true, arith, List, length, take, Option, Some, None, option_map, is_some, IfSome, refl, sym, ap}
+use Rattle.std.proofs.Common.{◌≡◌, ◌≤◌, ◌+◌, ◌∙◌, ℕ, true, arith, List, length, take, Option, Some, None, option_map, is_some, IfSome, refl, sym, ap}
 use Rattle.dspec_record.specs.Record.{Record}
 use Rattle.dspec_record.specs.LaidOut.{Laid, IsLaidBy}
 use Rattle.dspec_record.specs.Layout.{rounded_up}

@@ -1,6 +1,6 @@
 -- A padding word that is always written, and a text over it where there is no padding.
-use Rattle.std.proofs.Common.{◌≡◌, ◌≤◌, ◌⊎◌, inl, inr, ◌+◌, ◌-◌, ◌++◌, ℕ, List, length, take, drop, replicate, refl, sym, ap, ◌∙◌, arith, append_assoc, append-nil}
-use Rattle.std.proofs.lemmas.List.{take-take, take_at, take_all, length-take-le, length-append, take-append-le}
+use Rattle.std.proofs.Common.{◌≡◌, ◌≤◌, ◌⊎◌, inl, inr, ◌+◌, ◌-◌, ◌++◌, ℕ, List, length, take, drop, replicate, sym, ap, ◌∙◌, arith, append_assoc, append-nil}
+use Rattle.std.proofs.lemmas.List.{take-take, take_at, length-take-le, take-append-le}
 use lib.Seq.{take-append-add}
 use borrow.Rule.Slice.PartMut.{put_mid}
 

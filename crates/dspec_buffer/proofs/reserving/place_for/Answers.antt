@@ -1,4 +1,4 @@
-use Rattle.std.proofs.Common.{◌≡◌, ◌+◌, ◌-◌, ◌≤◌, ◌<◌, ℕ, arith}
+use Rattle.std.proofs.Common.{◌≡◌, ◌+◌, ◌<◌, arith}
 use Rattle.dspec_record.specs.Layout.{rounded_up}
 use Rattle.dspec_buffer.proofs.reserving.place_for.Goals as goal
 

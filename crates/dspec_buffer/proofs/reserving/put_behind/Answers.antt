@@ -1,5 +1,5 @@
 -- The text goes over the padding word where there is no padding.
-use Rattle.std.proofs.Common.{◌-◌, length, take, drop, arith}
+use Rattle.std.proofs.Common.{◌-◌, length, arith}
 use Rattle.dspec_buffer.proofs.Overwriting.{overwritten}
 use Rattle.dspec_buffer.proofs.reserving.put_behind.Goals as goal
 
