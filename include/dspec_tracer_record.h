@@ -112,10 +112,13 @@ DSPEC_INLINE dspec_status dspec_tracer_put_(dspec_cpu *cpu, uint64_t claim, uint
 
 /* Of a path that is open on its thread's own lane: whether it was made, and what came of it. A handler that comes in between finds `inside`. */
 DSPEC_TRACER_INTO_CALLER_ bool dspec_path_try_(dspec_path *path, const dspec_event *event, const uint64_t *words, size_t n, dspec_status *status) DSPEC_NOEXCEPT {
-    dspec_tracer_lane *on = path->lane;
+    dspec_tracer_lane *on;
     uint64_t now;
+    if (!DSPEC_TRACER_LIKELY_(path->token == dspec_tracer_token_1)) return false;
+    __asm__ volatile("" : : : "memory"); /* a handler that comes in between may begin this path: its lane is looked at behind its token */
+    on = path->lane;
     __asm__("" : "+r"(on)); /* a compiler that sees that a path has no lane yet doesn't know that no thread has its token */
-    if (!DSPEC_TRACER_LIKELY_(path->token == dspec_tracer_token_1 && __atomic_load_n(&on->inside, __ATOMIC_RELAXED) == 0)) return false;
+    if (!DSPEC_TRACER_LIKELY_(__atomic_load_n(&on->inside, __ATOMIC_RELAXED) == 0)) return false;
     dspec_tracer_reach_();
     if (!DSPEC_TRACER_LIKELY_(dspec_tracer_enter_(on))) return false;
     now = dspec_tracer_stamp_();

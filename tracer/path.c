@@ -171,18 +171,21 @@ dspec_status dspec_path_put_3(dspec_path *path, const dspec_event *event, uint64
 
 RARELY void dspec_tracer_dropped(dspec_tracer *tracer) { wants_room(tracer->body); }
 
-/* A record that is in no path, on its thread's own lane, where nobody is in its way: whether it was made. A handler that comes in between finds `inside`. */
+/* A record that is in no path, on its thread's own lane, where nobody is in its way: whether it was made. */
 INTO_CALLER bool record_on_own(dspec_tracer *tracer, const dspec_event *event, const uint64_t *words, size_t n, dspec_status *status) {
-    const seat *me = dspec_tracer_seat_of_(tracer);
+    seat *me = dspec_tracer_seat_of_(tracer);
+    bool is_made = false;
+    if (!LIKELY(me->run == LOAD(&tracer->run) && seat_enter(me))) return false;
     lane *on = lane_of(me->own);
-    if (!LIKELY(me->run == LOAD(&tracer->run) && on != NULL && LOAD(&on->front.inside) == 0)) return false;
-    dspec_tracer_reach_();
-    if (!LIKELY(dspec_tracer_enter_(&on->front))) return false;
-    *status = dspec_tracer_put_(&on->front.cpu, dspec_tracer_claim_(event, on->front.slot), dspec_monotonic(), words, n);
-    serve_if_asked(on);
-    dspec_tracer_leave_(&on->front);
-    if (!LIKELY(*status != DSPEC_DROPPED)) wants_room(on->of);
-    return true;
+    if (LIKELY(on != NULL) && dspec_tracer_enter_(&on->front)) {
+        *status = dspec_tracer_put_(&on->front.cpu, dspec_tracer_claim_(event, on->front.slot), dspec_monotonic(), words, n);
+        serve_if_asked(on);
+        dspec_tracer_leave_(&on->front);
+        if (!LIKELY(*status != DSPEC_DROPPED)) wants_room(on->of);
+        is_made = true;
+    }
+    seat_leave(me);
+    return is_made;
 }
 
 /* On a lane that has to be served, on another than the one that the thread had last, or where others are in the way. */

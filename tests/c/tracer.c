@@ -348,7 +348,8 @@ static int mode_full(void) {
     begin();
     for (uint64_t i = 0; i < 100000; i++) {
         tick_now(&tracer, i);
-        if (i % 1000 == 0 || i < 10) usleep(i < 10 ? 15000 : 2000);
+        if (i == 0 && !dspec_tracer_flush(&tracer, 60000)) fail("the first record isn't written");
+        if (i % 1000 == 0) usleep(2000);
     }
     return end(&tracer);
 }
@@ -460,20 +461,50 @@ static int mode_recover(void) {
     return end(&tracer);
 }
 
-static void on_alarm(int signal) {
-    (void)signal;
-    tick_now(&tracer, 1);
+/* Ticks that were answered DSPEC_OK and have to be there; and those of the path that this thread is in. */
+static _Atomic uint64_t ticked, in_path;
+static dspec_path *volatile current;
+
+static void tick(void) {
+    if (tick_now(&tracer, 1) == DSPEC_OK) atomic_fetch_add(&ticked, 1);
 }
 
-/* A handler that records, in the middle of the tracer too. */
+static void on_alarm(int signal) {
+    dspec_path *outer = current, inner = dspec_path_begin(&tracer);
+    (void)signal;
+    tick();
+    query_in(&inner, 1, 0);
+    tick();
+    dspec_path_drop(&inner);
+    if (outer != NULL && tick_in(outer, 2) == DSPEC_OK) atomic_fetch_add(&in_path, 1);
+}
+
+static void ticking_request(bool is_kept) {
+    dspec_path path = dspec_path_begin(&tracer);
+    in_path = 0;
+    current = &path;
+    for (uint32_t step = 0; step < STEPS; step++)
+        if (tick_in(&path, 2) == DSPEC_OK) atomic_fetch_add(&in_path, 1);
+    tick();
+    if (!is_kept && !dspec_path_drop(&path)) fail("a path isn't thrown away");
+    if (is_kept && dspec_path_keep(&path)) atomic_fetch_add(&ticked, in_path);
+    current = NULL;
+}
+
+/* A handler that records, in the middle of the tracer too: in no path, in one of its own, and in the one that the thread is in. */
 static int mode_nested(void) {
     const struct sigaction action = { .sa_handler = on_alarm, .sa_flags = SA_RESTART };
-    const struct itimerval often = { { 0, 200 }, { 0, 200 } };
+    const struct itimerval often = { { 0, 100 }, { 0, 100 } };
     begin();
     sigaction(SIGALRM, &action, NULL);
     setitimer(ITIMER_REAL, &often, NULL);
-    for (int i = 0; i < 200000; i++) one_request(atomic_fetch_add(&requests, 1) + 1);
+    for (int i = 0; i < 100000; i++) {
+        one_request(atomic_fetch_add(&requests, 1) + 1);
+        ticking_request(i % 10 == 0);
+        tick();
+    }
     signal(SIGALRM, SIG_IGN);
+    printf("ticked=%" PRIu64 " ", (uint64_t)ticked);
     return end(&tracer);
 }
 
@@ -555,7 +586,7 @@ static int mode_flush(void) {
         query_in(&path, 13, step);
         dspec_path_keep(&path);
     }
-    if (!dspec_tracer_flush(&tracer, 5000)) fail("no flush");
+    if (!dspec_tracer_flush(&tracer, 60000)) fail("no flush");
     return raise(SIGKILL);
 }
 
@@ -578,6 +609,7 @@ static void option(const char *word) {
     if (strncmp(word, "specsize=", 9) == 0) options.specsize = given;
     if (strncmp(word, "keep_ms=", 8) == 0) options.keep_ms = given;
     if (strncmp(word, "crash_ms=", 9) == 0) options.crash_ms = given;
+    if (strncmp(word, "period_ms=", 10) == 0) options.period_ms = given;
     if (strncmp(word, "max_bytes=", 10) == 0) options.max_bytes = given;
     if (strncmp(word, "keep_last=", 10) == 0) options.keep_last = given != 0;
     if (strncmp(word, "by_thread=", 10) == 0) options.by_thread = given != 0;
