@@ -2,12 +2,12 @@
  *
  *     static dspec_folder folder;                                 all zeros, some 62 KB
  *     dspec_folder_limit(&folder, bytes, folders)                 where the trace has a bound
- *     dspec_folder_begin(&folder, path, &schema, cpus, &identity, &names)
  *     dspec_folder_reserve(&folder, bufsize)                      where no memory may be taken later
+ *     dspec_folder_begin(&folder, path, &schema, cpus, &identity, &names)
  *     dspec_folder_take(&folder, &layout, &batch)                 of each batch while the session runs
  *     dspec_folder_close(&folder, &layout, &closed)               behind the session's end
  *
- * Each but the limit answers whether all went well. Where it didn't, folder.last says in which file and why, and how many records weren't written; the
+ * Each but the limit and the reservation answers whether all went well. Where it didn't, folder.last says in which file and why, and how many records weren't written; the
  * program goes on, the next batch is tried, and the trace tells what it misses. Files have whole packets of 1,024 bytes, of which none lies across a page: a
  * process that is killed in a write leaves none torn, and what a failed write left is cut off. On Linux room for the last packet, which tells what
  * is missed, is kept behind each CPU's first file, so that a full disk doesn't take it.
@@ -32,6 +32,17 @@ extern "C" {
 DSPEC_INLINE void dspec_folder_limit(dspec_folder *folder, uint64_t bytes, uint32_t folders) DSPEC_NOEXCEPT {
     folder->most_bytes = bytes;
     folder->most_folders = folders;
+}
+
+/* Has the trace that is begun next take memory for batches of so many bytes: those are written without any from then on, unless it has a bound and its next folder begins. It is
+ * some 8 times so much for each CPU, of which the system gives what is used. */
+DSPEC_INLINE void dspec_folder_reserve(dspec_folder *folder, size_t len) DSPEC_NOEXCEPT { folder->reserved = len; }
+
+/* Has rooms for the packets and the parts of batches for which memory is to be taken: whether there is so much. */
+DSPEC_INLINE bool dspec_folder_rooms(dspec_folder *folder) DSPEC_NOEXCEPT {
+    if (folder->reserved == 0) return true;
+    return dspec_folder_grows(&folder->room, &folder->size, dspec_ctf_room(folder->reserved)) &&
+           (folder->most_folders == 0 || dspec_folder_grows(&folder->copy, &folder->copy_size, 2 * folder->reserved));
 }
 
 /* Lets go the memory of a trace that has ended, or isn't begun. */
@@ -82,10 +93,12 @@ DSPEC_INLINE bool dspec_folder_begin(dspec_folder *folder, const char *path, dsp
     const dspec_text nothing = { "", 0 };
     const uint64_t most_bytes = folder->most_bytes;
     const uint32_t most_folders = folder->most_folders;
+    const size_t reserved = folder->reserved;
     dspec_status status;
     int code = 0;
     memset(folder, 0, sizeof *folder);
     dspec_folder_limit(folder, most_bytes, most_folders);
+    dspec_folder_reserve(folder, reserved);
     folder->parent = -1;
     if (strlen(path) >= sizeof folder->path) return dspec_folder_loses(folder, DSPEC_OK, ENAMETOOLONG, 0, 0, 0);
     memcpy(folder->path, path, strlen(path));
@@ -97,23 +110,13 @@ DSPEC_INLINE bool dspec_folder_begin(dspec_folder *folder, const char *path, dsp
     folder->identity = *identity;
     folder->identity.host = folder->identity.name = nothing; /* they are in the text, and nobody keeps them */
     status = dspec_folder_text(folder, schema, identity, names);
+    if (status == DSPEC_OK && !dspec_folder_rooms(folder)) status = DSPEC_NO_MEMORY;
     if (status == DSPEC_OK && most_folders > 0) {
         if (most_folders < 2 || most_folders > DSPEC_FOLDER_MOST || dspec_folder_left(folder) < 4) status = DSPEC_TOO_SMALL;
         else code = dspec_folder_finds(folder);
     }
     if (status == DSPEC_OK && code == 0 && dspec_folder_enters(folder, &status, &code)) return true;
     return dspec_folder_fails(folder, status, code, names);
-}
-
-/* Takes memory for batches of so many bytes: those are written without any from then on, unless the trace has a bound and its next folder begins. Some 8 times so much
- * for each CPU, of which the system gives what is used. Answers whether there was so much; without it the trace goes on. */
-DSPEC_INLINE bool dspec_folder_reserve(dspec_folder *folder, size_t len) DSPEC_NOEXCEPT {
-    dspec_status status = dspec_folder_grows(&folder->room, &folder->size, dspec_ctf_room(len)) ? DSPEC_OK : DSPEC_NO_MEMORY;
-    if (status == DSPEC_OK && folder->most_folders > 0 && !dspec_folder_grows(&folder->copy, &folder->copy_size, 2 * len)) status = DSPEC_NO_MEMORY;
-    folder->reserved = len;
-    for (uint32_t cpu = 0; status == DSPEC_OK && cpu < folder->cpus; cpu++)
-        if (folder->ctf[cpu].held) status = dspec_ctf_reserve(&folder->ctf[cpu], len);
-    return status == DSPEC_OK;
 }
 
 /* Why the last call answered false, in words: the system's, or the library's, or which name isn't allowed and why. They stay until the next call. */

@@ -147,12 +147,12 @@ static bool begin_folder(dspec_tracer *tracer, body *of, const char *folder, con
     dspec_status status = naming == NULL ? DSPEC_NO_MEMORY : enable_all(of, events != NULL ? events : none, naming);
     if (status == DSPEC_OK) status = start_lanes(of);
     dspec_folder_limit(&of->folder, of->options.max_bytes, of->options.max_folders);
+    dspec_folder_reserve(&of->folder, of->options.bufsize); /* a crash in malloc has its lock: what is saved takes no memory */
     if (status != DSPEC_OK) fail(tracer, "the session", dspec_status_text(status));
     else if (!identify(&us)) fail(tracer, "the trace's number", strerror(errno));
     else if (!dspec_folder_begin(&of->folder, folder, &of->schema, of->count + 1, &us.identity, naming_names(naming)))
         fail(tracer, folder, dspec_folder_why(&of->folder));
     else begun = true;
-    if (begun) dspec_folder_reserve(&of->folder, of->options.bufsize); /* a crash in malloc has its lock: what is saved then takes no memory */
     free(naming);
     return begun;
 }

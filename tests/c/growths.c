@@ -155,23 +155,38 @@ static void finish(void) {
 static const uint8_t two_records[] = { 1, 0, 0, 0, 9, 0, 0, 0, 0, 0, 0, 0, 7, 0, 0, 0, 1, 0, 0, 0, 8, 0, 0, 0, 0, 0, 0, 0, 6, 0, 0, 0 };
 static dspec_identity identity = { .hertz = 1000, .host = { "here", 4 }, .name = { "growths", 7 } };
 
-/* Batches for which there is room: from there on no call takes memory. The second has what tells of its drops too. */
-static void trace_in_room(void) {
-    static const dspec_ctf nothing = DSPEC_EMPTY;
-    static uint8_t room[2048];
+/* Puts all packets of a batch: how many records they have. */
+static size_t put_all(uint8_t *room, size_t size) {
     dspec_packet packet;
+    dspec_status status;
+    size_t records = 0;
+    while ((status = dspec_ctf_put(&roomy, room, size, &packet)) == DSPEC_OK) records += packet.records;
+    if (status != DSPEC_NO_PACKET) fail("a packet", status);
+    return records;
+}
+
+/* Batches for which there is room: from there on no call takes memory. The last has as many records as so many bytes may have, as many files as a CPU
+ * may have, and behind them a run of several packets; each has what tells of its drops too. */
+static void trace_in_room(void) {
+    enum { SMALLEST = 12, MANY = 400 };
+    static const dspec_ctf nothing = DSPEC_EMPTY;
+    static uint8_t many[MANY * SMALLEST], room[8192];
     uint64_t lost;
-    ASK(dspec_ctf_new(&stamped, &identity, 0, &roomy), &roomy);
-    ASK(dspec_ctf_reserve(&roomy, sizeof two_records), &nothing);
-    if (dspec_ctf_room(sizeof two_records) > sizeof room) fail("a room", DSPEC_OK);
-    const long before = asked;
-    for (uint64_t drops = 0; drops < 2; drops++) {
-        OK(dspec_ctf_open(&roomy, 0, drops, two_records, sizeof two_records));
-        for (uint64_t i = 0; i < 2 + drops; i++) OK(dspec_ctf_put(&roomy, room, sizeof room, &packet));
-        if (packet.records != 1) fail("a packet", DSPEC_OK);
+    uint32_t epid;
+    OK(dspec_schema_enable(&stamped, two_records, 0, &epid));
+    for (uint32_t i = 0; i < MANY; i++) {
+        const uint32_t record[] = { epid, i < DSPEC_CTF_MAX_FILES ? DSPEC_CTF_MAX_FILES - i : 100 + i, 0 };
+        memcpy(many + SMALLEST * i, record, sizeof record);
     }
+    ASK(dspec_ctf_new(&stamped, &identity, 0, &roomy), &roomy);
+    ASK(dspec_ctf_reserve(&roomy, sizeof many), &nothing);
+    if (dspec_ctf_room(sizeof many) > sizeof room) fail("a room", DSPEC_OK);
+    const long before = asked;
+    OK(dspec_ctf_open(&roomy, 0, 1, many, sizeof many));
+    if (put_all(room, dspec_ctf_room(sizeof many)) != MANY) fail("the records of a batch", DSPEC_OK);
+    OK(dspec_ctf_open(&roomy, 0, 1, many, sizeof many));
     OK(dspec_ctf_lose(&roomy, &lost));
-    if (lost != 1) fail("a packet that is lost", DSPEC_OK);
+    if (lost != MANY) fail("a batch that is lost", DSPEC_OK);
     if (asked != before) fail("a batch that has room asked for memory", DSPEC_OK);
 }
 

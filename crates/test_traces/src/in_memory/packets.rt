@@ -96,7 +96,6 @@ fn is_next(
 /// The files of CPU 3 with a batch of records with these stamps opened, before which so many were missed.
 fn opened(rt: &impl Abort, alloc: Global, missed: u64, stamps: &[u64]) -> Result<CpuPackets, Fail> {
     let mut files = files_of(alloc)?;
-    files.reserve(4096)?;
     same(rt, files.open(missed, &text_of(alloc, stamps)?), Ok(()));
     Ok(files)
 }
