@@ -167,8 +167,8 @@ fn put_first(word: u64, out: &mut [u8])
     requires { 8 ≤ length out.old }
     ensures { out.new ≡ little_endian 8 word ++ drop 8 out.old }
 {
-    // one store, and nothing asks how long the slice is
-    out[..8].copy_from_slice(&word.to_le_bytes());
+    // an array's bytes are one store; of slices the compiler would ask whether they overlap
+    *out.first_chunk_mut::<8>().unwrap() = word.to_le_bytes();
 }
 
 /// Writes a word of eight bytes at `at`.
