@@ -142,7 +142,7 @@ DSPEC_TRACER_INTO_CALLER_ bool dspec_tracer_try_(dspec_tracer *tracer, const dsp
     dspec_tracer_lane *on;
     uint32_t state = 0;
     bool is_in;
-    if (!DSPEC_TRACER_LIKELY_(__atomic_load_n(&me->plain, __ATOMIC_RELAXED) == __atomic_load_n(&tracer->run, __ATOMIC_RELAXED))) return false;
+    if (!DSPEC_TRACER_LIKELY_(me->plain == __atomic_load_n(&tracer->run, __ATOMIC_RELAXED))) return false;
     on = me->last;
     dspec_tracer_reach_();
     __atomic_store_n(&me->plain, DSPEC_TRACER_NONE_, __ATOMIC_RELAXED);
