@@ -91,8 +91,9 @@ typedef struct dspec_tracer_report {
 /* All zeros until it is started; it stays where it is, and outlives each thread that records, as a static one does. Nobody writes to it. */
 typedef struct dspec_tracer {
     struct dspec_tracer_body *body;
-    uint32_t seat, run; /* where a thread's seat is for it, in bytes, and a number that no other tracer of the process has or had */
-    char why[256];      /* why the last start answered false */
+    size_t seat;   /* where a thread has what it needs for this tracer (dspec_tracer_record.h) */
+    uint32_t run;  /* a number that no other tracer of the process has or had */
+    char why[256]; /* why the last start answered false */
 } dspec_tracer;
 
 /* A path. Nothing is taken before its first record: one without any costs nothing. Nobody writes to the fields. */

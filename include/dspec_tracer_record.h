@@ -31,19 +31,17 @@ typedef struct dspec_tracer_seat {
     dspec_tracer_lane *last; /* the lane that it had last; where it has none of its own, a record is tried there that is in no path */
     dspec_tracer_lane *own;  /* its own, or NULL */
     uint32_t run;            /* of the tracer; another's is stale */
-    uint32_t plain;          /* the same, where the thread has no lane of its own; else DSPEC_TRACER_NONE_ */
+    uint32_t plain;          /* the same; DSPEC_TRACER_NONE_ where the thread has a lane of its own, and in the middle of a record that is in no path */
     uint16_t open;           /* paths that it began on its own lane and hasn't ended */
     bool busy;               /* in the middle of the tracer, where a signal's handler may come */
-    bool recording;          /* in the middle of a record on a lane that isn't its own, likewise */
     bool locked;             /* whether it is in its call by the lane's lock */
 } dspec_tracer_seat;
 
 /* No tracer has this run. One that isn't started has 0. */
 #define DSPEC_TRACER_NONE_ 1u
 
-/* A handler may look at these: they stand where the thread's memory is, and are never made at their first use. That room is scarce where a library is loaded late. The token is a number that no other
- * thread has or had, and isn't 0. The number in the names goes up with each change of what is laid out here, so that a program which was compiled with another one finds no library. */
-extern __thread dspec_tracer_seat dspec_tracer_seats_1[DSPEC_MAX_TRACERS] __attribute__((tls_model("initial-exec")));
+/* A number that no other thread has or had, and not 0. A handler may look at it: it stands where the thread's memory is, and is never made at its first use. That room is scarce where a library is loaded
+ * late. The number in the name goes up with each change of what is laid out here, so that a program which was compiled with another one finds no library. */
 extern __thread uint32_t dspec_tracer_token_1 __attribute__((tls_model("initial-exec")));
 
 /* Behind a record for which a path's speculation, or a lane, had no room. Of the first: whether it has some now, in the call on the path's lane. */
@@ -69,10 +67,19 @@ DSPEC_INLINE void dspec_tracer_reach_(void) DSPEC_NOEXCEPT {
 #endif
 }
 
+/* A thread's seats are as far behind this place in each thread. */
+DSPEC_INLINE char *dspec_tracer_thread_(void) DSPEC_NOEXCEPT {
+    char *at;
+#if defined(__x86_64__)
+    __asm__("movq %%fs:0, %0" : "=r"(at));
+#else
+    at = DSPEC_AS(char *, DSPEC_AS(void *, &dspec_tracer_token_1));
+#endif
+    return at;
+}
+
 DSPEC_INLINE dspec_tracer_seat *dspec_tracer_seat_of_(const dspec_tracer *tracer) DSPEC_NOEXCEPT {
-    char *at = DSPEC_AS(char *, DSPEC_AS(void *, dspec_tracer_seats_1)) + __atomic_load_n(&tracer->seat, __ATOMIC_RELAXED);
-    __asm__("" : "+r"(at)); /* found once */
-    return DSPEC_AS(dspec_tracer_seat *, DSPEC_AS(void *, at));
+    return DSPEC_AS(dspec_tracer_seat *, DSPEC_AS(void *, dspec_tracer_thread_() + __atomic_load_n(&tracer->seat, __ATOMIC_RELAXED)));
 }
 
 /* Into a call on the thread's own lane, where nobody wants it: whether it is in. */
@@ -129,7 +136,7 @@ DSPEC_TRACER_INTO_CALLER_ bool dspec_path_try_(dspec_path *path, const dspec_eve
     return true;
 }
 
-/* Of no path, on the lane that the thread had last, where nobody is on that. A handler that comes in between finds that lane held, and `recording`. */
+/* Of no path, on the lane that the thread had last, where nobody is on that. A handler that comes in between finds that `plain` is no run. */
 DSPEC_TRACER_INTO_CALLER_ bool dspec_tracer_try_(dspec_tracer *tracer, const dspec_event *event, const uint64_t *words, size_t n, dspec_status *status) DSPEC_NOEXCEPT {
     dspec_tracer_seat *me = dspec_tracer_seat_of_(tracer);
     dspec_tracer_lane *on;
@@ -138,7 +145,7 @@ DSPEC_TRACER_INTO_CALLER_ bool dspec_tracer_try_(dspec_tracer *tracer, const dsp
     if (!DSPEC_TRACER_LIKELY_(me->plain == __atomic_load_n(&tracer->run, __ATOMIC_RELAXED))) return false;
     on = me->last;
     dspec_tracer_reach_();
-    me->recording = true;
+    __atomic_store_n(&me->plain, DSPEC_TRACER_NONE_, __ATOMIC_RELAXED);
     __atomic_signal_fence(__ATOMIC_SEQ_CST);
     is_in = __atomic_compare_exchange_n(&on->state, &state, DSPEC_TRACER_HELD_, false, __ATOMIC_SEQ_CST, __ATOMIC_SEQ_CST);
     if (DSPEC_TRACER_LIKELY_(is_in)) {
@@ -147,7 +154,7 @@ DSPEC_TRACER_INTO_CALLER_ bool dspec_tracer_try_(dspec_tracer *tracer, const dsp
         __atomic_fetch_and(&on->state, ~DSPEC_TRACER_HELD_, __ATOMIC_SEQ_CST);
     }
     __atomic_signal_fence(__ATOMIC_SEQ_CST);
-    me->recording = false;
+    __atomic_store_n(&me->plain, __atomic_load_n(&tracer->run, __ATOMIC_RELAXED), __ATOMIC_RELAXED);
     if (is_in && !DSPEC_TRACER_LIKELY_(*status != DSPEC_DROPPED)) dspec_tracer_dropped(tracer);
     return is_in;
 }

@@ -99,8 +99,9 @@ typedef struct here {
     void *stack;
     bool consumer;
 } here;
-/* A handler may look at it, as at the seats (dspec_tracer.h). */
+/* A handler may look at these, as at the token (dspec_tracer_record.h). */
 extern __thread here dspec_here __attribute__((tls_model("initial-exec")));
+extern __thread seat dspec_seats[DSPEC_MAX_TRACERS] __attribute__((tls_model("initial-exec")));
 
 /* No thread has this token, and a thread has it that has none yet. */
 #define NO_TOKEN UINT32_MAX
@@ -201,14 +202,14 @@ static inline bool state_becomes(lane *on, uint32_t *was, uint32_t is) {
 static inline lane *lane_of(dspec_tracer_lane *front) { return (lane *)front; }
 
 static inline seat *seat_at(uint32_t slot) {
-    seat *me = &dspec_tracer_seats_1[slot];
+    seat *me = &dspec_seats[slot];
     __asm__("" : "+r"(me)); /* where it stands is found once a call */
     return me;
 }
 
 /* Whether the thread is in the middle of this tracer, as a handler's may be: between these calls, in one on its own lane, or in a record that is in no path. */
 static inline bool seat_is_in(const seat *me) {
-    return me->busy || me->recording || (me->own != NULL && LOAD(&me->own->inside) != 0);
+    return me->busy || (me->own != NULL ? LOAD(&me->own->inside) != 0 : LOAD(&me->plain) == DSPEC_TRACER_NONE_);
 }
 
 static inline bool seat_enter(seat *me) {

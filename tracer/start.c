@@ -210,7 +210,7 @@ static bool start(dspec_tracer *tracer, const char *folder, const dspec_tracer_o
         return false;
     }
     tracer_set(slot, of);
-    STORE(&tracer->seat, (uint32_t)(slot * sizeof(seat)));
+    STORE(&tracer->seat, (size_t)((const char *)&dspec_seats[slot] - dspec_tracer_thread_()));
     STORE(&tracer->run, of->run);
     __atomic_store_n(&tracer->body, of, __ATOMIC_RELEASE);
     signals_hook(&of->options);

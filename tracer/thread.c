@@ -9,7 +9,7 @@ enum { STACK_SIZE = 65536, GUARD_SIZE = 4096 };
 
 __thread here dspec_here __attribute__((tls_model("initial-exec")));
 #define FREE_SEAT { .run = DSPEC_TRACER_NONE_, .plain = DSPEC_TRACER_NONE_ }
-__thread seat dspec_tracer_seats_1[DSPEC_MAX_TRACERS] __attribute__((tls_model("initial-exec"))) = { FREE_SEAT, FREE_SEAT, FREE_SEAT, FREE_SEAT, FREE_SEAT, FREE_SEAT, FREE_SEAT, FREE_SEAT };
+__thread seat dspec_seats[DSPEC_MAX_TRACERS] __attribute__((tls_model("initial-exec"))) = { FREE_SEAT, FREE_SEAT, FREE_SEAT, FREE_SEAT, FREE_SEAT, FREE_SEAT, FREE_SEAT, FREE_SEAT };
 static_assert(DSPEC_MAX_TRACERS == 8, "a free seat for each");
 __thread uint32_t dspec_tracer_token_1 __attribute__((tls_model("initial-exec"))) = NO_TOKEN;
 
@@ -43,7 +43,7 @@ void stack_off(void) {
 
 /* The thread has no seat, and is none that has been. */
 static void forget(void) {
-    for (uint32_t slot = 0; slot < DSPEC_MAX_TRACERS; slot++) dspec_tracer_seats_1[slot] = (seat)FREE_SEAT;
+    for (uint32_t slot = 0; slot < DSPEC_MAX_TRACERS; slot++) dspec_seats[slot] = (seat)FREE_SEAT;
     dspec_tracer_token_1 = NO_TOKEN;
 }
 
@@ -52,7 +52,7 @@ static void detach(void *unused) {
     (void)unused;
     tracers_lock();
     for (uint32_t slot = 0; slot < DSPEC_MAX_TRACERS; slot++) {
-        seat *me = &dspec_tracer_seats_1[slot];
+        seat *me = &dspec_seats[slot];
         body *of = tracer_at(slot);
         /* One that is in a call still was thrown out of it by a signal's handler: that lane stays as it is. */
         if (of != NULL && me->run == of->run && LOAD(&of->up) && !seat_is_in(me)) path_ends_with_thread(of, me);
@@ -76,7 +76,6 @@ static void attach(body *of, seat *me) {
     if (dspec_tracer_token_1 == NO_TOKEN) dspec_tracer_token_1 = __atomic_add_fetch(&tokens, 1, __ATOMIC_RELAXED);
     me->open = 0;
     me->last = &of->lanes[dspec_tracer_token_1 % of->count].front;
-    me->recording = false;
     if (!of->options.no_crash) stack_on();
     if (has_key) pthread_setspecific(key, &dspec_here);
     ADD(&of->threads, 1);

@@ -131,7 +131,7 @@ pub(crate) const MAX_NSPEC: u32 = 63;
 #[repr(C)]
 pub(crate) struct Tracer {
     pub(crate) body: *mut c_void,
-    pub(crate) seat: u32,
+    pub(crate) seat: usize,
     pub(crate) run: u32,
     pub(crate) why: [c_char; 256],
 }
