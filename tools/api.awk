@@ -123,6 +123,25 @@ FNR == 1 {
     state = ""; doc = ""; owner = ""; is_trait = 0; body = ""
 }
 
+# What a type is, by its `derive` or by an `impl` of its own; an error of thiserror has its words by its `derive`.
+function is_one(name, traits, count, list, i) {
+    count = split(traits, list, /[ ,]+/)
+    for (i = 1; i <= count; i++) is[name, list[i]] = 1
+    if (is[name, "Error"]) is[name, "Display"] = 1
+}
+/^#\[derive\(/ { derived = $0; sub(/^#\[derive\(/, "", derived); sub(/\)\].*$/, "", derived) }
+/^(pub(\([a-z]+\))? )?(struct|enum) / {
+    name = $0; sub(/^(pub(\([a-z]+\))? )?(struct|enum) /, "", name); sub(/[^A-Za-z0-9_].*/, "", name)
+    if (derived != "") is_one(name, derived)
+    derived = ""
+}
+/^impl.* for / {
+    text = unparameterised(trimmed(substr($0, 5)))
+    name = text; sub(/^.* for &?/, "", name); sub(/[^A-Za-z0-9_].*/, "", name)
+    sub(/ for .*/, "", text); sub(/^fmt::/, "", text)
+    if (text ~ /^(Copy|Drop|Display|Error|Send)$/) is_one(name, text)
+}
+
 # The crate in a sentence.
 round == 2 && where == "" && /^\/\/! / && !is_about_ended { about = about (about == "" ? "" : " ") substr($0, 5); next }
 round == 2 && where == "" && !/^\/\/! / { is_about_ended = 1 }
@@ -152,10 +171,19 @@ state == "" && /^ *\/\/\/ / { text = trimmed($0); doc = doc (doc == "" ? "" : " 
 state == "" && /^ *\/\/\/$/ { next }
 state == "" && /^ *#\[/ { next }
 
+# A type's name with its parameters, and of a trait what stands on it.
+function head_of(text) {
+    sub(/^pub (struct|enum|trait) /, "", text)
+    sub(/ *(\{.*|;)$/, "", text)
+    if (match(text, /^[A-Za-z0-9_]+\(/)) text = substr(text, 1, RLENGTH - 1)
+    return text
+}
+
 # Types and constants.
-function add_type(name) {
+function add_type(name, head) {
     tell_wanting(name)
     types[++type_count] = name
+    type_head[type_count] = head == "" ? name : head
     type_kind[type_count] = kind
     type_doc[type_count] = sentence(doc)
 }
@@ -166,7 +194,7 @@ state == "" && /^    pub const [A-Z]/ && owner in named {
 }
 state == "" && /^pub (struct|enum|trait|const|type) / {
     kind = $2; name = $3; sub(/[^A-Za-z0-9_].*/, "", name)
-    if (is_public(name)) add_type(name)
+    if (is_public(name)) add_type(name, kind ~ /^(struct|enum|trait)$/ ? head_of($0) : "")
     if (kind == "trait") { owner = name; is_trait = is_public(name) }
     body = (kind == "struct" || kind == "enum") && $0 ~ /\{$/ && is_public(name) ? kind : ""
     doc = ""; next
@@ -223,10 +251,18 @@ state == "clauses" {
 }
 { if ($0 !~ /^ *$/ || doc != "") doc = "" }
 
+# What is told of a type: its kind, and which of these traits it has.
+function kind_of(i, count, list, text, j) {
+    text = type_kind[i]
+    count = split("Copy Drop Display Error Send", list, " ")
+    for (j = 1; j <= count; j++) if (is[types[i], list[j]]) text = text ", " list[j]
+    return text
+}
+
 # With `of_types`, a list of names, nothing but these types is told.
 function put_type(i, has, j) {
     has = parts[i] == "" ? "" : " Has " parts[i] "."
-    put("- ", "  ", "`" types[i] "` (" type_kind[i] "): " type_doc[i] has)
+    put("- ", "  ", "`" type_head[i] "` (" kind_of(i) "): " type_doc[i] has)
     for (j = 1; j <= said_count[i]; j++) put("  - ", "    ", said[i, j])
 }
 
