@@ -83,6 +83,8 @@ typedef struct dspec_folder {
     uint8_t *copy;                                         /* for a part of a batch, of so many bytes */
     size_t copy_size;
     size_t reserved;                                       /* bytes of the batches for which memory was taken */
+    dspec_packet writing;                                  /* the packet that is being written, of this CPU; all zeros where none is */
+    uint32_t writing_cpu;
 } dspec_folder;
 
 DSPEC_INLINE dspec_folder_part *dspec_folder_newest(dspec_folder *folder) DSPEC_NOEXCEPT {
@@ -186,6 +188,8 @@ DSPEC_INLINE int dspec_folder_appends(dspec_folder *folder, uint32_t cpu, const 
     int code = dspec_folder_opens(folder, cpu, packet->file);
     if (code == 0 && packet->file == 0 && !folder->ending) code = dspec_folder_keeps(*file - 1, *size, packet->size);
     if (code != 0) return code;
+    folder->writing_cpu = cpu;
+    folder->writing = *packet;
     code = dspec_folder_write(*file - 1, folder->room, packet->size);
     if (code == 0) {
         *size += packet->size;
@@ -197,6 +201,7 @@ DSPEC_INLINE int dspec_folder_appends(dspec_folder *folder, uint32_t cpu, const 
     } else if (packet->file == 0) {
         dspec_folder_keeps(*file - 1, *size, 0); /* what was kept was cut off too */
     }
+    folder->writing.size = 0;
     return code;
 }
 

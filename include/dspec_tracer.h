@@ -28,7 +28,8 @@
  *
  * FORK. The child's tracer is down, and it leaves the folder alone; it may start another.
  *
- * WHAT ISN'T HERE. Memory that outlives the process.
+ * KILL -9. With survive all that the tracer has is in a file, FOLDER.memory, of mode 0600, which outlives the process: dspec_salvage reads it. A stop takes the file away. Where a start
+ * finds one that a run left which didn't stop, it goes aside as FOLDER.memory.0 .., and tracer->why says so though the start went well.
  */
 #ifndef DSPEC_TRACER_H
 #define DSPEC_TRACER_H
@@ -62,6 +63,7 @@ typedef struct dspec_tracer_options {
     bool keep_open;      /* stop, exit and SIGTERM keep what is undecided; else it is thrown away */
     bool no_membarrier;  /* each call takes its lane by an exchange, as where the system has no membarrier(2): some nanoseconds more */
     bool keep_last;      /* a path that has more records than fit keeps its last ones, as told above; else its first */
+    bool survive;        /* the tracer's memory is a file beside the folder, as told above */
     uint64_t max_bytes;  /* of all files of the trace, which stands in folders below that bound then, as told above; 0: there is none */
     uint32_t max_folders; /* 4, where max_bytes is set; 2 to 64 */
     uint32_t keep_ms;    /* 0: how long a keep waits for room of its lane, which the consumer makes, before the path's records are lost */
@@ -160,6 +162,24 @@ dspec_status dspec_tracer_put(dspec_tracer *tracer, const dspec_event *event, co
 dspec_status dspec_tracer_put_1(dspec_tracer *tracer, const dspec_event *event, uint64_t w0) DSPEC_NOEXCEPT;
 dspec_status dspec_tracer_put_2(dspec_tracer *tracer, const dspec_event *event, uint64_t w0, uint64_t w1) DSPEC_NOEXCEPT;
 dspec_status dspec_tracer_put_3(dspec_tracer *tracer, const dspec_event *event, uint64_t w0, uint64_t w1, uint64_t w2) DSPEC_NOEXCEPT;
+
+/* What dspec_salvage found. */
+typedef struct dspec_salvaged {
+    uint64_t kept;        /* records that were kept, and that the run's own folder doesn't have */
+    uint64_t paths;       /* paths that were open */
+    uint64_t undecided;   /* and their records */
+    uint32_t lanes;       /* the lanes of the tracer, and its own */
+    uint32_t in_call;     /* lanes whose thread was in a call, or which the consumer had: of one the record that was being made may be missing */
+    uint32_t unreadable;  /* lanes whose memory isn't what a lane's is: what they had is missing */
+    char folder[4096];    /* the run's own folder */
+    char why[256];        /* why it answered false */
+} dspec_salvaged;
+
+/* Reads the file that a tracer with `survive` left which was killed, and writes what it has and the run's folder hasn't: into `folder`/kept the records that were kept, and where paths were open
+ * into `folder`/undecided these, each event by a name that begins with `undecided_`. Both are traces. Nobody may use the file, it has to be this user's, and of the same build of the library
+ * (dspec_build), and it is read once. What it says isn't believed: what doesn't fit is an error or a shorter trace, whatever its bytes are; each lane is read in a process of its own, which can write what it found and
+ * nothing else. Whether all lanes were read; else told->why says why not. told may be NULL. */
+bool dspec_salvage(const char *file, const char *folder, dspec_salvaged *told) DSPEC_NOEXCEPT;
 
 /* The stamps' clock: nanoseconds of the system's monotonic one. */
 uint64_t dspec_tracer_now(void) DSPEC_NOEXCEPT;

@@ -22,9 +22,10 @@
 typedef struct dspec_tracer_body body;
 typedef struct dspec_tracer_seat seat;
 
-/* Of a lane's state: six bits, and above them how many paths are on it, and 1 more where it is a thread's own. WANTED has threads that share a lane hold back, so that the consumer gets
+/* Of a lane's state: seven bits, and above them how many paths are on it, and 1 more where it is a thread's own. WANTED has threads that share a lane hold back, so that the consumer gets
  * its turn. */
-enum { HELD = DSPEC_TRACER_HELD_, GONE = 2, SERVE = 4, IDLE = 8, SHARED = 16, WANTED = 32, USER = 64 };
+enum { HELD = DSPEC_TRACER_HELD_, GONE = 2, SERVE = 4, IDLE = 8, SHARED = 16, WANTED = 32, PLAIN = 64, USER = 128 };
+static_assert((HELD | PLAIN) == DSPEC_TRACER_PLAIN_, "the header's PLAIN is these");
 static_assert((HELD | GONE | IDLE | SHARED | WANTED) == DSPEC_TRACER_LOOK_, "the header's LOOK is these");
 /* Within these bounds the consumer waits for a lane, in microseconds: in a round for none. */
 enum { TAKE_US = 20000, CLOSE_US = 5000000 };
@@ -54,10 +55,17 @@ typedef struct lane {
     body *of;
     uint64_t kept, thrown, cut, cut_records;
     uint64_t turned; /* records that one speculation refused and the next one took */
+    dspec_batch out; /* which the folder is getting, where `bringing` says so */
+    uint64_t before; /* how many records the folder had in front of it */
+    uint32_t bringing;
+    uint32_t plain; /* a record that is in no path is being made, by the slow way */
     APART open_path open[MAX_OPEN];
     dspec_session session;
     dspec_consumer consumer;
 } lane;
+
+/* Of a batch: none is out, the folder is getting it, the folder has it. */
+enum { NOT_OUT = 0, IS_BROUGHT = 1, WAS_BROUGHT = 2 };
 
 /* What a handler tells the consumer of a thread that crashed. */
 typedef enum crash_state { CRASH_FREE = 0, CRASH_FILLING = 1, CRASH_READY = 2 } crash_state;
@@ -88,6 +96,9 @@ struct dspec_tracer_body {
     uint32_t epid_of_crash;
     crash crashes[MAX_CRASHES];
     void (*here)(uint64_t *); /* a watch's */
+    struct saved_head *saved; /* where the tracer's memory is a file (survive.h) */
+    void *memory;
+    int memory_file;
     APART uint32_t stop, asked, served, deferring, deferred, ended;
     APART uint64_t no_slot, no_room, nested, late, waited, threads;
     lane lanes[]; /* `count`, and one more of the consumer's own */
@@ -134,6 +145,7 @@ bool path_discard(lane *on, open_path *one);
 
 /* ---- session.c: what a lane has of the library. ---- */
 
+dspec_config lane_config(const dspec_tracer_options *options);
 dspec_status lane_start(lane *on, const dspec_tracer_options *options, dspec_schema *schema);
 void lane_ask(lane *on);
 void lane_serve(lane *on, bool *is_empty);
@@ -239,7 +251,7 @@ static inline void seat_owns(seat *me, dspec_tracer_lane *own) {
 
 static inline bool lane_enter(seat *me, lane *on) {
     me->locked = false;
-    return (LIKELY(&on->front == me->own) && dspec_tracer_enter_(&on->front)) || lane_enter_slowly(me, on);
+    return (LIKELY(&on->front == me->own) && dspec_tracer_enter_(&on->front, HELD)) || lane_enter_slowly(me, on);
 }
 
 /* Into a call on a lane that nobody is on, by its lock: whether it is in. */

@@ -1,5 +1,5 @@
 /* consumer.c: the consumer's thread: rounds, crashes, flushes and the end. */
-#include "body.h"
+#include "survive.h"
 
 #include <errno.h>
 #include <poll.h>
@@ -194,6 +194,7 @@ static void end_all(body *of) {
     forget_events(of);
     dspec_schema_drop(&of->schema);
     tell_counts(of);
+    survive_over(of);
 }
 
 /* One turn: whether it was the last. A signal from outside may have come into the middle of a call, so its handler left all to this thread. */

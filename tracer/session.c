@@ -1,12 +1,16 @@
 /* session.c: what a lane has of the library: a session of one CPU. No decision waits for another lane then, each lane has slots of its own, and a lane that is lost takes no
  * other with it. All that the tracer calls of a session but records and decisions is called here. */
-#include "body.h"
+#include "survive.h"
 
-dspec_status lane_start(lane *on, const dspec_tracer_options *options, dspec_schema *schema) {
-    const dspec_config config = {
+dspec_config lane_config(const dspec_tracer_options *options) {
+    return (dspec_config){
         .cpus = 1, .nspec = options->keep_last ? 2 * options->paths + 1 : options->paths, .bufsize = options->bufsize, .specsize = options->specsize,
         .max_issues = DSPEC_MAX_ISSUES, .max_calls = DSPEC_MAX_CALLS, .policy = DSPEC_POLICY_SWITCH,
     };
+}
+
+dspec_status lane_start(lane *on, const dspec_tracer_options *options, dspec_schema *schema) {
+    const dspec_config config = lane_config(options);
     dspec_status status = dspec_start(&config, schema, &on->session);
     if (status == DSPEC_OK) status = dspec_consumer_of(&on->session, &on->consumer);
     if (status == DSPEC_OK) status = dspec_cpu_of(&on->session, 0, &on->front.cpu);
@@ -33,8 +37,13 @@ void lane_write(body *of, lane *on) {
     dspec_batch batch;
     if (dspec_take(&on->consumer, 0, &batch) != DSPEC_OK) return;
     batch.cpu = on->number;
+    on->out = batch;
+    on->before = survive_brought(&of->folder);
+    __atomic_store_n(&on->bringing, IS_BROUGHT, __ATOMIC_RELEASE);
     if (batch.len > 0 || batch.drops > 0) dspec_folder_take(&of->folder, &of->layout, &batch);
+    __atomic_store_n(&on->bringing, WAS_BROUGHT, __ATOMIC_RELEASE);
     dspec_give_back(&on->consumer, 0);
+    __atomic_store_n(&on->bringing, NOT_OUT, __ATOMIC_RELEASE);
 }
 
 /* Twice: with one buffer sealed the other may be full. */

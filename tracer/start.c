@@ -1,5 +1,6 @@
 /* start.c: the beginning and the end of a tracer, and which ones a process has. */
-#include "body.h"
+#include "survive.h"
+#include "dspec_memory.h"
 
 #include <sys/eventfd.h>
 #include <errno.h>
@@ -21,6 +22,7 @@ void tracers_unlock(void) { pthread_mutex_unlock(&mutex); }
 /* The child has this thread alone: no consumer, and files that are the parent's. */
 static void in_child(void) {
     for (uint32_t slot = 0; slot < MAX_SLOTS; slot++) {
+        if (tracers[slot] != NULL && slot < DSPEC_MAX_TRACERS) survive_in_child(tracers[slot]);
         if (tracers[slot] != NULL) tracers[slot]->up = 0;
         tracers[slot] = NULL;
     }
@@ -56,6 +58,11 @@ void tracers_begin(void) { pthread_once(&once, begin_once); }
 
 /* ---- The memory of a tracer. ---- */
 
+static bool fail(dspec_tracer *tracer, const char *what, const char *why) {
+    if (snprintf(tracer->why, sizeof tracer->why, "%s: %s", what, why) < 0) tracer->why[0] = 0;
+    return false;
+}
+
 static size_t events_of(const dspec_enabling *const *events) {
     size_t count = 0;
     while (events != NULL && events[count] != NULL) count++;
@@ -65,7 +72,8 @@ static size_t events_of(const dspec_enabling *const *events) {
 static void free_body(body *of) {
     if (of->bell >= 0) close(of->bell);
     free(of->events);
-    free(of);
+    if (of->saved != NULL) survive_free(of);
+    else free(of);
 }
 
 /* Lets go what a tracer has that never came up. */
@@ -76,12 +84,16 @@ static void unmake(body *of) {
     free_body(of);
 }
 
-static body *body_new(const dspec_tracer_options *options, size_t events) {
+/* Room for a tracer, in memory of malloc's. */
+static body *room_for(const dspec_tracer_options *options) {
     const size_t size = sizeof(body) + (options->lanes + 1) * sizeof(lane);
     void *at;
-    body *of;
     if (posix_memalign(&at, CACHE_LINES, size) != 0) return NULL;
-    of = memset(at, 0, size);
+    memset(at, 0, size);
+    return at;
+}
+
+static body *body_in(body *of, const dspec_tracer_options *options, size_t events) {
     of->bell = -1;
     of->options = *options;
     of->count = options->lanes;
@@ -95,22 +107,27 @@ static body *body_new(const dspec_tracer_options *options, size_t events) {
         of->lanes[i].front.state = of->locked ? IDLE | SHARED : IDLE;
     }
     if (of->events != NULL) return of;
-    free(of);
+    free_body(of);
     return NULL;
 }
 
+/* A tracer that isn't up; NULL, and tracer->why says why not. */
+static body *body_new(dspec_tracer *tracer, const char *folder, const dspec_tracer_options *options, const dspec_enabling *const *events) {
+    body *of = options->survive ? survive_make(folder, options, events, tracer->why, sizeof tracer->why) : room_for(options);
+    if (of != NULL) of = body_in(of, options, events_of(events));
+    if (of == NULL && (!options->survive || tracer->why[0] == 0)) fail(tracer, "the tracer", dspec_status_text(DSPEC_NO_MEMORY));
+    return of;
+}
+
 static dspec_status start_lanes(body *of) {
+    void *before = dspec_memory_turn(of->memory);
     dspec_status status = DSPEC_OK;
     for (uint32_t i = 0; status == DSPEC_OK && i <= of->count; i++) status = lane_start(&of->lanes[i], &of->options, &of->schema);
+    dspec_memory_turn(before);
     return status;
 }
 
 /* ---- The beginning. ---- */
-
-static bool fail(dspec_tracer *tracer, const char *what, const char *why) {
-    if (snprintf(tracer->why, sizeof tracer->why, "%s: %s", what, why) < 0) tracer->why[0] = 0;
-    return false;
-}
 
 static void set(uint32_t *option, uint32_t value) {
     if (*option == 0) *option = value;
@@ -153,6 +170,7 @@ static bool begin_folder(dspec_tracer *tracer, body *of, const char *folder, con
     else if (!dspec_folder_begin(&of->folder, folder, &of->schema, of->count + 1, &us.identity, naming_names(naming)))
         fail(tracer, folder, dspec_folder_why(&of->folder));
     else begun = true;
+    if (begun) survive_tell(of, &us, naming_names(naming));
     free(naming);
     return begun;
 }
@@ -199,8 +217,8 @@ static bool start(dspec_tracer *tracer, const char *folder, const dspec_tracer_o
     while (slot < DSPEC_MAX_TRACERS && tracers[slot] != NULL) slot++;
     if (slot == DSPEC_MAX_TRACERS) return fail(tracer, "the tracer", "as many are up as can be");
     if (why != NULL) return fail(tracer, "the options", why);
-    of = body_new(&all, events_of(events));
-    if (of == NULL) return fail(tracer, "the tracer", dspec_status_text(DSPEC_NO_MEMORY));
+    of = body_new(tracer, folder, &all, events);
+    if (of == NULL) return false;
     of->slot = slot;
     for (uint32_t i = 0; i <= of->count; i++) of->lanes[i].front.slot = slot;
     of->run = ++runs;
@@ -209,6 +227,7 @@ static bool start(dspec_tracer *tracer, const char *folder, const dspec_tracer_o
         unmake(of);
         return false;
     }
+    survive_is_whole(of);
     tracer_set(slot, of);
     STORE(&tracer->seat, (size_t)((const char *)&dspec_seats[slot] - dspec_tracer_thread_()));
     STORE(&tracer->run, of->run);

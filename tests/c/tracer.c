@@ -43,6 +43,8 @@ static bool storm;
 static uint64_t crashed_at;
 
 /* How many paths were kept, where a file is named for it: it outlives the process. */
+/* How many paths a keep answered, and behind that the request of each. */
+enum { MOST_TOLD = 131072 };
 static _Atomic uint64_t *told;
 
 static bool is(const char *one, const char *other) { return strcmp(one, other) == 0; }
@@ -113,8 +115,12 @@ static void one_request(uint64_t request) {
         query_in(&path, request, step);
         spin(50);
     }
-    if (request % 100 != 13) dspec_path_drop(&path);
-    else if (dspec_path_keep(&path) && told != NULL) atomic_fetch_add(told, 1);
+    if (request % 100 != 13) {
+        dspec_path_drop(&path);
+    } else if (dspec_path_keep(&path) && told != NULL) {
+        const uint64_t at = atomic_fetch_add(told, 1) + 1;
+        if (at < MOST_TOLD) told[at] = request;
+    }
 }
 
 static void *serve(void *unused) {
@@ -616,6 +622,7 @@ static void option(const char *word) {
     if (strncmp(word, "exchange=", 9) == 0) options.no_membarrier = given != 0;
     if (strncmp(word, "keep_all=", 9) == 0) options.keep_all = given != 0;
     if (strncmp(word, "keep_open=", 10) == 0) options.keep_open = given != 0;
+    if (strncmp(word, "survive=", 8) == 0) options.survive = given != 0;
     if (strncmp(word, "at=", 3) == 0) crash_at = strtoull(value, NULL, 10);
     if (strncmp(word, "storm=", 6) == 0) storm = given != 0;
     if (strncmp(word, "number=", 7) == 0) number = given;
@@ -623,8 +630,8 @@ static void option(const char *word) {
 
 static void tell_into(const char *name) {
     int file = open(name, O_RDWR | O_CREAT | O_TRUNC, 0600);
-    if (file < 0 || ftruncate(file, sizeof *told) != 0) fail("no file for what is told");
-    told = mmap(NULL, sizeof *told, PROT_READ | PROT_WRITE, MAP_SHARED, file, 0);
+    if (file < 0 || ftruncate(file, MOST_TOLD * sizeof *told) != 0) fail("no file for what is told");
+    told = mmap(NULL, MOST_TOLD * sizeof *told, PROT_READ | PROT_WRITE, MAP_SHARED, file, 0);
 }
 
 int main(int argc, char **argv) {

@@ -1,6 +1,8 @@
 /* The lanes' locks of a tracer, raced: `tracer_race FOLDER SEED [OPTION=NUMBER ..]`. Eight threads share two lanes while a signal's handler yields, spins or
  * sleeps inside their calls; where the processor can step, some calls are interrupted behind each of their instructions. Paths go from thread to thread, and
- * a thread flushes meanwhile. Printed are the records of each kept path, and what the stop tells; tests/c/tracer compares both with the trace. */
+ * a thread flushes meanwhile. With alone=1 each thread has a lane of its own, takes no lock, makes plain records inside its paths too, and steps half of its
+ * requests, while another thread flushes all the time: then the consumer comes to lanes whose threads are in a call. Printed are the records of each kept path,
+ * and what the stop tells; tests/c/tracer compares both with the trace. */
 #define _GNU_SOURCE
 #include "dspec_tracer.h"
 #include "dice.h"
@@ -18,7 +20,7 @@
 DSPEC_PROBE(query, uint64_t, request, uint32_t, step);
 DSPEC_PROBE(tick, uint64_t, number);
 
-enum { THREADS = 8, REQUESTS = 150, STEPS = 5 };
+enum { THREADS = 8, REQUESTS = 150, REQUESTS_ALONE = 30, STEPS = 5 };
 
 /* A path, and how many of its records were answered DSPEC_OK. */
 typedef struct request {
@@ -35,6 +37,7 @@ static bool one_waits;
 static atomic_int running = THREADS;
 static _Atomic uint64_t ticks, refused;
 static uint64_t seed;
+static bool alone;
 static _Thread_local dice interrupted;
 
 static void on_interrupt(int signal) {
@@ -101,20 +104,44 @@ static void end(request *r, dice *d) {
     }
 }
 
+static void plain(uint64_t number) {
+    if (tick_now(&tracer, number) == DSPEC_OK) atomic_fetch_add(&ticks, 1);
+    else atomic_fetch_add(&refused, 1);
+}
+
+/* A request on a lane of the thread's own, with plain records among the path's. */
+static void serve_alone(uint64_t number, dice *d) {
+    request r = { dspec_path_begin(&tracer), number, 0 };
+    const bool steps = one_in(d, 2);
+    for (uint32_t at = 0; at < STEPS; at++) {
+        if (steps) step(true);
+        if (query_in(&r.path, number, at) == DSPEC_OK) r.made++;
+        plain(number);
+        if (steps) step(false);
+    }
+    end(&r, d);
+}
+
+/* A request that may go on in another thread. */
+static void serve(uint64_t number, dice *d) {
+    request r = { dspec_path_begin(&tracer), number, 0 };
+    uint32_t at = 0;
+    for (; at < 2; at++) record(&r, at, d);
+    if (one_in(d, 3)) exchange(&r);
+    if (r.number != UINT64_MAX) {
+        for (; at < STEPS; at++) record(&r, at, d);
+        end(&r, d);
+    }
+    if (one_in(d, 4) && tick_now(&tracer, number) == DSPEC_OK) atomic_fetch_add(&ticks, 1);
+}
+
 static void *work(void *number) {
     const uint64_t thread = (uint64_t)(uintptr_t)number;
     dice d = { seed * 64 + thread };
     interrupted = (dice){ seed * 64 + 32 + thread };
-    for (uint64_t i = 0; i < REQUESTS; i++) {
-        request r = { dspec_path_begin(&tracer), i * THREADS + thread, 0 };
-        uint32_t at = 0;
-        for (; at < 2; at++) record(&r, at, &d);
-        if (one_in(&d, 3)) exchange(&r);
-        if (r.number != UINT64_MAX) {
-            for (; at < STEPS; at++) record(&r, at, &d);
-            end(&r, &d);
-        }
-        if (one_in(&d, 4) && tick_now(&tracer, i) == DSPEC_OK) atomic_fetch_add(&ticks, 1);
+    for (uint64_t i = 0; i < (alone ? REQUESTS_ALONE : REQUESTS); i++) {
+        if (alone) serve_alone(i * THREADS + thread, &d);
+        else serve(i * THREADS + thread, &d);
     }
     atomic_fetch_sub(&running, 1);
     return NULL;
@@ -126,6 +153,7 @@ int main(int count, char **words) {
     seed = strtoull(words[2], NULL, 10);
     for (int i = 3; i < count; i++) {
         if (strcmp(words[i], "no_membarrier=1") == 0) options.no_membarrier = true;
+        else if (strcmp(words[i], "alone=1") == 0) alone = true, options.lanes = THREADS;
         else if (strcmp(words[i], "by_thread=1") == 0) options.by_thread = true;
         else if (strcmp(words[i], "keep_last=1") == 0) options.keep_last = true, options.paths = 31;
         else return 2;
@@ -141,8 +169,9 @@ int main(int count, char **words) {
     dice d = { seed };
     while (atomic_load(&running) > 0) {
         pthread_kill(threads[below(&d, THREADS)], SIGUSR2);
-        if (one_in(&d, 200)) dspec_tracer_flush(&tracer, 1);
-        if (one_in(&d, 3)) usleep(below(&d, 50));
+        if (alone || one_in(&d, 200)) dspec_tracer_flush(&tracer, 1);
+        if (alone) usleep(2000 + below(&d, 4000));
+        else if (one_in(&d, 3)) usleep(below(&d, 50));
     }
     for (size_t i = 0; i < THREADS; i++) pthread_join(threads[i], NULL);
     dspec_tracer_report report;

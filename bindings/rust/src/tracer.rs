@@ -70,6 +70,8 @@ pub struct Options {
     /// A path that has more records than fit keeps its last ones, at least `specsize` less a record's bytes of them; else its first. `paths` is 31 then, and 1 to 31,
     /// and `specsize` 80 or more; each lane has twice `paths` and one more times `specsize` bytes.
     pub keep_last: bool,
+    /// The tracer's memory is a file beside the folder, `folder.memory`, which outlives a kill: the program `dspec-salvage` reads it. A stop takes it away.
+    pub survive: bool,
     /// Bytes of all files of the trace, which stands in folders `folder.0`, `folder.1`, .. below that bound then, by age, each a trace of its own; the oldest goes.
     /// 0: there is no bound.
     pub max_bytes: u64,

@@ -75,9 +75,9 @@ fn speculate_all<R: Threads + Sync>(threads: &R, alloc: Global, cpus: u32, numbe
     let Some((schema, work)) = work_of(number) else {
         return 0;
     };
-    let nobody: Option<RecordSink> = None;
-    match trace(threads, alloc, &config_of(cpus), schema, &work, nobody) {
-        Ok((closed, _)) => offered(&closed),
+    let mut nobody: Option<RecordSink> = None;
+    match trace(threads, alloc, &config_of(cpus), schema, &work, &mut nobody) {
+        Ok(closed) => offered(&closed),
         Err(_) => 0,
     }
 }

@@ -157,7 +157,7 @@ module _ {S : Type 0} (shape_of : S → ℕ → Option Shape) (accepted : S → 
           let made = one had.0 (λ c lt. had.1 c) in
           let said = subst (λ ds. (promised : IsPromisedBy (shape_of schema) (accepted schema) (text schema) k (entered_at cpus) ds (called_at cpus) (taken_at y) left)
           × (promised.deeds ≡ made.0)) (entered_last none) made.2 in
-          (traced_by said.0, listed_by k worn (view_of y).own had.0 made.0 made.1, said.1)
+          (traced_by said.0, listed_by k worn (view_of y).own had.0 made.0 made.1, said.1, refl)
 
 module _ {K : Type 0} (gets : K → Batch → K → Type 0) (does : ℕ → CallsMade → CallsMade → Type 0) (shape : ℕ → Option Shape) (accepted : Record → Bool)
     (text : Record → List ℕ) where

@@ -1,5 +1,5 @@
 -- Cited by calls. What a call on a lane, or of a path on a lane, did: what the call of the lane's CPU did.
-use Rattle.std.specs.Prelude.{ℕ, ◌≡◌, Bool, List, Option, Result}
+use Rattle.std.specs.Prelude.{ℕ, ◌≡◌, Bool, List, Option, MatchOption, Result}
 use Rattle.std.specs.Result.{result_ok}
 use Rattle.dspec_record.specs.Record.{Record}
 use Rattle.dspec_record.specs.declared.field.Shape.{Shape}
@@ -41,6 +41,13 @@ module _ {S : Type 0} {g : Ghosts S} (has : Cpu S → List Deed → Type 0) wher
 
   abbrev pub ServiceOn : Served → Lane S g → Lane S g → Type 0
   ServiceOn a old new = ServesOnce has a old.cpu.now new.cpu.now
+
+  -- a record of a probe was traced, or offered to a speculation; or nothing was done, since the schema doesn't have the probe
+  abbrev pub TraceIfOf : Record → Option Traced → Lane S g → Lane S g → Type 0
+  TraceIfOf r a old new = MatchOption a (new ≡ old) (λ traced. TraceOn r traced old new)
+
+  abbrev pub SpeculateIfOf : Speculation → Record → Option Spoken → Lane S g → Lane S g → Type 0
+  SpeculateIfOf id r a old new = MatchOption a (new ≡ old) (λ spoken. SpeculateOn id r spoken old new)
 
   -- how many records the CPU dropped from its buffer of a speculation, by every list that it has
   abbrev pub DropsOn : Speculation → ℕ → Lane S g → Type 0

@@ -43,9 +43,10 @@ module _ {K : Type 0} (gets : K → Batch → K → Type 0) (does : ℕ → Call
     pub worked : (c : ℕ) → c < k.cpus → does c no_calls (calls c)
     pub page : KeepsPage shape accepted text k.cpus calls (λ c l. passed_from c passed) left
 
-  -- the list by which each CPU is promised the page is the one that closes the session
+  -- the list by which each CPU is promised the page is the one that closes the session, and both speak of the same batches
   abbrev pub IsOneList : Config → K → List Left → K → Type 0
   IsOneList k old left new = (traced : IsTraced k old left new) × (listed : HasLists gets shape accepted text k old left new) × (traced.promised.deeds ≡ listed.deeds)
+      × (traced.passed ≡ listed.passed)
 
 -- the same, of a session whose records are those of enablings
 abbrev pub IsTracedWith : {K : Type 0} → EnabledRows → (K → Batch → K → Type 0) → (ℕ → CallsMade → CallsMade → Type 0) → Config → K → List Left → K → Type 0

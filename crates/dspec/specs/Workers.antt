@@ -21,6 +21,14 @@ pub record WorkedBy {W : Type 0} (does : ℕ → W → CallsMade → W → Calls
   pub is : slice_get new c ≡ Some behind
   pub did : does c before x behind y
 
+-- a configuration of as many CPUs as there are workers
+abbrev pub one_for : {W : Type 0} → List W → Config → Config
+one_for workers k = with_cpus (length workers) k
+
+-- that, and from there on the CPU made services
+abbrev pub WorkedOn : {W : Type 0} → (ℕ → W → CallsMade → W → CallsMade → Type 0) → List W → List W → ℕ → CallsMade → CallsMade → Type 0
+WorkedOn does old new = ThenServed (WorkedBy does old new)
+
 -- each CPU stands at the place of its number
 abbrev pub AllNumbered : {S : Type 0} → List (Cpu S) → Type 0
 AllNumbered {S} cpus = (c : ℕ) (cpu : Cpu S) → slice_get cpus c ≡ Some cpu → number_in cpu ≡ c

@@ -50,7 +50,8 @@ impl Handed {
 
 impl Path {
     /// Hands the path on. From here until `Path::take` nothing makes sure that it is decided: that rests with the program, and where
-    /// it wasn't, the reports tell by `held`.
+    /// it wasn't, the reports tell by `held`. The word can't be left where it is: a program that wants it no more says so, by `let _ =`.
+    #[must_use]
     #[inline]
     pub fn hand(self) -> Handed
         ensures { result.id ≡ id_given self.opening }

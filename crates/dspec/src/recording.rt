@@ -1,9 +1,9 @@
-ghost use Rattle.std.specs.Prelude.{◌≡◌, ◌↔◌, ℕ, IfOk, IsOk};
+ghost use Rattle.std.specs.Prelude.{◌≡◌, ◌↔◌, ℕ, IfOk, IsOk, IsSome};
 ghost use Rattle.dspec_record.specs.EnablingRows.{EnabledRows};
 ghost use Rattle.dspec_record.specs.Record.{Record};
 ghost use Rattle.dspec_deeds.specs.FateAnswers.{id_given};
 ghost use Rattle.dspec_cpu.specs.Lists.{schema_of};
-ghost use Rattle.dspec.specs.LaneCalls.{TraceOn, SpeculateOn};
+ghost use Rattle.dspec.specs.LaneCalls.{SpeculateIfOf, SpeculateOn, TraceIfOf, TraceOn};
 ghost use Rattle.dspec.specs.Lanes.{place_of};
 ghost use Rattle.dspec.specs.LastPaths.{LastRecordOn};
 
@@ -17,7 +17,8 @@ use dspec_probe::{Fields, Fired, Probe};
 use dspec_record::{Enablings, Header, Stamped, Unstamped};
 use dspec_word::SpecId;
 
-/// What a probe does on a lane. The lane's schema has to have the probe: `on` asks once, and no call of the lane changes it.
+/// What a probe does on a lane. The lane's schema has to have the probe: `on` asks once, and no call of the lane changes it. `try_record`
+/// and `try_record_in` ask each time.
 pub trait Recording<F: Fields>: Copy {
     /// Whether a schema has the probe.
     ghost is_of: { Self → EnabledRows → Type 0 };
@@ -25,7 +26,8 @@ pub trait Recording<F: Fields>: Copy {
     /// The record that a stamp and values stand for.
     ghost record_is: { Self → ℕ → F → Record };
 
-    /// The probe, where the lane's schema has it.
+    /// The probe, where the lane's schema has it: under its EPID are fields of these kinds. Two `Probes` that declare the same fields in the
+    /// same order have the same probes, whatever they are called.
     fn on(self, lane: &Lane<'_, Enablings>) -> Result<Self, ForeignProbe>
         ensures due { IsOk result ↔ is_of self (schema_of lane.now.cpu.now) }
         ensures same { IfOk result (λ probe. probe ≡ self) };
@@ -59,6 +61,24 @@ pub trait Recording<F: Fields>: Copy {
         requires of { is_of self (schema_of lane.old.cpu.now) }
         ensures same { place_of lane.new ≡ place_of lane.old }
         ensures does { SpeculateOn ⟦<Cpu<Enablings> as Listed>⟧.has_list id (record_is self stamp values) result lane.old lane.new };
+
+    /// As `record`, of a probe of which nothing is known. None, and nothing was done, where the lane's schema doesn't have it.
+    fn try_record(self, lane: &mut Lane<'_, Enablings>, stamp: u64, values: F) -> Option<Traced>
+        ensures due { IsSome result ↔ is_of self (schema_of lane.old.cpu.now) }
+        ensures same { place_of lane.new ≡ place_of lane.old }
+        ensures does { TraceIfOf ⟦<Cpu<Enablings> as Listed>⟧.has_list (record_is self stamp values) result lane.old lane.new };
+
+    /// As `record_in`, of a probe of which nothing is known. None, and nothing was done, where the lane's schema doesn't have it.
+    fn try_record_in(
+        self,
+        lane: &mut Lane<'_, Enablings>,
+        path: &Path,
+        stamp: u64,
+        values: F,
+    ) -> Option<Spoken>
+        ensures due { IsSome result ↔ is_of self (schema_of lane.old.cpu.now) }
+        ensures same { place_of lane.new ≡ place_of lane.old }
+        ensures does { SpeculateIfOf ⟦<Cpu<Enablings> as Listed>⟧.has_list (id_given path.now.opening) (record_is self stamp values) result lane.old lane.new };
 }
 
 impl<F: Fields> Recording<F> for Probe<F> {
@@ -118,5 +138,27 @@ impl<F: Fields> Recording<F> for Probe<F> {
             Header::One => lane.speculate_recorded(id, Fired::<F, Unstamped>::of(&rec, values)),
             Header::Two => lane.speculate_recorded(id, Fired::<F, Stamped>::of(&rec, values)),
         }
+    }
+
+    #[inline]
+    fn try_record(self, lane: &mut Lane<'_, Enablings>, stamp: u64, values: F) -> Option<Traced> {
+        let Ok(probe) = self.on(lane) else {
+            return None;
+        };
+        Some(probe.record(lane, stamp, values))
+    }
+
+    #[inline]
+    fn try_record_in(
+        self,
+        lane: &mut Lane<'_, Enablings>,
+        path: &Path,
+        stamp: u64,
+        values: F,
+    ) -> Option<Spoken> {
+        let Ok(probe) = self.on(lane) else {
+            return None;
+        };
+        Some(probe.record_in(lane, path, stamp, values))
     }
 }

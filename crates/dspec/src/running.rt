@@ -1,4 +1,4 @@
-ghost use Rattle.std.specs.Prelude.{◌≡◌, ◌≢◌, ◌<◌, ℕ, [], ◌∷◌, IfErr, IfOk, length, None, slice_get, Some};
+ghost use Rattle.std.specs.Prelude.{◌≡◌, ◌≢◌, ◌<◌, ℕ, [], ◌∷◌, IfErr, IfOk, length, None, OnErr, slice_get, Some};
 ghost use denote.Param.Send.{IsSync};
 ghost use Rattle.dspec_deeds.specs.declared.config.StartFault.TheVariants as start;
 ghost use Rattle.dspec_deeds.specs.Ranges.{start_fault};
@@ -33,15 +33,14 @@ pub(crate) const MOST_CPUS: usize = 64;
 // Each CPU works in a thread of its own, and serves on until all have; then the last thing is told.
 fn work_all<R: Threads + Sync, W: Work<Enablings>>(
     rt: &R,
-    cpus: Vec<Cpu<Enablings>>,
     shared: &Shared,
     work: &W,
     over: &AtomicU64,
-) -> Vec<Cpu<Enablings>>
-    requires { AllCallable shared.now cpus.items }
-    ensures { AllReturned (λ s. ThenServed (W.does s work.now)) cpus.items result.items }
+    cpus: &mut Vec<Cpu<Enablings>>,
+)
+    requires { AllCallable shared.now cpus.old.items }
+    ensures { AllReturned (λ s. ThenServed (W.does s work.now)) cpus.old.items cpus.new.items }
 {
-    let mut cpus = cpus;
     let counts = WorkCounts::of(cpus.len());
     let works = &counts;
     let part = move |_number: usize, cpu: &mut Cpu<Enablings>|
@@ -56,7 +55,6 @@ fn work_all<R: Threads + Sync, W: Work<Enablings>>(
     };
     thread::for_each_mut(rt, cpus.as_mut_slice(), MOST_CPUS, &part);
     over.store(1, Ordering::SeqCst);
-    cpus
 }
 
 // One CPU is asked, and what comes goes to the sink and back.
@@ -99,71 +97,56 @@ pub fn visit_all<K: Sink<Enablings>>(
 
 /// Rounds until the work is over, each of which visits so many CPUs.
 pub(crate) fn drain<K: Sink<Enablings>>(
-    consumer: Consumer,
     shared: &Shared,
     schema: &Enablings,
     count: u32,
-    sink: K,
     over: &AtomicU64,
-) -> (Consumer, K)
-    requires { IsConsumerOf (words_of shared.now) consumer }
-    ensures passes { PassesOn (K.gets schema.now) (words_of shared.now) consumer sink result.0 result.1 }
-    ensures rounds { MakesRounds (K.gets schema.now) count consumer sink result.0 result.1 }
+    consumer: &mut Consumer,
+    sink: &mut K,
+)
+    requires { IsConsumerOf (words_of shared.now) consumer.old }
+    ensures passes { PassesOn (K.gets schema.now) (words_of shared.now) consumer.old sink.old consumer.new sink.new }
+    ensures rounds { MakesRounds (K.gets schema.now) count consumer.old sink.old consumer.new sink.new }
 {
-    let (mut consumer, mut sink) = (consumer, sink);
     for _ in 0..u64::MAX {
         if over.load(Ordering::SeqCst) == 1 {
             break;
         }
-        visit_all(&mut consumer, shared, schema, count, &mut sink);
+        visit_all(consumer, shared, schema, count, sink);
         sink.pause();
     }
-    (consumer, sink)
 }
 
-// Lends each CPU to a thread, and the consumer to one more.
+// Lends each CPU to a thread, and the consumer to one more, which calls the sink.
 fn run<R: Threads + Sync, W: Work<Enablings>, K: Sink<Enablings>>(
     rt: &R,
-    session: Session<Enablings>,
     schema: &Enablings,
     count: u32,
     work: &W,
-    sink: K,
-) -> (Session<Enablings>, K)
-    requires session { IsSession schema.now session }
-    requires count { count ≡ (set_up_of session.consumer).cpus }
-    ensures lent { IsSession schema.now result.0 }
-    ensures words { result.0.shared ≡ session.shared }
-    ensures returned { AllReturned (λ s. ThenServed (W.does s work.now)) session.cpus.items result.0.cpus.items }
-    ensures passes { PassesOn (K.gets schema.now) (words_of session.shared) session.consumer sink result.0.consumer result.1 }
-    ensures rounds { MakesRounds (K.gets schema.now) (set_up_of session.consumer).cpus session.consumer sink result.0.consumer result.1 }
+    session: &mut Session<Enablings>,
+    sink: &mut K,
+)
+    requires session { IsSession schema.now session.old }
+    requires count { count ≡ (set_up_of session.old.consumer).cpus }
+    ensures lent { IsSession schema.now session.new }
+    ensures words { session.new.shared ≡ session.old.shared }
+    ensures returned { AllReturned (λ s. ThenServed (W.does s work.now)) session.old.cpus.items session.new.cpus.items }
+    ensures passes { PassesOn (K.gets schema.now) (words_of session.old.shared) session.old.consumer sink.old session.new.consumer sink.new }
+    ensures rounds { MakesRounds (K.gets schema.now) (set_up_of session.old.consumer).cpus session.old.consumer sink.old session.new.consumer sink.new }
 {
     let over = AtomicU64::new(0);
-    let flag = &over;
-    let Session {
-        shared,
-        cpus,
-        consumer,
-    } = session;
-    let words = &shared;
-    let (drained, cpus) = thread::join(
-        rt,
-        move || -> (Consumer, K)
-            requires { IsConsumerOf (words_of words.now) consumer }
-            ensures { PassesOn (K.gets schema.entry.now) (words_of words.entry.now) consumer sink result.0 result.1 × MakesRounds (K.gets schema.entry.now) count consumer sink result.0 result.1 }
-        { drain(consumer, words, schema, count, sink, flag) },
-        move || -> Vec<Cpu<Enablings>>
-            requires { IsSync R.row × AllCallable words.now cpus.items }
-            ensures { AllReturned (λ s. ThenServed (W.does s work.entry.now)) cpus.items result.items }
-        { work_all(rt, cpus, words, work, flag) },
-    );
-    let (consumer, sink) = drained;
-    let session = Session {
-        shared,
-        cpus,
-        consumer,
-    };
-    (session, sink)
+    let (words, flag) = (&session.shared, &over);
+    let (cpus, consumer) = (&mut session.cpus, &mut session.consumer);
+    let mut drains = ||
+        requires { IsConsumerOf (words_of words.now) consumer.now }
+        ensures passes { PassesOn (K.gets schema.entry.now) (words_of words.entry.now) consumer.entry.now sink.entry.now consumer.exit.now sink.exit.now }
+        ensures rounds { MakesRounds (K.gets schema.entry.now) count consumer.entry.now sink.entry.now consumer.exit.now sink.exit.now }
+    { drain(words, schema, count, flag, consumer, sink) };
+    let mut works = ||
+        requires { IsSync R.row × AllCallable words.now cpus.now.items }
+        ensures { AllReturned (λ s. ThenServed (W.does s work.entry.now)) cpus.entry.now.items cpus.exit.now.items }
+    { work_all(rt, words, work, flag, cpus) };
+    thread::join_mut(rt, &mut drains, &mut works);
 }
 
 /// Tells what holds of each CPU, as of every one between two of its calls.
@@ -203,28 +186,29 @@ pub fn pass_rests<K: Sink<Enablings>>(closed: &Closed, schema: &Enablings, count
 /// returned makes services until every work has returned, so that no slot waits for it; where some works have not begun, it makes at most
 /// 2^20, since they may wait for its thread. Then the session is closed, and what nobody had taken goes to the sink too, CPU by CPU: the
 /// batch that was sealed, and the last buffer. Each CPU is promised, of what its work did, of the services behind it and of what the sink
-/// got of it, what `dspec_promise` has on its page.
+/// got of it, what `dspec_promise` has on its page. Where there is no session the sink is as it was.
 pub fn trace<R: Threads + Sync, W: Work<Enablings>, K: Sink<Enablings>>(
     rt: &R,
     alloc: Global,
     config: &Config,
     schema: Enablings,
     work: &W,
-    sink: K,
-) -> Result<(Closed, K), StartFault>
+    sink: &mut K,
+) -> Result<Closed, StartFault>
     ensures started { IfOk result (λ _. start_fault config.now ≡ None) }
     ensures refused { IfErr result (λ fault. fault ≢ start.Memory → start_fault config.now ≡ Some fault) }
     ensures memory { IfErr result (λ fault. fault ≡ start.Memory → start_fault config.now ≡ None) }
-    ensures all { IfOk result (λ r. length r.0 ≡ config.now.cpus) }
-    ensures keeps { IfOk result (λ r. IsKeptWith schema (K.gets schema) (ThenServed (W.does schema work.now)) config.now sink r.0 r.1) }
-    ensures traced { IfOk result (λ r. IsTracedWith schema (K.gets schema) (ThenServed (W.does schema work.now)) config.now sink r.0 r.1) }
-    ensures listed { IfOk result (λ r. HasListsWith schema (K.gets schema) config.now sink r.0 r.1) }
-    ensures one_list { IfOk result (λ r. IsOneListWith schema (K.gets schema) (ThenServed (W.does schema work.now)) config.now sink r.0 r.1) }
+    ensures unchanged { OnErr result (sink.new ≡ sink.old) }
+    ensures all { IfOk result (λ left. length left ≡ config.now.cpus) }
+    ensures keeps { IfOk result (λ left. IsKeptWith schema (K.gets schema) (ThenServed (W.does schema work.now)) config.now sink.old left sink.new) }
+    ensures traced { IfOk result (λ left. IsTracedWith schema (K.gets schema) (ThenServed (W.does schema work.now)) config.now sink.old left sink.new) }
+    ensures listed { IfOk result (λ left. HasListsWith schema (K.gets schema) config.now sink.old left sink.new) }
+    ensures one_list { IfOk result (λ left. IsOneListWith schema (K.gets schema) (ThenServed (W.does schema work.now)) config.now sink.old left sink.new) }
 {
-    let session = Session::start(alloc, config, schema)?;
-    let (session, mut sink) = run(rt, session, &schema, config.cpus, work, sink);
+    let mut session = Session::start(alloc, config, schema)?;
+    run(rt, &schema, config.cpus, work, &mut session, sink);
     all_stand(&session.cpus);
     let closed = session.finish();
-    pass_rests(&closed, &schema, config.cpus, &mut sink);
-    Ok((closed, sink))
+    pass_rests(&closed, &schema, config.cpus, sink);
+    Ok(closed)
 }

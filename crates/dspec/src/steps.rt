@@ -78,6 +78,7 @@ impl<'l, 'a, C: Clock> Steps<'l, 'a, C> {
     }
 
     /// Hands the path on, as `Path::hand`; nothing is done on the lane.
+    #[must_use]
     #[inline]
     pub fn hand(self) -> Handed
         ensures lane { self.exit.0.now ≡ self.entry.lane.now }

@@ -1,4 +1,4 @@
-ghost use Rattle.std.specs.Prelude.{◌≡◌, ◌≢◌, ◌≤◌, ◌<◌, ◌∷◌, ℕ, [], IfErr, IfOk, length, map, None, Some, vec_capacity, vec_len};
+ghost use Rattle.std.specs.Prelude.{◌≡◌, ◌≢◌, ◌≤◌, ◌<◌, ◌∷◌, ℕ, [], IfErr, IfOk, length, map, None, OnErr, Some, vec_capacity, vec_len};
 ghost use denote.Param.Send.{IsSync};
 ghost use Rattle.dspec_deeds.specs.declared.config.StartFault.TheVariants as start;
 ghost use Rattle.dspec_deeds.specs.Ranges.{start_fault};
@@ -12,7 +12,7 @@ ghost use Rattle.dspec.specs.Passed.{HasListsWith, PassesOn};
 ghost use Rattle.dspec.specs.Serving.{ThenServed};
 ghost use Rattle.dspec.specs.Traced.{IsOneListWith, IsKeptWith, IsTracedWith};
 ghost use Rattle.dspec.specs.Visits.{MakesRounds};
-ghost use Rattle.dspec.specs.Workers.{AllNumbered, AllWorked, WorkedBy, WorkedOne, cpus_of, with_cpus, workers_of};
+ghost use Rattle.dspec.specs.Workers.{AllNumbered, AllWorked, WorkedBy, WorkedOn, WorkedOne, cpus_of, one_for, workers_of};
 
 use crate::lane::Lane;
 use crate::running::{MOST_CPUS, all_stand, drain, pass_rests};
@@ -94,16 +94,16 @@ fn work_one<W: Worker<Enablings>>(pair: &mut Working<W>, shared: &Shared, works:
     works.serve_on(&mut lane);
 }
 
-// Each works in a thread of its own.
+// Each works in a thread of its own; then the last thing is told.
 fn work_pairs<R: Threads + Sync, W: Worker<Enablings>>(
     rt: &R,
-    pairs: Vec<Working<W>>,
     shared: &Shared,
-) -> Vec<Working<W>>
-    requires { AllCallable shared.now (cpus_of pairs.items) }
-    ensures { AllWorked W.does pairs.items result.items }
+    over: &AtomicU64,
+    pairs: &mut Vec<Working<W>>,
+)
+    requires { AllCallable shared.now (cpus_of pairs.old.items) }
+    ensures { AllWorked W.does pairs.old.items pairs.new.items }
 {
-    let mut pairs = pairs;
     let counts = WorkCounts::of(pairs.len());
     let works = &counts;
     let part = move |_number: usize, pair: &mut Working<W>|
@@ -111,110 +111,107 @@ fn work_pairs<R: Threads + Sync, W: Worker<Enablings>>(
         ensures { WorkedOne W.does pair.entry.now pair.exit.now }
     { work_one(pair, shared, works) };
     thread::for_each_mut(rt, pairs.as_mut_slice(), MOST_CPUS, &part);
-    pairs
-}
-
-// Each CPU works with its worker in a thread of its own; then the last thing is told.
-fn work_each<R: Threads + Sync, W: Worker<Enablings>>(
-    rt: &R,
-    cpus: Vec<Cpu<Enablings>>,
-    workers: Vec<W>,
-    room: Vec<Working<W>>,
-    shared: &Shared,
-    over: &AtomicU64,
-) -> (Vec<Cpu<Enablings>>, Vec<W>)
-    requires callable { AllCallable shared.now cpus.items × AllNumbered cpus.items }
-    requires count { length workers.items ≡ length cpus.items }
-    requires room { (room.items ≡ []) × (length cpus.items ≤ vec_capacity room) }
-    ensures { AllReturned (λ s. ThenServed (WorkedBy (W.does s) workers.items result.1.items)) cpus.items result.0.items × (length result.1.items ≡ length workers.items) }
-{
-    let (mut cpus, mut workers) = (cpus, workers);
-    let pairs = pair_up(&mut cpus, &mut workers, room);
-    let pairs = work_pairs(rt, pairs, shared);
-    part_again(pairs, &mut cpus, &mut workers);
     over.store(1, Ordering::SeqCst);
-    (cpus, workers)
 }
 
-// Lends each CPU, with its worker, to a thread, and the consumer to one more.
-fn run_workers<R: Threads + Sync, W: Worker<Enablings>, K: Sink<Enablings>>(
+// Lends each pair to a thread, and the consumer to one more, which calls the sink.
+fn run_pairs<R: Threads + Sync, W: Worker<Enablings>, K: Sink<Enablings>>(
     rt: &R,
-    session: Session<Enablings>,
+    shared: &Shared,
     schema: &Enablings,
     count: u32,
-    workers: Vec<W>,
-    room: Vec<Working<W>>,
-    sink: K,
-) -> (Session<Enablings>, Vec<W>, K)
-    requires session { IsSession schema.now session }
-    requires cpus { count ≡ (set_up_of session.consumer).cpus }
-    requires count { length workers.items ≡ length session.cpus.items }
-    requires room { (room.items ≡ []) × (length session.cpus.items ≤ vec_capacity room) }
-    ensures lent { IsSession schema.now result.0 × (result.0.shared ≡ session.shared) × (length result.1.items ≡ length workers.items) }
-    ensures returned { AllReturned (λ s. ThenServed (WorkedBy (W.does s) workers.items result.1.items)) session.cpus.items result.0.cpus.items }
-    ensures passes { PassesOn (K.gets schema.now) (words_of session.shared) session.consumer sink result.0.consumer result.2 }
-    ensures rounds { MakesRounds (K.gets schema.now) (set_up_of session.consumer).cpus session.consumer sink result.0.consumer result.2 }
+    pairs: &mut Vec<Working<W>>,
+    consumer: &mut Consumer,
+    sink: &mut K,
+)
+    requires consumer { IsConsumerOf (words_of shared.now) consumer.old }
+    requires callable { AllCallable shared.now (cpus_of pairs.old.items) }
+    ensures worked { AllWorked W.does pairs.old.items pairs.new.items }
+    ensures passes { PassesOn (K.gets schema.now) (words_of shared.now) consumer.old sink.old consumer.new sink.new }
+    ensures rounds { MakesRounds (K.gets schema.now) count consumer.old sink.old consumer.new sink.new }
 {
     let over = AtomicU64::new(0);
     let flag = &over;
-    let Session {
-        consumer,
-        cpus,
-        shared,
-    } = session;
-    let words = &shared;
-    let (drained, worked) = thread::join(
-        rt,
-        move || -> (Consumer, K)
-            requires { IsConsumerOf (words_of words.now) consumer }
-            ensures { PassesOn (K.gets schema.entry.now) (words_of words.entry.now) consumer sink result.0 result.1 × MakesRounds (K.gets schema.entry.now) count consumer sink result.0 result.1 }
-        { drain(consumer, words, schema, count, sink, flag) },
-        move || -> (Vec<Cpu<Enablings>>, Vec<W>)
-            requires { IsSync R.row × AllCallable words.now cpus.items × AllNumbered cpus.items × (length workers.items ≡ length cpus.items) × (room.items ≡ []) × (length cpus.items ≤ vec_capacity room) }
-            ensures { AllReturned (λ s. ThenServed (WorkedBy (W.does s) workers.items result.1.items)) cpus.items result.0.items × (length result.1.items ≡ length workers.items) }
-        { work_each(rt, cpus, workers, room, words, flag) },
-    );
-    let (consumer, sink) = drained;
-    let (cpus, workers) = worked;
-    let session = Session {
-        shared,
-        cpus,
-        consumer,
-    };
-    (session, workers, sink)
+    let mut drains = ||
+        requires { IsConsumerOf (words_of shared.now) consumer.now }
+        ensures passes { PassesOn (K.gets schema.entry.now) (words_of shared.entry.now) consumer.entry.now sink.entry.now consumer.exit.now sink.exit.now }
+        ensures rounds { MakesRounds (K.gets schema.entry.now) count consumer.entry.now sink.entry.now consumer.exit.now sink.exit.now }
+    { drain(shared, schema, count, flag, consumer, sink) };
+    let mut works = ||
+        requires { IsSync R.row × AllCallable shared.now (cpus_of pairs.now.items) }
+        ensures { AllWorked W.does pairs.entry.now.items pairs.exit.now.items }
+    { work_pairs(rt, shared, flag, pairs) };
+    thread::join_mut(rt, &mut drains, &mut works);
 }
 
-/// As `trace`, with a worker for each CPU, which is called by `&mut` in a thread of its own and comes back behind the close, at its
-/// place, as its work left it. There are as many CPUs as workers: the configuration's own number isn't read. Each CPU is promised what
-/// `trace` promises, of what its worker did on it.
+// Pairs CPUs and workers, lends the pairs, and takes them apart again.
+fn run_workers<R: Threads + Sync, W: Worker<Enablings>, K: Sink<Enablings>>(
+    rt: &R,
+    schema: &Enablings,
+    count: u32,
+    room: Vec<Working<W>>,
+    session: &mut Session<Enablings>,
+    workers: &mut Vec<W>,
+    sink: &mut K,
+)
+    requires session { IsSession schema.now session.old }
+    requires cpus { count ≡ (set_up_of session.old.consumer).cpus }
+    requires count { length workers.old.items ≡ length session.old.cpus.items }
+    requires room { (room.items ≡ []) × (length session.old.cpus.items ≤ vec_capacity room) }
+    ensures lent { IsSession schema.now session.new }
+    ensures words { session.new.shared ≡ session.old.shared }
+    ensures all { length workers.new.items ≡ length workers.old.items }
+    ensures returned { AllReturned (λ s. ThenServed (WorkedBy (W.does s) workers.old.items workers.new.items)) session.old.cpus.items session.new.cpus.items }
+    ensures passes { PassesOn (K.gets schema.now) (words_of session.old.shared) session.old.consumer sink.old session.new.consumer sink.new }
+    ensures rounds { MakesRounds (K.gets schema.now) (set_up_of session.old.consumer).cpus session.old.consumer sink.old session.new.consumer sink.new }
+{
+    let mut pairs = pair_up(&mut session.cpus, workers, room);
+    let consumer = &mut session.consumer;
+    run_pairs(
+        rt,
+        &session.shared,
+        schema,
+        count,
+        &mut pairs,
+        consumer,
+        sink,
+    );
+    part_again(pairs, &mut session.cpus, workers);
+}
+
+/// As `trace`, with a worker for each CPU, which is called by `&mut` in a thread of its own, and stands at its place again behind the
+/// close, as its work left it. There are as many CPUs as workers: the configuration's own number isn't read. Each CPU is promised what
+/// `trace` promises, of what its worker did on it. Where there is no session workers and sink are as they were.
 pub fn trace_workers<R: Threads + Sync, W: Worker<Enablings>, K: Sink<Enablings>>(
     rt: &R,
     alloc: Global,
     config: &Config,
     schema: Enablings,
-    workers: Vec<W>,
-    sink: K,
-) -> Result<(Closed, Vec<W>, K), StartFault>
-    ensures started { IfOk result (λ _. start_fault (with_cpus (length workers.items) config.now) ≡ None) }
-    ensures refused { IfErr result (λ fault. fault ≢ start.Memory → start_fault (with_cpus (length workers.items) config.now) ≡ Some fault) }
-    ensures memory { IfErr result (λ fault. fault ≡ start.Memory → start_fault (with_cpus (length workers.items) config.now) ≡ None) }
-    ensures all { IfOk result (λ r. (length r.0 ≡ length workers.items) × (length r.1.items ≡ length workers.items)) }
-    ensures keeps { IfOk result (λ r. IsKeptWith schema (K.gets schema) (ThenServed (WorkedBy (W.does schema) workers.items r.1.items)) (with_cpus (length workers.items) config.now) sink r.0 r.2) }
-    ensures traced { IfOk result (λ r. IsTracedWith schema (K.gets schema) (ThenServed (WorkedBy (W.does schema) workers.items r.1.items)) (with_cpus (length workers.items) config.now) sink r.0 r.2) }
-    ensures listed { IfOk result (λ r. HasListsWith schema (K.gets schema) (with_cpus (length workers.items) config.now) sink r.0 r.2) }
-    ensures one_list { IfOk result (λ r. IsOneListWith schema (K.gets schema) (ThenServed (WorkedBy (W.does schema) workers.items r.1.items)) (with_cpus (length workers.items) config.now) sink r.0 r.2) }
+    workers: &mut Vec<W>,
+    sink: &mut K,
+) -> Result<Closed, StartFault>
+    ensures started { IfOk result (λ _. start_fault (one_for workers.old.items config.now) ≡ None) }
+    ensures refused { IfErr result (λ fault. fault ≢ start.Memory → start_fault (one_for workers.old.items config.now) ≡ Some fault) }
+    ensures memory { IfErr result (λ fault. fault ≡ start.Memory → start_fault (one_for workers.old.items config.now) ≡ None) }
+    ensures unchanged { OnErr result ((workers.new ≡ workers.old) × (sink.new ≡ sink.old)) }
+    ensures all { IfOk result (λ left. (length left ≡ length workers.old.items) × (length workers.new.items ≡ length workers.old.items)) }
+    ensures keeps { IfOk result (λ c. IsKeptWith schema (K.gets schema) (WorkedOn (W.does schema) workers.old.items workers.new.items) (one_for workers.old.items config.now) sink.old c sink.new) }
+    ensures traced { IfOk result (λ c. IsTracedWith schema (K.gets schema) (WorkedOn (W.does schema) workers.old.items workers.new.items) (one_for workers.old.items config.now) sink.old c sink.new) }
+    ensures listed { IfOk result (λ c. HasListsWith schema (K.gets schema) (one_for workers.old.items config.now) sink.old c sink.new) }
+    ensures one_list { IfOk result (λ c. IsOneListWith schema (K.gets schema) (WorkedOn (W.does schema) workers.old.items workers.new.items) (one_for workers.old.items config.now) sink.old c sink.new) }
 {
     let Ok(cpus) = u32::try_from(workers.len()) else {
         return Err(StartFault::Cpus);
     };
     let config = Config { cpus, ..*config };
-    let session = Session::start(alloc, &config, schema)?;
+    config.check()?;
     let Ok(room) = Vec::with_capacity(alloc, workers.len()) else {
         return Err(StartFault::Memory);
     };
-    let (session, workers, mut sink) = run_workers(rt, session, &schema, cpus, workers, room, sink);
+    let mut session = Session::start(alloc, &config, schema)?;
+    run_workers(rt, &schema, cpus, room, &mut session, workers, sink);
     all_stand(&session.cpus);
     let closed = session.finish();
-    pass_rests(&closed, &schema, cpus, &mut sink);
-    Ok((closed, workers, sink))
+    pass_rests(&closed, &schema, cpus, sink);
+    Ok(closed)
 }

@@ -10,7 +10,8 @@ use crate::statuses::{
 };
 use dspec_word::SpecId;
 
-#[inline(always)]
+// A call of its own: an export that takes values saves registers before it asks whether its handle is empty, where all stands in it.
+#[inline(never)]
 pub fn held_trace(held: &mut Held, epid: u32, stamp: u64, values: &[u64]) -> u32
     ensures { TraceAnswers epid stamp values.now held.old result held.new }
 {
@@ -49,7 +50,8 @@ pub fn held_speculation(held: &mut Held, id: &mut u64) -> u32
     }
 }
 
-#[inline(always)]
+// A call of its own, as `held_trace`.
+#[inline(never)]
 pub fn held_speculate(held: &mut Held, id: u64, epid: u32, stamp: u64, values: &[u64]) -> u32
     ensures { SpeculateAnswers id epid stamp values.now held.old result held.new }
 {

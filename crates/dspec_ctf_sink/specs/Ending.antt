@@ -10,11 +10,15 @@ use Rattle.dspec_ctf_sink.specs.Losses.{capped}
 abbrev pub untold : Report → ℕ
 untold r = capped (r.dropped + r.specdropped + r.lost) - r.drops
 
+-- a batch without records
+abbrev pub IsBare : Batch → Type 0
+IsBare b = (b.buffer.text ≡ []) × (b.buffer.count ≡ 0)
+
 -- a batch of this CPU without records, which tells so many drops
 pub record IsTelling (cpu drops : ℕ) (b : Batch) : Type 0 where
   pub of : b.cpu ≡ cpu
   pub tells : b.drops ≡ drops
-  pub bare : b.buffer.text ≡ []
+  pub bare : IsBare b
 
 module _ {K : Type 0} (gets : K → Batch → K → Type 0) where
   -- a sink got a batch without records that tells what a CPU of this report lost beyond what its batches told

@@ -5,6 +5,7 @@ pub mod Ending
 pub mod Faults
 pub mod Held
 pub mod Losses
+pub mod Places
 pub mod Writes
 pub mod Writing
 pub mod Timed

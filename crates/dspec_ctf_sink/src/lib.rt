@@ -15,7 +15,7 @@
 //! | `next.rt` | the packets of a batch, with one in front that tells of none missed where some are told first |
 //! | `losing.rt`, `telling.rt`, `laws.rt` | `Loss` and `Lossy`, which tell what wasn't written; `Telling`, a sink whose losses are printed while it runs; the law that nothing is lost uncounted |
 //! | `timed.rt` | `TimedFolder`, the sink by time: several files for each CPU, packets for each run of a batch's records, one write |
-//! | `ending.rt` | `tell_untold`: what reports count as lost beyond what batches told (`specs/Ending`, `proofs/OneMore`) |
+//! | `ending.rt` | `Untold`, `tell_untold`: what reports count as lost beyond what batches told (`specs/Ending`, `proofs/OneMore`) |
 //! | `identity.rt` | `Identity`: a uuid of the system's random bytes, the machine's name, the process's number |
 //! | `specs/`: Writes, Writing, Timed, Faults, Held | a write and its answer, and what writes leave of a file; what a call adds or loses; the same by time; which faults a place has; what a file has behind a write, and a folder's files of all that it was asked for |
 //! | `specs/`: Answered, Asked | one answer more, one write more |
@@ -44,7 +44,7 @@ pub use dspec_ctf::{
     ClockStart, Form, Kind, Names, Origin, ProbeNames, Process, Stream, first_refused, metadata,
     metadata_from,
 };
-pub use ending::tell_untold;
+pub use ending::{Untold, tell_untold};
 pub use fault::FolderFault;
 pub use folder::Folder;
 pub use identity::Identity;

@@ -15,7 +15,9 @@ pub struct Telling<'a, K: Drop> {
 
 impl<'a, K: Drop> Telling<'a, K> {
     /// A sink of which nothing is told yet.
-    pub fn new(rt: &'a HostRuntime, name: &'a str, sink: K) -> Telling<'a, K> {
+    pub fn new(rt: &'a HostRuntime, name: &'a str, sink: K) -> Telling<'a, K>
+        ensures { result.sink ≡ sink }
+    {
         Telling {
             rt,
             name,

@@ -156,6 +156,15 @@ impl<F: Folder> TraceFolder<F> {
     {
         ended_by(self.lost)
     }
+
+    /// Ends the trace: its place, and what `finish` tells.
+    pub fn end(self) -> (F, Option<Loss>)
+        ensures place { F.written result.0 ≡ self.written }
+        ensures lost { result.1 ≡ self.lost }
+    {
+        let TraceFolder { folder, lost, .. } = self;
+        (folder, lost)
+    }
 }
 
 impl<F: Folder> Lossy for TraceFolder<F> {

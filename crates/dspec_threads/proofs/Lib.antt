@@ -1,4 +1,7 @@
 mod Homes
 mod MoreVerdicts
 mod MoreWaits
+mod Pairs
 mod Runs
+mod Standing
+mod Whereabouts

@@ -1,9 +1,10 @@
 -- A verdict more is said to one lane, and done behind others.
 use Rattle.std.proofs.Common.{◌≡◌, ℕ, ◌+◌, ◌<◌, ◌≤◌, Bool, true, false, List, [], ◌∷◌, ◌++◌, length, map, refl, sym, ap, ◌∙◌, subst, arith, append_assoc, get_or}
 use Rattle.std.specs.Prelude.{MatchBool, slice_get, slice_set, option_map, Some}
-use Rattle.std.proofs.lemmas.List.{map-set, length-append, length-map}
+use Rattle.std.proofs.lemmas.List.{append-nil, map-set, length-append, length-map}
 use Rattle.std.proofs.lemmas.Option.{slice_get-map, slice_get_read, slice_get_within}
 use Rattle.std.proofs.Math.Seq.{map-set_same}
+use mathlib.Core.List.{IsPrefix}
 use Rattle.dspec_record.specs.declared.schema.Schema.{Ghosts}
 use Rattle.dspec_word.specs.SpecId.{Speculation}
 use Rattle.dspec_deeds.specs.declared.deed.Deed.{Deed}
@@ -28,6 +29,21 @@ module _ {S : Type 0} {g : Ghosts S} (has : Cpu S → List Deed → Type 0) (may
     count = (let long = length-append so.these (v ∷ []) in let count = so.count in omega arith);
     does = does_snoc so.these v old between new so.does said one;
   }
+
+-- what was seen in a ring comes first of what comes out of it
+pub seen_first : (done : List Verdict) (seen more now : List Verdict) (was : List Verdict) → was ≡ done → IsPrefix seen more → now ≡ more → IsPrefix (done ++ seen) (was ++ now)
+seen_first done seen more now was same (rest, e) is =
+    (rest, append_assoc done seen rest ∙ (ap (λ xs. done ++ xs) (e ∙ sym is) ∙ ap (λ xs. xs ++ now) (sym same)))
+
+-- and so it is behind one of them
+pub still_seen : (all done left now rest : List Verdict) {v : Verdict} → now ≡ done ++ v ∷ [] → left ≡ v ∷ rest → IsPrefix all (done ++ left) → IsPrefix all (now ++ rest)
+still_seen all done left now rest {v} came is (more, e) =
+    (more, e ∙ (ap (λ xs. done ++ xs) is ∙ (sym (append_assoc done (v ∷ []) rest) ∙ ap (λ xs. xs ++ rest) (sym came))))
+
+-- when none is left
+pub all_seen : (all done left : List Verdict) → length left ≡ 0 → IsPrefix all (done ++ left) → IsPrefix all done
+all_seen all done [] none (more, e) = (more, e ∙ append-nil done)
+all_seen all done (v ∷ vs) none is = absurd (omega (arith, none))
 
 module _ {J : Type 0} where
   -- what was said to one of the lanes

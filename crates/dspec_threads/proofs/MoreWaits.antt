@@ -1,9 +1,17 @@
--- A lane serves once more, or asks once more in vain.
-use Rattle.std.proofs.Common.{◌≡◌, ℕ, ◌+◌, ◌≤◌, suc, List, subst, sym, arith}
+-- A lane serves once more, asks once more in vain, or attends once more to what is said to it.
+use Rattle.std.proofs.Common.{◌≡◌, ℕ, ◌+◌, ◌≤◌, ◌++◌, suc, Bool, List, append_assoc, ap, refl, ◌∙◌, subst, sym, arith}
+use mathlib.Core.List.{IsPrefix}
 use Rattle.dspec_record.specs.declared.schema.Schema.{Ghosts}
 use Rattle.dspec_deeds.specs.declared.deed.Deed.{Deed}
 use Rattle.dspec_cpu.specs.declared.cpu.Cpu.{Cpu}
 use Rattle.dspec.specs.declared.lane.Lane.{Lane}
+use Rattle.dspec_word.specs.SpecId.{Speculation}
+use Rattle.dspec_threads.specs.Attends.{AsksAndAttends, AsksTimes, AttendsOnce, AttendsTimes, AttendsWithin, OpensAttending}
+use Rattle.dspec_threads.specs.Settled.{settled_by}
+use Rattle.dspec_threads.specs.declared.settling.Settler.{Settler}
+use Rattle.dspec_deeds.specs.declared.calls.Opening.{Opening}
+use Rattle.dspec.specs.LaneCalls.{OpeningOn}
+use Rattle.dspec_threads.specs.declared.verdict.Verdict.{Verdict}
 use Rattle.dspec_threads.specs.Waits.{AsksAndServes, AsksInVain, ServesAgain, ServesTimes, ServesWithin}
 
 next_is : (n : ℕ) → suc n ≡ n + 1
@@ -23,3 +31,40 @@ module _ {S : Type 0} {g : Ghosts S} (has : Cpu S → List Deed → Type 0) wher
     few = few;
     serves = subst (λ l. ServesTimes has n old l) (sym same) before;
   }
+
+module _ {S : Type 0} {g : Ghosts S} (has : Cpu S → List Deed → Type 0) (may : Speculation → Bool → Type 0) where
+  pub attends_once_more : (n : ℕ) (before now after : List Verdict) (old mid new : Lane S g) → AttendsTimes has may n before now old mid → AttendsOnce has may now after mid new
+      → AttendsTimes has may (n + 1) before after old new
+  attends_once_more n before now after old mid new earlier again = subst (λ k. AttendsTimes has may k before after old new) (next_is n) (mid, now, earlier, again)
+
+  pub asks_attending_once_more : (n : ℕ) (before now after : List Verdict) (old mid new : Lane S g) → AsksTimes has may n before now old mid → AsksAndAttends has may now after mid new
+      → AsksTimes has may (n + 1) before after old new
+  asks_attending_once_more n before now after old mid new earlier again = subst (λ k. AsksTimes has may k before after old new) (next_is n) (mid, now, earlier, again)
+
+  -- behind a look that found a path nothing was done
+  pub attends_no_more : (n most : ℕ) (before now after : List Verdict) (old mid new : Lane S g) → n ≤ most → AttendsTimes has may n before now old mid → new ≡ mid → after ≡ now
+      → AttendsWithin has may most before after old new
+  attends_no_more n most before now after old mid new few earlier same none = record {
+    count = n;
+    few = few;
+    attends = subst (λ vs. AttendsTimes has may n before vs old new) (sym none) (subst (λ l. AttendsTimes has may n before now old l) (sym same) earlier);
+  }
+
+  -- where a path was opened nothing was settled
+  pub opens_attending : {J : Type 0} (n most : ℕ) (answer : Opening) (before : List Verdict) (s t : Settler J) (old mid new : Lane S g) → n ≤ most
+      → AsksTimes has may n before (settled_by s) old mid → t ≡ s → OpeningOn has answer mid new → OpensAttending has may most answer before (settled_by t) old new
+  opens_attending {J} n most answer before s t old mid new few earlier same opens = record {
+    count = n;
+    few = few;
+    asked = mid;
+    asks = subst (λ (x : Settler J). AsksTimes has may n before (settled_by x) old mid) (sym same) earlier;
+    opens = opens;
+  }
+
+-- what comes first of what comes first
+pub first_of_first : {A : Type 0} (xs ys zs : List A) → IsPrefix xs ys → IsPrefix ys zs → IsPrefix xs zs
+first_of_first xs ys zs (more, e) (most, f) = (more ++ most, sym (append_assoc xs more most) ∙ (ap (λ ws. ws ++ most) e ∙ f))
+
+-- and of what is longer
+pub first_of_longer : {A : Type 0} (xs ys zs : List A) → IsPrefix xs ys → IsPrefix xs (ys ++ zs)
+first_of_longer xs ys zs is = first_of_first xs ys (ys ++ zs) is (zs, refl)

@@ -1,6 +1,8 @@
 -- What a session keeps while it runs on a program's own threads.
-use Rattle.std.proofs.Common.{◌≡◌, ℕ, zero, suc, ◌+◌, ◌≤◌, List, [], ◌∷◌, length, map, Some, refl, sym, ap, ◌∙◌, subst, arith}
-use Rattle.std.specs.Prelude.{All, slice_get}
+use Rattle.std.proofs.Common.{◌≡◌, ◌≤◌, ℕ, zero, suc, List, [], ◌∷◌, length, map, Some, refl, sym, ap, ◌∙◌, subst}
+use Rattle.std.specs.Prelude.{All, Bool, IfOk, IfSome, None, Ok, Err, Option, Result, slice_get}
+use Rattle.std.specs.Option.{option_map_or}
+use Rattle.std.proofs.lemmas.Option.{slice_get_past}
 use Rattle.std.proofs.lemmas.List.{length-map}
 use Rattle.dspec_record.specs.EnablingRows.{EnabledRows}
 use Rattle.dspec_deeds.specs.declared.config.Config.{Config}
@@ -9,112 +11,160 @@ use Rattle.dspec_ring.specs.Known.{IsUnusedConsumer, Pair}
 use Rattle.dspec_table.specs.Seats.{last_seat, set_up}
 use Rattle.dspec_cpu.specs.declared.cpu.Cpu.{Cpu}
 use Rattle.dspec_cpu.specs.declared.shared.Shared.{Shared}
-use Rattle.dspec_cpu.specs.Called.{CallsMade, called}
-use Rattle.dspec_cpu.specs.Lists.{words_of}
+use Rattle.dspec_cpu.specs.Called.{CallsMade, called, no_calls}
+use Rattle.dspec_cpu.specs.Lists.{number_in, schema_of, words_of}
 use Rattle.dspec_session_core.specs.declared.session.Session.{Session}
-use Rattle.dspec_session_core.specs.Consumers.{Consuming, pairs_of, view_of}
+use Rattle.dspec_session_core.specs.Consumers.{Consuming, view_of}
 use Rattle.dspec_session_core.specs.Sessions.{IsSession}
 use Rattle.dspec.specs.Passed.{PassesOn}
 use Rattle.dspec.proofs.Passing.{passes_both, passes_nothing}
-use Rattle.dspec_threads.specs.Homes.{AreBack, AreHomes, IsOfRank, IsHomeOf, Rank, alone}
-use Rattle.dspec_threads.specs.Runs.{IsRun, LooksLater, Run}
+use Rattle.dspec_threads.specs.Homes.{IsOfRank}
+use Rattle.dspec_threads.specs.Places.{AreCpusOf, AreAtPlaces, AtOne, EachPair, IsAtPlace, IsAtPlaceSo, KeepsPlace, LooksAndSends, Rests, StaysIn, Whereabouts, waits_inside, who_is_in}
+use Rattle.dspec_threads.specs.Runs.{AreNew, HandsLane, IsLaneOf, IsRun, Run, rank_of}
+use Rattle.dspec_threads.proofs.Pairs.{each_itself, pair_count, set_past}
+use Rattle.dspec_threads.proofs.Whereabouts.{begins, each_placed, inside_there, sent_from, stays_itself}
 
 -- what stands at a place came of what stands there
-there_was : (cpus : List (Cpu EnabledRows)) (i : ℕ) (came : List (Cpu EnabledRows)) → slice_get (map alone cpus) i ≡ Some came
-    → (cpu : Cpu EnabledRows) × (slice_get cpus i ≡ Some cpu) × (came ≡ cpu ∷ [])
-there_was [] i came at = absurd (cc (at))
-there_was (x ∷ xs) zero came at = (x, refl, sym (cc (at)))
-there_was (x ∷ xs) (suc i) came at = there_was xs i came at
+there_was : (cpus : List (Cpu EnabledRows)) (i : ℕ) (w : Whereabouts) → slice_get (map waits_inside cpus) i ≡ Some w → (cpu : Cpu EnabledRows) × (slice_get cpus i ≡ Some cpu) × (w ≡ waits_inside cpu)
+there_was [] i w at = absurd (cc (at))
+there_was (x ∷ xs) zero w at = (x, refl, sym (cc (at)))
+there_was (x ∷ xs) (suc i) w at = there_was xs i w at
 
-abbrev rank_of : Shared → EnabledRows → Consuming → Rank
-rank_of shared schema x = record { shared = shared; schema = schema; pairs = pairs_of x }
+seen_there : (cpus : List (Cpu EnabledRows)) (i : ℕ) (cpu : Cpu EnabledRows) → slice_get cpus i ≡ Some cpu → slice_get (who_is_in (map waits_inside cpus)) i ≡ Some (Some cpu)
+seen_there [] i cpu at = absurd (cc (at))
+seen_there (x ∷ xs) zero cpu at = ap (λ o. Some o) at
+seen_there (x ∷ xs) (suc i) cpu at = seen_there xs i cpu at
+
+was_seen : (cpus : List (Cpu EnabledRows)) (i : ℕ) (o : Option (Cpu EnabledRows)) → slice_get (who_is_in (map waits_inside cpus)) i ≡ Some o
+    → (cpu : Cpu EnabledRows) × (slice_get cpus i ≡ Some cpu) × (o ≡ Some cpu)
+was_seen [] i o at = absurd (cc (at))
+was_seen (x ∷ xs) zero o at = (x, refl, sym (cc (at)))
+was_seen (x ∷ xs) (suc i) o at = was_seen xs i o at
+
+seen_all : (cpus : List (Cpu EnabledRows)) → length (who_is_in (map waits_inside cpus)) ≡ length cpus
+seen_all cpus = length-map (map waits_inside cpus) (λ (w : Whereabouts). w.inside) ∙ length-map cpus waits_inside
+
+-- the CPUs of a session that has just started
+pub all_new : (count : ℕ) (schema : EnabledRows) (cpus : List (Cpu EnabledRows)) → length cpus ≡ count
+    → ((c : ℕ) (cpu : Cpu EnabledRows) → slice_get cpus c ≡ Some cpu → (number_in cpu ≡ c) × (schema_of cpu ≡ schema) × (no_calls ≡ called cpu))
+    → AreNew count schema (who_is_in (map waits_inside cpus))
+all_new count schema cpus all each = record {
+  all = seen_all cpus ∙ all;
+  each = λ c o at. let (cpu, there, e) = was_seen cpus c o at in let told = each c cpu there in (cpu, e, told.0, told.1, told.2);
+}
 
 module _ {K : Type 0} (gets : K → Batch → K → Type 0) (done : ℕ → CallsMade → Type 0) where
-  -- all CPUs of a session are out
-  pub all_out : (schema : EnabledRows) (session : Session EnabledRows) (shared : Shared) (count : ℕ) (homes : List (List (Cpu EnabledRows))) (back : List (Cpu EnabledRows)) (began sink : K)
-      → IsSession schema session → count ≡ (set_up (words_of session.shared)).cpus → shared ≡ session.shared
+  -- all CPUs of a session are at home
+  pub all_at_home : (schema : EnabledRows) (session : Session EnabledRows) (shared : Shared) (count : ℕ) (places : List Whereabouts) (began sink : K)
+      → IsSession schema session → count ≡ (set_up (words_of session.shared)).cpus → AreNew count schema (who_is_in (map waits_inside session.cpus.items)) → shared ≡ session.shared
       → view_of session.consumer ≡ last_seat (set_up (words_of session.shared)) → All IsUnusedConsumer session.consumer.ends
-      → homes ≡ map alone session.cpus.items → back ≡ [] → began ≡ sink
-      → IsRun gets done shared schema count homes back session.consumer began sink
-  all_out schema session shared count homes back began sink is number same view unused out none first =
-      let made : IsRun gets done session.shared schema count (map alone session.cpus.items) [] session.consumer sink sink = record {
+      → places ≡ map waits_inside session.cpus.items → began ≡ sink
+      → IsRun gets done shared schema count places session.consumer began sink
+  all_at_home schema session shared count places began sink is number new same view unused here first =
+      let made : IsRun gets done session.shared schema count (map waits_inside session.cpus.items) session.consumer sink sink = record {
         checked = is.checked;
         number = number;
-        all = omega (arith, length-map session.cpus.items alone, is.all);
-        is_back = λ c cpu at. absurd (cc (at));
-        are_homes = λ i came at.
-            let (cpu, there, e) = there_was session.cpus.items i came at in
-            let here : i ≡ 0 + i = omega arith in
-            record { first = cpu; was = e; is = subst (λ n. IsOfRank (rank_of session.shared schema session.consumer) n cpu) here (is.each i cpu there) };
+        all = length-map session.cpus.items waits_inside ∙ is.all;
+        placed = λ i w at.
+            let (cpu, there, e) = there_was session.cpus.items i w at in
+            let (one, is_one, number, has_schema, none) = new.each i (Some cpu) (seen_there session.cpus.items i cpu there) in
+            let same_cpu : one ≡ cpu = cc (is_one) in
+            subst (λ (v : Whereabouts). IsAtPlace done (rank_of session.shared schema session.consumer) i v) (sym e)
+            (begins done (rank_of session.shared schema session.consumer) i cpu (is.each i cpu there) (subst (λ (x : Cpu EnabledRows). no_calls ≡ called x) same_cpu none));
         first = session.consumer;
         first_view = view;
         unused = unused;
         passes = passes_nothing gets (words_of session.shared) session.consumer sink is.consumer;
       } in
-      subst (λ (k : K). IsRun gets done shared schema count homes back session.consumer k sink) (sym first)
-      (subst (λ (s : Shared). IsRun gets done s schema count homes back session.consumer sink sink) (sym same)
-      (subst (λ hs. IsRun gets done session.shared schema count hs back session.consumer sink sink) (sym out)
-      (subst (λ (bs : List (Cpu EnabledRows)). IsRun gets done session.shared schema count (map alone session.cpus.items) bs session.consumer sink sink) (sym none) made)))
+      subst (λ (k : K). IsRun gets done shared schema count places session.consumer k sink) (sym first)
+      (subst (λ (s : Shared). IsRun gets done s schema count places session.consumer sink sink) (sym same)
+      (subst (λ ws. IsRun gets done session.shared schema count ws session.consumer sink sink) (sym here) made))
 
   -- the consumer took more, and the sink got it
-  pub more_taken : (shared : Shared) (schema : EnabledRows) (count : ℕ) (homes : List (List (Cpu EnabledRows))) (back : List (Cpu EnabledRows)) (x y : Consuming) (began k l : K) (lent : Shared)
-      → IsRun gets done shared schema count homes back x began k → lent ≡ shared → PassesOn gets (words_of lent) x k y l → IsRun gets done shared schema count homes back y began l
-  more_taken shared schema count homes back x y began k l lent is same taken =
+  pub more_taken : (shared : Shared) (schema : EnabledRows) (count : ℕ) (places : List Whereabouts) (x y : Consuming) (began k l : K) (lent : Shared)
+      → IsRun gets done shared schema count places x began k → lent ≡ shared → PassesOn gets (words_of lent) x k y l → IsRun gets done shared schema count places y began l
+  more_taken shared schema count places x y began k l lent is same taken =
       let more = subst (λ (s : Shared). PassesOn gets (words_of s) x k y l) same taken in
       record {
         checked = is.checked;
         number = is.number;
         all = is.all;
-        is_back = subst (λ (ps : List Pair). AreBack done (record { shared = shared; schema = schema; pairs = ps }) back) (sym more.stays.same.pairs) is.is_back;
-        are_homes = subst (λ (ps : List Pair). AreHomes (record { shared = shared; schema = schema; pairs = ps }) (length back) homes) (sym more.stays.same.pairs) is.are_homes;
+        placed = subst (λ (ps : List Pair). AreAtPlaces done (record { shared = shared; schema = schema; pairs = ps }) places) (sym more.stays.same.pairs) is.placed;
         first = is.first;
         first_view = is.first_view;
         unused = is.unused;
         passes = passes_both gets (words_of shared) is.first x y began k l is.passes more;
       }
 
-  -- more CPUs are back
-  pub more_back : (shared : Shared) (schema : EnabledRows) (count : ℕ) (homes later : List (List (Cpu EnabledRows))) (back now : List (Cpu EnabledRows)) (x : Consuming) (began k : K)
-      → IsRun gets done shared schema count homes back x began k
-      → ((rank : Rank) → AreBack done rank back → AreHomes rank (length back) homes → AreBack done rank now × AreHomes rank (length now) later)
-      → length now + length later ≡ length back + length homes → IsRun gets done shared schema count later now x began k
-  more_back shared schema count homes later back now x began k is gathered same =
-      let both = gathered (record { shared = shared; schema = schema; pairs = pairs_of x }) is.is_back is.are_homes in
-      record {
-        checked = is.checked;
-        number = is.number;
-        all = same ∙ is.all;
-        is_back = both.0;
-        are_homes = both.1;
-        first = is.first;
-        first_view = is.first_view;
-        unused = is.unused;
-        passes = is.passes;
-      }
+  -- each CPU is where it is, and is that still
+  pub placed_later : (R : Whereabouts → Whereabouts → Type 0) (keeps : (v w : Whereabouts) → R v w → KeepsPlace done v w) (shared : Shared) (schema : EnabledRows) (count : ℕ)
+      (old new : List Whereabouts) (x : Consuming) (began k : K) → EachPair R old new → IsRun gets done shared schema count old x began k → IsRun gets done shared schema count new x began k
+  placed_later R keeps shared schema count old new x began k each is = record {
+    checked = is.checked;
+    number = is.number;
+    all = pair_count R old new each ∙ is.all;
+    placed = each_placed done R keeps (rank_of shared schema x) old new each is.placed;
+    first = is.first;
+    first_view = is.first_view;
+    unused = is.unused;
+    passes = is.passes;
+  }
+
+  pub of_run : (shared lent : Shared) (schema : EnabledRows) (count : ℕ) (places : List Whereabouts) (x : Consuming) (began k : K)
+      → IsRun gets done shared schema count places x began k → lent ≡ shared → AreCpusOf done lent places
+  of_run shared lent schema count places x began k is same = (rank_of shared schema x, sym same, is.placed)
+
+  -- each of them rests
+  pub stands : (shared : Shared) (schema : EnabledRows) (count : ℕ) (places : List Whereabouts) (cpus : List (Cpu EnabledRows)) (x : Consuming) (began k : K)
+      → IsRun gets done shared schema count places x began k → who_is_in places ≡ map Some cpus
+      → (c : ℕ) (cpu : Cpu EnabledRows) → slice_get cpus c ≡ Some cpu → IsOfRank (rank_of shared schema x) c cpu × Rests done c (called cpu)
+  stands shared schema count places cpus x began k is inside c cpu at =
+      let (w, there, e) = inside_there places cpus c cpu inside at in
+      subst (λ (o : Option (Cpu EnabledRows)). IsAtPlaceSo done (rank_of shared schema x) c o w.came) e (is.placed c w there)
 
   -- with all CPUs back it is a session
-  pub session_again : (shared : Shared) (schema : EnabledRows) (count : ℕ) (homes : List (List (Cpu EnabledRows))) (session : Session EnabledRows) (began k : K)
-      → IsRun gets done shared schema count homes session.cpus.items session.consumer began k → homes ≡ [] → session.shared ≡ shared → IsSession schema session
-  session_again shared schema count homes session began k is none same =
-      let all : length session.cpus.items ≡ (set_up (words_of shared)).cpus = omega (arith, ap length none, is.all) in
+  pub session_again : (shared : Shared) (schema : EnabledRows) (count : ℕ) (places : List Whereabouts) (session : Session EnabledRows) (began k : K)
+      → IsRun gets done shared schema count places session.consumer began k → who_is_in places ≡ map Some session.cpus.items → session.shared ≡ shared → IsSession schema session
+  session_again shared schema count places session began k is inside same =
+      let all : length session.cpus.items ≡ (set_up (words_of shared)).cpus =
+      sym (length-map session.cpus.items Some) ∙ (sym (ap length inside) ∙ (length-map places (λ (w : Whereabouts). w.inside) ∙ is.all)) in
       let made : IsSession schema (record { shared = shared; cpus = session.cpus; consumer = session.consumer }) = record {
         checked = is.checked;
         consumer = is.passes.stays.session;
         all = all;
-        each = λ c cpu at. (is.is_back c cpu at).0;
+        each = λ c cpu at. (stands shared schema count places session.cpus.items session.consumer began k is inside c cpu at).0;
       } in
       subst (λ (s : Shared). IsSession schema (record { shared = s; cpus = session.cpus; consumer = session.consumer })) (sym same) made
 
--- nothing is out
-pub nothing_out : {A B : Type 0} (f : A → B) (xs : List A) → length xs ≡ 0 → map f xs ≡ []
-nothing_out f [] none = refl
-nothing_out f (x ∷ xs) none = absurd (omega (arith, none))
+  module _ {E : Type 0} where
+    -- who is handed out is the CPU of that number
+    sent_if : (a : Result (Option (Cpu EnabledRows)) E) (b : Option (Cpu EnabledRows)) (shared : Shared) (schema : EnabledRows) (count c : ℕ) (x : Consuming) (began k : K) (old new : List Whereabouts)
+        → IsRun gets done shared schema count old x began k → AtOne (LooksAndSends done a) c old new → a ≡ Ok b → IfSome b (λ cpu. IsLaneOf done schema c cpu)
+    sent_if a None shared schema count c x began k old new is one e = tt
+    sent_if a (Some cpu) shared schema count c x began k old new is one e =
+        let r = rank_of shared schema x in
+        let here = sent_from done a (Some cpu) cpu r c one.was one.is one.does e refl (is.placed c one.was one.there) in
+        record { number = here.0.number; one = here.0.one; rests = here.1 }
 
--- fewer are out, and nothing else changed
-pub later_so : {K : Type 0} (schema : EnabledRows) (config : Config) (n m : ℕ) (consumer : Consuming) (began sink : K) (old : Run K)
-    → record { schema = schema; config = config; out = n; consumer = consumer; began = began; sink = sink } ≡ old → m ≤ n
-    → LooksLater old (record { schema = schema; config = config; out = m; consumer = consumer; began = began; sink = sink })
-later_so {K} schema config n m consumer began sink old e few =
-    let same : record { schema = schema; config = config; out = old.out; consumer = consumer; began = began; sink = sink } ≡ old =
-    ap (λ (r : Run K). record { schema = schema; config = config; out = r.out; consumer = consumer; began = began; sink = sink }) (sym e) ∙ e in
-    record { same = same; out = subst (λ (r : Run K). m ≤ r.out) e few }
+    pub lane_sent : (a : Result (Option (Cpu EnabledRows)) E) (shared : Shared) (schema : EnabledRows) (count c : ℕ) (x : Consuming) (began k : K) (old new : List Whereabouts)
+        → IsRun gets done shared schema count old x began k → AtOne (LooksAndSends done a) c old new → IfOk a (λ b. IfSome b (λ cpu. IsLaneOf done schema c cpu))
+    lane_sent (Ok b) shared schema count c x began k old new is one = sent_if (Ok b) b shared schema count c x began k old new is one refl
+    lane_sent (Err e) shared schema count c x began k old new is one = tt
+
+-- what is seen but for who is at home stays
+pub later_so : {K : Type 0} (schema : EnabledRows) (config : Config) (home : List (Option (Cpu EnabledRows))) (held : Bool) (consumer : Consuming) (began sink : K) (old : Run K)
+    → record { schema = schema; config = config; home = home; held = held; consumer = consumer; began = began; sink = sink } ≡ old
+    → record { schema = schema; config = config; home = old.home; held = held; consumer = consumer; began = began; sink = sink } ≡ old
+later_so {K} schema config home held consumer began sink old e =
+    ap (λ (r : Run K). record { schema = schema; config = config; home = r.home; held = held; consumer = consumer; began = began; sink = sink }) (sym e) ∙ e
+
+-- where there is no such CPU nothing is handed out
+pub none_handed : {K E : Type 0} (c : ℕ) (old new : Run K) → new ≡ old → length old.home ≤ c → HandsLane {K = K} {E = E} c (Ok None) old new
+none_handed {K} {E} c old new e past =
+    subst (λ (r : Run K). HandsLane {K = K} {E = E} c (Ok None) old r) (sym e)
+    (record {
+      same = refl;
+      looked = old.home;
+      later = each_itself StaysIn stays_itself old.home;
+      hands = (sym (ap (λ o. option_map_or (λ x. x) o None) (slice_get_past old.home c past)), sym (set_past old.home c None past));
+    })

@@ -1,5 +1,7 @@
+pub mod Attends
 pub mod Belts
 pub mod Homes
+pub mod Places
 pub mod Runs
 pub mod Said
 pub mod Settled

@@ -1,5 +1,6 @@
 -- Cited by calls. What contracts see of a session that runs on a program's own threads, and what it keeps.
-use Rattle.std.specs.Prelude.{ℕ, ◌≡◌, ◌≤◌, ◌+◌, List, length, slice_get, All, Some, None}
+use Rattle.std.specs.Prelude.{ℕ, ◌≡◌, Bool, false, List, length, slice_get, slice_set, All, Option, Some, None, Result, MatchResult}
+use Rattle.std.specs.Option.{option_map_or}
 use Rattle.dspec_record.specs.EnablingRows.{EnabledRows}
 use Rattle.dspec_deeds.specs.declared.config.Config.{Config}
 use Rattle.dspec_deeds.specs.Ranges.{start_fault}
@@ -13,26 +14,30 @@ use Rattle.dspec_cpu.specs.Lists.{number_in, schema_of, words_of}
 use Rattle.dspec_session_core.specs.Consumers.{Consuming, pairs_of, view_of}
 use Rattle.dspec.specs.Passed.{PassesOn}
 use Rattle.dspec.specs.Visits.{MakesRound}
-use Rattle.dspec_threads.specs.Homes.{AreBack, AreHomes}
+use Rattle.dspec_threads.specs.Homes.{Rank}
+use Rattle.dspec_threads.specs.Places.{AreAtPlaces, EachPair, Rests, ServesInside, StaysIn, Whereabouts}
 
--- its schema and configuration, how many lanes aren't back, its consumer, and the sink, as it was at the start and as it is
+-- its schema and configuration; of each CPU, in order, itself where its lane is back; whether what the lanes share was somebody else's when
+-- it was to end; its consumer, and the sink, as it was at the start and as it is
 pub record Run (K : Type 0) : Type 0 where
   pub schema : EnabledRows
   pub config : Config
-  pub out : ℕ
+  pub home : List (Option (Cpu EnabledRows))
+  pub held : Bool
   pub consumer : Consuming
   pub began : K
   pub sink : K
 
--- Of a session of so many CPUs these are back, and to these homes the others come; its consumer took batches from the start on, and
--- the sink got them.
+abbrev pub rank_of : Shared → EnabledRows → Consuming → Rank
+rank_of shared schema x = record { shared = shared; schema = schema; pairs = pairs_of x }
+
+-- The CPUs of a session of so many are there; its consumer took batches from the start on, and the sink got them.
 pub record IsRun {K : Type 0} (gets : K → Batch → K → Type 0) (done : ℕ → CallsMade → Type 0) (shared : Shared) (schema : EnabledRows) (count : ℕ)
-    (homes : List (List (Cpu EnabledRows))) (back : List (Cpu EnabledRows)) (consumer : Consuming) (began sink : K) : Type 0 where
+    (places : List Whereabouts) (consumer : Consuming) (began sink : K) : Type 0 where
   pub checked : start_fault (set_up (words_of shared)) ≡ None
   pub number : count ≡ (set_up (words_of shared)).cpus
-  pub all : length back + length homes ≡ (set_up (words_of shared)).cpus
-  pub is_back : AreBack done (record { shared = shared; schema = schema; pairs = pairs_of consumer }) back
-  pub are_homes : AreHomes (record { shared = shared; schema = schema; pairs = pairs_of consumer }) (length back) homes
+  pub all : length places ≡ (set_up (words_of shared)).cpus
+  pub placed : AreAtPlaces done (rank_of shared schema consumer) places
   pub first : Consuming
   pub first_view : view_of first ≡ last_seat (set_up (words_of shared))
   pub unused : All IsUnusedConsumer first.ends
@@ -42,19 +47,41 @@ pub record IsRun {K : Type 0} (gets : K → Batch → K → Type 0) (done : ℕ 
 pub record BeginsRun {K : Type 0} (k : Config) (schema : EnabledRows) (sink : K) (r : Run K) : Type 0 where
   pub one : r.schema ≡ schema
   pub config : r.config ≡ k
-  pub out : r.out ≡ k.cpus
+  pub held : r.held ≡ false
   pub began : r.began ≡ sink
   pub now : r.sink ≡ sink
 
--- these are the lanes of all CPUs, in order, of which no calls were made
-pub record AreNew (count : ℕ) (schema : EnabledRows) (lanes : List (Cpu EnabledRows)) : Type 0 where
-  pub all : length lanes ≡ count
-  pub each : (c : ℕ) (cpu : Cpu EnabledRows) → slice_get lanes c ≡ Some cpu → (number_in cpu ≡ c) × (schema_of cpu ≡ schema) × (no_calls ≡ called cpu)
+-- all CPUs are at home, of which no calls were made
+pub record AreNew (count : ℕ) (schema : EnabledRows) (home : List (Option (Cpu EnabledRows))) : Type 0 where
+  pub all : length home ≡ count
+  pub each : (c : ℕ) (o : Option (Cpu EnabledRows)) → slice_get home c ≡ Some o
+      → (cpu : Cpu EnabledRows) × (o ≡ Some cpu) × (number_in cpu ≡ c) × (schema_of cpu ≡ schema) × (no_calls ≡ called cpu)
 
 -- a look later lanes may be back, and nothing else changed
 pub record LooksLater {K : Type 0} (old new : Run K) : Type 0 where
-  pub same : record new { out = old.out } ≡ old
-  pub out : new.out ≤ old.out
+  pub same : record new { home = old.home } ≡ old
+  pub home : EachPair StaysIn old.home new.home
+
+-- behind a look each CPU that was at home made a service, and nothing else changed
+pub record TendsHome {K : Type 0} (old new : Run K) : Type 0 where
+  pub same : record new { home = old.home } ≡ old
+  pub looked : List (Option (Cpu EnabledRows))
+  pub later : EachPair StaysIn old.home looked
+  pub serves : EachPair ServesInside looked new.home
+
+-- Behind a look the CPU with this number, if it was at home, is the answer, and is out; or memory was refused, and it stays. Nothing else
+-- changed.
+pub record HandsLane {K E : Type 0} (c : ℕ) (a : Result (Option (Cpu EnabledRows)) E) (old new : Run K) : Type 0 where
+  pub same : record new { home = old.home } ≡ old
+  pub looked : List (Option (Cpu EnabledRows))
+  pub later : EachPair StaysIn old.home looked
+  pub hands : MatchResult a (λ o. (o ≡ option_map_or (λ x. x) (slice_get looked c) None) × (new.home ≡ slice_set looked c None)) (λ _. new.home ≡ looked)
+
+-- it is the lane of the CPU with this number, of which nothing was done but what is asked of one that was given back, and services
+pub record IsLaneOf (done : ℕ → CallsMade → Type 0) (schema : EnabledRows) (c : ℕ) (cpu : Cpu EnabledRows) : Type 0 where
+  pub number : number_in cpu ≡ c
+  pub one : schema_of cpu ≡ schema
+  pub rests : Rests done c (called cpu)
 
 -- the consumer made a round, the sink got what came, and nothing else changed
 pub record RoundMade {K : Type 0} (gets : K → Batch → K → Type 0) (old new : Run K) : Type 0 where

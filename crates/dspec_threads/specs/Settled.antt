@@ -6,7 +6,7 @@ use Rattle.dspec_deeds.specs.declared.calls.Decided.{Decided}
 use Rattle.dspec_deeds.specs.declared.deed.Deed.{Deed}
 use Rattle.dspec_promise.specs.Promise.{commit, discard}
 use Rattle.dspec_cpu.specs.declared.cpu.Cpu.{Cpu}
-use Rattle.rtrb.specs.Ring.{received}
+use Rattle.rtrb.specs.Ring.{known_items, received}
 use Rattle.dspec_ring.specs.EndFields.{popped_from}
 use Rattle.dspec_ring.specs.Known.{Ring}
 use Rattle.dspec.specs.declared.lane.Lane.{Lane}
@@ -18,6 +18,10 @@ use Rattle.dspec_threads.specs.declared.verdict.Verdict.{Verdict}
 -- what was settled by this end so far, the oldest first
 abbrev pub settled_by : {J : Type 0} → Settler J → List Verdict
 settled_by s = received s.coming
+
+-- what it saw in its ring, and has not settled
+abbrev pub seen_by : {J : Type 0} → Settler J → List Verdict
+seen_by s = known_items s.coming
 
 -- out of which ring
 abbrev pub settled_from : {J : Type 0} → Settler J → Ring

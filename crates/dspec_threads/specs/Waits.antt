@@ -19,12 +19,20 @@ module _ {S : Type 0} {g : Ghosts S} (has : Cpu S → List Deed → Type 0) wher
     pub answer : Served
     pub serves : ServiceOn has answer old new
 
+  -- an ask that was refused
+  pub record IsAskRefused (old new : Lane S g) : Type 0 where
+    pub answer : Opening
+    pub asks : OpeningOn has answer old new
+    pub refused : id_number (id_given answer) ≡ 0
+
+  -- or a path that was opened
+  abbrev pub AsksFor : Option Path → Lane S g → Lane S g → Type 0
+  AsksFor a old new = MatchOption a (IsAskRefused old new) (λ path. OpeningOn has path.opening old new)
+
   -- an ask that was refused, and a service
   pub record AsksInVain (old new : Lane S g) : Type 0 where
-    pub answer : Opening
     pub between : Lane S g
-    pub asks : OpeningOn has answer old between
-    pub refused : id_number (id_given answer) ≡ 0
+    pub asks : IsAskRefused old between
     pub serves : ServesAgain between new
 
   -- a path that was opened, or an ask in vain

@@ -1,7 +1,7 @@
-ghost use Rattle.std.specs.Prelude.{◌≡◌, [], IfOk, length, replicate};
+ghost use Rattle.std.specs.Prelude.{◌≡◌, [], IfOk, length, map, replicate};
 ghost use Rattle.dspec.specs.Lanes.{place_of};
-ghost use Rattle.dspec_threads.specs.Said.{SaysTo, SaysWithin, rooms_of_lanes, said_to_each};
-ghost use Rattle.dspec_threads.specs.Settled.{SettlesSome};
+ghost use Rattle.dspec_threads.specs.Said.{SaysTo, SaysWithin, rooms_of_lanes, said_into, said_to_each};
+ghost use Rattle.dspec_threads.specs.Settled.{SettlesSome, settled_from};
 
 use crate::judging::Judging;
 use crate::saying::Sayer;
@@ -44,10 +44,31 @@ pub fn board<J: Judging>(
     Ok((Judge { sayers }, Verdicts { settlers }))
 }
 
+/// As `board`, with an end for each lane to settle by, in order: each is for one worker to hold.
+pub fn settlers<J: Judging>(
+    alloc: Global,
+    lanes: u32,
+    room: usize,
+) -> Result<(Judge<J>, Vec<Settler<J>>), AllocError>
+    ensures judge { IfOk result (λ r. said_to_each r.0.sayers.items ≡ replicate lanes []) }
+    ensures rooms { IfOk result (λ r. rooms_of_lanes r.0.sayers.items ≡ replicate lanes room) }
+    ensures lanes { IfOk result (λ r. length r.1.items ≡ lanes) }
+    ensures ends { IfOk result (λ r. map settled_from r.1.items ≡ map said_into r.0.sayers.items) }
+{
+    let (mut sayers, mut ends) = (Vec::new(alloc), Vec::new(alloc));
+    for _ in 0..lanes {
+        let (sayer, end) = pair(alloc, room)?;
+        sayers.push(sayer)?;
+        ends.push(end)?;
+    }
+    Ok((Judge { sayers }, ends))
+}
+
 impl<J: Judging> Judge<J> {
-    /// Says to a lane what is to become of a path, true for keep. Any lane of the session can decide any path; the one from whose
+    /// Says to a lane what is to become of a path, true for keep. Whoever says it has to heed the answer. Any lane of the session can decide any path; the one from whose
     /// batch the word came is the nearest. False, and nothing was said, where the lane's ring is full, as far as can be seen, or where
     /// there is no such lane.
+    #[must_use]
     pub fn say(&mut self, lane: u32, path: Handed, keep: bool) -> bool
         requires { J.may path.id keep }
         ensures says { SaysTo lane (record { path = path; keep = keep }) result self.old.sayers.items self.new.sayers.items }

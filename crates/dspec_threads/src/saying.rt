@@ -14,6 +14,7 @@ pub struct Sayer<J: Judging> {
 
 impl<J: Judging> Sayer<J> {
     /// Says a verdict to the lane. False, and nothing was said, where the ring is full, as far as this end can see.
+    #[must_use]
     #[inline]
     pub fn say(&mut self, verdict: Verdict) -> bool
         requires { J.may verdict.path.id verdict.keep }

@@ -1,7 +1,8 @@
 ghost use Rattle.std.specs.Prelude.{◌≡◌, ℕ, ◌++◌, [], List, length, IfOk};
+ghost use mathlib.Core.List.{IsPrefix};
 ghost use Rattle.dspec.specs.Lanes.{place_of};
 ghost use Rattle.dspec_threads.specs.Said.{room_of_lane, said_by, said_into};
-ghost use Rattle.dspec_threads.specs.Settled.{DoesVerdict, SettlesNext, settled_by, settled_from};
+ghost use Rattle.dspec_threads.specs.Settled.{DoesVerdict, SettlesNext, seen_by, settled_by, settled_from};
 ghost use Rattle.dspec_threads.specs.declared.verdict.Verdict.{Verdict};
 
 use crate::judging::{Judging, Said};
@@ -40,6 +41,7 @@ impl<J: Judging> Settler<J> {
         ensures same { place_of lane.new ≡ place_of lane.old }
         ensures ring { settled_from self.new ≡ settled_from self.old }
         ensures does { SettlesNext ⟦<Cpu<S> as Listed>⟧.has_list J.may (settled_by self.old) (settled_by self.new) result lane.old lane.new }
+        ensures seen { IsPrefix (settled_by self.old ++ seen_by self.old) (settled_by self.new) }
     {
         let count = self.coming.slots();
         for _ in 0..count {

@@ -1,7 +1,7 @@
 ghost use Rattle.std.specs.Prelude.{◌≡◌, ◌++◌, [], ◌∷◌, MatchOption};
 ghost use Rattle.dspec.specs.Lanes.{place_of};
 ghost use Rattle.dspec_threads.specs.Belts.{handed_of, taken_by, taken_from_belt};
-ghost use Rattle.dspec_threads.specs.Waits.{OpensWithin, ServesWithin, AsksOnce, LooksOnce};
+ghost use Rattle.dspec_threads.specs.Waits.{AsksFor, AsksOnce, LooksOnce, OpensWithin, ServesWithin};
 
 use crate::ends::Taker;
 use dspec::{Lane, Path};
@@ -9,16 +9,27 @@ use dspec_cpu::{Cpu, Listed};
 use dspec_record::Schema;
 use std::thread;
 
-// An ask, and a service behind one in vain.
-fn ask<S: Schema>(lane: &mut Lane<'_, S>) -> Option<Path>
+/// An ask: the path, if one was given.
+pub(crate) fn asked<S: Schema>(lane: &mut Lane<'_, S>) -> Option<Path>
     ensures same { place_of lane.new ≡ place_of lane.old }
-    ensures asks { AsksOnce ⟦<Cpu<S> as Listed>⟧.has_list result lane.old lane.new }
+    ensures asks { AsksFor ⟦<Cpu<S> as Listed>⟧.has_list result lane.old lane.new }
 {
     let path = lane.path();
     if path.opening().id().raw() != 0 {
         return Some(path);
     }
-    path.hand();
+    let _ = path.hand();
+    None
+}
+
+// An ask, and a service behind one in vain.
+fn ask<S: Schema>(lane: &mut Lane<'_, S>) -> Option<Path>
+    ensures same { place_of lane.new ≡ place_of lane.old }
+    ensures asks { AsksOnce ⟦<Cpu<S> as Listed>⟧.has_list result lane.old lane.new }
+{
+    if let Some(path) = asked(lane) {
+        return Some(path);
+    }
     lane.service();
     thread::yield_now();
     None

@@ -3,6 +3,7 @@ mod Begun
 mod Filing
 mod Folding
 mod Growing
+mod InFolder
 mod Keeping
 mod Losing
 mod Naming
@@ -12,8 +13,10 @@ mod Read
 mod RowNaming
 mod Sharing
 mod Taking
+mod Through
 mod TimedAsking
 mod TimedBegun
 mod TimedFolding
 mod TimedWhole
+mod Told
 mod Whole

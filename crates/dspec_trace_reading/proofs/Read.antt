@@ -20,7 +20,7 @@ use Rattle.dspec_trace_reading.proofs.Whole.{FilesRead, MetadataReads, reads_bac
 module _ (e : EnabledRows) (does : ℕ → CallsMade → CallsMade → Type 0) where
   module _ {K : Type 0} (gets : K → Batch → K → Type 0) (k : Config) (begun : K) (left : List Left) (ended : K) (t : TracedBy e does gets k begun left ended) where
     -- by the lists that the session has
-    numbered : ListedBy e does gets k begun left ended → HaveNumbers t.passed
+    pub numbered : ListedBy e does gets k begun left ended → HaveNumbers t.passed
     numbered h = have_numbers k.cpus t.passed t.from (λ d lt.
         let found = is_there left d (subst (λ n. d < n) (sym h.closes.all) lt) in
         subst (λ bs. Numbered d bs) (sym (t.whole d found.0 found.1))

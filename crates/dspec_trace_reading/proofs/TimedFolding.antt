@@ -9,7 +9,6 @@ use Rattle.dspec_record.specs.declared.header.Header.TheVariants as header
 use Rattle.dspec_ring.specs.declared.batch.Batch.{Batch}
 use Rattle.dspec.specs.Passed.{Passed, GotAll, passed_from}
 use Rattle.dspec_ctf.specs.Rows.{of_file, told_by}
-use Rattle.dspec_ctf.specs.Streams.{IsText}
 use Rattle.dspec_ctf.specs.declared.form.Form.TheVariants.{ByTime}
 use Rattle.dspec_ctf.specs.declared.names.Names.{Names}
 use Rattle.dspec_ctf_reading.specs.Files.{FileTells}

@@ -1,3 +1,6 @@
 pub mod AsTaken
+pub mod Begun
 pub mod ByTime
+pub mod Folders
+pub mod IntoFolders
 pub mod Laws

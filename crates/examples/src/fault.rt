@@ -1,6 +1,7 @@
-use dspec::{ProbeFault, RecordSinkFault, StartFault};
+use dspec::{Closed, ProbeFault, RecordSinkFault, StartFault};
 use dspec_command::{CommandFault, Ending};
 use dspec_ctf_sink::{FolderFault, Loss};
+use dspec_trace_reading::{FolderTrace, ToFolderFault};
 use std::alloc::AllocError;
 use thiserror::Error;
 
@@ -39,6 +40,22 @@ impl<'a> Ending for ExampleFault<'a> {
             | ExampleFault::Records(RecordSinkFault::Memory) => 2,
             _ => 1,
         }
+    }
+}
+
+/// What is left of a session that was traced into the folder of that path.
+pub fn in_folder<'a>(
+    name: &'a str,
+    traced: Result<FolderTrace<'_>, ToFolderFault>,
+) -> Result<Closed, ExampleFault<'a>> {
+    let FolderTrace { closed, lost, .. } = match traced {
+        Ok(traced) => traced,
+        Err(ToFolderFault::Start(fault)) => return Err(ExampleFault::Start(fault)),
+        Err(ToFolderFault::Folder(fault)) => return Err(ExampleFault::Folder { name, fault }),
+    };
+    match lost {
+        None => Ok(closed),
+        Some(loss) => Err(ExampleFault::Lost { name, loss }),
     }
 }
 

@@ -21,8 +21,8 @@ pub fn main<R: Threads + Sync>(rt: &HostRuntime, threads: &R) -> Result<()> {
     workers.push(Stage::new(None, Some(to_second), probes))?;
     workers.push(Stage::new(Some(from_first), Some(to_third), probes))?;
     workers.push(Stage::new(Some(from_second), None, probes))?;
-    let (schema, kept) = (declared.enablings(), RecordSink::new(alloc));
-    let (closed, workers, kept) = trace_workers(threads, alloc, &config, schema, workers, kept)?;
+    let (schema, mut kept) = (declared.enablings(), RecordSink::new(alloc));
+    let closed = trace_workers(threads, alloc, &config, schema, &mut workers, &mut kept)?;
     let (mut begun, mut staged) = (0u32, 0u32);
     for rec in kept.records()? {
         begun = begun.saturating_add(u32::from(probes.begun.read(&rec).is_some()));

@@ -59,8 +59,8 @@ pub fn main<R: Threads + Sync>(rt: &HostRuntime, threads: &R, words: &[String]) 
     for _ in 0..WORKERS {
         workers.push(Server::new(&table, &clock, probes))?;
     }
-    let (config, sink) = (Config::of(WORKERS, 4, 65536, 512), Both { first, second });
-    let (closed, workers, sink) = trace_workers(threads, alloc, &config, schema, workers, sink)?;
+    let (config, mut sink) = (Config::of(WORKERS, 4, 65536, 512), Both { first, second });
+    let closed = trace_workers(threads, alloc, &config, schema, &mut workers, &mut sink)?;
     let Both { mut first, second } = sink;
     let _ = room.flatten().map(Room::give_back);
     tell_untold(alloc, &schema, &closed, &mut first)?;

@@ -14,7 +14,7 @@ use crate::pool::job::Job;
 use anyhow::{Result, bail, ensure};
 use crossbeam_channel::{Receiver, Sender, bounded};
 use dspec::{Closed, Config, Enablings, Field, Report, Stop, closed_cpus};
-use dspec_threads::{Anything, OwnedLane, Running};
+use dspec_threads::{Anything, Running};
 use std::alloc::Global;
 use std::sync::{Arc, Wait};
 use std::thread;
@@ -39,13 +39,16 @@ fn serve<R: Wait>(rt: &R, jobs: &Receiver<Job, Global>) -> u32 {
 /// Sends each lane, with a worker, to the pool.
 fn send_all<R: Wait>(
     rt: &R,
-    lanes: Vec<OwnedLane<Anything>>,
+    running: &mut Running<Anything, Enough>,
     stop: &Arc<Stop, Global>,
     epid: u32,
     sender: &Sender<Job, Global>,
     done: &Sender<Counter, Global>,
 ) -> Result<()> {
-    for lane in lanes {
+    for number in 0..THREADS {
+        let Some(lane) = running.free_lane(number)? else {
+            bail!("lane {number} is out");
+        };
         let worker = Counter::new(Arc::try_clone(stop)?, epid);
         let done = done.clone()?;
         let _ = sender.send(rt, Job { lane, worker, done });
@@ -58,6 +61,7 @@ fn consume(running: Running<Anything, Enough>) -> Result<(Closed, Enough)> {
     let mut running = running;
     for _ in 0..MOST_ROUNDS {
         running.round();
+        running.tend();
         if running.is_home() {
             break;
         }
@@ -122,9 +126,9 @@ pub fn main<R: Threads + Wait + Copy + Send + 'static>(rt: &HostRuntime, threads
     let stop = Arc::new(alloc, Stop::new())?;
     let config = Config::of(THREADS, 8, 1024, 64);
     let sink = Enough::new(Arc::try_clone(&stop)?);
-    let (running, lanes) = Running::<Anything, Enough>::start(alloc, &config, schema, sink)?;
+    let mut running = Running::<Anything, Enough>::start(alloc, &config, schema, sink)?;
     let (done, workers) = bounded::<Counter, Global>(alloc, 8)?;
-    send_all(&threads, lanes, &stop, epid, &sender, &done)?;
+    send_all(&threads, &mut running, &stop, epid, &sender, &done)?;
     let (closed, sink) = consume(running)?;
     drop((sender, done));
     let mut jobs_done = 0u32;

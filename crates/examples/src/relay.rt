@@ -57,12 +57,19 @@ pub fn main<R: Threads + Sync>(rt: &HostRuntime, threads: &R) -> Result<()> {
     let (judge, verdicts) = board::<Anything>(alloc, 2, REQUESTS)?;
     let clock = SystemClock::start(rt)?;
     let work = Server::new(Belt::new(alloc)?, &clock, probes, &verdicts);
-    let sink = Both {
+    let mut sink = Both {
         first: RecordSink::new(alloc),
         second: Decider::new(judge, probes.ended),
     };
     let config = Config::of(2, 16, 65536, 256);
-    let (closed, sink) = trace(threads, alloc, &config, declared.enablings(), &work, sink)?;
+    let closed = trace(
+        threads,
+        alloc,
+        &config,
+        declared.enablings(),
+        &work,
+        &mut sink,
+    )?;
     let Both { first, second } = sink;
     let (kept, thrown) = (second.kept(), second.thrown());
     println!(rt; "requests: {REQUESTS}, of which {kept} were kept and {thrown} thrown away")?;

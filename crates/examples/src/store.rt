@@ -55,10 +55,10 @@ fn transfers<'a, R: Threads + Sync>(
     };
     let (second, room) = trace_asked(rt, name, &declared)?.unzip();
     let first = RecordSink::new(rt.alloc());
-    let sink = Both { first, second };
+    let mut sink = Both { first, second };
     let schema = declared.enablings();
     let config = Config::of(WORKERS, 16, 16384, 512);
-    let (closed, sink) = trace(threads, rt.alloc(), &config, schema, &server, sink)?;
+    let closed = trace(threads, rt.alloc(), &config, schema, &server, &mut sink)?;
     let Both { first, mut second } = sink;
     let _ = room.flatten().map(Room::give_back);
     tell_untold(rt.alloc(), &schema, &closed, &mut second)?;

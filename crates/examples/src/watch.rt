@@ -17,71 +17,37 @@ mod probes;
 mod requests;
 mod serving;
 
-use crate::fault::{ExampleFault, told_end};
+use crate::fault::{ExampleFault, in_folder};
 use crate::watch::arguments::{Ask, WatchAsk, ask_of};
 use crate::watch::paths::{compare, tell};
 use crate::watch::probes::ServerProbes;
 use crate::watch::requests::WORKERS;
 use crate::watch::serving::Server;
-use dspec::{Both, Config, Probes, RecordSink, closed_cpus, trace};
+use dspec::{Closed, Config, Probes, RecordSink, closed_cpus, trace};
 use dspec_command::{ended, output_fault, print_text};
-use dspec_ctf_sink::{
-    FolderFault, Identity, Names, Room, SystemFolder, Telling, TraceFolder, tell_untold,
-};
+use dspec_trace_reading::{Place, trace_to_folder};
 use std::process::ExitCode;
 use std::thread::Threads;
 
-/// A trace that is being written. What it loses is told on the error output while the workers run.
-type Trace<'a> = Telling<'a, TraceFolder<SystemFolder<'a>>>;
-
-/// The same, and room on its disk for what its end tells, where the disk has it.
-type Begun<'a> = (Trace<'a>, Option<Room<'a>>);
-
-/// Begins a trace of this process in the folder of that path, with the names of the probes in its metadata.
-fn begun_trace<'a>(
+/// Serves all requests, and gives what is left of the session, and what was kept, which is written to the folder of that path too, if one is asked for.
+fn serve<'a, R: Threads + Sync>(
     rt: &'a HostRuntime,
-    probes: &Probes<'_>,
-    name: &'a str,
-) -> Result<Begun<'a>, FolderFault> {
-    let names = Names::Given(probes.names());
-    let folder = SystemFolder::new(rt, name)?;
-    let room = folder.keep_room(WORKERS).ok();
-    let identity = Identity::of_system(rt)?;
-    let origin = identity.origin("watch");
-    let sink = TraceFolder::of(rt.alloc(), folder, &origin, &probes.enablings(), &names)?;
-    Ok((Telling::new(rt, name, sink), room))
-}
-
-/// The same, by the program's fault.
-fn begin_trace<'a>(
-    rt: &'a HostRuntime,
-    name: &'a str,
-    probes: &Probes<'_>,
-) -> Result<Begun<'a>, ExampleFault<'a>> {
-    match begun_trace(rt, probes, name) {
-        Ok(begun) => Ok(begun),
-        Err(fault) => Err(ExampleFault::Folder { name, fault }),
-    }
-}
-
-/// The trace in the folder that is asked for, if one is.
-fn trace_asked<'a>(
-    rt: &'a HostRuntime,
-    folder: Option<&'a str>,
-    probes: &Probes<'_>,
-) -> Result<Option<Begun<'a>>, ExampleFault<'a>> {
-    match folder {
-        Some(name) => Ok(Some(begin_trace(rt, name, probes)?)),
-        None => Ok(None),
-    }
-}
-
-/// Ends a trace.
-fn finish<'a>(folder: Option<&'a str>, begun: Option<Trace<'a>>) -> Result<(), ExampleFault<'a>> {
-    match begun {
-        Some(begun) => told_end(folder, begun.sink.finish()),
-        None => Ok(()),
-    }
+    threads: &R,
+    declared: &Probes<'_>,
+    path: Option<&'a str>,
+    server: &Server,
+) -> Result<(Closed, RecordSink), ExampleFault<'a>> {
+    let config = Config::of(WORKERS, 16, 8192, 128);
+    let mut kept = RecordSink::new(rt.alloc());
+    let Some(path) = path else {
+        let schema = declared.enablings();
+        let closed = trace(threads, rt.alloc(), &config, schema, server, &mut kept)?;
+        return Ok((closed, kept));
+    };
+    let name = "watch";
+    let place = Place { path, name };
+    let (kept, traced) = trace_to_folder(rt, threads, &config, declared, place, server, kept);
+    Ok((in_folder(path, traced)?, kept))
 }
 
 /// Handles the requests of a seed, tells those that failed, and compares what was recorded of them.
@@ -93,18 +59,9 @@ fn watch<'a, R: Threads + Sync>(
     let seed = ask.seed;
     let mut declared = Probes::unstamped(rt.alloc());
     let probes = ServerProbes::declare(&mut declared)?;
-    let (second, room) = trace_asked(rt, ask.folder, &declared)?.unzip();
-    let first = RecordSink::new(rt.alloc());
-    let sink = Both { first, second };
-    let config = Config::of(WORKERS, 16, 8192, 128);
     let server = Server { seed, probes };
-    let schema = declared.enablings();
-    let (closed, sink) = trace(threads, rt.alloc(), &config, schema, &server, sink)?;
-    let Both { first, mut second } = sink;
-    let _ = room.flatten().map(Room::give_back);
-    tell_untold(rt.alloc(), &schema, &closed, &mut second)?;
-    finish(ask.folder, second)?;
-    let seen = first.records()?;
+    let (closed, kept) = serve(rt, threads, &declared, ask.folder, &server)?;
+    let seen = kept.records()?;
     for cpu in closed_cpus(&closed) {
         if let Err(reason) = tell(rt, &server, cpu.number, seen.as_slice(), cpu.report) {
             return Err(ExampleFault::Command(output_fault(reason)));

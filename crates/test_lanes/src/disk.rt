@@ -10,7 +10,7 @@ const NO_FILE: i32 = 2;
 const THERE: i32 = 17;
 
 /// A path of this test's own, where nothing stands.
-fn free_path(rt: &HostRuntime, test: &str) -> Result<String, Fail> {
+pub(crate) fn free_path(rt: &HostRuntime, test: &str) -> Result<String, Fail> {
     let id = process::id(rt.process());
     let path = format!(in rt.alloc(); "/tmp/test_lanes_{test}_{id}")?;
     let _ = fs::remove_dir_all(rt, path.as_str());

@@ -34,9 +34,9 @@ fn what_reports_count_is_told(rt: HostRuntime) -> Result<(), Fail> {
         refused: 0,
         place: 40,
     };
-    let sink = TraceFolder::new(rt.alloc(), folder, [0; 16], &schema, &Names::Numbered)?;
+    let mut sink = TraceFolder::new(rt.alloc(), folder, [0; 16], &schema, &Names::Numbered)?;
     let config = Config::of(1, 1, 8, 8);
-    let (closed, mut sink) = trace(&rt, rt.alloc(), &config, schema, &Full {}, sink)?;
+    let closed = trace(&rt, rt.alloc(), &config, schema, &Full {}, &mut sink)?;
     let report = closed.report(0);
     assert!(rt;
         (

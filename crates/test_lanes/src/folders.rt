@@ -68,15 +68,13 @@ fn ended<R: Threads + Sync>(
 ) -> Option<Result<(), Loss>> {
     let mut schema = Enablings::new();
     let _ = schema.enable(&[Field::One]);
-    let Ok(sink) = begin(alloc, counts, most, &schema) else {
+    let Ok(mut sink) = begin(alloc, counts, most, &schema) else {
         return None;
     };
     let config = Config::of(cpus, 4, 64, 64);
-    let Ok(done) = trace(rt, alloc, &config, schema, &One {}, Some(sink)) else {
+    if trace(rt, alloc, &config, schema, &One {}, &mut sink).is_err() {
         return None;
-    };
-    let (_closed, sink) = done;
-    let sink = sink?;
+    }
     Some(sink.finish())
 }
 

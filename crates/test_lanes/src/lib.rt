@@ -8,6 +8,7 @@
 //! | `refusals` | dspec: why there is no session, and what is told where records weren't kept |
 //! | `folders`, `timed_folders`, `losses`, `endings`, `differences` | dspec_ctf_sink in memory: what a session writes, what is lost where a write is refused, what the end tells, what tools tell as missed |
 //! | `disk` | dspec_ctf_sink on the system's disk |
+//! | `to_folder` | dspec_trace_reading: a session into a folder of the system by one call |
 //! | `same` | a comparison that some of them share |
 #![tactic(auto)]
 
@@ -33,3 +34,5 @@ mod refusals;
 mod same;
 #[cfg(test)]
 mod timed_folders;
+#[cfg(test)]
+mod to_folder;

@@ -160,14 +160,8 @@ fn two_lanes(rt: HostRuntime) -> Result<(), Fail> {
     let mut schema = Enablings::new();
     assert!(rt; schema.enable(&[Field::One]).is_ok());
     let work = Requests { due: Due::none() };
-    let Ok((closed, counted)) = trace(
-        &rt,
-        rt.alloc(),
-        &CONFIG,
-        schema,
-        &work,
-        Counted { bytes: 0 },
-    ) else {
+    let mut counted = Counted { bytes: 0 };
+    let Ok(closed) = trace(&rt, rt.alloc(), &CONFIG, schema, &work, &mut counted) else {
         return Err("no session".into());
     };
     assert!(rt; work.due.answers() == 10);
@@ -192,12 +186,12 @@ fn records_are_kept(rt: HostRuntime) -> Result<(), Fail> {
     let mut schema = Enablings::new();
     assert!(rt; schema.enable(&[Field::One]).is_ok());
     let work = Requests { due: Due::none() };
-    let sink = Both {
+    let mut sink = Both {
         first: RecordSink::new(rt.alloc()),
         second: Some(Counted { bytes: 0 }),
     };
     let config = Config::of(1, 4, 64, 64);
-    let Ok((closed, sink)) = trace(&rt, rt.alloc(), &config, schema, &work, sink) else {
+    let Ok(closed) = trace(&rt, rt.alloc(), &config, schema, &work, &mut sink) else {
         return Err("no session".into());
     };
     assert!(rt; closed_cpu(&closed, 0).report.accepted == 2);
@@ -218,14 +212,8 @@ fn end_of_a_path_is_cut(rt: HostRuntime) -> Result<(), Fail> {
     assert!(rt; schema.enable(&[Field::One]).is_ok());
     let work = LongPath { due: Due::none() };
     let config = Config::of(1, 4, 64, 16);
-    let Ok((closed, counted)) = trace(
-        &rt,
-        rt.alloc(),
-        &config,
-        schema,
-        &work,
-        Counted { bytes: 0 },
-    ) else {
+    let mut counted = Counted { bytes: 0 };
+    let Ok(closed) = trace(&rt, rt.alloc(), &config, schema, &work, &mut counted) else {
         return Err("no session".into());
     };
     assert!(rt; work.due.answers() == 3);
@@ -245,14 +233,8 @@ fn path_waits_for_room(rt: HostRuntime) -> Result<(), Fail> {
         policy: Policy::Fill,
         ..CONFIG
     };
-    let Ok((closed, counted)) = trace(
-        &rt,
-        rt.alloc(),
-        &config,
-        schema,
-        &work,
-        Counted { bytes: 0 },
-    ) else {
+    let mut counted = Counted { bytes: 0 };
+    let Ok(closed) = trace(&rt, rt.alloc(), &config, schema, &work, &mut counted) else {
         return Err("no session".into());
     };
     assert!(rt; work.due.answers() == 8);

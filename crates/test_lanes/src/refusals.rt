@@ -23,9 +23,9 @@ fn refused_configurations(rt: HostRuntime) -> Result<(), Fail> {
         (Config::of(1, 4, 63, 63), StartFault::BufSize),
         (Config::of(1, 4, 64, 0), StartFault::SpecSize),
     ] {
-        let sink = RecordSink::new(rt.alloc());
+        let mut sink = RecordSink::new(rt.alloc());
         let work = Idle {};
-        let Err(fault) = trace(&rt, rt.alloc(), &config, Enablings::new(), &work, sink) else {
+        let Err(fault) = trace(&rt, rt.alloc(), &config, Enablings::new(), &work, &mut sink) else {
             return Err("a session".into());
         };
         assert!(rt; fault == wanted);

@@ -92,18 +92,15 @@ fn ended<R: Threads + Sync>(
     let schema = schema.stamped();
     let folder = Summed { sizes, most };
     let origin = Origin::of([0; 16]);
-    let Ok(sink) = TimedFolder::of(alloc, folder, &origin, 1000, &schema, &Names::Numbered) else {
+    let begun = TimedFolder::of(alloc, folder, &origin, 1000, &schema, &Names::Numbered);
+    let Ok(mut sink) = begun else {
         return None;
     };
     let config = Config::of(1, 4, 64, 64);
-    let Ok(done) = trace(rt, alloc, &config, schema, &Crossed {}, Some(sink)) else {
+    if trace(rt, alloc, &config, schema, &Crossed {}, &mut sink).is_err() {
         return None;
-    };
-    let (_closed, sink) = done;
-    match sink {
-        Some(sink) => Some(sink.finish()),
-        None => None,
     }
+    Some(sink.finish())
 }
 
 /// The stamps are 10, 5, 15, 20 in the order of the trace, and a fifth record has no room: the first file has 10, 15 and 20, in two

@@ -60,7 +60,8 @@ fn opened<R: Threads + Sync>(rt: &R, alloc: Global, waits: bool) -> Result<u64, 
         opened: AtomicU64::new(0),
     };
     let config = Config::of(2, 4, 64, 64);
-    let (_, _) = trace(rt, alloc, &config, schema, &work, RecordSink::new(alloc))?;
+    let mut kept = RecordSink::new(alloc);
+    trace(rt, alloc, &config, schema, &work, &mut kept)?;
     Ok(work.opened.load(Ordering::SeqCst))
 }
 
@@ -101,8 +102,8 @@ fn a_barrier_tells_whether_all_came(rt: HostRuntime) -> Result<(), Fail> {
         due: AtomicU64::new(0),
     };
     let config = Config::of(1, 1, 64, 64);
-    let kept = RecordSink::new(rt.alloc());
-    let (_, _) = trace(&rt, rt.alloc(), &config, Enablings::new(), &work, kept)?;
+    let mut kept = RecordSink::new(rt.alloc());
+    trace(&rt, rt.alloc(), &config, Enablings::new(), &work, &mut kept)?;
     assert!(rt; work.due.load(Ordering::SeqCst) == 2);
     Ok(())
 }

@@ -105,8 +105,8 @@ fn paths_go_over_a_belt(rt: HostRuntime) -> Result<(), Fail> {
         due: AtomicU64::new(0),
     };
     let config = Config::of(1, 3, 64, 64);
-    let kept = RecordSink::new(rt.alloc());
-    let (closed, kept) = trace(&rt, rt.alloc(), &config, schema, &work, kept)?;
+    let mut kept = RecordSink::new(rt.alloc());
+    let closed = trace(&rt, rt.alloc(), &config, schema, &work, &mut kept)?;
     assert!(rt; work.due.load(Ordering::SeqCst) == 12);
     let records = kept.records()?;
     let [only] = records.as_slice() else {

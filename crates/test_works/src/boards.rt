@@ -1,8 +1,9 @@
 //! A board of three lanes, all on one thread: what is said to a lane is settled on that lane, and each lane has the room that was asked for.
 use crate::handing::schema;
+use crate::lanes_out::told_of;
 use crate::workers::Counted;
 use dspec::{Config, Enablings, Handed, Lane, Worker};
-use dspec_threads::{Anything, Judge, OwnedLane, Running, Verdicts, board};
+use dspec_threads::{Anything, FreeLane, Judge, Running, Verdicts, board};
 use std::test::Fail;
 
 /// How many verdicts a lane has room for.
@@ -36,7 +37,7 @@ impl Worker<Enablings> for Settles<'_> {
 }
 
 /// Says to a lane, of paths that it opens, that they are kept: how often that was taken of so many times.
-fn said(lane: &mut OwnedLane<Anything>, judge: &mut Judge<Anything>, times: usize) -> usize {
+fn said(lane: &mut FreeLane, judge: &mut Judge<Anything>, times: usize) -> usize {
     let mut taken = 0usize;
     for _ in 0..times {
         let mut opens = Opens { word: 0 };
@@ -49,7 +50,7 @@ fn said(lane: &mut OwnedLane<Anything>, judge: &mut Judge<Anything>, times: usiz
 }
 
 /// How much a lane settles.
-fn settled(lane: &mut OwnedLane<Anything>, verdicts: &Verdicts<Anything>) -> usize {
+fn settled(lane: &mut FreeLane, verdicts: &Verdicts<Anything>) -> usize {
     let mut settles = Settles {
         verdicts,
         settled: 0,
@@ -65,19 +66,16 @@ fn each_lane_settles_what_it_was_told(rt: HostRuntime) -> Result<(), Fail> {
         batches: 0,
         bytes: 0,
     };
-    let Ok((running, lanes)) = Running::<Anything, Counted>::start(
-        rt.alloc(),
-        &config,
-        schema()?,
-        sink,
-    ) else {
+    let started = Running::<Anything, Counted>::start(rt.alloc(), &config, schema()?, sink);
+    let Ok(mut running) = started else {
         return Err("no session".into());
     };
-    let mut lanes = lanes;
-    let (Some(last), Some(middle), Some(first)) = (lanes.pop(), lanes.pop(), lanes.pop()) else {
+    let (Some(mut first), Some(mut middle)) = (running.free_lane(0)?, running.free_lane(1)?) else {
         return Err("three lanes are due".into());
     };
-    let (mut first, mut middle, mut last) = (first, middle, last);
+    let Some(mut last) = running.free_lane(2)? else {
+        return Err("three lanes are due".into());
+    };
     let (mut judge, verdicts) = board::<Anything>(rt.alloc(), 3, ROOM)?;
     assert!(rt; said(&mut first, &mut judge, 1) == 1);
     assert!(rt; said(&mut last, &mut judge, 3) == ROOM);
@@ -94,7 +92,8 @@ fn each_lane_settles_what_it_was_told(rt: HostRuntime) -> Result<(), Fail> {
     let Ok((closed, _sink)) = running.end() else {
         return Err("all lanes are back".into());
     };
-    assert!(rt; closed.report(0).accepted == 1 && closed.report(1).accepted == 2);
-    assert!(rt; closed.report(2).accepted == 2 && closed.report(2).held == 1);
+    let third = told_of(&closed, 2)?;
+    assert!(rt; told_of(&closed, 0)?.accepted == 1 && told_of(&closed, 1)?.accepted == 2);
+    assert!(rt; third.accepted == 2 && third.held == 1);
     Ok(())
 }

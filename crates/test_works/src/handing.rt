@@ -136,8 +136,8 @@ fn path_goes_on(rt: HostRuntime) -> Result<(), Fail> {
         due: AtomicU64::new(0),
     };
     let config = Config::of(2, 2, 64, 64);
-    let kept = RecordSink::new(rt.alloc());
-    let (closed, kept) = trace(&rt, rt.alloc(), &config, schema()?, &work, kept)?;
+    let mut kept = RecordSink::new(rt.alloc());
+    let closed = trace(&rt, rt.alloc(), &config, schema()?, &work, &mut kept)?;
     let records = kept.records()?;
     assert!(rt; work.due.load(Ordering::SeqCst) == 4);
     let report = Report {
@@ -165,8 +165,8 @@ fn path_is_forgotten(rt: HostRuntime) -> Result<(), Fail> {
         word: AtomicU64::new(0),
     };
     let config = Config::of(1, 2, 64, 64);
-    let kept = RecordSink::new(rt.alloc());
-    let (closed, kept) = trace(&rt, rt.alloc(), &config, schema()?, &work, kept)?;
+    let mut kept = RecordSink::new(rt.alloc());
+    let closed = trace(&rt, rt.alloc(), &config, schema()?, &work, &mut kept)?;
     assert!(rt; work.word.load(Ordering::SeqCst) == 1);
     assert!(rt; kept.records()?.is_empty());
     let report = Report {
@@ -185,8 +185,8 @@ fn no_path_is_handed_on(rt: HostRuntime) -> Result<(), Fail> {
         due: AtomicU64::new(0),
     };
     let config = Config::of(1, 1, 64, 64);
-    let kept = RecordSink::new(rt.alloc());
-    let (closed, _kept) = trace(&rt, rt.alloc(), &config, schema()?, &work, kept)?;
+    let mut kept = RecordSink::new(rt.alloc());
+    let closed = trace(&rt, rt.alloc(), &config, schema()?, &work, &mut kept)?;
     assert!(rt; work.due.load(Ordering::SeqCst) == 6);
     let report = Report {
         offered: 2,

@@ -1,7 +1,8 @@
 //! A session on threads of a program's own: its lanes go out, and come back in any order.
 use crate::workers::Counted;
-use dspec::{Config, Enablings, Field, Lane, StartFault, Worker};
-use dspec_threads::{Anything, OwnedLane, Running};
+use dspec::{Closed, Config, Enablings, Field, Handed, Lane, Path, Report, StartFault, Worker};
+use dspec_threads::{Anything, FreeLane, Running};
+use std::alloc::Global;
 use std::test::Fail;
 use std::thread;
 
@@ -19,8 +20,42 @@ impl Worker<Enablings> for Caller {
     }
 }
 
+/// It opens a path of one record and hands it on; or, where it is to keep it, adds one and keeps it.
+#[derive(Drop)]
+struct Shared {
+    word: Option<Handed>,
+    keep: bool,
+}
+
+impl Worker<Enablings> for Shared {
+    fn work(&mut self, lane: &mut Lane<'_, Enablings>) {
+        let path = match self.word {
+            Some(word) => Path::take(word),
+            None => lane.path(),
+        };
+        let _ = path.record(lane, 1, 0, &[7]);
+        if self.keep {
+            path.commit(lane);
+            return;
+        }
+        self.word = Some(path.hand());
+    }
+}
+
+/// It reads how many records its lane has in the trace.
+#[derive(Drop)]
+struct Told {
+    accepted: u64,
+}
+
+impl Worker<Enablings> for Told {
+    fn work(&mut self, lane: &mut Lane<'_, Enablings>) {
+        self.accepted = lane.report().accepted;
+    }
+}
+
 /// What a thread does with a lane.
-fn call_and_give_back(lane: OwnedLane<Anything>, worker: Caller) -> Caller {
+fn call_and_give_back(lane: FreeLane, worker: Caller) -> Caller {
     let (mut lane, mut worker) = (lane, worker);
     lane.lend(&mut worker);
     lane.lend(&mut worker);
@@ -28,25 +63,38 @@ fn call_and_give_back(lane: OwnedLane<Anything>, worker: Caller) -> Caller {
     worker
 }
 
+/// What a CPU's report says, where there is such a CPU.
+pub fn told_of(closed: &Closed, cpu: u32) -> Result<Report, Fail> {
+    if cpu < closed.cpus() {
+        Ok(*closed.report(cpu))
+    } else {
+        Err("there is such a CPU".into())
+    }
+}
+
+/// A session of two CPUs.
+pub fn started(alloc: Global) -> Result<Running<Anything, Counted>, Fail> {
+    let mut schema = Enablings::new();
+    if schema.enable(&[Field::Eight]).is_err() {
+        return Err("a field is in range".into());
+    }
+    let (config, sink) = (
+        Config::of(2, 4, 64, 64),
+        Counted {
+            batches: 0,
+            bytes: 0,
+        },
+    );
+    match Running::<Anything, Counted>::start(alloc, &config, schema, sink) {
+        Ok(running) => Ok(running),
+        Err(_) => Err("no session".into()),
+    }
+}
+
 #[test]
 fn lanes_come_back_in_any_order(rt: HostRuntime) -> Result<(), Fail> {
-    let mut schema = Enablings::new();
-    assert!(rt; schema.enable(&[Field::Eight]).is_ok());
-    let config = Config::of(2, 4, 64, 64);
-    let sink = Counted {
-        batches: 0,
-        bytes: 0,
-    };
-    let Ok((mut running, lanes)) = Running::<Anything, Counted>::start(
-        rt.alloc(),
-        &config,
-        schema,
-        sink,
-    ) else {
-        return Err("no session".into());
-    };
-    let mut lanes = lanes;
-    let (Some(second), Some(first)) = (lanes.pop(), lanes.pop()) else {
+    let mut running = started(rt.alloc())?;
+    let (Some(first), Some(second)) = (running.free_lane(0)?, running.free_lane(1)?) else {
         return Err("two lanes are due".into());
     };
     assert!(rt; first.number() == 0 && second.number() == 1);
@@ -68,7 +116,57 @@ fn lanes_come_back_in_any_order(rt: HostRuntime) -> Result<(), Fail> {
         return Err("all lanes are back".into());
     };
     assert!(rt; worker.calls == 2 && sink.bytes == 32);
-    assert!(rt; closed.report(0).offered == 2 && closed.report(1).offered == 0);
+    assert!(rt; told_of(&closed, 0)?.offered == 2 && told_of(&closed, 1)?.offered == 0);
+    Ok(())
+}
+
+/// A lane that is back goes out again; one that is out doesn't, and there is no third.
+#[test]
+fn lanes_go_out_again(rt: HostRuntime) -> Result<(), Fail> {
+    let mut running = started(rt.alloc())?;
+    let Some(mut lane) = running.free_lane(1)? else {
+        return Err("it is at home".into());
+    };
+    assert!(rt; running.free_lane(1)?.is_none() && running.free_lane(2)?.is_none());
+    let mut caller = Caller { calls: 0 };
+    lane.lend(&mut caller);
+    // a lane that is let go gives itself back
+    drop(lane);
+    let Some(mut again) = running.free_lane(1)? else {
+        return Err("it is back".into());
+    };
+    again.lend(&mut caller);
+    again.give_back();
+    let Ok((closed, _sink)) = running.end() else {
+        return Err("all lanes are back".into());
+    };
+    assert!(rt; told_of(&closed, 1)?.offered == 2 && told_of(&closed, 0)?.offered == 0);
+    Ok(())
+}
+
+/// A CPU at home settles what another one decides once it is tended: until then its part of the path isn't in the trace.
+#[test]
+fn lanes_at_home_are_tended(rt: HostRuntime) -> Result<(), Fail> {
+    let mut running = started(rt.alloc())?;
+    let (Some(mut first), Some(mut second)) = (running.free_lane(0)?, running.free_lane(1)?) else {
+        return Err("two lanes are due".into());
+    };
+    let mut shared = Shared {
+        word: None,
+        keep: false,
+    };
+    first.lend(&mut shared);
+    drop(first);
+    assert!(rt; running.free_lane(0)?.is_some());
+    shared.keep = true;
+    second.lend(&mut shared);
+    running.tend();
+    let Some(mut again) = running.free_lane(0)? else {
+        return Err("it is back".into());
+    };
+    let mut told = Told { accepted: 0 };
+    again.lend(&mut told);
+    assert!(rt; told.accepted == 1);
     Ok(())
 }
 

@@ -69,15 +69,8 @@ fn traced<R: Abort + AllocGlobal + Threads + Sync>(
     let mut workers = Vec::new(rt.alloc());
     assert!(rt; workers.push(worker).is_ok());
     let config = Config::of(1, nspec, bufsize, 64);
-    let kept = RecordSink::new(rt.alloc());
-    let (closed, mut workers, kept) = trace_workers(
-        rt,
-        rt.alloc(),
-        &config,
-        schema,
-        workers,
-        kept,
-    )?;
+    let mut kept = RecordSink::new(rt.alloc());
+    let closed = trace_workers(rt, rt.alloc(), &config, schema, &mut workers, &mut kept)?;
     let (Some(worker), Some(cpu)) = (workers.pop(), closed_cpus(&closed).next()) else {
         return Err("no worker".into());
     };
@@ -232,14 +225,14 @@ fn record_that_no_buffer_holds_cuts_nothing(rt: HostRuntime) -> Result<(), Fail>
     };
     assert!(rt; workers.push(worker).is_ok());
     let config = Config::of(1, 3, 256, 24);
-    let kept = RecordSink::new(rt.alloc());
-    let (closed, workers, kept) = trace_workers(
+    let mut kept = RecordSink::new(rt.alloc());
+    let closed = trace_workers(
         &rt,
         rt.alloc(),
         &config,
         probes.enablings(),
-        workers,
-        kept,
+        &mut workers,
+        &mut kept,
     )?;
     assert!(rt; workers.first().map(|worker| worker.due) == Some(7));
     let records = kept.records()?;

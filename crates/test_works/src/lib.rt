@@ -6,10 +6,12 @@
 //! | `workers`, `serving_on` | dspec: workers with a state; a work that has returned takes no slot from the others |
 //! | `handing`, `last_paths` | dspec: paths that are handed on; paths that keep their last records |
 //! | `belts`, `barriers` | dspec_threads: paths over a belt, a lane that waits for the others |
-//! | `verdicts`, `boards` | dspec_threads: what is said of a path is settled on its lane |
+//! | `verdicts`, `boards`, `attending` | dspec_threads: what is said of a path is settled on its lane, also while that waits |
 //! | `lanes_out` | dspec_threads: lanes in threads of a program's own |
 #![tactic(auto)]
 
+#[cfg(test)]
+mod attending;
 #[cfg(test)]
 mod barriers;
 #[cfg(test)]

@@ -104,8 +104,8 @@ fn work_that_returned_serves(rt: HostRuntime) -> Result<(), Fail> {
     let work = Walks {
         due: AtomicU64::new(0),
     };
-    let kept = RecordSink::new(rt.alloc());
-    let (closed, kept) = trace(&rt, rt.alloc(), &config(), schema()?, &work, kept)?;
+    let mut kept = RecordSink::new(rt.alloc());
+    let closed = trace(&rt, rt.alloc(), &config(), schema()?, &work, &mut kept)?;
     assert!(rt; work.due.load(Ordering::SeqCst) == 600);
     assert!(rt; kept.records()?.len() == 600);
     for cpu in closed_cpus(&closed) {
@@ -123,17 +123,15 @@ fn worker_that_returned_serves(rt: HostRuntime) -> Result<(), Fail> {
     for _ in 0..3 {
         assert!(rt; workers.push(Walker { due: &due }).is_ok());
     }
-    let kept = RecordSink::new(rt.alloc());
-    let Ok((_closed, workers, kept)) = trace_workers(
+    let mut kept = RecordSink::new(rt.alloc());
+    trace_workers(
         &rt,
         rt.alloc(),
         &config(),
         schema()?,
-        workers,
-        kept,
-    ) else {
-        return Err("no session".into());
-    };
+        &mut workers,
+        &mut kept,
+    )?;
     assert!(rt; due.load(Ordering::SeqCst) == 600 && workers.len() == 3);
     assert!(rt; kept.records()?.len() == 600);
     Ok(())
@@ -193,20 +191,11 @@ fn last_of_many_workers_serves(rt: HostRuntime) -> Result<(), Fail> {
     }
     let config = Config::of(64, 1, 64, 64);
     let clock = SystemClock::start(&rt)?;
-    let sink = Watches {
+    let mut sink = Watches {
         rt: &rt,
         clock: &clock,
     };
-    let Ok((_closed, workers, _sink)) = trace_workers(
-        &rt,
-        rt.alloc(),
-        &config,
-        schema()?,
-        workers,
-        sink,
-    ) else {
-        return Err("no session".into());
-    };
+    trace_workers(&rt, rt.alloc(), &config, schema()?, &mut workers, &mut sink)?;
     assert!(rt; workers.first().map(|worker| worker.opened) == Some(PATHS_OF_MANY));
     Ok(())
 }
@@ -241,11 +230,11 @@ impl Work<Enablings> for Idle {
 #[test]
 fn works_go_one_after_another(rt: HostRuntime) -> Result<(), Fail> {
     let config = Config::of(2, 1, 64, 64);
-    let sink = Counts {
+    let mut sink = Counts {
         rt: &rt,
         batches: 0,
     };
-    let ended = trace(&rt, rt.alloc(), &config, schema()?, &Idle, sink).is_ok();
+    let ended = trace(&rt, rt.alloc(), &config, schema()?, &Idle, &mut sink).is_ok();
     assert!(rt; ended);
     Ok(())
 }

@@ -95,8 +95,8 @@ fn verdicts_are_settled(rt: HostRuntime) -> Result<(), Fail> {
         due: AtomicU64::new(0),
     };
     let config = Config::of(1, 4, 64, 64);
-    let kept = RecordSink::new(rt.alloc());
-    let (closed, kept) = trace(&rt, rt.alloc(), &config, schema, &work, kept)?;
+    let mut kept = RecordSink::new(rt.alloc());
+    let closed = trace(&rt, rt.alloc(), &config, schema, &work, &mut kept)?;
     assert!(rt; work.due.load(Ordering::SeqCst) == 13);
     let records = kept.records()?;
     let [first, last] = records.as_slice() else {

@@ -120,13 +120,13 @@ fn session<R: Threads + Sync, W: Work<Enablings>>(
     if schema.enable(&[Field::One]).is_err() {
         return Err("no enabling".into());
     }
-    let sink = Seen {
+    let mut sink = Seen {
         cpus: [false; 64],
         count,
         pauses,
     };
     let config = Config::of(cpus, 1, 64, 64);
-    if trace(rt, alloc, &config, schema, work, sink).is_err() {
+    if trace(rt, alloc, &config, schema, work, &mut sink).is_err() {
         return Err("no session".into());
     }
     Ok(())

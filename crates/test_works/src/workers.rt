@@ -45,14 +45,11 @@ fn workers_come_back_to_their_places(rt: HostRuntime) -> Result<(), Fail> {
         assert!(rt; workers.push(Counter { most, done: 0 }).is_ok());
     }
     let config = Config::of(64, 4, 64, 64);
-    let sink = Counted {
+    let mut sink = Counted {
         batches: 0,
         bytes: 0,
     };
-    let Ok((closed, workers, sink)) = trace_workers(&rt, rt.alloc(), &config, schema, workers, sink)
-    else {
-        return Err("no session".into());
-    };
+    let closed = trace_workers(&rt, rt.alloc(), &config, schema, &mut workers, &mut sink)?;
     assert!(rt; closed.cpus() == 3 && workers.len() == 3 && sink.batches >= 3);
     let mut due = 1..4;
     for cpu in closed_cpus(&closed) {
@@ -66,18 +63,24 @@ fn workers_come_back_to_their_places(rt: HostRuntime) -> Result<(), Fail> {
 #[test]
 fn no_workers_are_no_session(rt: HostRuntime) -> Result<(), Fail> {
     let config = Config::of(1, 4, 64, 64);
-    let workers: Vec<Counter> = Vec::new(rt.alloc());
-    let sink = Counted {
+    let mut workers: Vec<Counter> = Vec::new(rt.alloc());
+    let mut sink = Counted {
         batches: 0,
         bytes: 0,
     };
-    match trace_workers(&rt, rt.alloc(), &config, Enablings::new(), workers, sink) {
-        Ok(_) => Err("a session of no CPUs".into()),
-        Err(fault) => {
-            assert!(rt; fault == StartFault::Cpus);
-            Ok(())
-        }
-    }
+    let ended = trace_workers(
+        &rt,
+        rt.alloc(),
+        &config,
+        Enablings::new(),
+        &mut workers,
+        &mut sink,
+    );
+    let Err(fault) = ended else {
+        return Err("a session of no CPUs".into());
+    };
+    assert!(rt; fault == StartFault::Cpus);
+    Ok(())
 }
 
 /// How often a worker looks whether it is stopped.
@@ -134,21 +137,12 @@ fn stop_of_a_sink_is_heeded(rt: HostRuntime) -> Result<(), Fail> {
         };
         assert!(rt; workers.push(worker).is_ok());
     }
-    let sink = Third {
+    let mut sink = Third {
         stop: &stop,
         batches: 0,
     };
     let config = Config::of(2, 4, 64, 64);
-    let Ok((_closed, workers, sink)) = trace_workers(
-        &rt,
-        rt.alloc(),
-        &config,
-        schema,
-        workers,
-        sink,
-    ) else {
-        return Err("no session".into());
-    };
+    trace_workers(&rt, rt.alloc(), &config, schema, &mut workers, &mut sink)?;
     assert!(rt; sink.batches >= 3 && stop.is_set());
     assert!(rt; workers.iter().all(|worker| worker.was_stopped));
     Ok(())

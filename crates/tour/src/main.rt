@@ -52,14 +52,8 @@ fn tour<R: Threads + Sync>(rt: &R, alloc: Global) -> Result<(Vec<Rec>, Report)>
     let touch = probes.probe("touch", &["address", "access"])?;
     let work = Requests { request, touch };
     let config = Config::of(1, 2, 64, 64);
-    let (closed, kept) = trace(
-        rt,
-        alloc,
-        &config,
-        probes.enablings(),
-        &work,
-        RecordSink::new(alloc),
-    )?;
+    let mut kept = RecordSink::new(alloc);
+    let closed = trace(rt, alloc, &config, probes.enablings(), &work, &mut kept)?;
     let records = kept.records()?;
     Ok((records, *closed_cpu(&closed, 0).report))
 }

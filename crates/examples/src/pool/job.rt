@@ -1,13 +1,13 @@
 use crate::pool::counting::Counter;
 use crossbeam_channel::Sender;
-use dspec_threads::{Anything, OwnedLane};
+use dspec_threads::FreeLane;
 use std::alloc::Global;
 use std::sync::Wait;
 
 /// A job of the pool: a lane, who works on it, and where that is sent then.
 #[derive(Drop)]
 pub struct Job {
-    pub lane: OwnedLane<Anything>,
+    pub lane: FreeLane,
     pub worker: Counter,
     pub done: Sender<Counter, Global>,
 }

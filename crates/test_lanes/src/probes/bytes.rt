@@ -114,13 +114,13 @@ fn came<R: Threads + Sync, W: Work<Enablings>>(
     schema: Enablings,
     work: &W,
 ) -> Result<(Bytes, Report), Fail> {
-    let bytes = Bytes {
+    let mut bytes = Bytes {
         bytes: Vec::new(alloc),
         count: 0,
         lost: false,
     };
     let config = Config::of(1, 2, 4096, 1024);
-    let (closed, bytes) = trace(rt, alloc, &config, schema, work, bytes)?;
+    let closed = trace(rt, alloc, &config, schema, work, &mut bytes)?;
     Ok((bytes, *closed_cpu(&closed, 0).report))
 }
 

@@ -59,9 +59,9 @@ fn foreign_probes(rt: HostRuntime) -> Result<(), Fail> {
     let mut others = Probes::new(rt.alloc());
     let foreign: Probe<(u64, u16)> = others.probe("foreign", &["a", "b"])?;
     let work = Mixed { own, foreign };
-    let config = Config::of(1, 2, 256, 128);
-    let kept = RecordSink::new(rt.alloc());
-    let (_closed, kept) = trace(&rt, rt.alloc(), &config, probes.enablings(), &work, kept)?;
+    let (config, schema) = (Config::of(1, 2, 256, 128), probes.enablings());
+    let mut kept = RecordSink::new(rt.alloc());
+    trace(&rt, rt.alloc(), &config, schema, &work, &mut kept)?;
     let records = kept.records()?;
     same(&rt, records.len(), 1);
     for rec in &records {
@@ -79,9 +79,9 @@ fn foreign_probes_in_paths(rt: HostRuntime) -> Result<(), Fail> {
     let mut others = Probes::new(rt.alloc());
     let foreign: Probe<(u64, u16)> = others.probe("foreign", &["a", "b"])?;
     let mixed = Mixed { own, foreign };
-    let config = Config::of(1, 2, 256, 128);
-    let (kept, work) = (RecordSink::new(rt.alloc()), Tries { mixed });
-    let (_closed, kept) = trace(&rt, rt.alloc(), &config, probes.enablings(), &work, kept)?;
+    let (config, schema) = (Config::of(1, 2, 256, 128), probes.enablings());
+    let (mut kept, work) = (RecordSink::new(rt.alloc()), Tries { mixed });
+    trace(&rt, rt.alloc(), &config, schema, &work, &mut kept)?;
     let records = kept.records()?;
     let [only] = records.as_slice() else {
         return Err(Fail::from("one record"));

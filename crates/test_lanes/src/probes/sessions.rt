@@ -36,9 +36,9 @@ fn records_of_probes(rt: HostRuntime) -> Result<(), Fail> {
     let query: Probe<(u64, u32)> = probes.probe("query", &["request", "micros"])?;
     let failed: Probe<(i32, bool, f64)> = probes.probe("failed", &["code", "late", "load"])?;
     let work = Requests { query, failed };
-    let config = Config::of(1, 2, 256, 128);
-    let kept = RecordSink::new(rt.alloc());
-    let (closed, kept) = trace(&rt, rt.alloc(), &config, probes.enablings(), &work, kept)?;
+    let (config, schema) = (Config::of(1, 2, 256, 128), probes.enablings());
+    let mut kept = RecordSink::new(rt.alloc());
+    let closed = trace(&rt, rt.alloc(), &config, schema, &work, &mut kept)?;
     let records = kept.records()?;
     let [first, second, third, last] = records.as_slice() else {
         return Err(Fail::from("four records"));

@@ -108,9 +108,9 @@ fn steps_of_paths(rt: HostRuntime) -> Result<(), Fail> {
         },
         due: AtomicU64::new(0),
     };
-    let config = Config::of(1, 2, 256, 128);
-    let kept = RecordSink::new(rt.alloc());
-    let (closed, kept) = trace(&rt, rt.alloc(), &config, probes.enablings(), &work, kept)?;
+    let (config, schema) = (Config::of(1, 2, 256, 128), probes.enablings());
+    let mut kept = RecordSink::new(rt.alloc());
+    let closed = trace(&rt, rt.alloc(), &config, schema, &work, &mut kept)?;
     same(&rt, work.due.load(Ordering::SeqCst), 5);
     let records = kept.records()?;
     let [first, second, third, last] = records.as_slice() else {

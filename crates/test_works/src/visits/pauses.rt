@@ -52,13 +52,13 @@ fn the_sink_says_how_to_pause(rt: HostRuntime) -> Result<(), Fail> {
     assert!(rt; schema.enable(&[Field::One]).is_ok());
     let pauses = AtomicU64::new(0);
     let others = AtomicU64::new(0);
-    let sink = Both {
+    let mut sink = Both {
         first: Counts { pauses: &pauses },
         second: Counts { pauses: &others },
     };
     let work = Waits { pauses: &pauses };
     let config = Config::of(1, 4, 64, 64);
-    let ended = trace(&rt, rt.alloc(), &config, schema, &work, sink).is_ok();
+    let ended = trace(&rt, rt.alloc(), &config, schema, &work, &mut sink).is_ok();
     assert!(rt; ended);
     assert!(rt; pauses.load(Ordering::SeqCst) > 0);
     assert!(rt; others.load(Ordering::SeqCst) == 0);
@@ -99,7 +99,7 @@ impl<'a> Work<Enablings> for Spins<'a> {
 fn spun<R: Threads + Sync, K: Sink<Enablings>>(
     rt: &R,
     alloc: Global,
-    sink: K,
+    mut sink: K,
 ) -> Result<bool, Fail> {
     let mut schema = Enablings::new();
     if schema.enable(&[Field::One]).is_err() {
@@ -108,7 +108,7 @@ fn spun<R: Threads + Sync, K: Sink<Enablings>>(
     let done = AtomicU64::new(0);
     let work = Spins { done: &done };
     let config = Config::of(1, 1, 64, 64);
-    if trace(rt, alloc, &config, schema, &work, sink).is_err() {
+    if trace(rt, alloc, &config, schema, &work, &mut sink).is_err() {
         return Err("no session".into());
     }
     Ok(done.load(Ordering::SeqCst) == 1)

@@ -25,7 +25,7 @@ returns g c =
     let touch-has = subst (λ (x : EnabledRows). IsProbeOf touch_fields touch x) is both.has in
     let kept = c.in_ok-records.ensures.records in
     let cpus = ap (λ (k : Config). k.cpus) c.of-config.ensures in
-    toured e (record { request = request; touch = touch }) c.of-config.result c.new.result c.in_ok-closed.kept c.in_ok-closed.closed
+    toured e (record { request = request; touch = touch }) c.of-config.result c.new-kept.result c.trace.new.sink c.in_ok-closed.closed
     c.closed_cpu.result.report.now c.in_ok-records.records.items request-has touch-has (one.epid ∙ ap (λ (xs : List (List Field)). length xs) first)
     (both.epid ∙ ap (λ (xs : List (List Field)). length xs) second)
-    cpus c.new.ensures kept.1 kept.0 (c.in_ok-closed.ensures.all ∙ cpus) c.closed_cpu.ensures.report c.in_ok-closed.ensures.traced
+    cpus c.new-kept.ensures kept.1 kept.0 (c.in_ok-closed.ensures.all ∙ cpus) c.closed_cpu.ensures.report c.in_ok-closed.ensures.traced

@@ -17,26 +17,26 @@ use Rattle.dspec.proofs.Returning.{worked}
 use Rattle.dspec.proofs.Tracing.{by_one_list, fresh_none, kept_alone, listed, traced}
 use Rattle.dspec.proofs.running.trace.Goals as goal
 
-pub run-session-requires-clause-count : goal.run-session-requires-clause-count
-run-session-requires-clause-count g c = λ κs outlives. sym (ap (λ (v : View). v.config.cpus) c.in_ok-session.ensures.consumer.0)
+pub run-requires-clause-count : goal.run-requires-clause-count
+run-requires-clause-count g c = λ κs outlives. sym (ap (λ (v : View). v.config.cpus) c.in_ok-session.ensures.consumer.0)
 
 pub returns-clause-traced : goal.returns-clause-traced
 returns-clause-traced g c =
     let started = c.in_ok-session.ensures in
     let s = c.in_ok-session.session in
-    let back = c.run-session.result.0 in
+    let back = c.run.new.session in
     let schema = c.args.schema in
     let shape : EnabledRows → _ = λ e. table_shape e.header (enabled e.rows) in
     let accepts : EnabledRows → _ = λ e. table_accepts e.header (enabled e.rows) in
     let text : EnabledRows → _ = λ e. table_text e.header (enabled e.rows) in
-    let same = ap (λ (w : Shared). set_up (words_of w)) c.run-session.ensures.words ∙ started.config in
+    let same = ap (λ (w : Shared). set_up (words_of w)) c.run.ensures.words ∙ started.config in
     let does = λ (x : EnabledRows). ThenServed (g.W.Work.does x c.args.work.now) in
-    let lent = c.run-session.ensures.lent in
-    traced shape accepts text (g.K.Sink.gets schema) schema (words_of s.shared) s.consumer back.consumer c.args.sink c.run-session.result.1 c.pass_rests.new.sink
-    c.finish-closed.result started.consumer.1 c.run-session.ensures.passes c.pass_rests.ensures (does schema) c.args.config.now back.cpus.items
+    let lent = c.run.ensures.lent in
+    traced shape accepts text (g.K.Sink.gets schema) schema (words_of s.shared) s.consumer back.consumer c.args.sink.now c.run.new.sink c.pass_rests.new.sink
+    c.finish-closed.result started.consumer.1 c.run.ensures.passes c.pass_rests.ensures (does schema) c.args.config.now back.cpus.items
     (ap (λ (v : View). v.config) started.consumer.0) (c.finish-closed.ensures.all ∙ ap (λ (k : Config). k.cpus) same)
     (lent.all ∙ ap (λ (k : Config). k.cpus) same) (ap (λ (v : View). v.own) started.consumer.0) (λ n cpu at. (lent.each n cpu at).number)
-    (worked (Has shape accepts text) (fresh_none shape accepts text) does schema s back started.session started.fresh c.run-session.ensures.returned)
+    (worked (Has shape accepts text) (fresh_none shape accepts text) does schema s back started.session started.fresh c.run.ensures.returned)
     (subst (λ (k : Config). IsPromisedBy (shape schema) (accepts schema) (text schema) k (entered_at back.cpus.items) (view_of back.consumer).own
     (called_at back.cpus.items) (taken_at back.consumer) c.finish-closed.result) same
     (c.finish-closed.ensures.promised schema lent))
@@ -45,41 +45,41 @@ pub returns-clause-keeps : goal.returns-clause-keeps
 returns-clause-keeps g c =
     let schema = c.args.schema in
     kept_alone (g.K.Sink.gets schema) _ (table_shape schema.header (enabled schema.rows)) (table_accepts schema.header (enabled schema.rows))
-    (table_text schema.header (enabled schema.rows)) c.args.config.now c.args.sink c.finish-closed.result c.pass_rests.new.sink (returns-clause-traced g c)
+    (table_text schema.header (enabled schema.rows)) c.args.config.now c.args.sink.now c.finish-closed.result c.pass_rests.new.sink (returns-clause-traced g c)
 
 pub returns-clause-listed : goal.returns-clause-listed
 returns-clause-listed g c =
     let started = c.in_ok-session.ensures in
     let s = c.in_ok-session.session in
-    let back = c.run-session.result.0 in
+    let back = c.run.new.session in
     let schema = c.args.schema in
     let shape : EnabledRows → _ = λ e. table_shape e.header (enabled e.rows) in
     let accepts : EnabledRows → _ = λ e. table_accepts e.header (enabled e.rows) in
     let text : EnabledRows → _ = λ e. table_text e.header (enabled e.rows) in
-    let same = ap (λ (w : Shared). set_up (words_of w)) c.run-session.ensures.words ∙ started.config in
-    listed shape accepts text (g.K.Sink.gets schema) schema (words_of s.shared) s.consumer back.consumer c.args.sink c.run-session.result.1 c.pass_rests.new.sink
-    c.finish-closed.result started.consumer.1 c.run-session.ensures.passes c.pass_rests.ensures c.args.config.now back.cpus.items (worn_at back.cpus.items)
+    let same = ap (λ (w : Shared). set_up (words_of w)) c.run.ensures.words ∙ started.config in
+    listed shape accepts text (g.K.Sink.gets schema) schema (words_of s.shared) s.consumer back.consumer c.args.sink.now c.run.new.sink c.pass_rests.new.sink
+    c.finish-closed.result started.consumer.1 c.run.ensures.passes c.pass_rests.ensures c.args.config.now back.cpus.items (worn_at back.cpus.items)
     (view_of back.consumer).own c.all_stand.ensures
     (subst (λ (k : Config). IsClosedBy (shape schema) (accepts schema) (text schema) k (HasAt (Has shape accepts text) back.cpus.items) (worn_at back.cpus.items)
-    (taken_at back.consumer) (view_of back.consumer).own c.finish-closed.result) same (c.finish-closed.ensures.closed schema c.run-session.ensures.lent))
+    (taken_at back.consumer) (view_of back.consumer).own c.finish-closed.result) same (c.finish-closed.ensures.closed schema c.run.ensures.lent))
 
 pub returns-clause-one_list : goal.returns-clause-one_list
 returns-clause-one_list g c =
     let started = c.in_ok-session.ensures in
     let s = c.in_ok-session.session in
-    let back = c.run-session.result.0 in
+    let back = c.run.new.session in
     let schema = c.args.schema in
     let shape : EnabledRows → _ = λ e. table_shape e.header (enabled e.rows) in
     let accepts : EnabledRows → _ = λ e. table_accepts e.header (enabled e.rows) in
     let text : EnabledRows → _ = λ e. table_text e.header (enabled e.rows) in
-    let same = ap (λ (w : Shared). set_up (words_of w)) c.run-session.ensures.words ∙ started.config in
+    let same = ap (λ (w : Shared). set_up (words_of w)) c.run.ensures.words ∙ started.config in
     let does = λ (x : EnabledRows). ThenServed (g.W.Work.does x c.args.work.now) in
-    let lent = c.run-session.ensures.lent in
-    by_one_list shape accepts text (g.K.Sink.gets schema) schema (words_of s.shared) s.consumer back.consumer c.args.sink c.run-session.result.1 c.pass_rests.new.sink
-    c.finish-closed.result started.consumer.1 c.run-session.ensures.passes c.pass_rests.ensures (does schema) c.args.config.now back.cpus.items
+    let lent = c.run.ensures.lent in
+    by_one_list shape accepts text (g.K.Sink.gets schema) schema (words_of s.shared) s.consumer back.consumer c.args.sink.now c.run.new.sink c.pass_rests.new.sink
+    c.finish-closed.result started.consumer.1 c.run.ensures.passes c.pass_rests.ensures (does schema) c.args.config.now back.cpus.items
     (ap (λ (v : View). v.config) started.consumer.0) (c.finish-closed.ensures.all ∙ ap (λ (k : Config). k.cpus) same)
     (lent.all ∙ ap (λ (k : Config). k.cpus) same) (ap (λ (v : View). v.own) started.consumer.0) (λ n cpu at. (lent.each n cpu at).number)
-    (worked (Has shape accepts text) (fresh_none shape accepts text) does schema s back started.session started.fresh c.run-session.ensures.returned)
+    (worked (Has shape accepts text) (fresh_none shape accepts text) does schema s back started.session started.fresh c.run.ensures.returned)
     (worn_at back.cpus.items) c.all_stand.ensures
     (subst (λ (k : Config). (p : ℕ → List Deed) → ((n : ℕ) → n < k.cpus → HasAt (Has shape accepts text) back.cpus.items n (p n))
     → (h : List Deed) × ClosesAs (shape schema) (accepts schema) (text schema) k (worn_at back.cpus.items) (taken_at back.consumer) (view_of back.consumer).own c.finish-closed.result p h

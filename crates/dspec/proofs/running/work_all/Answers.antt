@@ -13,7 +13,7 @@ use Rattle.dspec.proofs.running.work_all.Goals as goal
 pub for_each_mut-requires-clause-accepts : goal.for_each_mut-requires-clause-accepts
 for_each_mut-requires-clause-accepts g c κs within = λ i p lt at.
     let e = c.as_mut_slice.ensures.value in
-    there c.args.shared.now c.args.cpus.items i p.now c.requires (subst (λ xs. i < length xs) e lt) (subst (λ xs. p.now ≡ get_or xs i p.now) e at)
+    there c.args.shared.now c.args.cpus.now.items i p.now c.requires (subst (λ xs. i < length xs) e lt) (subst (λ xs. p.now ≡ get_or xs i p.now) e at)
 
 pub returns : goal.returns
 returns g c =
@@ -21,7 +21,7 @@ returns g c =
     let old = c.as_mut_slice.result.now in
     let new = c.for_each_mut.new.s in
     let same : length new ≡ length old = search rules in
-    let size : c.args.cpus.len ≡ length new = search rules in
+    let size : c.args.cpus.now.len ≡ length new = search rules in
     let returned : AllReturned does old new = record {
       all = same;
       each = λ i cpu at.
@@ -33,4 +33,4 @@ returns g c =
           let done : Returned does made.argument.now made.after_call.now = record { same = kept; did = worked } in
           (made.argument.now, slice_get-get_or old i cpu lt ∙ ap Some (sym made.argument_is), subst (λ (x : Cpu EnabledRows). Returned does made.argument.now x) left done);
     } in
-    all_returned does c.args.cpus.len old new c.args.cpus.items returned c.as_mut_slice.ensures.value size
+    all_returned does c.args.cpus.now.len old new c.args.cpus.now.items returned c.as_mut_slice.ensures.value size

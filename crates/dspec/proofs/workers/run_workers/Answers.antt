@@ -1,24 +1,42 @@
-use Rattle.std.proofs.Common.{rules}
-use Rattle.dspec_cpu.specs.Lists.{words_of}
-use Rattle.dspec.specs.Passed.{PassesOn}
+use Rattle.std.proofs.Common.{List, length, sym, ap, ◌∙◌, subst}
+use Rattle.dspec_cpu.specs.declared.cpu.Cpu.{Cpu}
+use Rattle.dspec_record.specs.EnablingRows.{EnabledRows}
+use Rattle.dspec.specs.Lent.{AllCallable, AllReturned}
 use Rattle.dspec.specs.Serving.{ThenServed}
-use Rattle.dspec.specs.Workers.{WorkedBy}
+use Rattle.dspec.specs.Workers.{AllNumbered, WorkedBy, cpus_of, workers_of}
 use Rattle.dspec.proofs.Returning.{all_callable, session_again}
-use Rattle.dspec.proofs.Working.{all_numbered}
+use Rattle.dspec.proofs.Working.{all_numbered, pairs_returned, workers_all}
 use Rattle.dspec.proofs.workers.run_workers.Goals as goal
 
-pub join-drained-requires-after_bounds : goal.join-drained-requires-after_bounds
-join-drained-requires-after_bounds g c =
-    let mine = c.requires.session.consumer in
-    let all = all_callable c.args.schema.now c.args.session c.requires.session in
-    let numbered = all_numbered c.args.schema.now c.args.session c.requires.session in
-    search rules
+pub run_pairs-requires-clause-callable : goal.run_pairs-requires-clause-callable
+run_pairs-requires-clause-callable g c =
+    let all = all_callable c.args.schema.now c.args.session.now c.requires.session in
+    λ κs outlives. subst (λ (xs : List (Cpu EnabledRows)). AllCallable c.args.session.now.shared xs) (sym c.pair_up-pairs.ensures.pairs.0) all
+
+pub returns-clause-all : goal.returns-clause-all
+returns-clause-all g c =
+    ap length c.part_again.ensures.1 ∙ (workers_all g.W.Worker.does c.pair_up-pairs.result.items c.run_pairs.new.pairs.items c.run_pairs.ensures.worked
+    ∙ ap length c.pair_up-pairs.ensures.pairs.1)
+
+pub returns-clause-returned : goal.returns-clause-returned
+returns-clause-returned g c =
+    let W = g.row.W.Denot in
+    let does = g.W.Worker.does in
+    let was = c.args.session.now.cpus.items in
+    let pairs = c.pair_up-pairs in
+    let old = pairs.result.items in
+    let new = c.run_pairs.new.pairs.items in
+    let numbered = all_numbered c.args.schema.now c.args.session.now c.requires.session in
+    let numbers = subst (λ (xs : List (Cpu EnabledRows)). AllNumbered xs) (sym pairs.ensures.pairs.0) numbered in
+    let back = c.part_again.ensures in
+    let returned = pairs_returned does old new numbers c.run_pairs.ensures.worked in
+    let of_cpus = subst (λ (xs : List (Cpu EnabledRows)). AllReturned (λ s. ThenServed (WorkedBy (does s) (workers_of old) (workers_of new))) xs (cpus_of new)) pairs.ensures.pairs.0 returned in
+    let of_workers = subst (λ (us : List W). AllReturned (λ s. ThenServed (WorkedBy (does s) us (workers_of new))) was (cpus_of new)) pairs.ensures.pairs.1 of_cpus in
+    let workers_back = subst (λ (vs : List W). AllReturned (λ s. ThenServed (WorkedBy (does s) c.args.workers.now.items vs)) was (cpus_of new)) (sym back.1) of_workers in
+    subst (λ (ys : List (Cpu EnabledRows)). AllReturned (λ s. ThenServed (WorkedBy (does s) c.args.workers.now.items c.part_again.new.workers.items)) was ys) (sym back.0) workers_back
 
 pub returns-clause-lent : goal.returns-clause-lent
 returns-clause-lent g c =
-    let passes : PassesOn (g.K.Sink.gets c.args.schema.now) (words_of c.args.session.shared) c.args.session.consumer c.args.sink c.join-drained.result.0.0 c.join-drained.result.0.1 = search rules in (
-      session_again (λ s. ThenServed (WorkedBy (g.W.Worker.does s) c.args.workers.items c.join-drained.result.1.1.items)) c.args.schema.now c.args.session
-          (record { shared = c.args.session.shared; cpus = c.join-drained.result.1.0; consumer = c.join-drained.result.0.0 }) c.requires.session (search rules) passes.stays,
-      (search rules),
-      (search rules),
-    )
+    session_again (λ s. ThenServed (WorkedBy (g.W.Worker.does s) c.args.workers.now.items c.part_again.new.workers.items)) c.args.schema.now c.args.session.now
+    (record { shared = c.args.session.now.shared; cpus = c.part_again.new.cpus; consumer = c.run_pairs.new.consumer }) c.requires.session (returns-clause-returned g c)
+    c.run_pairs.ensures.passes.stays

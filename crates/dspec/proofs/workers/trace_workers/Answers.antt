@@ -18,28 +18,28 @@ use Rattle.dspec.proofs.Returning.{worked}
 use Rattle.dspec.proofs.Tracing.{by_one_list, fresh_none, kept_alone, listed, traced}
 use Rattle.dspec.proofs.workers.trace_workers.Goals as goal
 
-pub run_workers-session-requires-clause-cpus : goal.run_workers-session-requires-clause-cpus
-run_workers-session-requires-clause-cpus g c = λ κs outlives. sym (ap (λ (v : View). v.config.cpus) c.in_ok-session.ensures.consumer.0)
+pub run_workers-requires-clause-cpus : goal.run_workers-requires-clause-cpus
+run_workers-requires-clause-cpus g c = λ κs outlives. sym (ap (λ (v : View). v.config.cpus) c.in_ok-session.ensures.consumer.0)
 
 pub returns-clause-traced : goal.returns-clause-traced
 returns-clause-traced g c =
     let started = c.in_ok-session.ensures in
     let s = c.in_ok-session.session in
-    let back = c.run_workers-session.result.0 in
+    let back = c.run_workers.new.session in
     let schema = c.args.schema in
     let shape : EnabledRows → _ = λ e. table_shape e.header (enabled e.rows) in
     let accepts : EnabledRows → _ = λ e. table_accepts e.header (enabled e.rows) in
     let text : EnabledRows → _ = λ e. table_text e.header (enabled e.rows) in
-    let count : c.in-Ok.cpus ≡ length c.args.workers.items = search rules in
+    let count : c.in-Ok.cpus ≡ length c.args.workers.now.items = search rules in
     let sized = ap (λ n. with_cpus n c.args.config.now) count in
-    let same = ap (λ (w : Shared). set_up (words_of w)) c.run_workers-session.ensures.lent.1 ∙ (started.config ∙ sized) in
-    let does = λ (x : EnabledRows). ThenServed (WorkedBy (g.W.Worker.does x) c.args.workers.items c.run_workers-session.result.1.items) in
-    let lent = c.run_workers-session.ensures.lent.0 in
-    traced shape accepts text (g.K.Sink.gets schema) schema (words_of s.shared) s.consumer back.consumer c.args.sink c.run_workers-session.result.2 c.pass_rests.new.sink
-    c.finish-closed.result started.consumer.1 c.run_workers-session.ensures.passes c.pass_rests.ensures (does schema) (with_cpus (length c.args.workers.items) c.args.config.now) back.cpus.items
+    let same = ap (λ (w : Shared). set_up (words_of w)) c.run_workers.ensures.words ∙ (started.config ∙ sized) in
+    let does = λ (x : EnabledRows). ThenServed (WorkedBy (g.W.Worker.does x) c.args.workers.now.items c.run_workers.new.workers.items) in
+    let lent = c.run_workers.ensures.lent in
+    traced shape accepts text (g.K.Sink.gets schema) schema (words_of s.shared) s.consumer back.consumer c.args.sink.now c.run_workers.new.sink c.pass_rests.new.sink
+    c.finish-closed.result started.consumer.1 c.run_workers.ensures.passes c.pass_rests.ensures (does schema) (with_cpus (length c.args.workers.now.items) c.args.config.now) back.cpus.items
     (ap (λ (v : View). v.config) started.consumer.0 ∙ sized) (c.finish-closed.ensures.all ∙ ap (λ (k : Config). k.cpus) same)
     (lent.all ∙ ap (λ (k : Config). k.cpus) same) (ap (λ (v : View). v.own) started.consumer.0) (λ n cpu at. (lent.each n cpu at).number)
-    (worked (Has shape accepts text) (fresh_none shape accepts text) does schema s back started.session started.fresh c.run_workers-session.ensures.returned)
+    (worked (Has shape accepts text) (fresh_none shape accepts text) does schema s back started.session started.fresh c.run_workers.ensures.returned)
     (subst (λ (k : Config). IsPromisedBy (shape schema) (accepts schema) (text schema) k (entered_at back.cpus.items) (view_of back.consumer).own
     (called_at back.cpus.items) (taken_at back.consumer) c.finish-closed.result) same
     (c.finish-closed.ensures.promised schema lent))
@@ -48,46 +48,47 @@ pub returns-clause-keeps : goal.returns-clause-keeps
 returns-clause-keeps g c =
     let schema = c.args.schema in
     kept_alone (g.K.Sink.gets schema) _ (table_shape schema.header (enabled schema.rows)) (table_accepts schema.header (enabled schema.rows))
-    (table_text schema.header (enabled schema.rows)) (with_cpus (length c.args.workers.items) c.args.config.now) c.args.sink c.finish-closed.result c.pass_rests.new.sink (returns-clause-traced g c)
+    (table_text schema.header (enabled schema.rows)) (with_cpus (length c.args.workers.now.items) c.args.config.now) c.args.sink.now c.finish-closed.result
+    c.pass_rests.new.sink (returns-clause-traced g c)
 
 pub returns-clause-listed : goal.returns-clause-listed
 returns-clause-listed g c =
     let started = c.in_ok-session.ensures in
     let s = c.in_ok-session.session in
-    let back = c.run_workers-session.result.0 in
+    let back = c.run_workers.new.session in
     let schema = c.args.schema in
     let shape : EnabledRows → _ = λ e. table_shape e.header (enabled e.rows) in
     let accepts : EnabledRows → _ = λ e. table_accepts e.header (enabled e.rows) in
     let text : EnabledRows → _ = λ e. table_text e.header (enabled e.rows) in
-    let count : c.in-Ok.cpus ≡ length c.args.workers.items = search rules in
+    let count : c.in-Ok.cpus ≡ length c.args.workers.now.items = search rules in
     let sized = ap (λ n. with_cpus n c.args.config.now) count in
-    let same = ap (λ (w : Shared). set_up (words_of w)) c.run_workers-session.ensures.lent.1 ∙ (started.config ∙ sized) in
-    listed shape accepts text (g.K.Sink.gets schema) schema (words_of s.shared) s.consumer back.consumer c.args.sink c.run_workers-session.result.2 c.pass_rests.new.sink
-    c.finish-closed.result started.consumer.1 c.run_workers-session.ensures.passes c.pass_rests.ensures (with_cpus (length c.args.workers.items) c.args.config.now)
+    let same = ap (λ (w : Shared). set_up (words_of w)) c.run_workers.ensures.words ∙ (started.config ∙ sized) in
+    listed shape accepts text (g.K.Sink.gets schema) schema (words_of s.shared) s.consumer back.consumer c.args.sink.now c.run_workers.new.sink c.pass_rests.new.sink
+    c.finish-closed.result started.consumer.1 c.run_workers.ensures.passes c.pass_rests.ensures (with_cpus (length c.args.workers.now.items) c.args.config.now)
     back.cpus.items (worn_at back.cpus.items)
     (view_of back.consumer).own c.all_stand.ensures
     (subst (λ (k : Config). IsClosedBy (shape schema) (accepts schema) (text schema) k (HasAt (Has shape accepts text) back.cpus.items) (worn_at back.cpus.items)
-    (taken_at back.consumer) (view_of back.consumer).own c.finish-closed.result) same (c.finish-closed.ensures.closed schema c.run_workers-session.ensures.lent.0))
+    (taken_at back.consumer) (view_of back.consumer).own c.finish-closed.result) same (c.finish-closed.ensures.closed schema c.run_workers.ensures.lent))
 
 pub returns-clause-one_list : goal.returns-clause-one_list
 returns-clause-one_list g c =
     let started = c.in_ok-session.ensures in
     let s = c.in_ok-session.session in
-    let back = c.run_workers-session.result.0 in
+    let back = c.run_workers.new.session in
     let schema = c.args.schema in
     let shape : EnabledRows → _ = λ e. table_shape e.header (enabled e.rows) in
     let accepts : EnabledRows → _ = λ e. table_accepts e.header (enabled e.rows) in
     let text : EnabledRows → _ = λ e. table_text e.header (enabled e.rows) in
-    let count : c.in-Ok.cpus ≡ length c.args.workers.items = search rules in
+    let count : c.in-Ok.cpus ≡ length c.args.workers.now.items = search rules in
     let sized = ap (λ n. with_cpus n c.args.config.now) count in
-    let same = ap (λ (w : Shared). set_up (words_of w)) c.run_workers-session.ensures.lent.1 ∙ (started.config ∙ sized) in
-    let does = λ (x : EnabledRows). ThenServed (WorkedBy (g.W.Worker.does x) c.args.workers.items c.run_workers-session.result.1.items) in
-    let lent = c.run_workers-session.ensures.lent.0 in
-    by_one_list shape accepts text (g.K.Sink.gets schema) schema (words_of s.shared) s.consumer back.consumer c.args.sink c.run_workers-session.result.2 c.pass_rests.new.sink
-    c.finish-closed.result started.consumer.1 c.run_workers-session.ensures.passes c.pass_rests.ensures (does schema) (with_cpus (length c.args.workers.items) c.args.config.now) back.cpus.items
+    let same = ap (λ (w : Shared). set_up (words_of w)) c.run_workers.ensures.words ∙ (started.config ∙ sized) in
+    let does = λ (x : EnabledRows). ThenServed (WorkedBy (g.W.Worker.does x) c.args.workers.now.items c.run_workers.new.workers.items) in
+    let lent = c.run_workers.ensures.lent in
+    by_one_list shape accepts text (g.K.Sink.gets schema) schema (words_of s.shared) s.consumer back.consumer c.args.sink.now c.run_workers.new.sink c.pass_rests.new.sink
+    c.finish-closed.result started.consumer.1 c.run_workers.ensures.passes c.pass_rests.ensures (does schema) (with_cpus (length c.args.workers.now.items) c.args.config.now) back.cpus.items
     (ap (λ (v : View). v.config) started.consumer.0 ∙ sized) (c.finish-closed.ensures.all ∙ ap (λ (k : Config). k.cpus) same)
     (lent.all ∙ ap (λ (k : Config). k.cpus) same) (ap (λ (v : View). v.own) started.consumer.0) (λ n cpu at. (lent.each n cpu at).number)
-    (worked (Has shape accepts text) (fresh_none shape accepts text) does schema s back started.session started.fresh c.run_workers-session.ensures.returned)
+    (worked (Has shape accepts text) (fresh_none shape accepts text) does schema s back started.session started.fresh c.run_workers.ensures.returned)
     (worn_at back.cpus.items) c.all_stand.ensures
     (subst (λ (k : Config). (p : ℕ → List Deed) → ((n : ℕ) → n < k.cpus → HasAt (Has shape accepts text) back.cpus.items n (p n))
     → (h : List Deed) × ClosesAs (shape schema) (accepts schema) (text schema) k (worn_at back.cpus.items) (taken_at back.consumer) (view_of back.consumer).own c.finish-closed.result p h

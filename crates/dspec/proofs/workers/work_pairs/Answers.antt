@@ -8,7 +8,7 @@ use Rattle.dspec.proofs.workers.work_pairs.Goals as goal
 pub for_each_mut-requires-clause-accepts : goal.for_each_mut-requires-clause-accepts
 for_each_mut-requires-clause-accepts g c κs within = λ i p lt at.
     let e = c.as_mut_slice.ensures.value in (
-      pair_callable c.args.shared.now c.args.pairs.items i p.now c.requires (subst (λ xs. i < length xs) e lt) (subst (λ xs. p.now ≡ get_or xs i p.now) e at),
+      pair_callable c.args.shared.now c.args.pairs.now.items i p.now c.requires (subst (λ xs. i < length xs) e lt) (subst (λ xs. p.now ≡ get_or xs i p.now) e at),
       (search rules),
     )
 
@@ -18,7 +18,7 @@ returns g c =
     let old = c.as_mut_slice.result.now in
     let new = c.for_each_mut.new.s in
     let same : length new ≡ length old = search rules in
-    let size : c.args.pairs.len ≡ length new = search rules in
+    let size : c.args.pairs.now.len ≡ length new = search rules in
     let worked : AllWorked does old new = record {
       all = same;
       each = λ i pair at.
@@ -28,4 +28,4 @@ returns g c =
           let done : WorkedOne does made.argument.now made.after_call.now = search rules in
           (made.argument.now, slice_get-get_or old i pair lt ∙ ap Some (sym made.argument_is), subst (λ (x : Working g.row.W.Denot). WorkedOne does made.argument.now x) left done);
     } in
-    all_worked does c.args.pairs.len old new c.args.pairs.items worked c.as_mut_slice.ensures.value size
+    all_worked does c.args.pairs.now.len old new c.args.pairs.now.items worked c.as_mut_slice.ensures.value size

@@ -1,16 +1,29 @@
-use Rattle.std.proofs.Common.{arith}
+use Rattle.std.proofs.Common.{subst, arith}
 use Rattle.std.specs.Arc.{arc_value}
 use Rattle.std.proofs.lemmas.List.{length-map}
-use Rattle.rtrb.specs.Ring.{received}
-use Rattle.dspec_threads.proofs.Runs.{later_so, more_back}
+use Rattle.dspec_threads.specs.Places.{ComesIn, EachPair, StaysIn, all_whereabouts, whereabouts, who_is_in}
+use Rattle.dspec_threads.specs.Runs.{Run}
+use Rattle.dspec_threads.proofs.Pairs.{pair_count}
+use Rattle.dspec_threads.proofs.Whereabouts.{each_stays}
+use Rattle.dspec_threads.proofs.Runs.{later_so, placed_later}
 use Rattle.dspec_threads.proofs.running.Running.is_home.Goals as goal
 
 pub invariant_of-self : goal.invariant_of-self
-invariant_of-self g c = (
-  more_back (g.K.Sink.gets c.self.inside.schema) g.D.Duty.done (arc_value c.self.inside.shared) _ _ _ _ _ _ _ _ _ c.self.invariant.0 c.gather.ensures.gathered
-      (omega (arith, c.gather.ensures.count.0, length-map c.gather.new.homes.items (λ h. received h), length-map c.self.inside.homes.items (λ h. received h))),
-  omega (arith, c.self.invariant.1, c.gather.ensures.count.0, c.gather.ensures.room),
-)
+invariant_of-self g c =
+    let gets = g.K.Sink.gets c.self.inside.schema in
+    let done = g.D.Duty.done in
+    let looked = c.look_at_all.ensures.looked in (
+      placed_later gets done (ComesIn done) (λ v w is. is.keeps) (arc_value c.self.inside.common.shared) _ _ _ _ _ _ _ looked c.self.invariant.0,
+      (
+        c.self.invariant.1.0,
+        omega (arith, c.self.invariant.1.1, pair_count (ComesIn done) _ _ looked, length-map c.self.inside.places.items whereabouts, length-map c.look_at_all.new.places.items whereabouts),
+      ),
+    )
 
 pub returns-clause-same : goal.returns-clause-same
-returns-clause-same g c = later_so _ _ _ _ _ _ _ _ c.self.view_is (omega (arith, c.gather.ensures.count.0, c.gather.ensures.count.1))
+returns-clause-same g c =
+    let looked = who_is_in (all_whereabouts c.look_at_all.new.places.items) in
+    record {
+      same = later_so _ _ _ _ _ _ _ _ c.self.view_is;
+      home = subst (λ (r : Run g.row.K.Denot). EachPair StaysIn r.home looked) c.self.view_is (each_stays g.D.Duty.done _ _ c.look_at_all.ensures.looked);
+    }

@@ -1,7 +1,7 @@
 -- One verdict more came out, and was done.
 use Rattle.std.proofs.Common.{◌≡◌, ◌+◌, ◌∙◌, length, ap, arith}
 use Rattle.rtrb.specs.Ring.{known_items}
-use Rattle.dspec_threads.proofs.MoreVerdicts.{one_more_settled}
+use Rattle.dspec_threads.proofs.MoreVerdicts.{one_more_settled, still_seen}
 use Rattle.dspec_threads.proofs.settling.Settler.settle.Goals as goal
 
 pub loop-preserved : goal.loop-preserved
@@ -11,6 +11,7 @@ loop-preserved g c =
     let left = c.loop.invariant.left in
     record {
       left = omega arith;
+      seen = still_seen _ _ _ _ _ popped.ensures.received.0 popped.ensures.received.1 c.loop.invariant.seen;
       same = c.decide.ensures.same ∙ c.loop.invariant.same;
       ring = grind (arith, popped.ensures.ring, c.loop.invariant.ring);
       settled = one_more_settled _ g.J.Judging.may _ _ _ _ _ _ _ _ c.loop.invariant.settled popped.ensures.received.0 popped.ensures.allowed c.decide.ensures;

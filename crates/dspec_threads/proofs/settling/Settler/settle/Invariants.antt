@@ -1,14 +1,16 @@
--- As many are left in the ring as rounds are left, and what came out before was done.
-use Rattle.std.proofs.Common.{◌≡◌, ◌+◌, length}
+-- As many are left in the ring as rounds are left, what came out before was done, and what was seen before is among both.
+use Rattle.std.proofs.Common.{◌≡◌, ◌+◌, ◌++◌, length}
+use mathlib.Core.List.{IsPrefix}
 use Rattle.rtrb.specs.Ring.{known_items}
 use Rattle.dspec_cpu.specs.Lists.{HasList}
 use Rattle.dspec.specs.Lanes.{place_of}
-use Rattle.dspec_threads.specs.Settled.{SettlesNext, settled_by, settled_from}
+use Rattle.dspec_threads.specs.Settled.{SettlesNext, seen_by, settled_by, settled_from}
 use Rattle.dspec_threads.proofs.settling.Settler.settle.Given as goal
 
 abbrev pub invariant-loop : goal.invariant-loop
 invariant-loop g l = record {
   left : l.counter + length (known_items l.self.coming) ≡ l.count;
+  seen : IsPrefix (settled_by l.fn.self ++ seen_by l.fn.self) (settled_by l.self ++ seen_by l.self);
   same : place_of l.lane ≡ place_of l.fn.lane;
   ring : settled_from l.self ≡ settled_from l.fn.self;
   settled : SettlesNext (λ cpu p. HasList (g.S.Schema.shape_of cpu.schema) (g.S.Schema.accepted cpu.schema) (g.S.Schema.text cpu.schema) cpu p)

@@ -1,6 +1,0 @@
-use Rattle.std.proofs.Common.{◌∷◌, sym, ap, ◌∙◌}
-use Rattle.dspec_threads.proofs.Homes.{first_and_rest}
-use Rattle.dspec_threads.proofs.opening.first.Goals as goal
-
-pub returns : goal.returns
-returns c = sym (ap (λ xs. c.remove.result ∷ xs) c.remove.ensures.items ∙ first_and_rest c.args.cpus.now.items c.remove.result c.requires c.remove.ensures.value)

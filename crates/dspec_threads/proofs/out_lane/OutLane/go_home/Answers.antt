@@ -1,0 +1,21 @@
+use Rattle.std.proofs.Common.{sym, subst}
+use Rattle.rtrb.specs.Ring.{sent}
+use Rattle.dspec_record.specs.EnablingRows.{EnabledRows}
+use Rattle.dspec_cpu.specs.declared.cpu.Cpu.{Cpu}
+use Rattle.dspec_cpu.specs.Called.{called}
+use Rattle.dspec_cpu.specs.Lists.{number_in}
+use Rattle.dspec_threads.specs.Homes.{WentHome}
+use Rattle.dspec_threads.proofs.Homes.{has_gone, may_go}
+use Rattle.dspec_threads.proofs.out_lane.OutLane.go_home.Goals as goal
+
+pub push_reserved-requires : goal.push_reserved-requires
+push_reserved-requires g c = (
+  c.self.invariant.2,
+  may_go g.D.Duty.done _ c.self.inside.cpu c.self.invariant.1
+      (subst (λ (x : Cpu EnabledRows). g.D.Duty.done (number_in x) (called x)) (sym c.self.view_is) c.requires),
+)
+
+pub returns : goal.returns
+returns g c =
+    subst (λ (x : Cpu EnabledRows). WentHome x (sent c.push_reserved.new.self)) c.self.view_is
+    (has_gone g.D.Duty.done _ _ c.self.inside.cpu c.self.invariant.1 c.push_reserved.ensures.sent.0)

@@ -1,0 +1,22 @@
+use Rattle.std.proofs.Common.{arith}
+use Rattle.std.proofs.lemmas.List.{length-map}
+use Rattle.dspec_threads.specs.Places.{ComesIn, whereabouts}
+use Rattle.dspec_threads.proofs.Pairs.{all_of_them, count_so_far, none_yet, one_more_pair}
+use Rattle.dspec_threads.proofs.Whereabouts.{all_or_one, none_in_yet, one_more_looked}
+use Rattle.dspec_threads.proofs.places.look_at_all.Goals as goal
+
+pub loop-index-init : goal.loop-index-init
+loop-index-init g c = record { looked = none_yet (ComesIn g.D.Duty.done) _; inside = none_in_yet _ }
+
+pub loop-index-preserved : goal.loop-index-preserved
+loop-index-preserved g c = record {
+  looked = one_more_pair (ComesIn g.D.Duty.done) _ _ _ _ c.loop-index.invariant.looked c.look_at.ensures.looked;
+  inside = one_more_looked (ComesIn g.D.Duty.done) _ _ _ c.look_at.ensures.looked _ _ _ c.loop-index.invariant.inside c.look_at.ensures.inside c.both-all.ensures;
+}
+
+pub returns-clause-looked : goal.returns-clause-looked
+returns-clause-looked g c = all_of_them (ComesIn g.D.Duty.done) _ _ _ c.loop-index.invariant.looked (omega (arith, length-map c.args.places.now.items whereabouts))
+
+pub returns-clause-inside : goal.returns-clause-inside
+returns-clause-inside g c = all_or_one _ _ _ c.loop-index.invariant.inside
+    (omega (arith, length-map c.args.places.now.items whereabouts, count_so_far (ComesIn g.D.Duty.done) _ _ _ c.loop-index.invariant.looked))

@@ -1,0 +1,48 @@
+use Rattle.std.proofs.Common.{subst, arith}
+use Rattle.std.specs.Arc.{arc_value}
+use Rattle.std.proofs.lemmas.List.{length-map}
+use Rattle.dspec_threads.specs.Places.{ComesIn, EachPair, StaysIn, TendsPlace, all_whereabouts, whereabouts, who_is_in}
+use Rattle.dspec_threads.specs.Runs.{Run}
+use Rattle.dspec_threads.proofs.Pairs.{pair_count}
+use Rattle.dspec_threads.proofs.Whereabouts.{each_serves, each_stays}
+use Rattle.dspec_threads.proofs.Runs.{later_so, of_run, placed_later}
+use Rattle.dspec_threads.proofs.running.Running.tend.Goals as goal
+
+pub tend_all-requires : goal.tend_all-requires
+tend_all-requires g c =
+    let gets = g.K.Sink.gets c.self.inside.schema in
+    let done = g.D.Duty.done in
+    let shared = arc_value c.self.inside.common.shared in
+    let looked = placed_later gets done (ComesIn done) (λ v w is. is.keeps) shared _ _ _ _ _ _ _ c.look_at_all.ensures.looked c.self.invariant.0 in
+    of_run gets done shared _ _ _ _ _ _ _ looked c.words.ensures
+
+pub invariant_of-self : goal.invariant_of-self
+invariant_of-self g c =
+    let gets = g.K.Sink.gets c.self.inside.schema in
+    let done = g.D.Duty.done in
+    let shared = arc_value c.self.inside.common.shared in
+    let looked = placed_later gets done (ComesIn done) (λ v w is. is.keeps) shared _ _ _ _ _ _ _ c.look_at_all.ensures.looked c.self.invariant.0 in (
+      placed_later gets done (TendsPlace done) (λ v w is. is.keeps) shared _ _ _ _ _ _ _ c.tend_all.ensures looked,
+      (
+        c.self.invariant.1.0,
+        omega (
+          arith,
+          c.self.invariant.1.1,
+          pair_count (ComesIn done) _ _ c.look_at_all.ensures.looked,
+          pair_count (TendsPlace done) _ _ c.tend_all.ensures,
+          length-map c.self.inside.places.items whereabouts,
+          length-map c.look_at_all.new.places.items whereabouts,
+          length-map c.tend_all.new.places.items whereabouts,
+        ),
+      ),
+    )
+
+pub returns : goal.returns
+returns g c =
+    let looked = who_is_in (all_whereabouts c.look_at_all.new.places.items) in
+    record {
+      same = later_so _ _ _ _ _ _ _ _ c.self.view_is;
+      looked = looked;
+      later = subst (λ (r : Run g.row.K.Denot). EachPair StaysIn r.home looked) c.self.view_is (each_stays g.D.Duty.done _ _ c.look_at_all.ensures.looked);
+      serves = each_serves g.D.Duty.done _ _ c.tend_all.ensures;
+    }

@@ -1,0 +1,32 @@
+-- A sink that is part of another got what that got.
+use Rattle.std.proofs.Common.{◌+◌, ℕ, Bool, List, [], ◌∷◌, Option, ap}
+use Rattle.dspec_record.specs.Record.{Record}
+use Rattle.dspec_record.specs.declared.field.Shape.{Shape}
+use Rattle.dspec_deeds.specs.declared.config.Config.{Config}
+use Rattle.dspec_ring.specs.declared.batch.Batch.{Batch}
+use Rattle.dspec_cpu.specs.Called.{CallsMade}
+use Rattle.dspec_session_core.specs.declared.left.Left.{Left}
+use Rattle.dspec.specs.Passed.{GotAll, Passed}
+use Rattle.dspec.specs.Traced.{IsKept}
+use Rattle.dspec_ctf_sink.specs.Ending.{GetsTellings}
+
+module _ {B K : Type 0} (gets : B → Batch → B → Type 0) (sees : K → Batch → K → Type 0) (f : B → K) (through : (a : B) (b : Batch) (c : B) → gets a b c → sees (f a) b (f c)) where
+  pub got_through : (xs : List Passed) (k l : B) → GotAll gets k xs l → GotAll sees (f k) xs (f l)
+  got_through [] k l e = ap f e
+  got_through (x ∷ xs) k l (m, got, rest) = (f m, through k x.batch m got, got_through xs m l rest)
+
+  pub told_through : (c : ℕ) (ls : List Left) (k l : B) → GetsTellings gets c ls k l → GetsTellings sees c ls (f k) (f l)
+  told_through c [] k l e = ap f e
+  told_through c (x ∷ xs) k l (m, one, rest) =
+      (f m, record { batch = one.batch; is = one.is; got = through k one.batch m one.got }, told_through (c + 1) xs m l rest)
+
+  module _ (does : ℕ → CallsMade → CallsMade → Type 0) (shape : ℕ → Option Shape) (accepted : Record → Bool) (text : Record → List ℕ) where
+    pub kept_through : (k : Config) (old : B) (left : List Left) (new : B) → IsKept gets does shape accepted text k old left new → IsKept sees does shape accepted text k (f old) left (f new)
+    kept_through k old left new t = record {
+      passed = t.passed;
+      from = t.from;
+      got = got_through t.passed old new t.got;
+      calls = t.calls;
+      worked = t.worked;
+      page = t.page;
+    }

@@ -1,0 +1,73 @@
+-- What the end of a trace tells of each CPU comes behind the batches that its session passed on.
+use Rattle.std.proofs.Common.{◌≡◌, ◌<◌, ◌+◌, ◌==◌, ℕ, zero, suc, true, false, List, [], ◌∷◌, ◌++◌, Some, refl, ap, subst, arith, slice_get}
+use Rattle.std.proofs.lemmas.Bool.Decides.{nat_tests}
+use Rattle.std.proofs.lemmas.List.Elements.{All-nil}
+use Rattle.std.specs.Prelude.{IsTrue}
+use Rattle.dspec_record.specs.Record.{Record}
+use Rattle.dspec_record.specs.EnablingRows.{EnabledRows}
+use Rattle.dspec_record.specs.Schemas.{enabled, table_accepts}
+use Rattle.dspec_ring.specs.declared.batch.Batch.{Batch}
+use Rattle.dspec_session_core.specs.declared.left.Left.{Left}
+use Rattle.dspec.specs.Passed.{GotAll, Passed, passed_from}
+use Rattle.dspec_ctf_sink.specs.Ending.{GetsTellings, IsBare, IsTelling, untold}
+use Rattle.dspec_trace_reading.specs.AsTaken.{HaveNumbers, drops_carried}
+use Rattle.dspec_trace_reading.proofs.Folding.{Holds}
+
+module _ {K : Type 0} (gets : K → Batch → K → Type 0) where
+  abbrev pub told_of : (c : ℕ) (ls : List Left) (k l : K) → GetsTellings gets c ls k l → List Passed
+  told_of c [] k l e = []
+  told_of c (x ∷ xs) k l (m, one, rest) = record { from = c; batch = one.batch } ∷ told_of (c + 1) xs m l rest
+
+  pub got_told : (c : ℕ) (ls : List Left) (k l : K) (t : GetsTellings gets c ls k l) → GotAll gets k (told_of c ls k l t) l
+  got_told c [] k l e = e
+  got_told c (x ∷ xs) k l (m, one, rest) = (m, one.got, got_told (c + 1) xs m l rest)
+
+  pub told_numbers : (c : ℕ) (ls : List Left) (k l : K) (t : GetsTellings gets c ls k l) → HaveNumbers (told_of c ls k l t)
+  told_numbers c [] k l e = tt
+  told_numbers c (x ∷ xs) k l (m, one, rest) = (one.is.of, told_numbers (c + 1) xs m l rest)
+
+  told_above : (c d : ℕ) (ls : List Left) (k l : K) (t : GetsTellings gets c ls k l) → d < c → passed_from d (told_of c ls k l t) ≡ []
+  told_above c d [] k l e lt = refl
+  told_above c d (x ∷ xs) k l (m, one, rest) lt =
+      let apart : (c == d) ≡ false = grind (arith, nat_tests) in
+      rw apart (told_above (c + 1) d xs m l rest (omega arith))
+
+  -- of each CPU it is one batch, which has no records
+  pub told_there : (c i d : ℕ) (ls : List Left) (x : Left) (k l : K) (t : GetsTellings gets c ls k l) → d ≡ c + i → slice_get ls i ≡ Some x
+      → (b : Batch) × IsTelling d (untold x.report) b × (passed_from d (told_of c ls k l t) ≡ b ∷ [])
+  told_there c i d [] x k l e on at = absurd (cc (at))
+  told_there c zero d (y ∷ ls) x k l (m, one, rest) on at =
+      let same : y ≡ x = cc (at) in
+      let here : c ≡ d = omega arith in
+      let is : (c == d) ≡ true = grind (arith, nat_tests) in (
+        one.batch,
+        subst (λ n. IsTelling n (untold x.report) one.batch) here (subst (λ (z : Left). IsTelling c (untold z.report) one.batch) same one.is),
+        rw is (ap (λ bs. one.batch ∷ bs) (told_above (c + 1) d ls m l rest (omega arith))),
+      )
+  told_there c (suc i) d (y ∷ ls) x k l (m, one, rest) on at =
+      let apart : (c == d) ≡ false = grind (arith, nat_tests) in
+      let later = told_there (c + 1) i d ls x m l rest (omega arith) at in
+      (later.0, later.1, rw apart later.2)
+
+pub numbers_both : (xs ys : List Passed) → HaveNumbers xs → HaveNumbers ys → HaveNumbers (xs ++ ys)
+numbers_both [] ys first second = second
+numbers_both (x ∷ xs) ys (one, first) second = (one, numbers_both xs ys first second)
+
+pub drops_more : (bs : List Batch) (b : Batch) → drops_carried (bs ++ b ∷ []) ≡ drops_carried bs + b.drops
+drops_more [] b = omega arith
+drops_more (x ∷ bs) b = let more = drops_more bs b in omega arith
+
+-- a batch without records, behind others, leaves the records that they hold
+pub hold_more : (e : EnabledRows) (bs : List Batch) (b : Batch) (rs : List Record) → Holds e bs rs → IsBare b → Holds e (bs ++ b ∷ []) rs
+hold_more e [] b rs none bare = (
+  [],
+  [],
+  record {
+    all_accepted = All-nil (λ r. IsTrue (table_accepts e.header (enabled e.rows) r));
+    text_is = bare.0;
+    count_is = bare.1;
+  },
+  none,
+  refl,
+)
+hold_more e (x ∷ bs) b rs (ps, rest, has, sum, more) bare = (ps, rest, has, sum, hold_more e bs b rest more bare)

@@ -1,0 +1,32 @@
+-- Serves proofs. A trace that is begun in a folder, and why none is.
+use Rattle.std.specs.Prelude.{ℕ, ◌≡◌, ◌≢◌, List, [], Some, None}
+use Rattle.dspec_record.specs.EnablingRows.{EnabledRows}
+use Rattle.dspec_deeds.specs.Ranges.{start_fault}
+use Rattle.dspec_deeds.specs.declared.config.Config.{Config}
+use Rattle.dspec_deeds.specs.declared.config.StartFault.{StartFault}
+use Rattle.dspec_deeds.specs.declared.config.StartFault.TheVariants as start
+use Rattle.dspec_probe.specs.declared.probes.ProbeNames.{ProbeNames}
+use Rattle.dspec_ctf.specs.declared.names.Names.{Names}
+use Rattle.dspec_ctf.specs.declared.origin.Origin.{Origin}
+use Rattle.dspec_ctf_sink.specs.Writing.{IsBegun, Tracing}
+use Rattle.dspec_trace_reading.specs.Folders.{AreNamesOf}
+use Rattle.dspec_trace_reading.specs.declared.fault.ToFolderFault.{ToFolderFault}
+use Rattle.dspec_trace_reading.specs.declared.fault.ToFolderFault.TheVariants.{Start, Folder}
+
+-- the metadata of these probes was written into a folder that was asked for nothing before, and no packet yet
+pub record IsBegunTrace (e : EnabledRows) (ps : List ProbeNames) (uuid : List ℕ) (begun : Tracing) : Type 0 where
+  pub origin : Origin
+  pub names : Names
+  pub named : AreNamesOf ps names
+  pub whose : origin.uuid ≡ uuid
+  pub is : IsBegun origin e names (Some []) begun
+
+-- no session starts: by the first number of the configuration that is out of range, or else for want of memory
+pub record CantStart (k : Config) (fault : StartFault) : Type 0 where
+  pub range : fault ≢ start.Memory → start_fault k ≡ Some fault
+  pub memory : fault ≡ start.Memory → start_fault k ≡ None
+
+-- the same, or the folder refused where the configuration is in range
+abbrev pub RefusesFolder : Config → ToFolderFault → Type 0
+RefusesFolder k (Start fault) = CantStart k fault
+RefusesFolder k (Folder fault) = start_fault k ≡ None

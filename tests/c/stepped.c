@@ -1,0 +1,233 @@
+/* A tracer that is killed behind each instruction: `stepped FOLDER SNAP OUT EACH`. The processor traps behind each instruction of its calls, and behind each EACH-th one the memory's file is
+ * copied to SNAP, as a kill would leave it, and read by `stepped judge SNAP OUT ..`, a process of its own. What was answered has to be there, what was thrown away nowhere, and what is being
+ * made may be there or not, as a whole. The last line counts what was judged. */
+#define _GNU_SOURCE
+#include "dspec_tracer.h"
+
+#include <fcntl.h>
+#include <inttypes.h>
+#include <signal.h>
+#include <spawn.h>
+#include <stdio.h>
+#include <stdlib.h>
+#include <string.h>
+#include <sys/stat.h>
+#include <sys/wait.h>
+#include <unistd.h>
+
+DSPEC_PROBE(query, uint64_t, request, uint32_t, step);
+DSPEC_PROBE(tick, uint64_t, number);
+
+enum { REQUESTS = 4, STEPS = 3, MOST = 64, PACKET = 1024, FILES = 8 };
+
+/* What is known while a call is made: how many requests are decided, of which those with odd numbers were kept; how many records the one that is open has; how many ticks there are; and
+ * what is being made. */
+enum { NOTHING = 0, A_RECORD = 1, A_KEEP = 2, A_DROP = 3, A_TICK = 4 };
+typedef struct known {
+    uint64_t decided, records, ticks, making;
+} known;
+
+static known now;
+static char **names;
+static int memory;
+static uint64_t instructions, judged, wrong, each;
+static uint8_t copy[1 << 20];
+
+/* ---- The judge. ---- */
+
+typedef struct found {
+    uint64_t requests[MOST], steps[MOST], count;
+    uint64_t ticks[MOST], ticked;
+} found;
+
+static uint64_t number_of(const uint8_t *at, int width) {
+    uint64_t number = 0;
+    for (int i = width; i > 0; i--) number = number << 8 | at[i - 1];
+    return number;
+}
+
+static void add_query(found *all, uint64_t request, uint64_t at) {
+    uint64_t place = all->count++;
+    for (; place > 0 && (all->requests[place - 1] > request || (all->requests[place - 1] == request && all->steps[place - 1] > at)); place--) {
+        all->requests[place] = all->requests[place - 1];
+        all->steps[place] = all->steps[place - 1];
+    }
+    all->requests[place] = request;
+    all->steps[place] = at;
+}
+
+/* The events of a file of the lane: queries by their requests, and ticks. */
+static void read_file(const char *folder, int number, found *all) {
+    uint8_t packet[PACKET];
+    char path[4200];
+    int file;
+    snprintf(path, sizeof path, "%s/cpu_0_%d", folder, number);
+    file = open(path, O_RDONLY);
+    while (file >= 0 && read(file, packet, PACKET) == PACKET) {
+        const uint64_t end = number_of(packet + 40, 8) / 8;
+        for (uint64_t at = 68; at + 12 <= end;) {
+            const uint64_t epid = number_of(packet + at, 4);
+            at += 12;
+            if (epid == 1 && all->count < MOST) {
+                add_query(all, number_of(packet + at, 8), number_of(packet + at + 8, 4));
+            } else if (epid == 2 && all->ticked < MOST) {
+                all->ticks[all->ticked++] = number_of(packet + at, 8);
+            }
+            at += epid == 2 ? 8 : 12;
+        }
+    }
+    if (file >= 0) close(file);
+}
+
+static void read_events(const char *folder, found *all) {
+    for (int number = 0; number < FILES; number++) read_file(folder, number, all);
+}
+
+static int say(const char *what, const found *all) {
+    printf("%s:", what);
+    for (uint64_t i = 0; i < all->count; i++) printf(" %" PRIu64 ".%" PRIu64, all->requests[i], all->steps[i]);
+    printf(" ticks %" PRIu64 "\n", all->ticked);
+    return 1;
+}
+
+/* Whether these are requests with odd numbers, in order, whole but for so many records of the last one: how many. */
+static bool are_kept(const found *all, uint64_t less, uint64_t *many) {
+    for (uint64_t i = 0; i < all->count; i++)
+        if (all->requests[i] != i / STEPS * 2 + 1 || all->steps[i] != i % STEPS) return false;
+    *many = (all->count + less) / STEPS;
+    return all->count % STEPS == 0 || (all->count + less) % STEPS == 0;
+}
+
+static int judge(const char *snap, const char *out, const known *is) {
+    static found kept, open_paths;
+    static dspec_salvaged told;
+    char path[4200];
+    uint64_t many, due = (is->decided + 1) / 2, less = is->making == A_TICK; /* a record that is in no path may be there before it is whole, so the last one is left out */
+    if (!dspec_salvage(snap, out, &told)) {
+        printf("%s\n", told.why);
+        return 1;
+    }
+    snprintf(path, sizeof path, "%s/kept", out);
+    read_events(path, &kept);
+    snprintf(path, sizeof path, "%s/undecided", out);
+    read_events(path, &open_paths);
+    if (!are_kept(&kept, less, &many) || many < due || many > due + (is->making == A_KEEP)) return say("kept", &kept);
+    if (kept.ticked + less < is->ticks || kept.ticked > is->ticks + (is->making == A_TICK)) return say("ticks", &kept);
+    for (uint64_t i = 0; i < kept.ticked; i++)
+        if (kept.ticks[i] != i) return say("which ticks", &kept);
+    for (uint64_t i = 0; i < open_paths.count; i++)
+        if (open_paths.requests[i] != is->decided + 1 || open_paths.steps[i] != i) return say("open", &open_paths);
+    if (open_paths.count > is->records + (is->making == A_RECORD) || open_paths.ticked > 0) return say("too many open", &open_paths);
+    if (is->making != A_KEEP && is->making != A_DROP && open_paths.count + 1 < is->records) return say("too few open", &open_paths);
+    return 0;
+}
+
+/* ---- The tracer. ---- */
+
+static void without(const char *folder) {
+    static const char *const parts[] = { "kept", "undecided" };
+    char path[4200];
+    for (size_t part = 0; part < 2; part++) {
+        for (int number = 0; number < 2 * FILES; number++) {
+            snprintf(path, sizeof path, "%s/%s/cpu_%d_%d", folder, parts[part], number % 2, number / 2);
+            unlink(path);
+        }
+        snprintf(path, sizeof path, "%s/%s/metadata", folder, parts[part]);
+        unlink(path);
+        snprintf(path, sizeof path, "%s/%s", folder, parts[part]);
+        rmdir(path);
+    }
+    rmdir(folder);
+}
+
+static void look(void) {
+    extern char **environ;
+    char numbers[4][24];
+    char *words[] = { names[0], (char *)"judge", names[2], names[3], numbers[0], numbers[1], numbers[2], numbers[3], NULL };
+    const uint64_t is[] = { now.decided, now.records, now.ticks, now.making };
+    struct stat size;
+    pid_t child;
+    int status = 1, snap = open(names[2], O_WRONLY | O_CREAT | O_TRUNC, 0600);
+    for (int i = 0; i < 4; i++) snprintf(numbers[i], sizeof numbers[i], "%" PRIu64, is[i]);
+    if (snap < 0 || fstat(memory, &size) != 0 || size.st_size > (off_t)sizeof copy || pread(memory, copy, (size_t)size.st_size, 0) != size.st_size) _exit(8);
+    if (write(snap, copy, (size_t)size.st_size) != size.st_size || close(snap) != 0) _exit(8);
+    without(names[3]);
+    if (posix_spawn(&child, names[0], NULL, NULL, words, environ) != 0 || waitpid(child, &status, 0) != child) _exit(8);
+    judged++;
+    if (status != 0) {
+        char line[160];
+        int length = snprintf(line, sizeof line, "behind instruction %" PRIu64 ": decided %" PRIu64 ", records %" PRIu64 ", ticks %" PRIu64 ", making %" PRIu64 "\n", instructions, is[0], is[1], is[2], is[3]);
+        if (write(1, line, (size_t)length) != length || ++wrong > 20) _exit(7);
+    }
+}
+
+static void on_step(int signal) {
+    (void)signal;
+    if (instructions++ % each == 0) look();
+}
+
+static inline void step(bool is_on) {
+#if defined(__x86_64__)
+    if (is_on) __asm__ volatile("pushfq\n\torq $0x100, (%%rsp)\n\tpopfq" ::: "memory", "cc");
+    else __asm__ volatile("pushfq\n\tandq $~0x100, (%%rsp)\n\tpopfq" ::: "memory", "cc");
+#else
+    (void)is_on;
+#endif
+}
+
+#define STEPPED(MAKING, CALL)  \
+    do {                       \
+        now.making = (MAKING); \
+        step(true);            \
+        CALL;                  \
+        step(false);           \
+        now.making = NOTHING;  \
+    } while (0)
+
+static void one_tick(dspec_tracer *tracer) {
+    STEPPED(A_TICK, tick_now(tracer, now.ticks));
+    now.ticks++;
+}
+
+static void one_request(dspec_tracer *tracer, uint64_t number) {
+    dspec_path path = dspec_path_begin(tracer);
+    bool is_well;
+    for (uint32_t at = 0; at < STEPS; at++) {
+        STEPPED(A_RECORD, query_in(&path, number, at));
+        now.records++;
+        if (at == 1) one_tick(tracer);
+    }
+    if (number % 2 == 1) STEPPED(A_KEEP, is_well = dspec_path_keep(&path));
+    else STEPPED(A_DROP, is_well = dspec_path_drop(&path));
+    if (!is_well) _exit(6);
+    now.records = 0;
+    now.decided++;
+}
+
+int main(int count, char **words) {
+    static dspec_tracer tracer;
+    const dspec_tracer_options options = { .lanes = 1, .paths = 2, .bufsize = 4096, .specsize = 256, .period_ms = 1000000, .no_crash = true, .no_term = true, .survive = true };
+    const struct sigaction trap = { .sa_handler = on_step, .sa_flags = SA_RESTART };
+    char path[4200];
+    if (count == 8 && strcmp(words[1], "judge") == 0) {
+        const known is = { strtoull(words[4], NULL, 10), strtoull(words[5], NULL, 10), strtoull(words[6], NULL, 10), strtoull(words[7], NULL, 10) };
+        return judge(words[2], words[3], &is);
+    }
+    if (count != 5) return 2;
+    names = words;
+    each = strtoull(words[4], NULL, 10);
+    if (!dspec_tracer_start(&tracer, words[1], &options, DSPEC_PROBES(query, tick))) {
+        printf("%s\n", tracer.why);
+        return 3;
+    }
+    snprintf(path, sizeof path, "%s.memory", words[1]);
+    memory = open(path, O_RDONLY | O_CLOEXEC);
+    sigaction(SIGTRAP, &trap, NULL);
+    for (uint64_t number = 1; number <= REQUESTS; number++) {
+        one_request(&tracer, number);
+        one_tick(&tracer);
+    }
+    if (!dspec_tracer_stop(&tracer, NULL)) return 5;
+    printf("%" PRIu64 " instructions, %" PRIu64 " judged, %" PRIu64 " wrong\n", instructions, judged, wrong);
+    return wrong > 0;
+}
