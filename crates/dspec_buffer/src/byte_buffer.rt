@@ -140,10 +140,11 @@ impl<S: Schema> TraceBuffer<S> for ByteBuffer {
         let end = place + size;
         let from = self.offset as usize;
         // counted before the bytes are written, so that no register holds what the counting needs meanwhile
-        self.offset = end;
         self.count += 1;
         let bytes = self.bytes.as_mut_slice();
         put_behind(schema, rec, bytes, from, place as usize, end as usize);
+        // what a reader of this memory goes by comes last: where the thread is stopped in between, the record isn't there
+        self.offset = end;
         true
     }
 

@@ -55,7 +55,7 @@ impl<S: Schema> Cpu<S> {
     /// fit, with the number of its records. Worn: the CPU had made all its calls. Stopped: the session was stopped. Void: the
     /// identifier isn't open. Where no other CPU is a caller, the call releases the slot. It touches activity and the word of the
     /// identifier's slot.
-    #[inline]
+    #[inline(always)]
     pub fn commit(&mut self, shared: &Shared, id: SpecId) -> Decided
         requires of { Belongs (words_of shared.now) (identity self.old) }
         ensures same { identity self.new ≡ identity self.old }

@@ -46,6 +46,7 @@ fn op_of(commits: bool, id: SpecId) -> CpuOp
 
 impl<S: Schema> CpuParts<S> {
     // As `Cpu::commit`.
+    #[inline(always)]
     pub(crate) fn commit(&mut self, shared: &Shared, id: SpecId) -> Decided
         requires ready { ⟦<CpuParts<S> as Callable>⟧.is_ready (words_of shared.now) self.old }
         ensures ready { ⟦<CpuParts<S> as Callable>⟧.is_ready (words_of shared.now) self.new }

@@ -167,8 +167,11 @@ fn put_first(word: u64, out: &mut [u8])
     requires { 8 ≤ length out.old }
     ensures { out.new ≡ little_endian 8 word ++ drop 8 out.old }
 {
-    // an array's bytes are one store; of slices the compiler would ask whether they overlap
-    *out.first_chunk_mut::<8>().unwrap() = word.to_le_bytes();
+    let bytes = word.to_le_bytes();
+    // byte by byte these are one store; of slices the compiler would ask whether they overlap
+    for i in 0..8 {
+        out[i] = bytes[i];
+    }
 }
 
 /// Writes a word of eight bytes at `at`.
