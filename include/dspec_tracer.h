@@ -169,7 +169,7 @@ typedef struct dspec_salvaged {
     uint64_t paths;       /* paths that were open */
     uint64_t undecided;   /* and their records */
     uint32_t lanes;       /* the lanes of the tracer, and its own */
-    uint32_t in_call;     /* lanes whose thread was in a call, or which the consumer had: of one the record that was being made may be missing */
+    uint32_t in_call;     /* lanes whose thread was in a call, or which the consumer had: a record that no call had answered may be missing */
     uint32_t unreadable;  /* lanes whose memory isn't what a lane's is: what they had is missing */
     char folder[4096];    /* the run's own folder */
     char why[256];        /* why it answered false */

@@ -16,7 +16,6 @@ extern "C" {
 
 /* Of a lane's state: six bits, and above them how many paths are on it, and 1 more where it is a thread's own (tracer/body.h). */
 #define DSPEC_TRACER_HELD_ 1u
-#define DSPEC_TRACER_PLAIN_ 65u /* held for a record that is in no path, which a reader of the memory behind a kill has to know */
 #define DSPEC_TRACER_LOOK_ 59u /* with one of these a thread doesn't get into a call on its own lane without a closer look */
 
 /* What a record has to know of a lane. */
@@ -83,9 +82,9 @@ DSPEC_INLINE dspec_tracer_seat *dspec_tracer_seat_of_(const dspec_tracer *tracer
     return DSPEC_AS(dspec_tracer_seat *, DSPEC_AS(void *, dspec_tracer_thread_() + __atomic_load_n(&tracer->seat, __ATOMIC_RELAXED)));
 }
 
-/* Into a call on the thread's own lane, where nobody wants it: whether it is in. how: DSPEC_TRACER_HELD_ or DSPEC_TRACER_PLAIN_. */
-DSPEC_INLINE bool dspec_tracer_enter_(dspec_tracer_lane *on, uint32_t how) DSPEC_NOEXCEPT {
-    __atomic_store_n(&on->inside, how, __ATOMIC_RELAXED);
+/* Into a call on the thread's own lane, where nobody wants it: whether it is in. */
+DSPEC_INLINE bool dspec_tracer_enter_(dspec_tracer_lane *on) DSPEC_NOEXCEPT {
+    __atomic_store_n(&on->inside, 1, __ATOMIC_RELAXED);
     __atomic_signal_fence(__ATOMIC_SEQ_CST);
     if (DSPEC_TRACER_LIKELY_(!(__atomic_load_n(&on->state, __ATOMIC_ACQUIRE) & DSPEC_TRACER_LOOK_))) return true;
     __atomic_store_n(&on->inside, 0, __ATOMIC_RELEASE);
@@ -128,7 +127,7 @@ DSPEC_TRACER_INTO_CALLER_ bool dspec_path_try_(dspec_path *path, const dspec_eve
     __asm__("" : "+r"(on)); /* a compiler that sees that a path has no lane yet doesn't know that no thread has its token */
     if (!DSPEC_TRACER_LIKELY_(__atomic_load_n(&on->inside, __ATOMIC_RELAXED) == 0)) return false;
     dspec_tracer_reach_();
-    if (!DSPEC_TRACER_LIKELY_(dspec_tracer_enter_(on, DSPEC_TRACER_HELD_))) return false;
+    if (!DSPEC_TRACER_LIKELY_(dspec_tracer_enter_(on))) return false;
     now = dspec_tracer_stamp_();
     do {
         *status = dspec_tracer_put_in_(&on->cpu, path->id, dspec_tracer_claim_(event, on->slot), now, words, n);
@@ -148,11 +147,11 @@ DSPEC_TRACER_INTO_CALLER_ bool dspec_tracer_try_(dspec_tracer *tracer, const dsp
     dspec_tracer_reach_();
     __atomic_store_n(&me->plain, DSPEC_TRACER_NONE_, __ATOMIC_RELAXED);
     __atomic_signal_fence(__ATOMIC_SEQ_CST);
-    is_in = __atomic_compare_exchange_n(&on->state, &state, DSPEC_TRACER_PLAIN_, false, __ATOMIC_SEQ_CST, __ATOMIC_SEQ_CST);
+    is_in = __atomic_compare_exchange_n(&on->state, &state, DSPEC_TRACER_HELD_, false, __ATOMIC_SEQ_CST, __ATOMIC_SEQ_CST);
     if (DSPEC_TRACER_LIKELY_(is_in)) {
         const uint64_t now = dspec_tracer_stamp_();
         *status = dspec_tracer_put_(&on->cpu, dspec_tracer_claim_(event, on->slot), now, words, n);
-        __atomic_fetch_and(&on->state, ~DSPEC_TRACER_PLAIN_, __ATOMIC_SEQ_CST);
+        __atomic_fetch_and(&on->state, ~DSPEC_TRACER_HELD_, __ATOMIC_SEQ_CST);
     }
     __atomic_signal_fence(__ATOMIC_SEQ_CST);
     __atomic_store_n(&me->plain, __atomic_load_n(&tracer->run, __ATOMIC_RELAXED), __ATOMIC_RELAXED);

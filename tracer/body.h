@@ -22,10 +22,9 @@
 typedef struct dspec_tracer_body body;
 typedef struct dspec_tracer_seat seat;
 
-/* Of a lane's state: seven bits, and above them how many paths are on it, and 1 more where it is a thread's own. WANTED has threads that share a lane hold back, so that the consumer gets
+/* Of a lane's state: six bits, and above them how many paths are on it, and 1 more where it is a thread's own. WANTED has threads that share a lane hold back, so that the consumer gets
  * its turn. */
-enum { HELD = DSPEC_TRACER_HELD_, GONE = 2, SERVE = 4, IDLE = 8, SHARED = 16, WANTED = 32, PLAIN = 64, USER = 128 };
-static_assert((HELD | PLAIN) == DSPEC_TRACER_PLAIN_, "the header's PLAIN is these");
+enum { HELD = DSPEC_TRACER_HELD_, GONE = 2, SERVE = 4, IDLE = 8, SHARED = 16, WANTED = 32, USER = 64 };
 static_assert((HELD | GONE | IDLE | SHARED | WANTED) == DSPEC_TRACER_LOOK_, "the header's LOOK is these");
 /* Within these bounds the consumer waits for a lane, in microseconds: in a round for none. */
 enum { TAKE_US = 20000, CLOSE_US = 5000000 };
@@ -58,7 +57,6 @@ typedef struct lane {
     dspec_batch out; /* which the folder is getting, where `bringing` says so */
     uint64_t before; /* how many records the folder had in front of it */
     uint32_t bringing;
-    uint32_t plain; /* a record that is in no path is being made, by the slow way */
     APART open_path open[MAX_OPEN];
     dspec_session session;
     dspec_consumer consumer;
@@ -251,7 +249,7 @@ static inline void seat_owns(seat *me, dspec_tracer_lane *own) {
 
 static inline bool lane_enter(seat *me, lane *on) {
     me->locked = false;
-    return (LIKELY(&on->front == me->own) && dspec_tracer_enter_(&on->front, HELD)) || lane_enter_slowly(me, on);
+    return (LIKELY(&on->front == me->own) && dspec_tracer_enter_(&on->front)) || lane_enter_slowly(me, on);
 }
 
 /* Into a call on a lane that nobody is on, by its lock: whether it is in. */

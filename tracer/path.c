@@ -177,7 +177,7 @@ INTO_CALLER bool record_on_own(dspec_tracer *tracer, const dspec_event *event, c
     bool is_made = false;
     if (!LIKELY(me->run == LOAD(&tracer->run) && seat_enter(me))) return false;
     lane *on = lane_of(me->own);
-    if (LIKELY(on != NULL) && dspec_tracer_enter_(&on->front, DSPEC_TRACER_PLAIN_)) {
+    if (LIKELY(on != NULL) && dspec_tracer_enter_(&on->front)) {
         *status = dspec_tracer_put_(&on->front.cpu, dspec_tracer_claim_(event, on->front.slot), dspec_monotonic(), words, n);
         serve_if_asked(on);
         dspec_tracer_leave_(&on->front);
@@ -198,10 +198,7 @@ static dspec_status record_slowly(dspec_tracer *tracer, const dspec_event *event
     lane *on = lane_for_record(of, me);
     status = DSPEC_STOPPED;
     if (lane_enter(me, on)) {
-        STORE(&on->plain, 1);
-        __atomic_signal_fence(__ATOMIC_SEQ_CST);
         status = dspec_tracer_put_(&on->front.cpu, dspec_tracer_claim_(event, of->slot), dspec_monotonic(), words, n);
-        STORE(&on->plain, 0);
         serve_if_asked(on);
         lane_leave(me, on);
         if (status == DSPEC_DROPPED) wants_room(of);

@@ -25,7 +25,7 @@ enum { READ_MS = 10000, READ_SECONDS = 1, MOST_BYTES = 1048576, MOST_PARTS = 8 +
 /* What the process of a lane tells: a batch of kept records, of those of an open path, or that it is through. */
 enum { TELLS_FIRST = 1, TELLS_KEPT = 2, TELLS_OPEN = 3, TELLS_END = 4 };
 typedef struct told {
-    uint32_t what, place, torn, unused; /* torn: the last record was being made */
+    uint32_t what, place;
     uint64_t drops, length;
 } told;
 
@@ -98,20 +98,20 @@ static bool read_head(salvage *of, const char *path) {
 
 /* ---- The process that reads a lane. ---- */
 
-static void send(int to, uint32_t what, uint32_t place, bool torn, const dspec_batch *batch) {
-    const told one = { what, place, torn, 0, batch == NULL ? 0 : batch->drops, batch == NULL ? 0 : batch->len };
+static void send(int to, uint32_t what, uint32_t place, const dspec_batch *batch) {
+    const told one = { what, place, batch == NULL ? 0 : batch->drops, batch == NULL ? 0 : batch->len };
     if (dspec_folder_write(to, (const uint8_t *)&one, sizeof one) != 0) syscall(SYS_exit, 1);
     if (batch != NULL && dspec_folder_write(to, batch->bytes, batch->len) != 0) syscall(SYS_exit, 1);
 }
 
-/* All that stands in the principal buffers: what was sealed, what was active, and what a service settles. torn: whether the active one's last record was being made. */
-static void send_all(lane *on, int to, uint32_t what, uint32_t place, bool torn) {
+/* All that stands in the principal buffers: what was sealed, what was active, and what a service settles. */
+static void send_all(lane *on, int to, uint32_t what, uint32_t place) {
     for (int buffer = 0; buffer < 3; buffer++) {
         bool sealed;
         uint32_t settled;
         dspec_batch batch;
         if (dspec_take(&on->consumer, 0, &batch) == DSPEC_OK) {
-            if (batch.len > 0 || batch.drops > 0) send(to, what, place, torn && buffer == 1, &batch);
+            if (batch.len > 0 || batch.drops > 0) send(to, what, place, &batch);
             dspec_give_back(&on->consumer, 0);
         }
         dspec_ask(&on->consumer, 0);
@@ -119,27 +119,26 @@ static void send_all(lane *on, int to, uint32_t what, uint32_t place, bool torn)
     }
 }
 
-static void send_path(lane *on, int to, uint32_t place, uint64_t id, bool torn) {
+static void send_path(lane *on, int to, uint32_t place, uint64_t id) {
     uint32_t count;
-    if (id != 0 && dspec_commit(&on->front.cpu, id, &count) == DSPEC_OK) send_all(on, to, TELLS_OPEN, place, torn);
+    if (id != 0 && dspec_commit(&on->front.cpu, id, &count) == DSPEC_OK) send_all(on, to, TELLS_OPEN, place);
 }
 
-/* This process reads one lane, and ends. A record says that it is there before all of it is: the one that was being made is left out. */
-static void read_lane(lane *on, int to, bool in_call) {
-    const bool plain = on->front.inside == DSPEC_TRACER_PLAIN_ || on->front.state & PLAIN || on->plain;
+/* This process reads one lane, and ends. A buffer's offset is stored behind the bytes that it counts, so a record that was being made isn't there. */
+static void read_lane(lane *on, int to) {
     const struct rlimit time = { READ_SECONDS, READ_SECONDS }, none = { 0, 0 };
     setrlimit(RLIMIT_CPU, &time);
     setrlimit(RLIMIT_CORE, &none);
     prctl(PR_SET_SECCOMP, SECCOMP_MODE_STRICT);
-    if (on->bringing == IS_BROUGHT) send(to, TELLS_FIRST, 0, false, &on->out);
+    if (on->bringing == IS_BROUGHT) send(to, TELLS_FIRST, 0, &on->out);
     if (on->bringing != NOT_OUT) dspec_give_back(&on->consumer, 0);
-    send_all(on, to, TELLS_KEPT, 0, plain);
+    send_all(on, to, TELLS_KEPT, 0);
     for (uint32_t i = 0; i < MAX_OPEN; i++) {
         if (on->open[i].id == 0 || on->open[i].saved) continue;
-        send_path(on, to, i, on->open[i].older, false);
-        send_path(on, to, i, on->open[i].id, in_call && !plain);
+        send_path(on, to, i, on->open[i].older);
+        send_path(on, to, i, on->open[i].id);
     }
-    send(to, TELLS_END, 0, false, NULL);
+    send(to, TELLS_END, 0, NULL);
     syscall(SYS_exit, 0);
 }
 
@@ -199,23 +198,19 @@ static bool begin(salvage *of, writing *to, const char *name, const char *prefix
     return to->is_begun || fail(of, name, dspec_folder_why(&to->folder));
 }
 
-/* Whether a batch has records of the layout and nothing else: how many. Where its last one was being made, that is left out. */
-static bool has_records(const dspec_layout *layout, dspec_batch *batch, bool torn, uint64_t *records) {
-    size_t at = 0, before = 0;
+/* Whether a batch has records of the layout and nothing else: how many. */
+static bool has_records(const dspec_layout *layout, const dspec_batch *batch, uint64_t *records) {
+    size_t at = 0;
     *records = dspec_folder_skips(layout, batch, &at, UINT64_MAX);
-    if (!torn) return at == batch->len;
-    if (at == batch->len && *records > 0) *records -= 1;
-    dspec_folder_skips(layout, batch, &before, *records);
-    batch->len = before;
-    return true;
+    return at == batch->len;
 }
 
 /* A batch of kept records, without those that the run's folder has. */
-static bool write_kept(salvage *of, dspec_batch *batch, bool torn, uint64_t brought) {
+static bool write_kept(salvage *of, dspec_batch *batch, uint64_t brought) {
     writing *to = &of->kept;
     uint64_t records;
     size_t at = 0;
-    if (!has_records(&to->layout, batch, torn, &records) || brought > records) return false;
+    if (!has_records(&to->layout, batch, &records) || brought > records) return false;
     if (brought > 0) {
         const dspec_batch all = *batch;
         dspec_folder_skips(&to->layout, &all, &at, brought);
@@ -233,14 +228,14 @@ static void put_number(uint8_t *at, uint64_t number, size_t width) {
 }
 
 /* The records of an open path, behind one that tells of it, which has 24 bytes. */
-static bool write_open(salvage *of, dspec_batch *batch, bool torn) {
+static bool write_open(salvage *of, dspec_batch *batch) {
     writing *to = &of->open;
     dspec_batch all;
     dspec_record first;
     uint64_t records;
     size_t at = 0;
     if (!to->is_begun && !begin(of, to, "undecided", "undecided_")) return false;
-    if (!has_records(&of->kept.layout, batch, torn, &records)) return false;
+    if (!has_records(&of->kept.layout, batch, &records)) return false;
     if (records == 0) return true;
     if (dspec_read(&to->layout, batch->bytes, batch->len, &at, &first) != DSPEC_READ) return false;
     all = *batch;
@@ -276,7 +271,7 @@ static bool hear(salvage *of, int from, uint32_t number) {
         batch.drops = one.what == TELLS_OPEN ? 0 : one.drops;
         if (one.what == TELLS_OPEN && one.place != last_place) of->told->paths++;
         if (one.what == TELLS_OPEN) last_place = one.place;
-        is_well = one.what == TELLS_OPEN ? write_open(of, &batch, one.torn != 0) : write_kept(of, &batch, one.torn != 0, one.what == TELLS_FIRST ? of->brought_before[number] : 0);
+        is_well = one.what == TELLS_OPEN ? write_open(of, &batch) : write_kept(of, &batch, one.what == TELLS_FIRST ? of->brought_before[number] : 0);
         if (!is_well) return false;
     }
     return false;
@@ -294,7 +289,7 @@ static bool salvage_lane(salvage *of, const body *us, uint32_t number) {
     if (on->number != number) return false;
     if (pipe2(ends, O_CLOEXEC) != 0) return false;
     child = fork();
-    if (child == 0) read_lane(on, ends[1], in_call);
+    if (child == 0) read_lane(on, ends[1]);
     close(ends[1]);
     is_well = child > 0 && hear(of, ends[0], number);
     close(ends[0]);

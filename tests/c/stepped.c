@@ -90,19 +90,19 @@ static int say(const char *what, const found *all) {
     return 1;
 }
 
-/* Whether these are requests with odd numbers, in order, whole but for so many records of the last one: how many. */
-static bool are_kept(const found *all, uint64_t less, uint64_t *many) {
+/* Whether these are requests with odd numbers, in order and whole: how many. */
+static bool are_kept(const found *all, uint64_t *many) {
     for (uint64_t i = 0; i < all->count; i++)
         if (all->requests[i] != i / STEPS * 2 + 1 || all->steps[i] != i % STEPS) return false;
-    *many = (all->count + less) / STEPS;
-    return all->count % STEPS == 0 || (all->count + less) % STEPS == 0;
+    *many = all->count / STEPS;
+    return all->count % STEPS == 0;
 }
 
 static int judge(const char *snap, const char *out, const known *is) {
     static found kept, open_paths;
     static dspec_salvaged told;
     char path[4200];
-    uint64_t many, due = (is->decided + 1) / 2, less = is->making == A_TICK; /* a record that is in no path may be there before it is whole, so the last one is left out */
+    uint64_t many, due = (is->decided + 1) / 2;
     if (!dspec_salvage(snap, out, &told)) {
         printf("%s\n", told.why);
         return 1;
@@ -111,14 +111,14 @@ static int judge(const char *snap, const char *out, const known *is) {
     read_events(path, &kept);
     snprintf(path, sizeof path, "%s/undecided", out);
     read_events(path, &open_paths);
-    if (!are_kept(&kept, less, &many) || many < due || many > due + (is->making == A_KEEP)) return say("kept", &kept);
-    if (kept.ticked + less < is->ticks || kept.ticked > is->ticks + (is->making == A_TICK)) return say("ticks", &kept);
+    if (!are_kept(&kept, &many) || many < due || many > due + (is->making == A_KEEP)) return say("kept", &kept);
+    if (kept.ticked < is->ticks || kept.ticked > is->ticks + (is->making == A_TICK)) return say("ticks", &kept);
     for (uint64_t i = 0; i < kept.ticked; i++)
         if (kept.ticks[i] != i) return say("which ticks", &kept);
     for (uint64_t i = 0; i < open_paths.count; i++)
         if (open_paths.requests[i] != is->decided + 1 || open_paths.steps[i] != i) return say("open", &open_paths);
     if (open_paths.count > is->records + (is->making == A_RECORD) || open_paths.ticked > 0) return say("too many open", &open_paths);
-    if (is->making != A_KEEP && is->making != A_DROP && open_paths.count + 1 < is->records) return say("too few open", &open_paths);
+    if (is->making != A_KEEP && is->making != A_DROP && open_paths.count < is->records) return say("too few open", &open_paths);
     return 0;
 }
 
