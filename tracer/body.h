@@ -62,8 +62,10 @@ typedef struct lane {
     dspec_consumer consumer;
 } lane;
 
-/* Of a batch: none is out, the folder is getting it, the folder has it. */
-enum { NOT_OUT = 0, IS_BROUGHT = 1, WAS_BROUGHT = 2 };
+/* Of a batch: none is out, the folder is getting it, the folder has it, the library is asked for it. */
+enum { NOT_OUT = 0, IS_BROUGHT = 1, WAS_BROUGHT = 2, IS_TAKEN = 3 };
+/* What stands in front of the library's answer; of a whole one no field is as here. */
+static const dspec_batch nothing_out = { NULL, SIZE_MAX, UINT64_MAX, 0 };
 
 /* What a handler tells the consumer of a thread that crashed. */
 typedef enum crash_state { CRASH_FREE = 0, CRASH_FILLING = 1, CRASH_READY = 2 } crash_state;

@@ -124,6 +124,18 @@ static void send_path(lane *on, int to, uint32_t place, uint64_t id) {
     if (id != 0 && dspec_commit(&on->front.cpu, id, &count) == DSPEC_OK) send_all(on, to, TELLS_OPEN, place);
 }
 
+/* The batch that the consumer was taking: the library still has it, or `out` tells of it. */
+static void send_taken(lane *on, int to) {
+    dspec_batch batch;
+    const dspec_status status = dspec_take(&on->consumer, 0, &batch);
+    if (status == DSPEC_OK) {
+        send(to, TELLS_KEPT, 0, &batch);
+    } else if (on->out.bytes != nothing_out.bytes && on->out.len != nothing_out.len && on->out.drops != nothing_out.drops) {
+        send(to, TELLS_KEPT, 0, &on->out);
+    }
+    dspec_give_back(&on->consumer, 0);
+}
+
 /* This process reads one lane, and ends. A buffer's offset is stored behind the bytes that it counts, so a record that was being made isn't there. */
 static void read_lane(lane *on, int to) {
     const struct rlimit time = { READ_SECONDS, READ_SECONDS }, none = { 0, 0 };
@@ -131,7 +143,8 @@ static void read_lane(lane *on, int to) {
     setrlimit(RLIMIT_CORE, &none);
     prctl(PR_SET_SECCOMP, SECCOMP_MODE_STRICT);
     if (on->bringing == IS_BROUGHT) send(to, TELLS_FIRST, 0, &on->out);
-    if (on->bringing != NOT_OUT) dspec_give_back(&on->consumer, 0);
+    if (on->bringing == IS_TAKEN) send_taken(on, to);
+    else if (on->bringing != NOT_OUT) dspec_give_back(&on->consumer, 0);
     send_all(on, to, TELLS_KEPT, 0);
     for (uint32_t i = 0; i < MAX_OPEN; i++) {
         if (on->open[i].id == 0 || on->open[i].saved) continue;

@@ -33,14 +33,18 @@ void lane_serve(lane *on, bool *is_empty) {
     *is_empty = sealed && settled == 0;
 }
 
+/* Where a kill comes behind the library's take, what it took is told by `out` alone. */
 void lane_write(body *of, lane *on) {
-    dspec_batch batch;
-    if (dspec_take(&on->consumer, 0, &batch) != DSPEC_OK) return;
-    batch.cpu = on->number;
-    on->out = batch;
+    on->out = nothing_out;
+    __atomic_store_n(&on->bringing, IS_TAKEN, __ATOMIC_RELEASE);
+    if (dspec_take(&on->consumer, 0, &on->out) != DSPEC_OK) {
+        __atomic_store_n(&on->bringing, NOT_OUT, __ATOMIC_RELEASE);
+        return;
+    }
+    on->out.cpu = on->number;
     on->before = survive_brought(&of->folder);
     __atomic_store_n(&on->bringing, IS_BROUGHT, __ATOMIC_RELEASE);
-    if (batch.len > 0 || batch.drops > 0) dspec_folder_take(&of->folder, &of->layout, &batch);
+    if (on->out.len > 0 || on->out.drops > 0) dspec_folder_take(&of->folder, &of->layout, &on->out);
     __atomic_store_n(&on->bringing, WAS_BROUGHT, __ATOMIC_RELEASE);
     dspec_give_back(&on->consumer, 0);
     __atomic_store_n(&on->bringing, NOT_OUT, __ATOMIC_RELEASE);
