@@ -85,7 +85,15 @@ typedef struct dspec_folder {
     size_t reserved;                                       /* bytes of the batches for which memory was taken */
     dspec_packet writing;                                  /* the packet that is being written, of this CPU; all zeros where none is */
     uint32_t writing_cpu;
+    uint64_t writing_at, writing_records;                  /* how many bytes its file had, and the newest folder how many records, in front of it */
 } dspec_folder;
+
+/* What stands in front of it is stored in front, for a reader of this memory behind a kill. */
+#if defined(__GNUC__)
+#define DSPEC_FOLDER_ORDER_() __atomic_signal_fence(__ATOMIC_SEQ_CST)
+#else
+#define DSPEC_FOLDER_ORDER_() DSPEC_AS(void, 0)
+#endif
 
 DSPEC_INLINE dspec_folder_part *dspec_folder_newest(dspec_folder *folder) DSPEC_NOEXCEPT {
     return &folder->parts[(folder->oldest + folder->kept - 1) % DSPEC_FOLDER_MOST];
@@ -189,6 +197,9 @@ DSPEC_INLINE int dspec_folder_appends(dspec_folder *folder, uint32_t cpu, const 
     if (code == 0 && packet->file == 0 && !folder->ending) code = dspec_folder_keeps(*file - 1, *size, packet->size);
     if (code != 0) return code;
     folder->writing_cpu = cpu;
+    folder->writing_at = *size;
+    folder->writing_records = dspec_folder_newest(folder)->records;
+    DSPEC_FOLDER_ORDER_();
     folder->writing = *packet;
     code = dspec_folder_write(*file - 1, folder->room, packet->size);
     if (code == 0) {
@@ -201,6 +212,7 @@ DSPEC_INLINE int dspec_folder_appends(dspec_folder *folder, uint32_t cpu, const 
     } else if (packet->file == 0) {
         dspec_folder_keeps(*file - 1, *size, 0); /* what was kept was cut off too */
     }
+    DSPEC_FOLDER_ORDER_();
     folder->writing.size = 0;
     return code;
 }

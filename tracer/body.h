@@ -57,6 +57,11 @@ typedef struct lane {
     dspec_batch out; /* which the folder is getting, where `bringing` says so */
     uint64_t before; /* how many records the folder had in front of it */
     uint32_t bringing;
+    /* With `survive`: whether a service is made, where the two buffers are and which one is filled, how many batches were switched out and how many taken, what the CPU had
+     * accepted at the last switch and how many records that switched out, and how many stood in the buffer in front of the service. */
+    uint32_t serving, filled;
+    const uint8_t *buffers[2];
+    uint64_t switched, taken, accepted, sealed, standing;
     APART open_path open[MAX_OPEN];
     dspec_session session;
     dspec_consumer consumer;
@@ -64,6 +69,8 @@ typedef struct lane {
 
 /* Of a batch: none is out, the folder is getting it, the folder has it, the library is asked for it. */
 enum { NOT_OUT = 0, IS_BROUGHT = 1, WAS_BROUGHT = 2, IS_TAKEN = 3 };
+/* Of a service: none is made, the library makes it, it has switched. */
+enum { NOT_SERVED = 0, IS_SERVED = 1, HAS_SWITCHED = 2 };
 /* What stands in front of the library's answer; of a whole one no field is as here. */
 static const dspec_batch nothing_out = { NULL, SIZE_MAX, UINT64_MAX, 0 };
 

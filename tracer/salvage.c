@@ -22,11 +22,14 @@
 
 enum { READ_MS = 10000, READ_SECONDS = 1, MOST_BYTES = 1048576, MOST_PARTS = 8 + 4 * MAX_OPEN };
 
-/* What the process of a lane tells: a batch of kept records, of those of an open path, or that it is through. */
-enum { TELLS_FIRST = 1, TELLS_KEPT = 2, TELLS_OPEN = 3, TELLS_END = 4 };
+/* What the process of a lane tells: a batch of kept records, of those of an open path, that what comes may be half of something, or that it is through. */
+enum { TELLS_FIRST = 1, TELLS_KEPT = 2, TELLS_OPEN = 3, TELLS_END = 4, TELLS_TORN = 5 };
+#define ALL_OF UINT64_MAX
 typedef struct told {
     uint32_t what, place;
     uint64_t drops, length;
+    uint64_t behind, count; /* so many records behind so many others; ALL_OF: as many as there are */
+    uint64_t is_part;       /* other bytes stand behind them */
 } told;
 
 /* A trace that is being written, with its records by their layout. */
@@ -98,60 +101,113 @@ static bool read_head(salvage *of, const char *path) {
 
 /* ---- The process that reads a lane. ---- */
 
-static void send(int to, uint32_t what, uint32_t place, const dspec_batch *batch) {
-    const told one = { what, place, batch == NULL ? 0 : batch->drops, batch == NULL ? 0 : batch->len };
-    if (dspec_folder_write(to, (const uint8_t *)&one, sizeof one) != 0) syscall(SYS_exit, 1);
+static void send_bytes(int to, const told *one, const dspec_batch *batch) {
+    if (dspec_folder_write(to, (const uint8_t *)one, sizeof *one) != 0) syscall(SYS_exit, 1);
     if (batch != NULL && dspec_folder_write(to, batch->bytes, batch->len) != 0) syscall(SYS_exit, 1);
 }
 
-/* All that stands in the principal buffers: what was sealed, what was active, and what a service settles. */
-static void send_all(lane *on, int to, uint32_t what, uint32_t place) {
-    for (int buffer = 0; buffer < 3; buffer++) {
-        bool sealed;
-        uint32_t settled;
-        dspec_batch batch;
-        if (dspec_take(&on->consumer, 0, &batch) == DSPEC_OK) {
-            if (batch.len > 0 || batch.drops > 0) send(to, what, place, &batch);
-            dspec_give_back(&on->consumer, 0);
-        }
-        dspec_ask(&on->consumer, 0);
-        dspec_service(&on->front.cpu, &sealed, &settled);
-    }
+static void send_whole(int to, uint32_t what, uint32_t place, uint64_t count, const dspec_batch *batch) {
+    const told one = { what, place, batch->drops, batch->len, 0, count, false };
+    send_bytes(to, &one, batch);
 }
 
-static void send_path(lane *on, int to, uint32_t place, uint64_t id) {
-    uint32_t count;
-    if (id != 0 && dspec_commit(&on->front.cpu, id, &count) == DSPEC_OK) send_all(on, to, TELLS_OPEN, place);
+static void send_word(int to, uint32_t what) {
+    const told one = { what, 0, 0, 0, 0, 0, false };
+    send_bytes(to, &one, NULL);
 }
 
-/* The batch that the consumer was taking: the library still has it, or `out` tells of it. */
-static void send_taken(lane *on, int to) {
+/* Records of a buffer that the session can't hand out. */
+static void send_raw(const lane *on, int to, uint32_t what, uint32_t place, uint32_t buffer, uint64_t behind, uint64_t count) {
+    const dspec_batch all = { on->buffers[buffer & 1], on->of->options.bufsize, 0, 0 };
+    const told one = { what, place, 0, all.len, behind, count, true };
+    if (count > 0) send_bytes(to, &one, &all);
+}
+
+/* What was switched out: whether there was something. */
+static bool send_switched(lane *on, int to, uint32_t what, uint32_t place, uint64_t count) {
     dspec_batch batch;
-    const dspec_status status = dspec_take(&on->consumer, 0, &batch);
-    if (status == DSPEC_OK) {
-        send(to, TELLS_KEPT, 0, &batch);
-    } else if (on->out.bytes != nothing_out.bytes && on->out.len != nothing_out.len && on->out.drops != nothing_out.drops) {
-        send(to, TELLS_KEPT, 0, &on->out);
+    if (dspec_take(&on->consumer, 0, &batch) != DSPEC_OK) return false;
+    if (batch.len > 0 || batch.drops > 0) send_whole(to, what, place, count, &batch);
+    dspec_give_back(&on->consumer, 0);
+    return true;
+}
+
+/* What stands in the buffer that is filled: whether it could be switched. */
+static bool send_by_switch(lane *on, int to, uint32_t what, uint32_t place, uint64_t count) {
+    bool sealed = false;
+    uint32_t settled;
+    dspec_ask(&on->consumer, 0);
+    dspec_service(&on->front.cpu, &sealed, &settled);
+    return send_switched(on, to, what, place, count) && sealed;
+}
+
+/* The batch that the consumer had or was taking: whether there was one. */
+static bool send_out(lane *on, int to) {
+    bool is_out = on->bringing == IS_BROUGHT || on->bringing == WAS_BROUGHT;
+    if (on->bringing == IS_BROUGHT) send_whole(to, TELLS_FIRST, 0, ALL_OF, &on->out);
+    if (on->bringing == IS_TAKEN && send_switched(on, to, TELLS_KEPT, 0, ALL_OF)) return true;
+    if (on->bringing == IS_TAKEN && on->out.bytes != nothing_out.bytes && on->out.len != nothing_out.len && on->out.drops != nothing_out.drops) {
+        send_whole(to, TELLS_KEPT, 0, ALL_OF, &on->out);
+        is_out = true;
+    } else if (on->bringing == IS_TAKEN && on->serving == NOT_SERVED && on->switched == on->taken + 1) {
+        send_raw(on, to, TELLS_KEPT, 0, on->filled + 1, 0, on->sealed); /* it was on its way */
+        is_out = true;
     }
     dspec_give_back(&on->consumer, 0);
+    return is_out;
 }
 
-/* This process reads one lane, and ends. A buffer's offset is stored behind the bytes that it counts, so a record that was being made isn't there. */
-static void read_lane(lane *on, int to) {
+/* The records of an open path, which a commit puts behind the others. behind: how many those are, where the buffer can't be switched; else NULL. */
+static void send_path(lane *on, int to, uint32_t place, uint64_t id, uint64_t *behind) {
+    uint32_t count;
+    if (id == 0 || dspec_commit(&on->front.cpu, id, &count) != DSPEC_OK) return;
+    if (behind == NULL) {
+        send_by_switch(on, to, TELLS_OPEN, place, count);
+        return;
+    }
+    send_raw(on, to, TELLS_OPEN, place, on->filled, *behind, count);
+    *behind += count;
+}
+
+static void send_paths(lane *on, int to, uint64_t *behind) {
+    for (uint32_t i = 0; i < MAX_OPEN; i++) {
+        if (on->open[i].id == 0 || on->open[i].saved) continue;
+        send_path(on, to, i, on->open[i].older, behind);
+        send_path(on, to, i, on->open[i].id, behind);
+    }
+}
+
+/* Whether the thread was in a service that hadn't switched, or was in the middle of it: then no buffer was out, and as many were taken as were switched. */
+static bool is_torn(const lane *on, bool is_out) { return on->serving == IS_SERVED && !is_out && on->taken == on->switched; }
+
+/* This process reads one lane, and ends. A buffer's offset is stored behind the bytes that it counts, so a record that was being made isn't there. Where a thread was in the middle of a switch, what
+ * the buffer had is read by its records, which were counted in front; the session may have two halves then, and what is told of open paths is compared with what it counts. */
+static void read_lane(lane *on, int to, bool in_call) {
     const struct rlimit time = { READ_SECONDS, READ_SECONDS }, none = { 0, 0 };
+    uint64_t behind;
+    dspec_report is;
+    bool is_out;
     setrlimit(RLIMIT_CPU, &time);
     setrlimit(RLIMIT_CORE, &none);
     prctl(PR_SET_SECCOMP, SECCOMP_MODE_STRICT);
-    if (on->bringing == IS_BROUGHT) send(to, TELLS_FIRST, 0, &on->out);
-    if (on->bringing == IS_TAKEN) send_taken(on, to);
-    else if (on->bringing != NOT_OUT) dspec_give_back(&on->consumer, 0);
-    send_all(on, to, TELLS_KEPT, 0);
-    for (uint32_t i = 0; i < MAX_OPEN; i++) {
-        if (on->open[i].id == 0 || on->open[i].saved) continue;
-        send_path(on, to, i, on->open[i].older);
-        send_path(on, to, i, on->open[i].id);
+    is_out = send_out(on, to);
+    is_out = send_switched(on, to, TELLS_KEPT, 0, ALL_OF) || is_out;
+    if (is_torn(on, is_out)) {
+        send_raw(on, to, TELLS_KEPT, 0, on->filled, 0, on->standing);
+        send_word(to, TELLS_TORN);
+        send_by_switch(on, to, TELLS_OPEN, 0, 0); /* what stands there is no path's, and is told already */
+        send_paths(on, to, NULL);
+    } else if (send_by_switch(on, to, TELLS_KEPT, 0, ALL_OF) || on->serving != NOT_SERVED) {
+        send_by_switch(on, to, TELLS_KEPT, 0, ALL_OF);
+        send_paths(on, to, NULL);
+    } else {
+        dspec_cpu_report(&on->front.cpu, &is);
+        behind = is.accepted - on->accepted;
+        in_call = in_call && behind > 0;
+        send_raw(on, to, TELLS_KEPT, 0, on->filled, 0, behind - in_call); /* it may count the record that is being made */
+        if (!in_call) send_paths(on, to, &behind);
     }
-    send(to, TELLS_END, 0, NULL);
+    send_word(to, TELLS_END);
     syscall(SYS_exit, 0);
 }
 
@@ -218,6 +274,23 @@ static bool has_records(const dspec_layout *layout, const dspec_batch *batch, ui
     return at == batch->len;
 }
 
+/* A batch of the records that were meant, or none where there are others: whether it has those. A buffer counts a record in front of its bytes, so where no other bytes stand behind them one may be less. */
+static bool is_meant(salvage *of, const told *one, dspec_batch *batch) {
+    const dspec_layout *layout = &of->kept.layout;
+    dspec_batch all = *batch;
+    size_t from = 0, to;
+    uint64_t count;
+    if (one->count == ALL_OF) return true;
+    batch->len = 0;
+    if (dspec_folder_skips(layout, &all, &from, one->behind) != one->behind) return false;
+    to = from;
+    count = dspec_folder_skips(layout, &all, &to, one->count);
+    if (one->is_part != 0 ? count != one->count : count + 1 < one->count || to != all.len) return false;
+    all.len = to;
+    if (one->count > 0) dspec_folder_part_of(&of->kept.folder, layout, &all, &from, UINT64_MAX, batch);
+    return batch->bytes != NULL;
+}
+
 /* A batch of kept records, without those that the run's folder has. */
 static bool write_kept(salvage *of, dspec_batch *batch, uint64_t brought) {
     writing *to = &of->kept;
@@ -273,17 +346,24 @@ static bool write_open(salvage *of, dspec_batch *batch) {
 static bool hear(salvage *of, int from, uint32_t number) {
     const uint64_t until = dspec_monotonic() / 1000000 + READ_MS;
     uint32_t last_place = UINT32_MAX;
+    bool is_torn = false;
     for (int part = 0; part < MOST_PARTS; part++) {
         told one;
         dspec_batch batch = { of->bytes, 0, 0, number };
         bool is_well;
-        if (!receive(from, &one, sizeof one, until)) return false;
+        if (!receive(from, &one, sizeof one, until)) return is_torn;
         if (one.what == TELLS_END) return true;
-        if (one.length > sizeof of->bytes || one.place >= MAX_OPEN || !receive(from, of->bytes, one.length, until)) return false;
+        is_torn |= one.what == TELLS_TORN;
+        if (one.what == TELLS_TORN) continue;
+        if (one.length > sizeof of->bytes || one.place >= MAX_OPEN || !receive(from, of->bytes, one.length, until)) return is_torn;
         batch.len = one.length;
         batch.drops = one.what == TELLS_OPEN ? 0 : one.drops;
-        if (one.what == TELLS_OPEN && one.place != last_place) of->told->paths++;
-        if (one.what == TELLS_OPEN) last_place = one.place;
+        if (!is_meant(of, &one, &batch)) {
+            if (!is_torn) return false;
+            continue;
+        }
+        if (one.what == TELLS_OPEN && batch.len > 0 && one.place != last_place) of->told->paths++;
+        if (one.what == TELLS_OPEN && batch.len > 0) last_place = one.place;
         is_well = one.what == TELLS_OPEN ? write_open(of, &batch) : write_kept(of, &batch, one.what == TELLS_FIRST ? of->brought_before[number] : 0);
         if (!is_well) return false;
     }
@@ -293,16 +373,16 @@ static bool hear(salvage *of, int from, uint32_t number) {
 /* Reads a lane in a process of its own: whether it was well. */
 static bool salvage_lane(salvage *of, const body *us, uint32_t number) {
     lane *on = (lane *)(void *)((char *)(uintptr_t)of->head->address + of->head->body_at + offsetof(body, lanes)) + number;
-    const bool in_call = on->front.inside != 0 || on->front.state & HELD || on->bringing != NOT_OUT;
+    const bool in_call = on->front.inside != 0 || on->front.state & HELD;
     int ends[2], status;
     bool is_well;
     pid_t child;
     (void)us;
-    of->told->in_call += in_call;
+    of->told->in_call += in_call || on->bringing != NOT_OUT;
     if (on->number != number) return false;
     if (pipe2(ends, O_CLOEXEC) != 0) return false;
     child = fork();
-    if (child == 0) read_lane(on, ends[1]);
+    if (child == 0) read_lane(on, ends[1], in_call);
     close(ends[1]);
     is_well = child > 0 && hear(of, ends[0], number);
     close(ends[0]);
@@ -346,7 +426,8 @@ static uint64_t brought_of(const salvage *of, const body *us, const lane *on) {
     records = survive_brought(folder) - on->before;
     if (folder->writing.size == 0 || folder->writing_cpu != on->number || folder->writing.file >= DSPEC_CTF_MAX_FILES || folder->kept == 0) return records;
     if (on->number >= DSPEC_MAX_CPUS || (file = open_written(of->head, folder, on->number)) < 0) return records;
-    at = folder->sizes[on->number][folder->writing.file];
+    records -= folder->parts[(folder->oldest + folder->kept - 1) % DSPEC_FOLDER_MOST].records - folder->writing_records;
+    at = folder->writing_at;
     for (size_t left = folder->writing.size / sizeof packet; left > 0 && pread(file, packet, sizeof packet, (off_t)at) == (ssize_t)sizeof packet; left--, at += sizeof packet)
         records += events_of(&of->kept, packet);
     close(file);

@@ -9,11 +9,27 @@ dspec_config lane_config(const dspec_tracer_options *options) {
     };
 }
 
+/* Finds where the buffers of a lane are that has recorded nothing: each is switched out once, and the first one is filled again. */
+static void find_buffers(lane *on) {
+    const uint8_t *found[2] = { NULL, NULL };
+    for (int buffer = 0; buffer < 2; buffer++) {
+        bool sealed;
+        uint32_t settled;
+        dspec_batch batch;
+        dspec_ask(&on->consumer, 0);
+        dspec_service(&on->front.cpu, &sealed, &settled);
+        if (dspec_take(&on->consumer, 0, &batch) == DSPEC_OK) found[buffer] = batch.bytes;
+        dspec_give_back(&on->consumer, 0);
+    }
+    memcpy(on->buffers, found, sizeof found);
+}
+
 dspec_status lane_start(lane *on, const dspec_tracer_options *options, dspec_schema *schema) {
     const dspec_config config = lane_config(options);
     dspec_status status = dspec_start(&config, schema, &on->session);
     if (status == DSPEC_OK) status = dspec_consumer_of(&on->session, &on->consumer);
     if (status == DSPEC_OK) status = dspec_cpu_of(&on->session, 0, &on->front.cpu);
+    if (status == DSPEC_OK && options->survive) find_buffers(on);
     return status;
 }
 
@@ -25,11 +41,30 @@ void lane_drop(lane *on) {
 
 void lane_ask(lane *on) { dspec_ask(&on->consumer, 0); }
 
+/* In the middle of a switch a buffer is nowhere but in the thread, whose kill would lose it. So the lane says in front of a service what stands in the buffer, and behind it that it has
+ * switched, for dspec_salvage. */
+static void serve_noted(lane *on, bool *sealed, uint32_t *settled) {
+    dspec_report is;
+    dspec_cpu_report(&on->front.cpu, &is);
+    on->standing = is.accepted - on->accepted;
+    __atomic_store_n(&on->serving, IS_SERVED, __ATOMIC_RELEASE);
+    dspec_service(&on->front.cpu, sealed, settled);
+    if (*sealed) {
+        __atomic_store_n(&on->serving, HAS_SWITCHED, __ATOMIC_RELEASE);
+        on->accepted = is.accepted;
+        on->sealed = on->standing;
+        on->filled ^= 1;
+        on->switched++;
+    }
+    __atomic_store_n(&on->serving, NOT_SERVED, __ATOMIC_RELEASE);
+}
+
 /* is_empty: whether all that it had is on its way. What a service settles comes behind the switch, and is in the buffer that was just begun. */
 void lane_serve(lane *on, bool *is_empty) {
     bool sealed = false;
     uint32_t settled = 0;
-    dspec_service(&on->front.cpu, &sealed, &settled);
+    if (on->buffers[0] != NULL) serve_noted(on, &sealed, &settled);
+    else dspec_service(&on->front.cpu, &sealed, &settled);
     *is_empty = sealed && settled == 0;
 }
 
@@ -43,6 +78,7 @@ void lane_write(body *of, lane *on) {
     }
     on->out.cpu = on->number;
     on->before = survive_brought(&of->folder);
+    on->taken++;
     __atomic_store_n(&on->bringing, IS_BROUGHT, __ATOMIC_RELEASE);
     if (on->out.len > 0 || on->out.drops > 0) dspec_folder_take(&of->folder, &of->layout, &on->out);
     __atomic_store_n(&on->bringing, WAS_BROUGHT, __ATOMIC_RELEASE);

@@ -1,17 +1,22 @@
-/* A tracer that is killed behind each instruction: `stepped FOLDER SNAP OUT EACH`. The processor traps behind each instruction of its calls, and behind each EACH-th one the memory's file is
- * copied to SNAP, as a kill would leave it, and read by `stepped judge SNAP OUT ..`, a process of its own. What was answered has to be there, what was thrown away nowhere, and what is being
- * made may be there or not, as a whole. The last line counts what was judged. */
+/* A tracer that is killed behind each instruction: of its calls, `stepped FOLDER SNAP OUT EACH`, and of its consumer's thread, as it writes what there is, `stepped FOLDER SNAP OUT EACH
+ * consumer`. Behind each EACH-th instruction the memory's file is copied to SNAP, as a kill would leave it, and read by `stepped judge SNAP OUT ..`, a process of its own. What was answered has
+ * to be there or in the tracer's folder, what was thrown away nowhere, and what is being made may be there or not, as a whole. The last line counts what was judged. */
 #define _GNU_SOURCE
 #include "dspec_tracer.h"
 
+#include <dirent.h>
 #include <fcntl.h>
 #include <inttypes.h>
+#include <poll.h>
 #include <signal.h>
 #include <spawn.h>
 #include <stdio.h>
 #include <stdlib.h>
 #include <string.h>
+#include <sys/auxv.h>
+#include <sys/ptrace.h>
 #include <sys/stat.h>
+#include <sys/user.h>
 #include <sys/wait.h>
 #include <unistd.h>
 
@@ -21,8 +26,8 @@ DSPEC_PROBE(tick, uint64_t, number);
 enum { REQUESTS = 4, STEPS = 3, MOST = 64, PACKET = 1024, FILES = 8 };
 
 /* What is known while a call is made: how many requests are decided, of which those with odd numbers were kept; how many records the one that is open has; how many ticks there are; and
- * what is being made. */
-enum { NOTHING = 0, A_RECORD = 1, A_KEEP = 2, A_DROP = 3, A_TICK = 4 };
+ * what is being made: a round is the consumer's, in whose middle an open path may be out of reach. */
+enum { NOTHING = 0, A_RECORD = 1, A_KEEP = 2, A_DROP = 3, A_TICK = 4, A_ROUND = 5 };
 typedef struct known {
     uint64_t decided, records, ticks, making;
 } known;
@@ -30,7 +35,8 @@ typedef struct known {
 static known now;
 static char **names;
 static int memory;
-static uint64_t instructions, judged, wrong, each;
+static uint64_t instructions, judged, wrong, lacking, each;
+enum { IS_LACKING = 9 };
 static uint8_t copy[1 << 20];
 
 /* ---- The judge. ---- */
@@ -107,6 +113,7 @@ static int judge(const char *snap, const char *out, const known *is) {
         printf("%s\n", told.why);
         return 1;
     }
+    read_events(told.folder, &kept);
     snprintf(path, sizeof path, "%s/kept", out);
     read_events(path, &kept);
     snprintf(path, sizeof path, "%s/undecided", out);
@@ -118,6 +125,7 @@ static int judge(const char *snap, const char *out, const known *is) {
     for (uint64_t i = 0; i < open_paths.count; i++)
         if (open_paths.requests[i] != is->decided + 1 || open_paths.steps[i] != i) return say("open", &open_paths);
     if (open_paths.count > is->records + (is->making == A_RECORD) || open_paths.ticked > 0) return say("too many open", &open_paths);
+    if (is->making == A_ROUND && open_paths.count == 0) return IS_LACKING;
     if (is->making != A_KEEP && is->making != A_DROP && open_paths.count < is->records) return say("too few open", &open_paths);
     return 0;
 }
@@ -154,7 +162,8 @@ static void look(void) {
     without(names[3]);
     if (posix_spawn(&child, names[0], NULL, NULL, words, environ) != 0 || waitpid(child, &status, 0) != child) _exit(8);
     judged++;
-    if (status != 0) {
+    lacking += WIFEXITED(status) && WEXITSTATUS(status) == IS_LACKING;
+    if (status != 0 && !(WIFEXITED(status) && WEXITSTATUS(status) == IS_LACKING)) {
         char line[160];
         int length = snprintf(line, sizeof line, "behind instruction %" PRIu64 ": decided %" PRIu64 ", records %" PRIu64 ", ticks %" PRIu64 ", making %" PRIu64 "\n", instructions, is[0], is[1], is[2], is[3]);
         if (write(1, line, (size_t)length) != length || ++wrong > 20) _exit(7);
@@ -204,30 +213,121 @@ static void one_request(dspec_tracer *tracer, uint64_t number) {
     now.decided++;
 }
 
+static bool opens(const char *folder) {
+    char path[4200];
+    snprintf(path, sizeof path, "%s.memory", folder);
+    memory = open(path, O_RDONLY | O_CLOEXEC);
+    return memory >= 0;
+}
+
+static bool starts(dspec_tracer *tracer, const char *folder) {
+    const dspec_tracer_options options = { .lanes = 1, .paths = 2, .bufsize = 4096, .specsize = 256, .period_ms = 1000000, .no_crash = true, .no_term = true, .survive = true };
+    if (!dspec_tracer_start(tracer, folder, &options, DSPEC_PROBES(query, tick))) {
+        printf("%s\n", tracer->why);
+        return false;
+    }
+    return opens(folder);
+}
+
+static int end(void) {
+    printf("%" PRIu64 " instructions, %" PRIu64 " judged, %" PRIu64 " without the open path, %" PRIu64 " wrong\n", instructions, judged, lacking, wrong);
+    return wrong > 0 || lacking * 10 > judged;
+}
+
+/* ---- The consumer. ---- */
+
+/* Makes all requests and the first records of one more, says so, and flushes once it is told to. */
+static void play(dspec_tracer *tracer, int to, int from) {
+    char word = 0;
+    for (uint64_t number = 1; number <= REQUESTS + 1; number++) {
+        dspec_path path = dspec_path_begin(tracer);
+        for (uint32_t at = 0; at < (number > REQUESTS ? 2 : STEPS); at++) query_in(&path, number, at);
+        if (number > REQUESTS) break;
+        if (number % 2 == 1 ? !dspec_path_keep(&path) : !dspec_path_drop(&path)) _exit(6);
+        tick_now(tracer, number - 1);
+    }
+    if (write(to, &word, 1) != 1 || read(from, &word, 1) != 1 || !dspec_tracer_flush(tracer, 3600000) || write(to, &word, 1) != 1) _exit(6);
+    pause();
+}
+
+/* The thread of a process that isn't its first. */
+static pid_t other_thread(pid_t process) {
+    char path[64];
+    pid_t thread_of = 0;
+    DIR *all;
+    snprintf(path, sizeof path, "/proc/%d/task", (int)process);
+    all = opendir(path);
+    for (struct dirent *one; all != NULL && (one = readdir(all)) != NULL;)
+        if (atoi(one->d_name) > 0 && atoi(one->d_name) != process) thread_of = atoi(one->d_name);
+    if (all != NULL) closedir(all);
+    return thread_of;
+}
+
+/* Whether a thread has made an instruction; else the pipe says that all is done. */
+static bool has_stepped(pid_t thread, int signal, int from, int *status) {
+    struct pollfd done = { .fd = from, .events = POLLIN };
+    if (ptrace(PTRACE_SINGLESTEP, thread, 0, signal) != 0) return false;
+    for (;;) {
+        const pid_t stopped = waitpid(thread, status, __WALL | WNOHANG);
+        if (stopped != 0) return stopped == thread && WIFSTOPPED(*status);
+        if (poll(&done, 1, 0) != 0) return false;
+    }
+}
+
+/* Whether a thread reads the clock: it begins again where time went on meanwhile, so nobody looks there. */
+static bool reads_clock(pid_t thread) {
+#if defined(__x86_64__)
+    struct user_regs_struct registers;
+    return ptrace(PTRACE_GETREGS, thread, 0, &registers) == 0 && registers.rip - getauxval(AT_SYSINFO_EHDR) < 16384;
+#else
+    return thread == 0;
+#endif
+}
+
+static int step_the_consumer(const char *folder) {
+    static dspec_tracer tracer;
+    int to[2], from[2], status = 0, signal = 0;
+    pid_t child, thread;
+    char word = 0;
+    if (pipe(to) != 0 || pipe(from) != 0) return 4;
+    child = fork();
+    if (child == 0) {
+        if (starts(&tracer, folder)) play(&tracer, from[1], to[0]);
+        _exit(3);
+    }
+    close(from[1]);
+    if (read(from[0], &word, 1) != 1) return 5;
+    now = (known){ REQUESTS, 2, REQUESTS, A_ROUND };
+    thread = other_thread(child);
+    if (!opens(folder) || thread == 0 || ptrace(PTRACE_SEIZE, thread, 0, 0) != 0 || ptrace(PTRACE_INTERRUPT, thread, 0, 0) != 0 || waitpid(thread, &status, __WALL) != thread) return 5;
+    if (write(to[1], &word, 1) != 1) return 5;
+    while (has_stepped(thread, signal, from[0], &status)) {
+        signal = WSTOPSIG(status) == SIGTRAP ? 0 : WSTOPSIG(status);
+        instructions++;
+        if (instructions % each == 0 && !reads_clock(thread)) look();
+    }
+    kill(child, SIGKILL);
+    while (waitpid(-1, &status, __WALL) > 0) {}
+    return judged == 0 ? 5 : end();
+}
+
 int main(int count, char **words) {
     static dspec_tracer tracer;
-    const dspec_tracer_options options = { .lanes = 1, .paths = 2, .bufsize = 4096, .specsize = 256, .period_ms = 1000000, .no_crash = true, .no_term = true, .survive = true };
     const struct sigaction trap = { .sa_handler = on_step, .sa_flags = SA_RESTART };
-    char path[4200];
     if (count == 8 && strcmp(words[1], "judge") == 0) {
         const known is = { strtoull(words[4], NULL, 10), strtoull(words[5], NULL, 10), strtoull(words[6], NULL, 10), strtoull(words[7], NULL, 10) };
         return judge(words[2], words[3], &is);
     }
-    if (count != 5) return 2;
+    if (count != 5 && count != 6) return 2;
     names = words;
     each = strtoull(words[4], NULL, 10);
-    if (!dspec_tracer_start(&tracer, words[1], &options, DSPEC_PROBES(query, tick))) {
-        printf("%s\n", tracer.why);
-        return 3;
-    }
-    snprintf(path, sizeof path, "%s.memory", words[1]);
-    memory = open(path, O_RDONLY | O_CLOEXEC);
+    if (count == 6) return step_the_consumer(words[1]);
+    if (!starts(&tracer, words[1])) return 3;
     sigaction(SIGTRAP, &trap, NULL);
     for (uint64_t number = 1; number <= REQUESTS; number++) {
         one_request(&tracer, number);
         one_tick(&tracer);
     }
     if (!dspec_tracer_stop(&tracer, NULL)) return 5;
-    printf("%" PRIu64 " instructions, %" PRIu64 " judged, %" PRIu64 " wrong\n", instructions, judged, wrong);
-    return wrong > 0;
+    return end();
 }

@@ -1,8 +1,8 @@
 /* The lanes' locks of a tracer, raced: `tracer_race FOLDER SEED [OPTION=NUMBER ..]`. Eight threads share two lanes while a signal's handler yields, spins or
  * sleeps inside their calls; where the processor can step, some calls are interrupted behind each of their instructions. Paths go from thread to thread, and
  * a thread flushes meanwhile. With alone=1 each thread has a lane of its own, takes no lock, makes plain records inside its paths too, and steps half of its
- * requests, while another thread flushes all the time: then the consumer comes to lanes whose threads are in a call. Printed are the records of each kept path,
- * and what the stop tells; tests/c/tracer compares both with the trace. */
+ * requests, while another thread flushes all the time: then the consumer comes to lanes whose threads are in a call. Printed are the records of each kept path
+ * that were made, as bits, and what the stop tells; tests/c/tracer compares both with the trace. */
 #define _GNU_SOURCE
 #include "dspec_tracer.h"
 #include "dice.h"
@@ -22,7 +22,7 @@ DSPEC_PROBE(tick, uint64_t, number);
 
 enum { THREADS = 8, REQUESTS = 150, REQUESTS_ALONE = 30, STEPS = 5 };
 
-/* A path, and how many of its records were answered DSPEC_OK. */
+/* A path, and which of its records were answered DSPEC_OK, a bit each: one that waited too long for its lane is refused, and the next may be made. */
 typedef struct request {
     dspec_path path;
     uint64_t number;
@@ -73,7 +73,7 @@ static void record(request *r, uint32_t at, dice *d) {
     if (steps) step(true);
     const dspec_status status = query_in(&r->path, r->number, at);
     if (steps) step(false);
-    if (status == DSPEC_OK) r->made++;
+    if (status == DSPEC_OK) r->made |= 1u << at;
     else atomic_fetch_add(&refused, 1);
 }
 
@@ -115,7 +115,7 @@ static void serve_alone(uint64_t number, dice *d) {
     const bool steps = one_in(d, 2);
     for (uint32_t at = 0; at < STEPS; at++) {
         if (steps) step(true);
-        if (query_in(&r.path, number, at) == DSPEC_OK) r.made++;
+        if (query_in(&r.path, number, at) == DSPEC_OK) r.made |= 1u << at;
         plain(number);
         if (steps) step(false);
     }
