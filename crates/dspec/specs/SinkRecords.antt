@@ -21,12 +21,12 @@ abbrev pub no_records : SinkRecords
 no_records = record { records = []; cpus = []; fault = None }
 
 -- whether the record at a place, counted from 0, is of this CPU
-abbrev pub is_of : ℕ → List ℕ → ℕ → Bool
-is_of cpu cpus place = option_map_or (λ c. c == cpu) (slice_get cpus place) false
+abbrev pub is_made_by : ℕ → List ℕ → ℕ → Bool
+is_made_by cpu cpus place = option_map_or (λ c. c == cpu) (slice_get cpus place) false
 
 -- that record, where it is of this CPU
 abbrev pub record_of_cpu : ℕ → List ℕ → ℕ × Record → List Record
-record_of_cpu cpu cpus p = if is_of cpu cpus p.0 then p.1 ∷ [] else []
+record_of_cpu cpu cpus p = if is_made_by cpu cpus p.0 then p.1 ∷ [] else []
 
 -- the records of this CPU, in the order in which they came
 abbrev pub records_of_cpu : ℕ → SinkRecords → List Record

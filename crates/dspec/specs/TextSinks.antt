@@ -8,7 +8,7 @@ use Rattle.dspec_record.specs.declared.header.Header.TheVariants as header
 use Rattle.dspec_buffer.specs.BufferText.{BufferText}
 use Rattle.dspec_buffer.specs.Faults.{StopsAt}
 use Rattle.dspec_probe.specs.Declarations.{Declared}
-use Rattle.dspec_probe.specs.Telling.{told_by, told_text}
+use Rattle.dspec_probe.specs.Telling.{told_record, told_text}
 use Rattle.dspec_ring.specs.declared.batch.Batch.{Batch}
 use Rattle.dspec.specs.declared.text_sink.TextSink.{TextSink}
 use Rattle.dspec.specs.declared.text_sink.ToldLine.{ToldLine}
@@ -30,12 +30,12 @@ stamp_in_line header.Two stamp = Some stamp
 
 -- the line of a record of one of these probes
 abbrev pub told_line : Declared → Header → ℕ → Record → Option (List ℕ)
-told_line probes h cpu r = option_and_then (λ told. told_line_text (record { cpu = cpu; stamp = stamp_in_line h r.stamp; told = told })) (told_by probes r)
+told_line probes h cpu r = option_and_then (λ told. told_line_text (record { cpu = cpu; stamp = stamp_in_line h r.stamp; told = told })) (told_record probes r)
 
 -- each of these records was written, one after the other
-abbrev pub AllTold : {W : Type 0} → (W → Record → W → Type 0) → W → List Record → W → Type 0
-AllTold tells w [] v = v ≡ w
-AllTold {W = W} tells w (r ∷ rs) v = (m : W) × tells w r m × AllTold tells m rs v
+abbrev pub ToldInTurn : {W : Type 0} → (W → Record → W → Type 0) → W → List Record → W → Type 0
+ToldInTurn tells w [] v = v ≡ w
+ToldInTurn {W = W} tells w (r ∷ rs) v = (m : W) × tells w r m × ToldInTurn tells m rs v
 
 -- why the records of a batch weren't told: it has a text that stops there, or what takes the text refused it
 abbrev pub IsTextSinkFault : EnabledRows → Batch → TextSinkFault → Type 0
@@ -49,10 +49,10 @@ module _ {W : Type 0} (writes : W → Option (List ℕ) → W → Type 0) where
   abbrev pub TellsText : Declared → EnabledRows → Batch → W → W → Type 0
   TellsText probes e b old new = (records : List Record)
       × BufferText (table_shape e.header (enabled e.rows)) (table_accepts e.header (enabled e.rows)) (table_text e.header (enabled e.rows)) 0 b.buffer.text records
-      × AllTold (λ w r v. writes w (told_line probes e.header b.cpu r) v) old records new
+      × ToldInTurn (λ w r v. writes w (told_line probes e.header b.cpu r) v) old records new
 
   -- All records of the batch are told, or why not; behind a fault nothing more is.
-  pub record TellsBatch (e : EnabledRows) (old : TextSink W) (b : Batch) (new : TextSink W) : Type 0 where
+  pub record TellsWhole (e : EnabledRows) (old : TextSink W) (b : Batch) (new : TextSink W) : Type 0 where
     pub probes : new.probes.now ≡ old.probes.now
     pub stopped : (fault : TextSinkFault) → old.fault ≡ Some fault → new ≡ old
     pub told : old.fault ≡ None → new.fault ≡ None → TellsText old.probes.now e b old.out new.out

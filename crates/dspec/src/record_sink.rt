@@ -1,5 +1,5 @@
 ghost use Rattle.std.specs.Prelude.{◌≡◌, ◌-◌, ◌++◌, ◌⊎◌, IfOk, IfErr, OnOk, Some, None, length, replicate};
-ghost use Rattle.dspec.specs.SinkRecords.{AddsText, KeepsBatch, IsRecordSinkFault, is_of, no_records, records_of_cpu};
+ghost use Rattle.dspec.specs.SinkRecords.{AddsText, KeepsBatch, IsRecordSinkFault, is_made_by, no_records, records_of_cpu};
 ghost use Rattle.dspec.specs.declared.record_sink.RecordSinkFault.TheVariants.{Memory};
 
 use crate::work::Sink;
@@ -98,8 +98,8 @@ fn keep_batch(
 }
 
 // Whether the record at a place is of this CPU.
-fn is_of(cpus: &[u32], place: usize, cpu: u32) -> bool
-    ensures { result ≡ is_of cpu cpus.now place }
+fn is_made_by(cpus: &[u32], place: usize, cpu: u32) -> bool
+    ensures { result ≡ is_made_by cpu cpus.now place }
 {
     match cpus.get(place) {
         Some(of) => *of == cpu,
@@ -129,7 +129,7 @@ impl RecordSink {
         }
         let mut records = Vec::new(alloc);
         for (place, rec) in self.records.iter().enumerate() {
-            if is_of(self.cpus.as_slice(), place, cpu) {
+            if is_made_by(self.cpus.as_slice(), place, cpu) {
                 records.push(*rec)?;
             }
         }

@@ -1,6 +1,6 @@
 ghost use Rattle.std.specs.Prelude.{◌≡◌, IfErr, IfOk, None, OnOk, Some};
 ghost use Rattle.std.specs.Fmt.{WritesText};
-ghost use Rattle.dspec.specs.TextSinks.{AllTold, IsTextSinkFault, TellsBatch, TellsText, stamp_in_line, told_line, told_line_text};
+ghost use Rattle.dspec.specs.TextSinks.{ToldInTurn, IsTextSinkFault, TellsWhole, TellsText, stamp_in_line, told_line, told_line_text};
 ghost use Rattle.dspec.specs.declared.text_sink.TextSinkFault.TheVariants.{Write};
 
 use crate::work::Sink;
@@ -109,7 +109,7 @@ fn tell_all<W: fmt::Write>(
     cpu: u32,
     came: Records<'_, Enablings>,
 ) -> fmt::Result
-    ensures { OnOk result (AllTold (λ w r v. WritesText W.write_str_gives w (told_line probes.now schema.now.header cpu r) v) out.old came.entry out.new) }
+    ensures { OnOk result (ToldInTurn (λ w r v. WritesText W.write_str_gives w (told_line probes.now schema.now.header cpu r) v) out.old came.entry out.new) }
 {
     for rec in came {
         tell_one(out, probes, schema, cpu, &rec)?;
@@ -170,7 +170,7 @@ impl<'p, 'n, W: fmt::Write + Drop> TextSink<'p, 'n, W> {
 }
 
 impl<W: fmt::Write + Send + Drop> Sink<Enablings> for TextSink<'_, '_, W> {
-    ghost gets = { TellsBatch (WritesText W.write_str_gives) };
+    ghost gets = { TellsWhole (WritesText W.write_str_gives) };
 
     fn batch(&mut self, schema: &Enablings, batch: &Batch) {
         if self.fault.is_some() {

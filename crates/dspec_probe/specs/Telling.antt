@@ -1,5 +1,6 @@
 -- Cited by calls. A record as text: the name of its probe, and behind it what each field says, by its name.
-use Rattle.std.specs.Prelude.{ℕ, zero, suc, ◌^◌, ◌-◌, ◌++◌, Bool, true, false, ℤ, List, [], length, nat_eq, slice_get, slice_index_or, Option, Some, None, option_map, option_and_then, if◌then◌else◌, codes, decimal}
+use Rattle.std.specs.Prelude.{ℕ, zero, suc, ◌^◌, ◌-◌, ◌++◌, Bool, true, false, ℤ, List, [], length, nat_eq, slice_get, slice_index_or, if◌then◌else◌}
+use Rattle.std.specs.Prelude.{Option, Some, None, option_map, option_and_then, codes, decimal}
 use Rattle.std.specs.Fmt.{option_append, signed_decimal}
 use Rattle.std.specs.Int.{w8, w16, w32, w64}
 use Rattle.std.specs.Option.{option_map_or}
@@ -63,20 +64,20 @@ meaning_text (Label l) = Some l.now
 meaning_text (Single _) = None
 meaning_text (Double _) = None
 
-abbrev pub told_field : List ℕ → Meaning → Option (List ℕ)
-told_field name meaning = option_map (λ text. codes " " ++ name ++ codes "=" ++ text) (meaning_text meaning)
+abbrev pub named_text : List ℕ → Meaning → Option (List ℕ)
+named_text name meaning = option_map (λ text. codes " " ++ name ++ codes "=" ++ text) (meaning_text meaning)
 
 -- the first so many fields
 abbrev pub told_fields : Told → ℕ → Option (List ℕ)
 told_fields t zero = Some []
-told_fields t (suc place) = option_append (told_fields t place) (told_field (told_name t place) (told_meaning t place))
+told_fields t (suc place) = option_append (told_fields t place) (named_text (told_name t place) (told_meaning t place))
 
 abbrev pub told_text : Told → Option (List ℕ)
 told_text t = option_append (Some t.names.event.now) (told_fields t (length t.rec.values))
 
 -- a record of one of these probes, told
-abbrev pub told_by : Declared → Record → Option Told
-told_by probes r = do
+abbrev pub told_record : Declared → Record → Option Told
+told_record probes r = do
   fields ← enabling_of probes.schema.rows r.epid
   names ← slice_get probes.names (r.epid - 1)
   truths ← slice_get probes.truths (r.epid - 1)

@@ -1,5 +1,5 @@
 ghost use Rattle.std.specs.Prelude.{◌≡◌, length, option_and_then, slice_get};
-ghost use Rattle.dspec_probe.specs.Telling.{field_meaning, kind_meaning, meaning_text, signed_number, told_by, told_field, told_meaning, told_name, told_text, truth_meaning};
+ghost use Rattle.dspec_probe.specs.Telling.{field_meaning, kind_meaning, meaning_text, signed_number, told_record, named_text, told_meaning, told_name, told_text, truth_meaning};
 ghost use Rattle.dspec_record.specs.declared.field.Field.TheVariants as field;
 ghost use Rattle.dspec_probe.specs.declared.kind.Kind.TheVariants as kind;
 
@@ -28,12 +28,12 @@ pub enum Meaning<'n> {
 fn signed_number(width: Field, number: u64) -> Option<i64>
     ensures { result ≡ signed_number width number }
 {
-    match width {
-        Field::One => Some(i64::from(i8::value(number)?)),
-        Field::Two => Some(i64::from(i16::value(number)?)),
-        Field::Four => Some(i64::from(i32::value(number)?)),
-        Field::Eight => i64::value(number),
-    }
+    Some(match width {
+        Field::One => i64::from(i8::value(number)?),
+        Field::Two => i64::from(i16::value(number)?),
+        Field::Four => i64::from(i32::value(number)?),
+        Field::Eight => i64::value(number)?,
+    })
 }
 
 impl<'n> Meaning<'n> {
@@ -144,7 +144,7 @@ pub struct ToldField<'n> {
 }
 
 impl fmt::Display for ToldField<'_> {
-    ghost output = { λ f. told_field f.name.now f.meaning };
+    ghost output = { λ f. named_text f.name.now f.meaning };
 
     fn fmt<W: fmt::Write>(&self, f: &mut fmt::Formatter<W>) -> fmt::Result {
         let ToldField { name, meaning } = *self;
@@ -222,7 +222,7 @@ impl<'n> Probes<'n> {
     /// A record of one of these probes, told by its declaration. None where it is of no probe of these, by its EPID or by how many
     /// values it has.
     pub fn tell(&self, rec: &Rec) -> Option<Told<'n>>
-        ensures { result ≡ told_by self.now rec.now }
+        ensures { result ≡ told_record self.now rec.now }
     {
         let fields = self.enablings.fields(rec.epid())?;
         let place = (rec.epid() as usize).saturating_sub(1);
