@@ -86,10 +86,11 @@ impl<'a> Origin<'a> {
             start: None,
         }
     }
+
     /// The same, with a clock for its stamps that was at 0 at this time of day, and has so many ticks in a second: tools then show the
     /// time of day of each event. Of the clock of `dspec` these are `SystemClock::started_at` and 1,000,000,000.
     pub fn since(self, time: SystemTime, hertz: u64) -> Origin<'a>
-        ensures { result ≡ record { uuid = self.uuid; process = self.process; start = Some (clock_start_at hertz (system_time_nanos time)) } }
+        ensures { result ≡ record { uuid = self.entry.uuid; process = self.entry.process; start = Some (clock_start_at hertz (system_time_nanos time)) } }
     {
         Origin {
             start: Some(ClockStart::at(time, hertz)),
