@@ -1,5 +1,6 @@
 ghost use Rattle.std.specs.Prelude.{◌≡◌, ◌-◌, ◌++◌, ◌⊎◌, IfOk, IfErr, OnOk, Some, None, length, replicate};
-ghost use Rattle.dspec.specs.SinkRecords.{AddsText, KeepsBatch, IsRecordSinkFault, is_made_by, no_records, records_of_cpu};
+ghost use Rattle.std.specs.List.{enumerate_from, flat_map};
+ghost use Rattle.dspec.specs.SinkRecords.{AddsText, KeepsBatch, IsRecordSinkFault, is_made_by, no_records, record_of_cpu, records_of_cpu};
 ghost use Rattle.dspec.specs.declared.record_sink.RecordSinkFault.TheVariants.{Memory};
 
 use crate::work::Sink;
@@ -98,13 +99,31 @@ fn keep_batch(
 }
 
 // Whether the record at a place is of this CPU.
-fn is_made_by(cpus: &[u32], place: usize, cpu: u32) -> bool
+fn is_of(cpus: &[u32], place: usize, cpu: u32) -> bool
     ensures { result ≡ is_made_by cpu cpus.now place }
 {
     match cpus.get(place) {
         Some(of) => *of == cpu,
         None => false,
     }
+}
+
+// The records of this CPU, in their order.
+fn records_of(
+    alloc: Global,
+    records: &[Rec],
+    cpus: &[u32],
+    cpu: u32,
+) -> Result<Vec<Rec>, AllocError>
+    ensures { IfOk result (λ found. found.items ≡ flat_map (record_of_cpu cpu cpus.now) (enumerate_from 0 records.now)) }
+{
+    let mut found = Vec::new(alloc);
+    for (place, rec) in records.iter().enumerate() {
+        if is_of(cpus, place, cpu) {
+            found.push(*rec)?;
+        }
+    }
+    Ok(found)
 }
 
 impl RecordSink {
@@ -127,13 +146,7 @@ impl RecordSink {
         if let Some(fault) = self.fault {
             return Err(fault);
         }
-        let mut records = Vec::new(alloc);
-        for (place, rec) in self.records.iter().enumerate() {
-            if is_made_by(self.cpus.as_slice(), place, cpu) {
-                records.push(*rec)?;
-            }
-        }
-        Ok(records)
+        Ok(records_of(alloc, self.records.as_slice(), self.cpus.as_slice(), cpu)?)
     }
 
     /// All records that came, or why not all were kept.

@@ -54,8 +54,8 @@ impl fmt::Display for ToldLine<'_> {
     ghost output = { told_line_text };
 
     fn fmt<W: fmt::Write>(&self, f: &mut fmt::Formatter<W>) -> fmt::Result {
-        let ToldLine { cpu, stamp, told } = *self;
-        match stamp {
+        let (cpu, told) = (self.cpu, &self.told);
+        match self.stamp {
             Some(stamp) => write!(f, "cpu {cpu} at {stamp}: {told}\n"),
             None => write!(f, "cpu {cpu}: {told}\n"),
         }
