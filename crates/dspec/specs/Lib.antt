@@ -1,6 +1,7 @@
 pub mod ClosedCpus
 pub mod Handing
 pub mod SinkRecords
+pub mod TextSinks
 pub mod LaneCalls
 pub mod LastPaths
 pub mod Lanes

@@ -1,5 +1,7 @@
 -- Cited by calls. What a sink keeps of the batches that it gets.
-use Rattle.std.specs.Prelude.{ℕ, ◌≡◌, List, [], ◌++◌, Option, Some, None}
+use Rattle.std.specs.Prelude.{ℕ, ◌≡◌, ◌==◌, ◌-◌, Bool, false, List, [], ◌∷◌, ◌++◌, length, replicate, slice_get, Option, Some, None, if◌then◌else◌}
+use Rattle.std.specs.Option.{option_map_or}
+use Rattle.std.specs.List.{enumerate_from, flat_map}
 use Rattle.dspec_record.specs.Record.{Record}
 use Rattle.dspec_record.specs.EnablingRows.{EnabledRows}
 use Rattle.dspec_record.specs.Schemas.{enabled, table_shape, table_accepts, table_text}
@@ -9,13 +11,26 @@ use Rattle.dspec_ring.specs.declared.batch.Batch.{Batch}
 use Rattle.dspec.specs.declared.record_sink.RecordSinkFault.{RecordSinkFault}
 use Rattle.dspec.specs.declared.record_sink.RecordSinkFault.TheVariants.{Text, Memory}
 
--- the records, in the order in which they came, and why not all were kept
+-- the records, in the order in which they came, of each the CPU, and why not all were kept
 pub record SinkRecords : Type 0 where
   pub records : List Record
+  pub cpus : List ℕ
   pub fault : Option RecordSinkFault
 
 abbrev pub no_records : SinkRecords
-no_records = record { records = []; fault = None }
+no_records = record { records = []; cpus = []; fault = None }
+
+-- whether the record at a place, counted from 0, is of this CPU
+abbrev pub is_made_by : ℕ → List ℕ → ℕ → Bool
+is_made_by cpu cpus place = option_map_or (λ c. c == cpu) (slice_get cpus place) false
+
+-- that record, where it is of this CPU
+abbrev pub record_of_cpu : ℕ → List ℕ → ℕ × Record → List Record
+record_of_cpu cpu cpus p = if is_made_by cpu cpus p.0 then p.1 ∷ [] else []
+
+-- the records of this CPU, in the order in which they came
+abbrev pub records_of_cpu : ℕ → SinkRecords → List Record
+records_of_cpu cpu kept = flat_map (record_of_cpu cpu kept.cpus) (enumerate_from 0 kept.records)
 
 module _ (e : EnabledRows) where
   -- the records of the text came behind those before
@@ -34,4 +49,5 @@ module _ (e : EnabledRows) where
   pub record KeepsBatch (old : SinkRecords) (b : Batch) (new : SinkRecords) : Type 0 where
     pub stopped : (fault : RecordSinkFault) → old.fault ≡ Some fault → new ≡ old
     pub kept : old.fault ≡ None → new.fault ≡ None → AddsText b.buffer.text old.records new.records
+    pub cpus : old.fault ≡ None → new.fault ≡ None → new.cpus ≡ old.cpus ++ replicate (length new.records - length old.records) b.cpu
     pub why : (fault : RecordSinkFault) → old.fault ≡ None → new.fault ≡ Some fault → IsRecordSinkFault b fault

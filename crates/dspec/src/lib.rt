@@ -50,6 +50,7 @@ mod serving_on;
 mod steps;
 mod stop;
 mod system;
+mod text_sink;
 mod work;
 mod worker;
 mod workers;
@@ -63,7 +64,9 @@ pub use dspec_cpu::{Cpu, Shared};
 pub use dspec_deeds::{
     Config, Decided, Opening, Policy, Report, Served, Spoken, StartFault, Traced,
 };
-pub use dspec_probe::{Fields, Kind, Probe, ProbeFault, ProbeNames, Probes, Value};
+pub use dspec_probe::{
+    Fields, Kind, Meaning, Probe, ProbeFault, ProbeNames, Probes, Told, ToldField, Value,
+};
 pub use dspec_record::{Enablings, Field, Header, Rec, Schema, SchemaFault};
 pub use dspec_ring::Batch;
 pub use dspec_session_core::{Closed, Consumer, Session};
@@ -80,6 +83,7 @@ pub use running::{pass_rests, trace, visit_all};
 pub use steps::Steps;
 pub use stop::Stop;
 pub use system::SystemClock;
+pub use text_sink::{ErrorOutput, TextSink, TextSinkFault, ToldLine};
 pub use work::{Sink, Work};
 pub use worker::Worker;
 pub use workers::trace_workers;

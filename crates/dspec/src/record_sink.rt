@@ -1,5 +1,6 @@
-ghost use Rattle.std.specs.Prelude.{◌≡◌, ◌++◌, IfOk, IfErr, OnOk, Some, None};
-ghost use Rattle.dspec.specs.SinkRecords.{AddsText, KeepsBatch, IsRecordSinkFault, no_records};
+ghost use Rattle.std.specs.Prelude.{◌≡◌, ◌-◌, ◌++◌, ◌⊎◌, IfOk, IfErr, OnOk, Some, None, length, replicate};
+ghost use Rattle.std.specs.List.{enumerate_from, flat_map};
+ghost use Rattle.dspec.specs.SinkRecords.{AddsText, KeepsBatch, IsRecordSinkFault, is_made_by, no_records, record_of_cpu, records_of_cpu};
 ghost use Rattle.dspec.specs.declared.record_sink.RecordSinkFault.TheVariants.{Memory};
 
 use crate::work::Sink;
@@ -44,6 +45,7 @@ impl From<AllocError> for RecordSinkFault {
 #[derive(Drop)]
 pub struct RecordSink {
     records: Vec<Rec>,
+    cpus: Vec<u32>,
     fault: Option<RecordSinkFault>,
 }
 
@@ -52,22 +54,35 @@ impl Model for RecordSink {
 
     ghost Value = { SinkRecords };
 
-    ghost view = { λ i. record { records = i.records.items; fault = i.fault } };
+    ghost view = { λ i. record { records = i.records.items; cpus = i.cpus.items; fault = i.fault } };
 }
 
-// All of these records come behind those that are kept.
-fn keep_all(kept: &mut Vec<Rec>, came: Records<'_, Enablings>) -> Result<(), AllocError>
-    ensures { OnOk result (kept.new.items ≡ kept.old.items ++ came.entry) }
+// All of these records come behind those that are kept, and with each its CPU.
+fn keep_all(
+    kept: &mut Vec<Rec>,
+    cpus: &mut Vec<u32>,
+    cpu: u32,
+    came: Records<'_, Enablings>,
+) -> Result<(), AllocError>
+    ensures records { OnOk result (kept.new.items ≡ kept.old.items ++ came.entry) }
+    ensures cpus { OnOk result (cpus.new.items ≡ cpus.old.items ++ replicate (length came.entry) cpu) }
 {
     for rec in came {
         kept.push(rec)?;
+        cpus.push(cpu)?;
     }
     Ok(())
 }
 
 // So do those of a batch.
-fn keep_batch(kept: &mut Vec<Rec>, schema: &Enablings, batch: &Batch) -> Result<(), RecordSinkFault>
+fn keep_batch(
+    kept: &mut Vec<Rec>,
+    cpus: &mut Vec<u32>,
+    schema: &Enablings,
+    batch: &Batch,
+) -> Result<(), RecordSinkFault>
     ensures added { OnOk result (AddsText schema.now batch.now.buffer.text kept.old.items kept.new.items) }
+    ensures cpus { OnOk result (cpus.new.items ≡ cpus.old.items ++ replicate (length kept.new.items - length kept.old.items) batch.now.cpu) }
     ensures fault { IfErr result (IsRecordSinkFault schema.now batch.now) }
 {
     let came = match read_all(schema, batch.buffer.bytes()) {
@@ -79,8 +94,36 @@ fn keep_batch(kept: &mut Vec<Rec>, schema: &Enablings, batch: &Batch) -> Result<
             });
         }
     };
-    keep_all(kept, came)?;
+    keep_all(kept, cpus, batch.cpu, came)?;
     Ok(())
+}
+
+// Whether the record at a place is of this CPU.
+fn is_of(cpus: &[u32], place: usize, cpu: u32) -> bool
+    ensures { result ≡ is_made_by cpu cpus.now place }
+{
+    match cpus.get(place) {
+        Some(of) => *of == cpu,
+        None => false,
+    }
+}
+
+// The records of this CPU, in their order.
+fn records_of(
+    alloc: Global,
+    records: &[Rec],
+    cpus: &[u32],
+    cpu: u32,
+) -> Result<Vec<Rec>, AllocError>
+    ensures { IfOk result (λ found. found.items ≡ flat_map (record_of_cpu cpu cpus.now) (enumerate_from 0 records.now)) }
+{
+    let mut found = Vec::new(alloc);
+    for (place, rec) in records.iter().enumerate() {
+        if is_of(cpus, place, cpu) {
+            found.push(*rec)?;
+        }
+    }
+    Ok(found)
 }
 
 impl RecordSink {
@@ -90,8 +133,20 @@ impl RecordSink {
     {
         RecordSink {
             records: Vec::new(alloc),
+            cpus: Vec::new(alloc),
             fault: None,
         }
+    }
+
+    /// The records of this CPU, in the order in which they came, which is that of its calls, or why not all were kept.
+    pub fn by_cpu(&self, alloc: Global, cpu: u32) -> Result<Vec<Rec>, RecordSinkFault>
+        ensures records { IfOk result (λ records. (records.items ≡ records_of_cpu cpu self.now) × (self.now.fault ≡ None)) }
+        ensures fault { IfErr result (λ fault. (self.now.fault ≡ Some fault) ⊎ (fault ≡ Memory)) }
+    {
+        if let Some(fault) = self.fault {
+            return Err(fault);
+        }
+        Ok(records_of(alloc, self.records.as_slice(), self.cpus.as_slice(), cpu)?)
     }
 
     /// All records that came, or why not all were kept.
@@ -99,7 +154,11 @@ impl RecordSink {
         ensures records { IfOk result (λ records. (records.items ≡ self.records) × (self.fault ≡ None)) }
         ensures fault { IfErr result (λ fault. self.fault ≡ Some fault) }
     {
-        let RecordSink { records, fault } = self;
+        let RecordSink {
+            records,
+            cpus: _,
+            fault,
+        } = self;
         match fault {
             None => Ok(records),
             Some(fault) => Err(fault),
@@ -114,7 +173,7 @@ impl Sink<Enablings> for RecordSink {
         if self.fault.is_some() {
             return;
         }
-        let Err(fault) = keep_batch(&mut self.records, schema, batch) else {
+        let Err(fault) = keep_batch(&mut self.records, &mut self.cpus, schema, batch) else {
             return;
         };
         self.fault = Some(fault);

@@ -1,9 +1,9 @@
 ghost use Rattle.std.specs.Prelude.{◌≡◌, ◌≤◌, ℕ};
 ghost use Rattle.std.specs.Time.{instant_nanos};
-ghost use Rattle.dspec.specs.Counts.{count_at, start_of};
+ghost use Rattle.dspec.specs.Counts.{count_at, start_of, time_of_start};
 
 use crate::clock::Clock;
-use std::time::Instant;
+use std::time::{Instant, SystemTime};
 use std::{io, time};
 
 /// Counts nanoseconds from its start on, up to `u64::MAX`, which is some 584 years. It never falls, on whichever threads it is read,
@@ -12,13 +12,25 @@ use std::{io, time};
 pub struct SystemClock<'a, R = HostRuntime> {
     rt: &'a R,
     start: Instant,
+    started_at: SystemTime,
 }
 
 impl<'a, R: time::Clock> SystemClock<'a, R> {
-    /// A clock that starts now. It fails where the system's clock can't be read.
+    /// A clock that starts now. It fails where the system's clock or its time of day can't be read.
     pub fn start(rt: &'a R) -> io::Result<SystemClock<'a, R>> {
         let start = Instant::now(rt)?;
-        Ok(SystemClock { rt, start })
+        Ok(SystemClock {
+            rt,
+            start,
+            started_at: SystemTime::now(rt)?,
+        })
+    }
+
+    /// The time of day at its start, as the system had it then: that of the stamp 0. A trace folder is told it by `Origin::since`.
+    pub fn started_at(&self) -> SystemTime
+        ensures { result ≡ time_of_start self.now }
+    {
+        self.started_at
     }
 
     /// What it counts at a reading of the same system's clock: 0 at one from before its start.

@@ -1,4 +1,5 @@
 pub mod Names
+pub mod Starts
 pub mod Metadata
 pub mod Packets
 pub mod Streams

@@ -2,3 +2,4 @@ mod Filling
 mod Floats
 mod Putting
 mod Firing
+mod Shown

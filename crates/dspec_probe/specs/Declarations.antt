@@ -1,5 +1,5 @@
 -- Cited by calls. The probes of a program: their schema and their names, and what one more adds.
-use Rattle.std.specs.Prelude.{◌≡◌, ◌++◌, ◌∷◌, [], ℕ, List, length, map}
+use Rattle.std.specs.Prelude.{◌≡◌, ◌++◌, ◌∷◌, [], ℕ, Bool, List, length, map}
 use Rattle.dspec_record.specs.EnablingRows.{EnabledRows}
 use Rattle.dspec_record.specs.declared.field.Field.{Field}
 use Rattle.dspec_record.specs.declared.header.Header.{Header}
@@ -10,6 +10,7 @@ use Rattle.dspec_probe.specs.declared.probes.ProbeNames.{ProbeNames}
 pub record Declared : Type 0 where
   pub schema : EnabledRows
   pub names : List ProbeNames
+  pub truths : List (List Bool)
 
 -- each has a name, and as many as fields beside it
 abbrev pub AreNamed : List (List Field) → List ProbeNames → Type 0

@@ -1,7 +1,7 @@
 ghost use Rattle.std.specs.Prelude.{◌≡◌};
 ghost use Rattle.dspec_probe.specs.declared.fault.ProbeFault.TheVariants.{Memory};
 
-use std::alloc::AllocFailed;
+use std::alloc::{AllocError, AllocFailed};
 use thiserror::Error;
 
 /// Why a probe isn't declared.
@@ -25,6 +25,14 @@ impl<T: Drop> From<AllocFailed<T>> for ProbeFault {
     ghost from_gives = { λ _ fault. fault ≡ Memory };
 
     fn from(_refused: AllocFailed<T>) -> Self {
+        ProbeFault::Memory
+    }
+}
+
+impl From<AllocError> for ProbeFault {
+    ghost from_gives = { λ _ fault. fault ≡ Memory };
+
+    fn from(_refused: AllocError) -> Self {
         ProbeFault::Memory
     }
 }

@@ -16,6 +16,8 @@ pub mod kind;
 pub mod probe;
 pub mod probes;
 mod rows;
+pub mod telling;
+mod truth;
 mod tuples;
 pub mod value;
 
@@ -26,4 +28,5 @@ pub use fired::Fired;
 pub use kind::Kind;
 pub use probe::Probe;
 pub use probes::{ProbeNames, Probes};
+pub use telling::{Meaning, Told, ToldField};
 pub use value::Value;

@@ -1,7 +1,8 @@
-ghost use Rattle.std.specs.Prelude.{◌≡◌, ◌≢◌, ◌≤◌, ◌<◌, ◌++◌, ◌∷◌, ◌↔◌, [], length, Some, None, IfOk, OnErr};
+ghost use Rattle.std.specs.Prelude.{◌≡◌, ◌≢◌, ◌≤◌, ◌<◌, ◌++◌, ◌∷◌, ◌↔◌, [], length, Some, None, IfOk, OnErr, OnOk};
 ghost use Rattle.dspec_probe.specs.declared.fault.ProbeFault.{ProbeFault};
 ghost use Rattle.dspec_probe.specs.Declarations.{Declares};
 
+use crate::truth::truths;
 use crate::{Fields, Kind, Probe, ProbeFault};
 use dspec_record::{Enablings, Header};
 use std::alloc::Global;
@@ -43,8 +44,9 @@ impl<'n> ProbeNames<'n> {
 /// The probes of a program, as they are declared: what a session wants of them, and what a trace folder wants.
 #[derive(Drop)]
 pub struct Probes<'n> {
-    enablings: Enablings,
-    names: Vec<ProbeNames<'n>>,
+    pub(crate) enablings: Enablings,
+    pub(crate) names: Vec<ProbeNames<'n>>,
+    pub(crate) truths: Vec<[bool; 8]>,
 }
 
 impl<'n> Model for Probes<'n> {
@@ -52,31 +54,34 @@ impl<'n> Model for Probes<'n> {
 
     ghost Value = { Declared };
 
-    ghost view = { λ i. record { schema = i.enablings; names = i.names.items } };
+    ghost view = { λ i. record { schema = i.enablings; names = i.names.items; truths = i.truths.items } };
 
     ghost invariant = { λ i. AreNamed i.enablings.rows i.names.items };
 }
 
 impl<'n> Probes<'n> {
     ghost use Rattle.dspec_probe.specs.Declarations.{AreNamed};
+    ghost use Rattle.dspec_probe.specs.Truths.{truths_of};
 
     /// None yet; each record has a stamp.
     pub fn new(alloc: Global) -> Probes<'n>
-        ensures { result ≡ record { schema = record { header = Header.Two; rows = [] }; names = [] } }
+        ensures { result ≡ record { schema = record { header = Header.Two; rows = [] }; names = []; truths = [] } }
     {
         Probes {
             enablings: Enablings::new().stamped(),
             names: Vec::new(alloc),
+            truths: Vec::new(alloc),
         }
     }
 
     /// None yet; records have no stamp, and one that is handed in is left out.
     pub fn unstamped(alloc: Global) -> Probes<'n>
-        ensures { result ≡ record { schema = record { header = Header.One; rows = [] }; names = [] } }
+        ensures { result ≡ record { schema = record { header = Header.One; rows = [] }; names = []; truths = [] } }
     {
         Probes {
             enablings: Enablings::new(),
             names: Vec::new(alloc),
+            truths: Vec::new(alloc),
         }
     }
 
@@ -84,6 +89,7 @@ impl<'n> Probes<'n> {
     fn declare<F: Fields>(&mut self, names: ProbeNames<'n>) -> Result<Probe<F>, ProbeFault>
         requires { length names.fields.now ≡ length F.fields_are }
         ensures declared { IfOk result (λ p. Declares F.fields_are p names.entry self.old self.new) }
+        ensures truths { OnOk result (self.new.truths ≡ self.old.truths ++ truths_of F.values_of (length F.fields_are) ∷ []) }
         ensures refused { OnErr result (self.new ≡ self.old) }
         ensures counted { (result ≢ Err ProbeFault.FieldCount) × (result ≢ Err ProbeFault.LabelCount) }
         ensures too_many { (result ≡ Err ProbeFault.TooMany) ↔ (64 ≤ length self.old.schema.rows) }
@@ -91,7 +97,9 @@ impl<'n> Probes<'n> {
         if self.enablings.count() == MAX_PROBES {
             return Err(ProbeFault::TooMany);
         }
+        self.truths.reserve(1)?;
         self.names.push(names)?;
+        self.truths.push_reserved(truths::<F>());
         let epid = self.enablings.enable(F::fields().as_slice()).unwrap();
         Ok(Probe {
             epid,
@@ -107,6 +115,7 @@ impl<'n> Probes<'n> {
         fields: &'n [&'n str],
     ) -> Result<Probe<F>, ProbeFault>
         ensures declared { IfOk result (λ p. Declares F.fields_are p (record { event = event.entry; fields = fields.entry; kinds = F.kinds_are; labels = None }) self.old self.new) }
+        ensures truths { OnOk result (self.new.truths ≡ self.old.truths ++ truths_of F.values_of (length F.fields_are) ∷ []) }
         ensures refused { OnErr result (self.new ≡ self.old) }
         ensures field_count { (result ≡ Err ProbeFault.FieldCount) ↔ (length fields.now ≢ length F.fields_are) }
         ensures label_count { result ≢ Err ProbeFault.LabelCount }
@@ -132,6 +141,7 @@ impl<'n> Probes<'n> {
         labels: &'n [&'n [&'n str]],
     ) -> Result<Probe<F>, ProbeFault>
         ensures declared { IfOk result (λ p. Declares F.fields_are p (record { event = event.entry; fields = fields.entry; kinds = F.kinds_are; labels = Some labels.entry }) self.old self.new) }
+        ensures truths { OnOk result (self.new.truths ≡ self.old.truths ++ truths_of F.values_of (length F.fields_are) ∷ []) }
         ensures refused { OnErr result (self.new ≡ self.old) }
         ensures field_count { (result ≡ Err ProbeFault.FieldCount) ↔ (length fields.now ≢ length F.fields_are) }
         ensures label_count { (result ≡ Err ProbeFault.LabelCount) ↔ ((length fields.now ≡ length F.fields_are) × (length labels.now ≢ length F.fields_are)) }

@@ -2,7 +2,7 @@
 use dspec::{Clock, SystemClock};
 use std::sync::atomic::{AtomicU64, Ordering};
 use std::test::Fail;
-use std::time::{Duration, Instant};
+use std::time::{Duration, Instant, UNIX_EPOCH};
 use std::{io, time};
 
 /// A system whose clock goes on by 1,500 nanoseconds a reading, and can be read five times.
@@ -21,7 +21,7 @@ impl time::Clock for Readings {
     }
 
     fn since_1970(&self) -> io::Result<Duration> {
-        self.monotonic()
+        Ok(Duration::new(1_700_000_000, 25))
     }
 }
 
@@ -32,6 +32,7 @@ fn nanoseconds_are_counted(rt: HostRuntime) -> Result<(), Fail> {
     };
     let earlier = Instant::now(&readings)?;
     let clock = SystemClock::start(&readings)?;
+    assert!(rt; clock.started_at() == UNIX_EPOCH + Duration::new(1_700_000_000, 25));
     assert!(rt; clock.stamp() == 1500);
     assert!(rt; clock.stamp() == 3000);
     let later = Instant::now(&readings)?;

@@ -196,6 +196,13 @@ fn records_are_kept(rt: HostRuntime) -> Result<(), Fail> {
     };
     assert!(rt; closed_cpu(&closed, 0).report.accepted == 2);
     assert!(rt; sink.second.map(|counted| counted.bytes) == Some(16));
+    let (Ok(own), Ok(others)) = (
+        sink.first.by_cpu(rt.alloc(), 0),
+        sink.first.by_cpu(rt.alloc(), 1),
+    ) else {
+        return Err("records are missing".into());
+    };
+    assert!(rt; own.len() == 2 && others.is_empty());
     let Ok(records) = sink.first.records() else {
         return Err("records are missing".into());
     };

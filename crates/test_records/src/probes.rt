@@ -2,3 +2,4 @@
 mod declaring;
 mod numbers;
 mod reading;
+mod telling;

@@ -3,10 +3,8 @@
 use crate::fault::{ExampleFault, told_end};
 use crate::store::serving::WORKERS;
 use dspec::Probes;
-use dspec_ctf_sink::{
-    ClockStart, FolderFault, Identity, Names, Room, SystemFolder, Telling, TimedFolder,
-};
-use std::time::{SystemTime, UNIX_EPOCH};
+use dspec_ctf_sink::{FolderFault, Identity, Names, Room, SystemFolder, Telling, TimedFolder};
+use std::time::SystemTime;
 
 /// Stamps are in microseconds.
 const HERTZ: u64 = 1_000_000;
@@ -17,19 +15,8 @@ pub type Trace<'a> = Telling<'a, TimedFolder<SystemFolder<'a>>>;
 /// The same, and room on its disk for what its end tells, where the disk has it.
 pub type Begun<'a> = (Trace<'a>, Option<Room<'a>>);
 
-/// Where the clock of the stamps begins. The workers make up its time, from 0 on, so it is placed at the system's time when the trace
-/// begins; None where the system doesn't tell that.
-fn clock_start(rt: &HostRuntime) -> Option<ClockStart> {
-    let now = SystemTime::now(rt).ok()?;
-    let since = now.duration_since(UNIX_EPOCH).ok()?;
-    Some(ClockStart {
-        seconds: since.as_secs(),
-        ticks: u64::from(since.subsec_micros()),
-        clock: None,
-    })
-}
-
-/// Begins a trace of this process in the folder of that path, with the names of the probes in its metadata.
+/// Begins a trace of this process in the folder of that path, with the names of the probes in its metadata. The workers make up the
+/// time of their stamps, from 0 on, so it is placed at the system's time when the trace begins, where the system tells that.
 fn begun_trace<'a>(
     rt: &'a HostRuntime,
     name: &'a str,
@@ -40,7 +27,9 @@ fn begun_trace<'a>(
     let room = folder.keep_room(WORKERS).ok();
     let identity = Identity::of_system(rt)?;
     let mut origin = identity.origin("store");
-    origin.start = clock_start(rt);
+    if let Ok(now) = SystemTime::now(rt) {
+        origin = origin.since(now, HERTZ);
+    }
     let schema = probes.enablings();
     let sink = TimedFolder::of(rt.alloc(), folder, &origin, HERTZ, &schema, &names)?;
     Ok((Telling::new(rt, name, sink), room))

@@ -1,7 +1,8 @@
 //! A session whose work records by probes, and reads what was kept by them.
 use crate::same::same;
 use dspec::{
-    Config, Enablings, Lane, Probe, Probes, Rec, RecordSink, Recording, Work, closed_cpu, trace,
+    Config, Enablings, Lane, Probe, ProbeFault, Probes, Rec, RecordSink, Recording, TextSink, Work,
+    closed_cpu, trace,
 };
 use std::test::Fail;
 
@@ -30,12 +31,52 @@ impl Work<Enablings> for Requests {
     }
 }
 
+impl Requests {
+    /// Declares them.
+    fn declare<'n>(probes: &mut Probes<'n>) -> Result<Requests, ProbeFault> {
+        Ok(Requests {
+            query: probes.probe("query", &["request", "micros"])?,
+            failed: probes.probe("failed", &["code", "late", "load"])?,
+        })
+    }
+}
+
+/// The same session, a line a record.
+#[test]
+fn records_are_told(rt: HostRuntime) -> Result<(), Fail> {
+    let mut probes = Probes::new(rt.alloc());
+    let work = Requests::declare(&mut probes)?;
+    let (config, schema) = (Config::of(1, 2, 256, 128), probes.enablings());
+    let mut told = TextSink::new(&probes, String::new(rt.alloc()));
+    trace(&rt, rt.alloc(), &config, schema, &work, &mut told)?;
+    let text = told.finish()?;
+    let mut lines = text.as_str().lines();
+    same(
+        &rt,
+        lines.next(),
+        Some("cpu 0 at 10: query request=1 micros=500"),
+    );
+    same(
+        &rt,
+        lines.next(),
+        Some("cpu 0 at 11: query request=2 micros=600"),
+    );
+    same(
+        &rt,
+        lines.next(),
+        Some("cpu 0 at 12: failed code=-5 late=true load=-0.5"),
+    );
+    let last = "cpu 0 at 14: query request=18446744073709551615 micros=4294967295";
+    same(&rt, lines.next(), Some(last));
+    same(&rt, lines.next(), None);
+    Ok(())
+}
+
 #[test]
 fn records_of_probes(rt: HostRuntime) -> Result<(), Fail> {
     let mut probes = Probes::new(rt.alloc());
-    let query: Probe<(u64, u32)> = probes.probe("query", &["request", "micros"])?;
-    let failed: Probe<(i32, bool, f64)> = probes.probe("failed", &["code", "late", "load"])?;
-    let work = Requests { query, failed };
+    let work = Requests::declare(&mut probes)?;
+    let (query, failed) = (work.query, work.failed);
     let (config, schema) = (Config::of(1, 2, 256, 128), probes.enablings());
     let mut kept = RecordSink::new(rt.alloc());
     let closed = trace(&rt, rt.alloc(), &config, schema, &work, &mut kept)?;

@@ -1,0 +1,84 @@
+-- Cited by calls. A record as text: the name of its probe, and behind it what each field says, by its name.
+use Rattle.std.specs.Prelude.{ℕ, zero, suc, ◌^◌, ◌-◌, ◌++◌, Bool, true, false, ℤ, List, [], length, nat_eq, slice_get, slice_index_or, if◌then◌else◌}
+use Rattle.std.specs.Prelude.{Option, Some, None, option_map, option_and_then, codes, decimal}
+use Rattle.std.specs.Fmt.{option_append, signed_decimal}
+use Rattle.std.specs.Int.{w8, w16, w32, w64}
+use Rattle.std.specs.Option.{option_map_or}
+use Rattle.std.specs.Float.Ieee.{binary32, binary64}
+use Rattle.dspec_record.specs.Record.{Record}
+use Rattle.dspec_record.specs.Schemas.{enabling_of}
+use Rattle.dspec_record.specs.declared.field.Field.{Field}
+use Rattle.dspec_record.specs.declared.field.Field.TheVariants.{One, Two, Four, Eight}
+use Rattle.dspec_probe.specs.Declarations.{Declared}
+use Rattle.dspec_probe.specs.Tuples.{◌>>=◌}
+use Rattle.dspec_probe.specs.Values.{signed, float}
+use Rattle.dspec_probe.specs.declared.kind.Kind.{Kind}
+use Rattle.dspec_probe.specs.declared.kind.Kind.TheVariants as kind
+use Rattle.dspec_probe.specs.declared.probes.ProbeNames.{ProbeNames}
+use Rattle.dspec_probe.specs.declared.telling.Meaning.{Meaning}
+use Rattle.dspec_probe.specs.declared.telling.Meaning.TheVariants.{Unsigned, Signed, Truth, Label, Single, Double}
+use Rattle.dspec_probe.specs.declared.telling.Told.{Told}
+
+-- a number of this width in two's complement
+abbrev pub signed_number : Field → ℕ → Option ℤ
+signed_number One n = signed w8 n
+signed_number Two n = signed w16 n
+signed_number Four n = signed w32 n
+signed_number Eight n = signed w64 n
+
+-- what a number says by its kind alone; the number itself where it is none of that kind
+abbrev pub kind_meaning : Kind → Field → ℕ → Meaning
+kind_meaning kind.Signed width n = option_map_or Signed (signed_number width n) (Unsigned n)
+kind_meaning kind.Float Four n = option_map_or Single (float binary32 (2 ^ 32) n) (Unsigned n)
+kind_meaning kind.Float Eight n = option_map_or Double (float binary64 (2 ^ 64) n) (Unsigned n)
+kind_meaning _ _ n = Unsigned n
+
+-- of a field that may be a truth value
+abbrev pub truth_meaning : Bool → Kind → Field → ℕ → Meaning
+truth_meaning true _ _ zero = Truth false
+truth_meaning true _ _ (suc zero) = Truth true
+truth_meaning _ k width n = kind_meaning k width n
+
+-- what the number of the field at this place says: what the declaration calls it, if anything, but of a float
+abbrev pub field_meaning : ProbeNames → Bool → Kind → Field → ℕ → ℕ → Meaning
+field_meaning n truth kind.Float width place number = kind_meaning kind.Float width number
+field_meaning n truth k width place number =
+    option_map_or Label (option_and_then (λ all. option_and_then (λ ls. slice_get ls.now number) (slice_get all.now place)) n.labels)
+        (truth_meaning truth k width number)
+
+-- the field at this place of a record that is told: what its number says, and its name
+abbrev pub told_meaning : Told → ℕ → Meaning
+told_meaning t place =
+    field_meaning t.names (slice_index_or t.truths place false) (slice_index_or t.names.kinds place kind.Unsigned)
+        (slice_index_or t.fields place Eight) place (slice_index_or t.rec.values place 0)
+
+abbrev pub told_name : Told → ℕ → List ℕ
+told_name t place = option_map_or (λ name. name.now) (slice_get t.names.fields.now place) []
+
+-- the digits of a float aren't said
+abbrev pub meaning_text : Meaning → Option (List ℕ)
+meaning_text (Unsigned n) = Some (decimal n)
+meaning_text (Signed z) = Some (signed_decimal z)
+meaning_text (Truth b) = Some (if b then codes "true" else codes "false")
+meaning_text (Label l) = Some l.now
+meaning_text (Single _) = None
+meaning_text (Double _) = None
+
+abbrev pub named_text : List ℕ → Meaning → Option (List ℕ)
+named_text name meaning = option_map (λ text. codes " " ++ name ++ codes "=" ++ text) (meaning_text meaning)
+
+-- the first so many fields
+abbrev pub told_fields : Told → ℕ → Option (List ℕ)
+told_fields t zero = Some []
+told_fields t (suc place) = option_append (told_fields t place) (named_text (told_name t place) (told_meaning t place))
+
+abbrev pub told_text : Told → Option (List ℕ)
+told_text t = option_append (Some t.names.event.now) (told_fields t (length t.rec.values))
+
+-- a record of one of these probes, told
+abbrev pub told_record : Declared → Record → Option Told
+told_record probes r = do
+  fields ← enabling_of probes.schema.rows r.epid
+  names ← slice_get probes.names (r.epid - 1)
+  truths ← slice_get probes.truths (r.epid - 1)
+  if nat_eq (length r.values) (length fields) then Some (record { names = names; truths = truths; fields = fields; rec = r }) else None

@@ -1,0 +1,80 @@
+//! Records as text, by the declarations of their probes.
+use crate::same::same;
+use dspec_probe::{Probe, Probes};
+use dspec_record::Rec;
+use std::test::Fail;
+
+#[test]
+fn record_is_told(rt: HostRuntime) -> Result<(), Fail> {
+    let alloc = rt.alloc();
+    let mut probes = Probes::new(alloc);
+    let begin: Probe<(u32, u8)> = probes.probe("begin", &["request", "number"])?;
+    let end: Probe<(u32, bool, u64)> = probes.probe("end", &["request", "done", "micros"])?;
+    let rec = end.rec(1500, (0, false, 11857));
+    let Some(told) = probes.tell(&rec) else {
+        return Err("a record of no probe".into());
+    };
+    let text = told.to_string(alloc)?;
+    same(&rt, text.as_str(), "end request=0 done=false micros=11857");
+    same(&rt, told.count(), 3);
+    same(&rt, told.field(1).to_string(alloc)?.as_str(), " done=false");
+    let Some(told) = probes.tell(&begin.rec(1500, (7, 1))) else {
+        return Err("a record of no probe".into());
+    };
+    same(
+        &rt,
+        told.to_string(alloc)?.as_str(),
+        "begin request=7 number=1",
+    );
+    Ok(())
+}
+
+#[test]
+fn values_are_told_by_their_kinds(rt: HostRuntime) -> Result<(), Fail> {
+    let alloc = rt.alloc();
+    let mut probes = Probes::unstamped(alloc);
+    let names = &["small", "signed", "wide", "is", "short", "long"];
+    let all: Probe<(i8, i16, i64, bool, f32, f64)> = probes.probe("all", names)?;
+    let labels: &[&[&str]] = &[&["get", "put"], &[], &["no", "yes"]];
+    let named: Probe<(u8, i32, bool)> = probes.probe_labelled(
+        "named",
+        &["operation", "by", "is"],
+        labels,
+    )?;
+    let rec = all.rec(0, (-1, -300, i64::MIN, true, 0.5, -2.0));
+    let Some(told) = probes.tell(&rec) else {
+        return Err("a record of no probe".into());
+    };
+    let wanted = "all small=-1 signed=-300 wide=-9223372036854775808 is=true short=0.5 long=-2";
+    same(&rt, told.to_string(alloc)?.as_str(), wanted);
+    let Some(told) = probes.tell(&named.rec(0, (1, -3, true))) else {
+        return Err("a record of no probe".into());
+    };
+    same(
+        &rt,
+        told.to_string(alloc)?.as_str(),
+        "named operation=put by=-3 is=yes",
+    );
+    let Some(told) = probes.tell(&named.rec(0, (2, 3, false))) else {
+        return Err("a record of no probe".into());
+    };
+    same(
+        &rt,
+        told.to_string(alloc)?.as_str(),
+        "named operation=2 by=3 is=no",
+    );
+    Ok(())
+}
+
+#[test]
+fn record_of_no_probe_is_not_told(rt: HostRuntime) -> Result<(), Fail> {
+    let mut probes = Probes::unstamped(rt.alloc());
+    let _: Probe<(u8,)> = probes.probe("one", &["value"])?;
+    for (epid, values) in [(0, [7].as_slice()), (2, [7].as_slice()), (1, [].as_slice())] {
+        let Some(rec) = Rec::new(epid, values) else {
+            return Err("no record".into());
+        };
+        assert!(rt; probes.tell(&rec).is_none());
+    }
+    Ok(())
+}
