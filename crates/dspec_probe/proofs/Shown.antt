@@ -21,7 +21,7 @@ module _ {W : Type 0} (took : W → List ℕ → W → Type 0) where
       → IfSome (told_fields t (place + 1)) (λ bs. HasWritten took f bs h)
   fields-more t place name meaning f g h named means so_far more =
       let same : named_text name meaning ≡ named_text (told_name t place) (told_meaning t place) =
-          ap (λ n. named_text n meaning) named ∙ ap (named_text (told_name t place)) means in
+      ap (λ n. named_text n meaning) named ∙ ap (named_text (told_name t place)) means in
       let next : suc place ≡ place + 1 = omega arith in
       subst (λ n. IfSome (told_fields t n) (λ bs. HasWritten took f bs h)) next
       (subst (λ o. IfSome (option_append (told_fields t place) o) (λ bs. HasWritten took f bs h)) same

@@ -44,13 +44,13 @@ abbrev pub field_meaning : ProbeNames → Bool → Kind → Field → ℕ → �
 field_meaning n truth kind.Float width place number = kind_meaning kind.Float width number
 field_meaning n truth k width place number =
     option_map_or Label (option_and_then (λ all. option_and_then (λ ls. slice_get ls.now number) (slice_get all.now place)) n.labels)
-        (truth_meaning truth k width number)
+    (truth_meaning truth k width number)
 
 -- the field at this place of a record that is told: what its number says, and its name
 abbrev pub told_meaning : Told → ℕ → Meaning
 told_meaning t place =
     field_meaning t.names (slice_index_or t.truths place false) (slice_index_or t.names.kinds place kind.Unsigned)
-        (slice_index_or t.fields place Eight) place (slice_index_or t.rec.values place 0)
+    (slice_index_or t.fields place Eight) place (slice_index_or t.rec.values place 0)
 
 abbrev pub told_name : Told → ℕ → List ℕ
 told_name t place = option_map_or (λ name. name.now) (slice_get t.names.fields.now place) []
