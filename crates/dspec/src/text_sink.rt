@@ -154,8 +154,8 @@ impl<'p, 'n, W: fmt::Write + Drop> TextSink<'p, 'n, W> {
 
     /// What has taken the text, or why not all records were told.
     pub fn finish(self) -> Result<W, TextSinkFault>
-        ensures told { IfOk result (λ out. (out ≡ self.out) × (self.fault ≡ None)) }
-        ensures fault { IfErr result (λ fault. self.fault ≡ Some fault) }
+        ensures told { IfOk result (λ out. (out ≡ self.entry.out) × (self.entry.fault ≡ None)) }
+        ensures fault { IfErr result (λ fault. self.entry.fault ≡ Some fault) }
     {
         let TextSink {
             probes: _,
