@@ -57,11 +57,11 @@ typedef struct lane {
     dspec_batch out; /* which the folder is getting, where `bringing` says so */
     uint64_t before; /* how many records the folder had in front of it */
     uint32_t bringing;
-    /* With `survive`: whether a service is made, where the two buffers are and which one is filled, how many batches were switched out and how many taken, what the CPU had
-     * accepted at the last switch and how many records that switched out, and how many stood in the buffer in front of the service. */
+    /* With `survive`: whether a service is made, where the two buffers are and which one is filled, how many batches were switched out, taken and given back, what the CPU
+     * had accepted at the last switch and how many records that switched out, and how many stood in the buffer in front of the service. */
     uint32_t serving, filled;
     const uint8_t *buffers[2];
-    uint64_t switched, taken, accepted, sealed, standing;
+    uint64_t switched, taken, given, accepted, sealed, standing;
     APART open_path open[MAX_OPEN];
     dspec_session session;
     dspec_consumer consumer;

@@ -24,12 +24,11 @@ enum { READ_MS = 10000, READ_SECONDS = 1, MOST_BYTES = 1048576, MOST_PARTS = 8 +
 
 /* What the process of a lane tells: a batch of kept records, of those of an open path, that what comes may be half of something, or that it is through. */
 enum { TELLS_FIRST = 1, TELLS_KEPT = 2, TELLS_OPEN = 3, TELLS_END = 4, TELLS_TORN = 5 };
-#define ALL_OF UINT64_MAX
 typedef struct told {
     uint32_t what, place;
     uint64_t drops, length;
-    uint64_t behind, count; /* so many records behind so many others; ALL_OF: as many as there are */
-    uint64_t is_part;       /* other bytes stand behind them */
+    uint64_t behind, count;      /* so many records behind so many others */
+    uint32_t is_part, may_differ; /* other bytes stand behind them; a record was being made, which is counted in front of its bytes or behind them */
 } told;
 
 /* A trace that is being written, with its records by their layout. */
@@ -106,48 +105,60 @@ static void send_bytes(int to, const told *one, const dspec_batch *batch) {
     if (batch != NULL && dspec_folder_write(to, batch->bytes, batch->len) != 0) syscall(SYS_exit, 1);
 }
 
-static void send_whole(int to, uint32_t what, uint32_t place, uint64_t count, const dspec_batch *batch) {
-    const told one = { what, place, batch->drops, batch->len, 0, count, false };
+static void send_whole(int to, uint32_t what, uint32_t place, uint64_t count, bool may_differ, const dspec_batch *batch) {
+    const told one = { what, place, batch->drops, batch->len, 0, count, false, may_differ };
     send_bytes(to, &one, batch);
 }
 
 static void send_word(int to, uint32_t what) {
-    const told one = { what, 0, 0, 0, 0, 0, false };
+    const told one = { .what = what };
     send_bytes(to, &one, NULL);
 }
 
 /* Records of a buffer that the session can't hand out. */
 static void send_raw(const lane *on, int to, uint32_t what, uint32_t place, uint32_t buffer, uint64_t behind, uint64_t count) {
     const dspec_batch all = { on->buffers[buffer & 1], on->of->options.bufsize, 0, 0 };
-    const told one = { what, place, 0, all.len, behind, count, true };
+    const told one = { what, place, 0, all.len, behind, count, true, false };
     if (count > 0) send_bytes(to, &one, &all);
 }
 
-/* What was switched out: whether there was something. */
-static bool send_switched(lane *on, int to, uint32_t what, uint32_t place, uint64_t count) {
+/* What was switched out, so many records: whether there was something. */
+static bool send_switched(lane *on, int to, uint32_t what, uint32_t place, uint64_t count, bool may_differ) {
     dspec_batch batch;
     if (dspec_take(&on->consumer, 0, &batch) != DSPEC_OK) return false;
-    if (batch.len > 0 || batch.drops > 0) send_whole(to, what, place, count, &batch);
+    if (batch.len > 0 || batch.drops > 0) send_whole(to, what, place, count, may_differ, &batch);
     dspec_give_back(&on->consumer, 0);
     return true;
 }
 
 /* What stands in the buffer that is filled: whether it could be switched. */
-static bool send_by_switch(lane *on, int to, uint32_t what, uint32_t place, uint64_t count) {
+static bool send_by_switch(lane *on, int to, uint32_t what, uint32_t place, uint64_t count, bool may_differ) {
     bool sealed = false;
     uint32_t settled;
     dspec_ask(&on->consumer, 0);
     dspec_service(&on->front.cpu, &sealed, &settled);
-    return send_switched(on, to, what, place, count) && sealed;
+    return send_switched(on, to, what, place, count, may_differ) && sealed;
+}
+
+/* How many records the batch has that was switched out last, and wasn't given back: as many as stood in front of the service, where that hasn't noted it. */
+static uint64_t switched_records(const lane *on) { return on->given == on->switched ? on->standing : on->sealed; }
+
+static bool is_whole(const dspec_batch *batch) { return batch->bytes != nothing_out.bytes && batch->len != nothing_out.len && batch->drops != nothing_out.drops; }
+
+/* Whether what a lane says of its batches fits together, so that no word alone makes one of none. */
+static bool fits_together(const lane *on) {
+    if (on->bringing > IS_TAKEN || on->serving > HAS_SWITCHED || on->taken - on->given > 1 || on->switched + 1 - on->taken > 2) return false;
+    if (on->bringing == IS_BROUGHT && on->taken == on->given) return false;
+    return on->bringing != IS_TAKEN || !is_whole(&on->out) || on->serving != NOT_SERVED || on->switched == on->taken + 1 || on->taken == on->given + 1;
 }
 
 /* The batch that the consumer had or was taking: whether there was one. */
 static bool send_out(lane *on, int to) {
     bool is_out = on->bringing == IS_BROUGHT || on->bringing == WAS_BROUGHT;
-    if (on->bringing == IS_BROUGHT) send_whole(to, TELLS_FIRST, 0, ALL_OF, &on->out);
-    if (on->bringing == IS_TAKEN && send_switched(on, to, TELLS_KEPT, 0, ALL_OF)) return true;
-    if (on->bringing == IS_TAKEN && on->out.bytes != nothing_out.bytes && on->out.len != nothing_out.len && on->out.drops != nothing_out.drops) {
-        send_whole(to, TELLS_KEPT, 0, ALL_OF, &on->out);
+    if (on->bringing == IS_BROUGHT) send_whole(to, TELLS_FIRST, 0, switched_records(on), false, &on->out);
+    if (on->bringing == IS_TAKEN && send_switched(on, to, TELLS_KEPT, 0, switched_records(on), false)) return true;
+    if (on->bringing == IS_TAKEN && is_whole(&on->out)) {
+        send_whole(to, TELLS_KEPT, 0, switched_records(on), false, &on->out);
         is_out = true;
     } else if (on->bringing == IS_TAKEN && on->serving == NOT_SERVED && on->switched == on->taken + 1) {
         send_raw(on, to, TELLS_KEPT, 0, on->filled + 1, 0, on->sealed); /* it was on its way */
@@ -162,7 +173,7 @@ static void send_path(lane *on, int to, uint32_t place, uint64_t id, uint64_t *b
     uint32_t count;
     if (id == 0 || dspec_commit(&on->front.cpu, id, &count) != DSPEC_OK) return;
     if (behind == NULL) {
-        send_by_switch(on, to, TELLS_OPEN, place, count);
+        send_by_switch(on, to, TELLS_OPEN, place, count, true);
         return;
     }
     send_raw(on, to, TELLS_OPEN, place, on->filled, *behind, count);
@@ -190,22 +201,26 @@ static void read_lane(lane *on, int to, bool in_call) {
     setrlimit(RLIMIT_CPU, &time);
     setrlimit(RLIMIT_CORE, &none);
     prctl(PR_SET_SECCOMP, SECCOMP_MODE_STRICT);
+    if (!fits_together(on)) syscall(SYS_exit, 1);
     is_out = send_out(on, to);
-    is_out = send_switched(on, to, TELLS_KEPT, 0, ALL_OF) || is_out;
+    is_out = send_switched(on, to, TELLS_KEPT, 0, switched_records(on), false) || is_out;
+    dspec_cpu_report(&on->front.cpu, &is); /* a service changes nothing that is counted here */
+    behind = is.accepted - on->accepted;
     if (is_torn(on, is_out)) {
+        if (behind != on->standing) syscall(SYS_exit, 1);
         send_raw(on, to, TELLS_KEPT, 0, on->filled, 0, on->standing);
         send_word(to, TELLS_TORN);
-        send_by_switch(on, to, TELLS_OPEN, 0, 0); /* what stands there is no path's, and is told already */
-        send_paths(on, to, NULL);
-    } else if (send_by_switch(on, to, TELLS_KEPT, 0, ALL_OF) || on->serving != NOT_SERVED) {
-        send_by_switch(on, to, TELLS_KEPT, 0, ALL_OF);
+        send_by_switch(on, to, TELLS_OPEN, 0, 0, false); /* what stands there is no path's, and is told already */
         send_paths(on, to, NULL);
     } else {
-        dspec_cpu_report(&on->front.cpu, &is);
-        behind = is.accepted - on->accepted;
-        in_call = in_call && behind > 0;
-        send_raw(on, to, TELLS_KEPT, 0, on->filled, 0, behind - in_call); /* it may count the record that is being made */
-        if (!in_call) send_paths(on, to, &behind);
+        if (on->serving != NOT_SERVED) behind = 0;
+        if (send_by_switch(on, to, TELLS_KEPT, 0, behind, in_call) || on->serving != NOT_SERVED) {
+            send_paths(on, to, NULL);
+        } else {
+            in_call = in_call && behind > 0;
+            send_raw(on, to, TELLS_KEPT, 0, on->filled, 0, behind - in_call); /* it may count the record that is being made */
+            if (!in_call) send_paths(on, to, &behind);
+        }
     }
     send_word(to, TELLS_END);
     syscall(SYS_exit, 0);
@@ -274,20 +289,21 @@ static bool has_records(const dspec_layout *layout, const dspec_batch *batch, ui
     return at == batch->len;
 }
 
-/* A batch of the records that were meant, or none where there are others: whether it has those. A buffer counts a record in front of its bytes, so where no other bytes stand behind them one may be less. */
+/* A batch of the records that were meant, or none where there are others: whether it has those. So a file with a word changed has a lane that isn't read, and not records that it never had. */
 static bool is_meant(salvage *of, const told *one, dspec_batch *batch) {
     const dspec_layout *layout = &of->kept.layout;
     dspec_batch all = *batch;
     size_t from = 0, to;
     uint64_t count;
-    if (one->count == ALL_OF) return true;
     batch->len = 0;
     if (dspec_folder_skips(layout, &all, &from, one->behind) != one->behind) return false;
     to = from;
-    count = dspec_folder_skips(layout, &all, &to, one->count);
-    if (one->is_part != 0 ? count != one->count : count + 1 < one->count || to != all.len) return false;
+    count = dspec_folder_skips(layout, &all, &to, one->is_part != 0 ? one->count : UINT64_MAX);
+    if (one->is_part != 0 ? count != one->count : to != all.len) return false;
+    if (one->may_differ != 0 ? count + 1 < one->count || count > one->count + 1 : count != one->count) return false;
     all.len = to;
-    if (one->count > 0) dspec_folder_part_of(&of->kept.folder, layout, &all, &from, UINT64_MAX, batch);
+    if (one->is_part == 0) *batch = all;
+    else if (count > 0) dspec_folder_part_of(&of->kept.folder, layout, &all, &from, UINT64_MAX, batch);
     return batch->bytes != NULL;
 }
 

@@ -83,6 +83,7 @@ void lane_write(body *of, lane *on) {
     if (on->out.len > 0 || on->out.drops > 0) dspec_folder_take(&of->folder, &of->layout, &on->out);
     __atomic_store_n(&on->bringing, WAS_BROUGHT, __ATOMIC_RELEASE);
     dspec_give_back(&on->consumer, 0);
+    on->given++;
     __atomic_store_n(&on->bringing, NOT_OUT, __ATOMIC_RELEASE);
 }
 

@@ -1,5 +1,5 @@
 /* Files that dspec_salvage can't trust: `salvage FILE FOLDER COUNT SEED`. FILE is what a killed tracer left. Each time one word of it is changed, or the head or a page is random bytes, or the
- * file ends early; half of the changed heads have a sum that fits. dspec_salvage has to come back, with a word where it answers false, and never with more kept records than there are. */
+ * file ends early; half of the changed heads have a sum that fits. dspec_salvage has to come back, with a word where it answers false, and else with no more kept records than there are. */
 #define _GNU_SOURCE
 #include "dice.h"
 
@@ -102,7 +102,7 @@ int main(int count, char **words) {
         is_whole = dspec_salvage(path, out, &told);
         answered[is_whole]++;
         unreadable += told.unreadable;
-        if ((!is_whole && told.why[0] == 0) || told.kept > most) {
+        if (is_whole ? told.kept > most : told.why[0] == 0) {
             printf("%" PRIu64 ": %d, '%s', %" PRIu64 " of %" PRIu64 " kept\n", i, is_whole, told.why, told.kept, most);
             return 1;
         }
