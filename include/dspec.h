@@ -106,7 +106,7 @@ typedef enum dspec_status {
     DSPEC_NO_PACKET = 24,    /* no packet of the batch is left */
     DSPEC_BAD_CLOCK = 25,    /* the next record's stamp is before the last of each of 64 files: the CPU's stamps aren't those of one clock */
     DSPEC_TOO_LONG = 26,     /* a packet of 2^60 bytes or more */
-    DSPEC_BAD_KIND = 27,     /* what numbers mean that is none of 0, 1 and 2 */
+    DSPEC_BAD_KIND = 27,     /* what numbers mean that is none of 0 to 4, or no word of a text */
     DSPEC_BAD_IDENTITY = 28, /* the name of a machine or of a program that can't be shown */
 
     /* What became of a call, as its CPU's report counts it. */

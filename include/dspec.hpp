@@ -18,6 +18,7 @@
 #include <span>
 #include <stdexcept>
 #include <string>
+#include <string_view>
 #include <system_error>
 #include <tuple>
 #include <type_traits>
@@ -26,6 +27,7 @@
 #include "dspec.h"
 #include "dspec_ctf.h"
 #include "dspec_reader.h"
+#include "dspec_text.h"
 
 namespace dspec {
 
@@ -39,24 +41,90 @@ inline void check(dspec_status status) {
     if (status != DSPEC_OK) throw error(status);
 }
 
-/* What a field can be: an integer, an enumeration, a bool or a floating point number of 1, 2, 4 or 8 bytes. */
-template <typename T>
-concept field = (std::integral<T> || std::is_enum_v<T> || std::floating_point<T>) &&
-                (sizeof(T) == 1 || sizeof(T) == 2 || sizeof(T) == 4 || sizeof(T) == 8);
+/* A text of 8, 16, 24, 32, 40 or 48 bytes, which is so many fields of eight bytes (dspec_text.h has its rules). */
+template <std::size_t bytes> struct text {
+    static_assert(bytes % 8 == 0 && bytes >= 8 && bytes <= DSPEC_MAX_TEXT, "a text has 8, 16, 24, 32, 40 or 48 bytes");
+    std::uint64_t words[bytes / 8] = {};
+
+    text() = default;
+    /* Of more bytes it has the first, up to a character's border. */
+    template <std::convertible_to<std::string_view> Text> text(const Text &of) noexcept {
+        const std::string_view all = of;
+        dspec_text_put(words, bytes / 8, all.data(), all.size());
+    }
+
+    /* The bytes in front of its first zero, which are this value's. */
+    std::string_view view() const noexcept {
+        const dspec_text in = dspec_text_in(words, bytes / 8);
+        return {in.bytes, in.len};
+    }
+    /* Whether nothing of it was cut; false of one that fills it too. */
+    bool whole() const noexcept { return words[bytes / 8 - 1] >> 56 == 0; }
+    friend bool operator==(const text &, const text &) = default;
+};
 
 namespace detail {
+
+template <typename T> inline constexpr bool is_text = false;
+template <std::size_t bytes> inline constexpr bool is_text<text<bytes>> = true;
+
+} /* namespace detail */
+
+/* What a field can be: an integer, an enumeration, a bool or a floating point number of 1, 2, 4 or 8 bytes, or a text. */
+template <typename T>
+concept field = detail::is_text<T> || ((std::integral<T> || std::is_enum_v<T> || std::floating_point<T>) &&
+                                       (sizeof(T) == 1 || sizeof(T) == 2 || sizeof(T) == 4 || sizeof(T) == 8));
+
+/* What the numbers 0, 1, .. of a type are called, which a trace shows beside them: a program says it of an enumeration of its own, in front of the probes that have it as a field.
+ *
+ *     enum class outcome : std::uint8_t { done, aborted, slow };
+ *     template <> inline constexpr std::array<const char *, 3> dspec::labels<outcome>{"done", "aborted", "slow"};
+ */
+template <typename T> inline constexpr std::array<const char *, 0> labels{};
+
+namespace detail {
+
+template <typename T> inline constexpr std::size_t label_count = labels<T>.size();
+template <typename T> inline constexpr dspec_labels labels_of{labels<T>.data(), &label_count<T>};
 
 template <std::size_t bytes>
 using unsigned_of = std::conditional_t<bytes == 1, std::uint8_t,
                                        std::conditional_t<bytes == 2, std::uint16_t, std::conditional_t<bytes == 4, std::uint32_t, std::uint64_t>>>;
 
-/* The bits of a value with zeros above them, so that a negative number fits its field, and a float keeps its bits. */
+/* The bits of a number with zeros above them, so that a negative one fits its field, and a float keeps its bits. */
 template <field T> constexpr std::uint64_t bits(T value) noexcept { return std::bit_cast<unsigned_of<sizeof(T)>>(value); }
 
-/* The value of these bits. */
-template <field T> constexpr T value(std::uint64_t number) noexcept {
-    if constexpr (std::same_as<T, bool>) return number != 0;
-    else return std::bit_cast<T>(static_cast<unsigned_of<sizeof(T)>>(number));
+/* The value of the bits that begin here. */
+template <field T> constexpr T value(const std::uint64_t *at) noexcept {
+    if constexpr (is_text<T>) {
+        T made;
+        for (std::size_t i = 0; i < sizeof(T) / 8; i++) made.words[i] = at[i];
+        return made;
+    } else if constexpr (std::same_as<T, bool>) return *at != 0;
+    else return std::bit_cast<T>(static_cast<unsigned_of<sizeof(T)>>(*at));
+}
+
+/* How many fields of a schema each of these is, and all in front of one. */
+template <field T> inline constexpr std::size_t spread = (sizeof(T) + 7) / 8;
+template <field... Fields> inline constexpr std::size_t all_spread = (std::size_t{0} + ... + spread<Fields>);
+template <field... Fields> constexpr auto starts() noexcept {
+    std::array<std::size_t, sizeof...(Fields) + 1> all{};
+    std::size_t at = 0, place = 0;
+    ((all[place++] = at, at += spread<Fields>), ...);
+    all[place] = at;
+    return all;
+}
+
+/* How many bytes each field of the schema has; one number more, so that there is one. */
+template <field... Fields> constexpr auto widths() noexcept {
+    std::array<std::uint8_t, all_spread<Fields...> + 1> all{};
+    [[maybe_unused]] std::size_t at = 0;
+    [[maybe_unused]] const auto put = [&](std::size_t bytes) {
+        for (; bytes > 8; bytes -= 8) all[at++] = 8;
+        all[at++] = static_cast<std::uint8_t>(bytes);
+    };
+    (put(sizeof(Fields)), ...);
+    return all;
 }
 
 /* What a handle holds is let go; a CPU and the consumer go home, and can't where the handle is empty. */
@@ -64,11 +132,17 @@ template <typename Handle> void leave(Handle *handle) noexcept { dspec_drop(hand
 template <> inline void leave(dspec_cpu *handle) noexcept { dspec_cpu_home(handle); }
 template <> inline void leave(dspec_consumer *handle) noexcept { dspec_consumer_home(handle); }
 
-/* The signature of fields: how many bytes each has, four bits a field, the first lowest. */
-template <typename... Fields> constexpr std::uint32_t signature() noexcept {
-    std::uint32_t word = 0, at = 0;
-    ((word |= static_cast<std::uint32_t>(sizeof(Fields)) << at, at += 4), ...);
+/* The signature of fields: how many bytes each of the schema's has, four bits a field, the first lowest. */
+template <field... Fields> constexpr std::uint32_t signature() noexcept {
+    std::uint32_t word = 0;
+    for (std::size_t i = all_spread<Fields...>; i > 0; i--) word = word << 4 | widths<Fields...>()[i - 1];
     return word;
+}
+
+/* Where a value of so many bytes stands that comes behind so many. */
+constexpr std::size_t place_from(std::size_t end, std::size_t bytes) noexcept {
+    const std::size_t width = bytes < 8 ? bytes : 8;
+    return (end + width - 1) / width * width;
 }
 
 /* The text of a record in words, each field at the next multiple of its width behind the EPID's four bytes. */
@@ -80,21 +154,24 @@ template <typename... Fields> struct packed {
     /* How many words there are: known by the fields. */
     static constexpr std::size_t count() noexcept {
         std::size_t at = 4;
-        ((at = (at + sizeof(Fields) - 1) / sizeof(Fields) * sizeof(Fields) + sizeof(Fields)), ...);
+        ((at = place_from(at, sizeof(Fields)) + sizeof(Fields)), ...);
         return (at + 7) / 8;
     }
 
 private:
-    template <typename T> constexpr void put(T value) noexcept {
-        end = (end + sizeof(T) - 1) / sizeof(T) * sizeof(T);
-        words[end / 8] |= bits(value) << 8 * (end % 8);
+    template <typename T> constexpr void put(const T &value) noexcept {
+        end = place_from(end, sizeof(T));
+        if constexpr (is_text<T>) {
+            for (std::size_t i = 0; i < sizeof(T) / 8; i++) words[end / 8 + i] = value.words[i];
+        } else words[end / 8] |= bits(value) << 8 * (end % 8);
         end += sizeof(T);
     }
 };
 
 /* What numbers of a type mean, as a trace's metadata says it. */
 template <field T> constexpr std::uint8_t kind() noexcept {
-    if constexpr (std::floating_point<T>) return DSPEC_KIND_FLOAT;
+    if constexpr (is_text<T>) return DSPEC_KIND_TEXT;
+    else if constexpr (std::floating_point<T>) return DSPEC_KIND_FLOAT;
     else if constexpr (std::integral<T> && !std::same_as<T, bool>) return std::is_signed_v<T> ? DSPEC_KIND_SIGNED : DSPEC_KIND_UNSIGNED;
     else return DSPEC_KIND_UNSIGNED;
 }
@@ -123,9 +200,10 @@ public:
 
 /* An enabling with its fields in its type: what it is called with is converted as an argument of a function is. */
 template <field... Fields> struct probe {
-    static_assert(sizeof...(Fields) <= DSPEC_MAX_FIELDS, "a record has at most eight fields");
-    static constexpr std::size_t fields = sizeof...(Fields);
-    /* How many bytes each field has, four bits a field, the first lowest. */
+    static_assert(detail::all_spread<Fields...> <= DSPEC_MAX_FIELDS, "a record has at most eight fields; a text is one for each eight bytes");
+    /* Of the schema: a text is one for each eight bytes. */
+    static constexpr std::size_t fields = detail::all_spread<Fields...>;
+    /* How many bytes each of them has, four bits a field, the first lowest. */
     static constexpr std::uint32_t signature = detail::signature<Fields...>();
 
     std::uint32_t epid = 0; /* 0 of a probe that wasn't enabled, whose records are DSPEC_BAD_RECORD */
@@ -141,7 +219,8 @@ template <field... Fields> struct probe {
 
 private:
     template <std::size_t... places> static std::tuple<Fields...> read_all(const dspec_record &record, std::index_sequence<places...>) noexcept {
-        return {detail::value<Fields>(record.values[places])...};
+        [[maybe_unused]] constexpr auto starts = detail::starts<Fields...>();
+        return {detail::value<Fields>(&record.values[starts[places]])...};
     }
 };
 
@@ -153,9 +232,9 @@ public:
     schema() { check(dspec_schema_new(get())); }
 
     template <field... Fields> probe<Fields...> enable() {
-        static constexpr std::array<std::uint8_t, sizeof...(Fields) + 1> widths{sizeof(Fields)..., 0};
+        static constexpr auto widths = detail::widths<Fields...>();
         probe<Fields...> made;
-        check(dspec_layout_enable(&layout_, get(), widths.data(), sizeof...(Fields), &made.epid));
+        check(dspec_layout_enable(&layout_, get(), widths.data(), made.fields, &made.epid));
         return made;
     }
 
@@ -504,10 +583,15 @@ class names {
 public:
     /* Adds the next probe's, and as many fields' as it has. */
     template <field... Fields> names &add(probe<Fields...>, const char *event, std::initializer_list<const char *> fields) noexcept {
-        static constexpr std::array<std::uint8_t, sizeof...(Fields) + 1> kinds{detail::kind<Fields>()..., 0};
+        static constexpr std::array<std::uint8_t, sizeof...(Fields) + 1> kinds{detail::kind<Fields>()..., 0}, bytes{sizeof(Fields)..., 1};
+        static constexpr std::array<const dspec_labels *, sizeof...(Fields) + 1> labels{&detail::labels_of<Fields>..., nullptr};
         std::size_t at = 0;
         dspec_names_event(&names_, event);
-        for (const char *field : fields) dspec_names_field(&names_, field, at < sizeof...(Fields) ? kinds[at++] : kinds.back());
+        for (const char *field : fields) {
+            dspec_names_wide(&names_, field, kinds[at], bytes[at]);
+            dspec_names_labels(&names_, labels[at]);
+            if (at < sizeof...(Fields)) at++;
+        }
         return *this;
     }
     const dspec_names *get() const noexcept { return &names_; }

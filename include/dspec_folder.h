@@ -69,19 +69,75 @@ DSPEC_INLINE bool dspec_folder_fails(dspec_folder *folder, dspec_status status, 
     return false;
 }
 
+/* Bytes at the end of others, of which only those stand there that have room. */
+typedef struct dspec_label_text_ {
+    char *bytes;
+    size_t size, len;
+} dspec_label_text_;
+
+DSPEC_INLINE void dspec_label_adds_(dspec_label_text_ *to, const char *bytes, size_t len) DSPEC_NOEXCEPT {
+    if (to->len + len <= to->size) memcpy(to->bytes + to->len, bytes, len);
+    to->len += len;
+}
+
+/* The line of a field whose numbers are called so, out of its line in the metadata: two tabs, its type, a space, its name, a semicolon. */
+DSPEC_INLINE void dspec_label_line_(dspec_label_text_ *to, const char *line, size_t len, const dspec_names *names, size_t at) DSPEC_NOEXCEPT {
+    const size_t behind = names->texts[at].len + 3, count = dspec_names_label_count(names, at);
+    char number[32];
+    if (count == 0 || len < behind + 2 || memchr(line, '[', len) != NULL || memcmp(line, "\t\tfloating_point", 16) == 0) {
+        dspec_label_adds_(to, line, len);
+        return;
+    }
+    dspec_label_adds_(to, "\t\tenum : ", 9);
+    dspec_label_adds_(to, line + 2, len - behind - 2);
+    dspec_label_adds_(to, " { ", 3);
+    for (size_t i = 0; i < count; i++) {
+        const char *label = names->labels[at]->texts[i];
+        const int digits = snprintf(number, sizeof number, "\" = %zu, ", i);
+        dspec_label_adds_(to, "\"", 1);
+        dspec_label_adds_(to, label, strlen(label));
+        dspec_label_adds_(to, number, DSPEC_AS(size_t, digits));
+    }
+    dspec_label_adds_(to, "}", 1);
+    dspec_label_adds_(to, line + len - behind, behind);
+}
+
+/* Puts the text of a trace's metadata, as dspec_ctf_metadata has made it of these names, with their labels into a room of so many bytes: how many it has, and where these are more
+ * only some of them stand there. */
+DSPEC_INLINE size_t dspec_labels_put(const dspec_names *names, const char *text, size_t len, char *room, size_t size) DSPEC_NOEXCEPT {
+    static const char front[] = "\tfields := struct {\n";
+    dspec_label_text_ to = { room, size, 0 };
+    size_t at = 0;
+    bool within = false;
+    for (size_t begin = 0, next; begin < len; begin = next) {
+        const char *line = text + begin, *end = DSPEC_AS(const char *, memchr(line, '\n', len - begin));
+        next = end == NULL ? len : DSPEC_AS(size_t, end - text) + 1;
+        within = within && line[0] == '\t' && next - begin > 1 && line[1] == '\t';
+        if (within && at < names->count) dspec_label_line_(&to, line, next - begin, names, at++);
+        else dspec_label_adds_(&to, line, next - begin);
+        if (next - begin != sizeof front - 1 || memcmp(line, front, sizeof front - 1) != 0) continue;
+        within = true;
+        at++;
+    }
+    return to.len;
+}
+
 /* Has the text of `metadata`. */
 DSPEC_INLINE dspec_status dspec_folder_text(dspec_folder *folder, dspec_schema *schema, const dspec_identity *identity, const dspec_names *names) DSPEC_NOEXCEPT {
     dspec_status status;
-    size_t needed = 4096;
+    const char *made;
+    size_t needed = 4096, at;
     do {
         if (!dspec_folder_grows(&folder->room, &folder->size, needed)) return DSPEC_NO_MEMORY;
         status = dspec_ctf_metadata(schema, identity, names->texts, names->count, names->kinds, names->kind_count, folder->room, folder->size, &needed);
     } while (status == DSPEC_TOO_SMALL);
     if (status != DSPEC_OK) return status;
-    folder->text = DSPEC_AS(char *, calloc(needed + 1, 1));
+    if (dspec_names_refused(names, &at) != NULL) return DSPEC_BAD_NAME;
+    made = DSPEC_AS(const char *, DSPEC_AS(const void *, folder->room));
+    folder->text_size = dspec_labels_put(names, made, needed, NULL, 0);
+    folder->text = DSPEC_AS(char *, calloc(folder->text_size + 1, 1));
     if (folder->text == NULL) return DSPEC_NO_MEMORY;
-    memcpy(folder->text, folder->room, needed);
-    folder->text_size = needed;
+    dspec_labels_put(names, made, needed, folder->text, folder->text_size);
     return DSPEC_OK;
 }
 

@@ -20,12 +20,21 @@ typedef struct dspec_text {
 #define DSPEC_KIND_UNSIGNED 0u /* themselves */
 #define DSPEC_KIND_SIGNED 1u   /* a signed number of as many bytes as the field has */
 #define DSPEC_KIND_FLOAT 2u    /* a float in a field of 4 bytes, a double in one of 8 */
+#define DSPEC_KIND_TEXT 3u     /* the first eight bytes of a text (dspec_text.h) */
+#define DSPEC_KIND_TEXT_NEXT 4u     /* and its next eight; they have no name of their own */
 
-/* The names of events in the order of their EPIDs, behind each event's those of its fields; and what the fields' numbers mean. All zeros at
+/* What the numbers 0, 1, .. of a field are called: of each 1 to 255 bytes of printable ASCII without quotes and backslashes. The texts stay the caller's. */
+typedef struct dspec_labels {
+    const char *const *texts;
+    const size_t *count; /* how many they are when the trace begins; NULL: none */
+} dspec_labels;
+
+/* The names of events in the order of their EPIDs, behind each event's those of its fields; what the fields' numbers mean, and what they are called. All zeros at
  * first. The texts stay the caller's. `over` says that there was no room for one: a schema has at most 64 events of 8 fields. */
 typedef struct dspec_names {
     dspec_text texts[DSPEC_MAX_ENABLINGS * (DSPEC_MAX_FIELDS + 1)];
     bool events[DSPEC_MAX_ENABLINGS * (DSPEC_MAX_FIELDS + 1)]; /* whether the text is an event's */
+    const dspec_labels *labels[DSPEC_MAX_ENABLINGS * (DSPEC_MAX_FIELDS + 1)]; /* of a field's name; NULL: it has none */
     uint8_t kinds[DSPEC_MAX_ENABLINGS * DSPEC_MAX_FIELDS];
     size_t count;
     size_t kind_count;
@@ -46,15 +55,43 @@ DSPEC_INLINE void dspec_names_text(dspec_names *names, const char *text, bool is
 /* Adds the next event. */
 DSPEC_INLINE void dspec_names_event(dspec_names *names, const char *event) DSPEC_NOEXCEPT { dspec_names_text(names, event, true); }
 
-/* Adds the next field of the event that was added last. */
-DSPEC_INLINE void dspec_names_field(dspec_names *names, const char *field, uint8_t kind) DSPEC_NOEXCEPT {
+DSPEC_INLINE void dspec_names_kind(dspec_names *names, uint8_t kind) DSPEC_NOEXCEPT {
     if (names->kind_count == sizeof names->kinds) {
         names->over = true;
         return;
     }
     names->kinds[names->kind_count] = kind;
     names->kind_count++;
+}
+
+/* Adds the next field of the event that was added last. */
+DSPEC_INLINE void dspec_names_field(dspec_names *names, const char *field, uint8_t kind) DSPEC_NOEXCEPT {
+    dspec_names_kind(names, kind);
     dspec_names_text(names, field, false);
+}
+
+/* The same of a field of a probe, which has so many bytes: a text that is of several words of the schema's has one name. */
+DSPEC_INLINE void dspec_names_wide(dspec_names *names, const char *field, uint8_t kind, size_t bytes) DSPEC_NOEXCEPT {
+    dspec_names_field(names, field, kind);
+    for (; bytes > 8; bytes -= 8) dspec_names_kind(names, DSPEC_KIND_TEXT_NEXT);
+}
+
+/* Says what the numbers of the field that was added last are called; of a float and of a text that isn't told. */
+DSPEC_INLINE void dspec_names_labels(dspec_names *names, const dspec_labels *labels) DSPEC_NOEXCEPT {
+    if (names->count > 0 && !names->over) names->labels[names->count - 1] = labels;
+}
+
+/* How many labels the name at a place has. */
+DSPEC_INLINE size_t dspec_names_label_count(const dspec_names *names, size_t at) DSPEC_NOEXCEPT {
+    const dspec_labels *labels = names->labels[at];
+    return labels == NULL || labels->count == NULL ? 0 : *labels->count;
+}
+
+DSPEC_INLINE bool dspec_label_is_shown(const char *label) DSPEC_NOEXCEPT {
+    const size_t len = strlen(label);
+    for (size_t i = 0; i < len; i++)
+        if (label[i] < ' ' || label[i] > '~' || label[i] == '"' || label[i] == '\\') return false;
+    return len >= 1 && len <= 255;
 }
 
 DSPEC_INLINE bool dspec_text_is(const dspec_text *one, const dspec_text *other) DSPEC_NOEXCEPT {
@@ -87,6 +124,8 @@ DSPEC_INLINE const char *dspec_name_refused(const dspec_names *names, size_t at)
     if (name->len > 255) return "longer than 255 bytes";
     if (!dspec_word_is_identifier(name)) return "not a letter or an underscore and then letters, digits and underscores";
     if (dspec_word_is_reserved(name)) return "a word that the trace's metadata keeps for itself";
+    for (size_t i = 0; i < dspec_names_label_count(names, at); i++)
+        if (!dspec_label_is_shown(names->labels[at]->texts[i])) return "a label that isn't 1 to 255 bytes of printable ASCII without quotes and backslashes";
     for (size_t i = at; i > 0; i--) {
         if (names->events[i - 1] == names->events[at] && dspec_text_is(&names->texts[i - 1], name)) return "the name of another event, or of another field of this one";
         if (names->events[i - 1] && !names->events[at]) return NULL;

@@ -1,7 +1,7 @@
 /* dspec_tracer.h: a tracer in a box, for C11 and C++17 on Linux: lanes for any number of threads, a consumer's thread, a trace in a folder, and the paths of
  * a thread that crashes. C++ has dspec_tracer.hpp over it. The calls that it makes of dspec.h are proved; what is told here was tested, and isn't proved.
  *
- *     DSPEC_PROBE(query, uint64_t, request, uint32_t, micros);      as of dspec_probe.h, in a header too: one probe for all files of a program
+ *     DSPEC_PROBE(query, uint64_t, request, uint32_t, micros);      as of dspec_probe.h, in a header too: one probe for all files of a program; fields may be texts, and have labels
  *
  *     dspec_tracer_start(&tracer, "folder", NULL, DSPEC_PROBES(query))
  *     dspec_path path = dspec_path_begin(&tracer);                  on any thread
@@ -35,6 +35,7 @@
 #define DSPEC_TRACER_H
 
 #include "dspec.h"
+#include "dspec_names.h"
 
 #ifndef __cplusplus
 #include "dspec_probe.h"
@@ -114,7 +115,7 @@ typedef struct dspec_event {
     uint64_t claims[DSPEC_MAX_TRACERS];
 } dspec_event;
 
-/* What a tracer wants of an event: its name, and of its n fields their names, widths in bytes and kinds (dspec_names.h). */
+/* What a tracer wants of an event: its name, and of its n fields their names, widths in bytes and kinds (dspec_names.h). A text is one field here, of 8 to 48 bytes. */
 typedef struct dspec_enabling {
     dspec_event *event;
     const char *name;
@@ -122,6 +123,7 @@ typedef struct dspec_enabling {
     const uint8_t *widths;
     const uint8_t *kinds;
     size_t n;
+    const dspec_labels *const *labels; /* of each field; NULL: none has any (dspec_labels.h) */
 } dspec_enabling;
 
 /* Starts a tracer into a folder, which is made where it isn't there and may have no trace yet. options may be NULL. events ends with NULL: at most 64, and 63 beside
@@ -192,33 +194,35 @@ uint64_t dspec_tracer_now(void) DSPEC_NOEXCEPT;
 
 #ifndef __cplusplus
 
-#define DSPEC_PROBE_TEXT_(AT, TYPE, NAME) #NAME,
-#define DSPEC_PROBE_KINDS_(AT, TYPE, NAME) DSPEC_KIND_OF(TYPE),
+#define DSPEC_PROBE_TEXT_(PROBE, TYPE, NAME) #NAME,
+#define DSPEC_PROBE_KINDS_(PROBE, TYPE, NAME) DSPEC_KIND_OF(TYPE),
+#define DSPEC_PROBE_ALL_LABELS_(PROBE, TYPE, NAME) &dspec_labels_of_##PROBE##_dspec_##NAME,
 
 /* How many words a record's text takes: its fields stand in it as in a struct behind the EPID. */
-#define DSPEC_PROBE_WORDS_(...) ((sizeof(struct { uint32_t dspec_epid_; DSPEC_PROBE_EACH_(DSPEC_PROBE_FIELD_, __VA_ARGS__) }) + 7) / 8)
+#define DSPEC_PROBE_WORDS_(...) ((sizeof(struct { uint32_t dspec_epid_; DSPEC_PROBE_EACH_(DSPEC_PROBE_FIELD_, dspec_, __VA_ARGS__) }) + 7) / 8)
 
 /* What DSPEC_PROBE declares beside the rest, where this header stands before it: the event, which is one for all files, and the two functions. */
 #undef DSPEC_PROBE_MORE_
-#define DSPEC_PROBE_MORE_(PROBE, ...)                                                                                                                  \
-    __attribute__((weak)) dspec_event dspec_event_of_##PROBE;                                                                                          \
-    static const char *const dspec_fields_of_##PROBE[] = { DSPEC_PROBE_EACH_(DSPEC_PROBE_TEXT_, __VA_ARGS__) };                                        \
-    static const uint8_t dspec_widths_of_##PROBE[] = { DSPEC_PROBE_EACH_(DSPEC_PROBE_WIDTH_, __VA_ARGS__) };                                           \
-    static const uint8_t dspec_kinds_of_##PROBE[] = { DSPEC_PROBE_EACH_(DSPEC_PROBE_KINDS_, __VA_ARGS__) };                                            \
-    __attribute__((unused)) static const dspec_enabling dspec_enabling_of_##PROBE = {                                                                  \
-        &dspec_event_of_##PROBE, #PROBE, dspec_fields_of_##PROBE, dspec_widths_of_##PROBE, dspec_kinds_of_##PROBE, sizeof dspec_widths_of_##PROBE      \
-    };                                                                                                                                                 \
-    DSPEC_PROBE_CALL_ dspec_status PROBE##_in(dspec_path *dspec_path_ DSPEC_PROBE_EACH_(DSPEC_PROBE_ARGUMENT_, __VA_ARGS__)) {                         \
-        uint64_t dspec_words_[DSPEC_PROBE_WORDS_(__VA_ARGS__)] = { 0 };                                                                                \
-        size_t dspec_end_ = 4;                                                                                                                         \
-        DSPEC_PROBE_EACH_(DSPEC_PROBE_PACK_, __VA_ARGS__)                                                                                              \
-        return dspec_path_record(dspec_path_, &dspec_event_of_##PROBE, dspec_words_, (dspec_end_ + 7) / 8);                                            \
-    }                                                                                                                                                  \
-    DSPEC_PROBE_CALL_ dspec_status PROBE##_now(dspec_tracer *dspec_tracer_ DSPEC_PROBE_EACH_(DSPEC_PROBE_ARGUMENT_, __VA_ARGS__)) {                    \
-        uint64_t dspec_words_[DSPEC_PROBE_WORDS_(__VA_ARGS__)] = { 0 };                                                                                \
-        size_t dspec_end_ = 4;                                                                                                                         \
-        DSPEC_PROBE_EACH_(DSPEC_PROBE_PACK_, __VA_ARGS__)                                                                                              \
-        return dspec_tracer_record(dspec_tracer_, &dspec_event_of_##PROBE, dspec_words_, (dspec_end_ + 7) / 8);                                        \
+#define DSPEC_PROBE_MORE_(PROBE, ...)                                                                                                                                      \
+    __attribute__((weak)) dspec_event dspec_event_of_##PROBE;                                                                                                              \
+    static const char *const dspec_fields_of_##PROBE[] = { DSPEC_PROBE_EACH_(DSPEC_PROBE_TEXT_, PROBE, __VA_ARGS__) };                                                     \
+    static const uint8_t dspec_widths_of_##PROBE[] = { DSPEC_PROBE_EACH_(DSPEC_PROBE_WIDTH_, PROBE, __VA_ARGS__) };                                                        \
+    static const uint8_t dspec_kinds_of_##PROBE[] = { DSPEC_PROBE_EACH_(DSPEC_PROBE_KINDS_, PROBE, __VA_ARGS__) };                                                         \
+    static const dspec_labels *const dspec_labels_of_##PROBE[] = { DSPEC_PROBE_EACH_(DSPEC_PROBE_ALL_LABELS_, PROBE, __VA_ARGS__) };                                       \
+    __attribute__((unused)) static const dspec_enabling dspec_enabling_of_##PROBE = {                                                                                      \
+        &dspec_event_of_##PROBE, #PROBE, dspec_fields_of_##PROBE, dspec_widths_of_##PROBE, dspec_kinds_of_##PROBE, sizeof dspec_widths_of_##PROBE, dspec_labels_of_##PROBE \
+    };                                                                                                                                                                     \
+    DSPEC_PROBE_CALL_ dspec_status PROBE##_in(dspec_path *dspec_path_ DSPEC_PROBE_EACH_(DSPEC_PROBE_ARGUMENT_, PROBE, __VA_ARGS__)) {                                      \
+        uint64_t dspec_words_[DSPEC_PROBE_WORDS_(__VA_ARGS__)] = { 0 };                                                                                                    \
+        size_t dspec_end_ = 4;                                                                                                                                             \
+        DSPEC_PROBE_EACH_(DSPEC_PROBE_PACK_, PROBE, __VA_ARGS__)                                                                                                           \
+        return dspec_path_record(dspec_path_, &dspec_event_of_##PROBE, dspec_words_, (dspec_end_ + 7) / 8);                                                                \
+    }                                                                                                                                                                      \
+    DSPEC_PROBE_CALL_ dspec_status PROBE##_now(dspec_tracer *dspec_tracer_ DSPEC_PROBE_EACH_(DSPEC_PROBE_ARGUMENT_, PROBE, __VA_ARGS__)) {                                 \
+        uint64_t dspec_words_[DSPEC_PROBE_WORDS_(__VA_ARGS__)] = { 0 };                                                                                                    \
+        size_t dspec_end_ = 4;                                                                                                                                             \
+        DSPEC_PROBE_EACH_(DSPEC_PROBE_PACK_, PROBE, __VA_ARGS__)                                                                                                           \
+        return dspec_tracer_record(dspec_tracer_, &dspec_event_of_##PROBE, dspec_words_, (dspec_end_ + 7) / 8);                                                            \
     }
 
 /* The events of so many probes, at most 64, for dspec_tracer_start: DSPEC_PROBES(query, reply). */

@@ -22,8 +22,9 @@ namespace dspec {
 
 /* An event of a program. It stays where it is, and outlives each tracer that it is handed to; the texts stay the caller's. */
 template <field... Fields> class event {
-    static_assert(sizeof...(Fields) >= 1 && sizeof...(Fields) <= DSPEC_MAX_FIELDS, "an event has one to eight fields");
+    static_assert(sizeof...(Fields) >= 1 && detail::all_spread<Fields...> <= DSPEC_MAX_FIELDS, "an event has one to eight fields; a text is one for each eight bytes");
     static constexpr std::array<std::uint8_t, sizeof...(Fields)> widths_{sizeof(Fields)...}, kinds_{detail::kind<Fields>()...};
+    static constexpr std::array<const dspec_labels *, sizeof...(Fields)> labels_{&detail::labels_of<Fields>...};
     dspec_event at_{};
     std::array<const char *, sizeof...(Fields)> fields_;
     dspec_enabling enabling_;
@@ -33,7 +34,7 @@ public:
     template <std::convertible_to<const char *>... Names>
         requires(sizeof...(Names) == sizeof...(Fields))
     constexpr explicit event(const char *name, Names... fields) noexcept
-        : fields_{fields...}, enabling_{&at_, name, fields_.data(), widths_.data(), kinds_.data(), sizeof...(Fields)} {}
+        : fields_{fields...}, enabling_{&at_, name, fields_.data(), widths_.data(), kinds_.data(), sizeof...(Fields), labels_.data()} {}
     event(const event &) = delete;
     event &operator=(const event &) = delete;
 

@@ -41,8 +41,8 @@ typedef struct dspec_tracer_seat {
 #define DSPEC_TRACER_NONE_ 1u
 
 /* A number that no other thread has or had, and not 0. A handler may look at it: it stands where the thread's memory is, and is never made at its first use. That room is scarce where a library is loaded
- * late. The number in the name goes up with each change of what is laid out here, so that a program which was compiled with another one finds no library. */
-extern __thread uint32_t dspec_tracer_token_1 __attribute__((tls_model("initial-exec")));
+ * late. The number in the name goes up with each change of what is laid out here or in dspec_tracer.h, so that a program which was compiled with another one finds no library. */
+extern __thread uint32_t dspec_tracer_token_2 __attribute__((tls_model("initial-exec")));
 
 /* Behind a record for which a path's speculation, or a lane, had no room. Of the first: whether it has some now, in the call on the path's lane. */
 bool dspec_path_turn(dspec_path *path) DSPEC_NOEXCEPT;
@@ -73,7 +73,7 @@ DSPEC_INLINE char *dspec_tracer_thread_(void) DSPEC_NOEXCEPT {
 #if defined(__x86_64__)
     __asm__("movq %%fs:0, %0" : "=r"(at));
 #else
-    at = DSPEC_AS(char *, DSPEC_AS(void *, &dspec_tracer_token_1));
+    at = DSPEC_AS(char *, DSPEC_AS(void *, &dspec_tracer_token_2));
 #endif
     return at;
 }
@@ -121,7 +121,7 @@ DSPEC_INLINE dspec_status dspec_tracer_put_(dspec_cpu *cpu, uint64_t claim, uint
 DSPEC_TRACER_INTO_CALLER_ bool dspec_path_try_(dspec_path *path, const dspec_event *event, const uint64_t *words, size_t n, dspec_status *status) DSPEC_NOEXCEPT {
     dspec_tracer_lane *on;
     uint64_t now;
-    if (!DSPEC_TRACER_LIKELY_(path->token == dspec_tracer_token_1)) return false;
+    if (!DSPEC_TRACER_LIKELY_(path->token == dspec_tracer_token_2)) return false;
     __asm__ volatile("" : : : "memory"); /* a handler that comes in between may begin this path: its lane is looked at behind its token */
     on = path->lane;
     __asm__("" : "+r"(on)); /* a compiler that sees that a path has no lane yet doesn't know that no thread has its token */

@@ -39,7 +39,7 @@ function put(first, rest, text, count, words, i, line) {
     count = split(text, words, " ")
     line = first
     for (i = 1; i <= count; i++) {
-        if (length(line) + length(words[i]) > 100 && line != first && line != rest) { print line; line = rest }
+        if (length(line) + 1 + length(words[i]) > 100 && line != first && line != rest) { print line; line = rest }
         line = line (line == first || line == rest ? "" : " ") words[i]
     }
     print line

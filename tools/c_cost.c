@@ -1,7 +1,9 @@
 /* One call many times, for a tool that counts instructions: `c_cost WAY BYTES NUMBER` takes a way by so many records of 4, 8 or 24
  * bytes. The ways: traced, dropped (no room is left), speculated, committed (paths of 20 records, each opened and committed), fired (by a
  * typed probe, of 8 and 24 bytes), walked (paths of 20 by a typed probe), and, of no record, service, report, ask, round (ask, service, take, give
- * back), and refused (an empty handle). It prints how many calls were answered DSPEC_OK. */
+ * back), and refused (an empty handle). Those of a typed probe with fields of eight bytes, which have 16 or 40 of them: numbers (two or five), text
+ * (one, and a text of 32 bytes that is made of so many as TEXT_BYTES says), texts (the same in paths of 20), and pairs (numbers in paths of 20). It
+ * prints how many calls were answered DSPEC_OK. */
 #include "dspec_probe.h"
 
 #include <stdio.h>
@@ -16,12 +18,18 @@ typedef struct lane {
     uint32_t epid;
     size_t n;
     uint64_t id;
+    const char *bytes;
+    size_t len;
 } lane;
 
 DSPEC_PROBE(narrow, uint32_t, a);
 DSPEC_PROBE(wide, uint8_t, a, uint16_t, b, uint32_t, c, uint64_t, d);
+DSPEC_PROBE(two, uint64_t, a, uint64_t, b);
+DSPEC_PROBE(five, uint64_t, a, uint64_t, b, uint64_t, c, uint64_t, d, uint64_t, e);
+DSPEC_PROBE(query, uint64_t, request, dspec_text32, sql);
 
 static const uint64_t values[] = { 1, 2, 3, 4 };
+static const char letters[] = "select page, visits from counts where day = 7 order by visits";
 
 static void must(dspec_status status) {
     if (status == DSPEC_OK) return;
@@ -30,16 +38,19 @@ static void must(dspec_status status) {
 }
 
 static void start(lane *l, const char *bytes) {
-    static const uint8_t four[] = { 4 }, all[] = { 1, 2, 4, 8 };
+    static const uint8_t four[] = { 4 }, all[] = { 1, 2, 4, 8 }, eights[] = { 8, 8, 8, 8, 8 };
+    const char *text_bytes = getenv("TEXT_BYTES");
     static dspec_session session;
     dspec_schema schema = DSPEC_EMPTY;
     const dspec_config config = {
         .cpus = 1, .nspec = 32, .bufsize = DSPEC_MAX_BUFFER, .specsize = DSPEC_MAX_BUFFER,
         .max_issues = DSPEC_MAX_ISSUES, .max_calls = DSPEC_MAX_CALLS, .policy = DSPEC_POLICY_SWITCH,
     };
-    l->n = strcmp(bytes, "24") == 0 ? 4 : strcmp(bytes, "8") == 0 ? 1 : 0;
+    l->n = strcmp(bytes, "24") == 0 ? 4 : strcmp(bytes, "8") == 0 ? 1 : strcmp(bytes, "16") == 0 ? 2 : strcmp(bytes, "40") == 0 ? 5 : 0;
+    l->bytes = letters;
+    l->len = text_bytes == NULL ? 0 : (size_t)atol(text_bytes);
     must(dspec_schema_new(&schema));
-    must(dspec_schema_enable(&schema, l->n == 4 ? all : four, l->n, &l->epid));
+    must(dspec_schema_enable(&schema, l->n == 4 ? all : l->n == 1 ? four : eights, l->n, &l->epid));
     must(dspec_start(&config, &schema, &session));
     must(dspec_cpu_of(&session, 0, &l->cpu));
     must(dspec_consumer_of(&session, &l->consumer));
@@ -111,6 +122,70 @@ static long walked(lane *l, long number) {
     return kept;
 }
 
+__attribute__((noinline)) static dspec_status fire_two(lane *l, uint64_t a, uint64_t b) {
+    const two_probe probe = { l->epid, 0x88 };
+    return two_trace(&probe, &l->cpu, 0, a, b);
+}
+
+__attribute__((noinline)) static dspec_status fire_five(lane *l, uint64_t a, uint64_t b, uint64_t c, uint64_t d, uint64_t e) {
+    const five_probe probe = { l->epid, 0x88888 };
+    return five_trace(&probe, &l->cpu, 0, a, b, c, d, e);
+}
+
+static long numbers(lane *l, long number) {
+    long kept = 0;
+    for (long i = 0; i < number; i++) kept += (l->n == 5 ? fire_five(l, l->id, l->id, l->id, l->id, l->id) : fire_two(l, l->id, l->id)) == DSPEC_OK;
+    return kept;
+}
+
+__attribute__((noinline)) static dspec_status fire_text(lane *l, uint64_t request, const char *bytes, size_t len) {
+    const query_probe probe = { l->epid, 0x88888 };
+    return query_trace(&probe, &l->cpu, 0, request, dspec_text32_of(bytes, len));
+}
+
+static long text(lane *l, long number) {
+    long kept = 0;
+    for (long i = 0; i < number; i++) kept += fire_text(l, l->id, l->bytes, l->len) == DSPEC_OK;
+    return kept;
+}
+
+__attribute__((noinline)) static dspec_status walk_two(lane *l, uint64_t a, uint64_t b) {
+    const two_probe probe = { l->epid, 0x88 };
+    return two_speculate(&probe, &l->cpu, l->id, 0, a, b);
+}
+
+__attribute__((noinline)) static dspec_status walk_five(lane *l, uint64_t a, uint64_t b, uint64_t c, uint64_t d, uint64_t e) {
+    const five_probe probe = { l->epid, 0x88888 };
+    return five_speculate(&probe, &l->cpu, l->id, 0, a, b, c, d, e);
+}
+
+static long pairs(lane *l, long number) {
+    uint32_t count;
+    long kept = 0;
+    for (long i = 0; i < number; i += PATH) {
+        must(dspec_speculation(&l->cpu, &l->id));
+        for (long k = 0; k < PATH; k++) kept += (l->n == 5 ? walk_five(l, l->id, l->id, l->id, l->id, l->id) : walk_two(l, l->id, l->id)) == DSPEC_OK;
+        must(dspec_commit(&l->cpu, l->id, &count));
+    }
+    return kept;
+}
+
+__attribute__((noinline)) static dspec_status walk_text(lane *l, uint64_t request, const char *bytes, size_t len) {
+    const query_probe probe = { l->epid, 0x88888 };
+    return query_speculate(&probe, &l->cpu, l->id, 0, request, dspec_text32_of(bytes, len));
+}
+
+static long texts(lane *l, long number) {
+    uint32_t count;
+    long kept = 0;
+    for (long i = 0; i < number; i += PATH) {
+        must(dspec_speculation(&l->cpu, &l->id));
+        for (long k = 0; k < PATH; k++) kept += walk_text(l, l->id, l->bytes, l->len) == DSPEC_OK;
+        must(dspec_commit(&l->cpu, l->id, &count));
+    }
+    return kept;
+}
+
 static long served(lane *l, long number) {
     bool sealed;
     uint32_t settled;
@@ -157,7 +232,7 @@ static const struct way {
     long (*take)(lane *l, long number);
 } ways[] = {
     { "traced", traced }, { "dropped", dropped }, { "speculated", speculated }, { "committed", committed },
-    { "fired", fired }, { "walked", walked }, { "round", rounds },
+    { "fired", fired }, { "walked", walked }, { "numbers", numbers }, { "text", text }, { "pairs", pairs }, { "texts", texts }, { "round", rounds },
     { "service", served }, { "report", reported }, { "ask", asked }, { "refused", refused },
 };
 

@@ -32,11 +32,17 @@ static const char *escaped(struct naming *naming, const char *name) {
     return naming->escaped[naming->count++];
 }
 
-static dspec_status enable(body *of, const dspec_enabling *one, uint32_t *epid, struct naming *naming) {
-    dspec_status status = dspec_layout_enable(&of->layout, &of->schema, one->widths, one->n, epid);
+/* claim: what its records claim (dspec_put). */
+static dspec_status enable(body *of, const dspec_enabling *one, uint64_t *claim, struct naming *naming) {
+    uint32_t epid, signature;
+    dspec_status status = dspec_probe_enable(&of->layout, &of->schema, one->widths, one->n, &epid, &signature);
     if (status != DSPEC_OK) return status;
+    *claim = (uint64_t)signature << 32 | epid;
     dspec_names_event(&naming->names, escaped(naming, one->name));
-    for (size_t i = 0; i < one->n; i++) dspec_names_field(&naming->names, escaped(naming, one->fields[i]), one->kinds[i]);
+    for (size_t i = 0; i < one->n; i++) {
+        dspec_names_wide(&naming->names, escaped(naming, one->fields[i]), one->kinds[i], one->widths[i]);
+        if (one->labels != NULL) dspec_names_labels(&naming->names, one->labels[i]);
+    }
     return DSPEC_OK;
 }
 
@@ -45,15 +51,11 @@ static dspec_status enable_crash(body *of, struct naming *naming) {
     static const char *const fields[] = { "signal", "code", "address", "thread", "paths", "stuck" };
     static const uint8_t widths[] = { 4, 4, 8, 4, 4, 4 };
     static const uint8_t kinds[] = { DSPEC_KIND_SIGNED, DSPEC_KIND_SIGNED, DSPEC_KIND_UNSIGNED, DSPEC_KIND_UNSIGNED, DSPEC_KIND_UNSIGNED, DSPEC_KIND_UNSIGNED };
-    const dspec_enabling own = { NULL, "dspec_crash", fields, widths, kinds, sizeof widths };
-    return enable(of, &own, &of->epid_of_crash, naming);
-}
-
-/* The widths of its fields, four bits each, the first lowest, above its EPID (dspec_put). */
-static uint64_t claim_of(const dspec_enabling *one, uint32_t epid) {
-    uint64_t claim = epid;
-    for (size_t i = 0; i < one->n; i++) claim |= (uint64_t)one->widths[i] << (32 + 4 * i);
-    return claim;
+    const dspec_enabling own = { NULL, "dspec_crash", fields, widths, kinds, sizeof widths, NULL };
+    uint64_t claim = 0;
+    dspec_status status = enable(of, &own, &claim, naming);
+    of->epid_of_crash = (uint32_t)claim;
+    return status;
 }
 
 /* The events that the tracer was handed, each with what its records claim in this tracer. */
@@ -62,11 +64,11 @@ dspec_status enable_all(body *of, const dspec_enabling *const *events, struct na
     if (status == DSPEC_OK) status = dspec_schema_stamp(&of->schema);
     of->layout.stamped = true;
     for (size_t i = 0; status == DSPEC_OK && events[i] != NULL; i++) {
-        uint32_t epid = 0;
-        status = enable(of, events[i], &epid, naming);
+        uint64_t claim = 0;
+        status = enable(of, events[i], &claim, naming);
         if (status != DSPEC_OK) break;
         of->events[i] = events[i];
-        STORE(&events[i]->event->claims[of->slot], claim_of(events[i], epid));
+        STORE(&events[i]->event->claims[of->slot], claim);
     }
     if (status == DSPEC_OK && !of->options.no_crash) status = enable_crash(of, naming);
     return status;

@@ -39,7 +39,7 @@ static bool note(lane *on, dspec_path *path) {
         if (one->id != 0) continue;
         one->saved = one->waits = one->has_last = false;
         one->older = one->cut = 0;
-        STORE(&one->token, dspec_tracer_token_1);
+        STORE(&one->token, dspec_tracer_token_2);
         __atomic_store_n(&one->id, path->id, __ATOMIC_RELEASE);
         path->place = (uint16_t)place;
         return true;
@@ -57,7 +57,7 @@ static bool open_on(lane *on, dspec_path *path, bool own) {
     }
     path->lane = &on->front;
     path->own = own;
-    path->token = own ? dspec_tracer_token_1 : 0;
+    path->token = own ? dspec_tracer_token_2 : 0;
     return true;
 }
 
@@ -116,7 +116,7 @@ static dspec_status begin(body *of, seat *me, dspec_path *path, const dspec_even
 static bool adopt(lane *on, const dspec_path *path) {
     open_path *one = &on->open[path->place];
     if (one->id != path->id) return false;
-    STORE(&one->token, dspec_tracer_token_1);
+    STORE(&one->token, dspec_tracer_token_2);
     return true;
 }
 
@@ -126,7 +126,7 @@ static dspec_status go_on(seat *me, dspec_path *path, const dspec_event *event, 
     dspec_status status = DSPEC_VOID;
     if (!lane_enter(me, on)) return DSPEC_STOPPED;
     if (adopt(on, path)) {
-        path->token = path->own && path->lane == me->own ? dspec_tracer_token_1 : 0;
+        path->token = path->own && path->lane == me->own ? dspec_tracer_token_2 : 0;
         status = put_on(on, path, event, words, n);
     } else {
         is_over(path);
@@ -351,8 +351,8 @@ void path_ends_with_thread(body *of, seat *me) {
     for (uint32_t i = 0; i < of->count; i++) {
         lane *on = &of->lanes[i];
         uint32_t found;
-        if (!has_path_of(on, dspec_tracer_token_1) || !lane_enter(me, on)) continue;
-        found = throw_away(on, dspec_tracer_token_1);
+        if (!has_path_of(on, dspec_tracer_token_2) || !lane_enter(me, on)) continue;
+        found = throw_away(on, dspec_tracer_token_2);
         lane_leave(me, on);
         __atomic_fetch_sub(&on->front.state, found * USER, __ATOMIC_SEQ_CST);
     }

@@ -50,6 +50,9 @@ typedef struct salvage {
     uint64_t brought_before[DSPEC_MAX_LANES + 1]; /* of each lane's batch that was being brought */
     writing kept, open;
     uint8_t bytes[MOST_BYTES], with_path[MOST_BYTES + 64];
+    const char *texts[SURVIVE_LABELS]; /* the labels that the head tells, */
+    size_t counts[DSPEC_MAX_ENABLINGS * DSPEC_MAX_FIELDS];
+    dspec_labels labels[DSPEC_MAX_ENABLINGS * DSPEC_MAX_FIELDS]; /* and those of each event's fields */
 } salvage;
 
 static bool fail(salvage *of, const char *what, const char *why) {
@@ -62,9 +65,11 @@ static bool fail(salvage *of, const char *what, const char *why) {
 static bool is_text(const char *text, size_t size) { return text[0] != 0 && memchr(text, 0, size) != NULL; }
 
 static bool is_event(const saved_event *event) {
-    bool is = is_text(event->name, sizeof event->name) && event->count >= 1 && event->count <= DSPEC_MAX_FIELDS;
+    bool is = is_text(event->name, sizeof event->name) && event->count >= 1 && event->count <= event->words && event->words <= DSPEC_MAX_FIELDS;
+    uint32_t named = 0;
     for (uint32_t i = 0; is && i < event->count; i++) is = is_text(event->fields[i], sizeof event->fields[0]);
-    return is;
+    for (uint32_t i = 0; is && i < event->words; i++) named += event->kinds[i] != DSPEC_KIND_TEXT_NEXT;
+    return is && named == event->count && event->kinds[0] != DSPEC_KIND_TEXT_NEXT;
 }
 
 /* Whether the numbers of a head are those of a file that this library makes. */
@@ -80,6 +85,23 @@ static bool fits(const saved_head *head, uint64_t size) {
     return is;
 }
 
+/* Finds the labels of all fields: whether they stand as they are told. */
+static bool find_labels(salvage *of) {
+    const saved_head *head = of->head;
+    size_t texts = 0, at = 0;
+    for (uint32_t i = 0; i < head->events_count * DSPEC_MAX_FIELDS; i++) {
+        of->counts[i] = head->events[i / DSPEC_MAX_FIELDS].labels[i % DSPEC_MAX_FIELDS];
+        of->labels[i] = (dspec_labels){ of->texts + texts, &of->counts[i] };
+        for (size_t k = 0; k < of->counts[i]; k++) {
+            const char *end = at < sizeof head->labels ? memchr(head->labels + at, 0, sizeof head->labels - at) : NULL;
+            if (end == NULL) return false;
+            of->texts[texts++] = head->labels + at;
+            at = (size_t)(end - head->labels) + 1;
+        }
+    }
+    return true;
+}
+
 static bool read_head(salvage *of, const char *path) {
     struct stat is;
     saved_head *head = of->head;
@@ -93,7 +115,7 @@ static bool read_head(salvage *of, const char *path) {
     if (head->magic != SURVIVE_MAGIC) return fail(of, path, "it is no memory of a tracer");
     if (head->version != SURVIVE_VERSION || memchr(head->build, 0, sizeof head->build) == NULL || strcmp(head->build, dspec_build()) != 0)
         return fail(of, path, "it is of another version of the library, or of another build, which alone reads it");
-    if (head->sum != saved_sum(head) || !fits(head, (uint64_t)is.st_size)) return fail(of, path, "its head is damaged");
+    if (head->sum != saved_sum(head) || !fits(head, (uint64_t)is.st_size) || !find_labels(of)) return fail(of, path, "its head is damaged");
     if (head->salvaged != 0) return fail(of, path, "it was salvaged before");
     return true;
 }
@@ -249,6 +271,19 @@ static const char *named(writing *to, uint32_t at, const char *prefix, const cha
     return to->texts[at];
 }
 
+static void name_fields(const salvage *of, dspec_names *names, uint32_t at) {
+    const saved_event *event = &of->head->events[at];
+    uint32_t named = 0;
+    for (uint32_t i = 0; i < event->words; i++) {
+        if (event->kinds[i] == DSPEC_KIND_TEXT_NEXT) {
+            dspec_names_kind(names, DSPEC_KIND_TEXT_NEXT);
+            continue;
+        }
+        dspec_names_field(names, event->fields[named], event->kinds[i]);
+        dspec_names_labels(names, &of->labels[at * DSPEC_MAX_FIELDS + named++]);
+    }
+}
+
 /* A trace of the events that the head tells, each by a name with this in front. */
 static bool begin(salvage *of, writing *to, const char *name, const char *prefix) {
     static const uint8_t widths[] = { 4, 4, 4 };
@@ -266,9 +301,9 @@ static bool begin(salvage *of, writing *to, const char *name, const char *prefix
     if (status == DSPEC_OK) status = dspec_schema_stamp(&to->schema);
     for (uint32_t i = 0; status == DSPEC_OK && i < head->events_count; i++) {
         const saved_event *event = &head->events[i];
-        status = dspec_layout_enable(&to->layout, &to->schema, event->widths, event->count, &epid);
+        status = dspec_layout_enable(&to->layout, &to->schema, event->widths, event->words, &epid);
         dspec_names_event(&to->names, named(to, i, prefix, event->name));
-        for (uint32_t k = 0; k < event->count; k++) dspec_names_field(&to->names, event->fields[k], event->kinds[k]);
+        name_fields(of, &to->names, i);
     }
     if (status == DSPEC_OK && prefix[0] != 0 && dspec_layout_enable(&to->layout, &to->schema, widths, 3, &to->epid_of_path) == DSPEC_OK) {
         dspec_names_event(&to->names, "undecided_path");

@@ -81,7 +81,7 @@ static crash *post(body *of, int signal, const siginfo_t *info) {
         one->code = info->si_code;
         one->address = info->si_code > 0 ? (uint64_t)(uintptr_t)info->si_addr : 0;
         one->at = dspec_tracer_now();
-        one->token = dspec_tracer_token_1;
+        one->token = dspec_tracer_token_2;
         if (of->here != NULL) of->here(one->here);
         one->thread = (uint32_t)syscall(SYS_gettid);
         ADD(&one->serial, 1);

@@ -42,10 +42,11 @@ static dspec_status bytes_of(const dspec_tracer_options *options, const dspec_en
     const dspec_config config = lane_config(options);
     dspec_schema schema = DSPEC_EMPTY;
     dspec_status status = dspec_schema_new(&schema);
+    dspec_layout layout = { .stamped = true };
     size_t each = 0;
-    uint32_t epid;
+    uint32_t epid, signature;
     if (status == DSPEC_OK) status = dspec_schema_stamp(&schema);
-    for (size_t i = 0; status == DSPEC_OK && events != NULL && events[i] != NULL; i++) status = dspec_schema_enable(&schema, events[i]->widths, events[i]->n, &epid);
+    for (size_t i = 0; status == DSPEC_OK && events != NULL && events[i] != NULL; i++) status = dspec_probe_enable(&layout, &schema, events[i]->widths, events[i]->n, &epid, &signature);
     if (status == DSPEC_OK) status = dspec_memory_for(&config, &schema, &each);
     dspec_schema_drop(&schema);
     *bytes = 64 + (uint64_t)each * (options->lanes + 1);
@@ -134,24 +135,40 @@ body *survive_make(const char *folder, const dspec_tracer_options *options, cons
     return of;
 }
 
-/* Adds a name to the events that the head tells: an event's, or the next field's of the last one. */
-static void tell_name(saved_head *head, const dspec_names *names, size_t at, size_t *fields) {
+/* How many labels of the name at a place the head tells behind the bytes that it has: all, or where they have no room none. */
+static uint16_t tell_labels(saved_head *head, const dspec_names *names, size_t at, size_t *bytes) {
+    const size_t count = dspec_names_label_count(names, at);
+    size_t end = *bytes;
+    for (size_t i = 0; i < count && end <= sizeof head->labels; i++) end += strlen(names->labels[at]->texts[i]) + 1;
+    if (end > sizeof head->labels || count > UINT16_MAX) return 0;
+    for (size_t i = 0; i < count; i++) {
+        const char *label = names->labels[at]->texts[i];
+        memcpy(head->labels + *bytes, label, strlen(label) + 1);
+        *bytes += strlen(label) + 1;
+    }
+    return (uint16_t)count;
+}
+
+/* Adds a name to the events that the head tells: an event's, or the next one's of the last event's fields, with the kinds of its words. */
+static void tell_name(saved_head *head, const dspec_names *names, size_t at, size_t *kinds, size_t *bytes) {
     saved_event *event;
     head->events_count += names->events[at];
     event = &head->events[head->events_count - 1];
     if (names->events[at]) {
         snprintf(event->name, sizeof event->name, "%.*s", (int)names->texts[at].len, names->texts[at].bytes);
-    } else {
-        snprintf(event->fields[event->count], sizeof event->fields[0], "%.*s", (int)names->texts[at].len, names->texts[at].bytes);
-        event->kinds[event->count++] = names->kinds[(*fields)++];
+        return;
     }
+    event->labels[event->count] = tell_labels(head, names, at, bytes);
+    snprintf(event->fields[event->count++], sizeof event->fields[0], "%.*s", (int)names->texts[at].len, names->texts[at].bytes);
+    do event->kinds[event->words++] = names->kinds[(*kinds)++];
+    while (*kinds < names->kind_count && names->kinds[*kinds] == DSPEC_KIND_TEXT_NEXT);
 }
 
 void survive_tell(body *of, const struct whose *us, const dspec_names *names) {
     saved_head *head = of->saved;
-    size_t fields = 0;
+    size_t kinds = 0, bytes = 0;
     if (head == NULL) return;
-    for (size_t i = 0; i < names->count; i++) tell_name(head, names, i, &fields);
+    for (size_t i = 0; i < names->count; i++) tell_name(head, names, i, &kinds, &bytes);
     for (uint32_t i = 0; i < head->events_count; i++) memcpy(head->events[i].widths, of->layout.of[i].widths, sizeof head->events[i].widths);
     head->pid = us->identity.pid;
     head->hertz = us->identity.hertz;

@@ -10,14 +10,15 @@
 /* The addresses that a file may have: so far apart, from the first on. */
 #define SURVIVE_FIRST UINT64_C(0x510000000000)
 #define SURVIVE_APART UINT64_C(0x1000000000)
-enum { SURVIVE_PLACES = 64, SURVIVE_VERSION = 1 };
+enum { SURVIVE_PLACES = 64, SURVIVE_VERSION = 2, SURVIVE_LABELS = 65536 };
 #define SURVIVE_MAGIC UINT64_C(0x3176697673706564)
 
-/* An event of the trace: its name and its fields'. */
+/* An event of the trace: its name and its fields', and the widths and kinds of their words, of which a text has several. */
 typedef struct saved_event {
     char name[256];
     char fields[DSPEC_MAX_FIELDS][256];
-    uint8_t widths[DSPEC_MAX_FIELDS], kinds[DSPEC_MAX_FIELDS], count;
+    uint8_t widths[DSPEC_MAX_FIELDS], kinds[DSPEC_MAX_FIELDS], count, words;
+    uint16_t labels[DSPEC_MAX_FIELDS]; /* how many each field has */
 } saved_event;
 
 /* The file's first bytes. What is behind the sum changes. */
@@ -30,6 +31,7 @@ typedef struct saved_head {
     uint64_t hertz, seconds, ticks;
     char host[256], program[256], folder[4096];
     saved_event events[DSPEC_MAX_ENABLINGS];
+    char labels[SURVIVE_LABELS]; /* those of all fields, a zero behind each */
     uint64_t sum;
     uint64_t salvaged; /* 1: dspec_salvage has read it */
 } saved_head;

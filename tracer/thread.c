@@ -11,7 +11,7 @@ __thread here dspec_here __attribute__((tls_model("initial-exec")));
 #define FREE_SEAT { .run = DSPEC_TRACER_NONE_, .plain = DSPEC_TRACER_NONE_ }
 __thread seat dspec_seats[DSPEC_MAX_TRACERS] __attribute__((tls_model("initial-exec"))) = { FREE_SEAT, FREE_SEAT, FREE_SEAT, FREE_SEAT, FREE_SEAT, FREE_SEAT, FREE_SEAT, FREE_SEAT };
 static_assert(DSPEC_MAX_TRACERS == 8, "a free seat for each");
-__thread uint32_t dspec_tracer_token_1 __attribute__((tls_model("initial-exec"))) = NO_TOKEN;
+__thread uint32_t dspec_tracer_token_2 __attribute__((tls_model("initial-exec"))) = NO_TOKEN;
 
 static pthread_key_t key;
 static bool has_key;
@@ -44,7 +44,7 @@ void stack_off(void) {
 /* The thread has no seat, and is none that has been. */
 static void forget(void) {
     for (uint32_t slot = 0; slot < DSPEC_MAX_TRACERS; slot++) dspec_seats[slot] = (seat)FREE_SEAT;
-    dspec_tracer_token_1 = NO_TOKEN;
+    dspec_tracer_token_2 = NO_TOKEN;
 }
 
 /* The thread ends: what it left undecided is thrown away, and its lanes are others'. */
@@ -73,9 +73,9 @@ void threads_in_child(void) { forget(); }
 
 /* The thread is in the tracer meanwhile, so that no handler comes in between. */
 static void attach(body *of, seat *me) {
-    if (dspec_tracer_token_1 == NO_TOKEN) dspec_tracer_token_1 = __atomic_add_fetch(&tokens, 1, __ATOMIC_RELAXED);
+    if (dspec_tracer_token_2 == NO_TOKEN) dspec_tracer_token_2 = __atomic_add_fetch(&tokens, 1, __ATOMIC_RELAXED);
     me->open = 0;
-    me->last = &of->lanes[dspec_tracer_token_1 % of->count].front;
+    me->last = &of->lanes[dspec_tracer_token_2 % of->count].front;
     if (!of->options.no_crash) stack_on();
     if (has_key) pthread_setspecific(key, &dspec_here);
     ADD(&of->threads, 1);

@@ -5,7 +5,8 @@
  *     FILES_SLOW=2000 FILES_OUT=kept LD_PRELOAD=./files.so tar -cf archive.tar folder; cat kept.*
  *
  * FILES_SLOW is in microseconds; without it no operation is slow. What is printed goes to FILES_OUT with the process's number behind it,
- * or else to standard error. An error that asks to try again is none. For Linux with glibc.
+ * or else to standard error; where FILES_TRACE names a folder, what was kept is written to one of that name and the number too, for
+ * babeltrace2. An error that asks to try again is none. For Linux with glibc.
  *
  * Threads share LANES CPUs, each behind a lock: any CPU may record for any path, so a file may be opened by one thread and closed by
  * another. Who closes a file makes a round over all CPUs, those of threads that sleep or have ended among them. What a signal's handler opens while
@@ -14,7 +15,7 @@
 #undef _FORTIFY_SOURCE
 #define _GNU_SOURCE
 
-#include "dspec.h"
+#include "dspec_ctf.h"
 #include "dspec_probe.h"
 
 #include <dirent.h>
@@ -31,11 +32,12 @@
 #include <time.h>
 #include <unistd.h>
 
-enum { LANES = 8, FILES = 1024, LETTERS = 48 };
+enum { LANES = 8, FILES = 1024 };
 
-/* Each record says of which path it is: a reader finds no other word of that. */
-DSPEC_PROBE(named, uint64_t, path, uint64_t, a, uint64_t, b, uint64_t, c, uint64_t, d, uint64_t, e, uint64_t, f);
+/* Each record says of which path it is: a reader finds no other word of that. So a name of more than 48 bytes goes over several. */
+DSPEC_PROBE(named, uint64_t, path, dspec_text48, name);
 DSPEC_PROBE(done, uint64_t, path, uint64_t, bytes, uint32_t, micros, uint32_t, error, uint8_t, what);
+DSPEC_LABELS(done, what, "open", "read", "write", "close");
 
 enum { OPENED, READ, WROTE, CLOSED };
 static const char *const WORDS[] = { "open", "read", "write", "close" };
@@ -51,6 +53,7 @@ typedef struct file {
     atomic_bool keep;
 } file;
 
+static dspec_schema schema = DSPEC_EMPTY;
 static dspec_layout known = { .stamped = true };
 static named_probe named;
 static done_probe done;
@@ -169,10 +172,9 @@ static uint64_t new_path(lane *l) {
 
 /* A text in as many records as it takes. */
 static void record_text(lane *l, uint64_t path, uint64_t begun, const char *text, size_t length) {
-    for (size_t at = 0; at < length; at += LETTERS) {
-        uint64_t w[LETTERS / 8] = { 0 };
-        memcpy(w, text + at, length - at < LETTERS ? length - at : LETTERS);
-        named_speculate(&named, &l->cpu, path, begun, path, w[0], w[1], w[2], w[3], w[4], w[5]);
+    for (size_t at = 0, piece; at < length; at += piece) {
+        piece = dspec_text_piece(text + at, length - at, sizeof(dspec_text48));
+        named_speculate(&named, &l->cpu, path, begun, path, dspec_text48_of(text + at, piece));
     }
 }
 
@@ -346,7 +348,8 @@ static void print(FILE *out, const one_of *all, size_t count) {
         const dspec_record *one = &all[i].record, *last = i == 0 ? NULL : &all[i - 1].record;
         if (last != NULL && one->values[0] != last->values[0]) fputc('\n', out);
         if (named_read(&named, one, &name)) {
-            fprintf(out, "%.*s", LETTERS, (const char *)&name.a);
+            const dspec_text text = dspec_text48_in(&name.name);
+            fprintf(out, "%.*s", (int)text.len, text.bytes);
         } else if (done_read(&done, one, &of)) {
             fprintf(out, "%s %s", last != NULL && last->epid == named.epid ? ":" : ",", WORDS[of.what & 3]);
             if (of.what == READ || of.what == WROTE) fprintf(out, " %" PRIu64 " bytes", of.bytes);
@@ -419,10 +422,24 @@ static void stop(void) {
     dspec_consumer_home(&consumer);
 }
 
+/* What was kept, as a trace in a folder, whose names are those of the probes. */
+static void write_trace(const char *prefix, dspec_closed *closed) {
+    static dspec_folder folder;
+    static dspec_names names;
+    dspec_identity identity;
+    char host[DSPEC_HOST_SIZE], path[4096];
+    snprintf(path, sizeof path, "%s.%d", prefix, (int)owner);
+    named_name(&names);
+    done_name(&names);
+    if (!dspec_identity_of_system(&identity, "files", host)) fprintf(stderr, "files: the system's clock or name isn't known\n");
+    else if (!dspec_folder_begin(&folder, path, &schema, LANES, &identity, &names) || !dspec_folder_close(&folder, &known, closed))
+        fprintf(stderr, "files: %s\n", dspec_folder_why(&folder));
+}
+
 __attribute__((destructor)) static void end(void) {
     dspec_closed closed = DSPEC_EMPTY;
     one_of *all = NULL;
-    const char *prefix = getenv("FILES_OUT");
+    const char *prefix = getenv("FILES_OUT"), *trace = getenv("FILES_TRACE");
     FILE *out = stderr;
     char name[4096];
     if (!atomic_load(&up) || inside || getpid() != owner) return;
@@ -438,14 +455,15 @@ __attribute__((destructor)) static void end(void) {
     print(out, all, count);
     report(out, &closed);
     fflush(out);
+    if (trace != NULL) write_trace(trace, &closed);
     free(all);
+    dspec_schema_drop(&schema);
     dspec_closed_drop(&closed);
 }
 
 static void child(void) { atomic_store(&up, false); }
 
 __attribute__((constructor)) static void begin(void) {
-    dspec_schema schema = DSPEC_EMPTY;
     dspec_config config = {
         .cpus = LANES, .nspec = 63, .bufsize = DSPEC_MAX_BUFFER, .specsize = 16384, .max_issues = DSPEC_MAX_ISSUES, .max_calls = DSPEC_MAX_CALLS
     };
@@ -458,7 +476,6 @@ __attribute__((constructor)) static void begin(void) {
     if (status == DSPEC_OK) status = named_enable(&named, &known, &schema);
     if (status == DSPEC_OK) status = done_enable(&done, &known, &schema);
     if (status == DSPEC_OK) status = dspec_start(&config, &schema, &session);
-    dspec_schema_drop(&schema);
     if (status == DSPEC_OK) status = dspec_consumer_of(&session, &consumer);
     for (uint32_t i = 0; i < LANES && status == DSPEC_OK; i++) {
         pthread_mutex_init(&lanes[i].lock, NULL);

@@ -1,12 +1,12 @@
 /* What speculations are for: two threads send SQLite a load of statements, and each statement's steps are recorded, as SQLite's own
  * hooks tell them. Only the steps of statements that were slow or that failed are kept; the others are thrown away, and cost no room.
- * It prints the kept paths and a report for each CPU.
+ * It prints the kept paths and a report for each CPU, and where a folder is named it writes them there too, for babeltrace2.
  *
- *     cc -std=c11 slow_sql.c $(pkg-config --cflags --libs dspec sqlite3) -lpthread && ./a.out
+ *     cc -std=c11 slow_sql.c $(pkg-config --cflags --libs dspec sqlite3) -lpthread && ./a.out [FOLDER]
  */
 #define _POSIX_C_SOURCE 200809L
 
-#include "dspec.h"
+#include "dspec_ctf.h"
 #include "dspec_probe.h"
 
 #include <inttypes.h>
@@ -22,17 +22,22 @@ enum { CPUS = 2, STATEMENTS = 400, ROWS_A_STEP = 8192 };
 /* A statement that takes longer, in nanoseconds, is kept. SQLite's own profile counts in milliseconds, so the clock is ours. */
 static const uint64_t SLOW = 1000000;
 
-/* The schema: a statement's first 8 letters; how far it has come; what SQLite returned. */
-DSPEC_PROBE(asked, uint64_t, letters);
+/* The schema: a statement, the first 48 bytes of it; how far it has come; what SQLite returned. */
+DSPEC_PROBE(asked, dspec_text48, sql);
 DSPEC_PROBE(rows, uint64_t, count);
 DSPEC_PROBE(ended, uint64_t, count);
 DSPEC_PROBE(returned, int, result);
+DSPEC_LABELS(returned, result, "ok", "error");
 static dspec_layout known;
 static asked_probe asked;
 static rows_probe rows;
 static ended_probe ended;
 static returned_probe returned;
 static uint32_t begun_epid; /* a record without fields */
+
+/* Where a folder is named, the trace in it. */
+static dspec_folder folder;
+static const char *folder_path;
 
 /* How many lanes haven't ended. */
 static atomic_int running = CPUS;
@@ -62,18 +67,6 @@ static uint64_t now(void) {
     return (uint64_t)t.tv_sec * 1000000000 + (uint64_t)t.tv_nsec;
 }
 
-/* Up to 8 letters as a number, and back: enough to tell statements apart. */
-static uint64_t letters(const char *text) {
-    uint64_t number = 0;
-    for (int i = 0; i < 8 && text[i] != '\0'; i++) number |= (uint64_t)(uint8_t)text[i] << (8 * i);
-    return number;
-}
-
-static void spell(uint64_t number, char out[9]) {
-    for (int i = 0; i < 8; i++) out[i] = (char)(number >> (8 * i) & 0xff);
-    out[8] = '\0';
-}
-
 /* SQLite's hook: each step goes to the statement's speculation. What becomes of it stands in the report, so nobody looks here. */
 static int hook(unsigned what, void *context, void *statement, void *detail) {
     lane *l = context;
@@ -98,7 +91,7 @@ static void run(lane *l, const char *sql) {
     bool sealed;
     l->rows = 0;
     if (dspec_speculation(&l->cpu, &l->id) != DSPEC_OK) l->id = 0;
-    asked_speculate(&asked, &l->cpu, l->id, begun, letters(sql));
+    asked_speculate(&asked, &l->cpu, l->id, begun, dspec_text48_of(sql, strlen(sql)));
     int result = sqlite3_exec(l->db, sql, NULL, NULL, NULL);
     uint64_t end = now();
     returned_speculate(&returned, &l->cpu, l->id, end, result);
@@ -151,15 +144,15 @@ static void print_step(const dspec_record *one, uint64_t began) {
 /* A commit copies a path whole, so that it never goes on in the next batch. */
 static void print_batch(const dspec_batch *batch) {
     uint64_t began = 0;
-    char name[9];
     dspec_record one;
     asked_values of;
+    if (folder_path != NULL && !dspec_folder_take(&folder, &known, batch)) fail("dspec_folder_take", dspec_folder_why(&folder));
     for (size_t at = 0; dspec_read(&known, batch->bytes, batch->len, &at, &one) == DSPEC_READ;) {
         if (asked_read(&asked, &one, &of)) {
             if (began != 0) putchar('\n');
             began = one.stamp;
-            spell(of.letters, name);
-            printf("cpu %" PRIu32 ": %s", batch->cpu, name);
+            const dspec_text sql = dspec_text48_in(&of.sql);
+            printf("cpu %" PRIu32 ": \"%.*s\"", batch->cpu, (int)sql.len, sql.bytes);
         } else {
             print_step(&one, began);
         }
@@ -181,6 +174,20 @@ static void consume(dspec_consumer *consumer) {
     nanosleep(&(struct timespec){ .tv_nsec = 1000000 }, NULL);
 }
 
+/* The trace's names. */
+static void begin_folder(dspec_schema *schema) {
+    static dspec_names names;
+    dspec_identity identity;
+    char host[DSPEC_HOST_SIZE];
+    asked_name(&names);
+    dspec_names_event(&names, "began");
+    rows_name(&names);
+    ended_name(&names);
+    returned_name(&names);
+    if (!dspec_identity_of_system(&identity, "slow_sql", host)) fail("dspec_identity_of_system", "refused");
+    if (!dspec_folder_begin(&folder, folder_path, schema, CPUS, &identity, &names)) fail("dspec_folder_begin", dspec_folder_why(&folder));
+}
+
 static void start(dspec_session *session) {
     dspec_schema schema = DSPEC_EMPTY;
     const dspec_config config = {
@@ -195,6 +202,7 @@ static void start(dspec_session *session) {
     OK(rows_enable(&rows, &known, &schema));
     OK(ended_enable(&ended, &known, &schema));
     OK(returned_enable(&returned, &known, &schema));
+    if (folder_path != NULL) begin_folder(&schema);
     OK(dspec_start(&config, &schema, session));
     dspec_schema_drop(&schema);
 }
@@ -213,12 +221,13 @@ static void print_report(dspec_closed *closed, uint32_t cpu) {
     printf(" lost %" PRIu64 " specdropped %" PRIu64 " void %" PRIu64 "\n", r.lost, r.specdropped, r.void_);
 }
 
-int main(void) {
+int main(int argc, char **argv) {
     static lane lanes[CPUS];
     dspec_session session = DSPEC_EMPTY;
     dspec_consumer consumer = DSPEC_EMPTY;
     dspec_closed closed = DSPEC_EMPTY;
     pthread_t threads[CPUS];
+    folder_path = argc > 1 ? argv[1] : NULL;
     start(&session);
     OK(dspec_consumer_of(&session, &consumer));
     for (uint32_t i = 0; i < CPUS; i++) {
@@ -233,6 +242,7 @@ int main(void) {
     OK(dspec_finish(&session, &closed));
     for (uint32_t i = 0; i < CPUS; i++) print_rest(&closed, i);
     for (uint32_t i = 0; i < CPUS; i++) print_report(&closed, i);
+    if (folder_path != NULL && !dspec_folder_end(&folder)) fail("dspec_folder_end", dspec_folder_why(&folder));
     dspec_closed_drop(&closed);
     return 0;
 }

@@ -5,13 +5,19 @@
 #include <pthread.h>
 #include <stdatomic.h>
 #include <stdio.h>
+#include <string.h>
 
-DSPEC_PROBE(query, uint64_t, request, uint32_t, step);
+DSPEC_PROBE(query, uint64_t, request, dspec_text32, page);
 DSPEC_PROBE(reply, uint64_t, request, int32_t, code);
 
 static dspec_tracer tracer;
 static atomic_uint requests;
 static int *volatile nowhere;
+
+static dspec_text32 page_of(unsigned request) {
+    const char *page = request % 2 == 0 ? "/orders" : "/orders/new";
+    return dspec_text32_of(page, strlen(page));
+}
 
 /* One request in a hundred fails, and request 777 reads where there is no memory. */
 static int answer(unsigned request) {
@@ -22,7 +28,7 @@ static int answer(unsigned request) {
 static void *serve(void *unused) {
     for (unsigned request; (request = atomic_fetch_add(&requests, 1) + 1) <= 1000;) {
         dspec_path path = dspec_path_begin(&tracer);
-        query_in(&path, request, 1);
+        query_in(&path, request, page_of(request));
         int code = answer(request);
         reply_in(&path, request, code);
         code != 0 ? dspec_path_keep(&path) : dspec_path_drop(&path);

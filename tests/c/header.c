@@ -1,10 +1,14 @@
 /* What dspec.h has beside the library, in C11 and in C++17: the macros for values that are spelled out, the texts, the drops. Compiled as
  * either, included twice. */
 #include "dspec_ctf.h"
+#include "dspec_labels.h"
+#include "dspec_text.h"
 #include "dspec_tracer.h"
 
 #include "dspec.h"
 #include "dspec_ctf.h"
+#include "dspec_labels.h"
+#include "dspec_text.h"
 #include "dspec_tracer.h"
 
 #include <stdio.h>

@@ -80,6 +80,32 @@ void values() {
     CHECK(!w.of_one.read(records[0]).has_value());
 }
 
+/* A text is so many fields of the schema's, and is made of whatever is a view of letters. */
+void texts() {
+    using statement = dspec::probe<std::uint8_t, dspec::text<32>, bool, dspec::text<8>>;
+    static_assert(statement::fields == 7 && statement::signature == 0x8188881);
+    dspec::schema schema;
+    const statement of = schema.enable<std::uint8_t, dspec::text<32>, bool, dspec::text<8>>();
+    dspec::session session(config, schema);
+    {
+        dspec::cpu cpu = session.cpu_of(0);
+        CHECK(cpu.trace(of, 7, "select \"page\"", true, std::string("eight")) == DSPEC_OK);
+        dspec::path path = cpu.open();
+        CHECK(path.record(of, 8, std::string_view("thirty-one letters of ASCII ...\xe2\x82\xac"), false, "12345678") == DSPEC_OK);
+        CHECK(path.commit().records == 1);
+    }
+    dspec::closed closed = session.finish();
+    const auto batch = closed.rest(0, true);
+    std::size_t at = 0;
+    for (const dspec_record &one : dspec::records(schema.layout(), batch.value())) {
+        const auto [count, sql, is_so, name] = of.read(one).value();
+        if (at++ == 0) CHECK(count == 7 && sql.view() == "select \"page\"" && sql.whole() && is_so && name == dspec::text<8>("eight"));
+        else CHECK(count == 8 && sql.view() == "thirty-one letters of ASCII ...." && !sql.whole() && !is_so && name.view() == "12345678" && !name.whole());
+    }
+    CHECK(at == 2);
+    CHECK(dspec::text<48>{}.view().empty() && dspec::text<48>{}.whole());
+}
+
 void fails_behind_a_step(dspec::cpu &cpu, number of) {
     dspec::path path = cpu.open();
     path.record(of, 1);
@@ -322,6 +348,7 @@ void refusals() {
 
 int main() {
     values();
+    texts();
     paths();
     waits();
     batches();

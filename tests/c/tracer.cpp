@@ -10,7 +10,13 @@
 namespace {
 
 enum class color : std::uint8_t { red = 1, blue = 200 };
+enum class outcome : std::uint8_t { done, aborted, slow };
 
+}
+template <> inline constexpr std::array<const char *, 3> dspec::labels<outcome>{"done", "aborted", "slow"};
+namespace {
+
+dspec::event<dspec::text<24>, outcome> said{"said", "what", "outcome"};
 dspec::event<std::uint64_t> tick{"tick", "number"};
 dspec::event<std::int16_t, float, double, bool, color> kinds{"kinds", "small", "part", "whole", "is_so", "color"};
 dspec::event<std::uint32_t, std::uint32_t> reserved{"event", "stream", "string"};
@@ -68,14 +74,15 @@ int main(int argc, char **argv) {
     if (argc < 2) return 2;
     const std::string folder = argv[1];
     {
-        dspec::tracer tracer(folder.c_str(), {}, tick, kinds, reserved);
+        dspec::tracer tracer(folder.c_str(), {}, tick, kinds, reserved, said);
         paths(tracer);
         to_another_thread(tracer);
         check(tracer.record(kinds, std::int16_t{-2}, 0.5f, -0.25, true, color::blue) == DSPEC_OK, "a record in no path");
         check(tracer.record(reserved, 1u, 2u) == DSPEC_OK, "names that are kept for the metadata");
+        check(tracer.record(said, "a \"text\" that is longer", outcome::aborted) == DSPEC_OK, "a text and a label");
         check(tracer.flush(std::chrono::seconds(10)), "a flush");
         auto [whole, report] = tracer.stop();
-        check(whole && report.accepted == 7 && report.kept == 3 && report.discarded == 3 && report.refused == 0, "what came of it");
+        check(whole && report.accepted == 8 && report.kept == 3 && report.discarded == 3 && report.refused == 0, "what came of it");
         check(tracer.record(tick, 104u) == DSPEC_STOPPED, "a record behind the stop");
     }
     bool is_refused = false;

@@ -3,8 +3,8 @@
 use crate::error::answered;
 use crate::raw::{self, Text};
 use crate::{monotonic, Error, Fields, Probe, Schema};
-use std::io;
 use std::time::{SystemTime, UNIX_EPOCH};
+use std::{io, iter};
 
 /// Whose trace it is, and of which clock its stamps are. The texts are of 1 to 255 bytes of printable ASCII without quotes and backslashes.
 #[derive(Clone, Debug, PartialEq, Eq)]
@@ -81,6 +81,8 @@ pub struct CtfNames {
     /// At which places the names of events stand.
     events: Vec<usize>,
     kinds: Vec<u8>,
+    /// Of each name what its field's numbers are called.
+    labels: Vec<&'static [&'static str]>,
 }
 
 impl CtfNames {
@@ -96,15 +98,25 @@ impl CtfNames {
         self.texts.push(event.to_owned());
         self.texts.extend(fields.iter().map(|&field| field.to_owned()));
         self.kinds.extend(F::KINDS);
+        let labels = F::LABELS.iter().copied().chain(iter::repeat(&[][..])).take(fields.len());
+        self.labels.extend(iter::once(&[][..]).chain(labels));
     }
 
     /// The first name that a trace can't have, for which [`CtfNames::metadata`] answers [`Error::Name`]: it isn't a letter or an underscore and then
     /// letters, digits and underscores, 255 at most; or the metadata keeps it for itself, as `event` or `struct`; or another event has it, or another field
-    /// of its event.
+    /// of its event; or its field has a label that isn't 1 to 255 letters of printable ASCII without quotes and backslashes.
     #[must_use]
     pub fn refused(&self) -> Option<&str> {
         let mut places = 0..self.texts.len();
-        places.find(|&place| self.stands_before(place) || is_refused(&self.texts[place])).map(|place| self.texts[place].as_str())
+        places
+            .find(|&place| self.stands_before(place) || self.has_bad_label(place) || is_refused(&self.texts[place]))
+            .map(|place| self.texts[place].as_str())
+    }
+
+    fn has_bad_label(&self, place: usize) -> bool {
+        let is_shown = |letter: u8| matches!(letter, b' '..=b'~') && letter != b'"' && letter != b'\\';
+        let is_label = |label: &&str| (1..=255).contains(&label.len()) && label.bytes().all(is_shown);
+        self.labels.get(place).is_some_and(|labels| !labels.iter().all(is_label))
     }
 
     /// Whether the name at a place is that of an event before, or of a field before of the same event.
@@ -123,6 +135,9 @@ impl CtfNames {
     ///
     /// [`Error::NoStamp`], [`Error::NoFrequency`], [`Error::Name`], [`Error::NameCount`], [`Error::Identity`], [`Error::Memory`].
     pub fn metadata(&self, schema: &Schema, identity: &CtfIdentity) -> Result<Vec<u8>, Error> {
+        if (0..self.texts.len()).any(|place| self.has_bad_label(place)) {
+            return Err(Error::Name);
+        }
         let mut room = vec![0; 4096];
         let size = match self.put(schema, identity, &mut room) {
             Err(Put::TooSmall(needed)) => {
@@ -134,11 +149,32 @@ impl CtfNames {
         match size {
             Ok(size) => {
                 room.truncate(size);
-                Ok(room)
+                Ok(self.with_labels(&room))
             }
             Err(Put::Refused(error)) => Err(error),
             Err(Put::TooSmall(_)) => Err(Error::Unknown(raw::TOO_SMALL)),
         }
+    }
+
+    /// The metadata that the library has made of these names, with what the numbers of their fields are called: in the line of a field its type becomes an
+    /// enumeration.
+    fn with_labels(&self, text: &[u8]) -> Vec<u8> {
+        let (mut out, mut place, mut within) = (Vec::new(), 0, false);
+        for line in text.split_inclusive(|&byte| byte == b'\n') {
+            within &= line.starts_with(b"\t\t");
+            match self.labels.get(place) {
+                Some(labels) if within => {
+                    out.extend(labelled(line, labels, &self.texts[place]));
+                    place += 1;
+                }
+                _ => out.extend(line),
+            }
+            if line == b"\tfields := struct {\n" {
+                within = true;
+                place += 1;
+            }
+        }
+        out
     }
 
     fn put(&self, schema: &Schema, identity: &CtfIdentity, room: &mut [u8]) -> Result<usize, Put> {
@@ -166,6 +202,23 @@ impl CtfNames {
     }
 }
 
+/// The line of a field: two tabs, its type, a space, its name, a semicolon; with its labels.
+fn labelled(line: &[u8], labels: &[&str], name: &str) -> Vec<u8> {
+    let front = line.len().saturating_sub(name.len() + 3);
+    if labels.is_empty() || front < 2 {
+        return line.to_vec();
+    }
+    let mut out = b"\t\tenum : ".to_vec();
+    out.extend(&line[2..front]);
+    out.extend(b" { ");
+    for (number, label) in labels.iter().enumerate() {
+        out.extend(format!("\"{label}\" = {number}, ").bytes());
+    }
+    out.push(b'}');
+    out.extend(&line[front..]);
+    out
+}
+
 /// Whether a trace can't have this name, as the library says of one event that is called so.
 fn is_refused(name: &str) -> bool {
     let of_one_event = || {
@@ -182,7 +235,7 @@ fn is_refused(name: &str) -> bool {
             ticks: 0,
             clock: None,
         };
-        let names = CtfNames { texts: vec![name.to_owned()], events: vec![0], kinds: Vec::new() };
+        let names = CtfNames { texts: vec![name.to_owned()], events: vec![0], ..CtfNames::default() };
         names.metadata(&schema, &identity)
     };
     of_one_event() == Err(Error::Name)

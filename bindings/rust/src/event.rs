@@ -28,7 +28,7 @@ impl<F: Fields> Event<F> {
     /// Where there isn't a name for each field, or no field; in a static the program isn't compiled then.
     #[must_use]
     pub const fn new(name: &'static str, fields: &'static [&'static str]) -> Event<F> {
-        assert!(fields.len() == F::WIDTHS.len(), "an event has a name for each field");
+        assert!(fields.len() == F::BYTES.len(), "an event has a name for each field");
         assert!(!fields.is_empty(), "an event has one to eight fields");
         Event { raw: raw::Event { claims: [const { AtomicU64::new(0) }; raw::MAX_TRACERS] }, name, fields, types: PhantomData }
     }
@@ -45,12 +45,37 @@ impl<F: Fields> AnyEvent for Event<F> {}
 pub(crate) mod private {
     use super::{raw, Event, Fields};
     use std::ffi::{c_char, CString, NulError};
+    use std::ptr;
 
     /// What a tracer wants of an event, with the texts that it points to.
     pub struct Enabling {
         pub(crate) raw: raw::TracerEnabling,
         _texts: Vec<CString>,
         _fields: Vec<*const c_char>,
+        #[allow(clippy::vec_box)] // they are pointed to
+        _labels: Vec<Box<Labels>>,
+        _all_labels: Vec<*const raw::Labels>,
+    }
+
+    /// The labels of a field, with the texts that they are.
+    struct Labels {
+        raw: raw::Labels,
+        count: usize,
+        _texts: Vec<CString>,
+        all: Vec<*const c_char>,
+    }
+
+    fn texts_of(texts: &[&'static str]) -> Result<Vec<CString>, NulError> {
+        texts.iter().map(|&text| CString::new(text)).collect()
+    }
+
+    fn labels_of(labels: &[&'static str]) -> Result<Box<Labels>, NulError> {
+        let texts = texts_of(labels)?;
+        let all = texts.iter().map(|text| text.as_ptr()).collect();
+        let raw = raw::Labels { texts: ptr::null(), count: ptr::null() };
+        let mut made = Box::new(Labels { raw, count: texts.len(), _texts: texts, all });
+        made.raw = raw::Labels { texts: made.all.as_ptr(), count: &raw const made.count };
+        Ok(made)
     }
 
     pub trait Enabled {
@@ -60,17 +85,20 @@ pub(crate) mod private {
 
     impl<F: Fields> Enabled for Event<F> {
         fn enabling(&'static self) -> Result<Enabling, NulError> {
-            let texts = [self.name].iter().chain(self.fields).map(|&text| CString::new(text)).collect::<Result<Vec<_>, _>>()?;
+            let texts = texts_of(&[&[self.name], self.fields].concat())?;
+            let labels = F::LABELS.iter().map(|labels| labels_of(labels)).collect::<Result<Vec<_>, _>>()?;
+            let all_labels: Vec<_> = labels.iter().map(|labels| &raw const labels.raw).collect();
             let fields: Vec<_> = texts[1..].iter().map(|text| text.as_ptr()).collect();
             let raw = raw::TracerEnabling {
                 event: self.at(),
                 name: texts[0].as_ptr(),
                 fields: fields.as_ptr(),
-                widths: F::WIDTHS.as_ptr().cast(),
-                kinds: F::KINDS.as_ptr(),
+                widths: F::BYTES.as_ptr(),
+                kinds: F::FIRST_KINDS.as_ptr(),
                 n: fields.len(),
+                labels: all_labels.as_ptr(),
             };
-            Ok(Enabling { raw, _texts: texts, _fields: fields })
+            Ok(Enabling { raw, _texts: texts, _fields: fields, _labels: labels, _all_labels: all_labels })
         }
     }
 }

@@ -66,12 +66,14 @@ mod ctf_names;
 mod error;
 mod event;
 mod handle;
+mod labelled;
 mod path;
 mod probe;
 mod process;
 mod raw;
 mod schema;
 mod session;
+mod text;
 pub mod tracer;
 
 pub use answers::{Decided, Epid, Opening, Report, Served, SpecId, Spoken, Traced};
@@ -84,12 +86,14 @@ pub use ctf::{CtfPacket, CtfPackets};
 pub use ctf_folder::{CtfFolder, CtfLoss, LossCause};
 pub use ctf_names::{CtfIdentity, CtfNames};
 pub use error::Error;
+pub use labelled::Labelled;
 pub use path::Path;
 pub use probe::{Field, Fields, Probe};
 #[doc(hidden)]
 pub use process::at_exit;
 pub use schema::{Schema, Width};
 pub use session::{Config, NotHome, Policy, Session};
+pub use text::Text;
 pub use tracer::Tracer;
 
 /// The library's version: major, minor and patch.

@@ -162,6 +162,14 @@ pub(crate) struct TracerEnabling {
     pub(crate) widths: *const u8,
     pub(crate) kinds: *const u8,
     pub(crate) n: usize,
+    pub(crate) labels: *const *const Labels,
+}
+
+/// What the numbers of a field are called.
+#[repr(C)]
+pub struct Labels {
+    pub(crate) texts: *const *const c_char,
+    pub(crate) count: *const usize,
 }
 
 extern "C" {

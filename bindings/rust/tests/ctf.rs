@@ -1,6 +1,6 @@
 //! Traces that a program writes: packets byte for byte, what isn't written, refusals. What bytes are due says an encoder of this test.
 
-use dspec::{Config, CtfFolder, CtfIdentity, CtfNames, CtfPackets, Error, LossCause, Probe, Schema, Session, Traced};
+use dspec::{Config, CtfFolder, CtfIdentity, CtfNames, CtfPackets, Error, LossCause, Probe, Schema, Session, Text, Traced};
 use std::fs;
 use std::path::PathBuf;
 
@@ -186,6 +186,45 @@ fn names_that_are_refused() {
     assert_eq!(refuses([&["one", "first", "first"], &["other", "a", "b"]]).as_deref(), Some("first"));
     assert_eq!(refuses([&["one", "a", "b"], &["one", "a", "b"]]).as_deref(), Some("one"));
     assert_eq!(refuses([&["one", "a", "2nd"], &["event", "a", "b"]]).as_deref(), Some("2nd"));
+}
+
+dspec::labelled! {
+    enum Outcome {
+        Done = "done",
+        Slow = "took too long",
+    }
+}
+
+dspec::labelled! {
+    enum Quoted {
+        One = "a \"quoted\" label",
+    }
+}
+
+#[test]
+fn texts_and_labels_in_metadata() {
+    let (mut schema, step) = schema();
+    let query = schema.probe::<(Text<16>, Outcome, u32, Text<8>)>().unwrap();
+    let mut names = CtfNames::new();
+    names.add(step, "step", &["number"]);
+    names.add(query, "query", &["sql", "outcome", "rows", "user"]);
+    let text = String::from_utf8(names.metadata(&schema, &identity()).unwrap()).unwrap();
+    let fields = "\t\tinteger { size = 8; align = 8; signed = false; encoding = UTF8; } sql[16];
+\t\tenum : uint8_t { \"done\" = 0, \"took too long\" = 1, } outcome;
+\t\tuint32_t rows;
+\t\tinteger { size = 8; align = 8; signed = false; encoding = UTF8; } user[8];
+\t};
+};
+";
+    assert!(text.ends_with(fields), "{text}");
+    let quoted = Schema::new().unwrap().probe::<(Quoted,)>().unwrap();
+    let mut names = CtfNames::new();
+    names.add(quoted, "quoted", &["which"]);
+    assert_eq!(names.refused(), Some("which"));
+    let mut one = Schema::new().unwrap();
+    one.stamp();
+    one.probe::<(Quoted,)>().unwrap();
+    assert_eq!(names.metadata(&one, &identity()), Err(Error::Name));
 }
 
 #[test]

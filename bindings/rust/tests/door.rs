@@ -1,8 +1,8 @@
 //! What the package's types make of the library's calls.
 
 use dspec::{
-    Closed, Config, Consumer, Cpu, Decided, Epid, Error, NotHome, Opening, Policy, Report, Schema, Served, Session, SpecId, Spoken, Traced,
-    Width,
+    Closed, Config, Consumer, Cpu, Decided, Epid, Error, NotHome, Opening, Policy, Report, Schema, Served, Session, SpecId, Spoken, Text,
+    Traced, Width,
 };
 
 /// One CPU and its consumer, over records of one field of 4 bytes: principal buffers of 8 records, speculative ones of 3.
@@ -485,4 +485,63 @@ fn what_may_go_to_other_threads() {
 #[test]
 fn versions_are_the_same() {
     assert_eq!(dspec::library_version(), (0, 1, 0));
+}
+
+dspec::labelled! {
+    /// How a request ended.
+    enum Outcome {
+        Done = "done",
+        Aborted = "aborted",
+        Slow = "slow",
+    }
+}
+
+#[test]
+fn texts_and_labels_come_back() {
+    let mut schema = Schema::new().unwrap();
+    let query = schema.probe::<(u8, Text<32>, Outcome, Text<8>)>().unwrap();
+    let whole = schema.probe::<(Text<48>, Text<16>)>().unwrap();
+    let number = schema.enable(&[Width::One; 1]).unwrap();
+    let mut session = Session::start(&Config::default(), &schema).unwrap();
+    let mut cpu = session.cpu(0).unwrap();
+    let values = (7, Text::of("select \"page\"\n"), Outcome::Slow, Text::of(""));
+    let full = (Text::of_bytes(&[0xff; 48]), "sixteen letters.".into());
+    assert_eq!(query.trace(&mut cpu, 0, values), Ok(Traced::Kept));
+    let mut path = cpu.path();
+    assert_eq!(whole.record_in(&mut path, 0, full), Ok(Spoken::Kept));
+    assert_eq!(path.commit(), Decided::Copied(1));
+    // the number 3 is no outcome
+    let words: Vec<u64> = [1, 2, 3, 4, 5].into_iter().chain([3, 6]).collect();
+    assert_eq!(cpu.trace(query.epid(), 0, &words), Ok(Traced::Kept));
+    assert_eq!(cpu.trace(number, 0, &[1]), Ok(Traced::Kept));
+    drop(cpu);
+    let closed = session.finish().unwrap();
+    let last = closed.rest(0).unwrap().last;
+    let records: Vec<_> = (&last).into_iter().collect();
+    assert_eq!(records[0].values(), [7, u64::from_le_bytes(*b"select \""), u64::from_le_bytes(*b"page\"\n\0\0"), 0, 0, 2, 0]);
+    assert_eq!((query.read(&records[0]), whole.read(&records[1])), (Some(values), Some(full)));
+    assert_eq!((query.read(&records[1]), query.read(&records[2]), query.read(&records[3])), (None, None, None));
+}
+
+/// Each length, and each character across the end: as many bytes as fit, up to a character's border, full stops behind.
+#[test]
+fn texts_are_cut() {
+    for letter in ["a", "ä", "€", "🙂"] {
+        for shift in 0..letter.len() {
+            let all = "x".repeat(shift) + &letter.repeat(20);
+            for end in all.char_indices().map(|(at, _)| at) {
+                let (made, text) = (Text::<16>::of(&all[..end]), &all[..end]);
+                let mut cut = end.min(16);
+                while !text.is_char_boundary(cut) {
+                    cut -= 1;
+                }
+                let dots = if end > 16 { 16 - cut } else { 0 };
+                assert_eq!(made.to_string(), text[..cut].to_owned() + &"...."[..dots]);
+                assert_eq!(made.is_whole(), end < 16);
+            }
+        }
+    }
+    assert_eq!(Text::<8>::of_bytes(&[0x80; 9]).as_bytes(), [0x80; 8]);
+    assert_eq!(Text::<8>::of_bytes(b"a\0b").as_bytes(), b"a");
+    assert_eq!(format!("{:?} {:>4}", Text::<8>::of("a\n"), Text::<8>::of("b")), "\"a\\n\"    b");
 }

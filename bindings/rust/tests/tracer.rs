@@ -1,7 +1,7 @@
 //! The tracer in a box: its counts, its refusals, and what stays of a process that crashes.
 
 use dspec::tracer::{Event, Options, Path, Recorded};
-use dspec::Tracer;
+use dspec::{Text, Tracer};
 use std::path::PathBuf;
 use std::process::Command;
 use std::sync::atomic::{AtomicBool, AtomicU32, Ordering};
@@ -13,6 +13,14 @@ static STEP: Event<(u64, i8)> = Event::new("step", &["request", "number"]);
 #[allow(clippy::type_complexity)] // one of each kind
 static WIDE: Event<(u8, u16, u32, u64, i64, f32, f64, bool)> = Event::new("wide", &["a", "b", "c", "event", "e", "f", "g", "h"]);
 static OTHER: Event<(u32,)> = Event::new("other", &["number"]);
+static QUERY: Event<(u64, Text<32>, Outcome)> = Event::new("query", &["request", "sql", "outcome"]);
+
+dspec::labelled! {
+    enum Outcome {
+        Done = "done",
+        Slow = "slow",
+    }
+}
 
 /// A folder that goes at the end.
 struct Folder(PathBuf);
@@ -93,6 +101,22 @@ fn kept_paths_are_in_the_folder_and_no_other() {
     assert_eq!((report.kept, report.thrown, report.accepted, report.discarded, report.threads), (1, 2, 3, 2, 1));
     assert_eq!((report.not_written, report.code, report.why().as_str()), (0, 0, ""));
     assert_eq!((again.report.kept, again.report.accepted), (1, 3));
+}
+
+#[test]
+fn texts_and_labels() {
+    let folder = Folder::new();
+    let tracer = Tracer::start(&folder.0, &Options::default(), &[&QUERY, &OTHER]).unwrap();
+    let mut path = tracer.path();
+    assert_eq!(path.record(&QUERY, (1, "select \"page\"\n".into(), Outcome::Slow)), Recorded::Kept);
+    assert!(path.keep());
+    assert_eq!(tracer.record(&QUERY, (2, Text::of("a text that has more than thirty €"), Outcome::Done)), Recorded::Kept);
+    assert!(tracer.stop().whole);
+    let due = [
+        "{ request = 1, sql = \"select \\\"page\\\"\\n\", outcome = ( \"slow\" : container = 1 ) }",
+        "{ request = 2, sql = \"a text that has more than thirty\", outcome = ( \"done\" : container = 0 ) }",
+    ];
+    shows(&folder, "query", &due);
 }
 
 #[test]

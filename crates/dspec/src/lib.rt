@@ -65,7 +65,7 @@ pub use dspec_deeds::{
     Config, Decided, Opening, Policy, Report, Served, Spoken, StartFault, Traced,
 };
 pub use dspec_probe::{
-    Fields, Kind, Meaning, Probe, ProbeFault, ProbeNames, Probes, Told, ToldField, Value,
+    Fields, Kind, Meaning, Probe, ProbeFault, ProbeNames, Probes, Text, Told, ToldField, Value,
 };
 pub use dspec_record::{Enablings, Field, Header, Rec, Schema, SchemaFault};
 pub use dspec_ring::Batch;

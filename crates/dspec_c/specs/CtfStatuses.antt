@@ -2,6 +2,8 @@
 use Rattle.std.specs.Prelude.{ℕ}
 use Rattle.dspec_ctf.specs.declared.fault.MetadataFault.{MetadataFault}
 use Rattle.dspec_ctf.specs.declared.fault.MetadataFault.TheVariants as metadata
+use Rattle.dspec_ctf.specs.declared.fault.NameFault.{NameFault}
+use Rattle.dspec_ctf.specs.declared.fault.NameFault.TheVariants as name
 use Rattle.dspec_ctf.specs.declared.stream.PacketFault.{PacketFault}
 use Rattle.dspec_ctf.specs.declared.stream.PacketFault.TheVariants as packet
 use Rattle.dspec_ctf.specs.declared.in_memory.fault.PutFault.{PutFault}
@@ -32,10 +34,15 @@ abbrev pub needed_of : PutFault → ℕ → ℕ
 needed_of (put.TooSmall needed) was = needed
 needed_of (put.Packet fault) was = was
 
+-- a name that can't be used; no word of a text is a bad kind
+abbrev pub name_status : NameFault → ℕ
+name_status (name.Word epid place) = 27
+name_status fault = 14
+
 abbrev pub metadata_status : MetadataFault → ℕ
 metadata_status metadata.NoStamp = 12
 metadata_status metadata.NoFrequency = 13
-metadata_status (metadata.Name fault) = 14
+metadata_status (metadata.Name fault) = name_status fault
 metadata_status metadata.HostName = 28
 metadata_status metadata.ProcessName = 28
 metadata_status metadata.Memory = 7

@@ -3,11 +3,14 @@
 ghost use Rattle.std.specs.Prelude.{◌≡◌};
 ghost use Rattle.dspec_c.specs.CtfStatuses.{metadata_status, needed_of, packet_status, put_status, text_size, text_status};
 
-use dspec_ctf::{MetadataFault, PacketFault, PutFault, TextFault};
+use dspec_ctf::{MetadataFault, NameFault, PacketFault, PutFault, TextFault};
 
 pub const NO_STAMP: u32 = 12;
 
 pub const NO_PACKET: u32 = 24;
+
+/// No such kind of numbers, or no word of a text.
+const BAD_KIND: u32 = 27;
 
 /// Why a batch wasn't opened, or a packet wasn't made.
 pub fn of_packet(fault: PacketFault) -> u32
@@ -48,6 +51,7 @@ fn of_metadata(fault: MetadataFault) -> u32
     match fault {
         MetadataFault::NoStamp => NO_STAMP,
         MetadataFault::NoFrequency => 13,
+        MetadataFault::Name(NameFault::Word { .. }) => BAD_KIND,
         MetadataFault::Name(_) => 14,
         MetadataFault::HostName => 28,
         MetadataFault::ProcessName => 28,
@@ -62,7 +66,7 @@ pub fn of_text(fault: TextFault) -> u32
     match fault {
         TextFault::TooSmall(_) => 23,
         TextFault::NotText => 14,
-        TextFault::BadKind => 27,
+        TextFault::BadKind => BAD_KIND,
         TextFault::Count => 15,
         TextFault::Metadata(fault) => of_metadata(fault),
     }

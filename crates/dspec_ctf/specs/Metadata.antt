@@ -1,5 +1,5 @@
 -- Cited by calls. The metadata of a trace: text in the format's language, which says how its packets and events are laid out.
-use Rattle.std.specs.Prelude.{ℕ, ◌+◌, ◌/◌, ◌%◌, false, List, [], ◌∷◌, ◌++◌, length, take, drop, slice_get, slice_index_or, codes, decimal, Option, None}
+use Rattle.std.specs.Prelude.{ℕ, ◌+◌, ◌*◌, ◌/◌, ◌%◌, false, List, [], ◌∷◌, ◌++◌, length, take, drop, slice_get, slice_index_or, codes, decimal, Option, None, if◌then◌else◌}
 use Rattle.std.specs.Fmt.{digit_glyph}
 use Rattle.std.specs.Option.{option_map_or}
 use Rattle.std.specs.List.{flat_map, enumerate_from, range_with_len}
@@ -9,7 +9,8 @@ use Rattle.dspec_record.specs.declared.field.Field.TheVariants.{One, Two, Four, 
 use Rattle.dspec_record.specs.declared.header.Header.{Header}
 use Rattle.dspec_record.specs.declared.header.Header.TheVariants as header
 use Rattle.dspec_probe.specs.declared.kind.Kind.{Kind}
-use Rattle.dspec_probe.specs.declared.kind.Kind.TheVariants.{Unsigned, Signed, Float}
+use Rattle.dspec_probe.specs.declared.kind.Kind.TheVariants.{Unsigned, Signed, Float, Text, TextNext}
+use Rattle.dspec_probe.specs.Kinds.{is_next, name_place}
 use Rattle.dspec_probe.specs.declared.probes.ProbeNames.{ProbeNames}
 use Rattle.dspec_ctf.specs.Packets.{event_fields}
 use Rattle.dspec_ctf.specs.Names.{labels_at}
@@ -120,7 +121,7 @@ type_name Two = codes "uint16_t"
 type_name Four = codes "uint32_t"
 type_name Eight = codes "uint64_t"
 
--- The type of a number by what it means. No value of one or two bytes is a float.
+-- The type of a number by what it means. No value of one or two bytes is a float. A text has a line of its own, below.
 abbrev pub kind_type : Kind → Field → List ℕ
 kind_type Unsigned f = type_name f
 kind_type Signed One = codes "integer { size = 8; align = 8; signed = true; }"
@@ -130,6 +131,8 @@ kind_type Signed Eight = codes "integer { size = 64; align = 8; signed = true; }
 kind_type Float Four = codes "floating_point { exp_dig = 8; mant_dig = 24; align = 8; }"
 kind_type Float Eight = codes "floating_point { exp_dig = 11; mant_dig = 53; align = 8; }"
 kind_type Float f = type_name f
+kind_type Text f = type_name f
+kind_type TextNext f = type_name f
 
 -- what a number is called
 abbrev pub label_item : ℕ × List ℕ → List ℕ
@@ -156,10 +159,33 @@ numbered_lines fs = flat_map (λ p. field_line (codes "arg_" ++ decimal p.0) p.1
 abbrev pub typed_line : List ℕ → List ℕ → List ℕ
 typed_line type name = codes "\t\t" ++ type ++ codes " " ++ name ++ codes ";\n"
 
+-- the type of a text's characters
+unfoldable pub text_type : List ℕ
+text_type = codes "\t\tinteger { size = 8; align = 8; signed = false; encoding = UTF8; } "
+
+-- a text of so many bytes with its name: an array of characters
+abbrev pub text_line : ℕ → List ℕ → List ℕ
+text_line size name = text_type ++ name ++ codes "[" ++ decimal size ++ codes "];\n"
+
+-- how many next words of a text stand in front of other kinds
+abbrev pub next_in_front : List Kind → ℕ
+next_in_front [] = 0
+next_in_front (k ∷ ks) = if is_next k then 1 + next_in_front ks else 0
+
+-- how many words the text has whose first is at this place
+abbrev pub words_at : ProbeNames → ℕ → ℕ
+words_at n place = 1 + next_in_front (drop (place + 1) n.kinds)
+
+-- a field with its name, by what it means; a text's line stands at its first word
+abbrev pub kind_line : ProbeNames → ℕ → Field → Kind → List ℕ → List ℕ
+kind_line n place f TextNext name = []
+kind_line n place f Text name = text_line (8 * words_at n place) name
+kind_line n place f kind name = typed_line (labelled_type kind (labels_at n (name_place n.kinds place)) f) name
+
 -- a field that has a name, what it means and labels by its place
 unfoldable pub given_line : ProbeNames → ℕ → Field → List ℕ
 given_line n place f =
-    option_map_or (λ name. typed_line (labelled_type (slice_index_or n.kinds place Unsigned) (labels_at n place) f) name.now) (slice_get n.fields.now place) []
+    option_map_or (λ name. kind_line n place f (slice_index_or n.kinds place Unsigned) name.now) (slice_get n.fields.now (name_place n.kinds place)) []
 
 abbrev pub given_lines : ProbeNames → List Field → List ℕ
 given_lines n fs = flat_map (λ p. given_line n p.0 p.1) (enumerate_from 0 fs)

@@ -1,5 +1,5 @@
 -- Cited by calls. Which names events and fields may have, and which of them is the first that they may not.
-use Rattle.std.specs.Prelude.{ℕ, ◌+◌, ◌==◌, not, nat_le, nat_lt, Bool, true, false, ◌&&◌, ◌||◌, List, []}
+use Rattle.std.specs.Prelude.{ℕ, zero, suc, ◌+◌, ◌==◌, not, nat_le, nat_lt, Bool, true, false, ◌&&◌, ◌||◌, List, []}
 use Rattle.std.specs.Prelude.{◌∷◌, length, map, take, slice_get, slice_index_or, codes, Option, Some, None, option_and_then, if◌then◌else◌}
 use Rattle.std.specs.Option.{option_map, option_map_or}
 use Rattle.std.specs.List.{list_any, list_all, range_with_len}
@@ -8,6 +8,11 @@ use Rattle.dspec_record.specs.EnablingRows.{EnabledRows}
 use Rattle.dspec_record.specs.declared.header.Header.{Header}
 use Rattle.dspec_record.specs.declared.header.Header.TheVariants as header
 use Rattle.dspec_record.specs.declared.field.Field.{Field}
+use Rattle.dspec_record.specs.declared.field.Field.TheVariants.{One}
+use Rattle.dspec_record.specs.Layout.{width}
+use Rattle.dspec_probe.specs.Kinds.{next_words}
+use Rattle.dspec_probe.specs.declared.kind.Kind.{Kind}
+use Rattle.dspec_probe.specs.declared.kind.Kind.TheVariants.{Unsigned, Text, TextNext}
 use Rattle.dspec_ctf.specs.Packets.{event_fields}
 use Rattle.dspec_ctf.specs.declared.form.Form.{Form}
 use Rattle.dspec_ctf.specs.declared.form.Form.TheVariants.{AsTaken, ByTime}
@@ -21,7 +26,7 @@ use Rattle.dspec_ctf.specs.declared.fault.NameKind.TheVariants.{TooLong, NotAnId
 use Rattle.dspec_ctf.specs.declared.fault.MetadataFault.{MetadataFault}
 use Rattle.dspec_ctf.specs.declared.fault.MetadataFault.TheVariants.{NoStamp, NoFrequency, Name, HostName, ProcessName}
 use Rattle.dspec_ctf.specs.declared.fault.NameFault.{NameFault}
-use Rattle.dspec_ctf.specs.declared.fault.NameFault.TheVariants.{EventCount, Event, FieldCount, Field as FieldName, Label}
+use Rattle.dspec_ctf.specs.declared.fault.NameFault.TheVariants.{EventCount, Event, FieldCount, Field as FieldName, Label, Word}
 
 -- an English letter or the underscore
 unfoldable pub is_letter : ℕ → Bool
@@ -109,16 +114,43 @@ label_fault_at epid n place = option_map (λ number. Label epid place number) (f
 unfoldable pub labels_fault : ℕ → ProbeNames → Option NameFault
 labels_fault epid n = first_found (label_fault_at epid n) (range_with_len 0 (length n.fields.now))
 
--- what is wrong with the names of the fields of an event
-unfoldable pub fields_fault : Bool → ℕ → List (List ℕ) → List Field → Option NameFault
-fields_fault stamped epid names fs =
-    if length names == length fs then option_map (λ bad. FieldName epid bad.0 bad.1) (first_bad stamped names)
+-- what is wrong with the names of the fields of an event, of which so many are next words of a text and have none
+unfoldable pub fields_fault : Bool → ℕ → List (List ℕ) → ℕ → List Field → Option NameFault
+fields_fault stamped epid names next fs =
+    if length names + next == length fs then option_map (λ bad. FieldName epid bad.0 bad.1) (first_bad stamped names)
     else Some (FieldCount epid)
 
--- the same of the event at a place, and what is wrong with the labels of its fields
+-- a word of a text
+abbrev pub is_text : Kind → Bool
+is_text Text = true
+is_text TextNext = true
+is_text _ = false
+
+-- the field in front of this place is a word of a text
+abbrev pub is_text_before : List Kind → ℕ → Bool
+is_text_before kinds zero = false
+is_text_before kinds (suc place) = is_text (slice_index_or kinds place Unsigned)
+
+-- A field can mean this. A text's words have eight bytes, and a next word has one in front of it.
+abbrev pub can_mean : Kind → Bool → Bool → Bool
+can_mean Text eight before = eight
+can_mean TextNext eight before = eight && before
+can_mean _ eight before = true
+
+unfoldable pub text_fault_at : ℕ → List Kind → List Field → ℕ → Option NameFault
+text_fault_at epid kinds fs place =
+    if can_mean (slice_index_or kinds place Unsigned) (width (slice_index_or fs place One) == 8) (is_text_before kinds place) then None
+    else Some (Word epid place)
+
+unfoldable pub texts_fault : ℕ → List Kind → List Field → Option NameFault
+texts_fault epid kinds fs = first_found (text_fault_at epid kinds fs) (range_with_len 0 (length kinds))
+
+-- the same of the event at a place, and what is wrong with its texts' words and with the labels of its fields
 unfoldable pub fault_at : Bool → EnabledRows → List ProbeNames → ℕ → Option NameFault
 fault_at stamped e given place =
-    option_and_then (λ n. earlier (fields_fault stamped (place + 1) (map (λ name. name.now) n.fields.now) (event_fields e (place + 1))) (labels_fault (place + 1) n))
+    option_and_then
+    (λ n. earlier (fields_fault stamped (place + 1) (map (λ name. name.now) n.fields.now) (next_words n.kinds) (event_fields e (place + 1)))
+    (earlier (texts_fault (place + 1) n.kinds (event_fields e (place + 1))) (labels_fault (place + 1) n)))
     (slice_get given place)
 
 -- what is wrong with the names of the events, one for each enabling

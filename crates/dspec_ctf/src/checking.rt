@@ -1,10 +1,14 @@
-ghost use Rattle.std.specs.Prelude.{◌≡◌, ◌<◌, ◌≤◌, ◌^◌, length, map, IfOk, IfSome};
+ghost use Rattle.std.specs.Prelude.{◌≡◌, ◌+◌, ◌<◌, ◌≤◌, ◌^◌, length, map, IfOk, IfSome};
 ghost use Rattle.std.specs.List.{list_all, list_any, range_with_len};
 ghost use Rattle.std.specs.Str.{bytes_eq};
-ghost use Rattle.dspec_ctf.specs.Names.{is_letter, is_word_byte, begins_well, is_identifier, reserved_words, unfit, bad_name, bad_at, first_bad, first_found, is_label_byte, is_label, labels_at, bad_label_at, first_bad_label, label_fault_at, labels_fault, fields_fault, fault_at, events_fault, names_fault, has_stamp};
+ghost use Rattle.std.specs.Prelude.{◌==◌, slice_index_or};
+ghost use Rattle.dspec_record.specs.Layout.{width};
+ghost use Rattle.dspec_record.specs.declared.field.Field.TheVariants.{One};
+ghost use Rattle.dspec_ctf.specs.Names.{is_letter, is_word_byte, begins_well, is_identifier, reserved_words, unfit, bad_name, bad_at, first_bad, first_found, is_label_byte, is_label, labels_at, bad_label_at, first_bad_label, label_fault_at, labels_fault, fields_fault, is_text, is_text_before, text_fault_at, texts_fault, fault_at, events_fault, names_fault, has_stamp};
 
 use crate::printing::fields_at;
 use crate::{Form, NameFault, NameKind, Names, ProbeNames};
+use dspec_probe::{Kind, next_words};
 use dspec_record::{Enablings, Field, Header};
 use std::alloc::{AllocError, Global};
 
@@ -158,12 +162,18 @@ fn first_bad(stamped: bool, names: &[&str]) -> Option<(usize, NameKind)>
     None
 }
 
-/// What is wrong with the names of the fields of an event.
+/// What is wrong with the names of the fields of an event, of which so many are next words of a text.
 #[tactic(auto, unfolding(crate::specs::Names::fields_fault))]
-fn fields_fault(stamped: bool, epid: u32, names: &[&str], fields: &[Field]) -> Option<NameFault>
-    ensures { result ≡ fields_fault stamped epid (map (λ name. name.now) names.now) fields.now }
+fn fields_fault(
+    stamped: bool,
+    epid: u32,
+    names: &[&str],
+    next: usize,
+    fields: &[Field],
+) -> Option<NameFault>
+    ensures { result ≡ fields_fault stamped epid (map (λ name. name.now) names.now) next fields.now }
 {
-    if names.len() != fields.len() {
+    if names.len().checked_add(next) != Some(fields.len()) {
         return Some(NameFault::FieldCount { epid });
     }
     match first_bad(stamped, names) {
@@ -245,6 +255,62 @@ fn label_fault_at(epid: u32, event: &ProbeNames<'_>, place: usize) -> Option<Nam
     }
 }
 
+/// Whether this is a word of a text.
+fn is_text(kind: Kind) -> bool
+    ensures { result ≡ is_text kind }
+{
+    matches!(kind, Kind::Text | Kind::TextNext)
+}
+
+/// Whether the field in front of this place is a word of a text.
+fn is_text_before(kinds: &[Kind], place: usize) -> bool
+    requires { place < length kinds.now }
+    ensures { result ≡ is_text_before kinds.now place }
+{
+    match place.checked_sub(1) {
+        Some(before) => is_text(kinds[before]),
+        None => false,
+    }
+}
+
+/// Whether the field at a place has eight bytes.
+fn is_eight(fields: &[Field], place: usize) -> bool
+    ensures { result ≡ (width (slice_index_or fields.now place One) == 8) }
+{
+    matches!(fields.get(place), Some(Field::Eight))
+}
+
+/// The word of a text at a place, if it can't be one.
+#[tactic(auto, unfolding(crate::specs::Names::text_fault_at))]
+fn text_fault_at(epid: u32, kinds: &[Kind], fields: &[Field], place: usize) -> Option<NameFault>
+    requires { place < length kinds.now }
+    ensures { result ≡ text_fault_at epid kinds.now fields.now place }
+{
+    let fit = match kinds[place] {
+        Kind::Text => is_eight(fields, place),
+        Kind::TextNext => is_eight(fields, place) && is_text_before(kinds, place),
+        Kind::Unsigned | Kind::Signed | Kind::Float => true,
+    };
+    if fit {
+        return None;
+    }
+    Some(NameFault::Word { epid, place })
+}
+
+/// The first word of a text that can't be one.
+#[tactic(auto, unfolding(crate::specs::Names::texts_fault))]
+fn texts_fault(epid: u32, kinds: &[Kind], fields: &[Field]) -> Option<NameFault>
+    ensures { result ≡ texts_fault epid kinds.now fields.now }
+{
+    for place in 0..kinds.len() {
+        let found = text_fault_at(epid, kinds, fields, place);
+        if found.is_some() {
+            return found;
+        }
+    }
+    None
+}
+
 /// What is wrong with the labels of an event's fields.
 #[tactic(auto, unfolding(crate::specs::Names::labels_fault))]
 fn labels_fault(epid: u32, event: &ProbeNames<'_>) -> Option<NameFault>
@@ -274,7 +340,13 @@ fn fault_at(
     let Some(event) = given.get(place as usize) else {
         return None;
     };
-    let fault = fields_fault(stamped, epid, event.fields, fields_at(enablings, epid));
+    let fields = fields_at(enablings, epid);
+    let next = next_words(&event.kinds);
+    let fault = fields_fault(stamped, epid, event.fields, next, fields);
+    if fault.is_some() {
+        return fault;
+    }
+    let fault = texts_fault(epid, &event.kinds, fields);
     if fault.is_some() {
         return fault;
     }

@@ -34,10 +34,17 @@ pub enum NameFault {
         epid: u32,
         kind: NameKind,
     },
-    /// The event with this EPID doesn't have as many names as fields.
+    /// The event with this EPID doesn't have as many names as fields, where a text is one field.
     #[error("event {epid}: not a name for each field")]
     FieldCount {
         epid: u32,
+    },
+    /// The word of a text, by its event's EPID and its field's place: the field isn't of eight bytes, or it is a next word and none of the text
+    /// is in front of it.
+    #[error("event {epid}, field {place}: no word of a text")]
+    Word {
+        epid: u32,
+        place: usize,
     },
     /// A label of a field's values, by its event's EPID, the field's place and the value, from 0 on: it is empty, has more than 255
     /// bytes, or one that isn't printable ASCII, or a quote or a backslash.

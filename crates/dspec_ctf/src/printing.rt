@@ -1,12 +1,13 @@
-ghost use Rattle.std.specs.Prelude.{◌≡◌, ◌<◌, ◌^◌, ◌++◌, length, map, slice_index_or, OnOk, string_bytes};
+ghost use Rattle.std.specs.Prelude.{◌≡◌, ◌<◌, ◌≤◌, ◌+◌, ◌*◌, ◌^◌, ◌++◌, drop, length, map, slice_index_or, OnOk, string_bytes};
 ghost use Rattle.std.specs.List.{flat_map, range_with_len};
 ghost use Rattle.dspec_probe.specs.declared.kind.Kind.TheVariants.{Unsigned};
-ghost use Rattle.dspec_ctf.specs.Metadata.{type_name, kind_type, label_items, labelled_type, numbered_lines, typed_line, given_line, given_lines, stamp_line, event_name, field_lines, event_number, event_front, event_text};
+ghost use Rattle.dspec_probe.specs.Kinds.{name_place};
+ghost use Rattle.dspec_ctf.specs.Metadata.{type_name, kind_type, label_items, labelled_type, numbered_lines, typed_line, text_type, text_line, kind_line, next_in_front, words_at, given_line, given_lines, stamp_line, event_name, field_lines, event_number, event_front, event_text};
 ghost use Rattle.dspec_ctf.specs.Packets.{event_fields};
 
 use crate::checking::labels_at;
 use crate::{Form, Names, ProbeNames};
-use dspec_probe::Kind;
+use dspec_probe::{Kind, next_words};
 use dspec_record::{Enablings, Field, Header};
 use std::alloc::AllocError;
 
@@ -103,6 +104,86 @@ fn print_typed_line(
     writeln!(text, " {name};")
 }
 
+/// The type of a text's characters.
+#[tactic(auto, unfolding(crate::specs::Metadata::text_type))]
+fn text_type() -> &'static str
+    ensures { result.now ≡ text_type }
+{
+    "\t\tinteger { size = 8; align = 8; signed = false; encoding = UTF8; } "
+}
+
+/// The line of a text of so many bytes.
+fn print_text_line(text: &mut String, size: usize, name: &str) -> Result<(), AllocError>
+    ensures { OnOk result (string_bytes text.new ≡ string_bytes text.old ++ text_line size name.now) }
+{
+    text.push_str(text_type())?;
+    writeln!(text, "{name}[{size}];")
+}
+
+/// How many next words of a text stand in front of other kinds.
+fn next_in_front(kinds: &[Kind]) -> usize
+    ensures next { result ≡ next_in_front kinds.now }
+    ensures few { result ≤ length kinds.now }
+{
+    let mut next = 0;
+    for kind in kinds {
+        if *kind != Kind::TextNext {
+            return next;
+        }
+        next += 1;
+    }
+    next
+}
+
+/// How many of them stand behind a place, in front of other kinds.
+fn next_behind(kinds: &[Kind], place: usize) -> usize
+    ensures next { result ≡ next_in_front (drop (place + 1) kinds.now) }
+    ensures few { result ≤ length kinds.now }
+{
+    if place >= kinds.len() {
+        return 0;
+    }
+    next_in_front(&kinds[place + 1..])
+}
+
+/// How many words the text has whose first is at this place.
+fn words_at(event: &ProbeNames<'_>, place: usize) -> usize
+    ensures words { result ≡ words_at event.now place }
+    ensures few { result ≤ 9 }
+{
+    1 + next_behind(&event.kinds, place)
+}
+
+/// The place of a field's name among the names.
+fn name_place(kinds: &[Kind; 8], place: usize) -> usize
+    ensures { result ≡ name_place kinds.now place }
+{
+    if place >= kinds.len() {
+        return place.saturating_sub(next_words(kinds));
+    }
+    place.saturating_sub(next_words(&kinds[..=place]))
+}
+
+/// The line of a field with this name, by what it means.
+fn print_kind_line(
+    text: &mut String,
+    event: &ProbeNames<'_>,
+    place: usize,
+    field: Field,
+    name: &str,
+) -> Result<(), AllocError>
+    ensures { OnOk result (string_bytes text.new ≡ string_bytes text.old ++ kind_line event.now place field (slice_index_or event.now.kinds place Unsigned) name.now) }
+{
+    match kind_at(event, place) {
+        Kind::TextNext => Ok(()),
+        Kind::Text => print_text_line(text, 8 * words_at(event, place), name),
+        kind => {
+            let labels = labels_at(event, name_place(&event.kinds, place));
+            print_typed_line(text, kind, labels, field, name)
+        }
+    }
+}
+
 /// The line of a field that has a name by its place.
 #[tactic(auto, unfolding(crate::specs::Metadata::given_line))]
 fn print_given_line(
@@ -113,16 +194,10 @@ fn print_given_line(
 ) -> Result<(), AllocError>
     ensures { OnOk result (string_bytes text.new ≡ string_bytes text.old ++ given_line event.now place field) }
 {
-    let Some(name) = event.fields.get(place) else {
+    let Some(name) = event.fields.get(name_place(&event.kinds, place)) else {
         return Ok(());
     };
-    print_typed_line(
-        text,
-        kind_at(event, place),
-        labels_at(event, place),
-        field,
-        name,
-    )
+    print_kind_line(text, event, place, field, name)
 }
 
 /// The lines of an event's fields, with their names.

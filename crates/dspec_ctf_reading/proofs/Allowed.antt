@@ -1,65 +1,48 @@
 -- Names that the metadata may have can be read.
-use Rattle.std.proofs.Common.{◌≡◌, ◌≤◌, ◌<◌, ◌+◌, ◌-◌, ◌^◌, ◌==◌, ◌++◌, ℕ, Bool, true, false, not, List, [], length}
-use Rattle.std.proofs.Common.{map, Option, Some, None, option_map, refl, ap, sym, subst, ◌∙◌, arith, All, length-append}
+use Rattle.std.proofs.Common.{◌≡◌, ◌≤◌, ◌<◌, ◌+◌, ◌-◌, ◌*◌, ◌^◌, ◌==◌, ◌++◌, ◌∷◌, ℕ, Bool, true, false, inl, List, [], length, drop, replicate}
+use Rattle.std.proofs.Common.{map, Option, Some, None, option_map, refl, ap, sym, subst, ◌∙◌, arith, All}
 use Rattle.std.specs.Prelude.{option_and_then, slice_get, slice_index_or, codes, decimal}
 use Rattle.std.specs.Option.{option_map_or}
-use Rattle.std.specs.List.{list_all, range_with_len, enumerate_from}
-use Rattle.std.proofs.lemmas.Bool.{eqb-true, and_from}
-use Rattle.std.proofs.lemmas.List.Folds.{list_all-append}
-use Rattle.std.proofs.lemmas.Fmt.{decimal_nonempty}
+use Rattle.std.specs.List.{range_with_len, enumerate_from}
+use Rattle.std.proofs.lemmas.Bool.{eqb-true}
 use Rattle.dspec_record.specs.Layout.{width}
 use Rattle.dspec_record.specs.EnablingRows.{EnabledRows}
 use Rattle.dspec_record.specs.declared.field.Field.{Field}
+use Rattle.dspec_record.specs.declared.field.Field.TheVariants.{One}
 use Rattle.dspec_probe.specs.declared.kind.Kind.{Kind}
-use Rattle.dspec_probe.specs.declared.kind.Kind.TheVariants.{Unsigned}
+use Rattle.dspec_probe.specs.declared.kind.Kind.TheVariants.{Unsigned, Signed, Float, Text, TextNext}
+use Rattle.dspec_probe.specs.Kinds.{is_next, next_words, name_place}
 use Rattle.dspec_probe.specs.declared.probes.ProbeNames.{ProbeNames}
 use Rattle.dspec_ctf.specs.Packets.{event_fields}
-use Rattle.dspec_ctf.specs.Metadata.{type_name, labelled_type, typed_line, field_line, given_line, given_lines, event_name, field_lines}
+use Rattle.dspec_ctf.specs.Metadata.{type_name, labelled_type, typed_line, text_line, words_at, next_in_front, kind_line, field_line, given_line, given_lines, event_name, field_lines}
 use Rattle.dspec_ctf.specs.Names.{earlier, first_found, first_bad, has_stamp}
-use Rattle.dspec_ctf.specs.Names.{is_label, labels_at, first_bad_label, label_fault_at, labels_fault, fields_fault, fault_at, events_fault, names_fault}
+use Rattle.dspec_ctf.specs.Names.{labels_at, first_bad_label, label_fault_at, labels_fault, fields_fault, is_text_before, can_mean, text_fault_at, texts_fault, fault_at, events_fault, names_fault}
 use Rattle.dspec_ctf.specs.Names.{form_fault, metadata_fault, process_fault, origin_fault}
-use Rattle.dspec_ctf.specs.declared.origin.Process.{Process}
 use Rattle.dspec_ctf.specs.declared.origin.Origin.{Origin}
 use Rattle.dspec_ctf.specs.declared.names.Names.{Names}
 use Rattle.dspec_ctf.specs.declared.names.Names.TheVariants.{Numbered, Given}
 use Rattle.dspec_ctf.specs.declared.fault.NameKind.{NameKind}
 use Rattle.dspec_ctf.specs.declared.fault.NameFault.{NameFault}
-use Rattle.dspec_ctf.specs.declared.fault.NameFault.TheVariants.{FieldCount, Field as FieldName, Label, Event, EventCount}
+use Rattle.dspec_ctf.specs.declared.fault.NameFault.TheVariants.{FieldCount, Field as FieldName, Label, Word, Event, EventCount}
 use Rattle.dspec_ctf.specs.declared.fault.MetadataFault.TheVariants.{Name}
 use Rattle.dspec_ctf.specs.declared.form.Form.{Form}
 use Rattle.dspec_ctf_reading.specs.Reading.{FieldLayout}
 use Rattle.dspec_ctf_reading.specs.ReadingMetadata.{is_digit, is_word}
 use Rattle.dspec_ctf_reading.specs.Layouts.{names_by, given_name, given_for}
 use Rattle.dspec_ctf_reading.specs.ToldNumbers.{HasNumbers}
-use Rattle.dspec_ctf_reading.proofs.Scanning.{decimal-digits, list_all-weaker}
-use Rattle.dspec_ctf_reading.proofs.Lines.{IsQuotable, IsWordy, IsLine, joined-map, AreLines-map, typed-line, type-back, kind-back}
+use Rattle.dspec_ctf_reading.proofs.Lines.{IsWordy, IsPiece, joined-map, AreLines-map, typed-line, text-line}
+use Rattle.dspec_ctf_reading.proofs.FieldTypes.{IsQuotable, type-back, kind-back, no-text-type, no-text-name}
+use Rattle.dspec_ctf_reading.proofs.TextWords.{next-text, CanMean, text-within, first-none, flat, flat-ones, shape_at, piece_by, piece_at}
+use Rattle.dspec_ctf_reading.proofs.NextWords.{kind_of, name-same, name-within}
+use Rattle.dspec_ctf_reading.proofs.TextWords.{AreFit, run-none, flat-pieces, are-fit, words-few}
 use Rattle.dspec_ctf_reading.proofs.Texts.{IsTold}
 use Rattle.dspec_ctf_reading.proofs.Headings.{IsShown}
-use Rattle.dspec_ctf_reading.proofs.AllowedWords.{digit-word, earlier-none, else-none, get-some, index-map, label-fits}
+use Rattle.dspec_ctf_reading.proofs.AllowedWords.{earlier-none, get-some, index-map}
 use Rattle.dspec_ctf_reading.proofs.AllowedWords.{labels-fit, map-long, map-none, names-fit, none-found, then-none, wordy-quotable}
-
--- the process
-shown : (process : Option Process) → option_and_then process_fault process ≡ None → option_map_or (λ p. p.pid) process 0 < 2 ^ 64 → IsShown process
-unfolding process_fault IsShown
-shown None is low = tt
-shown (Some p) is low =
-    let first = else-none (not (is_label p.host.now)) _ _ is in
-    let second = else-none (not (is_label p.name.now)) _ _ first.1 in
-    (label-fits p.host.now (not-not (is_label p.host.now) first.0), (label-fits p.name.now (not-not (is_label p.name.now) second.0), low))
-  where
-    not-not : (b : Bool) → not b ≡ false → b ≡ true
-    not-not true is = refl
-    not-not false is = absurd (cc)
+use Rattle.dspec_ctf_reading.proofs.AllowedWords.{shown, numbered-wordy}
 
 -- numbered names
-numbered-wordy : (text : List ℕ) (n : ℕ) → list_all is_word text ≡ true → n < 2 ^ 64 → IsWordy (text ++ decimal n)
-unfolding IsWordy
-numbered-wordy text n fit low = (
-  list_all-append is_word text (decimal n) ∙ and_from (list_all is_word text) (list_all is_word (decimal n)) fit (list_all-weaker is_digit is_word digit-word (decimal n) (decimal-digits n low)),
-  omega (arith, decimal_nonempty n low, length-append text (decimal n)),
-)
-
-numbered-told : (e : EnabledRows) (place : ℕ) → place + 1 < 2 ^ 64 → length (event_fields e (place + 1)) ≤ 2 ^ 64 → IsTold e Numbered place
+numbered-told : (e : EnabledRows) (place : ℕ) → place + 1 < 2 ^ 64 → length (event_fields e (place + 1)) ≤ 8 → IsTold e Numbered place
 unfolding event_name field_lines is_word is_digit
 numbered-told e place low few =
     let fs : List Field = event_fields e (place + 1) in
@@ -70,9 +53,11 @@ numbered-told e place low few =
       called = wordy-quotable (codes "epid_" ++ decimal (place + 1)) (numbered-wordy (codes "epid_") (place + 1) refl low);
       fields = record {
         lines = map line (enumerate_from 0 fs);
+        pieces = map (λ p. shape p ∷ []) (enumerate_from 0 fs);
         text_is = joined-map line (enumerate_from 0 fs);
-        are = AreLines-map line shape (length fs)
-            (λ k f within. typed-line (type_name f) (codes "arg_" ++ decimal k) (width f) (kind-back Unsigned f)
+        shapes_are = sym (flat-ones shape (enumerate_from 0 fs));
+        are = AreLines-map line (λ p. shape p ∷ []) (length fs)
+            (λ k f within. typed-line (type_name f) (codes "arg_" ++ decimal k) (width f) (kind-back Unsigned f) (no-text-name f)
             (numbered-wordy (codes "arg_") k refl (omega (arith, few, within)))) 0 fs (omega arith);
       };
     }
@@ -83,24 +68,31 @@ module _ (e : EnabledRows) (given : List ProbeNames) where
   record IsFit (place : ℕ) (n : ProbeNames) : Type 0 where
     here : slice_get given place ≡ Some n
     event : IsWordy n.event.now
-    many : length n.fields.now ≡ length (event_fields e (place + 1))
+    many : length n.fields.now + next_words n.kinds ≡ length (event_fields e (place + 1))
+    can : CanMean n.kinds (event_fields e (place + 1))
     fields : (k : ℕ) → k < length n.fields.now → IsWordy (option_map_or (λ name. name.now) (slice_get n.fields.now k) [])
     labels : (k : ℕ) → k < length n.fields.now → All IsQuotable (labels_at n k)
 
 -- what `names_fault` finds of them
 fit-at : (stamped : Bool) (e : EnabledRows) (given : List ProbeNames) (place : ℕ) (n : ProbeNames) → slice_get given place ≡ Some n → IsWordy n.event.now
     → fault_at stamped e given place ≡ None → IsFit e given place n
-unfolding fault_at fields_fault labels_fault label_fault_at
+unfolding fault_at fields_fault texts_fault text_fault_at labels_fault label_fault_at
 fit-at stamped e given place n here event is =
     let names : List (List ℕ) = map (λ name. name.now) n.fields.now in
     let fs : List Field = event_fields e (place + 1) in
     let test : ProbeNames → Option NameFault =
-    λ m. earlier (fields_fault stamped (place + 1) (map (λ name. name.now) m.fields.now) (event_fields e (place + 1))) (labels_fault (place + 1) m) in
+    λ m. earlier (fields_fault stamped (place + 1) (map (λ name. name.now) m.fields.now) (next_words m.kinds) (event_fields e (place + 1)))
+    (earlier (texts_fault (place + 1) m.kinds (event_fields e (place + 1))) (labels_fault (place + 1) m)) in
     let found_is : test n ≡ None = ap (option_and_then test) (sym here) ∙ is in
-    let both = earlier-none (fields_fault stamped (place + 1) names fs) (labels_fault (place + 1) n) found_is in
+    let all = earlier-none (fields_fault stamped (place + 1) names (next_words n.kinds) fs) (earlier (texts_fault (place + 1) n.kinds fs) (labels_fault (place + 1) n)) found_is in
+    let both = earlier-none (texts_fault (place + 1) n.kinds fs) (labels_fault (place + 1) n) all.1 in
     let told : ℕ × NameKind → NameFault = λ bad. FieldName (place + 1) bad.0 bad.1 in
-    let counted : ((length names == length fs) ≡ true) × (option_map told (first_bad stamped names) ≡ None) =
-    then-none (length names == length fs) (FieldCount (place + 1)) (option_map told (first_bad stamped names)) both.0 in
+    let counted : ((length names + next_words n.kinds == length fs) ≡ true) × (option_map told (first_bad stamped names) ≡ None) =
+    then-none (length names + next_words n.kinds == length fs) (FieldCount (place + 1)) (option_map told (first_bad stamped names)) all.0 in
+    let can : CanMean n.kinds fs =
+    λ p within.
+    (then-none (can_mean (kind_of n.kinds p) (width (slice_index_or fs p One) == 8) (is_text_before n.kinds p)) (Word (place + 1) p) None
+    (none-found (text_fault_at (place + 1) n.kinds fs) (length n.kinds) 0 p both.0 (omega arith) (omega (arith, within)))).0 in
     let fields_fit : first_bad stamped names ≡ None = map-none told (first_bad stamped names) counted.1 in
     let labels_none : (k : ℕ) → k < length n.fields.now → first_bad_label (labels_at n k) ≡ None =
     λ k within. map-none (λ number. Label (place + 1) k number) (first_bad_label (labels_at n k))
@@ -108,45 +100,102 @@ fit-at stamped e given place n here event is =
     record {
       here = here;
       event = event;
-      many = sym (map-long (λ name. name.now) n.fields.now) ∙ eqb-true (length names) (length fs) counted.0;
+      many = ap (λ k. k + next_words n.kinds) (sym (map-long (λ name. name.now) n.fields.now)) ∙ eqb-true (length names + next_words n.kinds) (length fs) counted.0;
+      can = can;
       fields = λ k within.
           subst IsWordy (index-map (λ name. name.now) n.fields.now k) (names-fit stamped names fields_fit k (omega (arith, within, map-long (λ name. name.now) n.fields.now)));
       labels = λ k within. labels-fit (labels_at n k) (labels_none k within);
     }
 
--- the line of a field
-given-line : (n : ProbeNames) (k : ℕ) (f : Field) → IsWordy (option_map_or (λ name. name.now) (slice_get n.fields.now k) []) → All IsQuotable (labels_at n k) → length (labels_at n k) ≤ 2 ^ 64
-    → k < length n.fields.now → IsLine (given_line n k f) (record { name = given_name n k; width = width f })
-unfolding given_line
-given-line n k f fit labels few within =
-    let found = get-some n.fields.now k within in
-    let kind : Kind = slice_index_or n.kinds k Unsigned in
-    let type : List ℕ = labelled_type kind (labels_at n k) f in
-    let word : IsWordy (found.0).now = subst (λ o. IsWordy (option_map_or (λ name. name.now) o [])) found.1 fit in
-    let one : IsLine (typed_line type (found.0).now) (record { name = (found.0).now; width = width f }) =
-    typed-line type (found.0).now (width f) (λ more. type-back kind (labels_at n k) f more few labels) word in
-    subst (λ o. IsLine (option_map_or (λ name. typed_line type name.now) o []) (record { name = option_map_or (λ name. name.now) o []; width = width f })) (sym found.1) one
+-- a field's line, by what the field means
+kind-piece : (n : ProbeNames) (k : ℕ) (f : Field) (kind : Kind) (name : List ℕ)
+    → (is_next kind ≡ false → IsWordy name × (All IsQuotable (labels_at n (name_place n.kinds k)) × (length (labels_at n (name_place n.kinds k)) ≤ 2 ^ 64)))
+    → words_at n k ≤ 8 → given_name n k ≡ name → IsPiece (kind_line n k f kind name) (piece_by n.kinds (given_name n) kind (k, f))
+kind-piece n k f TextNext name fit few is = inl (refl, refl)
+kind-piece n k f Text name fit few is =
+    subst (λ called. IsPiece (text_line (8 * words_at n k) name) (replicate (words_at n k) (record { name = called; width = 8 }))) (sym is)
+    (text-line name (words_at n k) (fit refl).0 (omega arith) few)
+kind-piece n k f Unsigned name fit few is =
+    let labels : List (List ℕ) = labels_at n (name_place n.kinds k) in
+    subst (λ called. IsPiece (typed_line (labelled_type Unsigned labels f) name) (record { name = called; width = width f } ∷ [])) (sym is)
+    (typed-line (labelled_type Unsigned labels f) name (width f) (λ more. type-back Unsigned labels f more (fit refl).1.1 (fit refl).1.0) (no-text-type Unsigned labels f) (fit refl).0)
+kind-piece n k f Signed name fit few is =
+    let labels : List (List ℕ) = labels_at n (name_place n.kinds k) in
+    subst (λ called. IsPiece (typed_line (labelled_type Signed labels f) name) (record { name = called; width = width f } ∷ [])) (sym is)
+    (typed-line (labelled_type Signed labels f) name (width f) (λ more. type-back Signed labels f more (fit refl).1.1 (fit refl).1.0) (no-text-type Signed labels f) (fit refl).0)
+kind-piece n k f Float name fit few is =
+    let labels : List (List ℕ) = labels_at n (name_place n.kinds k) in
+    subst (λ called. IsPiece (typed_line (labelled_type Float labels f) name) (record { name = called; width = width f } ∷ [])) (sym is)
+    (typed-line (labelled_type Float labels f) name (width f) (λ more. type-back Float labels f more (fit refl).1.1 (fit refl).1.0) (no-text-type Float labels f) (fit refl).0)
 
-given-told : (e : EnabledRows) (names : Names) (given : List ProbeNames) (place : ℕ) (n : ProbeNames) → place + 1 < 2 ^ 64 → ((k : ℕ) → length (labels_at n k) ≤ 2 ^ 64)
+-- the next words of a text have no line
+no-line : {A : Type 0} (o : Option A) (none : List ℕ) → option_map_or (λ a. none) o none ≡ none
+no-line None none = refl
+no-line (Some a) none = refl
+
+-- the line of a field
+given-line : (e : EnabledRows) (given : List ProbeNames) (place : ℕ) (n : ProbeNames) → IsFit e given place n → ((k : ℕ) → length (labels_at n k) ≤ 2 ^ 64)
+    → (k : ℕ) (f : Field) → k < length (event_fields e (place + 1)) → words_at n k ≤ 8 → IsPiece (given_line n k f) (piece_at n.kinds (given_name n) (k, f))
+unfolding given_line
+given-line e given place n fit few k f within short = go (kind_of n.kinds k) refl
+  where
+    fs : List Field
+    fs = event_fields e (place + 1)
+
+    at : ℕ
+    at = name_place n.kinds k
+
+    named : is_next (kind_of n.kinds k) ≡ false → IsPiece (given_line n k f) (piece_at n.kinds (given_name n) (k, f))
+    named other =
+        let inside : at < length n.fields.now =
+        name-within n.kinds (length n.fields.now) (length fs) k fit.many (λ q is. text-within n.kinds fs fit.can q (next-text (kind_of n.kinds q) is)) within other in
+        let found = get-some n.fields.now at inside in
+        let word : IsWordy (found.0).now = subst (λ o. IsWordy (option_map_or (λ name. name.now) o [])) found.1 (fit.fields at inside) in
+        let called : given_name n k ≡ (found.0).now = ap (λ o. option_map_or (λ name. name.now) o []) found.1 in
+        subst (λ o. IsPiece (option_map_or (λ name. kind_line n k f (kind_of n.kinds k) name.now) o []) (piece_at n.kinds (given_name n) (k, f))) (sym found.1)
+        (kind-piece n k f (kind_of n.kinds k) (found.0).now (λ _. (word, (fit.labels at inside, few at))) short called)
+
+    go : (kind : Kind) → kind_of n.kinds k ≡ kind → IsPiece (given_line n k f) (piece_at n.kinds (given_name n) (k, f))
+    go TextNext is =
+        inl (
+          ap (λ kind. option_map_or (λ name. kind_line n k f kind name.now) (slice_get n.fields.now at) []) is ∙ no-line (slice_get n.fields.now at) [],
+          ap (λ kind. piece_by n.kinds (given_name n) kind (k, f)) is,
+        )
+    go Text is = named (ap is_next is)
+    go Unsigned is = named (ap is_next is)
+    go Signed is = named (ap is_next is)
+    go Float is = named (ap is_next is)
+
+given-told : (e : EnabledRows) (names : Names) (given : List ProbeNames) (place : ℕ) (n : ProbeNames) → place + 1 < 2 ^ 64 → length (event_fields e (place + 1)) ≤ 8
+    → ((k : ℕ) → length (labels_at n k) ≤ 2 ^ 64)
     → given_for names (place + 1) ≡ Some n → event_name names place ≡ n.event.now → field_lines names place (event_fields e (place + 1)) ≡ given_lines n (event_fields e (place + 1))
     → ((k : ℕ) → (names_by names).field (place + 1) k ≡ given_name n k) → IsFit e given place n → IsTold e names place
-given-told e names given place n low few here name_is lines_are called fit =
+given-told e names given place n low most few here name_is lines_are called fit =
     let fs : List Field = event_fields e (place + 1) in
     let line : ℕ × Field → List ℕ = λ p. given_line n p.0 p.1 in
-    let shape : ℕ × Field → FieldLayout = λ p. record { name = (names_by names).field (place + 1) p.0; width = width p.1 } in
-    let one : (k : ℕ) (f : Field) → k < length fs → IsLine (line (k, f)) (shape (k, f)) =
-    λ k f within.
-    let inside : k < length n.fields.now = omega (arith, within, fit.many) in
-    subst (λ name. IsLine (given_line n k f) (record { name = name; width = width f })) (sym (called k)) (given-line n k f (fit.fields k inside) (fit.labels k inside) (few k) inside) in
+    let piece : ℕ × Field → List FieldLayout = piece_at n.kinds (given_name n) in
+    let same : (q : ℕ) → is_next (kind_of n.kinds (q + 1)) ≡ true → given_name n (q + 1) ≡ given_name n q =
+    λ q is. ap (λ at. option_map_or (λ name. name.now) (slice_get n.fields.now at) []) (name-same n.kinds q is) in
+    let fits : AreFit n.kinds (given_name n) 0 fs = are-fit n.kinds fs (given_name n) fit.can 0 fs (omega arith) (λ i. ap (λ k. slice_index_or fs k One) (omega arith)) in
+    let none : next_in_front (drop 0 n.kinds) ≡ 0 = run-none n.kinds (given_name n) 0 (first-none n.kinds fs fit.can) in
+    let all : flat (map piece (enumerate_from 0 fs)) ≡ map (shape_at n.kinds (given_name n)) (enumerate_from 0 fs) =
+    flat-pieces n.kinds (given_name n) same 0 fs fits ∙ ap (λ r. drop r (map (shape_at n.kinds (given_name n)) (enumerate_from 0 fs))) none in
     record {
       low = low;
       called = subst IsQuotable (sym name_is) (wordy-quotable n.event.now fit.event);
       fields = record {
         lines = map line (enumerate_from 0 fs);
+        pieces = map piece (enumerate_from 0 fs);
         text_is = lines_are ∙ joined-map line (enumerate_from 0 fs);
-        are = AreLines-map line shape (length fs) one 0 fs (omega arith);
+        shapes_are = all ∙ shapes-same (given_name n) ((names_by names).field (place + 1)) (λ k. sym (called k)) 0 fs;
+        are = AreLines-map line piece (length fs) (λ k f within. given-line e given place n fit few k f within (words-few n fs fit.can most k within)) 0 fs (omega arith);
       };
     }
+  where
+    shapes-same : (name other : ℕ → List ℕ) → ((k : ℕ) → name k ≡ other k) → (k : ℕ) (gs : List Field)
+        → map (shape_at n.kinds name) (enumerate_from k gs) ≡ map (shape_at n.kinds other) (enumerate_from k gs)
+    shapes-same name other each k [] = refl
+    shapes-same name other each k (g ∷ gs) = let rest = shapes-same name other each (k + 1) gs in (λ i. record { name = each k i; width = width g } ∷ rest i)
 
 -- all events have names that can be read
 pub all-told : (origin : Origin) (form : Form) (e : EnabledRows) (names : Names) → HasNumbers origin form e names
@@ -174,7 +223,7 @@ all-told origin form e (Given given) numbers is place within =
     (subst IsWordy (index-map (λ m. m.event.now) given.now place) (names-fit false names events place (omega (arith, within, many, map-long (λ m. m.event.now) given.now)))) in
     let few : (k : ℕ) → length (labels_at n k) ≤ 2 ^ 64 =
     λ k. subst (λ o. option_map_or (λ m. length (labels_at m k)) o 0 ≤ 2 ^ 64) here (numbers.labels (place + 1) k) in
-    given-told e (Given given) given.now place n (omega (arith, within, numbers.events)) few here
+    given-told e (Given given) given.now place n (omega (arith, within, numbers.events)) (numbers.fields (place + 1)) few here
     (ap (λ o. option_map_or (λ m. m.event.now) o []) found.1)
     (ap (λ o. option_map_or (λ m. given_lines m (event_fields e (place + 1))) o []) found.1)
     (λ k. ap (λ o. option_map_or (λ m. given_name m k) o []) here)

@@ -1,16 +1,21 @@
 -- Words, identifiers and labels that the metadata may have can be read.
-use Rattle.std.proofs.Common.{◌≡◌, ◌≢◌, ◌≤◌, ◌<◌, ◌+◌, ◌&&◌, ◌||◌, ◌==◌, ◌⊎◌, inl, inr, ℕ, zero, suc, Bool, true, false, cond, leb, not, List, [], ◌∷◌, length}
-use Rattle.std.proofs.Common.{map, take, Option, Some, None, option_map, refl, ap, subst, arith, All}
-use Rattle.std.specs.Prelude.{slice_get, slice_index_or}
+use Rattle.std.proofs.Common.{◌≡◌, ◌≢◌, ◌≤◌, ◌<◌, ◌+◌, ◌&&◌, ◌||◌, ◌==◌, ◌⊎◌, inl, inr, ℕ, zero, suc, Bool, true, false, cond, leb, not}
+use Rattle.std.proofs.Common.{List, [], ◌∷◌, length, map, take, Option, Some, None, option_map, refl, ap, subst, arith, All, ◌-◌, ◌^◌, ◌++◌, ◌∙◌, length-append}
+use Rattle.std.specs.Prelude.{slice_get, slice_index_or, option_and_then, decimal}
 use Rattle.std.specs.Option.{option_map_or}
 use Rattle.std.specs.List.{list_all, range_with_len}
 use Rattle.std.proofs.lemmas.Bool.{eqb-true, eqb-false, leb-true, le-leb, ne_eqb, and_parts, and_from, or_cases, or_from, or_right, not_from_false}
 use Rattle.std.proofs.lemmas.List.Elements.{All-nil, All-cons}
-use Rattle.dspec_ctf.specs.Names.{is_letter, is_word_byte, begins_well, is_identifier, unfit, earlier, first_found, bad_name, bad_at, first_bad, is_label_byte}
-use Rattle.dspec_ctf.specs.Names.{is_label, bad_label_at, first_bad_label}
+use Rattle.dspec_ctf.specs.Names.{is_letter, is_word_byte, begins_well, is_identifier, unfit, earlier, first_found}
+use Rattle.dspec_ctf.specs.Names.{bad_name, bad_at, first_bad, is_label_byte, is_label, bad_label_at, first_bad_label, process_fault}
 use Rattle.dspec_ctf_reading.specs.ReadingMetadata.{is_digit, is_word, is_quoted}
-use Rattle.dspec_ctf_reading.proofs.Scanning.{list_all-weaker}
-use Rattle.dspec_ctf_reading.proofs.Lines.{IsQuotable, IsWordy}
+use Rattle.dspec_ctf_reading.proofs.Scanning.{list_all-weaker, decimal-digits}
+use Rattle.dspec_ctf_reading.proofs.Lines.{IsWordy}
+use Rattle.dspec_ctf_reading.proofs.FieldTypes.{IsQuotable}
+use Rattle.std.proofs.lemmas.List.Folds.{list_all-append}
+use Rattle.std.proofs.lemmas.Fmt.{decimal_nonempty}
+use Rattle.dspec_ctf.specs.declared.origin.Process.{Process}
+use Rattle.dspec_ctf_reading.proofs.Headings.{IsShown}
 
 -- where nothing is wrong
 pub earlier-none : {A : Type 0} (a b : Option A) → earlier a b ≡ None → (a ≡ None) × (b ≡ None)
@@ -150,3 +155,24 @@ labels-fit labels is =
     good : (b : Bool) (k : ℕ) → cond b None (Some k) ≡ None → b ≡ true
     good true k is = refl
     good false k is = absurd (cc)
+
+-- the process
+pub shown : (process : Option Process) → option_and_then process_fault process ≡ None → option_map_or (λ p. p.pid) process 0 < 2 ^ 64 → IsShown process
+unfolding process_fault IsShown
+shown None is low = tt
+shown (Some p) is low =
+    let first = else-none (not (is_label p.host.now)) _ _ is in
+    let second = else-none (not (is_label p.name.now)) _ _ first.1 in
+    (label-fits p.host.now (not-not (is_label p.host.now) first.0), (label-fits p.name.now (not-not (is_label p.name.now) second.0), low))
+  where
+    not-not : (b : Bool) → not b ≡ false → b ≡ true
+    not-not true is = refl
+    not-not false is = absurd (cc)
+
+-- numbered names
+pub numbered-wordy : (text : List ℕ) (n : ℕ) → list_all is_word text ≡ true → n < 2 ^ 64 → IsWordy (text ++ decimal n)
+unfolding IsWordy
+numbered-wordy text n fit low = (
+  list_all-append is_word text (decimal n) ∙ and_from (list_all is_word text) (list_all is_word (decimal n)) fit (list_all-weaker is_digit is_word digit-word (decimal n) (decimal-digits n low)),
+  omega (arith, decimal_nonempty n low, length-append text (decimal n)),
+)

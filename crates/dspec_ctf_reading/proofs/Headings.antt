@@ -23,7 +23,7 @@ use Rattle.dspec_ctf_reading.specs.ReadingMetadata.{read_process, read_clock_uui
 use Rattle.dspec_ctf_reading.specs.Layouts.{event_layout, is_timed, names_by, layout_of}
 use Rattle.dspec_ctf_reading.specs.ToldNumbers.{ticks_of, HasNumbers}
 use Rattle.dspec_ctf_reading.proofs.Scanning.{read-run-back, decimal-back}
-use Rattle.dspec_ctf_reading.proofs.Lines.{IsQuotable}
+use Rattle.dspec_ctf_reading.proofs.FieldTypes.{IsQuotable}
 use Rattle.dspec_ctf_reading.proofs.Texts.{IsTold, texts-back}
 
 -- digits of base 16 can stand in quotes

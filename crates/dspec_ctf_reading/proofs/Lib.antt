@@ -11,6 +11,10 @@ pub mod Timed
 pub mod Live
 pub mod Named
 pub mod Scanning
+pub mod NextWords
+pub mod TextWords
+pub mod TextFields
+pub mod FieldTypes
 pub mod Lines
 pub mod Texts
 pub mod Headings

@@ -56,6 +56,41 @@ module _ {X A : Type 0} (f : X → A) (end : List ℕ) (one : List ℕ → Part 
       ∙ ap (λ e. past_or e (λ rest. Some ([], rest)) (then_read (one rest) (λ x rest. option_map (λ p. (x ∷ p.0, p.1)) (many (n - (i + 1)) rest)))) no_end
       ∙ ap (λ part. then_read part (λ x rest. option_map (λ p. (x ∷ p.0, p.1)) (many (n - (i + 1)) rest))) no_one)
 
+some-more : {A : Type 0} (before xs : List A) (part : Part (List A)) → found_before before (option_map (λ p. (xs ++ p.0, p.1)) part) ≡ found_before (before ++ xs) part
+some-more before xs None = refl
+some-more before xs (Some p) = ap (λ ys. Some (ys, p.1)) (sym (append_assoc before xs p.0))
+
+-- the same of parts that tell several each
+module _ {X A : Type 0} (f : X → A) (end : List ℕ) (one : List ℕ → Part (List A)) (many : ℕ → List ℕ → Part (List A))
+    (some : (m : ℕ) (bytes : List ℕ) → many (suc m) bytes
+    ≡ past_or (rest_past end bytes) (λ rest. Some ([], rest)) (then_read (one bytes) (λ xs rest. option_map (λ p. (xs ++ p.0, p.1)) (many m rest)))) where
+  begun : (n i : ℕ) (rest : List ℕ) → i < n → many (n - i) rest
+      ≡ past_or (rest_past end rest) (λ rest. Some ([], rest)) (then_read (one rest) (λ xs rest. option_map (λ p. (xs ++ p.0, p.1)) (many (n - (i + 1)) rest)))
+  begun n i rest below = let fewer : n - i ≡ suc (n - (i + 1)) = omega (arith, below) in ap (λ m. many m rest) fewer ∙ some (n - (i + 1)) rest
+
+  pub lines-on : (n i : ℕ) (found grown more : List X) (whole : Part (List A)) (rest next : List ℕ) → i < n → whole ≡ found_before (map f found) (many (n - i) rest)
+      → rest_past end rest ≡ None → one rest ≡ Some (map f more, next) → grown ≡ found ++ more → whole ≡ found_before (map f grown) (many (n - (i + 1)) next)
+  lines-on n i found grown more whole rest next below is no_end is_one longer =
+      is ∙ ap (found_before (map f found)) (begun n i rest below
+      ∙ ap (λ e. past_or e (λ rest. Some ([], rest)) (then_read (one rest) (λ xs rest. option_map (λ p. (xs ++ p.0, p.1)) (many (n - (i + 1)) rest)))) no_end
+      ∙ ap (λ part. then_read part (λ xs rest. option_map (λ p. (xs ++ p.0, p.1)) (many (n - (i + 1)) rest))) is_one)
+      ∙ some-more (map f found) (map f more) (many (n - (i + 1)) next)
+      ∙ ap (λ xs. found_before xs (many (n - (i + 1)) next)) (sym (ap (map f) longer ∙ map-append f found more))
+
+  pub lines-end : (n i : ℕ) (found : List X) (whole : Part (List A)) (rest behind : List ℕ) → i < n → whole ≡ found_before (map f found) (many (n - i) rest)
+      → rest_past end rest ≡ Some behind → whole ≡ Some (map f found, behind)
+  lines-end n i found whole rest behind below is ends =
+      is ∙ ap (found_before (map f found)) (begun n i rest below
+      ∙ ap (λ e. past_or e (λ rest. Some ([], rest)) (then_read (one rest) (λ xs rest. option_map (λ p. (xs ++ p.0, p.1)) (many (n - (i + 1)) rest)))) ends)
+      ∙ ap (λ xs. Some (xs, behind)) (append_nil (map f found))
+
+  pub lines-stop : (n i : ℕ) (found : List X) (whole : Part (List A)) (rest : List ℕ) → i < n → whole ≡ found_before (map f found) (many (n - i) rest)
+      → rest_past end rest ≡ None → one rest ≡ None → whole ≡ None
+  lines-stop n i found whole rest below is no_end no_one =
+      is ∙ ap (found_before (map f found)) (begun n i rest below
+      ∙ ap (λ e. past_or e (λ rest. Some ([], rest)) (then_read (one rest) (λ xs rest. option_map (λ p. (xs ++ p.0, p.1)) (many (n - (i + 1)) rest)))) no_end
+      ∙ ap (λ part. then_read part (λ xs rest. option_map (λ p. (xs ++ p.0, p.1)) (many (n - (i + 1)) rest))) no_one)
+
 -- events up to the end of the text
 module _ {X : Type 0} (f : X → EventLayout) where
   one-after : (found : List X) (x : X) (part : Option (List EventLayout)) → option_map (λ events. map f found ++ events) (option_map (λ events. f x ∷ events) part)

@@ -1,5 +1,5 @@
 -- The texts of events are read as their layouts.
-use Rattle.std.proofs.Common.{◌≡◌, ◌≤◌, ◌<◌, ◌+◌, ◌-◌, ◌^◌, ◌++◌, ℕ, zero, suc, List, [], ◌∷◌, length, map, Option, Some, option_map, refl, ap, sym, ◌∙◌, arith, append_assoc, length-append}
+use Rattle.std.proofs.Common.{◌≡◌, ◌≤◌, ◌<◌, ◌+◌, ◌-◌, ◌^◌, ◌++◌, ℕ, zero, suc, false, List, [], ◌∷◌, length, map, Option, Some, option_map, refl, ap, sym, ◌∙◌, arith, append_assoc, length-append}
 use Rattle.std.specs.Prelude.{option_and_then, codes, decimal}
 use Rattle.std.specs.List.{flat_map, range_with_len}
 use Rattle.std.proofs.lemmas.List.{append-nil}
@@ -17,25 +17,31 @@ use Rattle.dspec_ctf_reading.specs.Reading.{FieldLayout, EventLayout, Part, then
 use Rattle.dspec_ctf_reading.specs.ReadingMetadata.{past, is_digit, is_word, is_quoted, read_quoted, read_fields, read_event_text, read_event_texts}
 use Rattle.dspec_ctf_reading.specs.Layouts.{stamp_field, field_layouts, event_layout, is_timed, names_by}
 use Rattle.dspec_ctf_reading.proofs.Scanning.{read-run-back, decimal-back}
-use Rattle.dspec_ctf_reading.proofs.Lines.{IsQuotable, IsWordy, AreLines, joined, joined-append, AreLines-append, typed-line, kind-back, lines-back}
+use Rattle.dspec_ctf_reading.proofs.Lines.{IsWordy, AreLines, joined, joined-append, AreLines-append, typed-line, lines-back}
+use Rattle.dspec_ctf_reading.proofs.FieldTypes.{IsQuotable, kind-back, no-text-name}
+use Rattle.dspec_ctf_reading.proofs.TextWords.{flat, flat-append}
 
 -- the stamp as a field
 pub record HasLines (text : List ℕ) (shapes : List FieldLayout) : Type 0 where
   pub lines : List (List ℕ)
+  pub pieces : List (List FieldLayout)
   pub text_is : text ≡ joined lines
-  pub are : AreLines lines shapes
+  pub shapes_are : flat pieces ≡ shapes
+  pub are : AreLines lines pieces
 
 no-lines : HasLines [] []
 unfolding AreLines
-no-lines = record { lines = []; text_is = refl; are = tt }
+no-lines = record { lines = []; pieces = []; text_is = refl; shapes_are = refl; are = tt }
 
 stamp-lines : (form : Form) (h : Header) → HasLines (stamp_line form h) (stamp_field (is_timed form) h)
 unfolding AreLines IsWordy is_word is_digit
 stamp-lines AsTaken header.One = no-lines
 stamp-lines AsTaken header.Two = record {
   lines = typed_line (codes "uint64_t") (codes "stamp") ∷ [];
+  pieces = stamp_field false header.Two ∷ [];
   text_is = sym (append-nil (typed_line (codes "uint64_t") (codes "stamp")));
-  are = (typed-line (codes "uint64_t") (codes "stamp") 8 (λ more. kind-back Unsigned Eight more) (refl, omega arith), tt);
+  shapes_are = refl;
+  are = (typed-line (codes "uint64_t") (codes "stamp") 8 (λ more. kind-back Unsigned Eight more) (λ more. no-text-name Eight more) (refl, omega arith), tt);
 }
 stamp-lines (ByTime frequency) header.One = no-lines
 stamp-lines (ByTime frequency) header.Two = no-lines
@@ -76,7 +82,8 @@ event-text-back form e names place rest told =
     (decimal-back (place + 1) (codes ";\n\tname = \"" ++ (name ++ (codes "\";\n\tstream_id = 0;\n\tfields := struct {\n" ++ tail))) told.low refl)
     ∙ ap (λ part. then_read part (λ word more. c (place + 1) word more)) (read-run-back is_quoted name (codes "\";\n\tstream_id = 0;\n\tfields := struct {\n" ++ tail) told.called.0 told.called.1 refl)
     ∙ ap (option_map (λ p. (record { id = place + 1; name = name; fields = p.0 }, p.1)))
-    (lines-back all shapes rest (AreLines-append stamp.lines told.fields.lines (stamp_field (is_timed form) e.header) _ stamp.are told.fields.are))
+    (lines-back all (stamp.pieces ++ told.fields.pieces) rest (AreLines-append stamp.lines told.fields.lines stamp.pieces told.fields.pieces stamp.are told.fields.are)
+    ∙ ap (λ s. Some (s, rest)) (flat-append stamp.pieces told.fields.pieces ∙ (λ i. stamp.shapes_are i ++ told.fields.shapes_are i)))
     ∙ ap (λ at. Some (record { id = place + 1; name = event_name names at; fields = shapes }, rest)) (sym back)
 
 -- a text isn't empty

@@ -1,7 +1,7 @@
 -- Cited by calls. What the laws say, each by its name.
 use Rattle.std.specs.Prelude.{◌≡◌, ◌<◌, ◌^◌, ◌++◌, ◌∷◌, [], ℕ, true, false, All, List, map, length, slice_index, Option, Some, None}
 use Rattle.std.specs.Option.{option_map, option_and_then}
-use Rattle.std.specs.List.{flat_map}
+use Rattle.std.specs.List.{flat_map, range_with_len}
 use Rattle.dspec_record.specs.Record.{Record}
 use Rattle.dspec_record.specs.EnablingRows.{EnabledRows}
 use Rattle.dspec_record.specs.declared.header.Header.{Header}
@@ -21,7 +21,7 @@ use Rattle.dspec_ctf.specs.declared.rows.Run.{Run}
 use Rattle.dspec_ctf_reading.specs.Reading.{Layout, EventRead, PacketRead, read_packet, read_file, with_events}
 use Rattle.dspec_ctf_reading.specs.ReadingMetadata.{read_metadata}
 use Rattle.dspec_ctf_reading.specs.Fronts.{PacketSplit}
-use Rattle.dspec_ctf_reading.specs.Layouts.{layout_of, event_of, packet_of, is_timed}
+use Rattle.dspec_ctf_reading.specs.Layouts.{layout_of, event_of, packet_of, is_timed, given_name}
 use Rattle.dspec_ctf_reading.specs.Files.{FileTells, PartTells, file_bytes, last_missed}
 
 -- what was read first, and behind it the others, which this reading gives of the rest
@@ -42,10 +42,10 @@ IsReadAsTaken h r event =
     (event.id ≡ r.epid) × (event.stamp ≡ None) × (h ≡ header.One → map (λ v. v.1) event.values ≡ r.values)
     × (h ≡ header.Two → map (λ v. v.1) event.values ≡ r.stamp ∷ r.values)
 
--- where there are as many names of fields as values, the event and its fields are called by these
+-- The event and its fields are called by these: each value by its field's name, and each word of a text by the text's.
 abbrev pub IsCalledBy : ProbeNames → List ℕ → EventRead → Type 0
-IsCalledBy n values event = length n.fields.now ≡ length values
-    → (event.name ≡ n.event.now) × (map (λ v. v.0) event.values ≡ map (λ name. name.now) n.fields.now)
+IsCalledBy n values event =
+    (event.name ≡ n.event.now) × (map (λ v. v.0) event.values ≡ map (given_name n) (range_with_len 0 (length values)))
 
 -- the metadata that is written is read as this layout
 abbrev pub MetadataTells : Origin → Form → EnabledRows → Names → Type 0

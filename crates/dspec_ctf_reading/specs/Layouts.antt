@@ -14,6 +14,7 @@ use Rattle.dspec_ctf.specs.declared.names.Names.{Names}
 use Rattle.dspec_ctf.specs.declared.names.Names.TheVariants.{Numbered, Given}
 use Rattle.dspec_ctf.specs.declared.form.Form.{Form}
 use Rattle.dspec_ctf.specs.declared.form.Form.TheVariants.{AsTaken, ByTime}
+use Rattle.dspec_probe.specs.Kinds.{name_place}
 use Rattle.dspec_probe.specs.declared.probes.ProbeNames.{ProbeNames}
 use Rattle.dspec_ctf_reading.specs.Reading.{FieldLayout, EventLayout, Layout, EventRead, PacketRead}
 
@@ -73,9 +74,9 @@ abbrev pub given_for : Names → ℕ → Option ProbeNames
 given_for Numbered epid = None
 given_for (Given names) epid = slice_get names.now (epid - 1)
 
--- the name of a field by its place: the one given, or its number's
+-- the name of a field by its place: the one given, or its number's; each word of a text has the text's
 abbrev pub given_name : ProbeNames → ℕ → List ℕ
-given_name n place = option_map_or (λ name. name.now) (slice_get n.fields.now place) []
+given_name n place = option_map_or (λ name. name.now) (slice_get n.fields.now (name_place n.kinds place)) []
 
 abbrev pub field_name : Names → ℕ → ℕ → List ℕ
 field_name Numbered epid place = codes "arg_" ++ decimal place

@@ -1,6 +1,6 @@
 -- Cited by calls. What a trace's metadata tells of its bytes. It is text in a language of the format's own, and here is so much of that language as our
 -- traces have: the same lines, in the same order. Whatever else stands there is refused.
-use Rattle.std.specs.Prelude.{ℕ, zero, suc, ◌+◌, ◌-◌, ◌*◌, ◌==◌, nat_le, not, Bool, true, false, ◌&&◌, ◌||◌, List, [], ◌∷◌, ◌++◌, length, codes, Option, Some, None, if◌then◌else◌}
+use Rattle.std.specs.Prelude.{ℕ, zero, suc, ◌+◌, ◌-◌, ◌*◌, ◌/◌, ◌%◌, ◌==◌, nat_le, not, Bool, true, false, ◌&&◌, ◌||◌, List, [], ◌∷◌, ◌++◌, length, replicate, codes, Option, Some, None, if◌then◌else◌}
 use Rattle.std.specs.Option.{option_map, option_and_then}
 use Rattle.dspec_ctf_reading.specs.Reading.{FieldLayout, EventLayout, Layout, Part, then_read}
 
@@ -105,19 +105,41 @@ read_type bytes =
 
 -- ---- events
 
-abbrev pub read_field : List ℕ → Part FieldLayout
+-- a field of numbers
+abbrev pub read_number_field : List ℕ → Part FieldLayout
+read_number_field bytes =
+    then_read (read_type bytes) (λ width rest.
+    past (codes " ") rest (λ rest.
+    then_read (read_word rest) (λ name rest. past (codes ";\n") rest (λ rest. Some (record { name = name; width = width }, rest)))))
+
+-- what stands before a text's name: the type of its characters
+abbrev pub text_front : List ℕ
+text_front = codes "integer { size = 8; align = 8; signed = false; encoding = UTF8; } "
+
+-- a text of so many bytes as words of eight: one to eight of them
+abbrev pub text_layouts : List ℕ → ℕ → Option (List FieldLayout)
+text_layouts name size =
+    if (size % 8 == 0) && (nat_le 8 size && nat_le size 64) then Some (replicate (size / 8) (record { name = name; width = 8 })) else None
+
+-- a text, from its name on: each of its words is a field of that name
+abbrev pub read_text_field : List ℕ → Part (List FieldLayout)
+read_text_field bytes =
+    then_read (read_word bytes) (λ name rest.
+    past (codes "[") rest (λ rest.
+    then_read (read_decimal rest) (λ size rest. past (codes "];\n") rest (λ rest. option_map (λ fields. (fields, rest)) (text_layouts name size)))))
+
+-- a line: a text, or one field
+abbrev pub read_field : List ℕ → Part (List FieldLayout)
 read_field bytes =
     past (codes "\t\t") bytes (λ rest.
-    then_read (read_type rest) (λ width rest.
-    past (codes " ") rest (λ rest.
-    then_read (read_word rest) (λ name rest. past (codes ";\n") rest (λ rest. Some (record { name = name; width = width }, rest))))))
+    past_or (rest_past text_front rest) read_text_field (option_map (λ p. (p.0 ∷ [], p.1)) (read_number_field rest)))
 
 -- fields up to the end of their event, of so many at most
 abbrev pub read_fields : ℕ → List ℕ → Part (List FieldLayout)
 read_fields zero bytes = None
 read_fields (suc most) bytes =
     past_or (rest_past (codes "\t};\n};\n") bytes) (λ rest. Some ([], rest))
-    (then_read (read_field bytes) (λ field rest. option_map (λ p. (field ∷ p.0, p.1)) (read_fields most rest)))
+    (then_read (read_field bytes) (λ fields rest. option_map (λ p. (fields ++ p.0, p.1)) (read_fields most rest)))
 
 abbrev pub read_event_text : List ℕ → Part EventLayout
 read_event_text bytes =

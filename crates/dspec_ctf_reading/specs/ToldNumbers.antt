@@ -22,5 +22,5 @@ pub record HasNumbers (origin : Origin) (form : Form) (e : EnabledRows) (names :
   pub seconds : option_map_or (λ s. s.seconds) origin.start 0 < 2 ^ 64
   pub ticks : option_map_or (λ s. s.ticks) origin.start 0 < 2 ^ 64
   pub events : length e.rows < 2 ^ 64
-  pub fields : (epid : ℕ) → length (event_fields e epid) ≤ 2 ^ 64
+  pub fields : (epid : ℕ) → length (event_fields e epid) ≤ 8
   pub labels : (epid place : ℕ) → option_map_or (λ n. length (labels_at n place)) (given_for names epid) 0 ≤ 2 ^ 64

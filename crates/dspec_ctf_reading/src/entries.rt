@@ -1,7 +1,8 @@
 //! The events that a metadata's text tells, and their fields.
 
-ghost use Rattle.std.specs.Prelude.{◌≡◌, length, map};
-ghost use Rattle.dspec_ctf_reading.specs.ReadingMetadata.{read_event_text, read_event_texts, read_field, read_fields};
+ghost use Rattle.std.specs.Prelude.{◌≡◌, length, map, replicate, IfOk};
+ghost use Rattle.std.specs.Option.{option_map};
+ghost use Rattle.dspec_ctf_reading.specs.ReadingMetadata.{read_event_text, read_event_texts, read_field, read_fields, read_number_field, read_text_field, text_layouts};
 ghost use Rattle.dspec_ctf_reading.specs.Parts.{Gives};
 ghost use Rattle.dspec_ctf_reading.specs.Told.{told_event, told_field};
 
@@ -9,14 +10,18 @@ use crate::fault::{Expected, Stop};
 use crate::kinds::field_type;
 use crate::scan::{behind, decimal, past_text, quoted, word};
 use crate::told::{EventText, FieldText};
-use std::alloc::Global;
+use dspec_probe::Kind;
+use dspec_record::Field;
+use std::alloc::{AllocError, Global};
 
-/// A field's line, and the bytes behind it.
-fn field<'t>(alloc: Global, bytes: &'t [u8]) -> Result<(FieldText<'t>, &'t [u8]), Stop>
-    ensures { Gives result (λ p. (told_field p.0, p.1.now)) (read_field bytes.now) }
+/// What stands before a text's name.
+const TEXT_FRONT: &str = "integer { size = 8; align = 8; signed = false; encoding = UTF8; } ";
+
+/// A field of numbers, and the bytes behind its line.
+fn number_field<'t>(alloc: Global, bytes: &'t [u8]) -> Result<(FieldText<'t>, &'t [u8]), Stop>
+    ensures { Gives result (λ p. (told_field p.0, p.1.now)) (read_number_field bytes.now) }
 {
-    let rest = past_text(bytes, "\t\t")?;
-    let (told, rest) = field_type(alloc, rest)?;
+    let (told, rest) = field_type(alloc, bytes)?;
     let rest = past_text(rest, " ")?;
     let (name, rest) = word(rest)?;
     let rest = past_text(rest, ";\n")?;
@@ -31,6 +36,74 @@ fn field<'t>(alloc: Global, bytes: &'t [u8]) -> Result<(FieldText<'t>, &'t [u8])
     ))
 }
 
+/// So many words of a text, as fields of its name.
+#[tactic(auto, using(crate::proofs::TextFields::words_on))]
+fn some_words<'t>(
+    alloc: Global,
+    name: &'t str,
+    count: u64,
+) -> Result<Vec<FieldText<'t>>, AllocError>
+    ensures { IfOk result (λ found. map told_field found.items ≡ replicate count (record { name = name.now; width = 8 })) }
+{
+    let mut found = Vec::new(alloc);
+    let mut kind = Kind::Text;
+    for _ in 0..count {
+        found.push(FieldText {
+            name,
+            width: Field::Eight,
+            kind,
+            labels: Vec::new(alloc),
+        })?;
+        kind = Kind::TextNext;
+    }
+    Ok(found)
+}
+
+/// The words of a text of so many bytes, as fields of its name; None where no text has so many.
+fn words<'t>(
+    alloc: Global,
+    name: &'t str,
+    size: u64,
+) -> Result<Option<Vec<FieldText<'t>>>, AllocError>
+    ensures { IfOk result (λ found. option_map (λ fields. map told_field fields.items) found ≡ text_layouts name.now size) }
+{
+    if size % 8 != 0 || !(8..=64).contains(&size) {
+        return Ok(None);
+    }
+    Ok(Some(some_words(alloc, name, size / 8)?))
+}
+
+/// A text, from its name on: its words, and the bytes behind its line.
+fn text_field<'t>(alloc: Global, bytes: &'t [u8]) -> Result<(Vec<FieldText<'t>>, &'t [u8]), Stop>
+    ensures { Gives result (λ p. (map told_field p.0.items, p.1.now)) (read_text_field bytes.now) }
+{
+    let (name, rest) = word(bytes)?;
+    let rest = past_text(rest, "[")?;
+    let (size, rest) = decimal(rest)?;
+    let end = past_text(rest, "];\n")?;
+    match words(alloc, name, size)? {
+        Some(fields) => Ok((fields, end)),
+        None => Err(Stop::Unread {
+            left: rest.len(),
+            expected: Expected::Type,
+        }),
+    }
+}
+
+/// A line: the field that it tells, or the words of a text, and the bytes behind it.
+fn field<'t>(alloc: Global, bytes: &'t [u8]) -> Result<(Vec<FieldText<'t>>, &'t [u8]), Stop>
+    ensures { Gives result (λ p. (map told_field p.0.items, p.1.now)) (read_field bytes.now) }
+{
+    let rest = past_text(bytes, "\t\t")?;
+    if let Some(rest) = behind(rest, TEXT_FRONT) {
+        return text_field(alloc, rest);
+    }
+    let (one, rest) = number_field(alloc, rest)?;
+    let mut fields = Vec::new(alloc);
+    fields.push(one)?;
+    Ok((fields, rest))
+}
+
 /// Fields up to the end of their event, and the bytes behind it.
 fn fields<'t>(alloc: Global, bytes: &'t [u8]) -> Result<(Vec<FieldText<'t>>, &'t [u8]), Stop>
     ensures { Gives result (λ p. (map told_field p.0.items, p.1.now)) (read_fields (length bytes.now) bytes.now) }
@@ -41,8 +114,8 @@ fn fields<'t>(alloc: Global, bytes: &'t [u8]) -> Result<(Vec<FieldText<'t>>, &'t
         if let Some(end) = behind(rest, "\t};\n};\n") {
             return Ok((found, end));
         }
-        let (one, next) = field(alloc, rest)?;
-        found.push(one)?;
+        let (mut line, next) = field(alloc, rest)?;
+        found.append(&mut line)?;
         rest = next;
     }
     Err(Stop::Unread {

@@ -1,16 +1,20 @@
 //! A file of the system, and what the system's answers tell of its bytes. Nothing but the calls here writes it or cuts it.
 
-ghost use Rattle.std.specs.Prelude.{◌≡◌, [], length, Some};
+ghost use Rattle.std.specs.Prelude.{◌≡◌, [], length, IfErr, IfOk, Some, string_bytes};
+ghost use Rattle.dspec_ctf_sink.specs.Faults.{IsWriteFault};
 
+use crate::fault::FolderFault;
 use crate::held::Cuttable;
+use crate::made::make_file;
 use crate::told::{Answer, Told};
 use std::fs::File;
 use std::io;
 use std::io::Write;
 
-/// A file that had no bytes when it was made, and how many it has by now.
+/// A file that had no bytes when it was made, the path at which it was, and how many bytes it has by now.
 #[derive(Drop)]
 pub(crate) struct CountedFile {
+    path: String,
     file: File,
     size: u64,
     told: Told,
@@ -18,15 +22,22 @@ pub(crate) struct CountedFile {
 }
 
 impl CountedFile {
-    /// One that has no bytes.
-    pub(crate) fn of(file: File) -> CountedFile
-        ensures { ⟦<CountedFile as Write>⟧.contents result ≡ Some [] }
+    /// Makes the file of that path, which has no bytes.
+    pub(crate) fn make(rt: &HostRuntime, path: String) -> Result<CountedFile, FolderFault>
+        ensures empty { IfOk result (λ file. ⟦<CountedFile as Write>⟧.contents file ≡ Some []) }
+        ensures path { IfOk result (λ file. ⟦<CountedFile as Cuttable>⟧.path file ≡ string_bytes path) }
+        ensures fault { IfErr result IsWriteFault }
     {
-        CountedFile {
+        let file = match make_file(rt, path.as_str()) {
+            Ok(file) => file,
+            Err(fault) => return Err(fault),
+        };
+        Ok(CountedFile {
+            path,
             file,
             size: 0,
             told: Told::none(),
-        }
+        })
     }
 }
 
@@ -50,6 +61,8 @@ impl Write for CountedFile {
 }
 
 impl Cuttable for CountedFile {
+    ghost path = { λ i. string_bytes i.path };
+
     fn size(&self) -> io::Result<u64> {
         Ok(self.size)
     }

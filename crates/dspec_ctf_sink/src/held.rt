@@ -1,6 +1,6 @@
 //! A file that is held open, and has whole writes alone.
 
-ghost use Rattle.std.specs.Prelude.{ℕ, ◌≤◌, ◌≢◌, ◌-◌, length, take, drop, IfErr, IfOk, OnErr, OnOk};
+ghost use Rattle.std.specs.Prelude.{ℕ, ◌≤◌, ◌≢◌, ◌-◌, List, length, take, drop, IfErr, IfOk, OnErr, OnOk};
 ghost use Rattle.std.specs.IoError.{error_kind};
 ghost use Rattle.std.specs.declared.io.ErrorKind.TheVariants.{Interrupted};
 ghost use Rattle.std.specs.Io.KnownBytes.{Appends, Keeps};
@@ -10,9 +10,13 @@ use crate::fault::{FolderFault, write_fault};
 use std::io;
 use std::io::Write;
 use std::marker::Model;
+use std::os::fd::RawFd;
 
 /// A file that is written behind its end, and can be cut back.
 pub(crate) trait Cuttable: Write {
+    /// The path at which it was made.
+    ghost path: { Self → List ℕ };
+
     /// How many bytes it has.
     fn size(&self) -> io::Result<u64>
         ensures { IfOk result (IsLong (Self.contents self.now)) };
@@ -93,10 +97,11 @@ impl<W: Cuttable> Model for HeldFile<W> {
 impl<W: Cuttable> HeldFile<W> {
     ghost use Rattle.std.specs.Prelude.{◌≡◌, ◌↔◌, IsTrue, false, true, string_bytes, IfErr, OnOk};
     ghost use Rattle.std.specs.Io.KnownBytes.{Appends};
-    ghost use Rattle.dspec_ctf_sink.specs.Held.{LeavesFile};
+    ghost use Rattle.dspec_ctf_sink.specs.Held.{LeavesFile, path_in};
 
-    /// A file of this name, which has no broken write.
-    pub(crate) fn new(name: String, file: W) -> HeldFile<W>
+    /// A file of this name, which was made at that name in the folder that is open under this number. It has no broken write.
+    pub(crate) fn new(_folder: RawFd, name: String, file: W) -> HeldFile<W>
+        requires { W.path file ≡ path_in _folder (string_bytes name) }
         ensures { result ≡ record { name = string_bytes name; bytes = W.contents file; broken = false } }
     {
         HeldFile {

@@ -9,7 +9,8 @@
 //! | `folder.rt`, `system.rt` | `Folder`, a place that takes writes, with a ghost list of them and their answers; `SystemFolder`, one of the system, which has to be empty; it and its files are held open |
 //! | `room.rt` | `Room`: room that is kept on the disk for a trace's last packets |
 //! | `held.rt` | `HeldFile`: a file that is held open and has whole writes alone; what a failed write left is cut off |
-//! | `counted.rt` | `CountedFile`, a file of the system: the only calls that write it and cut it, and what their answers tell of its bytes |
+//! | `made.rt` | `make_file`: at which path a file is made, nothing but this code knows |
+//! | `counted.rt` | `CountedFile`, a file of the system, and the path at which it was made: the only calls that write it and cut it, and what their answers tell of its bytes |
 //! | `told.rt`, `asked.rt` | `Told` and `Asked`: what was answered of a file, and what a folder was asked for, for clauses alone; they have no bytes, and their two bodies each are proved by hand |
 //! | `tracing.rt`, `fault.rt` | `TraceFolder`, the sink: metadata first, then the packets of each batch, one write; what a refused write loses is counted, and the next batch is tried |
 //! | `next.rt` | the packets of a batch, with one in front that tells of none missed where some are told first |
@@ -32,6 +33,7 @@ mod held;
 mod identity;
 pub mod laws;
 mod losing;
+mod made;
 mod next;
 mod room;
 mod system;

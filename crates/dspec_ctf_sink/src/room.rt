@@ -2,7 +2,8 @@ ghost use Rattle.std.specs.Prelude.{IfErr};
 ghost use Rattle.dspec_ctf_sink.specs.Faults.{IsFolderFault};
 
 use crate::fault::{FolderFault, write_fault};
-use crate::system::{SystemFolder, make_file, open_folder, path_in};
+use crate::made::make_file;
+use crate::system::{SystemFolder, open_folder, path_in};
 use std::fs;
 use std::fs::File;
 use std::io::Write;

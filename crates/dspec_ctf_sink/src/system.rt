@@ -1,5 +1,4 @@
-ghost use Rattle.std.specs.Prelude.{◌≡◌, ◌≢◌, ◌<◌, length, vec_len, [], All, List, Some, IfOk, IfErr, IfSome, None, OnOk, string_bytes, true};
-ghost use Rattle.std.specs.Fs.{new_options, with_append, with_create_new};
+ghost use Rattle.std.specs.Prelude.{◌≡◌, ◌≢◌, ◌<◌, length, vec_len, [], All, List, Some, IfOk, IfErr, IfSome, None, OnOk, string_bytes};
 ghost use Rattle.dspec_ctf_sink.specs.Faults.{IsFolderFault, IsWriteFault};
 ghost use Rattle.dspec_ctf_sink.specs.Held.{FilesHave, HaveBesides, IsFileAt, path_in};
 ghost use Rattle.dspec_ctf_sink.specs.Writes.{FileWrite};
@@ -10,7 +9,7 @@ use crate::fault::{FolderFault, look_fault, write_fault};
 use crate::folder::Folder;
 use crate::held::{Cuttable, HeldFile};
 use std::alloc::{AllocError, Global};
-use std::fs::{File, OpenOptions};
+use std::fs::File;
 use std::os::fd::{AsRawFd, RawFd};
 use std::{fs, io};
 
@@ -90,26 +89,6 @@ fn no_file_by<T: Drop>(first: Option<io::Result<T>>) -> Result<(), FolderFault>
     }
 }
 
-/// How a file is made: to write behind its end, and never one that is there, nor where a link leads.
-fn new_file() -> OpenOptions
-    ensures { result ≡ with_create_new (with_append new_options true) true }
-{
-    let mut options = File::options();
-    options.append(true).create_new(true);
-    options
-}
-
-/// Makes the file of that path.
-pub(crate) fn make_file(rt: &HostRuntime, path: &str) -> Result<File, FolderFault>
-    ensures write { IfErr result IsWriteFault }
-    ensures folder { IfErr result IsFolderFault }
-{
-    match new_file().open(rt, path) {
-        Ok(file) => Ok(file),
-        Err(fault) => Err(write_fault(&fault)),
-    }
-}
-
 /// Where the file of that name stands among these.
 fn place_of<W: Cuttable>(files: &[HeldFile<W>], name: &str) -> Option<usize>
     ensures there { IfSome result (IsFileAt files.now name.now) }
@@ -133,11 +112,12 @@ fn make_place(
     ensures kept { (writes : List FileWrite) → FilesHave files.old.items writes → FilesHave files.new.items writes }
     ensures fault { IfErr result IsWriteFault }
 {
-    let path = path_in(alloc, folder.as_raw_fd(), name)?;
+    let number = folder.as_raw_fd();
+    let path = path_in(alloc, number, name)?;
     let name = String::from_str(alloc, name)?;
     files.reserve(1)?;
-    let file = make_file(rt, path.as_str())?;
-    files.push(HeldFile::new(name, CountedFile::of(file)))?;
+    let file = CountedFile::make(rt, path)?;
+    files.push(HeldFile::new(number, name, file))?;
     Ok(files.len() - 1)
 }
 

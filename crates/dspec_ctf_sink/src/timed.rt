@@ -299,6 +299,15 @@ impl<F: Folder> TimedFolder<F> {
     {
         ended_by(self.lost)
     }
+
+    /// Ends the trace by time: its place, and what `finish` tells.
+    pub fn end(self) -> (F, Option<Loss>)
+        ensures lost { result.1 ≡ self.lost }
+        ensures place { F.written result.0 ≡ self.written }
+    {
+        let TimedFolder { folder, lost, .. } = self;
+        (folder, lost)
+    }
 }
 
 impl<F: Folder> Lossy for TimedFolder<F> {

@@ -1,5 +1,6 @@
 mod Filling
 mod Floats
-mod Putting
 mod Firing
+mod Parts
+mod Words
 mod Shown

@@ -1,8 +1,9 @@
 -- Cited by calls. The probes of a program: their schema and their names, and what one more adds.
-use Rattle.std.specs.Prelude.{◌≡◌, ◌++◌, ◌∷◌, [], ℕ, Bool, List, length, map}
+use Rattle.std.specs.Prelude.{◌≡◌, ◌+◌, ◌++◌, ◌∷◌, [], ℕ, Bool, List, length, map}
 use Rattle.dspec_record.specs.EnablingRows.{EnabledRows}
 use Rattle.dspec_record.specs.declared.field.Field.{Field}
 use Rattle.dspec_record.specs.declared.header.Header.{Header}
+use Rattle.dspec_probe.specs.Kinds.{next_words}
 use Rattle.dspec_probe.specs.Probes.{HasProbe}
 use Rattle.dspec_probe.specs.declared.probe.Probe.{Probe}
 use Rattle.dspec_probe.specs.declared.probes.ProbeNames.{ProbeNames}
@@ -12,9 +13,9 @@ pub record Declared : Type 0 where
   pub names : List ProbeNames
   pub truths : List (List Bool)
 
--- each has a name, and as many as fields beside it
+-- each has a name, and as many as fields beside it, where a text is one field
 abbrev pub AreNamed : List (List Field) → List ProbeNames → Type 0
-AreNamed rows names = map length rows ≡ map (λ (n : ProbeNames). length n.fields.now) names
+AreNamed rows names = map length rows ≡ map (λ (n : ProbeNames). length n.fields.now + next_words n.kinds) names
 
 -- One probe more, with these fields and names: it is the last of the schema's, and whatever probe the schema had it has still.
 pub record Declares {F : Type 0} (fields : List Field) (p : Probe F) (names : ProbeNames) (old new : Declared) : Type 0 where

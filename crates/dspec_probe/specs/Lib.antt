@@ -1,6 +1,10 @@
 pub mod Values
-pub mod Tuples
+pub mod Kinds
+pub mod Parts
+pub mod Rooms
+pub mod Texts
 pub mod FieldLists
+pub mod NumberLists
 pub mod Laws
 pub mod Probes
 pub mod Truths

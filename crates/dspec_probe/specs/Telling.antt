@@ -1,5 +1,5 @@
 -- Cited by calls. A record as text: the name of its probe, and behind it what each field says, by its name.
-use Rattle.std.specs.Prelude.{ℕ, zero, suc, ◌^◌, ◌-◌, ◌++◌, Bool, true, false, ℤ, List, [], length, nat_eq, slice_get, slice_index_or, if◌then◌else◌}
+use Rattle.std.specs.Prelude.{ℕ, zero, suc, ◌^◌, ◌-◌, ◌++◌, Bool, true, false, ℤ, List, [], length, nat_eq, nat_lt, slice_get, slice_index_or, if◌then◌else◌}
 use Rattle.std.specs.Prelude.{Option, Some, None, option_map, option_and_then, codes, decimal}
 use Rattle.std.specs.Fmt.{option_append, signed_decimal}
 use Rattle.std.specs.Int.{w8, w16, w32, w64}
@@ -10,13 +10,13 @@ use Rattle.dspec_record.specs.Schemas.{enabling_of}
 use Rattle.dspec_record.specs.declared.field.Field.{Field}
 use Rattle.dspec_record.specs.declared.field.Field.TheVariants.{One, Two, Four, Eight}
 use Rattle.dspec_probe.specs.Declarations.{Declared}
-use Rattle.dspec_probe.specs.Tuples.{◌>>=◌}
+use Rattle.dspec_probe.specs.Kinds.{name_place}
 use Rattle.dspec_probe.specs.Values.{signed, float}
 use Rattle.dspec_probe.specs.declared.kind.Kind.{Kind}
 use Rattle.dspec_probe.specs.declared.kind.Kind.TheVariants as kind
 use Rattle.dspec_probe.specs.declared.probes.ProbeNames.{ProbeNames}
 use Rattle.dspec_probe.specs.declared.telling.Meaning.{Meaning}
-use Rattle.dspec_probe.specs.declared.telling.Meaning.TheVariants.{Unsigned, Signed, Truth, Label, Single, Double}
+use Rattle.dspec_probe.specs.declared.telling.Meaning.TheVariants.{Unsigned, Signed, Truth, Label, Single, Double, Text, TextNext}
 use Rattle.dspec_probe.specs.declared.telling.Told.{Told}
 
 -- a number of this width in two's complement
@@ -46,16 +46,29 @@ field_meaning n truth k width place number =
     option_map_or Label (option_and_then (λ all. option_and_then (λ ls. slice_get ls.now number) (slice_get all.now place)) n.labels)
     (truth_meaning truth k width number)
 
--- the field at this place of a record that is told: what its number says, and its name
-abbrev pub told_meaning : Told → ℕ → Meaning
-told_meaning t place =
-    field_meaning t.names (slice_index_or t.truths place false) (slice_index_or t.names.kinds place kind.Unsigned)
-    (slice_index_or t.fields place Eight) place (slice_index_or t.rec.values place 0)
+-- the place of a field's name: each word of a text has the text's
+abbrev pub told_name_place : Told → ℕ → ℕ
+told_name_place t place = if nat_lt place 8 then name_place t.names.kinds place else place
 
+-- the field at this place of a record that is told: its name, and what its number says
 abbrev pub told_name : Told → ℕ → List ℕ
-told_name t place = option_map_or (λ name. name.now) (slice_get t.names.fields.now place) []
+told_name t place = option_map_or (λ name. name.now) (slice_get t.names.fields.now (told_name_place t place)) []
 
--- the digits of a float aren't said
+abbrev pub told_number : Told → Kind → ℕ → Meaning
+told_number t k place =
+    field_meaning t.names (slice_index_or t.truths place false) k
+    (slice_index_or t.fields place Eight) (told_name_place t place) (slice_index_or t.rec.values place 0)
+
+-- by its kind: a text's first word, one of its next words, any other number
+abbrev pub told_by_kind : Told → Kind → ℕ → Meaning
+told_by_kind t kind.Text place = Text (record { rec = t.rec; kinds = t.names.kinds; place = place })
+told_by_kind t kind.TextNext place = TextNext
+told_by_kind t k place = told_number t k place
+
+abbrev pub told_meaning : Told → ℕ → Meaning
+told_meaning t place = told_by_kind t (slice_index_or t.names.kinds place kind.Unsigned) place
+
+-- how a float and a text are written isn't said
 abbrev pub meaning_text : Meaning → Option (List ℕ)
 meaning_text (Unsigned n) = Some (decimal n)
 meaning_text (Signed z) = Some (signed_decimal z)
@@ -63,6 +76,8 @@ meaning_text (Truth b) = Some (if b then codes "true" else codes "false")
 meaning_text (Label l) = Some l.now
 meaning_text (Single _) = None
 meaning_text (Double _) = None
+meaning_text (Text _) = None
+meaning_text TextNext = None
 
 abbrev pub named_text : List ℕ → Meaning → Option (List ℕ)
 named_text name meaning = option_map (λ text. codes " " ++ name ++ codes "=" ++ text) (meaning_text meaning)
@@ -77,8 +92,7 @@ told_text t = option_append (Some t.names.event.now) (told_fields t (length t.re
 
 -- a record of one of these probes, told
 abbrev pub told_record : Declared → Record → Option Told
-told_record probes r = do
-  fields ← enabling_of probes.schema.rows r.epid
-  names ← slice_get probes.names (r.epid - 1)
-  truths ← slice_get probes.truths (r.epid - 1)
-  if nat_eq (length r.values) (length fields) then Some (record { names = names; truths = truths; fields = fields; rec = r }) else None
+told_record probes r =
+    option_and_then (λ fields. option_and_then (λ names. option_and_then (λ truths.
+    if nat_eq (length r.values) (length fields) then Some (record { names = names; truths = truths; fields = fields; rec = r }) else None)
+    (slice_get probes.truths (r.epid - 1))) (slice_get probes.names (r.epid - 1))) (enabling_of probes.schema.rows r.epid)

@@ -30,7 +30,7 @@ impl Model for FieldList {
 }
 
 impl FieldList {
-    ghost use Rattle.std.specs.Prelude.{◌≡◌, ◌≤◌, length};
+    ghost use Rattle.std.specs.Prelude.{◌≡◌, ◌≤◌, ◌<◌, ◌++◌, ◌∷◌, [], length};
 
     /// These fields.
     #[inline(always)]
@@ -43,6 +43,31 @@ impl FieldList {
         FieldList {
             held,
             len: fields.len(),
+        }
+    }
+
+    /// None yet.
+    #[inline(always)]
+    pub fn new() -> FieldList
+        ensures { result ≡ [] }
+    {
+        FieldList {
+            held: [Field::One; MAX_FIELDS],
+            len: 0,
+        }
+    }
+
+    /// One more behind them.
+    #[inline(always)]
+    pub fn with(self, field: Field) -> FieldList
+        requires { length self < 8 }
+        ensures { result ≡ self ++ field ∷ [] }
+    {
+        let mut held = self.held;
+        held[self.len] = field;
+        FieldList {
+            held,
+            len: self.len + 1,
         }
     }
 

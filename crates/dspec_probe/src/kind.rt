@@ -1,4 +1,4 @@
-/// What the number that a record has of a field means. A trace folder says it of each field that has a name.
+/// What the number that a record has of a field means. A trace folder says it of each field.
 #[derive(Debug, Clone, Copy, PartialEq, Eq)]
 pub enum Kind {
     /// The number itself. A truth value is 0 or 1.
@@ -7,4 +7,8 @@ pub enum Kind {
     Signed,
     /// A float, by its bits.
     Float,
+    /// The first eight bytes of a text, the lowest byte first.
+    Text,
+    /// The next eight bytes of the text in front of it. It has no name of its own.
+    TextNext,
 }

@@ -1,6 +1,7 @@
-ghost use Rattle.std.specs.Prelude.{◌≡◌, ◌≢◌, ◌≤◌, ◌<◌, ◌++◌, ◌∷◌, ◌↔◌, [], length, Some, None, IfOk, OnErr, OnOk};
+ghost use Rattle.std.specs.Prelude.{◌≡◌, ◌≢◌, ◌≤◌, ◌<◌, ◌+◌, ◌++◌, ◌∷◌, ◌↔◌, [], length, Some, None, IfOk, IsTrue, OnErr, OnOk};
 ghost use Rattle.dspec_probe.specs.declared.fault.ProbeFault.{ProbeFault};
 ghost use Rattle.dspec_probe.specs.Declarations.{Declares};
+ghost use Rattle.dspec_probe.specs.Kinds.{next_words};
 
 use crate::truth::truths;
 use crate::{Fields, Kind, Probe, ProbeFault};
@@ -16,11 +17,11 @@ const MAX_PROBES: u32 = 64;
 pub struct ProbeNames<'n> {
     /// The probe's.
     pub event: &'n str,
-    /// Of each field one.
+    /// Of each field one; a text has one, whatever words it has.
     pub fields: &'n [&'n str],
-    /// Of each field what its number means; behind the last it is Unsigned.
+    /// Of each field what its number means, and of a text each word; behind the last it is Unsigned.
     pub kinds: [Kind; 8],
-    /// Of each field what its values 0, 1, .. are called, as far as they have labels; None where no field's have.
+    /// Of each name what the field's values 0, 1, .. are called, as far as they have labels; None where no field's have.
     pub labels: Option<&'n [&'n [&'n str]]>,
 }
 
@@ -39,6 +40,29 @@ impl<'n> ProbeNames<'n> {
             labels: None,
         }
     }
+}
+
+/// How many of these are next words of a text.
+pub fn next_words(kinds: &[Kind]) -> usize
+    ensures count { result ≡ next_words kinds.now }
+    ensures few { result ≤ length kinds.now }
+{
+    let mut count = 0;
+    for kind in kinds {
+        if *kind == Kind::TextNext {
+            count += 1;
+        }
+    }
+    count
+}
+
+// Whether so many names are one for each of these fields, but for the next words of texts.
+fn has_names(names: usize, kinds: &[Kind; 8], fields: usize) -> bool
+    requires { fields ≤ 8 }
+    ensures { IsTrue result ↔ (names + next_words kinds.now ≡ fields) }
+{
+    let next = next_words(kinds);
+    next <= fields && names == fields - next
 }
 
 /// The probes of a program, as they are declared: what a session wants of them, and what a trace folder wants.
@@ -87,7 +111,7 @@ impl<'n> Probes<'n> {
 
     // One probe more, if there is room.
     fn declare<F: Fields>(&mut self, names: ProbeNames<'n>) -> Result<Probe<F>, ProbeFault>
-        requires { length names.fields.now ≡ length F.fields_are }
+        requires { length names.fields.now + next_words names.kinds ≡ length F.fields_are }
         ensures declared { IfOk result (λ p. Declares F.fields_are p names.entry self.old self.new) }
         ensures truths { OnOk result (self.new.truths ≡ self.old.truths ++ truths_of F.values_of (length F.fields_are) ∷ []) }
         ensures refused { OnErr result (self.new ≡ self.old) }
@@ -108,7 +132,7 @@ impl<'n> Probes<'n> {
         })
     }
 
-    /// Declares a probe: its name, those of its fields, and by its type what they are. An `Err` changes nothing.
+    /// Declares a probe: its name, those of its fields, and by its type what they are. A text has one name. An `Err` changes nothing.
     pub fn probe<F: Fields>(
         &mut self,
         event: &'n str,
@@ -117,23 +141,24 @@ impl<'n> Probes<'n> {
         ensures declared { IfOk result (λ p. Declares F.fields_are p (record { event = event.entry; fields = fields.entry; kinds = F.kinds_are; labels = None }) self.old self.new) }
         ensures truths { OnOk result (self.new.truths ≡ self.old.truths ++ truths_of F.values_of (length F.fields_are) ∷ []) }
         ensures refused { OnErr result (self.new ≡ self.old) }
-        ensures field_count { (result ≡ Err ProbeFault.FieldCount) ↔ (length fields.now ≢ length F.fields_are) }
+        ensures field_count { (result ≡ Err ProbeFault.FieldCount) ↔ (length fields.now + next_words F.kinds_are ≢ length F.fields_are) }
         ensures label_count { result ≢ Err ProbeFault.LabelCount }
-        ensures too_many { (result ≡ Err ProbeFault.TooMany) ↔ ((length fields.now ≡ length F.fields_are) × (64 ≤ length self.old.schema.rows)) }
+        ensures too_many { (result ≡ Err ProbeFault.TooMany) ↔ ((length fields.now + next_words F.kinds_are ≡ length F.fields_are) × (64 ≤ length self.old.schema.rows)) }
     {
-        if fields.len() != F::fields().as_slice().len() {
+        let kinds = F::kinds();
+        if !has_names(fields.len(), &kinds, F::fields().as_slice().len()) {
             return Err(ProbeFault::FieldCount);
         }
         self.declare(ProbeNames {
             event,
             fields,
-            kinds: F::kinds(),
+            kinds,
             labels: None,
         })
     }
 
     /// As `probe`, of fields whose values have labels: of each field what its values 0, 1, .. are called, an empty list where they
-    /// have none. A trace folder shows the label beside the number; of a float it shows none. An `Err` changes nothing.
+    /// have none. A trace folder shows the label beside the number; of a float or a text it shows none. An `Err` changes nothing.
     pub fn probe_labelled<F: Fields>(
         &mut self,
         event: &'n str,
@@ -143,21 +168,22 @@ impl<'n> Probes<'n> {
         ensures declared { IfOk result (λ p. Declares F.fields_are p (record { event = event.entry; fields = fields.entry; kinds = F.kinds_are; labels = Some labels.entry }) self.old self.new) }
         ensures truths { OnOk result (self.new.truths ≡ self.old.truths ++ truths_of F.values_of (length F.fields_are) ∷ []) }
         ensures refused { OnErr result (self.new ≡ self.old) }
-        ensures field_count { (result ≡ Err ProbeFault.FieldCount) ↔ (length fields.now ≢ length F.fields_are) }
-        ensures label_count { (result ≡ Err ProbeFault.LabelCount) ↔ ((length fields.now ≡ length F.fields_are) × (length labels.now ≢ length F.fields_are)) }
+        ensures field_count { (result ≡ Err ProbeFault.FieldCount) ↔ (length fields.now + next_words F.kinds_are ≢ length F.fields_are) }
+        ensures label_count { (result ≡ Err ProbeFault.LabelCount) ↔ ((length fields.now + next_words F.kinds_are ≡ length F.fields_are) × (length labels.now ≢ length fields.now)) }
         ensures too_many { (result ≡ Err ProbeFault.TooMany)
-            ↔ ((length fields.now ≡ length F.fields_are) × (length labels.now ≡ length F.fields_are) × (64 ≤ length self.old.schema.rows)) }
+            ↔ ((length fields.now + next_words F.kinds_are ≡ length F.fields_are) × length labels.now ≡ length fields.now × 64 ≤ length self.old.schema.rows) }
     {
-        if F::fields().as_slice().len() != fields.len() {
+        let kinds = F::kinds();
+        if !has_names(fields.len(), &kinds, F::fields().as_slice().len()) {
             return Err(ProbeFault::FieldCount);
         }
-        if labels.len() != F::fields().as_slice().len() {
+        if labels.len() != fields.len() {
             return Err(ProbeFault::LabelCount);
         }
         self.declare(ProbeNames {
             event,
             fields,
-            kinds: F::kinds(),
+            kinds,
             labels: Some(labels),
         })
     }

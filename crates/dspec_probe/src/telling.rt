@@ -1,11 +1,13 @@
-ghost use Rattle.std.specs.Prelude.{◌≡◌, length, option_and_then, slice_get};
-ghost use Rattle.dspec_probe.specs.Telling.{field_meaning, kind_meaning, meaning_text, signed_number, told_record, named_text, told_meaning, told_name, told_text, truth_meaning};
+ghost use Rattle.std.specs.Prelude.{◌≡◌, ◌↔◌, IsTrue, length, option_and_then, slice_get, slice_index_or};
+ghost use Rattle.dspec_probe.specs.Telling.{field_meaning, kind_meaning, meaning_text, signed_number, told_record, named_text, told_meaning, told_name, told_name_place, told_number, told_text, truth_meaning};
 ghost use Rattle.dspec_record.specs.declared.field.Field.TheVariants as field;
+ghost use Rattle.dspec_probe.specs.declared.telling.Meaning.TheVariants.{TextNext};
 ghost use Rattle.dspec_probe.specs.declared.kind.Kind.TheVariants as kind;
+ghost use Rattle.dspec_probe.specs.declared.kind.Kind.TheVariants.{Unsigned};
 
-use crate::{FieldList, Kind, ProbeNames, Probes, Value};
+use crate::{FieldList, Kind, ProbeNames, Probes, Value, next_words};
 use dspec_record::{Field, Rec};
-use std::fmt;
+use std::{fmt, str};
 
 /// What a number of a record says.
 #[derive(Debug, Clone, Copy)]
@@ -22,6 +24,123 @@ pub enum Meaning<'n> {
     Single(f32),
     /// A float of 64 bits.
     Double(f64),
+    /// A text.
+    Text(ToldText),
+    /// A word of the text in front of it, which isn't shown again.
+    TextNext,
+}
+
+/// A text of a record. It is shown between quotes: quotes and backslashes with a backslash in front, characters for control and bytes
+/// that aren't UTF-8 by their numbers, as `\x0a`.
+#[derive(Debug, Clone, Copy)]
+pub struct ToldText {
+    rec: Rec,
+    kinds: [Kind; 8],
+    place: usize,
+}
+
+/// The most bytes that a text of a record has.
+const MAX_BYTES: usize = 64;
+
+impl ToldText {
+    // How many words it has.
+    fn count(&self) -> usize {
+        let mut count = 1usize;
+        for (place, kind) in self.kinds.iter().enumerate() {
+            if place > self.place {
+                if *kind != Kind::TextNext {
+                    return count;
+                }
+                count = count.saturating_add(1);
+            }
+        }
+        count
+    }
+
+    // Its byte at a place; zero behind its last word.
+    fn byte(&self, place: usize) -> u8 {
+        if place / 8 >= self.count() {
+            return 0;
+        }
+        let word = match self.rec.values().get(self.place.saturating_add(place / 8)) {
+            Some(word) => *word,
+            None => 0,
+        };
+        match word.to_le_bytes().get(place % 8) {
+            Some(byte) => *byte,
+            None => 0,
+        }
+    }
+}
+
+/// How many bytes the character has that begins by this byte, as UTF-8 has it.
+fn character_size(first: u8) -> usize {
+    match first {
+        0..=0x7f => 1,
+        0xc2..=0xdf => 2,
+        0xe0..=0xef => 3,
+        0xf0..=0xf4 => 4,
+        _ => 0,
+    }
+}
+
+// Writes bytes by their numbers.
+fn write_numbers<W: fmt::Write>(f: &mut fmt::Formatter<W>, bytes: &[u8]) -> fmt::Result {
+    for byte in bytes {
+        write!(f, "\\x{byte:02x}")?;
+    }
+    Ok(())
+}
+
+// Writes a character as it stands between quotes.
+fn write_character<W: fmt::Write>(f: &mut fmt::Formatter<W>, character: &str) -> fmt::Result {
+    match character.as_bytes() {
+        [b'"' | b'\\'] => write!(f, "\\{character}"),
+        [0..=31 | 127] | [194, 128..=159] => write_numbers(f, character.as_bytes()),
+        _ => write!(f, "{character}"),
+    }
+}
+
+// Writes the character with which these bytes begin, or their first byte by its number; answers how many bytes that were.
+fn write_first<W: fmt::Write>(
+    f: &mut fmt::Formatter<W>,
+    bytes: &[u8],
+) -> Result<usize, fmt::Error> {
+    let Some(first) = bytes.first() else {
+        return Ok(1);
+    };
+    let size = character_size(*first);
+    if size >= 1 && size <= bytes.len() {
+        if let Ok(character) = str::from_utf8(&bytes[..size]) {
+            write_character(f, character)?;
+            return Ok(size);
+        }
+    }
+    write_numbers(f, &[*first])?;
+    Ok(1)
+}
+
+impl fmt::Display for ToldText {
+    fn fmt<W: fmt::Write>(&self, f: &mut fmt::Formatter<W>) -> fmt::Result {
+        let mut bytes = [0; MAX_BYTES];
+        let mut size = 0;
+        for place in 0..MAX_BYTES {
+            let byte = self.byte(place);
+            if byte == 0 {
+                break;
+            }
+            bytes[place] = byte;
+            size = place + 1;
+        }
+        write!(f, "\"")?;
+        let mut shown = 0;
+        for place in 0..size {
+            if place >= shown {
+                shown = place.saturating_add(write_first(f, &bytes[place..size])?);
+            }
+        }
+        write!(f, "\"")
+    }
 }
 
 // A number of this width in two's complement.
@@ -79,6 +198,16 @@ impl<'n> Meaning<'n> {
         }
     }
 
+    // Whether it is a word that is shown with the text in front.
+    fn is_next_word(&self) -> bool
+        ensures { IsTrue result ↔ (self.now ≡ TextNext) }
+    {
+        match *self {
+            Meaning::TextNext => true,
+            _ => false,
+        }
+    }
+
     // Of a field that may be a truth value.
     fn by_truth(truth: bool, kind: Kind, width: Field, number: u64) -> Meaning<'n>
         ensures { result ≡ truth_meaning truth kind width number }
@@ -130,6 +259,8 @@ impl fmt::Display for Meaning<'_> {
             Meaning::Label(label) => write!(f, "{label}"),
             Meaning::Single(float) => write!(f, "{float}"),
             Meaning::Double(float) => write!(f, "{float}"),
+            Meaning::Text(text) => write!(f, "{text}"),
+            Meaning::TextNext => Ok(()),
         }
     }
 }
@@ -147,14 +278,17 @@ impl fmt::Display for ToldField<'_> {
     ghost output = { λ f. named_text f.name.now f.meaning };
 
     fn fmt<W: fmt::Write>(&self, f: &mut fmt::Formatter<W>) -> fmt::Result {
-        let ToldField { name, meaning } = *self;
+        let (name, meaning) = (self.name, &self.meaning);
+        if meaning.is_next_word() {
+            return Ok(());
+        }
         write!(f, " {name}={meaning}")
     }
 }
 
 /// A record as text, by the declaration of its probe: the probe's name, and behind it each field by its name, as
 /// `end request=0 done=false micros=11857`. A number that has a label is told by that, a truth value as `true` or `false`, a signed
-/// number and a float as what they are. How the digits of a float are written isn't promised.
+/// number and a float as what they are, a text between quotes. How a float and a text are written isn't promised.
 #[derive(Debug, Clone, Copy)]
 pub struct Told<'n> {
     names: ProbeNames<'n>,
@@ -176,15 +310,61 @@ impl<'n> Told<'n> {
         ensures name { result.name.now ≡ told_name self.now place }
         ensures meaning { result.meaning ≡ told_meaning self.now place }
     {
-        let names = &self.names;
-        let name = match names.fields.get(place) {
+        ToldField {
+            name: self.name(place),
+            meaning: self.meaning(place),
+        }
+    }
+
+    // The place of its name: each word of a text has the text's.
+    fn name_place(&self, place: usize) -> usize
+        ensures { result ≡ told_name_place self.now place }
+    {
+        if place >= 8 {
+            return place;
+        }
+        place.saturating_sub(next_words(&self.names.kinds[..place + 1]))
+    }
+
+    // Its name.
+    fn name(&self, place: usize) -> &'n str
+        ensures { result.now ≡ told_name self.now place }
+    {
+        match self.names.fields.get(self.name_place(place)) {
             Some(name) => *name,
             None => "",
-        };
-        let kind = match names.kinds.get(place) {
+        }
+    }
+
+    // What the number of a field means.
+    fn kind(&self, place: usize) -> Kind
+        ensures { result ≡ slice_index_or self.now.names.kinds place Unsigned }
+    {
+        match self.names.kinds.get(place) {
             Some(kind) => *kind,
             None => Kind::Unsigned,
-        };
+        }
+    }
+
+    // What its number says.
+    fn meaning(&self, place: usize) -> Meaning<'n>
+        ensures { result ≡ told_meaning self.now place }
+    {
+        match self.kind(place) {
+            Kind::Text => Meaning::Text(ToldText {
+                rec: self.rec,
+                kinds: self.names.kinds,
+                place,
+            }),
+            Kind::TextNext => Meaning::TextNext,
+            kind => self.number_meaning(kind, place),
+        }
+    }
+
+    // What a number says that is no word of a text.
+    fn number_meaning(&self, kind: Kind, place: usize) -> Meaning<'n>
+        ensures { result ≡ told_number self.now kind place }
+    {
         let truth = match self.truths.get(place) {
             Some(truth) => *truth,
             None => false,
@@ -197,10 +377,14 @@ impl<'n> Told<'n> {
             Some(number) => *number,
             None => 0,
         };
-        ToldField {
-            name,
-            meaning: field_meaning(names, truth, kind, width, place, number),
-        }
+        field_meaning(
+            &self.names,
+            truth,
+            kind,
+            width,
+            self.name_place(place),
+            number,
+        )
     }
 }
 

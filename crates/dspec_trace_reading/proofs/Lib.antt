@@ -1,9 +1,11 @@
 mod Asking
 mod Begun
+mod Carried
 mod Filing
 mod Folding
 mod Growing
 mod InFolder
+mod InTimedFolder
 mod Keeping
 mod Losing
 mod Naming
@@ -11,6 +13,7 @@ mod OwnNumbers
 mod Partly
 mod Read
 mod RowNaming
+mod RanInto
 mod Sharing
 mod Taking
 mod Through

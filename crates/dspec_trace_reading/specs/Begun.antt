@@ -8,6 +8,7 @@ use Rattle.dspec_deeds.specs.declared.config.StartFault.TheVariants as start
 use Rattle.dspec_probe.specs.declared.probes.ProbeNames.{ProbeNames}
 use Rattle.dspec_ctf.specs.declared.names.Names.{Names}
 use Rattle.dspec_ctf.specs.declared.origin.Origin.{Origin}
+use Rattle.dspec_ctf_sink.specs.Timed.{IsTimedBegun, TimedTracing}
 use Rattle.dspec_ctf_sink.specs.Writing.{IsBegun, Tracing}
 use Rattle.dspec_trace_reading.specs.Folders.{AreNamesOf}
 use Rattle.dspec_trace_reading.specs.declared.fault.ToFolderFault.{ToFolderFault}
@@ -20,6 +21,14 @@ pub record IsBegunTrace (e : EnabledRows) (ps : List ProbeNames) (uuid : List �
   pub named : AreNamesOf ps names
   pub whose : origin.uuid ≡ uuid
   pub is : IsBegun origin e names (Some []) begun
+
+-- the same of a folder by time
+pub record IsBegunByTime (e : EnabledRows) (ps : List ProbeNames) (hertz : ℕ) (uuid : List ℕ) (begun : TimedTracing) : Type 0 where
+  pub origin : Origin
+  pub names : Names
+  pub named : AreNamesOf ps names
+  pub whose : origin.uuid ≡ uuid
+  pub is : IsTimedBegun origin hertz e names (Some []) begun
 
 -- no session starts: by the first number of the configuration that is out of range, or else for want of memory
 pub record CantStart (k : Config) (fault : StartFault) : Type 0 where

@@ -4,3 +4,5 @@ pub mod ByTime
 pub mod Folders
 pub mod IntoFolders
 pub mod Laws
+pub mod Ran
+pub mod TimedFolders

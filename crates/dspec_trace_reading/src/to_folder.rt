@@ -1,119 +1,93 @@
-//! A session that is traced into a folder by one call.
+//! A session that is traced into a folder by one call, as its batches are taken.
 
-ghost use Rattle.std.specs.Prelude.{◌≡◌, IfErr, IfOk, None, OnErr};
+ghost use Rattle.std.specs.Prelude.{◌≡◌, Err, IfErr, IfOk, IsOk, None, OnErr};
 ghost use Rattle.dspec_deeds.specs.Ranges.{start_fault};
 ghost use Rattle.dspec.specs.Serving.{ThenServed};
-ghost use Rattle.dspec_trace_reading.specs.Begun.{CantStart, IsBegunTrace, RefusesFolder};
-ghost use Rattle.dspec_trace_reading.specs.IntoFolders.{IsTracedInto};
+ghost use Rattle.dspec.specs.Workers.{one_for, with_cpus};
+ghost use Rattle.dspec_trace_reading.specs.Begun.{IsBegunTrace, RefusesFolder};
+ghost use Rattle.dspec_trace_reading.specs.Ran.{IsOfTrace};
+ghost use Rattle.dspec_trace_reading.specs.IntoFolders.{AreTracedInto, IsTracedInto};
 
 use crate::fault::ToFolderFault;
-use dspec::{Both, Closed, Config, Enablings, Probes, Sink, StartFault, Work, trace};
+use crate::folder_trace::{FolderTrace, Place};
+use crate::running::{Begun, Ran, config_for, prepare, run_in, run_workers_in};
+use dspec::{Config, Enablings, Probes, Sink, Work, Worker};
 use dspec_ctf_reading::laws::{live_file_reads_back, metadata_reads_back};
-use dspec_ctf_sink::{
-    FolderFault, Identity, Loss, Names, Room, SystemFolder, Telling, TraceFolder, Untold,
-};
+use dspec_ctf_sink::{FolderFault, Names, SystemFolder, Telling, TraceFolder};
 use std::thread::Threads;
 
-/// Where a trace goes, and what it calls its program.
-#[derive(Debug, Clone, Copy)]
-pub struct Place<'a> {
-    /// The path of the folder: it is made, or is there and empty.
-    pub path: &'a str,
-    /// The program's name, 1 to 255 bytes of printable ASCII without quotes and backslashes.
-    pub name: &'a str,
-}
-
-/// A session that was traced into a folder.
-#[derive(Drop)]
-pub struct FolderTrace<'a> {
-    /// What is left of its CPUs.
-    pub closed: Closed,
-    /// The folder, whose files are held open still.
-    pub folder: SystemFolder<'a>,
-    /// The trace's own uuid.
-    pub uuid: [u8; 16],
-    /// What wasn't written, if anything: in which file and why first, and how many records.
-    pub lost: Option<Loss>,
-}
-
-/// A trace that is begun, and what its end needs.
-#[derive(Drop)]
-struct Begun<'a> {
-    sink: Telling<'a, TraceFolder<SystemFolder<'a>>>,
-    uuid: [u8; 16],
-    room: Option<Room<'a>>,
-    untold: Untold,
-}
-
-// Makes the folder and writes the metadata. Room for the end is kept where the disk has it.
-fn begin<'a>(
+// Makes the folder and writes the metadata.
+fn make<'a>(
     rt: &'a HostRuntime,
     cpus: u32,
     probes: &Probes<'_>,
     place: Place<'a>,
-) -> Result<Begun<'a>, FolderFault>
-    ensures { IfOk result (λ begun. IsBegunTrace probes.now.schema probes.now.names begun.uuid begun.sink.sink) }
+) -> Result<Begun<'a, TraceFolder<SystemFolder<'a>>>, FolderFault>
+    ensures { IfOk result (λ begun. IsBegunTrace probes.now.schema probes.now.names begun.at_end.uuid begun.sink.sink) }
 {
-    let untold = Untold::new(rt.alloc())?;
-    let folder = SystemFolder::new(rt, place.path)?;
-    let room = folder.keep_room(cpus).ok();
-    let identity = Identity::of_system(rt)?;
+    let (folder, identity, at_end) = prepare(rt, cpus, place.path)?;
     let origin = identity.origin(place.name);
     let names = Names::Given(probes.names());
     let sink = TraceFolder::of(rt.alloc(), folder, &origin, &probes.enablings(), &names)?;
-    Ok(Begun {
-        sink: Telling::new(rt, place.path, sink),
-        uuid: origin.uuid,
-        room,
-        untold,
-    })
+    let sink = Telling::new(rt, place.path, sink);
+    Ok(Begun { sink, at_end })
 }
 
-// Traces into a folder that is begun, and beside it to a sink.
-fn run_in<'a, R: Threads + Sync, W: Work<Enablings>, K: Sink<Enablings>>(
+// The same, where a session may be started.
+fn begin<'a>(
     rt: &'a HostRuntime,
-    threads: &R,
     config: &Config,
     probes: &Probes<'_>,
-    work: &W,
-    sink: K,
-    begun: Begun<'a>,
-) -> (K, Result<FolderTrace<'a>, StartFault>)
-    requires { IsBegunTrace probes.now.schema probes.now.names begun.uuid begun.sink.sink }
-    ensures refused { IfErr result.1 (CantStart config.now) }
-    ensures unchanged { OnErr result.1 (result.0 ≡ sink) }
-    ensures started { IfOk result.1 (λ _. start_fault config.now ≡ None) }
-    ensures read { IfOk result.1 (λ t. IsTracedInto (K.gets probes.now.schema) (ThenServed (W.does probes.now.schema work.now)) probes.now.schema probes.now.names config.now sink t result.0) }
+    place: Place<'a>,
+) -> Result<Begun<'a, TraceFolder<SystemFolder<'a>>>, ToFolderFault>
+    ensures begun { IfOk result (λ begun. IsBegunTrace probes.now.schema probes.now.names begun.at_end.uuid begun.sink.sink) }
+    ensures refused { IfErr result (RefusesFolder config.now) }
 {
-    metadata_reads_back();
-    live_file_reads_back();
-    let schema = probes.enablings();
-    let Begun {
-        sink: second,
-        uuid,
-        room,
-        untold,
-    } = begun;
-    let mut both = Both {
-        first: sink,
-        second,
+    if let Err(fault) = config.check() {
+        return Err(ToFolderFault::Start(fault));
+    }
+    match make(rt, config.cpus, probes, place) {
+        Ok(begun) => Ok(begun),
+        Err(fault) => Err(ToFolderFault::Folder(fault)),
+    }
+}
+
+// The same of a session with so many CPUs.
+fn begin_for<'a>(
+    rt: &'a HostRuntime,
+    config: &Config,
+    cpus: usize,
+    probes: &Probes<'_>,
+    place: Place<'a>,
+) -> Result<Begun<'a, TraceFolder<SystemFolder<'a>>>, ToFolderFault>
+    ensures begun { IfOk result (λ begun. IsBegunTrace probes.now.schema probes.now.names begun.at_end.uuid begun.sink.sink) }
+    ensures refused { IfErr result (RefusesFolder (with_cpus cpus config.now)) }
+{
+    match config_for(config, cpus) {
+        Ok(config) => begin(rt, &config, probes, place),
+        Err(fault) => Err(fault),
+    }
+}
+
+// What came of a trace.
+fn came<'a>(
+    ran: Result<Ran<TraceFolder<SystemFolder<'a>>>, ToFolderFault>,
+) -> Result<FolderTrace<'a>, ToFolderFault>
+    ensures traced { IfOk result (λ t. IfOk ran.entry (λ r. IsOfTrace r t)) }
+    ensures ran { IfOk result (λ _. IsOk ran.entry) }
+    ensures refused { IfErr result (λ fault. ran.entry ≡ Err fault) }
+{
+    let Ran { closed, sink, uuid } = match ran {
+        Ok(ran) => ran,
+        Err(fault) => return Err(fault),
     };
-    let ended = trace(threads, rt.alloc(), config, schema, work, &mut both);
-    let Both { first, mut second } = both;
-    let _ = room.map(Room::give_back);
-    let closed = match ended {
-        Ok(closed) => closed,
-        Err(fault) => return (first, Err(fault)),
-    };
-    untold.tell(&schema, &closed, &mut second);
-    let (folder, lost) = second.sink.end();
-    let traced = FolderTrace {
+    let (folder, lost) = sink.end();
+    Ok(FolderTrace {
         closed,
         folder,
         uuid,
         lost,
-    };
-    (first, Ok(traced))
+    })
 }
 
 /// Traces a session into a new folder of the system, and beside it to a sink, which comes back: `None::<RecordSink>` where there is no other. The folder is
@@ -135,16 +109,35 @@ pub fn trace_to_folder<'a, R: Threads + Sync, W: Work<Enablings>, K: Sink<Enabli
     ensures started { IfOk result.1 (λ _. start_fault config.now ≡ None) }
     ensures read { IfOk result.1 (λ t. IsTracedInto (K.gets probes.now.schema) (ThenServed (W.does probes.now.schema work.now)) probes.now.schema probes.now.names config.now sink t result.0) }
 {
-    if let Err(fault) = config.check() {
-        return (sink, Err(ToFolderFault::Start(fault)));
-    }
-    let begun = match begin(rt, config.cpus, probes, place) {
-        Ok(begun) => begun,
-        Err(fault) => return (sink, Err(ToFolderFault::Folder(fault))),
-    };
-    let (sink, ended) = run_in(rt, threads, config, probes, work, sink, begun);
-    match ended {
-        Ok(traced) => (sink, Ok(traced)),
-        Err(fault) => (sink, Err(ToFolderFault::Start(fault))),
-    }
+    metadata_reads_back();
+    live_file_reads_back();
+    let begun = begin(rt, config, probes, place);
+    let schema = probes.enablings();
+    let (sink, ran) = run_in(threads, rt.alloc(), config, schema, work, sink, begun);
+    (sink, came(ran))
+}
+
+/// As `trace_to_folder`, with a worker for each CPU, which comes back as `trace_workers` says: there are as many CPUs as workers, and the configuration's own
+/// number isn't read.
+pub fn trace_workers_to_folder<'a, R: Threads + Sync, W: Worker<Enablings>, K: Sink<Enablings>>(
+    rt: &'a HostRuntime,
+    threads: &R,
+    config: &Config,
+    probes: &Probes<'_>,
+    place: Place<'a>,
+    workers: &mut Vec<W>,
+    sink: K,
+) -> (K, Result<FolderTrace<'a>, ToFolderFault>)
+    ensures refused { IfErr result.1 (RefusesFolder (one_for workers.old.items config.now)) }
+    ensures unchanged { OnErr result.1 ((result.0 ≡ sink) × (workers.new ≡ workers.old)) }
+    ensures started { IfOk result.1 (λ _. start_fault (one_for workers.old.items config.now) ≡ None) }
+    ensures read { IfOk result.1 (λ t. AreTracedInto (K.gets probes.now.schema) (W.does probes.now.schema) probes.now config.now workers.old.items workers.new.items sink t result.0) }
+{
+    metadata_reads_back();
+    live_file_reads_back();
+    let begun = begin_for(rt, config, workers.len(), probes, place);
+    let schema = probes.enablings();
+    let alloc = rt.alloc();
+    let (sink, ran) = run_workers_in(threads, alloc, config, schema, workers, sink, begun);
+    (sink, came(ran))
 }

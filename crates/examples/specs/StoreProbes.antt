@@ -6,7 +6,7 @@ use Rattle.dspec_probe.specs.Probes.{IsProbeOf}
 use Rattle.examples.specs.declared.store.probes.StoreProbes.{StoreProbes}
 
 pub record AreStoreProbesOf (p : StoreProbes) (schema : EnabledRows) : Type 0 where
-  pub begin : IsProbeOf (Four ∷ One ∷ []) p.begin schema
+  pub begin : IsProbeOf (Four ∷ One ∷ Eight ∷ Eight ∷ []) p.begin schema
   pub read : IsProbeOf (Four ∷ Two ∷ Eight ∷ []) p.read schema
   pub wait : IsProbeOf (Four ∷ Two ∷ []) p.wait schema
   pub write : IsProbeOf (Four ∷ Two ∷ Eight ∷ []) p.write schema

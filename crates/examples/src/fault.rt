@@ -58,14 +58,3 @@ pub fn in_folder<'a>(
         Some(loss) => Err(ExampleFault::Lost { name, loss }),
     }
 }
-
-/// What is told of how a trace in that folder ended, if one was written.
-pub fn told_end<'a>(
-    folder: Option<&'a str>,
-    end: Result<(), Loss>,
-) -> Result<(), ExampleFault<'a>> {
-    match (folder, end) {
-        (Some(name), Err(loss)) => Err(ExampleFault::Lost { name, loss }),
-        _ => Ok(()),
-    }
-}

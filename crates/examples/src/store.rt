@@ -21,20 +21,25 @@ mod telling;
 use crate::fault::ExampleFault;
 use crate::store::arguments::asked;
 use crate::store::board::Board;
-use crate::store::folder::{finish, trace_asked};
+use crate::store::folder::serve;
 use crate::store::probes::StoreProbes;
-use crate::store::serving::{Server, WORKERS};
+use crate::store::serving::Server;
 use crate::store::telling::{tell_paths, tell_report};
-use dspec::{Both, Closed, Config, Probes, Rec, RecordSink, closed_cpus, trace};
+use dspec::{Closed, Probes, Rec, closed_cpus};
 use dspec_command::{Asked, ended, output_fault, print_text};
-use dspec_ctf_sink::{Room, tell_untold};
 use std::io;
 use std::process::ExitCode;
 use std::thread::Threads;
 
 /// Prints the paths of the records, which are in order of time, the board, and what the CPUs report.
-fn tell_all<R: Print>(rt: &R, records: &[Rec], server: &Server, closed: &Closed) -> io::Result<()> {
-    tell_paths(rt, &server.probes, records)?;
+fn tell_all<R: Print>(
+    rt: &R,
+    declared: &Probes<'_>,
+    records: &[Rec],
+    server: &Server,
+    closed: &Closed,
+) -> io::Result<()> {
+    tell_paths(rt, declared, &server.probes, records)?;
     server.board.tell(rt)?;
     for cpu in closed_cpus(closed) {
         tell_report(rt, cpu.number, cpu.report)?;
@@ -53,19 +58,10 @@ fn transfers<'a, R: Threads + Sync>(
         board: Board::new(),
         probes: StoreProbes::declare(&mut declared)?,
     };
-    let (second, room) = trace_asked(rt, name, &declared)?.unzip();
-    let first = RecordSink::new(rt.alloc());
-    let mut sink = Both { first, second };
-    let schema = declared.enablings();
-    let config = Config::of(WORKERS, 16, 16384, 512);
-    let closed = trace(threads, rt.alloc(), &config, schema, &server, &mut sink)?;
-    let Both { first, mut second } = sink;
-    let _ = room.flatten().map(Room::give_back);
-    tell_untold(rt.alloc(), &schema, &closed, &mut second)?;
-    finish(name, second)?;
-    let mut records = first.records()?;
+    let (closed, kept) = serve(rt, threads, name, &declared, &server)?;
+    let mut records = kept.records()?;
     records.sort_by_key(|rec: &Rec| rec.stamp())?;
-    match tell_all(rt, &records, &server, &closed) {
+    match tell_all(rt, &declared, &records, &server, &closed) {
         Ok(()) => Ok(()),
         Err(reason) => Err(ExampleFault::Command(output_fault(reason))),
     }

@@ -1,8 +1,11 @@
 //! A session that is traced into a folder of the system by one call.
 use crate::disk::free_path;
-use dspec::{Closed, Config, Enablings, Lane, Probe, Probes, RecordSink, Recording, Work};
+use dspec::{Closed, Config, Enablings, Lane, Probe, Probes, RecordSink, Recording, Work, Worker};
 use dspec_ctf_sink::FolderFault;
-use dspec_trace_reading::{Place, ToFolderFault, trace_to_folder};
+use dspec_trace_reading::{
+    Place, StampClock, ToFolderFault, trace_to_folder, trace_to_timed_folder,
+    trace_workers_to_folder, trace_workers_to_timed_folder,
+};
 use std::fs;
 use std::test::Fail;
 
@@ -16,6 +19,14 @@ impl Work<Enablings> for Once {
     fn work(&self, lane: &mut Lane<'_, Enablings>) {
         if let Ok(probe) = self.probe.on(lane) {
             probe.record(lane, 0, (7,));
+        }
+    }
+}
+
+impl Worker<Enablings> for Once {
+    fn work(&mut self, lane: &mut Lane<'_, Enablings>) {
+        if let Ok(probe) = self.probe.on(lane) {
+            probe.record(lane, 5, (7,));
         }
     }
 }
@@ -49,6 +60,76 @@ fn a_session_in_a_folder(rt: HostRuntime) -> Result<(), Fail> {
     let (kept, refused) = trace_to_folder(&rt, &rt, &config, &probes, place, &work, kept);
     assert!(rt; refused.err() == Some(ToFolderFault::Folder(FolderFault::NotEmpty)));
     assert!(rt; kept.records()?.is_empty());
+    fs::remove_dir_all(&rt, path)?;
+    Ok(())
+}
+
+/// Two workers, which stand at their places again: each CPU's record is in a packet of its file.
+#[test]
+fn workers_in_a_folder(rt: HostRuntime) -> Result<(), Fail> {
+    let path = free_path(&rt, "workers_in_a_folder")?;
+    let mut probes = Probes::unstamped(rt.alloc());
+    let probe = probes.probe("once", &["number"])?;
+    let mut workers = Vec::new(rt.alloc());
+    workers.push(Once { probe })?;
+    workers.push(Once { probe })?;
+    let config = Config::of(64, 1, 64, 64);
+    let (path, name) = (path.as_str(), "test");
+    let place = Place { path, name };
+    let none = None::<RecordSink>;
+    let (none, traced) = trace_workers_to_folder(
+        &rt,
+        &rt,
+        &config,
+        &probes,
+        place,
+        &mut workers,
+        none,
+    );
+    let traced = traced?;
+    assert!(rt; none.is_none() && workers.len() == 2 && traced.closed.cpus() == 2);
+    assert!(rt; traced.lost.is_none() && accepted_by(&traced.closed, 1) == 1);
+    let file = format!(in rt.alloc(); "{path}/cpu_1")?;
+    assert!(rt; fs::metadata(&rt, file.as_str())?.len() == 1024);
+    fs::remove_dir_all(&rt, path)?;
+    Ok(())
+}
+
+/// By time: the record is in the first file of its CPU, behind a session of one work and behind one with a worker.
+#[test]
+fn a_session_in_a_timed_folder(rt: HostRuntime) -> Result<(), Fail> {
+    let mut probes = Probes::new(rt.alloc());
+    let probe = probes.probe("once", &["number"])?;
+    let clock = StampClock {
+        hertz: 1000,
+        start: None,
+    };
+    let config = Config::of(1, 1, 64, 64);
+    let name = "test";
+    let path = free_path(&rt, "a_session_in_a_timed_folder")?;
+    let path = path.as_str();
+    let (place, work, none) = (Place { path, name }, Once { probe }, None::<RecordSink>);
+    let (none, traced) = trace_to_timed_folder(
+        &rt, &rt, &config, &probes, place, clock, &work, none,
+    );
+    assert!(rt; traced?.lost.is_none());
+    let file = format!(in rt.alloc(); "{path}/cpu_0_0")?;
+    assert!(rt; fs::metadata(&rt, file.as_str())?.len() == 1024);
+    fs::remove_dir_all(&rt, path)?;
+    let mut workers = Vec::new(rt.alloc());
+    workers.push(work)?;
+    let (_none, traced) = trace_workers_to_timed_folder(
+        &rt,
+        &rt,
+        &config,
+        &probes,
+        place,
+        clock,
+        &mut workers,
+        none,
+    );
+    assert!(rt; accepted_by(&traced?.closed, 0) == 1);
+    assert!(rt; fs::metadata(&rt, file.as_str())?.len() == 1024);
     fs::remove_dir_all(&rt, path)?;
     Ok(())
 }

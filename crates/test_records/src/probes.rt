@@ -3,3 +3,4 @@ mod declaring;
 mod numbers;
 mod reading;
 mod telling;
+mod text_fields;

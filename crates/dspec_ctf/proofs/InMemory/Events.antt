@@ -27,7 +27,7 @@ rest_is xs n = take_all (length xs - n) (drop n xs) (omega (arith, length-drop n
 pub of_part : (n : ℕ) (kinds : List ℕ) (fault : TextFault) → HasNoEvents (slice_range kinds n (length kinds)) fault → HasNoEvents kinds fault
 of_part n kinds (TooSmall needed) is = is
 of_part n kinds NotText is = is
-of_part n kinds BadKind is = λ all. is (subst (All (λ kind. kind < 3)) (sym (rest_is kinds n)) (All-drop (λ kind. kind < 3) n kinds all))
+of_part n kinds BadKind is = λ all. is (subst (All (λ kind. kind < 5)) (sym (rest_is kinds n)) (All-drop (λ kind. kind < 5) n kinds all))
 of_part n kinds Count is = is
 of_part n kinds (Metadata fault) is = is
 

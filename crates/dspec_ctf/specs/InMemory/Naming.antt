@@ -1,10 +1,11 @@
 -- Cited by calls. The metadata of a trace by what a caller says of it in plain bytes and numbers.
-use Rattle.std.specs.Prelude.{◌≡◌, ◌<◌, ◌⊎◌, ℕ, All, Bool, true, false, List, [], ◌∷◌, length, map, take, Option, Some, None}
+use Rattle.std.specs.Prelude.{◌≡◌, ◌+◌, ◌<◌, ◌⊎◌, ℕ, All, Bool, true, false, List, [], ◌∷◌, length, map, take, Option, Some, None}
 use Rattle.std.specs.List.{flat_map}
 use Rattle.std.specs.Str.{IsUtf8}
 use Rattle.dspec_record.specs.EnablingRows.{EnabledRows}
 use Rattle.dspec_probe.specs.declared.kind.Kind.{Kind}
-use Rattle.dspec_probe.specs.declared.kind.Kind.TheVariants.{Unsigned, Signed, Float}
+use Rattle.dspec_probe.specs.declared.kind.Kind.TheVariants.{Unsigned, Signed, Float, Text, TextNext}
+use Rattle.dspec_probe.specs.Kinds.{next_words}
 use Rattle.dspec_probe.specs.declared.probes.ProbeNames.{ProbeNames}
 use Rattle.dspec_ctf.specs.Metadata.{origin_text}
 use Rattle.dspec_ctf.specs.Names.{origin_fault}
@@ -25,14 +26,16 @@ abbrev pub kind_number : Kind → ℕ
 kind_number Unsigned = 0
 kind_number Signed = 1
 kind_number Float = 2
+kind_number Text = 3
+kind_number TextNext = 4
 
--- the name of an event and those of its fields
+-- the name of an event and those of its fields; a text has one
 abbrev pub texts_in : ProbeNames → List (List ℕ)
 texts_in n = n.event.now ∷ map (λ name. name.now) n.fields.now
 
--- what the numbers of its fields mean
+-- what the numbers of its fields mean, of a text each word
 abbrev pub kinds_in : ProbeNames → List ℕ
-kinds_in n = map kind_number (take (length n.fields.now) n.kinds)
+kinds_in n = map kind_number (take (length n.fields.now + next_words n.kinds) n.kinds)
 
 -- The names are those of these events and their fields, one event's behind another's, and what the fields' numbers mean are these kinds; no field
 -- has labels.
@@ -87,7 +90,7 @@ HasNoTexts names Count = ⊥
 
 -- these numbers aren't all of kinds, or there aren't as many as are wanted, or memory was wanting
 abbrev pub HasNoEvents : List ℕ → TextFault → Type 0
-HasNoEvents kinds BadKind = All (λ kind. kind < 3) kinds → ⊥
+HasNoEvents kinds BadKind = All (λ kind. kind < 5) kinds → ⊥
 HasNoEvents kinds Count = Unit {0}
 HasNoEvents kinds (Metadata fault) = fault ≡ metadata.Memory
 HasNoEvents kinds (TooSmall needed) = ⊥
@@ -106,7 +109,7 @@ IsRefused identity e names kinds fault =
 abbrev pub HasNoMetadata : Identity → EnabledRows → List (List ℕ) → List ℕ → TextFault → Type 0
 HasNoMetadata identity e names kinds (Metadata fault) = (fault ≡ metadata.Memory) ⊎ IsRefused identity e names kinds fault
 HasNoMetadata identity e names kinds NotText = HasNoOrigin identity
-HasNoMetadata identity e names kinds BadKind = All (λ kind. kind < 3) kinds → ⊥
+HasNoMetadata identity e names kinds BadKind = All (λ kind. kind < 5) kinds → ⊥
 HasNoMetadata identity e names kinds Count = Unit {0}
 HasNoMetadata identity e names kinds (TooSmall needed) = ⊥
 

@@ -44,7 +44,7 @@ pub enum TextFault {
     /// A name, or a text of the identity, isn't UTF-8.
     #[error("a name is no text")]
     NotText,
-    /// What the numbers of a field mean is none of 0, 1 and 2.
+    /// What the numbers of a field mean is none of 0 to 4.
     #[error("no such kind of numbers")]
     BadKind,
     /// There aren't as many names as events and fields, or not as many kinds as fields.

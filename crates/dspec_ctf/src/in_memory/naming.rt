@@ -1,9 +1,11 @@
 //! The names of events and fields.
 
 ghost use Rattle.std.specs.Prelude.{◌≡◌, ◌+◌, ◌<◌, ◌≤◌, IfOk, IfErr, MatchOption, None, length, map, take};
+ghost use Rattle.dspec_probe.specs.Kinds.{next_words};
 ghost use Rattle.dspec_ctf.specs.InMemory.Naming.{AreEvents, HasNoEvents, HasNoTexts, kind_number, kinds_in, texts_in};
 
 use crate::{Kind, ProbeNames, TextFault};
+use dspec_probe::next_words;
 use dspec_record::Enablings;
 use std::alloc::Global;
 use std::str;
@@ -25,12 +27,14 @@ pub(crate) fn texts_of<'a>(alloc: Global, names: &[&'a [u8]]) -> Result<Vec<&'a 
 
 /// What numbers mean, by what that is called at the door.
 fn kind_of(number: u8) -> Option<Kind>
-    ensures { MatchOption result (2 < number) (λ kind. kind_number kind ≡ number) }
+    ensures { MatchOption result (4 < number) (λ kind. kind_number kind ≡ number) }
 {
     match number {
         0 => Some(Kind::Unsigned),
         1 => Some(Kind::Signed),
         2 => Some(Kind::Float),
+        3 => Some(Kind::Text),
+        4 => Some(Kind::TextNext),
         _ => None,
     }
 }
@@ -51,30 +55,36 @@ fn kinds_of(numbers: &[u8]) -> Result<[Kind; 8], TextFault>
     Ok(kinds)
 }
 
-/// The first event of these names, which has so many fields, and what their numbers mean.
+/// The first event of these names, which has so many fields, and what their numbers mean. The next words of a text have no name.
 fn event_of<'a>(
     texts: &'a [&'a str],
     numbers: &[u8],
     count: usize,
 ) -> Result<ProbeNames<'a>, TextFault>
     requires { count ≤ 8 }
-    ensures count { IfOk result (λ event. length event.fields.now ≡ count) }
-    ensures within { IfOk result (λ _. (count < length texts.now) × (count ≤ length numbers.now)) }
-    ensures texts { IfOk result (λ event. texts_in event ≡ take (1 + count) (map (λ text. text.now) texts.now)) }
+    ensures count { IfOk result (λ event. length event.fields.now + next_words event.kinds ≡ count) }
+    ensures within { IfOk result (λ event. (length event.fields.now < length texts.now) × (count ≤ length numbers.now)) }
+    ensures texts { IfOk result (λ event. texts_in event ≡ take (1 + length event.fields.now) (map (λ text. text.now) texts.now)) }
     ensures kinds { IfOk result (λ event. kinds_in event ≡ take count numbers.now) }
     ensures bare { IfOk result (λ event. event.labels ≡ None) }
     ensures fault { IfErr result (HasNoEvents numbers.now) }
 {
-    if texts.len() <= count || numbers.len() < count {
+    if numbers.len() < count {
         return Err(TextFault::Count);
     }
     let kinds = match kinds_of(&numbers[..count]) {
         Ok(kinds) => kinds,
         Err(fault) => return Err(fault),
     };
+    let Some(named) = count.checked_sub(next_words(&kinds)) else {
+        return Err(TextFault::Count);
+    };
+    if texts.len() <= named {
+        return Err(TextFault::Count);
+    }
     Ok(ProbeNames {
         event: texts[0],
-        fields: &texts[1..1 + count],
+        fields: &texts[1..1 + named],
         kinds,
         labels: None,
     })
@@ -109,8 +119,9 @@ pub(crate) fn events_of<'a>(
             Ok(event) => event,
             Err(fault) => return Err(fault),
         };
+        let named = event.fields.len();
         events.push(event)?;
-        text += 1 + count;
+        text += 1 + named;
         number += count;
     }
     if text != texts.len() || number != numbers.len() {

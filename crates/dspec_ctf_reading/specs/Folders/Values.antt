@@ -18,9 +18,11 @@ signed_by Two n = signed w16 n
 signed_by Four n = signed w32 n
 signed_by Eight n = signed w64 n
 
--- what a number of a field of this width and kind stands for, if for anything
+-- what a number of a field of this width and kind stands for, if for anything; a word of a text for itself
 abbrev pub stands_for : Field → Kind → ℕ → Option Shown
 stands_for width kind.Unsigned n = Some (shown.Unsigned n)
+stands_for width kind.Text n = Some (shown.Unsigned n)
+stands_for width kind.TextNext n = Some (shown.Unsigned n)
 stands_for width kind.Signed n = option_map shown.Signed (signed_by width n)
 stands_for One kind.Float n = None
 stands_for Two kind.Float n = None

@@ -1,9 +1,10 @@
 //! What happened, as events of Chrome's Trace Event form, which ui.perfetto.dev and chrome://tracing open. Each event is one JSON
 //! object; a program puts them into the array `traceEvents`.
 
-use super::text::label_of;
+use super::text::{label_of, text_at};
 use super::value::Shown;
 use crate::{EventText, FieldText};
+use dspec_probe::Kind;
 use json::{Writer, is_number};
 use std::alloc::{AllocError, Global};
 
@@ -79,6 +80,31 @@ fn put_value(out: &mut Writer, field: &FieldText<'_>, number: u64) -> Result<(),
         Some(Shown::Double(number)) => put_double(out, number),
         Some(Shown::Unsigned(_)) | None => put_unsigned(out, number),
     }
+}
+
+/// The field at a place, as a member: behind its key stands this. A text is a string, at its first word.
+fn put_member(
+    out: &mut Writer,
+    alloc: Global,
+    event: &EventText<'_>,
+    values: &[u64],
+    place: usize,
+    behind: &str,
+) -> Result<(), AllocError> {
+    let (Some(field), Some(number)) = (event.fields.get(place), values.get(place)) else {
+        return Ok(());
+    };
+    if field.kind == Kind::TextNext {
+        return Ok(());
+    }
+    let name = field.name;
+    let key = format!(in alloc; "{name}{behind}")?;
+    out.key(key.as_str())?;
+    if field.kind == Kind::Text {
+        let text = text_at(alloc, event, values, place)?;
+        return out.string(text.as_str());
+    }
+    put_value(out, field, *number)
 }
 
 /// The members that say which row an event is in.
@@ -158,11 +184,8 @@ fn put_values(
     let key = format!(in alloc; "on cpu{behind}")?;
     out.key(key.as_str())?;
     out.u64(u64::from(record.cpu))?;
-    for (field, number) in event.fields.iter().zip(record.values) {
-        let name = field.name;
-        let key = format!(in alloc; "{name}{behind}")?;
-        out.key(key.as_str())?;
-        put_value(out, field, *number)?;
+    for place in 0..event.fields.len() {
+        put_member(out, alloc, event, record.values, place, behind)?;
     }
     Ok(())
 }
@@ -188,9 +211,8 @@ pub fn chrome_event(
     let mut out = Writer::new(Vec::new(alloc));
     out.begin_object()?;
     put_mark(&mut out, alloc, track, event.name, nanoseconds)?;
-    for (field, number) in event.fields.iter().zip(values) {
-        out.key(field.name)?;
-        put_value(&mut out, field, *number)?;
+    for place in 0..event.fields.len() {
+        put_member(&mut out, alloc, event, values, place, "")?;
     }
     ended(out)
 }

@@ -32,13 +32,13 @@ fn signed(width: Field, number: u64) -> Option<i64>
 }
 
 impl Shown {
-    /// What a number of a field of this width and kind stands for. None of a number that is wider than the field, and of a float of
+    /// What a number of a field of this width and kind stands for; a word of a text for itself. None of a number that is wider than the field, and of a float of
     /// less than four bytes.
     pub fn of(width: Field, kind: Kind, number: u64) -> Option<Shown>
         ensures { result ≡ stands_for width kind number }
     {
         match (kind, width) {
-            (Kind::Unsigned, _) => Some(Shown::Unsigned(number)),
+            (Kind::Unsigned | Kind::Text | Kind::TextNext, _) => Some(Shown::Unsigned(number)),
             (Kind::Signed, _) => Some(Shown::Signed(signed(width, number)?)),
             (Kind::Float, Field::Four) => Some(Shown::Single(f32::value(number)?)),
             (Kind::Float, Field::Eight) => Some(Shown::Double(f64::value(number)?)),

@@ -6,6 +6,30 @@ pub const ACCOUNTS: u64 = 4;
 /// The balance that each begins with.
 const BALANCE: u64 = 100;
 
+/// The names of the accounts' owners, as they gave them.
+const OWNERS: [&str; 12] = [
+    "Ada",
+    "Zoë",
+    "Bo",
+    "Ann \"Nan\" Lee",
+    "Søren",
+    "Alexander von Humboldt",
+    "Vi",
+    "Joan",
+    "高橋さくら子",
+    "Jo\\anna",
+    "Grace",
+    "Émile",
+];
+
+/// The name of an account's owner; none where there is no account.
+pub fn owner_of(account: u16) -> &'static str {
+    match OWNERS.get(account as usize) {
+        Some(owner) => *owner,
+        None => "",
+    }
+}
+
 /// The balances of all accounts.
 #[derive(Drop)]
 pub struct Board {

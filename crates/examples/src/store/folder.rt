@@ -1,62 +1,49 @@
-//! The trace that is written while the workers run.
+//! The session, with a trace that is written while the workers run, where a folder is named.
 
-use crate::fault::{ExampleFault, told_end};
-use crate::store::serving::WORKERS;
-use dspec::Probes;
-use dspec_ctf_sink::{FolderFault, Identity, Names, Room, SystemFolder, Telling, TimedFolder};
+use crate::fault::{ExampleFault, in_folder};
+use crate::store::serving::{Server, WORKERS};
+use dspec::{Closed, Config, Probes, RecordSink, trace};
+use dspec_ctf_sink::ClockStart;
+use dspec_trace_reading::{Place, StampClock, trace_to_timed_folder};
+use std::thread::Threads;
 use std::time::SystemTime;
 
 /// Stamps are in microseconds.
 const HERTZ: u64 = 1_000_000;
 
-/// A trace that is being written. What it loses is told on the error output while the workers run.
-pub type Trace<'a> = Telling<'a, TimedFolder<SystemFolder<'a>>>;
-
-/// The same, and room on its disk for what its end tells, where the disk has it.
-pub type Begun<'a> = (Trace<'a>, Option<Room<'a>>);
-
-/// Begins a trace of this process in the folder of that path, with the names of the probes in its metadata. The workers make up the
-/// time of their stamps, from 0 on, so it is placed at the system's time when the trace begins, where the system tells that.
-fn begun_trace<'a>(
-    rt: &'a HostRuntime,
-    name: &'a str,
-    probes: &Probes<'_>,
-) -> Result<Begun<'a>, FolderFault> {
-    let names = Names::Given(probes.names());
-    let folder = SystemFolder::new(rt, name)?;
-    let room = folder.keep_room(WORKERS).ok();
-    let identity = Identity::of_system(rt)?;
-    let mut origin = identity.origin("store");
-    if let Ok(now) = SystemTime::now(rt) {
-        origin = origin.since(now, HERTZ);
-    }
-    let schema = probes.enablings();
-    let sink = TimedFolder::of(rt.alloc(), folder, &origin, HERTZ, &schema, &names)?;
-    Ok((Telling::new(rt, name, sink), room))
-}
-
-/// The trace in the folder that is asked for, if one is.
-pub fn trace_asked<'a>(
-    rt: &'a HostRuntime,
-    folder: Option<&'a str>,
-    probes: &Probes<'_>,
-) -> Result<Option<Begun<'a>>, ExampleFault<'a>> {
-    let Some(name) = folder else {
-        return Ok(None);
+/// The clock of the stamps. The workers make up their time, from 0 on, so it is placed at the system's time when the trace begins, where
+/// the system tells that.
+fn stamp_clock(rt: &HostRuntime) -> StampClock {
+    let start = match SystemTime::now(rt) {
+        Ok(now) => Some(ClockStart::at(now, HERTZ)),
+        Err(_) => None,
     };
-    match begun_trace(rt, name, probes) {
-        Ok(begun) => Ok(Some(begun)),
-        Err(fault) => Err(ExampleFault::Folder { name, fault }),
+    StampClock {
+        hertz: HERTZ,
+        start,
     }
 }
 
-/// Ends a trace.
-pub fn finish<'a>(
-    folder: Option<&'a str>,
-    begun: Option<Trace<'a>>,
-) -> Result<(), ExampleFault<'a>> {
-    match begun {
-        Some(begun) => told_end(folder, begun.sink.finish()),
-        None => Ok(()),
-    }
+/// Makes all transfers, and gives what is left of the session, and what was kept, which is written to the folder of that path too, if one
+/// is asked for.
+pub fn serve<'a, R: Threads + Sync>(
+    rt: &'a HostRuntime,
+    threads: &R,
+    path: Option<&'a str>,
+    declared: &Probes<'_>,
+    server: &Server,
+) -> Result<(Closed, RecordSink), ExampleFault<'a>> {
+    let kept = RecordSink::new(rt.alloc());
+    let config = Config::of(WORKERS, 16, 16384, 512);
+    let Some(path) = path else {
+        let (mut sink, schema) = (kept, declared.enablings());
+        let closed = trace(threads, rt.alloc(), &config, schema, server, &mut sink)?;
+        return Ok((closed, sink));
+    };
+    let (name, clock) = ("store", stamp_clock(rt));
+    let place = Place { path, name };
+    let (kept, traced) = trace_to_timed_folder(
+        rt, threads, &config, declared, place, clock, server, kept,
+    );
+    Ok((in_folder(path, traced)?, kept))
 }

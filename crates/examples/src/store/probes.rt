@@ -2,14 +2,14 @@ ghost use Rattle.dspec_cpu.specs.Lists.{schema_of};
 ghost use Rattle.std.specs.Prelude.{◌↔◌, IsTrue};
 ghost use Rattle.examples.specs.StoreProbes.{AreStoreProbesOf};
 
-use dspec::{Enablings, Lane, Probe, ProbeFault, Probes, Rec, Recording};
+use dspec::{Enablings, Lane, Probe, ProbeFault, Probes, Rec, Recording, Text};
 
 /// The probes of the store. Each records a stamp in microseconds too. A transfer fires `begin`, then `read`, `wait` and `write` as its
 /// steps go, and `end`.
 #[derive(Debug, Clone, Copy)]
 pub struct StoreProbes {
-    /// The transfer, and its worker.
-    pub begin: Probe<(u32, u8)>,
+    /// The transfer, its worker, and the name of the account's owner.
+    pub begin: Probe<(u32, u8, Text<2>)>,
     /// The transfer, an account, and the balance that was read.
     pub read: Probe<(u32, u16, u64)>,
     /// The transfer, and the account that it waits for.
@@ -31,7 +31,7 @@ impl StoreProbes {
     /// Declares them.
     pub fn declare<'n>(probes: &mut Probes<'n>) -> Result<StoreProbes, ProbeFault> {
         Ok(StoreProbes {
-            begin: probes.probe("begin", &["transfer", "worker"])?,
+            begin: probes.probe("begin", &["transfer", "worker", "owner"])?,
             read: probes.probe("read", &["transfer", "account", "balance"])?,
             wait: probes.probe("wait", &["transfer", "account"])?,
             write: probes.probe("write", &["transfer", "account", "balance"])?,

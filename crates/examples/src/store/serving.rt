@@ -3,9 +3,9 @@ ghost use Rattle.dspec_cpu.specs.Lists.{schema_of};
 ghost use Rattle.dspec.specs.Lanes.{place_of};
 ghost use Rattle.examples.specs.StoreProbes.{AreStoreProbesOf};
 
-use crate::store::board::{ACCOUNTS, Board};
+use crate::store::board::{ACCOUNTS, Board, owner_of};
 use crate::store::probes::{ABORTED, DONE, SLOW, StoreProbes};
-use dspec::{Enablings, Lane, Path, Recording, Work};
+use dspec::{Enablings, Lane, Path, Recording, Text, Work};
 
 /// How many workers there are. Worker W makes the transfers W, W + 3, W + 6, ..
 pub const WORKERS: u32 = 3;
@@ -145,10 +145,11 @@ fn make_transfer(
     ensures { place_of lane.new ≡ place_of lane.old }
 {
     let stamp = later(clock, 1);
+    let owner = Text::of(owner_of(made.from));
     server
         .probes
         .begin
-        .record_in(lane, path, stamp, (made.number, made.worker));
+        .record_in(lane, path, stamp, (made.number, made.worker, owner));
     if !withdraw(lane, path, server, clock, made) {
         return ABORTED;
     }

@@ -1,5 +1,5 @@
 use crate::store::probes::{ABORTED, StoreProbes, transfer_of};
-use dspec::{Rec, Report};
+use dspec::{Probes, Rec, Report};
 use std::io;
 
 /// Prints a step of a transfer that began at that stamp.
@@ -26,13 +26,19 @@ fn tell_step<R: Print>(rt: &R, probes: &StoreProbes, began: u64, rec: &Rec) -> i
 }
 
 /// Prints all paths in the order in which they began. The records are in order of time.
-pub fn tell_paths<R: Print>(rt: &R, probes: &StoreProbes, records: &[Rec]) -> io::Result<()> {
+pub fn tell_paths<R: Print>(
+    rt: &R,
+    declared: &Probes<'_>,
+    probes: &StoreProbes,
+    records: &[Rec],
+) -> io::Result<()> {
     for begin in records {
-        let Some((number, worker)) = probes.begin.read(begin) else {
+        let (Some((number, ..)), Some(told)) = (probes.begin.read(begin), declared.tell(begin))
+        else {
             continue;
         };
         let began = begin.stamp();
-        print!(rt; "{began} us: transfer {number} of worker {worker}:")?;
+        print!(rt; "{began} us: {told}:")?;
         for rec in records {
             if transfer_of(rec) == u64::from(number) {
                 tell_step(rt, probes, began, rec)?;

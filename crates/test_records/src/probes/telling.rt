@@ -1,6 +1,6 @@
 //! Records as text, by the declarations of their probes.
 use crate::same::same;
-use dspec_probe::{Probe, Probes};
+use dspec_probe::{Meaning, Probe, Probes, Text};
 use dspec_record::Rec;
 use std::test::Fail;
 
@@ -17,7 +17,10 @@ fn record_is_told(rt: HostRuntime) -> Result<(), Fail> {
     let text = told.to_string(alloc)?;
     same(&rt, text.as_str(), "end request=0 done=false micros=11857");
     same(&rt, told.count(), 3);
-    same(&rt, told.field(1).to_string(alloc)?.as_str(), " done=false");
+    let done = told.field(1);
+    assert!(rt; matches!(done.meaning, Meaning::Truth(false)));
+    let done = done.to_string(alloc)?;
+    same(&rt, done.as_str(), " done=false");
     let Some(told) = probes.tell(&begin.rec(1500, (7, 1))) else {
         return Err("a record of no probe".into());
     };
@@ -63,6 +66,39 @@ fn values_are_told_by_their_kinds(rt: HostRuntime) -> Result<(), Fail> {
         told.to_string(alloc)?.as_str(),
         "named operation=2 by=3 is=no",
     );
+    Ok(())
+}
+
+#[test]
+fn texts_are_told_between_quotes(rt: HostRuntime) -> Result<(), Fail> {
+    let alloc = rt.alloc();
+    let mut probes = Probes::unstamped(alloc);
+    let query: Probe<(u64, Text<4>, u8)> = probes.probe("query", &["request", "sql", "by"])?;
+    let wanted: [(&str, &str); 5] = [
+        ("select 1", "query request=7 sql=\"select 1\" by=3"),
+        ("", "query request=7 sql=\"\" by=3"),
+        (
+            "a \"b\" \\",
+            "query request=7 sql=\"a \\\"b\\\" \\\\\" by=3",
+        ),
+        ("a\nb", "query request=7 sql=\"a\\x0ab\" by=3"),
+        (
+            "gr\u{fc}n \u{20ac}",
+            "query request=7 sql=\"gr\u{fc}n \u{20ac}\" by=3",
+        ),
+    ];
+    for (text, line) in wanted {
+        let Some(told) = probes.tell(&query.rec(0, (7, Text::of(text), 3))) else {
+            return Err("a record of no probe".into());
+        };
+        same(&rt, told.to_string(alloc)?.as_str(), line);
+    }
+    let broken = Text::of_bytes(&[b'a', 0xff, 0xc3]);
+    let Some(told) = probes.tell(&query.rec(0, (7, broken, 3))) else {
+        return Err("a record of no probe".into());
+    };
+    let line = "query request=7 sql=\"a\\xff\\xc3\" by=3";
+    same(&rt, told.to_string(alloc)?.as_str(), line);
     Ok(())
 }
 

@@ -60,6 +60,41 @@ fn lines(rt: HostRuntime) -> Result<(), Fail> {
     Ok(())
 }
 
+/// A text of two words between two numbers: quotes, a line's end, a character of two bytes, and one byte that is no UTF-8.
+#[test]
+fn texts(rt: HostRuntime) -> Result<(), Fail> {
+    let alloc = rt.alloc();
+    let mut fields = Vec::new(alloc);
+    for (name, kind) in [
+        ("request", Kind::Unsigned),
+        ("sql", Kind::Text),
+        ("sql", Kind::TextNext),
+        ("code", Kind::Signed),
+    ] {
+        fields.push(field(alloc, name, Field::Eight, kind))?;
+    }
+    let step = EventText {
+        id: 1,
+        name: "step",
+        fields,
+    };
+    let low = u64::from_le_bytes(*b"say \"a\"\n");
+    let high = u64::from_le_bytes(*b"\xc3\xa9\xff\\\0\0\0\0");
+    let values = [7, low, high, 3];
+    same(
+        &rt,
+        event_text(alloc, &step, &values)?.as_str(),
+        "step request=7 sql=\"say \\\"a\\\"\\x0a\u{e9}\\xff\\\\\" code=3",
+    );
+    let event = chrome_event(alloc, TRACK, &step, 7, &values)?;
+    same(
+        &rt,
+        event.as_str(),
+        "{\"ph\":\"i\",\"s\":\"t\",\"pid\":1,\"tid\":2,\"ts\":0.007,\"name\":\"step\",\"args\":{\"request\":7,\"sql\":\"say \\\"a\\\"\\n\u{e9}\\\\xff\\\\\",\"code\":3}}",
+    );
+    Ok(())
+}
+
 #[test]
 fn chrome(rt: HostRuntime) -> Result<(), Fail> {
     let alloc = rt.alloc();

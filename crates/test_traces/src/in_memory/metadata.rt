@@ -111,8 +111,19 @@ fn names_that_arent_allowed(rt: HostRuntime) -> Result<(), Fail> {
     );
     same(
         &rt,
-        fault(&[b"step", b"number"], &[3]),
+        fault(&[b"step", b"number"], &[5]),
         Some(TextFault::BadKind),
+    );
+    let no_text = MetadataFault::Name(NameFault::Word { epid: 1, place: 0 });
+    same(
+        &rt,
+        fault(&[b"step", b"number"], &[3]),
+        Some(TextFault::Metadata(no_text)),
+    );
+    same(
+        &rt,
+        fault(&[b"step"], &[4]),
+        Some(TextFault::Metadata(no_text)),
     );
     same(
         &rt,

@@ -1,6 +1,7 @@
 //! The metadata of traces, and names that can't be used.
 use crate::same::{UUID, same, three_enablings};
 use dspec_ctf::{Form, Kind, MetadataFault, NameFault, NameKind, Names, ProbeNames, metadata};
+use dspec_ctf_reading::read_metadata;
 use dspec_record::{Enablings, Field};
 use std::process::Abort;
 use std::test::Fail;
@@ -247,4 +248,70 @@ fn refused_labels(rt: HostRuntime) {
     refused_label(&rt, &[&["ok"], &["back\\slash"]], 1, 0);
     refused_label(&rt, &[&[], &[], &["ok", "", "\n"]], 2, 1);
     refused_label(&rt, &[&["two\nlines"]], 0, 0);
+}
+
+/// The lines of an event of a number, a text of two words and another number.
+const OF_A_TEXT: &str =
+    "\t\tuint64_t request;\n\t\tinteger { size = 8; align = 8; signed = false; encoding = UTF8; } sql[16];\n\t\tuint64_t code;\n\t};\n};\n";
+
+/// An event with a text, whose words mean this.
+fn metadata_of_a_text(
+    rt: &impl AllocGlobal,
+    first: Kind,
+    width: Field,
+) -> Result<String, MetadataFault> {
+    let mut enablings = Enablings::new();
+    let fields = [Field::Eight, Field::Eight, width, Field::Eight];
+    if enablings.enable(&fields).is_err() {
+        return Err(MetadataFault::Memory);
+    }
+    let mut kinds = [Kind::Unsigned; 8];
+    kinds[1] = first;
+    kinds[2] = Kind::TextNext;
+    let names = [ProbeNames {
+        event: "query",
+        fields: &["request", "sql", "code"],
+        kinds,
+        labels: None,
+    }];
+    metadata(
+        rt.alloc(),
+        &UUID,
+        Form::AsTaken,
+        &enablings,
+        &Names::Given(&names),
+    )
+}
+
+/// A text has one line, and is read as its words.
+#[test]
+fn line_of_a_text(rt: HostRuntime) -> Result<(), Fail> {
+    let text = metadata_of_a_text(&rt, Kind::Text, Field::Eight)?;
+    same(&rt, text.as_str().ends_with(OF_A_TEXT), true);
+    let told = read_metadata(rt.alloc(), text.as_str().as_bytes())?;
+    let Some(event) = told.events.get(0) else {
+        return Err(Fail::from("one event"));
+    };
+    let mut kinds = Vec::new(rt.alloc());
+    for field in &event.fields {
+        kinds.push((field.name, field.width, field.kind))?;
+    }
+    let wanted = [
+        ("request", Field::Eight, Kind::Unsigned),
+        ("sql", Field::Eight, Kind::Text),
+        ("sql", Field::Eight, Kind::TextNext),
+        ("code", Field::Eight, Kind::Unsigned),
+    ];
+    same(&rt, kinds.as_slice() == wanted.as_slice(), true);
+    Ok(())
+}
+
+/// A next word with no text in front of it, and one that isn't of eight bytes.
+#[test]
+fn words_refused(rt: HostRuntime) {
+    let wrong = MetadataFault::Name(NameFault::Word { epid: 1, place: 2 });
+    let alone = metadata_of_a_text(&rt, Kind::Unsigned, Field::Eight).err();
+    same(&rt, alone, Some(wrong));
+    let narrow = metadata_of_a_text(&rt, Kind::Text, Field::Four).err();
+    same(&rt, narrow, Some(wrong));
 }

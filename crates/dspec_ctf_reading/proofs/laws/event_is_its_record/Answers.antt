@@ -13,4 +13,4 @@ returns-clause-taken c = λ e names r.
     (refl, refl, λ one. plain-values e.header r.stamp vs r.values of_vs one, λ two. stamped-values e.header r.stamp vs r.values of_vs two)
 
 pub returns-clause-named : goal.returns-clause-named
-returns-clause-named c = λ e names frequency r n is long. (event-called names r.epid n is, fields-called names r.epid n r.values is long)
+returns-clause-named c = λ e names frequency r n is. (event-called names r.epid n is, fields-called names r.epid n r.values is)

@@ -1,0 +1,76 @@
+-- How many next words of texts stand among an event's fields, and where a field's name stands.
+use Rattle.std.proofs.Common.{◌≡◌, ◌≤◌, ◌<◌, ◌+◌, ◌-◌, ℕ, zero, suc, Bool}
+use Rattle.std.proofs.Common.{true, false, List, [], ◌∷◌, take, drop, refl, ap, sym, ◌∙◌, arith}
+use Rattle.std.specs.Prelude.{slice_index_or, if◌then◌else◌}
+use Rattle.std.proofs.lemmas.List.{get_or-drop}
+use Rattle.dspec_probe.specs.Kinds.{is_next, next_words, name_place}
+use Rattle.dspec_probe.specs.declared.kind.Kind.{Kind}
+use Rattle.dspec_probe.specs.declared.kind.Kind.TheVariants.{Unsigned, Signed, Float, Text, TextNext}
+use Rattle.dspec_ctf.specs.Metadata.{next_in_front}
+
+abbrev pub kind_of : List Kind → ℕ → Kind
+kind_of ks place = slice_index_or ks place Unsigned
+
+one-most : (k : Kind) → (if is_next k then 1 else 0) ≤ 1
+one-most Unsigned = omega arith
+one-most Signed = omega arith
+one-most Float = omega arith
+one-most Text = omega arith
+one-most TextNext = omega arith
+
+pub one-more : (n : ℕ) → suc n ≡ n + 1
+one-more n = omega arith
+
+pub one-before : (n : ℕ) → 1 + n ≡ suc n
+one-before n = omega arith
+
+front-behind : (ks : List Kind) (n : ℕ) → next_in_front (drop n ks) ≡ (if is_next (kind_of ks n) then 1 + next_in_front (drop (suc n) ks) else 0)
+front-behind [] zero = refl
+front-behind [] (suc n) = refl
+front-behind (k ∷ ks) zero = refl
+front-behind (k ∷ ks) (suc n) = front-behind ks n
+
+pub next-front : (ks : List Kind) (n : ℕ) → next_in_front (drop n ks) ≡ (if is_next (kind_of ks n) then 1 + next_in_front (drop (n + 1) ks) else 0)
+next-front ks n = front-behind ks n ∙ ap (λ m. if is_next (kind_of ks n) then 1 + next_in_front (drop m ks) else 0) (one-more n)
+
+step-behind : (ks : List Kind) (n : ℕ) → next_words (take (suc n) ks) ≡ next_words (take n ks) + (if is_next (kind_of ks n) then 1 else 0)
+step-behind [] zero = refl
+step-behind [] (suc n) = refl
+step-behind (k ∷ ks) zero = omega arith
+step-behind (k ∷ ks) (suc n) = omega (arith, step-behind ks n)
+
+next-step : (ks : List Kind) (n : ℕ) → next_words (take (n + 1) ks) ≡ next_words (take n ks) + (if is_next (kind_of ks n) then 1 else 0)
+next-step ks n = ap (λ m. next_words (take m ks)) (sym (one-more n)) ∙ step-behind ks n
+
+next-most : (ks : List Kind) (n : ℕ) → next_words (take n ks) ≤ n
+next-most ks zero = omega arith
+next-most [] (suc n) = omega arith
+next-most (k ∷ ks) (suc n) = omega (arith, one-most k, next-most ks n)
+
+next-parts : (ks : List Kind) (n : ℕ) → next_words ks ≡ next_words (take n ks) + next_words (drop n ks)
+next-parts ks zero = omega arith
+next-parts [] (suc n) = refl
+next-parts (k ∷ ks) (suc n) = omega (arith, next-parts ks n)
+
+next-few : (ks : List Kind) (n m : ℕ) → ((p : ℕ) → is_next (kind_of ks p) ≡ true → n + p < m) → next_words ks ≤ m - n
+next-few [] n m within = omega arith
+next-few (k ∷ ks) n m within = go (next-few ks (n + 1) m (λ p is. omega (arith, within (suc p) is))) (is_next k) refl
+  where
+    go : next_words ks ≤ m - (n + 1) → (b : Bool) → is_next k ≡ b → (if b then 1 else 0) + next_words ks ≤ m - n
+    go others true is = omega (arith, others, within 0 is)
+    go others false is = omega (arith, others)
+
+-- ---- names
+
+pub name-same : (ks : List Kind) (q : ℕ) → is_next (kind_of ks (q + 1)) ≡ true → name_place ks (q + 1) ≡ name_place ks q
+name-same ks q is =
+    let one : next_words (take (q + 1 + 1) ks) ≡ next_words (take (q + 1) ks) + 1 = next-step ks (q + 1) ∙ ap (λ b. next_words (take (q + 1) ks) + (if b then 1 else 0)) is in
+    omega (arith, one)
+
+pub name-within : (ks : List Kind) (names m p : ℕ) → names + next_words ks ≡ m → ((q : ℕ) → is_next (kind_of ks q) ≡ true → q < m) → p < m → is_next (kind_of ks p) ≡ false
+    → name_place ks p < names
+name-within ks names m p all within low is =
+    let none : next_words (take (p + 1) ks) ≡ next_words (take p ks) + 0 = next-step ks p ∙ ap (λ b. next_words (take p ks) + (if b then 1 else 0)) is in
+    let behind : next_words (drop (p + 1) ks) ≤ m - (p + 1) =
+    next-few (drop (p + 1) ks) (p + 1) m (λ q at. within (p + 1 + q) (ap is_next (sym (get_or-drop (p + 1) ks q Unsigned)) ∙ at)) in
+    omega (arith, all, low, none, behind, next-most ks p, next-parts ks (p + 1))

@@ -1,0 +1,122 @@
+-- What a session promises of a folder that it was traced into, and of the sink beside it.
+use Rattle.std.proofs.Common.{◌≡◌, ◌<◌, ◌+◌, ℕ, Bool, List, [], ◌∷◌, ◌++◌, Option, Some, None, sym, ap, ◌∙◌, subst, arith, append_assoc, slice_get}
+use Rattle.std.proofs.lemmas.Option.{slice_get_within}
+use Rattle.dspec_record.specs.Record.{Record}
+use Rattle.dspec_record.specs.declared.field.Shape.{Shape}
+use Rattle.dspec_record.specs.EnablingRows.{EnabledRows}
+use Rattle.dspec_record.specs.Schemas.{enabled, table_accepts, table_shape, table_text}
+use Rattle.dspec_deeds.specs.Ranges.{start_fault}
+use Rattle.dspec_deeds.specs.declared.config.Config.{Config}
+use Rattle.dspec_deeds.proofs.SetUp.{most_cpus}
+use Rattle.dspec_ring.specs.declared.batch.Batch.{Batch}
+use Rattle.dspec_cpu.specs.Called.{CallsMade}
+use Rattle.dspec_cpu.specs.Sealed.{waiting}
+use Rattle.dspec_promise.specs.Deeds.{all_did}
+use Rattle.dspec_session_core.specs.declared.left.Left.{Left}
+use Rattle.dspec_session_core.specs.Promised.{IsPromised}
+use Rattle.dspec.specs.Passed.{GotAll, Passed, passed_from}
+use Rattle.dspec.specs.Traced.{IsKept, IsOneListWith}
+use Rattle.dspec.proofs.Passing.{from_both, got_both}
+use Rattle.dspec_ctf_sink.specs.Ending.{IsTelling, TellsUntold, untold}
+use Rattle.dspec_ctf_sink.specs.Writes.{FileWrite}
+use Rattle.dspec_ctf_sink.specs.declared.losing.Loss.{Loss}
+use Rattle.dspec_trace_reading.specs.AsTaken.{HaveNumbers, drops_carried}
+use Rattle.dspec_trace_reading.proofs.Folding.{Holds}
+use Rattle.dspec_trace_reading.proofs.Read.{numbered}
+use Rattle.dspec_trace_reading.proofs.Begun.{first}
+use Rattle.dspec_trace_reading.proofs.Through.{got_through}
+use Rattle.dspec_trace_reading.proofs.Told.{drops_more, got_told, hold_more, numbers_both, told_numbers, told_of, told_there}
+use Rattle.dspec_trace_reading.specs.Ran.{BothGet, RanInto}
+use Rattle.dspec.specs.declared.both.Both.{Both}
+use Rattle.dspec_ctf_sink.specs.declared.telling.Telling.{Telling}
+use Rattle.dspec_trace_reading.specs.declared.folder_trace.FolderTrace.{FolderTrace}
+
+-- What the promise of a session says of a folder into which it was traced and whose end was told, and of the sink beside it.
+pub record Carries {K F : Type 0} (gets : K → Batch → K → Type 0) (sees : F → Batch → F → Type 0) (does : ℕ → CallsMade → CallsMade → Type 0) (e : EnabledRows) (k : Config) (old : K)
+    (left : List Left) (new : K) (begun ended : F) : Type 0 where
+  pub kept : IsKept gets does (table_shape e.header (enabled e.rows)) (table_accepts e.header (enabled e.rows)) (table_text e.header (enabled e.rows)) k old left new
+  pub all : List Passed
+  pub got : GotAll sees begun all ended
+  pub own : HaveNumbers all
+  pub ends : (c : ℕ) (l : Left) → slice_get left c ≡ Some l → (b : Batch) × IsTelling c (untold l.report) b × (passed_from c all ≡ passed_from c kept.passed ++ b ∷ [])
+  pub holds : (c : ℕ) (l : Left) (at : slice_get left c ≡ Some l) → Holds e (passed_from c all) ((kept.page.each c l at).seen)
+  pub missed : (c : ℕ) (l : Left) → slice_get left c ≡ Some l → drops_carried (passed_from c all) ≡ drops_carried (passed_from c kept.passed) + untold l.report
+  pub low : start_fault k ≡ None → (c : ℕ) (l : Left) → slice_get left c ≡ Some l → c < 64
+
+-- A session's sink B has both a sink K and a folder F, whose end was told behind the close: what the session's promise says of both.
+module _ {B K F : Type 0} (bgets : B → Batch → B → Type 0) (gets : K → Batch → K → Type 0) (sees : F → Batch → F → Type 0) (other : B → K) (folder : B → F) (e : EnabledRows)
+    (to_other : (a : B) (b : Batch) (c : B) → bgets a b c → gets (other a) b (other c)) (to_folder : (a : B) (b : Batch) (c : B) → bgets a b c → sees (folder a) b (folder c))
+    (does : ℕ → CallsMade → CallsMade → Type 0) (k : Config) (old new : B) (left : List Left) (ended : F) (one : IsOneListWith e bgets does k old left new)
+    (tellings : TellsUntold sees left (folder new) ended) where
+  abbrev shape : ℕ → Option Shape
+  shape = table_shape e.header (enabled e.rows)
+
+  abbrev accepts : Record → Bool
+  accepts = table_accepts e.header (enabled e.rows)
+
+  abbrev text : Record → List ℕ
+  text = table_text e.header (enabled e.rows)
+
+  -- what the end told comes behind what the session passed on
+  abbrev extra : List Passed
+  extra = told_of sees 0 left (folder new) ended tellings
+
+  abbrev all_passed : List Passed
+  all_passed = one.0.passed ++ extra
+
+  got_all : GotAll sees (folder old) all_passed ended
+  got_all =
+      got_both sees one.0.passed extra (folder old) (folder new) ended (got_through bgets sees folder to_folder one.0.passed old new one.0.got)
+      (got_told sees 0 left (folder new) ended tellings)
+
+  own : HaveNumbers all_passed
+  own = numbers_both one.0.passed extra (numbered e does bgets k old left new one.0 one.1) (told_numbers sees 0 left (folder new) ended tellings)
+
+  abbrev kept : IsKept gets does shape accepts text k (other old) left (other new)
+  kept = record {
+    passed = one.0.passed;
+    from = one.0.from;
+    got = got_through bgets gets other to_other one.0.passed old new one.0.got;
+    calls = one.0.calls;
+    worked = one.0.worked;
+    page = record {
+      all = all_did one.0.promised.deeds;
+      closed = one.0.promised.closed;
+      each = λ c l at.
+          subst (λ bs. IsPromised shape accepts text k.cpus (all_did one.0.promised.deeds) c (one.0.calls c) (one.0.promised.closed c) bs l.report)
+          (append_assoc (one.0.taken c) (waiting l.rest) (l.last ∷ []) ∙ sym (one.0.whole c l at)) (one.0.promised.each c l at);
+    };
+  }
+
+  abbrev seen : (c : ℕ) (l : Left) → slice_get left c ≡ Some l → List Record
+  seen c l at = (kept.page.each c l at).seen
+
+  ends : (c : ℕ) (l : Left) → slice_get left c ≡ Some l
+      → (b : Batch) × IsTelling c (untold l.report) b × (passed_from c all_passed ≡ passed_from c one.0.passed ++ b ∷ [])
+  ends c l at =
+      let there = told_there sees 0 c c left l (folder new) ended tellings (omega arith) at in
+      (there.0, there.1, from_both c one.0.passed extra ∙ ap (λ bs. passed_from c one.0.passed ++ bs) there.2)
+
+  holds : (c : ℕ) (l : Left) (at : slice_get left c ≡ Some l) → Holds e (passed_from c all_passed) (seen c l at)
+  holds c l at =
+      let end = ends c l at in
+      subst (λ bs. Holds e bs (seen c l at)) (sym end.2) (hold_more e (passed_from c one.0.passed) end.0 (seen c l at) (kept.page.each c l at).hold end.1.bare)
+
+  missed : (c : ℕ) (l : Left) → slice_get left c ≡ Some l → drops_carried (passed_from c all_passed) ≡ drops_carried (passed_from c one.0.passed) + untold l.report
+  missed c l at =
+      let end = ends c l at in
+      ap drops_carried end.2 ∙ (drops_more (passed_from c one.0.passed) end.0 ∙ ap (λ n. drops_carried (passed_from c one.0.passed) + n) end.1.tells)
+
+  low : start_fault k ≡ None → (c : ℕ) (l : Left) → slice_get left c ≡ Some l → c < 64
+  low start c l at = omega (arith, slice_get_within left c l at, one.1.closes.all, most_cpus k start)
+
+  pub carried : Carries gets sees does e k (other old) left (other new) (folder old) ended
+  carried = record { kept = kept; all = all_passed; got = got_all; own = own; ends = ends; holds = holds; missed = missed; low = low }
+
+-- where it ran into a folder and to a sink
+pub in_both : {K F : Type 0} (sees : F → Batch → F → Type 0) (gets : K → Batch → K → Type 0) (does : ℕ → CallsMade → CallsMade → Type 0) (e : EnabledRows) (k : Config) (old new : K)
+    (begun : Telling F) (left : List Left) (ended : F) → RanInto sees gets does e k old begun left ended new → Carries gets sees does e k old left new begun.sink ended
+in_both {K} {F} sees gets does e k old new begun left ended ran =
+    subst (λ x. Carries gets sees does e k old left x begun.sink ended) ran.first
+    (carried (BothGet gets sees) gets sees (λ (b : Both K (Telling F)). b.first) (λ (b : Both K (Telling F)). b.second.sink) e (λ a b d got. got.0) (λ a b d got. got.1) does k
+    (record { first = old; second = begun }) ran.mid left ended ran.one ran.tells)

@@ -1,0 +1,22 @@
+-- A session that ran, and whose folder was ended, ran into that folder.
+use Rattle.std.proofs.Common.{◌≡◌, ℕ, List, sym, refl, subst}
+use Rattle.dspec_record.specs.EnablingRows.{EnabledRows}
+use Rattle.dspec_deeds.specs.declared.config.Config.{Config}
+use Rattle.dspec_ring.specs.declared.batch.Batch.{Batch}
+use Rattle.dspec_cpu.specs.Called.{CallsMade}
+use Rattle.dspec_session_core.specs.declared.left.Left.{Left}
+use Rattle.dspec.specs.Traced.{IsOneListWith}
+use Rattle.dspec.specs.declared.both.Both.{Both}
+use Rattle.dspec_ctf_sink.specs.Ending.{TellsUntold}
+use Rattle.dspec_ctf_sink.specs.declared.telling.Telling.{Telling}
+use Rattle.dspec_trace_reading.specs.Ran.{BothGet, RanInto}
+
+pub ran_into : {K T : Type 0} (sees : T → Batch → T → Type 0) (gets : K → Batch → K → Type 0) (does : ℕ → CallsMade → CallsMade → Type 0) (e : EnabledRows) (k : Config) (old : K)
+    (begun : Telling T) (mid : Both K (Telling T)) (left closed : List Left) (ended : T) → IsOneListWith e (BothGet gets sees) does k (record { first = old; second = begun }) left mid
+    → closed ≡ left → TellsUntold sees left mid.second.sink ended → RanInto sees gets does e k old begun closed ended mid.first
+ran_into sees gets does e k old begun mid left closed ended one same tells = record {
+  mid = mid;
+  one = subst (λ l. IsOneListWith e (BothGet gets sees) does k (record { first = old; second = begun }) l mid) (sym same) one;
+  first = refl;
+  tells = subst (λ l. TellsUntold sees l mid.second.sink ended) (sym same) tells;
+}

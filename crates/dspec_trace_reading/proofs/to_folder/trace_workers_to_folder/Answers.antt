@@ -1,0 +1,22 @@
+use Rattle.std.proofs.Common.{ℕ, IfOk, subst}
+use Rattle.dspec_record.specs.EnablingRows.{EnabledRows}
+use Rattle.dspec_cpu.specs.Called.{CallsMade}
+use Rattle.dspec.specs.Workers.{WorkedOn, one_for}
+use Rattle.dspec_ctf_sink.specs.Writing.{GetsPacket}
+use Rattle.dspec_trace_reading.specs.Ran.{RanBegun}
+use Rattle.dspec_trace_reading.proofs.InFolder.{read_if}
+use Rattle.dspec_trace_reading.proofs.to_folder.trace_workers_to_folder.Goals as goal
+
+pub returns-clause-read : goal.returns-clause-read
+returns-clause-read g c =
+    let e = c.args.probes.now.schema in
+    let k = one_for c.args.workers.now.items c.args.config.now in
+    let begun = c.begin_for-begun.result in
+    let ran = c.run_workers_in-sink.result in
+    let back = c.run_workers_in-sink.new.workers.items in
+    let does : EnabledRows → ℕ → CallsMade → CallsMade → Type 0 = λ s. WorkedOn (g.W.Worker.does s) c.args.workers.now.items back in
+    let has =
+    subst (λ (s : EnabledRows). IfOk ran.1 (λ r. RanBegun (GetsPacket s) (g.K.Sink.gets s) (does s) s k c.args.sink begun r ran.0)) c.enablings-schema.ensures
+    c.run_workers_in-sink.ensures.ran in
+    read_if c.metadata_reads_back.ensures c.live_file_reads_back.ensures.taken (g.K.Sink.gets e) (does e) e c.args.probes.now.names k c.args.sink ran.0 begun
+    ran.1 c.came.result c.run_workers_in-sink.ensures.started c.begin_for-begun.ensures.begun has c.came.ensures.traced c.came.ensures.ran
