@@ -1,9 +1,3 @@
-pub mod Further
-mod Looks
-mod Offers
-mod Shown
-mod States
-mod WordsTold
-pub mod Buffers
+pub mod Rows
 pub mod Tellable
 pub mod Runs

@@ -1,13 +1,2 @@
-pub mod Grid
-pub mod Marks
-pub mod Seen
-pub mod Bars
-pub mod Drawing
-pub mod Shown
-pub mod Attempts
+pub mod Bands
 pub mod Tellable
-pub mod Room
-pub mod Words
-pub mod Told
-pub mod Steps
-pub mod Svg

@@ -1,12 +1,8 @@
 //! The bars of slots: a segment for each state of a slot's word.
-ghost use Rattle.std.specs.Prelude.{ℕ, ◌≡◌, ◌+◌, ◌*◌, ◌^◌, ◌<◌, ◌≤◌, ◌++◌, List, OnOk, IfOk, length, reverse};
-ghost use Rattle.dspec_deeds.specs.FateKinds.{spoken_granted};
-ghost use Rattle.dspec_deeds.specs.History.{Verdict, callers, calls_on, issue, joined, latest, opened, opens, releases, ruling, verdict, word_at};
-ghost use Rattle.dspec_picture.specs.Bars.{bar, bar_if_given, begins, change_x, is_same_word, row_bars, row_words, same_front, segment_at, segments_from};
-ghost use Rattle.dspec_picture.specs.Seen.{active_seen, callers_seen, committed_seen, ruling_seen, standing_seen};
+ghost use Rattle.std.specs.Prelude.{◌*◌, ◌^◌, ◌<◌, ◌≤◌, IfOk, length};
 
 use crate::fates::{commits, discards, same_id};
-use crate::grid::{COLUMNS, bar_top, columns_in, row_top, slot_limit, was_given};
+use crate::grid::{COLUMNS, SLOTS, bar_top, columns_in, row_top, was_given};
 use crate::shape::{Caption, Shape};
 use crate::sheet::draw;
 use dspec_deeds::{Deed, SpeculateFate};
@@ -36,9 +32,7 @@ pub(crate) enum Callers {
     Many,
 }
 
-fn releases(slot: u32, deed: &Deed) -> bool
-    ensures { result ≡ releases slot deed.now }
-{
+fn releases(slot: u32, deed: &Deed) -> bool {
     match *deed {
         Deed::Release(other) => slot == other,
         _ => false,
@@ -46,9 +40,7 @@ fn releases(slot: u32, deed: &Deed) -> bool
 }
 
 /// How often the slot was released.
-#[tactic(auto, using(crate::proofs::Further::one_deed_further))]
 fn issue(slot: u32, deeds: &[Deed]) -> u64
-    ensures count { result ≡ issue slot (reverse deeds.now) }
     ensures few { result ≤ length deeds.now }
 {
     let mut count = 0;
@@ -58,9 +50,7 @@ fn issue(slot: u32, deeds: &[Deed]) -> u64
     count
 }
 
-fn opens(id: SpecId, deed: &Deed) -> bool
-    ensures { result ≡ opens id deed.now }
-{
+fn opens(id: SpecId, deed: &Deed) -> bool {
     match *deed {
         Deed::Opened(_, other) => same_id(id, other),
         _ => false,
@@ -68,10 +58,7 @@ fn opens(id: SpecId, deed: &Deed) -> bool
 }
 
 /// Whether the speculation was given out.
-#[tactic(auto, using(crate::proofs::Further::one_deed_further))]
-fn opened(id: SpecId, deeds: &[Deed]) -> bool
-    ensures { result ≡ opened id (reverse deeds.now) }
-{
+fn opened(id: SpecId, deeds: &[Deed]) -> bool {
     let mut is_opened = false;
     for deed in deeds {
         is_opened = opens(id, deed) || is_opened;
@@ -80,9 +67,7 @@ fn opened(id: SpecId, deeds: &[Deed]) -> bool
 }
 
 /// What is decided after one more deed.
-fn next_ruling(id: SpecId, deed: &Deed, before: Ruling) -> Ruling
-    ensures { (v : Verdict) → before ≡ ruling_seen v → result ≡ ruling_seen (latest (ruling id deed.now) v) }
-{
+fn next_ruling(id: SpecId, deed: &Deed, before: Ruling) -> Ruling {
     match *deed {
         Deed::Commit(by, other, fate) => {
             if commits(fate) && same_id(id, other) {
@@ -101,10 +86,7 @@ fn next_ruling(id: SpecId, deed: &Deed, before: Ruling) -> Ruling
 }
 
 /// What was decided of the speculation.
-#[tactic(auto, using(crate::proofs::Further::one_deed_further))]
-fn ruled(id: SpecId, deeds: &[Deed]) -> Ruling
-    ensures { result ≡ ruling_seen (verdict id (reverse deeds.now)) }
-{
+fn ruled(id: SpecId, deeds: &[Deed]) -> Ruling {
     let mut ruled = Ruling::Undecided;
     for deed in deeds {
         ruled = next_ruling(id, deed, ruled);
@@ -113,9 +95,7 @@ fn ruled(id: SpecId, deeds: &[Deed]) -> Ruling
 }
 
 /// The callers with one that may be among them.
-fn with_caller(cpu: u32, before: Callers) -> Callers
-    ensures { (cs : List ℕ) → before ≡ callers_seen cs → result ≡ callers_seen (joined (Some cpu) cs) }
-{
+fn with_caller(cpu: u32, before: Callers) -> Callers {
     match before {
         Callers::Nobody => Callers::One(cpu),
         Callers::One(other) => {
@@ -128,16 +108,12 @@ fn with_caller(cpu: u32, before: Callers) -> Callers
     }
 }
 
-fn grants(fate: SpeculateFate) -> bool
-    ensures { result ≡ spoken_granted fate }
-{
+fn grants(fate: SpeculateFate) -> bool {
     matches!(fate, SpeculateFate::Kept | SpeculateFate::Dropped)
 }
 
 /// The callers after one more deed.
-fn next_callers(id: SpecId, deed: &Deed, before: Callers) -> Callers
-    ensures { (cs : List ℕ) → before ≡ callers_seen cs → result ≡ callers_seen (joined (calls_on id deed.now) cs) }
-{
+fn next_callers(id: SpecId, deed: &Deed, before: Callers) -> Callers {
     match *deed {
         Deed::Speculate(by, other, _, fate) => {
             if grants(fate) && same_id(id, other) {
@@ -150,10 +126,7 @@ fn next_callers(id: SpecId, deed: &Deed, before: Callers) -> Callers
 }
 
 /// The CPUs that the speculation was granted to.
-#[tactic(auto, using(crate::proofs::Further::one_deed_further))]
-fn callers_of(id: SpecId, deeds: &[Deed]) -> Callers
-    ensures { result ≡ callers_seen (callers id (reverse deeds.now)) }
-{
+fn callers_of(id: SpecId, deeds: &[Deed]) -> Callers {
     let mut callers = Callers::Nobody;
     for deed in deeds {
         callers = next_callers(id, deed, callers);
@@ -161,9 +134,7 @@ fn callers_of(id: SpecId, deeds: &[Deed]) -> Callers
     callers
 }
 
-fn active_code(callers: Callers) -> Code
-    ensures { result ≡ active_seen callers }
-{
+fn active_code(callers: Callers) -> Code {
     match callers {
         Callers::Nobody => Code::Active,
         Callers::One(_) => Code::ActiveOne,
@@ -171,9 +142,7 @@ fn active_code(callers: Callers) -> Code
     }
 }
 
-fn committed_code(by: u32, callers: Callers) -> Code
-    ensures { result ≡ committed_seen by callers }
-{
+fn committed_code(by: u32, callers: Callers) -> Code {
     match callers {
         Callers::Nobody => Code::Committing,
         Callers::One(other) => {
@@ -187,9 +156,7 @@ fn committed_code(by: u32, callers: Callers) -> Code
 }
 
 /// The code of a speculation that was given out.
-fn standing(ruled: Ruling, callers: Callers) -> Code
-    ensures { result ≡ standing_seen ruled callers }
-{
+fn standing(ruled: Ruling, callers: Callers) -> Code {
     match ruled {
         Ruling::Undecided => active_code(callers),
         Ruling::Committed(by) => committed_code(by, callers),
@@ -198,11 +165,9 @@ fn standing(ruled: Ruling, callers: Callers) -> Code
 }
 
 /// The word of the slot after these deeds.
-#[tactic(auto, using(crate::proofs::WordsTold::standing_is_seen))]
 fn word_at(slot: u32, deeds: &[Deed]) -> Word
     requires slot { slot < 64 }
     requires few { length deeds.now ≤ 2000 }
-    ensures { result ≡ word_at slot (reverse deeds.now) }
 {
     let issue = issue(slot, deeds);
     let id = SpecId::of(issue, slot);
@@ -213,12 +178,10 @@ fn word_at(slot: u32, deeds: &[Deed]) -> Word
 }
 
 /// The word of the slot before each column of a row, and behind the last.
-#[tactic(auto, using(crate::proofs::Further::one_more_mapped, crate::proofs::Further::first_are_first))]
 fn row_words(alloc: Global, slot: u32, row: u64, deeds: &[Deed]) -> Result<Series<Word>, AllocError>
     requires slot { slot < 64 }
     requires few { length deeds.now ≤ 2000 }
     requires within { 40 * row ≤ length deeds.now }
-    ensures words { IfOk result (λ words. words ≡ row_words slot row (reverse deeds.now)) }
     ensures few { IfOk result (λ words. length words ≤ 41) }
 {
     let mut words = Series::new(alloc);
@@ -231,16 +194,13 @@ fn row_words(alloc: Global, slot: u32, row: u64, deeds: &[Deed]) -> Result<Serie
 }
 
 /// Whether the two words are one.
-fn is_same_word(one: Word, other: Word) -> bool
-    ensures { result ≡ is_same_word one other }
-{
+fn is_same_word(one: Word, other: Word) -> bool {
     one.raw() == other.raw()
 }
 
 /// How many words at the front are this one.
 fn same_front(word: Word, words: &[Word]) -> u64
     requires { length words.now < 2 ^ 32 }
-    ensures count { result ≡ same_front word words.now }
     ensures few { result ≤ length words.now }
 {
     let mut count = 0;
@@ -256,7 +216,6 @@ fn same_front(word: Word, words: &[Word]) -> u64
 /// Where a word changes that stands before this column of a row.
 fn change_x(columns: u64, column: u64) -> u64
     requires few { columns ≤ 40 }
-    ensures { result ≡ change_x columns column }
 {
     if column == 0 {
         return 100;
@@ -268,9 +227,7 @@ fn change_x(columns: u64, column: u64) -> u64
 }
 
 /// Whether a word begins that comes behind another, if any.
-fn begins(before: Option<Word>, word: Word) -> bool
-    ensures { result ≡ begins before word }
-{
+fn begins(before: Option<Word>, word: Word) -> bool {
     match before {
         None => true,
         Some(earlier) => !is_same_word(earlier, word),
@@ -291,7 +248,6 @@ fn push_segment(
     requires few { columns ≤ 40 }
     requires column { column ≤ 40 }
     requires behind { length behind.now ≤ 40 }
-    ensures { OnOk result (shapes.new ≡ shapes.old ++ segment_at slot y columns column before word behind.now) }
 {
     if !begins(before, word) {
         return Ok(());
@@ -314,7 +270,6 @@ fn push_segments(
 ) -> Result<(), AllocError>
     requires few { columns ≤ 40 }
     requires all { length words.now ≤ 41 }
-    ensures { OnOk result (shapes.new ≡ shapes.old ++ segments_from slot y columns 0 None words.now) }
 {
     let mut before = None;
     for at in 0..words.len() {
@@ -347,7 +302,6 @@ fn push_bar(
     requires few { length deeds.now ≤ 2000 }
     requires within { 40 * row ≤ length deeds.now }
     requires place { y < 2 ^ 60 }
-    ensures { OnOk result (shapes.new ≡ shapes.old ++ bar slot row y (reverse deeds.now)) }
 {
     draw(shapes, Shape::Name(8, y + 15, Caption::Slot(slot)))?;
     let words = row_words(alloc, slot, row, deeds)?;
@@ -368,7 +322,6 @@ fn push_if_given(
     requires few { length deeds.now ≤ 2000 }
     requires within { 40 * row ≤ length deeds.now }
     requires stride { stride < 2 ^ 50 }
-    ensures { OnOk result (shapes.new ≡ shapes.old ++ bar_if_given stride row (reverse deeds.now) slot) }
 {
     if !was_given(slot, deeds) {
         return Ok(());
@@ -378,7 +331,6 @@ fn push_if_given(
 }
 
 /// The bars of a row: one for each slot that was given out.
-#[tactic(auto, using(crate::proofs::Further::one_more_drawn))]
 pub(crate) fn push_bars(
     alloc: Global,
     shapes: &mut Series<Shape>,
@@ -389,9 +341,8 @@ pub(crate) fn push_bars(
     requires few { length deeds.now ≤ 2000 }
     requires within { 40 * row ≤ length deeds.now }
     requires stride { stride < 2 ^ 50 }
-    ensures { OnOk result (shapes.new ≡ shapes.old ++ row_bars stride row (reverse deeds.now)) }
 {
-    for slot in 0..slot_limit() {
+    for slot in 0..SLOTS {
         push_if_given(alloc, shapes, slot, stride, row, deeds)?;
     }
     Ok(())

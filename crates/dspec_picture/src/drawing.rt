@@ -1,19 +1,14 @@
 //! The picture of a play.
-ghost use Rattle.std.specs.Prelude.{ℕ, ◌≡◌, ◌+◌, ◌*◌, ◌^◌, ◌<◌, ◌≤◌, ◌↔◌, ◌++◌, All, Err, IfOk, List, OnOk, length, reverse, slice_index_or, string_bytes};
-ghost use Rattle.std.specs.List.{flat_map};
-ghost use Rattle.dspec_deeds.specs.Closes.{numbers_below};
-ghost use Rattle.dspec_picture.specs.Svg.{svg_text};
+ghost use Rattle.std.specs.Prelude.{◌≡◌, ◌+◌, ◌*◌, ◌^◌, ◌<◌, ◌≤◌, ◌↔◌, All, Err, IfOk, length};
 ghost use Rattle.dspec_picture.specs.declared.drawing.PictureFault.TheVariants.{Memory};
-ghost use Rattle.dspec_picture.specs.Drawing.{all_shared_marks, band_frame, band_of, bands_of, deeds_drawn, drawing, free_marks, ground_frame, lane_frame, lane_if, legend, row_frame, rows_drawn, shared_marks, stop_marks, stream_frame};
-ghost use Rattle.dspec_picture.specs.Grid.{band_height, bands_height, bands_top, row_count, row_height, slot_limit, stream_top};
-ghost use Rattle.dspec_picture.specs.Marks.{IsSmall, all_band_marks};
+ghost use Rattle.dspec_picture.specs.Bands.{IsSmall};
 
 use crate::band::Band;
 use crate::bars::push_bars;
 use crate::fates::deepest;
 use crate::grid::{
-    COLUMNS, bar_top, bars_above, has_lane, lanes_above, middle_x, picture_width, row_count,
-    row_end, row_top, slot_limit,
+    COLUMNS, SLOTS, bar_top, bars_above, has_lane, lanes_above, middle_x, picture_width, row_count,
+    row_end, row_top,
 };
 use crate::marks::{label_above, push_band};
 use crate::shape::{Caption, Look, Shape};
@@ -47,32 +42,27 @@ impl From<AllocError> for PictureFault {
 }
 
 fn stream_top(cpu: u32, deeds: &[Deed]) -> u64
-    ensures place { result ≡ stream_top cpu (reverse deeds.now) }
     ensures small { result ≤ 2066 }
 {
-    18 + 32 * lanes_above(cpu, slot_limit(), deeds)
+    18 + 32 * lanes_above(cpu, SLOTS, deeds)
 }
 
 fn band_height(cpu: u32, deeds: &[Deed]) -> u64
     requires few { length deeds.now ≤ 2000 }
-    ensures place { result ≡ band_height cpu (reverse deeds.now) }
     ensures small { result + 8 ≤ 65536 }
 {
     stream_top(cpu, deeds) + 22 * deepest(cpu, deeds) + 6
 }
 
 fn bands_top(deeds: &[Deed]) -> u64
-    ensures place { result ≡ bands_top (reverse deeds.now) }
     ensures small { result ≤ 2200 }
 {
-    24 + 34 * bars_above(slot_limit(), deeds)
+    24 + 34 * bars_above(SLOTS, deeds)
 }
 
 /// The heights of all bands, each with the gap below it.
-#[tactic(auto, using(crate::proofs::Further::one_band_more))]
 fn bands_height(cpus: u32, deeds: &[Deed]) -> u64
     requires few { length deeds.now ≤ 2000 }
-    ensures place { result ≡ bands_height cpus (reverse deeds.now) }
     ensures small { result ≤ 65536 * cpus }
 {
     let mut height = 0;
@@ -84,16 +74,13 @@ fn bands_height(cpus: u32, deeds: &[Deed]) -> u64
 
 fn row_height(cpus: u32, deeds: &[Deed]) -> u64
     requires few { length deeds.now ≤ 2000 }
-    ensures place { result ≡ row_height cpus (reverse deeds.now) }
     ensures small { result < 2 ^ 50 }
 {
     bands_top(deeds) + bands_height(cpus, deeds) + 8
 }
 
 /// How many of the CPU's batches the consumer took.
-fn taken_of(batches: &[u64], cpu: u32) -> u64
-    ensures { result ≡ slice_index_or batches.now cpu 0 }
-{
+fn taken_of(batches: &[u64], cpu: u32) -> u64 {
     match batches.get(cpu as usize) {
         Some(taken) => *taken,
         None => 0,
@@ -101,7 +88,6 @@ fn taken_of(batches: &[u64], cpu: u32) -> u64
 }
 
 /// The bands of all CPUs.
-#[tactic(auto, using(crate::proofs::Further::one_band_more, crate::proofs::Further::one_more_mapped))]
 fn bands(
     alloc: Global,
     config: &Config,
@@ -110,7 +96,6 @@ fn bands(
     deeds: &[Deed],
 ) -> Result<Series<Band>, AllocError>
     requires few { length deeds.now ≤ 2000 }
-    ensures bands { IfOk result (λ bands. bands ≡ bands_of config.now header batches.now (reverse deeds.now)) }
     ensures small { IfOk result (λ bands. All IsSmall bands) }
 {
     let stride = row_height(config.cpus, deeds);
@@ -144,7 +129,6 @@ fn push_lane(
 ) -> Result<(), AllocError>
     requires above { above ≤ 64 }
     requires place { y < 2 ^ 60 }
-    ensures { OnOk result (shapes.new ≡ shapes.old ++ lane_if spoke slot (y + (18 + 32 * above)) end) }
 {
     if !spoke {
         return Ok(());
@@ -155,7 +139,6 @@ fn push_lane(
 }
 
 /// The name and the line of each lane, in one row.
-#[tactic(auto, using(crate::proofs::Further::one_more_drawn, crate::proofs::Further::count_one_more))]
 fn push_lanes(
     shapes: &mut Series<Shape>,
     band: &Band,
@@ -164,10 +147,9 @@ fn push_lanes(
     deeds: &[Deed],
 ) -> Result<(), AllocError>
     requires place { y < 2 ^ 60 }
-    ensures { OnOk result (shapes.new ≡ shapes.old ++ flat_map (lane_frame band.now y end (reverse deeds.now)) (numbers_below slot_limit)) }
 {
     let mut above = 0;
-    for slot in 0..slot_limit() {
+    for slot in 0..SLOTS {
         let spoke = has_lane(band.cpu, slot, deeds);
         push_lane(shapes, y, end, slot, spoke, above)?;
         above += u64::from(spoke);
@@ -178,7 +160,6 @@ fn push_lanes(
 /// The name and the line of a stream, in one row.
 fn push_stream(shapes: &mut Series<Shape>, y: u64, end: u64) -> Result<(), AllocError>
     requires place { y < 2 ^ 60 }
-    ensures { OnOk result (shapes.new ≡ shapes.old ++ stream_frame y end) }
 {
     draw(shapes, Shape::Name(55, y + 14, Caption::Stream))?;
     draw(shapes, Shape::StreamLine(y + 10, end))
@@ -192,7 +173,6 @@ fn push_ground(
     width: u64,
 ) -> Result<(), AllocError>
     requires place { y < 2 ^ 60 }
-    ensures { OnOk result (shapes.new ≡ shapes.old ++ ground_frame band.now y width) }
 {
     draw(shapes, Shape::Ground(y, width, band.height))?;
     draw(shapes, Shape::Name(8, y + 32, Caption::Cpu(band.cpu)))
@@ -207,7 +187,6 @@ fn push_frame(
 ) -> Result<(), AllocError>
     requires band { IsSmall band.now }
     requires row { row ≤ 50 }
-    ensures { OnOk result (shapes.new ≡ shapes.old ++ band_frame row (reverse deeds.now) band.now) }
 {
     let count = deeds.len() as u64;
     let y = row_top(band.stride, row) + band.top;
@@ -225,7 +204,6 @@ fn push_frames(
 ) -> Result<(), AllocError>
     requires small { All IsSmall bands.now }
     requires row { row ≤ 50 }
-    ensures { OnOk result (shapes.new ≡ shapes.old ++ flat_map (band_frame row (reverse deeds.now)) bands.now) }
 {
     for band in bands {
         push_frame(shapes, band, row, deeds)?;
@@ -246,13 +224,11 @@ fn push_row(
     requires small { All IsSmall bands.now }
     requires stride { stride < 2 ^ 50 }
     requires within { 40 * row ≤ length deeds.now }
-    ensures { OnOk result (shapes.new ≡ shapes.old ++ row_frame stride bands.now (reverse deeds.now) row) }
 {
     push_bars(alloc, shapes, stride, row, deeds)?;
     push_frames(shapes, bands, row, deeds)
 }
 
-#[tactic(auto, using(crate::proofs::Further::one_more_drawn))]
 fn push_rows(
     alloc: Global,
     shapes: &mut Series<Shape>,
@@ -263,7 +239,6 @@ fn push_rows(
     requires few { length deeds.now ≤ 2000 }
     requires small { All IsSmall bands.now }
     requires stride { stride < 2 ^ 50 }
-    ensures { OnOk result (shapes.new ≡ shapes.old ++ rows_drawn stride bands.now (reverse deeds.now)) }
 {
     for row in 0..row_count(deeds.len() as u64) {
         push_row(alloc, shapes, stride, bands, deeds, row)?;
@@ -279,7 +254,6 @@ fn push_bands(
 ) -> Result<(), AllocError>
     requires few { length deeds.now ≤ 2000 }
     requires small { All IsSmall bands.now }
-    ensures { OnOk result (shapes.new ≡ shapes.old ++ flat_map (all_band_marks (reverse deeds.now)) bands.now) }
 {
     for band in bands {
         push_band(alloc, shapes, band, deeds)?;
@@ -297,7 +271,6 @@ fn push_shared(
 ) -> Result<(), AllocError>
     requires stride { stride < 2 ^ 50 }
     requires column { column ≤ 2000 }
-    ensures { OnOk result (shapes.new ≡ shapes.old ++ shared_marks stride (reverse deeds.now) column deed.now) }
 {
     let row = row_top(stride, column / COLUMNS);
     match *deed {
@@ -315,7 +288,6 @@ fn push_release(
     slot: u32,
 ) -> Result<(), AllocError>
     requires row { row < 2 ^ 60 }
-    ensures { OnOk result (shapes.new ≡ shapes.old ++ free_marks row (reverse deeds.now) column slot) }
 {
     let y = row + bar_top(slot, deeds);
     draw(shapes, label_above(column, y, Caption::Free))
@@ -329,7 +301,6 @@ fn push_stop(
     column: u64,
 ) -> Result<(), AllocError>
     requires row { row < 2 ^ 60 }
-    ensures { OnOk result (shapes.new ≡ shapes.old ++ stop_marks stride row (reverse deeds.now) column) }
 {
     let top = bands_top(deeds);
     draw(
@@ -339,7 +310,6 @@ fn push_stop(
     draw(shapes, label_above(column, row + top, Caption::Stop))
 }
 
-#[tactic(auto, using(crate::proofs::Further::one_deed_further))]
 fn push_all_shared(
     shapes: &mut Series<Shape>,
     stride: u64,
@@ -347,7 +317,6 @@ fn push_all_shared(
 ) -> Result<(), AllocError>
     requires few { length deeds.now ≤ 2000 }
     requires stride { stride < 2 ^ 50 }
-    ensures { OnOk result (shapes.new ≡ shapes.old ++ all_shared_marks stride (reverse deeds.now) (reverse deeds.now)) }
 {
     for at in 0..deeds.len() {
         push_shared(shapes, stride, deeds, at as u64, &deeds[at])?;
@@ -356,9 +325,7 @@ fn push_all_shared(
 }
 
 /// The five fates, each with its name.
-fn push_legend(shapes: &mut Series<Shape>, y: u64) -> Result<(), AllocError>
-    ensures { OnOk result (shapes.new ≡ shapes.old ++ legend y) }
-{
+fn push_legend(shapes: &mut Series<Shape>, y: u64) -> Result<(), AllocError> {
     draw(shapes, Shape::Key(100, y, Look::Taken))?;
     draw(shapes, Shape::Key(220, y, Look::Dropped))?;
     draw(shapes, Shape::Key(370, y, Look::Discarded))?;
@@ -377,7 +344,6 @@ fn push_deeds(
     requires few { length deeds.now ≤ 2000 }
     requires small { All IsSmall bands.now }
     requires stride { stride < 2 ^ 50 }
-    ensures { OnOk result (shapes.new ≡ shapes.old ++ deeds_drawn stride bands.now (reverse deeds.now)) }
 {
     push_rows(alloc, shapes, stride, bands, deeds)?;
     push_bands(alloc, shapes, bands, deeds)?;
@@ -388,7 +354,6 @@ fn push_deeds(
 fn legend_top(stride: u64, count: u64) -> u64
     requires stride { stride < 2 ^ 50 }
     requires few { count ≤ 2000 }
-    ensures place { result ≡ row_count count * stride + 6 }
     ensures small { result < 2 ^ 60 }
 {
     row_top(stride, row_count(count)) + 6
@@ -403,7 +368,6 @@ fn drawn(
     deeds: &[Deed],
 ) -> Result<String, AllocError>
     requires few { length deeds.now ≤ 2000 }
-    ensures { IfOk result (λ text. string_bytes text ≡ svg_text (drawing config.now header batches.now (reverse deeds.now))) }
 {
     let stride = row_height(config.cpus, deeds);
     let bands = bands(alloc, config, header, batches, deeds)?;
@@ -423,7 +387,6 @@ pub fn picture(
     batches: &[u64],
     deeds: &[Deed],
 ) -> Result<String, PictureFault>
-    ensures text { IfOk result (λ text. string_bytes text ≡ svg_text (drawing config.now header batches.now (reverse deeds.now))) }
     ensures refused { (result ≡ Err PictureFault.TooManyDeeds) ↔ (2000 < length deeds.now) }
 {
     if deeds.len() > MOST_DEEDS {

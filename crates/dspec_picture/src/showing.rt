@@ -1,9 +1,7 @@
 //! What the machine shows of slots before a step, and which word an exchange attempts.
-ghost use Rattle.std.specs.Prelude.{◌≡◌, ◌<◌};
-ghost use Rattle.dspec_deeds.specs.History.{ack, word_at};
+ghost use Rattle.std.specs.Prelude.{◌<◌};
 ghost use Rattle.dspec_interleaving.specs.Coherent.{IsSlot};
-ghost use Rattle.dspec_core.specs.Machines.{IsShownMachine, history};
-ghost use Rattle.dspec_picture.specs.Attempts.{attempted, is_marked};
+ghost use Rattle.dspec_core.specs.Machines.{IsShownMachine};
 
 use dspec_buffer::TraceBuffer;
 use dspec_core::machine::Machine;
@@ -14,7 +12,6 @@ use dspec_word::{Act, SpecId, Word};
 pub(crate) fn word_at<S: Schema, B: TraceBuffer<S>>(machine: &Machine<S, B>, slot: u32) -> Word
     requires shown { IsShownMachine B.has B.capacity machine.now }
     requires slot { IsSlot machine.now.config slot }
-    ensures { result ≡ word_at slot (history machine.now) }
 {
     machine.words[(slot - 1) as usize]
 }
@@ -28,7 +25,6 @@ pub(crate) fn is_marked<S: Schema, B: TraceBuffer<S>>(
     requires shown { IsShownMachine B.has B.capacity machine.now }
     requires cpu { cpu < machine.now.config.cpus }
     requires slot { IsSlot machine.now.config id.slot }
-    ensures { result ≡ is_marked cpu id (history machine.now) }
 {
     machine.cpus[cpu as usize].side.is_mine(id)
 }
@@ -38,15 +34,12 @@ pub(crate) fn ack<S: Schema, B: TraceBuffer<S>>(machine: &Machine<S, B>, cpu: u3
     requires shown { IsShownMachine B.has B.capacity machine.now }
     requires cpu { cpu < machine.now.config.cpus }
     requires slot { IsSlot machine.now.config slot }
-    ensures { result ≡ ack cpu slot (history machine.now) }
 {
     machine.cpus[cpu as usize].side.acks[(slot - 1) as usize]
 }
 
 /// The word that an exchange attempts.
-pub(crate) fn attempted(act: Act, from: Word) -> Word
-    ensures { result ≡ attempted act from }
-{
+pub(crate) fn attempted(act: Act, from: Word) -> Word {
     match act {
         Act::Attempt(to) => to,
         _ => from,

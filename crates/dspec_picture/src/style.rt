@@ -1,6 +1,4 @@
 //! The colours, strokes and dashes of each class.
-ghost use Rattle.std.specs.Prelude.{◌≡◌, ◌++◌, OnOk, string_bytes};
-ghost use Rattle.dspec_picture.specs.Svg.{style_text};
 
 use std::alloc::AllocError;
 
@@ -38,9 +36,6 @@ path{fill:none}.tip{fill:#2e7d32}\n\
 <rect width='100%' height='100%' fill='#fff'/>\n";
 
 /// Adds them.
-#[tactic(auto, unfolding(crate::specs::Svg::style_text))]
-pub(crate) fn print_style(text: &mut String) -> Result<(), AllocError>
-    ensures { OnOk result (string_bytes text.new ≡ string_bytes text.old ++ style_text) }
-{
+pub(crate) fn print_style(text: &mut String) -> Result<(), AllocError> {
     text.push_str(STYLE)
 }

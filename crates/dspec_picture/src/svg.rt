@@ -1,7 +1,4 @@
 //! The text of shapes, in SVG: the head, grounds, words, lines and strokes.
-ghost use Rattle.std.specs.Prelude.{◌≡◌, ◌++◌, IfOk, OnOk, string_bytes};
-ghost use Rattle.std.specs.List.{flat_map};
-ghost use Rattle.dspec_picture.specs.Svg.{caption_class, caption_text, down_text, ground_text, head_text, level_text, seal_class, seal_end, seal_text, shape_text, svg_text, taken_word, words_text};
 
 use crate::boxes::{print_box, print_cross, print_key};
 use crate::group::{print_class, print_placed};
@@ -16,9 +13,7 @@ pub fn svg_text(
     width: u64,
     height: u64,
     shapes: &[Shape],
-) -> Result<String, AllocError>
-    ensures { IfOk result (λ text. string_bytes text ≡ svg_text record { width = width; height = height; shapes = shapes.now }) }
-{
+) -> Result<String, AllocError> {
     let mut text = String::new(alloc);
     print_head(&mut text, width, height)?;
     print_shapes(alloc, &mut text, shapes)?;
@@ -26,9 +21,7 @@ pub fn svg_text(
     Ok(text)
 }
 
-fn print_head(text: &mut String, width: u64, height: u64) -> Result<(), AllocError>
-    ensures { OnOk result (string_bytes text.new ≡ string_bytes text.old ++ head_text width height) }
-{
+fn print_head(text: &mut String, width: u64, height: u64) -> Result<(), AllocError> {
     write!(
         text,
         "<svg xmlns='http://www.w3.org/2000/svg' role='img' width='{width}' height='{height}' viewBox='0 0 {width} {height}'>\n"
@@ -36,18 +29,14 @@ fn print_head(text: &mut String, width: u64, height: u64) -> Result<(), AllocErr
     print_style(text)
 }
 
-fn print_shapes(alloc: Global, text: &mut String, shapes: &[Shape]) -> Result<(), AllocError>
-    ensures { OnOk result (string_bytes text.new ≡ string_bytes text.old ++ flat_map shape_text shapes.now) }
-{
+fn print_shapes(alloc: Global, text: &mut String, shapes: &[Shape]) -> Result<(), AllocError> {
     for shape in shapes {
         print_shape(alloc, text, shape)?;
     }
     Ok(())
 }
 
-fn print_shape(alloc: Global, text: &mut String, shape: &Shape) -> Result<(), AllocError>
-    ensures { OnOk result (string_bytes text.new ≡ string_bytes text.old ++ shape_text shape.now) }
-{
+fn print_shape(alloc: Global, text: &mut String, shape: &Shape) -> Result<(), AllocError> {
     match *shape {
         Shape::Ground(y, width, height) => print_ground(text, y, width, height),
         Shape::Name(x, y, caption) => print_words(text, "name", x, y, caption),
@@ -68,18 +57,14 @@ fn print_shape(alloc: Global, text: &mut String, shape: &Shape) -> Result<(), Al
 }
 
 /// The ground of a band.
-fn print_ground(text: &mut String, y: u64, width: u64, height: u64) -> Result<(), AllocError>
-    ensures { OnOk result (string_bytes text.new ≡ string_bytes text.old ++ ground_text y width height) }
-{
+fn print_ground(text: &mut String, y: u64, width: u64, height: u64) -> Result<(), AllocError> {
     write!(
         text,
         "<rect class='ground' y='{y}' width='{width}' height='{height}'/>\n"
     )
 }
 
-fn print_caption(text: &mut String, caption: Caption) -> Result<(), AllocError>
-    ensures { OnOk result (string_bytes text.new ≡ string_bytes text.old ++ caption_text caption) }
-{
+fn print_caption(text: &mut String, caption: Caption) -> Result<(), AllocError> {
     match caption {
         Caption::Slot(slot) => write!(text, "slot {slot}"),
         Caption::Cpu(cpu) => write!(text, "cpu {cpu}"),
@@ -97,9 +82,7 @@ fn print_caption(text: &mut String, caption: Caption) -> Result<(), AllocError>
     }
 }
 
-fn class_of(caption: Caption) -> &'static str
-    ensures { result.now ≡ caption_class caption }
-{
+fn class_of(caption: Caption) -> &'static str {
     match caption {
         Caption::Cpu(_) => " bold",
         Caption::NoSlot | Caption::Stop => " red",
@@ -114,36 +97,32 @@ fn print_words(
     x: u64,
     y: u64,
     caption: Caption,
-) -> Result<(), AllocError>
-    ensures { OnOk result (string_bytes text.new ≡ string_bytes text.old ++ words_text class.now x y caption) }
-{
+) -> Result<(), AllocError> {
     let more = class_of(caption);
     write!(text, "<text class='{class}{more}' x='{x}' y='{y}'>")?;
     print_caption(text, caption)?;
     text.push_str("</text>\n")
 }
 
-fn print_level(text: &mut String, class: &str, y: u64, end: u64) -> Result<(), AllocError>
-    ensures { OnOk result (string_bytes text.new ≡ string_bytes text.old ++ level_text class.now y end) }
-{
+fn print_level(text: &mut String, class: &str, y: u64, end: u64) -> Result<(), AllocError> {
     write!(text, "<path class='{class}' d='M100 {y}H{end}'/>\n")
 }
 
-fn print_down(text: &mut String, class: &str, x: u64, y: u64, height: u64) -> Result<(), AllocError>
-    ensures { OnOk result (string_bytes text.new ≡ string_bytes text.old ++ down_text class.now x y height) }
-{
+fn print_down(
+    text: &mut String,
+    class: &str,
+    x: u64,
+    y: u64,
+    height: u64,
+) -> Result<(), AllocError> {
     write!(text, "<path class='{class}' d='M{x} {y}v{height}'/>\n")
 }
 
-fn seal_name(taken: bool) -> &'static str
-    ensures { result.now ≡ seal_class taken }
-{
+fn seal_name(taken: bool) -> &'static str {
     if taken { "seal" } else { "seal left" }
 }
 
-fn taken_name(taken: bool) -> &'static str
-    ensures { result.now ≡ taken_word taken }
-{
+fn taken_name(taken: bool) -> &'static str {
     if taken {
         ", taken by the consumer"
     } else {
@@ -159,18 +138,9 @@ fn print_seal(
     cpu: u32,
     number: u64,
     taken: bool,
-) -> Result<(), AllocError>
-    ensures { OnOk result (string_bytes text.new ≡ string_bytes text.old ++ seal_text x y cpu number taken) }
-{
+) -> Result<(), AllocError> {
     print_class(text, seal_name(taken))?;
     print_placed(text, x, y)?;
-    print_seal_end(text, cpu, number, taken)
-}
-
-#[tactic(auto, unfolding(crate::specs::Svg::seal_end))]
-fn print_seal_end(text: &mut String, cpu: u32, number: u64, taken: bool) -> Result<(), AllocError>
-    ensures { OnOk result (string_bytes text.new ≡ string_bytes text.old ++ seal_end cpu number taken) }
-{
     let end = taken_name(taken);
     write!(
         text,

@@ -1,15 +1,10 @@
 //! What the next step of a call in flight does, in words, as the machine shows it.
-ghost use Rattle.std.specs.Prelude.{◌≡◌, ◌<◌, ◌++◌, nat_lt, true, if◌then◌else◌, codes, decimal, OnOk, string_bytes};
-ghost use Rattle.dspec_deeds.specs.Own.{seals};
+ghost use Rattle.std.specs.Prelude.{◌≡◌, ◌<◌, true};
 ghost use Rattle.dspec_interleaving.specs.Calls.{is_about, is_actor};
-ghost use Rattle.dspec_interleaving.specs.Coherent.{IsSlot, progress_of};
-ghost use Rattle.dspec_interleaving.specs.Whole.{is_out};
-ghost use Rattle.dspec_core.specs.Machines.{IsShownMachine, history, state_of};
+ghost use Rattle.dspec_interleaving.specs.Coherent.{IsSlot};
+ghost use Rattle.dspec_core.specs.Machines.{IsShownMachine};
 ghost use Rattle.dspec_core.specs.Worlds.{WorldInvariant};
-ghost use Rattle.dspec_schedule.specs.Printed.{consumer_op_text, cpu_op_text};
-ghost use Rattle.dspec_word.specs.SpecId.{id_number};
 ghost use Rattle.dspec_picture.specs.Tellable.{CanBeTold, ConsumerCanBeTold, IsTellable};
-ghost use Rattle.dspec_picture.specs.Told.{ack_head, ack_told, ask_told, begun_told, consumer_begun_told, consumer_call_told, consumer_flight_told, consumer_told, cpu_call_told, cpu_flight_told, cpu_told, exchanges_told, is_given_back, is_handed, is_service, loads_told, running_told, service_told, step_told};
 
 use crate::showing::{ack, attempted, is_marked, word_at};
 use crate::words::{tell_about, tell_exchange, tell_load};
@@ -29,7 +24,6 @@ fn tell_slot<S: Schema, B: TraceBuffer<S>>(
 ) -> Result<(), AllocError>
     requires tellable { IsTellable B.has B.capacity machine.now }
     requires slot { IsSlot machine.now.config slot }
-    ensures { OnOk result (string_bytes text.new ≡ string_bytes text.old ++ loads_told (history machine.now) slot) }
 {
     tell_load(text, slot, word_at(machine, slot))
 }
@@ -44,7 +38,6 @@ fn tell_try<S: Schema, B: TraceBuffer<S>>(
 ) -> Result<(), AllocError>
     requires tellable { IsTellable B.has B.capacity machine.now }
     requires slot { IsSlot machine.now.config slot }
-    ensures { OnOk result (string_bytes text.new ≡ string_bytes text.old ++ exchanges_told (history machine.now) slot from act) }
 {
     tell_exchange(
         text,
@@ -55,18 +48,14 @@ fn tell_try<S: Schema, B: TraceBuffer<S>>(
     )
 }
 
-fn tell_running(text: &mut String, stopped: bool) -> Result<(), AllocError>
-    ensures { OnOk result (string_bytes text.new ≡ string_bytes text.old ++ running_told stopped) }
-{
+fn tell_running(text: &mut String, stopped: bool) -> Result<(), AllocError> {
     if stopped {
         return text.push_str("loads that the session is stopped");
     }
     text.push_str("loads that the session runs")
 }
 
-fn tell_ask(text: &mut String, wanted: bool) -> Result<(), AllocError>
-    ensures { OnOk result (string_bytes text.new ≡ string_bytes text.old ++ ask_told wanted) }
-{
+fn tell_ask(text: &mut String, wanted: bool) -> Result<(), AllocError> {
     if wanted {
         return text.push_str("loads the ask: a batch is wanted");
     }
@@ -77,7 +66,6 @@ fn tell_ask(text: &mut String, wanted: bool) -> Result<(), AllocError>
 fn is_wanted<S: Schema, B: TraceBuffer<S>>(machine: &Machine<S, B>, cpu: u32) -> bool
     requires shown { IsShownMachine B.has B.capacity machine.now }
     requires cpu { cpu < machine.now.config.cpus }
-    ensures { result ≡ nat_lt (seals cpu (history machine.now)) (progress_of (state_of machine.now).progresses cpu).want }
 {
     let own = &machine.cpus[cpu as usize];
     own.side.seals < own.progress.want
@@ -91,19 +79,11 @@ fn tell_service<S: Schema, B: TraceBuffer<S>>(
 ) -> Result<(), AllocError>
     requires tellable { IsTellable B.has B.capacity machine.now }
     requires cpu { cpu < machine.now.config.cpus }
-    ensures { OnOk result (string_bytes text.new ≡ string_bytes text.old
-        ++ service_told machine.now.config.policy (history machine.now) cpu (progress_of (state_of machine.now).progresses cpu).want) }
 {
     match machine.config.policy {
         Policy::Fill => tell_slot(text, machine, 1),
         Policy::Switch => tell_ask(text, is_wanted(machine, cpu)),
     }
-}
-
-fn is_service(op: CpuOp) -> bool
-    ensures { result ≡ is_service op }
-{
-    matches!(op, CpuOp::Service)
 }
 
 /// The first step of a CPU's call.
@@ -115,9 +95,8 @@ fn tell_begun<S: Schema, B: TraceBuffer<S>>(
 ) -> Result<(), AllocError>
     requires tellable { IsTellable B.has B.capacity machine.now }
     requires cpu { cpu < machine.now.config.cpus }
-    ensures { OnOk result (string_bytes text.new ≡ string_bytes text.old ++ begun_told machine.now.config (history machine.now) cpu (progress_of (state_of machine.now).progresses cpu) op) }
 {
-    if is_service(op) {
+    if matches!(op, CpuOp::Service) {
         return tell_service(text, machine, cpu);
     }
     if machine.is_worn(cpu) {
@@ -130,35 +109,25 @@ fn tell_begun<S: Schema, B: TraceBuffer<S>>(
 fn spare_of<S: Schema, B: TraceBuffer<S>>(machine: &Machine<S, B>, cpu: u32) -> Spare
     requires shown { IsShownMachine B.has B.capacity machine.now }
     requires cpu { cpu < machine.now.config.cpus }
-    ensures { result ≡ (progress_of (state_of machine.now).progresses cpu).spare }
 {
     machine.cpus[cpu as usize].progress.spare
 }
 
-fn tell_pop(text: &mut String, spare: Spare) -> Result<(), AllocError>
-    ensures { OnOk result (string_bytes text.new ≡ string_bytes text.old
-        ++ (if is_given_back spare then codes "pops a spare buffer" else codes "finds no spare buffer to pop")) }
-{
+fn tell_pop(text: &mut String, spare: Spare) -> Result<(), AllocError> {
     match spare {
         Spare::GivenBack => text.push_str("pops a spare buffer"),
         _ => text.push_str("finds no spare buffer to pop"),
     }
 }
 
-fn tell_take(text: &mut String, spare: Spare, cpu: u32) -> Result<(), AllocError>
-    ensures { OnOk result (string_bytes text.new ≡ string_bytes text.old
-        ++ ((if is_handed spare then codes "pops a batch of cpu " else codes "finds no batch to pop of cpu ") ++ decimal cpu)) }
-{
+fn tell_take(text: &mut String, spare: Spare, cpu: u32) -> Result<(), AllocError> {
     match spare {
         Spare::Handed => write!(text, "pops a batch of cpu {cpu}"),
         _ => write!(text, "finds no batch to pop of cpu {cpu}"),
     }
 }
 
-fn tell_give_back(text: &mut String, spare: Spare, cpu: u32) -> Result<(), AllocError>
-    ensures { OnOk result (string_bytes text.new ≡ string_bytes text.old
-        ++ ((if is_out spare then codes "pushes a spare buffer to cpu " else codes "has no buffer to push to cpu ") ++ decimal cpu)) }
-{
+fn tell_give_back(text: &mut String, spare: Spare, cpu: u32) -> Result<(), AllocError> {
     match spare {
         Spare::Out => write!(text, "pushes a spare buffer to cpu {cpu}"),
         _ => write!(text, "has no buffer to push to cpu {cpu}"),
@@ -175,7 +144,6 @@ fn tell_cpu<S: Schema, B: TraceBuffer<S>>(
     requires tellable { IsTellable B.has B.capacity machine.now }
     requires cpu { cpu < machine.now.config.cpus }
     requires told { CanBeTold machine.now.config flight }
-    ensures { OnOk result (string_bytes text.new ≡ string_bytes text.old ++ cpu_told machine.now.config (history machine.now) cpu (progress_of (state_of machine.now).progresses cpu) flight) }
 {
     match flight {
         CallPlace::Begun(op) => tell_begun(text, machine, cpu, op),
@@ -217,8 +185,6 @@ fn tell_consumer_begun<S: Schema, B: TraceBuffer<S>>(
 ) -> Result<(), AllocError>
     requires tellable { IsTellable B.has B.capacity machine.now }
     requires about { is_about machine.now.config op ≡ true }
-    ensures { OnOk result (string_bytes text.new ≡ string_bytes text.old
-        ++ consumer_begun_told (history machine.now) (state_of machine.now).progresses op) }
 {
     match op {
         ConsumerOp::Ask(cpu) => write!(text, "stores the ask of cpu {cpu}"),
@@ -229,26 +195,9 @@ fn tell_consumer_begun<S: Schema, B: TraceBuffer<S>>(
     }
 }
 
-#[tactic(auto, unfolding(crate::specs::Told::ack_head))]
-fn tell_ack_head(text: &mut String, cpu: u32) -> Result<(), AllocError>
-    ensures { OnOk result (string_bytes text.new ≡ string_bytes text.old ++ ack_head cpu) }
-{
-    write!(text, "loads whether cpu {cpu} acknowledged ")
-}
-
-fn tell_id(text: &mut String, id: SpecId) -> Result<(), AllocError>
-    ensures { OnOk result (string_bytes text.new ≡ string_bytes text.old ++ decimal (id_number id)) }
-{
-    let number = id.raw();
-    write!(text, "{number}")
-}
-
 /// The load of an acknowledgement of a speculation.
-fn tell_ack(text: &mut String, cpu: u32, id: SpecId, there: bool) -> Result<(), AllocError>
-    ensures { OnOk result (string_bytes text.new ≡ string_bytes text.old ++ ack_told cpu id there) }
-{
-    tell_ack_head(text, cpu)?;
-    tell_id(text, id)?;
+fn tell_ack(text: &mut String, cpu: u32, id: SpecId, there: bool) -> Result<(), AllocError> {
+    write!(text, "loads whether cpu {cpu} acknowledged {}", id.raw())?;
     if there {
         return text.push_str(": yes");
     }
@@ -263,7 +212,6 @@ fn tell_consumer<S: Schema, B: TraceBuffer<S>>(
 ) -> Result<(), AllocError>
     requires tellable { IsTellable B.has B.capacity machine.now }
     requires told { ConsumerCanBeTold machine.now.config flight }
-    ensures { OnOk result (string_bytes text.new ≡ string_bytes text.old ++ consumer_told (history machine.now) (state_of machine.now).progresses flight) }
 {
     match flight {
         ConsumerFlight::Begun(op) => tell_consumer_begun(text, machine, op),
@@ -279,9 +227,7 @@ fn tell_consumer<S: Schema, B: TraceBuffer<S>>(
 }
 
 /// A call of a CPU, as a play's lines name it.
-fn tell_cpu_op(text: &mut String, op: CpuOp) -> Result<(), AllocError>
-    ensures { OnOk result (string_bytes text.new ≡ string_bytes text.old ++ cpu_op_text op) }
-{
+fn tell_cpu_op(text: &mut String, op: CpuOp) -> Result<(), AllocError> {
     match op {
         CpuOp::Service => text.push_str("service"),
         CpuOp::Trace(_) => text.push_str("trace"),
@@ -293,9 +239,7 @@ fn tell_cpu_op(text: &mut String, op: CpuOp) -> Result<(), AllocError>
 }
 
 /// A call of the consumer, as a play's lines name it.
-fn tell_consumer_op(text: &mut String, op: ConsumerOp) -> Result<(), AllocError>
-    ensures { OnOk result (string_bytes text.new ≡ string_bytes text.old ++ consumer_op_text op) }
-{
+fn tell_consumer_op(text: &mut String, op: ConsumerOp) -> Result<(), AllocError> {
     match op {
         ConsumerOp::Clean => text.push_str("clean"),
         ConsumerOp::Stop => text.push_str("stop"),
@@ -306,18 +250,14 @@ fn tell_consumer_op(text: &mut String, op: ConsumerOp) -> Result<(), AllocError>
 }
 
 /// A call of a CPU, between what is told before it and its step.
-fn tell_cpu_name(text: &mut String, op: CpuOp) -> Result<(), AllocError>
-    ensures { OnOk result (string_bytes text.new ≡ string_bytes text.old ++ (codes " " ++ cpu_op_text op ++ codes ": ")) }
-{
+fn tell_cpu_name(text: &mut String, op: CpuOp) -> Result<(), AllocError> {
     text.push_str(" ")?;
     tell_cpu_op(text, op)?;
     text.push_str(": ")
 }
 
 /// The same of a call of the consumer.
-fn tell_consumer_name(text: &mut String, op: ConsumerOp) -> Result<(), AllocError>
-    ensures { OnOk result (string_bytes text.new ≡ string_bytes text.old ++ (codes " " ++ consumer_op_text op ++ codes ": ")) }
-{
+fn tell_consumer_name(text: &mut String, op: ConsumerOp) -> Result<(), AllocError> {
     text.push_str(" ")?;
     tell_consumer_op(text, op)?;
     text.push_str(": ")
@@ -331,7 +271,6 @@ fn tell_cpu_call<S: Schema, B: TraceBuffer<S>>(
 ) -> Result<(), AllocError>
     requires shown { IsShownMachine B.has B.capacity machine.now }
     requires cpu { cpu < machine.now.config.cpus }
-    ensures { OnOk result (string_bytes text.new ≡ string_bytes text.old ++ cpu_call_told (progress_of (state_of machine.now).progresses cpu).flight) }
 {
     match machine.cpus[cpu as usize].progress.flight {
         None => Ok(()),
@@ -343,9 +282,7 @@ fn tell_cpu_call<S: Schema, B: TraceBuffer<S>>(
 fn tell_consumer_call<S: Schema, B: TraceBuffer<S>>(
     text: &mut String,
     machine: &Machine<S, B>,
-) -> Result<(), AllocError>
-    ensures { OnOk result (string_bytes text.new ≡ string_bytes text.old ++ consumer_call_told machine.now.consumer.flight) }
-{
+) -> Result<(), AllocError> {
     match machine.consumer.flight {
         None => Ok(()),
         Some(flight) => tell_consumer_name(text, flight.op()),
@@ -361,7 +298,6 @@ fn tell_cpu_step<S: Schema, B: TraceBuffer<S>>(
 ) -> Result<(), AllocError>
     requires kept { WorldInvariant B.has B.capacity S.shape_of S.accepted machine.now }
     requires cpu { cpu < machine.now.config.cpus }
-    ensures { OnOk result (string_bytes text.new ≡ string_bytes text.old ++ cpu_flight_told cpu (state_of machine.now) (progress_of (state_of machine.now).progresses cpu).flight) }
 {
     match machine.cpus[cpu as usize].progress.flight {
         None => Ok(()),
@@ -376,7 +312,6 @@ fn tell_consumer_step<S: Schema, B: TraceBuffer<S>>(
     machine: &Machine<S, B>,
 ) -> Result<(), AllocError>
     requires kept { WorldInvariant B.has B.capacity S.shape_of S.accepted machine.now }
-    ensures { OnOk result (string_bytes text.new ≡ string_bytes text.old ++ consumer_flight_told (state_of machine.now) machine.now.consumer.flight) }
 {
     match machine.consumer.flight {
         None => Ok(()),
@@ -392,7 +327,6 @@ pub(crate) fn tell_step<S: Schema, B: TraceBuffer<S>>(
 ) -> Result<(), AllocError>
     requires kept { WorldInvariant B.has B.capacity S.shape_of S.accepted machine.now }
     requires exists { is_actor machine.now.config actor ≡ true }
-    ensures { OnOk result (string_bytes text.new ≡ string_bytes text.old ++ step_told actor (state_of machine.now)) }
 {
     match actor {
         Actor::Cpu(cpu) => {

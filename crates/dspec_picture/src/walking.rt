@@ -1,6 +1,5 @@
 //! The play of turns, told step by step.
-ghost use Rattle.std.specs.Prelude.{◌≡◌, ◌≢◌, [], ◌++◌, ◌+◌, ◌^◌, ◌<◌, true, false, drop, IfErr, IfOk, None, OnOk, Some, string_bytes};
-ghost use Rattle.std.specs.List.{flat_map};
+ghost use Rattle.std.specs.Prelude.{◌≡◌, ◌≢◌, ◌^◌, ◌<◌, true, false, IfErr, IfOk, None, OnOk, Some};
 ghost use Rattle.dspec_deeds.specs.Ranges.{start_fault};
 ghost use Rattle.dspec_interleaving.specs.declared.outcome.PlayFault.TheVariants as failure;
 ghost use Rattle.dspec_interleaving.specs.Bounds.{most_steps};
@@ -9,9 +8,6 @@ ghost use Rattle.dspec_interleaving.specs.Plays.{Playing, begin_refusal, play_fa
 ghost use Rattle.dspec_interleaving.specs.Turns.{at_start, begin_consumer, begin_cpu, step};
 ghost use Rattle.dspec_core.specs.Machines.{state_of};
 ghost use Rattle.dspec_core.specs.Worlds.{WorldInvariant};
-ghost use Rattle.dspec_schedule.specs.Printed.{actor_text};
-ghost use Rattle.dspec_picture.specs.Steps.{TellsTurn, last_lines, line_at, ran_lines, step_line, steps_text, turn_lines, turn_told};
-ghost use Rattle.dspec_picture.specs.Words.{deed_behind};
 
 use crate::room::{Room, room_at};
 use crate::telling::tell_step;
@@ -24,18 +20,14 @@ use dspec_record::{Header, Schema};
 use std::alloc::{AllocError, Global};
 
 /// The number of a turn, counted from 1; 0 behind the last.
-fn tell_turn(text: &mut String, turn: u64) -> Result<(), AllocError>
-    ensures { OnOk result (string_bytes text.new ≡ string_bytes text.old ++ turn_told turn) }
-{
+fn tell_turn(text: &mut String, turn: u64) -> Result<(), AllocError> {
     if turn == 0 {
         return text.push_str("end, ");
     }
     write!(text, "turn {turn}, ")
 }
 
-fn tell_actor(text: &mut String, actor: Actor) -> Result<(), AllocError>
-    ensures { OnOk result (string_bytes text.new ≡ string_bytes text.old ++ actor_text actor) }
-{
+fn tell_actor(text: &mut String, actor: Actor) -> Result<(), AllocError> {
     match actor {
         Actor::Consumer => text.push_str("consumer"),
         Actor::Cpu(cpu) => write!(text, "cpu {cpu}"),
@@ -50,9 +42,7 @@ fn tell_deeds<S: Schema>(
     room: Room,
     header: Header,
     deeds: &[Deed],
-) -> Result<(), AllocError>
-    ensures { OnOk result (string_bytes text.new ≡ string_bytes text.old ++ flat_map (deed_behind (S.shape_of schema.now) config.now room header) deeds.now) }
-{
+) -> Result<(), AllocError> {
     for deed in deeds {
         tell_behind(text, config, schema, room, header, deed)?;
     }
@@ -60,9 +50,7 @@ fn tell_deeds<S: Schema>(
 }
 
 /// The deeds behind so many.
-fn behind(deeds: &[Deed], count: usize) -> &[Deed]
-    ensures { result.now ≡ drop count deeds.now }
-{
+fn behind(deeds: &[Deed], count: usize) -> &[Deed] {
     &deeds[count.min(deeds.len())..]
 }
 
@@ -92,7 +80,6 @@ fn advance<S: Schema, B: TraceBuffer<S>>(
 }
 
 /// One atomic step, told in a line.
-#[tactic(auto, using(crate::proofs::Further::same_news))]
 fn step_in_words<S: Schema, B: TraceBuffer<S>>(
     machine: &mut Machine<S, B>,
     text: &mut String,
@@ -106,8 +93,6 @@ fn step_in_words<S: Schema, B: TraceBuffer<S>>(
     ensures state { OnOk result (state_of machine.new ≡ (step (S.shape_of machine.old.schema) actor (state_of machine.old)).state) }
     ensures schema { machine.new.schema ≡ machine.old.schema }
     ensures config { OnOk result (machine.new.config ≡ machine.old.config) }
-    ensures told { OnOk result (string_bytes text.new ≡ string_bytes text.old
-        ++ step_line (S.shape_of machine.old.schema) header turn actor (state_of machine.old) (state_of machine.new)) }
 {
     tell_turn(text, turn)?;
     tell_actor(text, actor)?;
@@ -133,7 +118,7 @@ fn is_idle<S: Schema, B: TraceBuffer<S>>(machine: &Machine<S, B>, actor: Actor) 
 }
 
 /// The same of an actor that is busy, by what has been played.
-#[tactic(auto, using(crate::proofs::Runs::step_goes, crate::proofs::Runs::step_lines))]
+#[tactic(auto, using(crate::proofs::Runs::step_goes))]
 fn step_told<S: Schema, B: TraceBuffer<S>>(
     machine: &mut Machine<S, B>,
     text: &mut String,
@@ -146,8 +131,6 @@ fn step_told<S: Schema, B: TraceBuffer<S>>(
     requires busy { is_idle actor (state_of machine.old) ≡ false }
     ensures kept { OnOk result (WorldInvariant B.has B.capacity S.shape_of S.accepted machine.new) }
     ensures stepped { OnOk result ((p : Playing) → state_of machine.old ≡ p.state → state_of machine.new ≡ (stepped (S.shape_of machine.old.schema) actor p).state) }
-    ensures told { OnOk result ((p : Playing) → state_of machine.old ≡ p.state
-        → string_bytes text.new ≡ string_bytes text.old ++ line_at (S.shape_of machine.old.schema) header turn actor p) }
     ensures schema { machine.new.schema ≡ machine.old.schema }
     ensures config { OnOk result (machine.new.config ≡ machine.old.config) }
 {
@@ -181,8 +164,6 @@ fn run_in_words<S: Schema, B: TraceBuffer<S>>(
     requires exists { is_actor config.now actor ≡ true }
     ensures kept { OnOk result (WorldInvariant B.has B.capacity S.shape_of S.accepted machine.new) }
     ensures ran { OnOk result ((p : Playing) → state_of machine.old ≡ p.state → state_of machine.new ≡ (ran (S.shape_of machine.old.schema) actor p).state) }
-    ensures told { OnOk result ((p : Playing) → state_of machine.old ≡ p.state
-        → string_bytes text.new ≡ string_bytes text.old ++ ran_lines (S.shape_of machine.old.schema) header turn actor p) }
     ensures schema { machine.new.schema ≡ machine.old.schema }
     ensures config { OnOk result (machine.new.config ≡ config.now) }
 {
@@ -292,8 +273,6 @@ fn step_turn<S: Schema, B: TraceBuffer<S>>(
     ensures kept { OnOk result (WorldInvariant B.has B.capacity S.shape_of S.accepted machine.new) }
     ensures allowed { OnOk result (idle_step_fault actor (state_of machine.old) ≡ None) }
     ensures stepped { OnOk result ((p : Playing) → state_of machine.old ≡ p.state → state_of machine.new ≡ (stepped (S.shape_of machine.old.schema) actor p).state) }
-    ensures told { OnOk result ((p : Playing) → state_of machine.old ≡ p.state
-        → string_bytes text.new ≡ string_bytes text.old ++ line_at (S.shape_of machine.old.schema) header turn actor p) }
     ensures schema { machine.new.schema ≡ machine.old.schema }
     ensures config { OnOk result (machine.new.config ≡ machine.old.config) }
     ensures refused { IfErr result (λ fault. fault ≢ failure.Memory → step_refusal number (idle_step_fault actor (state_of machine.old)) ≡ Some fault) }
@@ -324,8 +303,6 @@ fn take_turn<S: Schema, B: TraceBuffer<S>>(
     ensures kept { OnOk result (WorldInvariant B.has B.capacity S.shape_of S.accepted machine.new) }
     ensures allowed { OnOk result (refusal (S.shape_of machine.old.schema) (S.accepted machine.old.schema) number turn.now (state_of machine.old) ≡ None) }
     ensures turned { OnOk result ((p : Playing) → state_of machine.old ≡ p.state → state_of machine.new ≡ (turned (S.shape_of machine.old.schema) turn.now p).state) }
-    ensures told { OnOk result (TellsTurn (S.shape_of machine.old.schema) header (number + 1) turn.now (state_of machine.old)
-        (string_bytes text.old) (string_bytes text.new)) }
     ensures schema { machine.new.schema ≡ machine.old.schema }
     ensures config { OnOk result (machine.new.config ≡ config.now) }
     ensures refused { IfErr result (λ fault. fault ≢ failure.Memory
@@ -360,8 +337,6 @@ fn run_last<S: Schema, B: TraceBuffer<S>>(
     requires kept { WorldInvariant B.has B.capacity S.shape_of S.accepted machine.old }
     requires config { machine.old.config ≡ config.now }
     requires fine { start_fault config.now ≡ None }
-    ensures told { OnOk result ((p : Playing) → state_of machine.old ≡ p.state
-        → string_bytes text.new ≡ string_bytes text.old ++ last_lines (S.shape_of machine.old.schema) header p) }
 {
     for cpu in 0..config.cpus {
         run_in_words(machine, text, header, 0, config, Actor::Cpu(cpu))?;
@@ -380,9 +355,7 @@ fn play_in_words<S: Schema, B: TraceBuffer<S>>(
     requires kept { WorldInvariant B.has B.capacity S.shape_of S.accepted machine.old }
     requires fresh { state_of machine.old ≡ at_start config.now }
     requires fine { start_fault config.now ≡ None }
-    requires empty { string_bytes text.old ≡ [] }
     ensures played { OnOk result (play_fault (S.shape_of machine.old.schema) (S.accepted machine.old.schema) config.now turns.now ≡ None) }
-    ensures told { OnOk result (string_bytes text.new ≡ steps_text (S.shape_of machine.old.schema) header config.now turns.now) }
     ensures refused { IfErr result (λ fault. fault ≢ failure.Memory
         → play_fault (S.shape_of machine.old.schema) (S.accepted machine.old.schema) config.now turns.now ≡ Some fault) }
 {
@@ -402,7 +375,6 @@ pub fn steps_of<S: Schema>(
     turns: &[Turn],
 ) -> Result<String, PlayFault>
     ensures played { IfOk result (λ _. play_fault (S.shape_of schema) (S.accepted schema) config.now turns.now ≡ None) }
-    ensures told { IfOk result (λ text. string_bytes text ≡ steps_text (S.shape_of schema) header config.now turns.now) }
     ensures refused { IfErr result (λ fault. fault ≢ failure.Memory → play_fault (S.shape_of schema) (S.accepted schema) config.now turns.now ≡ Some fault) }
     ensures memory { IfErr result (λ fault. fault ≡ failure.Memory → start_fault config.now ≡ None) }
 {

@@ -1,9 +1,5 @@
 //! The words in which a step is told.
-ghost use Rattle.std.specs.Prelude.{◌≡◌, ◌<◌, [], ◌++◌, ◌⊎◌, if◌then◌else◌, OnOk, codes, decimal, string_bytes};
-ghost use Rattle.dspec_word.specs.SpecId.{id_number};
-ghost use Rattle.dspec_deeds.specs.FateKinds.{is_lost};
-ghost use Rattle.dspec_buffer.specs.Extent.{align_of, size_of};
-ghost use Rattle.dspec_picture.specs.Words.{bytes_told, decided_told, deed_behind, deed_told, exchange_told, exchanged_told, is_that_word, load_head, load_told, needed_told, refusal_told, refused_behind, refused_principal, speculate_refusal, speculate_told, spoken_told, standing_word, trace_refusal, trace_told, traced_told, verb_told, word_told};
+ghost use Rattle.std.specs.Prelude.{◌<◌};
 
 use crate::room::{Room, bytes_needed};
 use dspec_deeds::{Config, DecideFate, Deed, SpeculateFate, TraceFate};
@@ -13,9 +9,7 @@ use dspec_word::{Code, SpecId, Word};
 use std::alloc::AllocError;
 
 /// Where a speculation stands.
-pub(crate) fn standing_name(code: Code) -> &'static str
-    ensures { result.now ≡ standing_word code }
-{
+pub(crate) fn standing_name(code: Code) -> &'static str {
     match code {
         Code::Discarding => "discarding",
         Code::CommittingMany => "committing many",
@@ -28,19 +22,15 @@ pub(crate) fn standing_name(code: Code) -> &'static str
 }
 
 /// A slot's word, by the number of the speculation that it has or gives out next.
-#[tactic(auto, unfolding(crate::specs::Words::word_told))]
 fn tell_word(text: &mut String, slot: u32, word: Word) -> Result<(), AllocError>
     requires slot { slot < 64 }
-    ensures { OnOk result (string_bytes text.new ≡ string_bytes text.old ++ word_told slot word) }
 {
     let number = SpecId::of(word.issue(), slot).raw();
     let name = standing_name(word.code());
     write!(text, "{number} {name}")
 }
 
-fn traced_name(fate: TraceFate) -> &'static str
-    ensures { result.now ≡ traced_told fate }
-{
+fn traced_name(fate: TraceFate) -> &'static str {
     match fate {
         TraceFate::Stopped => "stopped",
         TraceFate::Dropped => "dropped",
@@ -48,9 +38,7 @@ fn traced_name(fate: TraceFate) -> &'static str
     }
 }
 
-fn spoken_name(fate: SpeculateFate) -> &'static str
-    ensures { result.now ≡ spoken_told fate }
-{
+fn spoken_name(fate: SpeculateFate) -> &'static str {
     match fate {
         SpeculateFate::Stopped => "stopped",
         SpeculateFate::Void => "void",
@@ -60,9 +48,7 @@ fn spoken_name(fate: SpeculateFate) -> &'static str
 }
 
 /// What became of a buffer, with how many records it had.
-fn tell_decided(text: &mut String, fate: DecideFate) -> Result<(), AllocError>
-    ensures { OnOk result (string_bytes text.new ≡ string_bytes text.old ++ decided_told fate) }
-{
+fn tell_decided(text: &mut String, fate: DecideFate) -> Result<(), AllocError> {
     match fate {
         DecideFate::Stopped => write!(text, " stopped"),
         DecideFate::Void => write!(text, " void"),
@@ -72,31 +58,25 @@ fn tell_decided(text: &mut String, fate: DecideFate) -> Result<(), AllocError>
     }
 }
 
-#[tactic(auto, unfolding(crate::specs::Words::trace_told))]
 fn tell_trace(
     text: &mut String,
     header: Header,
     rec: &Rec,
     fate: TraceFate,
-) -> Result<(), AllocError>
-    ensures { OnOk result (string_bytes text.new ≡ string_bytes text.old ++ trace_told header rec.now fate) }
-{
+) -> Result<(), AllocError> {
     text.push_str("trace ")?;
     print_record(text, header, rec)?;
     text.push_str(" ")?;
     text.push_str(traced_name(fate))
 }
 
-#[tactic(auto, unfolding(crate::specs::Words::speculate_told))]
 fn tell_speculate(
     text: &mut String,
     header: Header,
     id: SpecId,
     rec: &Rec,
     fate: SpeculateFate,
-) -> Result<(), AllocError>
-    ensures { OnOk result (string_bytes text.new ≡ string_bytes text.old ++ speculate_told header id rec.now fate) }
-{
+) -> Result<(), AllocError> {
     let number = id.raw();
     write!(text, "speculate {number} ")?;
     print_record(text, header, rec)?;
@@ -105,33 +85,30 @@ fn tell_speculate(
 }
 
 /// A speculation, behind what is done with it and a space.
-pub(crate) fn tell_about(text: &mut String, verb: &str, id: SpecId) -> Result<(), AllocError>
-    ensures { OnOk result (string_bytes text.new ≡ string_bytes text.old ++ (verb.now ++ decimal (id_number id))) }
-{
+pub(crate) fn tell_about(text: &mut String, verb: &str, id: SpecId) -> Result<(), AllocError> {
     let number = id.raw();
     write!(text, "{verb}{number}")
 }
 
 /// A decision or a settlement, behind its name and a space.
-fn tell_verb(text: &mut String, verb: &str, id: SpecId, fate: DecideFate) -> Result<(), AllocError>
-    ensures { OnOk result (string_bytes text.new ≡ string_bytes text.old ++ verb_told verb.now id fate) }
-{
+fn tell_verb(
+    text: &mut String,
+    verb: &str,
+    id: SpecId,
+    fate: DecideFate,
+) -> Result<(), AllocError> {
     tell_about(text, verb, id)?;
     tell_decided(text, fate)
 }
 
-fn tell_scan(text: &mut String, running: bool) -> Result<(), AllocError>
-    ensures { OnOk result (string_bytes text.new ≡ string_bytes text.old ++ (if running then codes "scan" else codes "scan stopped")) }
-{
+fn tell_scan(text: &mut String, running: bool) -> Result<(), AllocError> {
     if running {
         return text.push_str("scan");
     }
     text.push_str("scan stopped")
 }
 
-fn tell_miss(text: &mut String, slot: u32, busy: bool) -> Result<(), AllocError>
-    ensures { OnOk result (string_bytes text.new ≡ string_bytes text.old ++ (if busy then codes "miss slot " ++ decimal slot ++ codes " busy" else codes "miss slot " ++ decimal slot)) }
-{
+fn tell_miss(text: &mut String, slot: u32, busy: bool) -> Result<(), AllocError> {
     if busy {
         return write!(text, "miss slot {slot} busy");
     }
@@ -139,9 +116,7 @@ fn tell_miss(text: &mut String, slot: u32, busy: bool) -> Result<(), AllocError>
 }
 
 /// A deed, without the CPU that the line is of.
-fn tell_deed(text: &mut String, header: Header, deed: &Deed) -> Result<(), AllocError>
-    ensures { OnOk result (string_bytes text.new ≡ string_bytes text.old ++ deed_told header deed.now) }
-{
+fn tell_deed(text: &mut String, header: Header, deed: &Deed) -> Result<(), AllocError> {
     match *deed {
         Deed::Trace(_, rec, fate) => tell_trace(text, header, &rec, fate),
         Deed::Scan(_, running) => tell_scan(text, running),
@@ -157,34 +132,19 @@ fn tell_deed(text: &mut String, header: Header, deed: &Deed) -> Result<(), Alloc
     }
 }
 
-#[tactic(auto, unfolding(crate::specs::Words::needed_told))]
-fn tell_needed(text: &mut String, needed: u64) -> Result<(), AllocError>
-    ensures { OnOk result (string_bytes text.new ≡ string_bytes text.old ++ needed_told needed) }
-{
-    write!(text, ": {needed} bytes needed, ")
-}
-
-/// How many bytes were needed, and how many were left.
-fn tell_bytes(text: &mut String, needed: u64, left: u32) -> Result<(), AllocError>
-    ensures { OnOk result (string_bytes text.new ≡ string_bytes text.old ++ bytes_told needed left) }
-{
-    tell_needed(text, needed)?;
-    write!(text, "{left} left")
-}
-
-/// The same of bytes that were needed behind those that a buffer of this size has.
+/// How many bytes were needed behind those that a buffer of this size has, and how many were left.
 fn tell_refused(
     text: &mut String,
     size: u32,
     reach: u32,
     align: u32,
     needed: u32,
-) -> Result<(), AllocError>
-    requires { (align ≡ 4) ⊎ (align ≡ 8) }
-    ensures { OnOk result (string_bytes text.new ≡ string_bytes text.old ++ refused_behind size reach align needed) }
-{
-    let left = size.saturating_sub(reach);
-    tell_bytes(text, bytes_needed(reach, align, needed), left)
+) -> Result<(), AllocError> {
+    let (needed, left) = (
+        bytes_needed(reach, align, needed),
+        size.saturating_sub(reach),
+    );
+    write!(text, ": {needed} bytes needed, {left} left")
 }
 
 /// The same of the principal buffer, which may be closed.
@@ -194,10 +154,7 @@ fn tell_principal(
     room: Room,
     align: u32,
     needed: u32,
-) -> Result<(), AllocError>
-    requires { (align ≡ 4) ⊎ (align ≡ 8) }
-    ensures { OnOk result (string_bytes text.new ≡ string_bytes text.old ++ refused_principal config.now room align needed) }
-{
+) -> Result<(), AllocError> {
     if room.closed {
         return text.push_str(": the buffer is closed");
     }
@@ -205,11 +162,7 @@ fn tell_principal(
 }
 
 /// The shape of a record.
-fn shape_of<S: Schema>(schema: &S, rec: &Rec) -> Shape
-    ensures align { result.align ≡ align_of (S.shape_of schema.now) rec.now }
-    ensures size { result.size ≡ size_of (S.shape_of schema.now) rec.now }
-    ensures aligned { (result.align ≡ 4) ⊎ (result.align ≡ 8) }
-{
+fn shape_of<S: Schema>(schema: &S, rec: &Rec) -> Shape {
     match schema.shape(rec.epid()) {
         Some(shape) => shape,
         None => Shape { size: 0, align: 4 },
@@ -224,9 +177,7 @@ fn tell_undropped<S: Schema>(
     room: Room,
     rec: &Rec,
     fate: TraceFate,
-) -> Result<(), AllocError>
-    ensures { OnOk result (string_bytes text.new ≡ string_bytes text.old ++ trace_refusal (S.shape_of schema.now) config.now room rec.now fate) }
-{
+) -> Result<(), AllocError> {
     if !matches!(fate, TraceFate::Dropped) {
         return Ok(());
     }
@@ -242,9 +193,7 @@ fn tell_unspoken<S: Schema>(
     room: Room,
     rec: &Rec,
     fate: SpeculateFate,
-) -> Result<(), AllocError>
-    ensures { OnOk result (string_bytes text.new ≡ string_bytes text.old ++ speculate_refusal (S.shape_of schema.now) config.now room rec.now fate) }
-{
+) -> Result<(), AllocError> {
     if !matches!(fate, SpeculateFate::Dropped) {
         return Ok(());
     }
@@ -258,9 +207,7 @@ fn tell_lost(
     config: &Config,
     room: Room,
     fate: DecideFate,
-) -> Result<(), AllocError>
-    ensures { OnOk result (string_bytes text.new ≡ string_bytes text.old ++ (if is_lost fate then refused_principal config.now room 8 room.held else [])) }
-{
+) -> Result<(), AllocError> {
     if !matches!(fate, DecideFate::Lost(_)) {
         return Ok(());
     }
@@ -274,9 +221,7 @@ fn tell_refusal<S: Schema>(
     schema: &S,
     room: Room,
     deed: &Deed,
-) -> Result<(), AllocError>
-    ensures { OnOk result (string_bytes text.new ≡ string_bytes text.old ++ refusal_told (S.shape_of schema.now) config.now room deed.now) }
-{
+) -> Result<(), AllocError> {
     match *deed {
         Deed::Trace(_, rec, fate) => tell_undropped(text, config, schema, room, &rec, fate),
         Deed::Speculate(_, _, rec, fate) => {
@@ -296,42 +241,23 @@ pub(crate) fn tell_behind<S: Schema>(
     room: Room,
     header: Header,
     deed: &Deed,
-) -> Result<(), AllocError>
-    ensures { OnOk result (string_bytes text.new ≡ string_bytes text.old ++ deed_behind (S.shape_of schema.now) config.now room header deed.now) }
-{
+) -> Result<(), AllocError> {
     text.push_str("; ")?;
     tell_deed(text, header, deed)?;
     tell_refusal(text, config, schema, room, deed)
 }
 
-#[tactic(auto, unfolding(crate::specs::Words::load_head))]
-fn tell_load_head(text: &mut String, slot: u32) -> Result<(), AllocError>
-    ensures { OnOk result (string_bytes text.new ≡ string_bytes text.old ++ load_head slot) }
-{
-    write!(text, "loads slot {slot}: ")
-}
-
 /// A load of a slot's word.
 pub(crate) fn tell_load(text: &mut String, slot: u32, word: Word) -> Result<(), AllocError>
     requires slot { slot < 64 }
-    ensures { OnOk result (string_bytes text.new ≡ string_bytes text.old ++ load_told slot word) }
 {
-    tell_load_head(text, slot)?;
+    write!(text, "loads slot {slot}: ")?;
     tell_word(text, slot, word)
-}
-
-/// Whether two words are one.
-#[tactic(auto, unfolding(crate::specs::Words::is_that_word))]
-fn is_that_word(word: Word, from: Word) -> bool
-    ensures { result ≡ is_that_word word from }
-{
-    word.raw() == from.raw()
 }
 
 /// A word of a slot, behind what is told of it.
 fn tell_found(text: &mut String, told: &str, slot: u32, word: Word) -> Result<(), AllocError>
     requires slot { slot < 64 }
-    ensures { OnOk result (string_bytes text.new ≡ string_bytes text.old ++ (told.now ++ word_told slot word)) }
 {
     text.push_str(told)?;
     tell_word(text, slot, word)
@@ -340,9 +266,8 @@ fn tell_found(text: &mut String, told: &str, slot: u32, word: Word) -> Result<()
 /// What an exchange that expects a word comes to.
 fn tell_exchanged(text: &mut String, slot: u32, from: Word, word: Word) -> Result<(), AllocError>
     requires slot { slot < 64 }
-    ensures { OnOk result (string_bytes text.new ≡ string_bytes text.old ++ exchanged_told slot from word) }
 {
-    if is_that_word(word, from) {
+    if word.raw() == from.raw() {
         return text.push_str("done");
     }
     tell_found(text, "fails, shown ", slot, word)
@@ -357,7 +282,6 @@ pub(crate) fn tell_exchange(
     word: Word,
 ) -> Result<(), AllocError>
     requires slot { slot < 64 }
-    ensures { OnOk result (string_bytes text.new ≡ string_bytes text.old ++ exchange_told slot from to word) }
 {
     tell_found(text, "exchanges ", slot, from)?;
     tell_found(text, " for ", slot, to)?;

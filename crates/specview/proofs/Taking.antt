@@ -1,8 +1,5 @@
--- How many batches the consumer took, and why there is no picture.
-use Rattle.std.proofs.Common.{◌≡◌, ◌↔◌, ◌≤◌, ℕ, suc, ◌+◌, ◌<◌, if◌then◌else◌, List, [], ◌∷◌, ◌++◌, length, map, drop, get_or, refl, sym, ap, ◌∙◌, add-one, drop-cons, arith}
-use Rattle.std.proofs.lemmas.List.{map-append}
-use Rattle.dspec_deeds.specs.Closes.{numbers_below}
-use Rattle.dspec_interleaving.specs.Plays.{EndedCall}
+-- What isn't refused, and why there is no picture.
+use Rattle.std.proofs.Common.{◌↔◌, ◌≤◌, ℕ, ◌<◌, List, length, arith}
 use Rattle.dspec_interleaving.specs.declared.outcome.Outcome.{Outcome}
 use Rattle.dspec_schedule.specs.Reading.{Plan}
 use Rattle.dspec_schedule.specs.declared.fault.ScheduleFault.{ScheduleFault}
@@ -12,23 +9,11 @@ use Rattle.specview.specs.declared.ending.RunFault.{RunFault}
 use Rattle.specview.specs.declared.ending.RunFault.TheVariants.{View, TooManyDeeds}
 use Rattle.specview.specs.declared.fault.ViewFault.TheVariants.{Line, NoStamp, LateStamp, NoFrequency, GreatestFrequency, NoEvent, Memory, Read, Write, TooLong, NotEmpty}
 use Rattle.specview.specs.Faults.{view_of_schedule}
-use Rattle.specview.specs.Pictures.{IsPictureFault, IsPlayPictureFault, taken_batches, took_of}
+use Rattle.specview.specs.Pictures.{IsPictureFault, IsPlayPictureFault}
 
 -- what isn't refused has few deeds
 pub few_enough : (n : ℕ) (X : Type 0) → (X ↔ (2000 < n)) → (X → ⊥) → n ≤ 2000
 few_enough n X many never = let few : 2000 < n → ⊥ = λ lt. never (many.1 lt) in omega arith
-
--- one CPU more
-pub one_more_counted : (f : ℕ → ℕ) (n : ℕ) → map f (numbers_below (n + 1)) ≡ map f (numbers_below n) ++ f n ∷ []
-one_more_counted f n = rw add-one (map-append f (numbers_below n) (n ∷ []))
-
--- one call less is left
-pub one_less_left : (c : ℕ) (es : List EndedCall) (i : ℕ) (e : EndedCall) → i < length es → e ≡ get_or es i e
-    → taken_batches c (drop i es) ≡ (if took_of c e.1 e.2 then 1 else 0) + taken_batches c (drop (i + 1) es)
-one_less_left c es i e lt is =
-    let cons : drop i es ≡ e ∷ drop (suc i) es = drop-cons es i e lt ∙ ap (λ (x : EndedCall). x ∷ drop (suc i) es) (sym is) in
-    let next : drop (suc i) es ≡ drop (i + 1) es = ap (λ m. drop m es) (sym (add-one i)) in
-    ap (taken_batches c) cons ∙ ap (λ (l : List EndedCall). (if took_of c e.1 e.2 then 1 else 0) + taken_batches c l) next
 
 -- what the player tells of a text
 pub text_fault : (text : List ℕ) (f : ScheduleFault) → IsTextFault text f → IsPictureFault text (View (view_of_schedule f))

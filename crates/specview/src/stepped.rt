@@ -1,11 +1,11 @@
 //! The steps of a play, as text.
 
-ghost use Rattle.std.specs.Prelude.{◌≡◌, ◌≢◌, IfErr, IfOk, None, Some, string_bytes};
+ghost use Rattle.std.specs.Prelude.{◌≡◌, ◌≢◌, IfErr, IfOk, None, Some};
 ghost use Rattle.dspec_interleaving.specs.declared.outcome.PlayFault.TheVariants as failure;
 ghost use Rattle.dspec_replay.specs.PlayedTexts.{fault_of};
 ghost use Rattle.dspec_schedule.specs.Reading.{HasOneHeader};
 ghost use Rattle.dspec_schedule.specs.Schedules.{plan_of};
-ghost use Rattle.specview.specs.Stepping.{IsStepsFault, IsStepsOf, steps_told};
+ghost use Rattle.specview.specs.Stepping.{HasSteps, IsStepsFault};
 
 use crate::fault::ViewFault;
 use dspec_core::PlayFault;
@@ -18,7 +18,6 @@ use std::alloc::Global;
 fn steps_of_schedule(alloc: Global, schedule: &Schedule) -> Result<String, PlayFault>
     requires { HasOneHeader (plan_of schedule.now) }
     ensures played { IfOk result (λ _. fault_of (plan_of schedule.now) ≡ None) }
-    ensures told { IfOk result (λ told. string_bytes told ≡ steps_told (plan_of schedule.now)) }
     ensures refused { IfErr result (λ fault. fault ≢ failure.Memory → fault_of (plan_of schedule.now) ≡ Some fault) }
 {
     let (header, turns) = (schedule.header(), schedule.turns.as_slice());
@@ -34,7 +33,7 @@ fn steps_of_schedule(alloc: Global, schedule: &Schedule) -> Result<String, PlayF
 /// Plays the schedule of a text step by step, and tells each step in a line.
 #[tactic(auto, using(crate::proofs::Steppings::steps_fault))]
 pub fn steps_of_text(alloc: Global, text: &[u8]) -> Result<String, ViewFault>
-    ensures told { IfOk result (λ told. IsStepsOf text.now (string_bytes told)) }
+    ensures played { IfOk result (λ _. HasSteps text.now) }
     ensures fault { IfErr result (IsStepsFault text.now) }
 {
     let schedule = read_schedule(alloc, text)?;

@@ -1,7 +1,0 @@
-use Rattle.std.proofs.Common.{◌≡◌, ◌++◌, take, reverse}
-use Rattle.std.specs.List.{flat_map}
-use Rattle.dspec_picture.specs.Drawing.{band_frame}
-use Rattle.dspec_picture.proofs.drawing.push_frames.Given as goal
-
-abbrev pub invariant-loop-band : goal.invariant-loop-band
-invariant-loop-band l = l.shapes ≡ l.initial.shapes ++ flat_map (band_frame l.row (reverse l.deeds)) (take l.band-index l.bands)
