@@ -3,10 +3,8 @@ use Rattle.std.proofs.Common.{◌≡◌, ℕ, ◌<◌, List, length, refl, get_o
 use Rattle.std.proofs.lemmas.Option.{slice_get_read}
 use Rattle.dspec_cpu.specs.declared.cpu.Cpu.{Cpu}
 use Rattle.dspec_cpu.specs.declared.shared.Shared.{Shared}
-use Rattle.dspec_cpu.specs.Standing.{IsCallable}
+use Rattle.bench.specs.Words.{IsCallable, IsSession, AllCallable}
 use Rattle.dspec_session_core.specs.declared.session.Session.{Session}
-use Rattle.dspec_session_core.specs.Sessions.{IsSession}
-use Rattle.dspec.specs.Lent.{AllCallable}
 
 module _ {S : Type 0} where
   pub of_session : (schema : S) (session : Session S) → IsSession schema session → AllCallable session.shared session.cpus.items

@@ -3,9 +3,8 @@ use Rattle.std.proofs.Common.{◌≡◌, ℕ, List, [], ◌∷◌, ◌++◌, len
 use Rattle.std.specs.Prelude.{slice_get}
 use Rattle.dspec_table.specs.declared.seats.CpuSeat.{CpuSeat}
 use Rattle.dspec_table.specs.declared.seats.Words.{Words}
-use Rattle.dspec_table.specs.Seats.{known, FreshSeats, IsAt, set_up, cpu_of}
+use Rattle.bench.specs.Words.{known, FreshSeats, IsAt, set_up, cpu_of, Unused}
 use Rattle.dspec_table.proofs.AtEnd.{got_front, got_last}
-use Rattle.test_words.specs.Calls.{Unused}
 use Rattle.test_words.proofs.Openers.{none_unused}
 
 at_place : (words : Words) (items : List CpuSeat) (n : ℕ) (seat : CpuSeat) → slice_get items n ≡ Some seat → FreshSeats words items

@@ -29,24 +29,24 @@ fn config() -> Config
 
 /// What the words ask for.
 #[derive(Debug, Clone, Copy, PartialEq, Eq)]
-enum Ask {
+enum LoadTask {
     /// To time loads, alone and beside another thread's exchanges.
     Times,
     /// To make so many loads, and to print how many showed that the session runs.
     Count(u32),
 }
 
-fn ask_of(words: &[String]) -> Option<Ask> {
+fn ask_of(words: &[String]) -> Option<LoadTask> {
     match words {
-        [word] if word.as_str() == "times" => Some(Ask::Times),
-        [number] => number.as_str().parse::<u32>().ok().map(Ask::Count),
+        [word] if word.as_str() == "times" => Some(LoadTask::Times),
+        [number] => number.as_str().parse::<u32>().ok().map(LoadTask::Count),
         _ => None,
     }
 }
 
 /// Makes one load.
 pub fn check<R: Threads + Wait>(threads: &R, rt: &HostRuntime) -> io::Result<()> {
-    answer(threads, rt, Ask::Count(1))
+    answer(threads, rt, LoadTask::Count(1))
 }
 
 /// Does what the words ask for; false where it is nothing that is done here.
@@ -63,7 +63,7 @@ fn no_session() -> io::Error {
     io::Error::from(io::ErrorKind::OutOfMemory)
 }
 
-fn answer<R: Threads + Wait>(threads: &R, rt: &HostRuntime, asked: Ask) -> io::Result<()> {
+fn answer<R: Threads + Wait>(threads: &R, rt: &HostRuntime, asked: LoadTask) -> io::Result<()> {
     let Ok((words, mut seats, consumer)) = Words::start(rt.alloc(), &config()) else {
         return Err(no_session());
     };
@@ -77,8 +77,8 @@ fn answer<R: Threads + Wait>(threads: &R, rt: &HostRuntime, asked: Ask) -> io::R
         return Err(no_session());
     };
     match asked {
-        Ask::Times => timing::time_all(threads, rt, &words, seat, other, consumer, rec),
-        Ask::Count(number) => println!(rt;
+        LoadTask::Times => timing::time_all(threads, rt, &words, seat, other, consumer, rec),
+        LoadTask::Count(number) => println!(rt;
             "loads: {}",
             loading::load_all(&words, &mut seat, rec, number)
         ),

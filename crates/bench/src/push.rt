@@ -7,7 +7,7 @@ mod timing;
 mod way;
 
 pub use asking::number_of;
-use asking::{Ask, MOST_RECORDS, ask_of};
+use asking::{MOST_RECORDS, PushTask, ask_of};
 pub use checking::check_all;
 use dspec_samples::Subject;
 use ready::Ready;
@@ -25,9 +25,9 @@ fn take_once(rt: &HostRuntime, way: Way, subject: Subject, number: u32) -> io::R
 /// Does what the words ask for; false where it is nothing that is done here.
 pub fn run(rt: &HostRuntime, words: &[String]) -> io::Result<bool> {
     match ask_of(words) {
-        Some(Ask::Times(rounds)) => timing::time_all(rt, rounds)?,
+        Some(PushTask::Times(rounds)) => timing::time_all(rt, rounds)?,
         Some(
-            Ask::Count {
+            PushTask::Count {
                 way,
                 subject,
                 number,

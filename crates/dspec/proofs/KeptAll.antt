@@ -3,18 +3,11 @@ use Rattle.std.proofs.Common.{◌≡◌, ◌<◌, ◌==◌, true, if◌then◌el
 use Rattle.std.proofs.lemmas.Bool.Decides.{nat_tests}
 use Rattle.std.proofs.lemmas.List.{append-nil, append_assoc}
 use Rattle.std.proofs.lemmas.List.Elements.{All-head, All-tail}
-use Rattle.dspec_record.specs.Record.{Record}
-use Rattle.dspec_record.specs.EnablingRows.{EnabledRows}
-use Rattle.dspec_record.specs.Schemas.{enabled, table_shape, table_accepts, table_text}
-use Rattle.dspec_record.specs.Laws.Tables.{enabled-IsLimited, table-shapes_fit, table-texts_fit, table-texts_differ}
-use Rattle.dspec_buffer.specs.Extent.{records}
+use Rattle.dspec.specs.Words.{Record, EnabledRows, enabled, table_shape, table_accepts, table_text, enabled-IsLimited, table-shapes_fit, table-texts_fit, table-texts_differ, records, HoldInOrder}
+use Rattle.dspec.specs.Words.{RecordSinkFault, SinkRecords, KeepsBatch, Passed, AreFrom, GotAll, passed_from}
 use Rattle.dspec_buffer.proofs.SchemaLaws.{SchemaLaws}
 use Rattle.dspec_buffer.proofs.OneReading.{one_reading}
 use Rattle.dspec_buffer.proofs.Walks.{reads_back}
-use Rattle.dspec_session_core.specs.Closing.{HoldInOrder}
-use Rattle.dspec.specs.declared.record_sink.RecordSinkFault.{RecordSinkFault}
-use Rattle.dspec.specs.SinkRecords.{SinkRecords, KeepsBatch}
-use Rattle.dspec.specs.Passed.{Passed, AreFrom, GotAll, passed_from}
 
 module _ (e : EnabledRows) where
   laws : SchemaLaws (table_shape e.header (enabled e.rows)) (table_accepts e.header (enabled e.rows)) (table_text e.header (enabled e.rows))

@@ -1,22 +1,14 @@
 -- What calls of a path that keeps its last records come to.
 use Rattle.std.proofs.Common.{◌≡◌, ◌∙◌, ◌&&◌, ℕ, nat_le, length, Bool, List, Option, Ok, IsTrue, refl, subst, sym}
-use Rattle.dspec_record.specs.Record.{Record}
+use Rattle.dspec.specs.Words.{Record, Speculation, id_given, By, schema_of, with_values, Lane, LastPath, DecisionOn, SpeculateOn, DecidesIfThere, FollowsOn, LastEndOn, LastRecordOn, LastValuesOn}
+use Rattle.dspec.specs.Words.{OffersNextOn, SettlesOn}
 use Rattle.dspec_record.specs.declared.schema.Schema.{Ghosts}
-use Rattle.dspec_word.specs.SpecId.{Speculation}
 use Rattle.dspec_deeds.specs.declared.calls.Decided.{Decided}
 use Rattle.dspec_deeds.specs.declared.calls.Opening.{Opening}
 use Rattle.dspec_deeds.specs.declared.calls.Opening.TheVariants as opening
 use Rattle.dspec_deeds.specs.declared.calls.Spoken.{Spoken}
 use Rattle.dspec_deeds.specs.declared.deed.Deed.{Deed}
-use Rattle.dspec_deeds.specs.FateAnswers.{id_given}
-use Rattle.dspec_promise.specs.Promise.{By}
 use Rattle.dspec_cpu.specs.declared.cpu.Cpu.{Cpu}
-use Rattle.dspec_cpu.specs.Lists.{schema_of}
-use Rattle.dspec_cpu.specs.OneCall.{with_values}
-use Rattle.dspec.specs.declared.lane.Lane.{Lane}
-use Rattle.dspec.specs.declared.last_path.LastPath.{LastPath}
-use Rattle.dspec.specs.LaneCalls.{DecisionOn, SpeculateOn}
-use Rattle.dspec.specs.LastPaths.{DecidesIfThere, FollowsOn, LastEndOn, LastRecordOn, LastValuesOn, OffersNextOn, SettlesOn}
 
 module _ {S : Type 0} {g : Ghosts S} (has : Cpu S → List Deed → Type 0) where
   pub ends_so : (b : By) (p : LastPath) (id : Speculation) (older : Option Decided) (newer : Decided) (old mid new : Lane S g)

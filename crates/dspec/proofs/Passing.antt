@@ -12,17 +12,11 @@ use Rattle.dspec_deeds.specs.declared.deed.Deed.TheVariants.{Release}
 use Rattle.dspec_table.specs.declared.rule.View.{View}
 use Rattle.dspec_table.specs.declared.seats.ConsumerSeat.{ConsumerSeat}
 use Rattle.dspec_table.specs.declared.seats.Words.{Words}
-use Rattle.dspec_table.specs.Seats.{known_there}
+use Rattle.dspec.specs.Words.{known_there, ConsumerKnows, consumer_moved, waiting, Took, FoundNone, GaveBack, IsNotTakenBack, Asked, Consuming, IsConsumerOf, Stays, set_up_of, view_of, taken_at}
+use Rattle.dspec.specs.Words.{Passed, AreFrom, passed_from, each_from, left_batches, rests_passed, GotAll, PassesOn}
 use Rattle.dspec_ring.specs.declared.batch.Batch.{Batch}
-use Rattle.dspec_ring.specs.Known.{ConsumerKnows, consumer_moved}
-use Rattle.dspec_cpu.specs.Sealed.{waiting}
 use Rattle.dspec_session_core.specs.declared.left.Left.{Left}
-use Rattle.dspec_session_core.specs.Batches.{Took, FoundNone, GaveBack, IsNotTakenBack}
-use Rattle.dspec_session_core.specs.Asking.{Asked}
-use Rattle.dspec_session_core.specs.Consumers.{Consuming, IsConsumerOf, Stays, set_up_of, view_of}
-use Rattle.dspec_session_core.specs.Sessions.{taken_at}
 use Rattle.dspec_session_core.proofs.PromisedBy.{there_is}
-use Rattle.dspec.specs.Passed.{Passed, AreFrom, passed_from, each_from, left_batches, rests_passed, GotAll, PassesOn}
 
 -- a batch more stands before the others of its CPU
 more_in_front : (q : Bool) (b : Batch) (xs ys : List Batch) → (if q then b ∷ (xs ++ ys) else xs ++ ys) ≡ (if q then b ∷ xs else xs) ++ ys

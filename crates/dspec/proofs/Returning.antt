@@ -6,13 +6,8 @@ use Rattle.std.proofs.Math.Seq.{take-append_seam}
 use Rattle.dspec_cpu.specs.declared.cpu.Cpu.{Cpu}
 use Rattle.dspec_cpu.specs.declared.shared.Shared.{Shared}
 use Rattle.dspec_deeds.specs.declared.deed.Deed.{Deed}
-use Rattle.dspec_cpu.specs.Called.{CallsMade, called, no_calls}
-use Rattle.dspec_cpu.specs.Lists.{number_in, words_of}
-use Rattle.dspec_cpu.specs.Standing.{IsCallable, identity}
+use Rattle.dspec.specs.Words.{CallsMade, called, no_calls, number_in, words_of, IsCallable, identity, Stays, pairs_of, IsCpuOf, IsFresh, IsSession, AllCallable, AllReturned}
 use Rattle.dspec_session_core.specs.declared.session.Session.{Session}
-use Rattle.dspec_session_core.specs.Consumers.{Stays, pairs_of}
-use Rattle.dspec_session_core.specs.Sessions.{IsCpuOf, IsFresh, IsSession}
-use Rattle.dspec.specs.Lent.{AllCallable, AllReturned}
 
 module _ {S : Type 0} where
   -- each CPU of a session can be lent

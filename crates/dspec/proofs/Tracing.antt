@@ -4,30 +4,18 @@ use Rattle.std.specs.Prelude.{slice_get, Option, Some}
 use Rattle.std.specs.Option.{option_map_or}
 use Rattle.std.proofs.lemmas.List.{append-nil, append_assoc}
 use Rattle.std.proofs.lemmas.List.Elements.{All-append, All-head, All-tail}
-use Rattle.dspec_record.specs.Record.{Record}
+use Rattle.dspec.specs.Words.{Record, stream, known, ConsumerKnows, IsUnusedConsumer, CallsMade, called, no_calls, number_in, seat_of, waiting, ClosesAs, HoldInOrder, IsClosedBy, Consuming}
+use Rattle.dspec.specs.Words.{set_up_of, view_of, AllSteady, Has, IsPromised, IsPromisedBy, called_at, entered_at, HasAt, IsFresh, taken_at, all_did, did, Passed, AreFrom, passed_from, left_batches}
+use Rattle.dspec.specs.Words.{rests_passed, GotAll, PassesOn, HasLists, IsOneList, IsKept, IsTraced}
 use Rattle.dspec_record.specs.declared.field.Shape.{Shape}
 use Rattle.dspec_deeds.specs.declared.config.Config.{Config}
 use Rattle.dspec_deeds.specs.declared.deed.Deed.{Deed}
 use Rattle.dspec_deeds.specs.declared.deed.Deed.TheVariants.{Release}
-use Rattle.dspec_deeds.specs.Own.{stream}
 use Rattle.dspec_table.specs.declared.seats.Words.{Words}
-use Rattle.dspec_table.specs.Seats.{known}
 use Rattle.dspec_ring.specs.declared.batch.Batch.{Batch}
-use Rattle.dspec_ring.specs.Known.{ConsumerKnows, IsUnusedConsumer}
 use Rattle.dspec_cpu.specs.declared.cpu.Cpu.{Cpu}
-use Rattle.dspec_cpu.specs.Called.{CallsMade, called, no_calls}
-use Rattle.dspec_cpu.specs.Lists.{number_in, seat_of}
-use Rattle.dspec_cpu.specs.Sealed.{waiting}
 use Rattle.dspec_session_core.specs.declared.left.Left.{Left}
-use Rattle.dspec_session_core.specs.Closing.{ClosesAs, HoldInOrder, IsClosedBy}
-use Rattle.dspec_session_core.specs.Consumers.{Consuming, set_up_of, view_of}
-use Rattle.dspec_session_core.specs.Leaving.{AllSteady, Has}
-use Rattle.dspec_session_core.specs.Promised.{IsPromised, IsPromisedBy, called_at, entered_at}
-use Rattle.dspec_session_core.specs.Sessions.{HasAt, IsFresh, taken_at}
 use Rattle.dspec_session_core.proofs.PromisedBy.{there_is, called_there, entered_there, had_tells}
-use Rattle.dspec_promise.specs.Deeds.{all_did, did}
-use Rattle.dspec.specs.Passed.{Passed, AreFrom, passed_from, left_batches, rests_passed, GotAll, PassesOn, HasLists}
-use Rattle.dspec.specs.Traced.{IsOneList, IsKept, IsTraced}
 use Rattle.dspec.proofs.Passing.{from_both, got_both, rest_there, rests_from}
 
 -- nothing was taken yet

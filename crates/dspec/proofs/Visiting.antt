@@ -1,8 +1,7 @@
 -- What a visit of the consumer came to.
 use Rattle.std.proofs.Common.{ℕ, ◌<◌, ◌≤◌, ◌⊎◌, inl, inr, Bool, true, false, Result, Ok, Err, OnErr, OnOk, MatchBool, arith}
 use Rattle.dspec_ring.specs.declared.batch.Batch.{Batch}
-use Rattle.dspec_session_core.specs.Batches.{GaveBack, IsNotTakenBack}
-use Rattle.dspec_session_core.specs.Consumers.{Consuming}
+use Rattle.dspec.specs.Words.{GaveBack, IsNotTakenBack, Consuming}
 
 -- a CPU that is there was asked
 pub was_asked : (A B : Type 0) (asks : Bool) (n c : ℕ) → MatchBool asks ((c < n) × A) ((n ≤ c) × B) → c < n → A

@@ -6,18 +6,11 @@ use Rattle.std.proofs.lemmas.List.{length-map, map_push}
 use Rattle.std.proofs.lemmas.Option.{slice_get-map, slice_get_read}
 use Rattle.std.proofs.Math.Seq.{take-append_seam}
 use Rattle.std.specs.Prelude.{slice_index_or, remove}
-use Rattle.dspec_record.specs.EnablingRows.{EnabledRows}
+use Rattle.dspec.specs.Words.{EnabledRows, CallsMade, called, number_in, schema_of, IsCallable, IsSession, AllCallable, AllReturned, Returned, ThenServed, AllNumbered, AllWorked, WorkedBy, cpus_of}
+use Rattle.dspec.specs.Words.{workers_of, Working}
 use Rattle.dspec_cpu.specs.declared.cpu.Cpu.{Cpu}
 use Rattle.dspec_cpu.specs.declared.shared.Shared.{Shared}
-use Rattle.dspec_cpu.specs.Called.{CallsMade, called}
-use Rattle.dspec_cpu.specs.Lists.{number_in, schema_of}
-use Rattle.dspec_cpu.specs.Standing.{IsCallable}
 use Rattle.dspec_session_core.specs.declared.session.Session.{Session}
-use Rattle.dspec_session_core.specs.Sessions.{IsSession}
-use Rattle.dspec.specs.Lent.{AllCallable, AllReturned, Returned}
-use Rattle.dspec.specs.Serving.{ThenServed}
-use Rattle.dspec.specs.Workers.{AllNumbered, AllWorked, WorkedBy, cpus_of, workers_of}
-use Rattle.dspec.specs.declared.workers.Working.{Working}
 
 -- the first element, and what is left when it is removed
 pub first_and_rest : {A : Type 0} (xs : List A) (x : A) → 0 < length xs → x ≡ slice_index_or xs 0 x → x ∷ remove xs 0 ≡ xs

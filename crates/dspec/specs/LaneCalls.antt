@@ -1,10 +1,10 @@
 -- Cited by calls. What a call on a lane, or of a path on a lane, did: what the call of the lane's CPU did.
 use Rattle.std.specs.Prelude.{ℕ, ◌≡◌, Bool, List, Option, MatchOption, Result}
 use Rattle.std.specs.Result.{result_ok}
-use Rattle.dspec_record.specs.Record.{Record}
+use Rattle.dspec.specs.Words.Outside.{Record, Speculation, dropped_in, report, id_given, By, cpu_block_fits, drops_told, config_of, number_in, schema_of, worn_of, IsOpenAt, CommitsIfRoom, TracesOne}
+use Rattle.dspec.specs.Words.Outside.{SpeculatesOne, OpensOne, DecidesOne, ServesOnce, RecordsValues, OffersValues}
 use Rattle.dspec_record.specs.declared.field.Shape.{Shape}
 use Rattle.dspec_record.specs.declared.schema.Schema.{Ghosts}
-use Rattle.dspec_word.specs.SpecId.{Speculation}
 use Rattle.dspec_deeds.specs.declared.calls.Decided.{Decided}
 use Rattle.dspec_deeds.specs.declared.calls.Opening.{Opening}
 use Rattle.dspec_deeds.specs.declared.calls.Served.{Served}
@@ -12,16 +12,7 @@ use Rattle.dspec_deeds.specs.declared.calls.Spoken.{Spoken}
 use Rattle.dspec_deeds.specs.declared.calls.Traced.{Traced}
 use Rattle.dspec_deeds.specs.declared.deed.Deed.{Deed}
 use Rattle.dspec_deeds.specs.declared.report.Report.{Report}
-use Rattle.dspec_deeds.specs.Own.{dropped_in}
-use Rattle.dspec_deeds.specs.Reports.{report}
-use Rattle.dspec_deeds.specs.FateAnswers.{id_given}
-use Rattle.dspec_promise.specs.Promise.{By}
 use Rattle.dspec_cpu.specs.declared.cpu.Cpu.{Cpu}
-use Rattle.dspec_cpu.specs.Between.{cpu_block_fits}
-use Rattle.dspec_cpu.specs.Dropped.{drops_told}
-use Rattle.dspec_cpu.specs.Lists.{config_of, number_in, schema_of, worn_of}
-use Rattle.dspec_cpu.specs.OpenAt.{IsOpenAt}
-use Rattle.dspec_cpu.specs.OneCall.{CommitsIfRoom, TracesOne, SpeculatesOne, OpensOne, DecidesOne, ServesOnce, RecordsValues, OffersValues}
 use Rattle.dspec.specs.declared.bad_record.BadRecord.{BadRecord}
 use Rattle.dspec.specs.declared.lane.Lane.{Lane}
 use Rattle.dspec.specs.declared.path.Path.{Path}

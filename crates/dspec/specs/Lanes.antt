@@ -2,7 +2,7 @@
 use Rattle.std.specs.Borrow.{GName}
 use Rattle.dspec_record.specs.declared.schema.Schema.{Ghosts}
 use Rattle.dspec_cpu.specs.declared.shared.Shared.{Shared}
-use Rattle.dspec_cpu.specs.Standing.{Identity, identity}
+use Rattle.dspec.specs.Words.Outside.{Identity, identity}
 use Rattle.dspec.specs.declared.lane.Lane.{Lane}
 
 -- the CPU that it is lent, and what that shares: no call changes it

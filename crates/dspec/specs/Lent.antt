@@ -2,9 +2,7 @@
 use Rattle.std.specs.Prelude.{ℕ, ◌≡◌, List, length, slice_get, Some}
 use Rattle.dspec_cpu.specs.declared.cpu.Cpu.{Cpu}
 use Rattle.dspec_cpu.specs.declared.shared.Shared.{Shared}
-use Rattle.dspec_cpu.specs.Called.{CallsMade, called}
-use Rattle.dspec_cpu.specs.Lists.{number_in, schema_of}
-use Rattle.dspec_cpu.specs.Standing.{IsCallable, identity}
+use Rattle.dspec.specs.Words.Outside.{CallsMade, called, number_in, schema_of, IsCallable, identity}
 
 -- each CPU can be called by those who share this
 abbrev pub AllCallable : {S : Type 0} → Shared → List (Cpu S) → Type 0

@@ -14,3 +14,4 @@ pub mod Works
 pub mod Workers
 pub mod Counts
 pub mod Walks
+pub mod Words

@@ -1,14 +1,8 @@
 -- Cited by calls. What a sink writes of the batches that it gets: a line for each record.
 use Rattle.std.specs.Prelude.{ℕ, ◌≡◌, ◌++◌, List, [], ◌∷◌, Option, Some, None, codes, decimal, option_and_then, option_map}
-use Rattle.dspec_record.specs.Record.{Record}
-use Rattle.dspec_record.specs.EnablingRows.{EnabledRows}
-use Rattle.dspec_record.specs.Schemas.{enabled, table_shape, table_accepts, table_text}
+use Rattle.dspec.specs.Words.Outside.{Record, EnabledRows, enabled, table_shape, table_accepts, table_text, BufferText, StopsAt, Declared, told_record, told_text}
 use Rattle.dspec_record.specs.declared.header.Header.{Header}
 use Rattle.dspec_record.specs.declared.header.Header.TheVariants as header
-use Rattle.dspec_buffer.specs.BufferText.{BufferText}
-use Rattle.dspec_buffer.specs.Faults.{StopsAt}
-use Rattle.dspec_probe.specs.Declarations.{Declared}
-use Rattle.dspec_probe.specs.Telling.{told_record, told_text}
 use Rattle.dspec_ring.specs.declared.batch.Batch.{Batch}
 use Rattle.dspec.specs.declared.text_sink.TextSink.{TextSink}
 use Rattle.dspec.specs.declared.text_sink.ToldLine.{ToldLine}

@@ -1,10 +1,8 @@
 -- Cited by calls. A path that is walked on a lane, with the clock of its steps.
 use Rattle.std.specs.Prelude.{ℕ, ◌≡◌, List, Option, MatchOption}
 use Rattle.std.specs.Borrow.{GName}
-use Rattle.dspec_record.specs.EnablingRows.{EnabledRows}
-use Rattle.dspec_record.specs.Record.{Record}
+use Rattle.dspec.specs.Words.Outside.{EnabledRows, Record, Speculation}
 use Rattle.dspec_record.specs.declared.schema.Schema.{Ghosts}
-use Rattle.dspec_word.specs.SpecId.{Speculation}
 use Rattle.dspec_deeds.specs.declared.calls.Spoken.{Spoken}
 use Rattle.dspec_deeds.specs.declared.deed.Deed.{Deed}
 use Rattle.dspec_cpu.specs.declared.cpu.Cpu.{Cpu}

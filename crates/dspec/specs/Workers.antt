@@ -1,11 +1,8 @@
 -- Cited by calls. What workers did, each on the CPU of its place.
 use Rattle.std.specs.Prelude.{ℕ, ◌≡◌, List, length, map, slice_get, Some}
-use Rattle.dspec_record.specs.EnablingRows.{EnabledRows}
+use Rattle.dspec.specs.Words.Outside.{EnabledRows, CallsMade, called, number_in, schema_of, identity}
 use Rattle.dspec_deeds.specs.declared.config.Config.{Config}
 use Rattle.dspec_cpu.specs.declared.cpu.Cpu.{Cpu}
-use Rattle.dspec_cpu.specs.Called.{CallsMade, called}
-use Rattle.dspec_cpu.specs.Lists.{number_in, schema_of}
-use Rattle.dspec_cpu.specs.Standing.{identity}
 use Rattle.dspec.specs.Serving.{ThenServed}
 use Rattle.dspec.specs.declared.workers.Working.{Working}
 

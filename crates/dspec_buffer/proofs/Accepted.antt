@@ -2,7 +2,7 @@
 use Rattle.std.proofs.Common.{◌++◌, Bool, IsTrue, List, [], ◌∷◌}
 use Rattle.std.specs.List.{All}
 use Rattle.std.proofs.lemmas.List.Elements.{All-head, All-tail, All-cons, All-nil}
-use Rattle.dspec_record.specs.Record.{Record}
+use Rattle.dspec_buffer.specs.Words.{Record}
 
 abbrev pub AllAccepted : (Record → Bool) → List Record → Type 0
 AllAccepted accepted rs = All (λ r. IsTrue (accepted r)) rs

@@ -1,14 +1,8 @@
 -- What one step of reading gives where the records ahead are known.
 use Rattle.std.proofs.Common.{◌≡◌, ℕ, Bool, Option, Some, None, Result, Ok, Err, MatchResult, List, [], ◌∷◌, length, drop, refl, sym, subst, arith}
 use Rattle.std.proofs.lemmas.List.{drop_all}
-use Rattle.dspec_record.specs.Record.{Record}
+use Rattle.dspec_buffer.specs.Words.{Record, StandsNext, BufferText, FaultHere, NextIs, FaultIs, ReadsNext, Steps, HasAhead, ReadFault}
 use Rattle.dspec_record.specs.declared.field.Shape.{Shape}
-use Rattle.dspec_buffer.specs.BufferText.{StandsNext, BufferText}
-use Rattle.dspec_buffer.specs.Faults.{FaultHere}
-use Rattle.dspec_buffer.specs.ReadingOn.{NextIs, FaultIs, ReadsNext}
-use Rattle.dspec_buffer.specs.Walking.{Steps}
-use Rattle.dspec_buffer.specs.Stored.{HasAhead}
-use Rattle.dspec_buffer.specs.declared.read_fault.ReadFault.{ReadFault}
 use Rattle.dspec_buffer.proofs.SchemaLaws.{SchemaLaws}
 use Rattle.dspec_buffer.proofs.Nexts.{next_same, next_not_nil}
 use Rattle.dspec_buffer.proofs.OneReading.{follows}

@@ -1,12 +1,8 @@
 -- How far a reader has come: the bytes behind it are the text of the records that it has read.
 use Rattle.std.proofs.Common.{◌≡◌, ◌+◌, ◌++◌, ℕ, Bool, Option, List, [], ◌∷◌, length, take, drop, refl, sym, ap, subst, ◌∙◌, arith, length-append, append_assoc}
 use Rattle.std.proofs.lemmas.List.{append-nil, take-append-drop, length-take-le, take_at, take_all}
-use Rattle.dspec_record.specs.Record.{Record}
+use Rattle.dspec_buffer.specs.Words.{Record, IsGap, BufferText, StopsAt, StopsBehind, HasRead, NextIs, FaultIs, ReadFault}
 use Rattle.dspec_record.specs.declared.field.Shape.{Shape}
-use Rattle.dspec_buffer.specs.BufferText.{IsGap, BufferText}
-use Rattle.dspec_buffer.specs.Faults.{StopsAt, StopsBehind}
-use Rattle.dspec_buffer.specs.ReadingOn.{HasRead, NextIs, FaultIs}
-use Rattle.dspec_buffer.specs.declared.read_fault.ReadFault.{ReadFault}
 use Rattle.dspec_buffer.proofs.SchemaLaws.{SchemaLaws}
 use Rattle.dspec_buffer.proofs.Gluing.{glued}
 

@@ -1,12 +1,7 @@
 -- A reader that has come to a text's end or first fault: the records up to there are all of the text, or those before the fault.
 use Rattle.std.proofs.Common.{◌≡◌, ℕ, Bool, Option, Some, None, IfSome, IfNone, List, take, subst, arith}
-use Rattle.dspec_record.specs.Record.{Record}
+use Rattle.dspec_buffer.specs.Words.{Record, BufferText, StopsBehind, HasRead, EndsAt, Remaining, ReadFault}
 use Rattle.dspec_record.specs.declared.field.Shape.{Shape}
-use Rattle.dspec_buffer.specs.BufferText.{BufferText}
-use Rattle.dspec_buffer.specs.Faults.{StopsBehind}
-use Rattle.dspec_buffer.specs.ReadingOn.{HasRead, EndsAt}
-use Rattle.dspec_buffer.specs.Remaining.{Remaining}
-use Rattle.dspec_buffer.specs.declared.read_fault.ReadFault.{ReadFault}
 use Rattle.dspec_buffer.proofs.SchemaLaws.{SchemaLaws}
 use Rattle.dspec_buffer.proofs.Coming.{reads_all, stops_behind}
 use Rattle.dspec_buffer.proofs.Left.{remaining_at_start}

@@ -1,10 +1,9 @@
 -- How far accepted records and pieces of them reach: whole words, at least a word for each record, and just as
 -- many bytes as they make.
 use Rattle.std.proofs.Common.{◌≡◌, ◌+◌, ◌*◌, ◌%◌, ◌≤◌, ◌⊎◌, ◌++◌, ℕ, Bool, Option, List, [], ◌∷◌, length, inr, refl, sym, ap, ◌∙◌, arith, length-append}
-use Rattle.dspec_record.specs.Record.{Record}
+use Rattle.dspec_buffer.specs.Words.{Record, Piece, one, block, records, records_of, reserved, size_of, align_of, extent_of_records, extent, piece_size, piece_align, piece_bytes, bytes_of_records}
+use Rattle.dspec_buffer.specs.Words.{bytes, padded}
 use Rattle.dspec_record.specs.declared.field.Shape.{Shape}
-use Rattle.dspec_buffer.specs.Extent.{Piece, one, block, records, records_of, reserved, size_of, align_of}
-use Rattle.dspec_buffer.specs.Extent.{extent_of_records, extent, piece_size, piece_align, piece_bytes, bytes_of_records, bytes, padded}
 use Rattle.dspec_buffer.proofs.SchemaLaws.{SchemaLaws}
 use Rattle.dspec_buffer.proofs.Texts.{text_facts}
 use Rattle.dspec_buffer.proofs.Padding.{length-padded, reserved_facts}

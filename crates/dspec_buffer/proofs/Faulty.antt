@@ -1,11 +1,8 @@
 -- Bytes that reading stops in are the text of no list of records.
 use Rattle.std.proofs.Common.{◌≡◌, ◌+◌, ◌++◌, ℕ, Bool, Option, List, [], ◌∷◌, length, refl, sym, ap, subst, ◌∙◌, arith, length-append}
-use Rattle.dspec_record.specs.Record.{Record}
+use Rattle.dspec_buffer.specs.Words.{Record, IsGap, BufferText, FaultHere, StopsAt, ReadFault}
 use Rattle.dspec_record.specs.declared.field.Shape.{Shape}
 use Rattle.dspec_record.specs.declared.reading.ReadKind.{ReadKind}
-use Rattle.dspec_buffer.specs.BufferText.{IsGap, BufferText}
-use Rattle.dspec_buffer.specs.Faults.{FaultHere, StopsAt}
-use Rattle.dspec_buffer.specs.declared.read_fault.ReadFault.{ReadFault}
 use Rattle.dspec_buffer.proofs.SchemaLaws.{SchemaLaws}
 use Rattle.dspec_buffer.proofs.NoRecord.{fault_long, fault_excludes}
 use Rattle.dspec_buffer.proofs.OneReading.{goes_on}

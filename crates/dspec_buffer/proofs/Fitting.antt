@@ -6,8 +6,7 @@ use Rattle.std.proofs.lemmas.Slice.{take-put_mid}
 use Rattle.std.proofs.lemmas.List.{length-take-le, take-take, take-append-le}
 use borrow.Rule.Slice.PartMut.{put_mid}
 use Rattle.std.specs.Option.{MatchOption, is_some}
-use Rattle.dspec_record.specs.Layout.{rounded_up, after}
-use Rattle.dspec_buffer.specs.Extent.{reserved, padding, padded}
+use Rattle.dspec_buffer.specs.Words.{rounded_up, after, reserved, padding, padded}
 use Rattle.dspec_buffer.proofs.Rounding.{rounded}
 use Rattle.dspec_buffer.proofs.Padding.{padding_facts, reserved_some, reserved_none}
 

@@ -6,9 +6,7 @@ use Rattle.std.proofs.lemmas.Nat.{le_bytes_4}
 use Rattle.std.proofs.lemmas.Bool.{cases_lt, lt-ltb, le-ltb}
 use Rattle.std.proofs.lemmas.Bool.Decides.{eqb_tells}
 use Rattle.std.proofs.lemmas.List.{length-take-le, get_or-take, get_or_past, get_or-drop, take-append-drop, drop-drop, take_rest}
-use Rattle.dspec_record.specs.Reading.{front_epid}
-use Rattle.dspec_buffer.specs.Extent.{padding_word}
-use Rattle.dspec_buffer.specs.ReadingOn.{SkipsGap}
+use Rattle.dspec_buffer.specs.Words.{front_epid, padding_word, SkipsGap}
 use Rattle.dspec_buffer.proofs.Texts.{front_epid-take}
 
 -- what the EPID at the front of bytes is, where there is one

@@ -1,10 +1,8 @@
 -- Texts put together: one behind another, one moved by a multiple of eight, one behind a gap.
 use Rattle.std.proofs.Common.{◌≡◌, ◌+◌, ◌%◌, ◌⊎◌, ◌++◌, ℕ, Bool, IsTrue, Option, List, [], ◌∷◌, length, inl, inr, refl, sym, ap, subst, ◌∙◌, arith, ⊎_elim, append_assoc}
 use Rattle.std.proofs.lemmas.List.{append-nil}
-use Rattle.dspec_record.specs.Record.{Record}
+use Rattle.dspec_buffer.specs.Words.{Record, align_of, IsGap, BufferText}
 use Rattle.dspec_record.specs.declared.field.Shape.{Shape}
-use Rattle.dspec_buffer.specs.Extent.{align_of}
-use Rattle.dspec_buffer.specs.BufferText.{IsGap, BufferText}
 use Rattle.dspec_buffer.proofs.SchemaLaws.{SchemaLaws}
 use Rattle.dspec_buffer.proofs.Texts.{text_facts}
 use Rattle.dspec_buffer.proofs.Nexts.{next_long}

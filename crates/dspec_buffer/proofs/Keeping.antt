@@ -2,11 +2,9 @@
 use Rattle.std.proofs.Common.{◌≡◌, ◌+◌, ◌*◌, ◌%◌, ◌≤◌, ◌++◌, ℕ, Bool, IsTrue, Option, Some, List, [], ◌∷◌, length, take, map, refl, sym, ap, subst, ◌∙◌, arith, length-append, nat_le}
 use Rattle.std.proofs.lemmas.List.{length-take-le, nil_from_length, append-nil}
 use Rattle.std.proofs.lemmas.List.Elements.{All-append, All-cons, All-nil}
-use Rattle.dspec_record.specs.Record.{Record}
+use Rattle.dspec_buffer.specs.Words.{Record, Piece, one, block, reserved, piece_fits, records, records_of, size_of, align_of, extent, extent_of_records, piece_align, piece_size, piece_bytes, padded}
+use Rattle.dspec_buffer.specs.Words.{bytes, bytes_of_records, Stored, HasPieces}
 use Rattle.dspec_record.specs.declared.field.Shape.{Shape}
-use Rattle.dspec_buffer.specs.Extent.{Piece, one, block, reserved, piece_fits, records, records_of, size_of, align_of}
-use Rattle.dspec_buffer.specs.Extent.{extent, extent_of_records, piece_align, piece_size, piece_bytes, padded, bytes, bytes_of_records}
-use Rattle.dspec_buffer.specs.Stored.{Stored, HasPieces}
 use Rattle.dspec_buffer.proofs.SchemaLaws.{SchemaLaws}
 use Rattle.dspec_buffer.proofs.Accepted.{AllAccepted}
 use Rattle.dspec_buffer.proofs.Extents.{IsExtent, records_extent, pieces_extent}

@@ -1,8 +1,6 @@
 -- A record that says itself what its shape and its bytes are, and a schema that says the same.
 use Rattle.std.proofs.Common.{◌≡◌, ◌≤◌, ◌+◌, ◌∙◌, ℕ, true, arith, List, length, take, Option, Some, None, option_map, is_some, IfSome, refl, sym, ap}
-use Rattle.dspec_record.specs.Record.{Record}
-use Rattle.dspec_record.specs.LaidOut.{Laid, IsLaidBy}
-use Rattle.dspec_record.specs.Layout.{rounded_up}
+use Rattle.dspec_buffer.specs.Words.{Record, Laid, IsLaidBy, rounded_up}
 use Rattle.dspec_record.specs.declared.field.Shape.{Shape}
 
 -- rounding up to whole words of eight bytes adds fewer than eight

@@ -1,14 +1,9 @@
 -- The one list of records that a reader of a checked text has before it.
 use Rattle.std.proofs.Common.{◌≡◌, ◌≤◌, ℕ, Bool, Option, Some, None, List, [], ◌∷◌, length, drop, refl, sym, ap, subst, ◌∙◌, arith}
 use Rattle.std.proofs.Math.Logic.{∥∥₁_elim}
-use Rattle.dspec_record.specs.Record.{Record}
+use Rattle.dspec_buffer.specs.Words.{Record, BufferText, Steps, HasAhead, IsOneText, Remaining, StepsOn, records_set, Remaining-prop}
 use Rattle.dspec_record.specs.declared.field.Shape.{Shape}
-use Rattle.dspec_buffer.specs.BufferText.{BufferText}
-use Rattle.dspec_buffer.specs.Walking.{Steps}
 use Rattle.std.specs.Coded.{le_prop}
-use Rattle.dspec_buffer.specs.Stored.{HasAhead}
-use Rattle.dspec_buffer.specs.Remaining.{IsOneText, Remaining, StepsOn}
-use Rattle.dspec_buffer.specs.Laws.Remaining.{records_set, Remaining-prop}
 use Rattle.dspec_buffer.proofs.SchemaLaws.{SchemaLaws}
 use Rattle.dspec_buffer.proofs.OneReading.{one_reading}
 

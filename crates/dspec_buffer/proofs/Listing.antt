@@ -4,10 +4,8 @@ use Rattle.std.proofs.lemmas.List.{reverse-append, nil_from_length, append-nil}
 use Rattle.std.proofs.lemmas.List.Elements.{All-append, All-cons, All-nil}
 use Rattle.std.proofs.lemmas.Grind.{flat_map-append}
 use Rattle.std.specs.List.{flat_map}
-use Rattle.dspec_record.specs.Record.{Record}
+use Rattle.dspec_buffer.specs.Words.{Record, Piece, one, block, records, records_of, extent, extent_of_records, Listed, HasListed}
 use Rattle.dspec_record.specs.declared.field.Shape.{Shape}
-use Rattle.dspec_buffer.specs.Extent.{Piece, one, block, records, records_of, extent, extent_of_records}
-use Rattle.dspec_buffer.specs.Listed.{Listed, HasListed}
 use Rattle.dspec_buffer.proofs.Accepted.{AllAccepted}
 use Rattle.dspec_buffer.proofs.Keeping.{records-alone, extent-alone}
 use Rattle.dspec_buffer.proofs.Padding.{reserved_none}

@@ -1,11 +1,8 @@
 -- At a place of some bytes at most one record can be next.
 use Rattle.std.proofs.Common.{◌≡◌, ◌+◌, ◌≤◌, ◌++◌, ℕ, Bool, IsTrue, Option, List, [], length, sym, ap, ◌∙◌, arith, ⊎_elim, length-append}
 use Rattle.std.proofs.lemmas.List.{append_cancel_left}
-use Rattle.dspec_record.specs.Record.{Record}
-use Rattle.dspec_record.specs.Reading.{front_epid}
+use Rattle.dspec_buffer.specs.Words.{Record, front_epid, padding_word, StandsNext}
 use Rattle.dspec_record.specs.declared.field.Shape.{Shape}
-use Rattle.dspec_buffer.specs.Extent.{padding_word}
-use Rattle.dspec_buffer.specs.BufferText.{StandsNext}
 use Rattle.dspec_buffer.proofs.SchemaLaws.{SchemaLaws}
 use Rattle.dspec_buffer.proofs.Texts.{text_facts, front_epid-padding}
 

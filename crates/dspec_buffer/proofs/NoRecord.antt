@@ -1,14 +1,10 @@
 -- Where there is a fault, no record can be next.
 use Rattle.std.proofs.Common.{◌≡◌, ◌≢◌, ◌+◌, ◌%◌, ◌≤◌, ◌<◌, ◌++◌, ℕ, Bool, IsTrue, Option, Some, None, List, length, take, inl, inr, sym, ap, subst, ◌∙◌, arith, ⊎_elim, length-append}
 use Rattle.std.proofs.lemmas.List.{append_cancel_left, take_at}
-use Rattle.dspec_record.specs.Record.{Record}
-use Rattle.dspec_record.specs.Reading.{front_epid, NamesShape}
+use Rattle.dspec_buffer.specs.Words.{Record, front_epid, NamesShape, align_of, padding_word, IsGap, StandsNext, FaultHere}
 use Rattle.dspec_record.specs.declared.field.Shape.{Shape}
 use Rattle.dspec_record.specs.declared.reading.ReadKind.{ReadKind}
 use Rattle.dspec_record.specs.declared.reading.ReadKind.TheVariants.{Truncated, UnknownEpid, Misaligned, GapNotZero, Padding}
-use Rattle.dspec_buffer.specs.Extent.{align_of, padding_word}
-use Rattle.dspec_buffer.specs.BufferText.{IsGap, StandsNext}
-use Rattle.dspec_buffer.specs.Faults.{FaultHere}
 use Rattle.dspec_buffer.proofs.SchemaLaws.{SchemaLaws}
 use Rattle.dspec_buffer.proofs.Texts.{text_facts, front_epid-padding}
 use Rattle.dspec_buffer.proofs.Nexts.{text_no_padding}

@@ -1,8 +1,7 @@
 -- No bytes are the text of two lists of records; and a text that goes on behind another is read on from there.
 use Rattle.std.proofs.Common.{◌≡◌, ◌+◌, ◌++◌, ℕ, Bool, Option, List, [], ◌∷◌, length, refl, sym, ap, subst, ◌∙◌, arith, length-append, append_assoc}
-use Rattle.dspec_record.specs.Record.{Record}
+use Rattle.dspec_buffer.specs.Words.{Record, StandsNext, BufferText}
 use Rattle.dspec_record.specs.declared.field.Shape.{Shape}
-use Rattle.dspec_buffer.specs.BufferText.{StandsNext, BufferText}
 use Rattle.dspec_buffer.proofs.SchemaLaws.{SchemaLaws}
 use Rattle.dspec_buffer.proofs.Nexts.{SameNext, next_same, next_long, next_not_nil}
 

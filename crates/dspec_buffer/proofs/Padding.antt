@@ -1,9 +1,7 @@
 -- Padding words, and what a reservation takes.
 use Rattle.std.proofs.Common.{◌≡◌, ◌≢◌, ◌+◌, ◌-◌, ◌%◌, ◌≤◌, ◌⊎◌, ℕ, List, [], ◌∷◌, length, replicate, inl, inr, refl, sym, arith, ⊎_elim, length-append}
 use Rattle.std.proofs.lemmas.Bool.Decides.{eqb_tells}
-use Rattle.dspec_record.specs.Layout.{rounded_up}
-use Rattle.dspec_buffer.specs.Extent.{reserved, padding, padding_word, padded}
-use Rattle.dspec_buffer.specs.BufferText.{IsGap}
+use Rattle.dspec_buffer.specs.Words.{rounded_up, reserved, padding, padding_word, padded, IsGap}
 use Rattle.dspec_buffer.proofs.Rounding.{IsRounded, rounded}
 
 padding_cases : (o a : ℕ) → ((o % a ≡ 0) × (padding o a ≡ [])) ⊎ ((o % a ≢ 0) × (padding o a ≡ padding_word))

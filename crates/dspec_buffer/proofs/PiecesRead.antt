@@ -1,10 +1,9 @@
 -- The bytes of pieces are the text of their records.
 use Rattle.std.proofs.Common.{◌≡◌, ◌+◌, ◌%◌, ℕ, Bool, Option, List, [], ◌∷◌, length, reverse, refl, sym, subst, arith}
 use Rattle.std.proofs.lemmas.List.{reverse-append}
-use Rattle.dspec_record.specs.Record.{Record}
+use Rattle.dspec_buffer.specs.Words.{Record, Piece, one, block, records, records_of, align_of, extent_of_records, extent, piece_align, piece_bytes, bytes_of_records, bytes, padding, padded}
+use Rattle.dspec_buffer.specs.Words.{BufferText}
 use Rattle.dspec_record.specs.declared.field.Shape.{Shape}
-use Rattle.dspec_buffer.specs.Extent.{Piece, one, block, records, records_of, align_of, extent_of_records, extent, piece_align, piece_bytes, bytes_of_records, bytes, padding, padded}
-use Rattle.dspec_buffer.specs.BufferText.{BufferText}
 use Rattle.dspec_buffer.proofs.SchemaLaws.{SchemaLaws}
 use Rattle.dspec_buffer.proofs.Texts.{text_facts}
 use Rattle.dspec_buffer.proofs.Padding.{IsPadding, padding_facts}

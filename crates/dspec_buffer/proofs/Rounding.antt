@@ -2,7 +2,7 @@
 use Rattle.std.proofs.Common.{◌≡◌, ◌≢◌, ◌≤◌, ◌+◌, ◌-◌, ◌%◌, ◌⊎◌, ℕ, inl, inr, ⊎_elim, ap, ◌∙◌, arith}
 use Rattle.std.specs.Int.Bits.{bit_and, and_zero_r}
 use Rattle.std.proofs.lemmas.Nat.{and_le_r, and_mod}
-use Rattle.dspec_record.specs.Layout.{rounded_up}
+use Rattle.dspec_buffer.specs.Words.{rounded_up}
 
 -- what rounding up does: nothing, or one word up to a multiple of eight
 pub record IsRounded (o a p : ℕ) : Type 0 where

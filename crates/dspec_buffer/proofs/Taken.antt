@@ -1,13 +1,8 @@
 -- The records that a reader has been given so far are those of the bytes up to its place, and no others.
 use Rattle.std.proofs.Common.{◌≡◌, ◌<◌, ◌≤◌, ◌++◌, ℕ, Bool, Option, List, [], ◌∷◌, length, take, refl, arith}
 use Rattle.std.proofs.Math.Logic.{∥∥₁_elim, ∥∥₁_prop}
-use Rattle.dspec_record.specs.Record.{Record}
+use Rattle.dspec_buffer.specs.Words.{Record, StopsBehind, HasRead, NextIs, FaultIs, IsOneText, Remaining, records_set, IsOneText-prop, ReadFault}
 use Rattle.dspec_record.specs.declared.field.Shape.{Shape}
-use Rattle.dspec_buffer.specs.Faults.{StopsBehind}
-use Rattle.dspec_buffer.specs.ReadingOn.{HasRead, NextIs, FaultIs}
-use Rattle.dspec_buffer.specs.Remaining.{IsOneText, Remaining}
-use Rattle.dspec_buffer.specs.Laws.Remaining.{records_set, IsOneText-prop}
-use Rattle.dspec_buffer.specs.declared.read_fault.ReadFault.{ReadFault}
 use Rattle.dspec_buffer.proofs.SchemaLaws.{SchemaLaws}
 use Rattle.dspec_buffer.proofs.Nexts.{next_long}
 use Rattle.dspec_buffer.proofs.Coming.{text_with_one, stops_behind}

@@ -6,20 +6,13 @@ use Rattle.std.proofs.lemmas.Bool.{lt-ltb, leb-true, leb-false}
 use Rattle.std.proofs.lemmas.Bool.Decides.{eqb_tells}
 use Rattle.std.proofs.lemmas.List.{append-nil, reverse-append, map-append, length-reverse, length-map}
 use Rattle.std.proofs.lemmas.List.Elements.{All-cons, All-nil}
-use Rattle.dspec_record.specs.Record.{Record}
-use Rattle.dspec_record.specs.EnablingRows.{EnabledRows}
-use Rattle.dspec_record.specs.RecordText.{stamp_fits, fits}
-use Rattle.dspec_record.specs.Schemas.{FieldTable, enabled, table_shape, table_accepts, table_text}
-use Rattle.dspec_record.specs.Laws.Tables.{IsAccepted, accepted-parts, enabled-IsLimited, table-shapes_fit, table-texts_fit, table-texts_differ}
+use Rattle.dspec_buffer.specs.Words.{Record, EnabledRows, stamp_fits, fits, FieldTable, enabled, table_shape, table_accepts, table_text, IsAccepted, accepted-parts, enabled-IsLimited}
+use Rattle.dspec_buffer.specs.Words.{table-shapes_fit, table-texts_fit, table-texts_differ, Piece, one, records, reserved, align_of, size_of, piece_fits, BufferText, Stored, HasPieces, stamped}
+use Rattle.dspec_buffer.specs.Words.{all_stamped, IsOldText, new_extent, HasNew, IsUpgradable, IsUpgraded, FillsUp}
 use Rattle.dspec_record.specs.declared.field.Field.{Field}
 use Rattle.dspec_record.specs.declared.header.Header.{Header}
 use Rattle.dspec_record.specs.declared.header.Header.TheVariants.{Two}
 use Rattle.dspec_record.specs.declared.field.Shape.{Shape}
-use Rattle.dspec_buffer.specs.Extent.{Piece, one, records, reserved, align_of, size_of}
-use Rattle.dspec_buffer.specs.Extent.{piece_fits}
-use Rattle.dspec_buffer.specs.BufferText.{BufferText}
-use Rattle.dspec_buffer.specs.Stored.{Stored, HasPieces}
-use Rattle.dspec_buffer.specs.Upgrading.{stamped, all_stamped, IsOldText, new_extent, HasNew, IsUpgradable, IsUpgraded, FillsUp}
 use Rattle.dspec_buffer.proofs.SchemaLaws.{SchemaLaws}
 use Rattle.dspec_buffer.proofs.Accepted.{AllAccepted, back_accepted, first_accepted, others_accepted}
 use Rattle.dspec_buffer.proofs.OneReading.{one_reading}

@@ -1,14 +1,9 @@
 -- A walk over the text of a `ByteBuffer`.
 use Rattle.std.proofs.Common.{◌≡◌, ℕ, Bool, Option, List, [], ◌∷◌, reverse, inr, sym, subst, arith, ⊎_elim}
 use Rattle.std.specs.Prelude.{Result, Ok, Err, IfOk, OnErr, IsOkAnd}
-use Rattle.dspec_record.specs.Record.{Record}
+use Rattle.dspec_buffer.specs.Words.{Record, Piece, records, BufferText, Stored, HasPieces, HasAhead, Steps, IsAhead, ReadFault}
 use Rattle.dspec_record.specs.declared.field.Shape.{Shape}
-use Rattle.dspec_buffer.specs.Extent.{Piece, records}
-use Rattle.dspec_buffer.specs.BufferText.{BufferText}
-use Rattle.dspec_buffer.specs.Stored.{Stored, HasPieces, HasAhead}
-use Rattle.dspec_buffer.specs.Walking.{Steps, IsAhead}
 use Rattle.dspec_buffer.proofs.SchemaLaws.{SchemaLaws}
-use Rattle.dspec_buffer.specs.declared.read_fault.ReadFault.{ReadFault}
 use Rattle.dspec_buffer.proofs.OneReading.{one_reading}
 use Rattle.dspec_buffer.proofs.PiecesRead.{pieces_read}
 

@@ -1,7 +1,6 @@
 -- Cited by calls. Why bytes are the text of no records: what stands before the fault is a text, and no record can begin there.
 use Rattle.std.specs.Prelude.{◌≡◌, ◌≢◌, ◌<◌, ◌≤◌, ◌+◌, ◌%◌, ◌⊎◌, ℕ, Bool, List, ◌++◌, length, Option, None}
-use Rattle.dspec_record.specs.Record.{Record}
-use Rattle.dspec_record.specs.Reading.{front_epid, NamesShape, HasNoText}
+use Rattle.dspec_buffer.specs.Words.Outside.{Record, front_epid, NamesShape, HasNoText}
 use Rattle.dspec_record.specs.declared.field.Shape.{Shape}
 use Rattle.dspec_record.specs.declared.reading.ReadKind.{ReadKind}
 use Rattle.dspec_record.specs.declared.reading.ReadKind.TheVariants.{Truncated, UnknownEpid, Misaligned, GapNotZero, Padding}

@@ -11,3 +11,4 @@ pub mod Remaining
 pub mod Progress
 pub mod Upgrading
 pub mod Laws
+pub mod Words

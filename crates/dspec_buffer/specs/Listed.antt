@@ -1,7 +1,7 @@
 -- Cited by calls. A buffer of texts without padding as contracts see it, and the pieces that it has.
 use Rattle.std.specs.Prelude.{◌≡◌, ◌≤◌, ℕ, Bool, IsTrue, All, List, length, drop, reverse, Option}
 use Rattle.std.specs.List.{flat_map}
-use Rattle.dspec_record.specs.Record.{Record}
+use Rattle.dspec_buffer.specs.Words.Outside.{Record}
 use Rattle.dspec_record.specs.declared.field.Shape.{Shape}
 use Rattle.dspec_buffer.specs.Extent.{Piece, records, extent}
 

@@ -1,6 +1,6 @@
 -- Cited by calls. A reader that checks a text as it goes: how far it has come, and what one call makes of that.
 use Rattle.std.specs.Prelude.{◌≡◌, ◌<◌, ◌≤◌, ℕ, Bool, List, [], ◌∷◌, ◌++◌, length, Option, Some, None, Result, Ok, Err}
-use Rattle.dspec_record.specs.Record.{Record}
+use Rattle.dspec_buffer.specs.Words.Outside.{Record}
 use Rattle.dspec_record.specs.declared.field.Shape.{Shape}
 use Rattle.dspec_buffer.specs.Faults.{StopsBehind}
 use Rattle.dspec_buffer.specs.Remaining.{IsOneText}

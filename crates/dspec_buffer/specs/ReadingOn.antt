@@ -1,7 +1,6 @@
 -- Serves proofs. One step of reading: past a padding word, and over one record; and how far a reader has come.
 use Rattle.std.specs.Prelude.{◌≡◌, ◌≢◌, ◌<◌, ◌≤◌, ◌+◌, ◌%◌, ◌⊎◌, ℕ, Bool, IsTrue, List, ◌++◌, length, take, drop, Option, Some, None, Result, Ok, Err}
-use Rattle.dspec_record.specs.Record.{Record}
-use Rattle.dspec_record.specs.Reading.{front_epid}
+use Rattle.dspec_buffer.specs.Words.Outside.{Record, front_epid}
 use Rattle.dspec_record.specs.declared.field.Shape.{Shape}
 use Rattle.dspec_buffer.specs.Extent.{align_of}
 use Rattle.dspec_buffer.specs.BufferText.{IsGap, StandsNext, BufferText}

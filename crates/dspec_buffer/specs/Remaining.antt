@@ -1,6 +1,6 @@
 -- Cited by calls. What a reader of a checked text still has before it.
 use Rattle.std.specs.Prelude.{◌≡◌, ℕ, Bool, List, Option}
-use Rattle.dspec_record.specs.Record.{Record}
+use Rattle.dspec_buffer.specs.Words.Outside.{Record}
 use Rattle.dspec_record.specs.declared.field.Shape.{Shape}
 use Rattle.dspec_buffer.specs.Stored.{HasAhead}
 use Rattle.dspec_buffer.specs.Walking.{Steps}

@@ -1,6 +1,6 @@
 -- Believed. A buffer of bytes as contracts see it, and the pieces that it has.
 use Rattle.std.specs.Prelude.{◌≡◌, ◌≤◌, ℕ, Bool, IsTrue, All, List, length, drop, reverse, Option}
-use Rattle.dspec_record.specs.Record.{Record}
+use Rattle.dspec_buffer.specs.Words.Outside.{Record}
 use Rattle.dspec_record.specs.declared.field.Shape.{Shape}
 use Rattle.dspec_buffer.specs.Extent.{Piece, records, bytes}
 use Rattle.dspec_buffer.specs.BufferText.{BufferText}

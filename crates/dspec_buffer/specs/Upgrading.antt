@@ -1,8 +1,6 @@
 -- Cited by calls. Upgrading a text of records without a stamp: each record, with a stamp, in the order in which it stands.
 use Rattle.std.specs.Prelude.{◌≡◌, ◌≤◌, ◌<◌, ◌++◌, ℕ, List, ◌∷◌, length, map, reverse}
-use Rattle.dspec_record.specs.Record.{Record}
-use Rattle.dspec_record.specs.EnablingRows.{EnabledRows}
-use Rattle.dspec_record.specs.Schemas.{enabled, table_shape, table_accepts, table_text}
+use Rattle.dspec_buffer.specs.Words.Outside.{Record, EnabledRows, enabled, table_shape, table_accepts, table_text}
 use Rattle.dspec_record.specs.declared.header.Header.TheVariants.{Two}
 use Rattle.dspec_buffer.specs.Extent.{Piece, one, extent}
 use Rattle.dspec_buffer.specs.BufferText.{BufferText}

@@ -1,6 +1,6 @@
 -- Cited by calls. A walk over the records of a buffer.
 use Rattle.std.specs.Prelude.{◌≡◌, ◌⊎◌, ℕ, List, [], ◌∷◌, reverse, Option, Some, None}
-use Rattle.dspec_record.specs.Record.{Record}
+use Rattle.dspec_buffer.specs.Words.Outside.{Record}
 use Rattle.dspec_buffer.specs.Extent.{Piece, records}
 
 -- one step of a walk that still has these records before it: the first one and a place from which the others

@@ -5,13 +5,8 @@ use Rattle.std.specs.List.{list_all}
 use Rattle.std.proofs.Math.Seq.{map-set_same}
 use Rattle.std.proofs.lemmas.List.{get_or-map, get_or-set_other, map-set, length-map, replicate_more, take_more_set}
 use Rattle.std.proofs.lemmas.List.Folds.{list_all_at, list_all_more}
-use Rattle.dspec_c.specs.Closing.{KeepAll, KeepsHeld, held_in_each, fulls, names}
-use Rattle.dspec_c.specs.Handles.{held_in, is_full}
-use Rattle.dspec_c.specs.SessionCalls.{HomeAnswers, is_cpu_in}
+use Rattle.dspec_c.specs.Words.{KeepAll, KeepsHeld, held_in_each, fulls, names, held_in, is_full, HomeAnswers, is_cpu_in, Handle, Nothing, HandleValue}
 use Rattle.dspec_c.proofs.Options.{unless}
-use Rattle.dspec_c.specs.declared.handle.Handle.{Handle}
-use Rattle.dspec_c.specs.declared.held.Held.{Held}
-use Rattle.dspec_c.specs.declared.held.Held.TheVariants.{Nothing}
 
 abbrev One : Type 0
 One = MutBor Handle
@@ -59,7 +54,7 @@ none_there was now at d small keep here =
     list_all_at is_cpu_in (held_in_each was) at Nothing (omega (arith, small, same_count was now keep.same, count_held was))
     (ap is_cpu_in (sym (held_at was now at d small (ap (λ hs. slice_index_or hs at Nothing) keep.hold))) ∙ sym here)
 
-passes : (hs : List Held) (at : ℕ) (b : Bool) → at < length hs → list_all is_cpu_in hs ≡ true → is_cpu_in (slice_index_or hs at Nothing) ≡ b → b ≡ true
+passes : (hs : List HandleValue) (at : ℕ) (b : Bool) → at < length hs → list_all is_cpu_in hs ≡ true → is_cpu_in (slice_index_or hs at Nothing) ≡ b → b ≡ true
 passes hs at true small all here = refl
 passes hs at false small all here = sym (list_all_at is_cpu_in hs at Nothing small here) ∙ all
 

@@ -2,18 +2,10 @@
 use Rattle.std.proofs.Common.{◌≡◌, ℕ, Bool, Option, Some, None, sym, subst}
 use Rattle.std.specs.Prelude.{Result, Ok, Err, IfErr, IfNone, IfSome, MatchOption, MatchResult, OnErr, OnOk}
 use Rattle.dspec_ring.specs.declared.batch.Batch.{Batch}
-use Rattle.dspec_record.specs.EnablingRows.{EnabledRows}
+use Rattle.dspec_c.specs.Words.{EnabledRows, FoundNone, GaveBack, IsNotTakenBack, Took, Consuming, OnConsumer, OnTheirs, Theirs, OnCpu, OnSide, one_refused, CpuSide, ConsumerSide, HandleValue}
 use Rattle.dspec_cpu.specs.declared.cpu.Cpu.{Cpu}
 use Rattle.dspec_cpu.specs.declared.shared.Shared.{Shared}
-use Rattle.dspec_session_core.specs.Batches.{FoundNone, GaveBack, IsNotTakenBack, Took}
-use Rattle.dspec_session_core.specs.Consumers.{Consuming}
-use Rattle.dspec_c.specs.ConsumerCalls.{OnConsumer, OnTheirs}
-use Rattle.dspec_c.specs.ConsumerHomes.{Theirs}
-use Rattle.dspec_c.specs.CpuCalls.{OnCpu, OnSide, one_refused}
-use Rattle.dspec_c.specs.Homes.{CpuSide}
-use Rattle.dspec_c.specs.declared.consumer_side.ConsumerSide.{ConsumerSide}
-use Rattle.dspec_c.specs.declared.held.Held.{Held}
-use Rattle.dspec_c.specs.declared.held.Held.TheVariants as held
+use Rattle.dspec_c.specs.declared.held.HandleValue.TheVariants as held
 
 pub on_side : (refuses : Bool) (did : Cpu EnabledRows → Cpu EnabledRows → Type 0) (old was new : CpuSide) → was ≡ old → new.shared ≡ was.shared → did was.cpu new.cpu
     → new.refused ≡ one_refused refuses was.refused → OnSide refuses did old new
@@ -25,13 +17,13 @@ pub on_boxed : (refuses : Bool) (did : Cpu EnabledRows → Cpu EnabledRows → T
 on_boxed refuses did old shared was cpu refused new e f same done count =
     on_side refuses did old (record { shared = shared; cpu = cpu; refused = refused }) new e same (subst (λ (x : Cpu EnabledRows). did x new.cpu) f done) count
 
-pub on_cpu : (did : CpuSide → CpuSide → Type 0) (stays : Type 0) (was : Held) (status : ℕ) (now : Held) (old new : CpuSide) → was ≡ held.Cpu old → now ≡ held.Cpu new → did old new
+pub on_cpu : (did : CpuSide → CpuSide → Type 0) (stays : Type 0) (was : HandleValue) (status : ℕ) (now : HandleValue) (old new : CpuSide) → was ≡ held.Cpu old → now ≡ held.Cpu new → did old new
     → OnCpu did stays was status now
-on_cpu did stays was status now old new e f done = subst (λ (h : Held). OnCpu did stays h status now) (sym e) (new, f, done)
+on_cpu did stays was status now old new e f done = subst (λ (h : HandleValue). OnCpu did stays h status now) (sym e) (new, f, done)
 
-pub on_consumer : (did : ConsumerSide → ConsumerSide → Type 0) (stays : Type 0) (was : Held) (status : ℕ) (now : Held) (old new : ConsumerSide) → was ≡ held.Consumer old → now ≡ held.Consumer new
-    → did old new → OnConsumer did stays was status now
-on_consumer did stays was status now old new e f done = subst (λ (h : Held). OnConsumer did stays h status now) (sym e) (new, f, done)
+pub on_consumer : (did : ConsumerSide → ConsumerSide → Type 0) (stays : Type 0) (was : HandleValue) (status : ℕ) (now : HandleValue) (old new : ConsumerSide) → was ≡ held.Consumer old
+    → now ≡ held.Consumer new → did old new → OnConsumer did stays was status now
+on_consumer did stays was status now old new e f done = subst (λ (h : HandleValue). OnConsumer did stays h status now) (sym e) (new, f, done)
 
 pub on_theirs : (did : Consuming → Consuming → Type 0) (old was new : Theirs) → was ≡ old → new.shared ≡ was.shared → did was.consumer new.consumer → OnTheirs did old new
 on_theirs did old was new e shared done = subst (λ (s : Theirs). OnTheirs did s new) e (record { shared = shared; consumer = done })

@@ -5,11 +5,8 @@ use Rattle.core.specs.Option.{is_some}
 use Rattle.rtrb.specs.Ring.{known_free, sent}
 use Rattle.rtrb.specs.declared.producer.Producer.{Producer}
 use Rattle.dspec_cpu.specs.declared.shared.Shared.{Shared}
-use Rattle.dspec_cpu.specs.Lists.{words_of}
-use Rattle.dspec_session_core.specs.Consumers.{Consuming, IsConsumerOf, IsSameConsumer, pairs_of, set_up_of}
-use Rattle.dspec_c.specs.ConsumerHomes.{IsDeskTheirs, IsOutTheirs, AreSameTheirs, IsSameTheirs, LeaveTheirs, TheirStay, Theirs}
-use Rattle.dspec_c.specs.Homes.{IsUnused}
-use Rattle.dspec_c.specs.declared.consumer_homing.ConsumerRule.{ConsumerRule}
+use Rattle.dspec_c.specs.Words.{words_of, Consuming, IsConsumerOf, IsSameConsumer, pairs_of, set_up_of, IsDeskTheirs, IsOutTheirs, AreSameTheirs, IsSameTheirs, LeaveTheirs, TheirStay, Theirs}
+use Rattle.dspec_c.specs.Words.{IsUnused, ConsumerRule}
 use Rattle.dspec_c.proofs.Options.{if_none, or_this, the_none, unless}
 
 pub after : (a b c : Theirs) → IsSameTheirs a b → IsSameTheirs b c → IsSameTheirs a c

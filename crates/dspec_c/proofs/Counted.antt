@@ -3,9 +3,7 @@ use Rattle.std.proofs.Common.{◌≡◌, ℕ, ◌<◌, List, [], ◌∷◌, leng
 use Rattle.std.specs.Prelude.{slice_get}
 use Rattle.dspec_deeds.specs.declared.report.Report.{Report}
 use Rattle.dspec_session_core.specs.declared.left.Left.{Left}
-use Rattle.dspec_c.specs.ClosedCalls.{TellsCountsOf}
-use Rattle.dspec_c.specs.Shows.{TellsReport}
-use Rattle.dspec_c.specs.declared.reports.CReport.{CReport}
+use Rattle.dspec_c.specs.Words.{TellsCountsOf, TellsReport, CReport}
 use Rattle.dspec_c.proofs.Options.{if_some}
 
 is_there : (xs : List Left) (c : ℕ) → c < length xs → slice_get xs c ≡ None → ⊥

@@ -1,15 +1,10 @@
 -- Lists each element of which has something at its place.
 use Rattle.std.proofs.Common.{◌≡◌, ℕ, ◌+◌, ◌<◌, List, [], ◌∷◌, ◌++◌, length, length-append, append_assoc, Option, take, suc, zero, refl, sym, ap, ◌∙◌, subst, arith}
 use Rattle.std.specs.Prelude.{slice_get, slice_index_or, slice_set, map, remove, Some, IsSome}
-use Rattle.dspec_ring.specs.Known.{Pair}
-use Rattle.dspec_record.specs.EnablingRows.{EnabledRows}
+use Rattle.dspec_c.specs.Words.{Pair, EnabledRows, words_of, Identity, IsCallable, identity, IsCpuOf, AtHome, CpuStay, CpuSide, AllCalled, AllInside, EachFrom, IsCpuAt, IsPlaceOf, cpu_inside}
+use Rattle.dspec_c.specs.Words.{firsts, insides, new_side, refused_inside, refusals, waiting_so}
 use Rattle.dspec_cpu.specs.declared.cpu.Cpu.{Cpu}
 use Rattle.dspec_cpu.specs.declared.shared.Shared.{Shared}
-use Rattle.dspec_cpu.specs.Lists.{words_of}
-use Rattle.dspec_cpu.specs.Standing.{Identity, IsCallable, identity}
-use Rattle.dspec_session_core.specs.Sessions.{IsCpuOf}
-use Rattle.dspec_c.specs.Homes.{AtHome, CpuStay, CpuSide}
-use Rattle.dspec_c.specs.Whole.{AllCalled, AllInside, EachFrom, IsCpuAt, IsPlaceOf, cpu_inside, firsts, insides, new_side, refused_inside, refusals, waiting_so}
 
 -- the first element, and what is left when it is removed
 pub first_and_rest : {A : Type 0} (xs : List A) (x : A) → 0 < length xs → x ≡ slice_index_or xs 0 x → x ∷ remove xs 0 ≡ xs

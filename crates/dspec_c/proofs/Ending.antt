@@ -3,20 +3,11 @@ use Rattle.std.proofs.Common.{◌≡◌, ℕ, List, [], ◌∷◌, length, Optio
 use Rattle.std.specs.Prelude.{Result, Ok, Err, IfNone, IfOk, IfSome, IsSomeAnd, OnErr, false, map, slice_get, slice_set}
 use Rattle.std.proofs.lemmas.List.{length-map, length-set}
 use Rattle.dspec_deeds.specs.declared.config.Config.{Config}
-use Rattle.dspec_record.specs.EnablingRows.{EnabledRows}
-use Rattle.dspec_table.specs.Seats.{last_seat, set_up}
+use Rattle.dspec_c.specs.Words.{EnabledRows, last_seat, set_up, schema_of, words_of, Consuming, pairs_of, view_of, Has, IsCpuOf, IsFresh, Identity, IsTheirPlaceWith, LeaveTheirs, TheirStay, Theirs}
+use Rattle.dspec_c.specs.Words.{Pair, CpuStay, IsSameSide, LeavesPlace, CpuSide, EachFrom, Going, GoesOut, IsFreshIn, IsJustStarted, IsCpuAt, IsPlaceOf, IsWhole, LeavesOne, LooksAt, LooksAtOne}
+use Rattle.dspec_c.specs.Words.{TheyGoOut, firsts, they_wait_so, waiting_so}
 use Rattle.dspec_cpu.specs.declared.cpu.Cpu.{Cpu}
 use Rattle.dspec_cpu.specs.declared.shared.Shared.{Shared}
-use Rattle.dspec_cpu.specs.Lists.{schema_of, words_of}
-use Rattle.dspec_session_core.specs.Consumers.{Consuming, pairs_of, view_of}
-use Rattle.dspec_session_core.specs.Sessions.{Has, IsCpuOf, IsFresh}
-use Rattle.dspec_cpu.specs.Standing.{Identity}
-use Rattle.dspec_c.specs.ConsumerHomes.{IsTheirPlaceWith, LeaveTheirs, TheirStay, Theirs}
-use Rattle.dspec_ring.specs.Known.{Pair}
-use Rattle.dspec_c.specs.Homes.{CpuStay, IsSameSide, LeavesPlace, CpuSide}
-use Rattle.dspec_c.specs.Whole.{EachFrom, Going, GoesOut, IsFreshIn, IsJustStarted, IsCpuAt, IsPlaceOf, IsWhole, LeavesOne}
-use Rattle.dspec_c.specs.Whole.{LooksAt, LooksAtOne, TheyGoOut}
-use Rattle.dspec_c.specs.Whole.{firsts, they_wait_so, waiting_so}
 use Rattle.dspec_c.proofs.Looking.{first_at}
 use Rattle.dspec_c.proofs.EndingPlaces.{all_fresh, number_out, or_else}
 

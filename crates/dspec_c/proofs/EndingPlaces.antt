@@ -2,21 +2,12 @@
 use Rattle.std.proofs.Common.{◌≡◌, ℕ, ◌+◌, List, [], ◌∷◌, length, Option, Some, None, suc, zero, refl, sym, ap, ◌∙◌, subst, arith}
 use Rattle.std.specs.Prelude.{map, slice_get}
 use Rattle.std.proofs.lemmas.List.{length-map}
-use Rattle.dspec_deeds.specs.Ranges.{start_fault}
-use Rattle.dspec_record.specs.EnablingRows.{EnabledRows}
-use Rattle.dspec_table.specs.Seats.{set_up}
+use Rattle.dspec_c.specs.Words.{start_fault, EnabledRows, set_up, number_in, schema_of, words_of, Consuming, IsConsumerOf, IsSameConsumer, pairs_of, Has, IsCpuOf, IsFresh, IsSession, Identity}
+use Rattle.dspec_c.specs.Words.{IsCallable, identity, TheirStay, Theirs, Came, CpuStay, IsPlaceWith, CpuSide, AllCalled, AreCame, EachFrom, Going, IsFreshIn, IsCpuAt, IsEnding, IsPlaceOf, IsStarted}
+use Rattle.dspec_c.specs.Words.{IsWhole, LeavesOne, LookedLater, cpu_inside, firsts, insides, they_wait_so, waiting_so}
 use Rattle.dspec_cpu.specs.declared.cpu.Cpu.{Cpu}
 use Rattle.dspec_cpu.specs.declared.shared.Shared.{Shared}
-use Rattle.dspec_cpu.specs.Lists.{number_in, schema_of, words_of}
-use Rattle.dspec_session_core.specs.Consumers.{Consuming, IsConsumerOf, IsSameConsumer, pairs_of}
-use Rattle.dspec_session_core.specs.Sessions.{Has, IsCpuOf, IsFresh, IsSession}
 use Rattle.dspec_session_core.specs.declared.session.Session.{Session}
-use Rattle.dspec_cpu.specs.Standing.{Identity, IsCallable, identity}
-use Rattle.dspec_c.specs.ConsumerHomes.{TheirStay, Theirs}
-use Rattle.dspec_c.specs.Homes.{Came, CpuStay, IsPlaceWith, CpuSide}
-use Rattle.dspec_c.specs.Whole.{AllCalled, AreCame, EachFrom, Going, IsFreshIn, IsCpuAt, IsEnding, IsPlaceOf, IsStarted, IsWhole, LeavesOne}
-use Rattle.dspec_c.specs.Whole.{LookedLater}
-use Rattle.dspec_c.specs.Whole.{cpu_inside, firsts, insides, they_wait_so, waiting_so}
 use Rattle.dspec_c.proofs.Each.{each_placed}
 use Rattle.dspec_c.proofs.Looking.{first_at, same_firsts}
 

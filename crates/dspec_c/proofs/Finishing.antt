@@ -1,32 +1,25 @@
 -- How a session ends, or goes on.
 use Rattle.std.proofs.Common.{◌≡◌, ℕ, List, true, false, Option, Some, refl, sym, ap, ◌∙◌, subst, inl, inr}
 use Rattle.std.specs.Prelude.{Result, Ok, Err, MatchResult, length}
-use Rattle.dspec_record.specs.EnablingRows.{EnabledRows}
+use Rattle.dspec_c.specs.Words.{EnabledRows, Consuming, held_in, is_full, EndsSo, FinishAnswers, LooksHome, busy, not_home, ClosedBy, EndedBy, Going, IsAway, IsHome, LookedLater, insides, refusals}
+use Rattle.dspec_c.specs.Words.{Handle, EndedSession, HandleValue}
 use Rattle.dspec_cpu.specs.declared.cpu.Cpu.{Cpu}
 use Rattle.dspec_cpu.specs.declared.shared.Shared.{Shared}
-use Rattle.dspec_session_core.specs.Consumers.{Consuming}
 use Rattle.dspec_session_core.specs.declared.left.Left.{Left}
-use Rattle.dspec_c.specs.Handles.{held_in, is_full}
-use Rattle.dspec_c.specs.SessionCalls.{EndsSo, FinishAnswers, LooksHome}
-use Rattle.dspec_c.specs.Statuses.{busy, not_home}
-use Rattle.dspec_c.specs.Whole.{ClosedBy, EndedBy, Going, IsAway, IsHome, LookedLater, insides, refusals}
-use Rattle.dspec_c.specs.declared.ended.Ended.{Ended}
-use Rattle.dspec_c.specs.declared.handle.Handle.{Handle}
-use Rattle.dspec_c.specs.declared.held.Held.{Held}
-use Rattle.dspec_c.specs.declared.held.Held.TheVariants as held
+use Rattle.dspec_c.specs.declared.held.HandleValue.TheVariants as held
 
-abbrev going_of : Going → Held → Going
+abbrev going_of : Going → HandleValue → Going
 going_of g (held.Session w) = w
 going_of g h = g
 
 -- a look at the session that is held
-pub looks_so : {U : Type 0} (h now : Held) (old new : Going) (r : Result U ℕ) → h ≡ held.Session old → now ≡ held.Session new → LookedLater old new
+pub looks_so : {U : Type 0} (h now : HandleValue) (old new : Going) (r : Result U ℕ) → h ≡ held.Session old → now ≡ held.Session new → LookedLater old new
     → MatchResult r (λ _. IsHome new) (λ why. (why ≡ not_home) × IsAway new) → LooksHome h r now
-looks_so h now old new r e f looked home = subst (λ (x : Held). LooksHome x r now) (sym e) (new, f, looked, home)
+looks_so h now old new r e f looked home = subst (λ (x : HandleValue). LooksHome x r now) (sym e) (new, f, looked, home)
 
 -- what is held is home, where a look said so
-pub home_then : {U : Type 0} (h now : Held) (u : U) → LooksHome h (Ok u) now → (w : Going) → now ≡ held.Session w → IsHome w
-home_then (held.Session old) now u looks w is = subst (λ (g : Going). IsHome g) (ap (λ (x : Held). going_of w x) (sym looks.1 ∙ is)) looks.3
+pub home_then : {U : Type 0} (h now : HandleValue) (u : U) → LooksHome h (Ok u) now → (w : Going) → now ≡ held.Session w → IsHome w
+home_then (held.Session old) now u looks w is = subst (λ (g : Going). IsHome g) (ap (λ (x : HandleValue). going_of w x) (sym looks.1 ∙ is)) looks.3
 home_then held.Nothing now u looks w is = absurd looks.1
 home_then (held.Schema s) now u looks w is = absurd looks.1
 home_then (held.Cpu s) now u looks w is = absurd looks.1
@@ -36,7 +29,7 @@ home_then (held.Files x) now u looks w is = absurd looks.1
 
 module _ (was new closed : Handle) where
   -- something isn't home, or there is no session
-  pub refused_so : (U : Type 0) (h now : Held) (why : ℕ) → LooksHome {U = U} h (Err why) now → is_full was ≡ true → held_in was ≡ h → is_full new ≡ true → held_in new ≡ now
+  pub refused_so : (U : Type 0) (h now : HandleValue) (why : ℕ) → LooksHome {U = U} h (Err why) now → is_full was ≡ true → held_in was ≡ h → is_full new ≡ true → held_in new ≡ now
       → FinishAnswers h was closed why new closed
   refused_so U (held.Session old) now why looks f e g i = (looks.0, looks.2, inr (inr (looks.3.0, looks.3.1, record { full = g; holds = i ∙ looks.1; other = refl })))
   refused_so U held.Nothing now why looks f e g i = (looks.1, record { full = g ∙ sym f; holds = i ∙ looks.0 ∙ sym e; other = refl })
@@ -47,9 +40,10 @@ module _ (was new closed : Handle) where
   refused_so U (held.Files x) now why looks f e g i = (looks.1, record { full = g ∙ sym f; holds = i ∙ looks.0 ∙ sym e; other = refl })
 
   -- it is still shared
-  pub goes_on_so : {U : Type 0} (h now back : Held) (u : U) → LooksHome h (Ok u) now → EndsSo now (Err back) → is_full new ≡ true → held_in new ≡ back → FinishAnswers h was closed busy new closed
+  pub goes_on_so : {U : Type 0} (h now back : HandleValue) (u : U) → LooksHome h (Ok u) now → EndsSo now (Err back) → is_full new ≡ true
+      → held_in new ≡ back → FinishAnswers h was closed busy new closed
   goes_on_so (held.Session old) now back u looks ends g i =
-      let same : back ≡ held.Session looks.0 = subst (λ (x : Held). EndsSo x (Err back)) looks.1 ends in
+      let same : back ≡ held.Session looks.0 = subst (λ (x : HandleValue). EndsSo x (Err back)) looks.1 ends in
       (looks.0, looks.2, inr (inl (refl, looks.3, record { full = g; holds = i ∙ same; other = refl })))
   goes_on_so held.Nothing now back u looks ends g i = absurd looks.1
   goes_on_so (held.Schema s) now back u looks ends g i = absurd looks.1
@@ -59,10 +53,10 @@ module _ (was new closed : Handle) where
   goes_on_so (held.Files x) now back u looks ends g i = absurd looks.1
 
   -- it has ended
-  pub ended_so : {U : Type 0} (left : Handle) (h now : Held) (ended : Ended) (u : U) → LooksHome h (Ok u) now → EndsSo now (Ok ended) → is_full new ≡ false → is_full left ≡ true
+  pub ended_so : {U : Type 0} (left : Handle) (h now : HandleValue) (ended : EndedSession) (u : U) → LooksHome h (Ok u) now → EndsSo now (Ok ended) → is_full new ≡ false → is_full left ≡ true
       → held_in left ≡ held.Closed ended → FinishAnswers h was closed 0 new left
   ended_so left (held.Session old) now ended u looks ends f g i =
-      let by : (length ended.closed ≡ (looks.0).cpus) × EndedBy looks.0 ended.closed ended.refused.items = subst (λ (x : Held). EndsSo x (Ok ended)) looks.1 ends in
+      let by : (length ended.closed ≡ (looks.0).cpus) × EndedBy looks.0 ended.closed ended.refused.items = subst (λ (x : HandleValue). EndsSo x (Ok ended)) looks.1 ends in
       (looks.0, looks.2, inl (refl, looks.3, record { emptied = f; full = g; ended = ended; holds = i; all = by.0; by = by.1 }))
   ended_so left held.Nothing now ended u looks ends f g i = absurd looks.1
   ended_so left (held.Schema s) now ended u looks ends f g i = absurd looks.1
@@ -72,19 +66,19 @@ module _ (was new closed : Handle) where
   ended_so left (held.Files x) now ended u looks ends f g i = absurd looks.1
 
 -- so it is of what the session's handle had
-module _ (was new closed : Handle) (h : Held) (e : held_in was ≡ h) where
+module _ (was new closed : Handle) (h : HandleValue) (e : held_in was ≡ h) where
   in_handle : (status : ℕ) (left : Handle) → FinishAnswers h was closed status new left → FinishAnswers (held_in was) was closed status new left
-  in_handle status left is = subst (λ (x : Held). FinishAnswers x was closed status new left) (sym e) is
+  in_handle status left is = subst (λ (x : HandleValue). FinishAnswers x was closed status new left) (sym e) is
 
-  pub refused_in : (U : Type 0) (now : Held) (why : ℕ) → LooksHome {U = U} h (Err why) now → is_full was ≡ true → is_full new ≡ true → held_in new ≡ now
+  pub refused_in : (U : Type 0) (now : HandleValue) (why : ℕ) → LooksHome {U = U} h (Err why) now → is_full was ≡ true → is_full new ≡ true → held_in new ≡ now
       → FinishAnswers (held_in was) was closed why new closed
   refused_in U now why looks f g i = in_handle why closed (refused_so was new closed U h now why looks f e g i)
 
-  pub goes_on_in : {U : Type 0} (now back : Held) (u : U) → LooksHome h (Ok u) now → EndsSo now (Err back) → is_full new ≡ true → held_in new ≡ back
+  pub goes_on_in : {U : Type 0} (now back : HandleValue) (u : U) → LooksHome h (Ok u) now → EndsSo now (Err back) → is_full new ≡ true → held_in new ≡ back
       → FinishAnswers (held_in was) was closed busy new closed
   goes_on_in now back u looks ends g i = in_handle busy closed (goes_on_so was new closed h now back u looks ends g i)
 
-  pub ended_in : {U : Type 0} (left : Handle) (now : Held) (ended : Ended) (u : U) → LooksHome h (Ok u) now → EndsSo now (Ok ended) → is_full new ≡ false → is_full left ≡ true
+  pub ended_in : {U : Type 0} (left : Handle) (now : HandleValue) (ended : EndedSession) (u : U) → LooksHome h (Ok u) now → EndsSo now (Ok ended) → is_full new ≡ false → is_full left ≡ true
       → held_in left ≡ held.Closed ended → FinishAnswers (held_in was) was closed 0 new left
   ended_in left now ended u looks ends f g i = in_handle 0 left (ended_so was new closed left h now ended u looks ends f g i)
 

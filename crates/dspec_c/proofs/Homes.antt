@@ -4,13 +4,10 @@ use Rattle.std.specs.Prelude.{IfSome, IsSomeAnd, slice_get}
 use Rattle.core.specs.Option.{is_some}
 use Rattle.rtrb.specs.Ring.{known_free, sent}
 use Rattle.rtrb.specs.declared.producer.Producer.{Producer}
-use Rattle.dspec_record.specs.EnablingRows.{EnabledRows}
+use Rattle.dspec_c.specs.Words.{EnabledRows, words_of, Belongs, Identity, IsCallable, identity, AtHome, CpuStay, IsDesk, IsOut, IsSameAsAll, IsSameSide, IsUnused, LeavesPlace, CpuSide, at_home}
+use Rattle.dspec_c.specs.Words.{HomingProtocol}
 use Rattle.dspec_cpu.specs.declared.cpu.Cpu.{Cpu}
 use Rattle.dspec_cpu.specs.declared.shared.Shared.{Shared}
-use Rattle.dspec_cpu.specs.Lists.{words_of}
-use Rattle.dspec_cpu.specs.Standing.{Belongs, Identity, IsCallable, identity}
-use Rattle.dspec_c.specs.Homes.{AtHome, CpuStay, IsDesk, IsOut, IsSameAsAll, IsSameSide, IsUnused, LeavesPlace, CpuSide, at_home}
-use Rattle.dspec_c.specs.declared.homing.HomeRule.{HomeRule}
 use Rattle.dspec_c.proofs.Options.{if_none, if_true, or_this, the_none, unless}
 
 pub after : (a b c : CpuSide) → IsSameSide a b → IsSameSide b c → IsSameSide a c
@@ -27,7 +24,7 @@ itself a = record { shared = refl; cpu = refl }
 
 -- the way home of a CPU: what went it, and what there is room for
 abbrev pub Way : Type 0
-Way = Producer CpuSide Global HomeRule
+Way = Producer CpuSide Global HomingProtocol
 
 abbrev pub went_by : Way → List CpuSide
 went_by w = sent w

@@ -4,8 +4,7 @@ use Rattle.std.specs.Prelude.{◌⊎◌, Result, Ok, Err, IfOk, IfSome, IsSome, 
 use Rattle.std.specs.Option.{option_map_or}
 use Rattle.std.proofs.lemmas.Option.{slice_get_read, slice_get_within}
 use Rattle.dspec_cpu.specs.declared.shared.Shared.{Shared}
-use Rattle.dspec_c.specs.Homes.{Came, CpuStay, LeavesPlace, CpuSide, Stay}
-use Rattle.dspec_c.specs.Whole.{AllInside, AreCame, IsInsideAt, LeavesOne, LooksAt, OneOutside, firsts, inside_at}
+use Rattle.dspec_c.specs.Words.{Came, CpuStay, LeavesPlace, CpuSide, Stay, AllInside, AreCame, IsInsideAt, LeavesOne, LooksAt, OneOutside, firsts, inside_at}
 use Rattle.dspec_c.proofs.Each.{set_back}
 use Rattle.dspec_c.proofs.Options.{if_some, if_true, none_of, or_this}
 

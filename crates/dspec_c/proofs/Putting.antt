@@ -1,22 +1,14 @@
 -- A record of words is put as one of the header that the schema has.
 use Rattle.std.proofs.Common.{◌≡◌, ◌∙◌, ◌%◌, ◌^◌, ℕ, Bool, true, false, List, length, Option, Some, None, is_some, IfSome, IsTrue, option_map, refl, sym, ap, subst}
 use Rattle.std.specs.Prelude.{IsSome, if◌then◌else◌}
-use Rattle.dspec_word.specs.SpecId.{Speculation}
-use Rattle.dspec_record.specs.Record.{Record}
-use Rattle.dspec_record.specs.EnablingRows.{EnabledRows}
-use Rattle.dspec_record.specs.Packing.{claimed, packed_record}
-use Rattle.dspec_record.specs.RecordText.{stamp_fits}
+use Rattle.dspec_c.specs.Words.{Speculation, Record, EnabledRows, claimed, packed_record, stamp_fits, schema_of, SpeculatesOne, TracesOne, Has, Put, PutIn, put_record, PutAs, PutInAs, is_header}
+use Rattle.dspec_c.specs.Words.{record_as}
 use Rattle.dspec_record.specs.declared.field.Field.{Field}
 use Rattle.dspec_record.specs.declared.header.Header.{Header}
 use Rattle.dspec_record.specs.declared.header.Header.TheVariants as header
 use Rattle.dspec_deeds.specs.declared.calls.Spoken.{Spoken}
 use Rattle.dspec_deeds.specs.declared.calls.Traced.{Traced}
 use Rattle.dspec_cpu.specs.declared.cpu.Cpu.{Cpu}
-use Rattle.dspec_cpu.specs.Lists.{schema_of}
-use Rattle.dspec_cpu.specs.OneCall.{SpeculatesOne, TracesOne}
-use Rattle.dspec_session_core.specs.Sessions.{Has}
-use Rattle.dspec_c.specs.CpuCalls.{Put, PutIn, put_record}
-use Rattle.dspec_c.specs.Puts.{PutAs, PutInAs, is_header, record_as}
 
 header_is : (h k : Header) → IsTrue (is_header h k) → k ≡ h
 header_is header.One header.One is = refl

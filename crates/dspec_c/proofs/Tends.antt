@@ -3,16 +3,11 @@ use Rattle.std.proofs.Common.{◌≡◌, ◌<◌, ◌+◌, ℕ, List, [], ◌∷
 use Rattle.std.specs.Prelude.{IfSome, MatchOption, is_some, slice_get, slice_index_or, slice_set}
 use Rattle.std.proofs.lemmas.List.{length-map, length-set}
 use Rattle.std.proofs.lemmas.Option.{slice_get_read}
-use Rattle.dspec_record.specs.EnablingRows.{EnabledRows}
+use Rattle.dspec_c.specs.Words.{EnabledRows, identity, Theirs, ServicedSo, AtHome, CpuStay, IsPlaceWith, IsUnused, CpuSide, AreTended, IsTended, IsTendedWhole, ServedAtHome, ServedIfThere}
+use Rattle.dspec_c.specs.Words.{ServedThere, TendsOne, Going, IsWhole, firsts}
 use Rattle.dspec_deeds.specs.declared.calls.Served.{Served}
 use Rattle.dspec_cpu.specs.declared.cpu.Cpu.{Cpu}
 use Rattle.dspec_cpu.specs.declared.shared.Shared.{Shared}
-use Rattle.dspec_cpu.specs.Standing.{identity}
-use Rattle.dspec_c.specs.ConsumerHomes.{Theirs}
-use Rattle.dspec_c.specs.CpuCalls.{ServicedSo}
-use Rattle.dspec_c.specs.Homes.{AtHome, CpuStay, IsPlaceWith, IsUnused, CpuSide}
-use Rattle.dspec_c.specs.Tending.{AreTended, IsTended, IsTendedWhole, ServedAtHome, ServedIfThere, ServedThere, TendsOne}
-use Rattle.dspec_c.specs.Whole.{Going, IsWhole, firsts}
 use Rattle.dspec_c.proofs.Homes.{IsPlace, same_there}
 use Rattle.dspec_c.proofs.Looking.{first_at}
 use Rattle.dspec_c.proofs.Options.{if_true, or_this}

@@ -5,8 +5,8 @@ use Rattle.dspec_session_core.specs.declared.left.Left.{Left}
 use Rattle.dspec_c.specs.Shows.{TellsBatch, TellsReport}
 use Rattle.dspec_c.specs.Statuses.{bad_handle, no_batch, no_such_cpu}
 use Rattle.dspec_c.specs.declared.batches.CBatch.{CBatch}
-use Rattle.dspec_c.specs.declared.held.Held.{Held}
-use Rattle.dspec_c.specs.declared.held.Held.TheVariants as held
+use Rattle.dspec_c.specs.declared.held.HandleValue.{HandleValue}
+use Rattle.dspec_c.specs.declared.held.HandleValue.TheVariants as held
 use Rattle.dspec_c.specs.declared.reports.CReport.{CReport}
 
 -- what was left of a CPU: its last buffer, or the batch that it handed on and nobody took
@@ -28,10 +28,10 @@ TellsCountsOf (Some l) (Some refused) status before told = (status ≡ 0) × Tel
 TellsCountsOf l refused status before told = (status ≡ no_such_cpu) × (told ≡ before)
 
 -- Neither changes what is held. Where that isn't what is left of a session, the status is BAD_HANDLE, and nothing is told.
-abbrev pub RestAnswers : ℕ → Bool → Held → ℕ → CBatch → CBatch → Held → Type 0
+abbrev pub RestAnswers : ℕ → Bool → HandleValue → ℕ → CBatch → CBatch → HandleValue → Type 0
 RestAnswers c last (held.Closed e) status before told now = (now ≡ held.Closed e) × TellsLeftOf last (slice_get e.closed c) status before told
 RestAnswers c last was status before told now = (now ≡ was) × (status ≡ bad_handle) × (told ≡ before)
 
-abbrev pub ClosedReportAnswers : ℕ → Held → ℕ → CReport → CReport → Held → Type 0
+abbrev pub ClosedReportAnswers : ℕ → HandleValue → ℕ → CReport → CReport → HandleValue → Type 0
 ClosedReportAnswers c (held.Closed e) status before told now = (now ≡ held.Closed e) × TellsCountsOf (slice_get e.closed c) (slice_get e.refused.items c) status before told
 ClosedReportAnswers c was status before told now = (now ≡ was) × (status ≡ bad_handle) × (told ≡ before)

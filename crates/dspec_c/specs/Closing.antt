@@ -6,10 +6,10 @@ use Rattle.dspec_c.specs.Handles.{held_in, is_full}
 use Rattle.dspec_c.specs.SessionCalls.{FinishAnswers, is_consumer_in, is_cpu_in}
 use Rattle.dspec_c.specs.Statuses.{bad_handle}
 use Rattle.dspec_c.specs.declared.handle.Handle.{Handle}
-use Rattle.dspec_c.specs.declared.held.Held.{Held}
-use Rattle.dspec_c.specs.declared.held.Held.TheVariants as held
+use Rattle.dspec_c.specs.declared.held.HandleValue.{HandleValue}
+use Rattle.dspec_c.specs.declared.held.HandleValue.TheVariants as held
 
-abbrev pub is_session_in : Held → Bool
+abbrev pub is_session_in : HandleValue → Bool
 is_session_in (held.Session whole) = true
 is_session_in h = false
 
@@ -20,7 +20,7 @@ names hs = map (λ h. h.ghost_name) hs
 abbrev pub fulls : List (MutBor Handle) → List Bool
 fulls hs = map (λ h. is_full h.now) hs
 
-abbrev pub held_in_each : List (MutBor Handle) → List Held
+abbrev pub held_in_each : List (MutBor Handle) → List HandleValue
 held_in_each hs = map (λ h. held_in h.now) hs
 
 -- a CPU is in each of them

@@ -1,24 +1,19 @@
 -- Cited by calls. The calls on the consumer's handle: each did what the library's call says of its answer.
 use Rattle.std.specs.Prelude.{ℕ, ◌≡◌, ◌<◌, ◌≤◌, Bool, Option, Some, None, MatchBool, MatchOption, slice_get, slice_set, ⊤}
 use Rattle.dspec_ring.specs.declared.batch.Batch.{Batch}
-use Rattle.dspec_session_core.specs.Asking.{Asked}
-use Rattle.dspec_session_core.specs.Awaiting.{Awaited}
-use Rattle.dspec_session_core.specs.Batches.{FoundNone, GaveBack, IsNotTakenBack, Took}
-use Rattle.dspec_session_core.specs.Cleaning.{Cleaned}
-use Rattle.dspec_session_core.specs.Consumers.{Consuming, set_up_of, view_of}
-use Rattle.dspec_session_core.specs.Stopping.{Stopped}
+use Rattle.dspec_c.specs.Words.Outside.{Asked, Awaited, FoundNone, GaveBack, IsNotTakenBack, Took, Cleaned, Consuming, set_up_of, view_of, Stopped}
 use Rattle.dspec_c.specs.Answered.{Answered}
 use Rattle.dspec_c.specs.ConsumerHomes.{Theirs}
 use Rattle.dspec_c.specs.Shows.{TellsBatch}
 use Rattle.dspec_c.specs.Statuses.{asked_status, bad_handle, found_status, no_such_cpu, returned_status}
 use Rattle.dspec_c.specs.declared.batches.CBatch.{CBatch}
 use Rattle.dspec_c.specs.declared.consumer_side.ConsumerSide.{ConsumerSide}
-use Rattle.dspec_c.specs.declared.consumer_side.Found.{Found}
-use Rattle.dspec_c.specs.declared.consumer_side.Found.TheVariants as found
-use Rattle.dspec_c.specs.declared.consumer_side.Returned.{Returned}
-use Rattle.dspec_c.specs.declared.consumer_side.Returned.TheVariants as returned
-use Rattle.dspec_c.specs.declared.held.Held.{Held}
-use Rattle.dspec_c.specs.declared.held.Held.TheVariants as held
+use Rattle.dspec_c.specs.declared.consumer_side.TakeOutcome.{TakeOutcome}
+use Rattle.dspec_c.specs.declared.consumer_side.TakeOutcome.TheVariants as found
+use Rattle.dspec_c.specs.declared.consumer_side.GiveBackOutcome.{GiveBackOutcome}
+use Rattle.dspec_c.specs.declared.consumer_side.GiveBackOutcome.TheVariants as returned
+use Rattle.dspec_c.specs.declared.held.HandleValue.{HandleValue}
+use Rattle.dspec_c.specs.declared.held.HandleValue.TheVariants as held
 
 -- `Consumer::ask`
 abbrev pub Asks : ℕ → Bool → Consuming → Consuming → Type 0
@@ -53,7 +48,7 @@ abbrev pub NoneIsOutOf : ℕ → ConsumerSide → Type 0
 NoneIsOutOf c side = slice_get side.taken.items c ≡ Some None
 
 -- what a take found, and what it told of a batch: one at a time of a CPU is out
-abbrev pub Finds : ℕ → Found → CBatch → CBatch → ConsumerSide → ConsumerSide → Type 0
+abbrev pub Finds : ℕ → TakeOutcome → CBatch → CBatch → ConsumerSide → ConsumerSide → Type 0
 Finds c found.NoCpu before told old new = ((set_up_of old.out.consumer).cpus ≤ c) × (told ≡ before) × (new ≡ old)
 Finds c found.IsOut before told old new = ((b : Batch) × IsOutOf c b old) × (told ≡ before) × (new ≡ old)
 Finds c found.NoBatch before told old new = NoneIsOutOf c old × (told ≡ before) × OnOut (FoundNone c) old new
@@ -61,7 +56,7 @@ Finds c found.Taken before told old new =
     (b : Batch) × NoneIsOutOf c old × TellsBatch told b × OnTheirs (Took c b) old.out new.out × (new.taken.items ≡ slice_set old.taken.items c (Some b))
 
 -- what became of a batch that was to go back
-abbrev pub Returns : ℕ → Returned → ConsumerSide → ConsumerSide → Type 0
+abbrev pub Returns : ℕ → GiveBackOutcome → ConsumerSide → ConsumerSide → Type 0
 Returns c returned.NoCpu old new = ((set_up_of old.out.consumer).cpus ≤ c) × (new ≡ old)
 Returns c returned.NoneOut old new = NoneIsOutOf c old × (new.out ≡ old.out) × (new.taken.items ≡ old.taken.items)
 Returns c returned.NoRoom old new = (b : Batch) × IsOutOf c b old × OnOut (IsNotTakenBack b) old new
@@ -69,20 +64,20 @@ Returns c returned.Back old new = (b : Batch) × IsOutOf c b old × OnTheirs (Ga
 
 -- A call of the consumer, on what a handle holds: where that is the consumer, it stays so, and this was done on it; else the status
 -- is BAD_HANDLE, what is held stays as it was, and so do the out parameters.
-abbrev pub OnConsumer : (ConsumerSide → ConsumerSide → Type 0) → Type 0 → Held → ℕ → Held → Type 0
+abbrev pub OnConsumer : (ConsumerSide → ConsumerSide → Type 0) → Type 0 → HandleValue → ℕ → HandleValue → Type 0
 OnConsumer did stays (held.Consumer old) status now = (new : ConsumerSide) × (now ≡ held.Consumer new) × did old new
 OnConsumer did stays was status now = (status ≡ bad_handle) × (now ≡ was) × stays
 
-abbrev pub AskAnswers : ℕ → Held → ℕ → Held → Type 0
+abbrev pub AskAnswers : ℕ → HandleValue → ℕ → HandleValue → Type 0
 AskAnswers c was status now = OnConsumer (λ old new. Answered asked_status (λ a. OnOut (Asks c a) old new) status) ⊤ was status now
 
-abbrev pub TakeAnswers : ℕ → Held → ℕ → CBatch → CBatch → Held → Type 0
+abbrev pub TakeAnswers : ℕ → HandleValue → ℕ → CBatch → CBatch → HandleValue → Type 0
 TakeAnswers c was status before told now = OnConsumer (λ old new. Answered found_status (λ a. Finds c a before told old new) status) (told ≡ before) was status now
 
-abbrev pub GiveBackAnswers : ℕ → Held → ℕ → Held → Type 0
+abbrev pub GiveBackAnswers : ℕ → HandleValue → ℕ → HandleValue → Type 0
 GiveBackAnswers c was status now = OnConsumer (λ old new. Answered returned_status (λ a. Returns c a old new) status) ⊤ was status now
 
-abbrev pub CleanAnswers : Held → ℕ → ℕ → ℕ → Held → Type 0
+abbrev pub CleanAnswers : HandleValue → ℕ → ℕ → ℕ → HandleValue → Type 0
 CleanAnswers was status before released now = OnConsumer (λ old new. (status ≡ 0) × OnOut (CleansSo released) old new) (released ≡ before) was status now
 
 -- what is told of how many slots wait for a CPU: nothing where there is no such CPU
@@ -90,9 +85,9 @@ abbrev pub ToldSo : Option ℕ → ℕ → ℕ → ℕ → Type 0
 ToldSo (Some n) status before count = (status ≡ 0) × (count ≡ n)
 ToldSo None status before count = (status ≡ no_such_cpu) × (count ≡ before)
 
-abbrev pub WaitingAnswers : ℕ → Held → ℕ → ℕ → ℕ → Held → Type 0
+abbrev pub WaitingAnswers : ℕ → HandleValue → ℕ → ℕ → ℕ → HandleValue → Type 0
 WaitingAnswers c was status before count now =
     OnConsumer (λ old new. (answer : Option ℕ) × ToldSo answer status before count × OnOut (WaitsSo c answer) old new) (count ≡ before) was status now
 
-abbrev pub StopAnswers : Held → ℕ → Held → Type 0
+abbrev pub StopAnswers : HandleValue → ℕ → HandleValue → Type 0
 StopAnswers was status now = OnConsumer (λ old new. (status ≡ 0) × OnOut Stopped old new) ⊤ was status now

@@ -1,8 +1,7 @@
 -- Cited by calls. How the consumer comes home, as a CPU does.
 use Rattle.std.specs.Prelude.{◌≡◌, true, List, [], ◌∷◌, Option, Some, IfSome, IfNone, ⊤}
 use Rattle.dspec_cpu.specs.declared.shared.Shared.{Shared}
-use Rattle.dspec_cpu.specs.Lists.{words_of}
-use Rattle.dspec_session_core.specs.Consumers.{Consuming, IsConsumerOf, IsSameConsumer}
+use Rattle.dspec_c.specs.Words.Outside.{words_of, Consuming, IsConsumerOf, IsSameConsumer}
 use Rattle.dspec_c.specs.Homes.{Stay, handed_out}
 
 -- a consumer, and what it shares

@@ -1,13 +1,10 @@
 -- Cited by calls. The calls on a CPU's handle: each did what the library's call says of its answer.
 use Rattle.std.specs.Prelude.{ℕ, ◌≡◌, ◌<◌, ◌+◌, ◌-◌, ◌%◌, ◌^◌, min, Bool, true, false, List, length, Option, None, is_none, is_some, IfNone, IfSome, ⊤, if◌then◌else◌}
 use Rattle.std.specs.Option.{option_map}
-use Rattle.dspec_word.specs.SpecId.{Speculation, id_number}
-use Rattle.dspec_record.specs.Record.{Record}
+use Rattle.dspec_c.specs.Words.Outside.{Speculation, id_number, Record, EnabledRows, claimed, packed_record, stamp_fits, enabled, table_accepts, table_shape, dropped_in, report, By, commit, discard}
+use Rattle.dspec_c.specs.Words.Outside.{drops_told, config_of, number_in, schema_of, worn_of, CommitsIfRoom, OpensOne, DecidesOne, ServesOnce, RecordsValues, OffersValues, SpeculatesOne, TracesOne}
+use Rattle.dspec_c.specs.Words.Outside.{IsOpenAt, identity, Has}
 use Rattle.dspec_record.specs.declared.field.Shape.{Shape}
-use Rattle.dspec_record.specs.EnablingRows.{EnabledRows}
-use Rattle.dspec_record.specs.Packing.{claimed, packed_record}
-use Rattle.dspec_record.specs.RecordText.{stamp_fits}
-use Rattle.dspec_record.specs.Schemas.{enabled, table_accepts, table_shape}
 use Rattle.dspec_deeds.specs.declared.calls.Decided.{Decided}
 use Rattle.dspec_deeds.specs.declared.calls.Opening.{Opening}
 use Rattle.dspec_deeds.specs.declared.calls.Served.{Served}
@@ -15,22 +12,13 @@ use Rattle.dspec_deeds.specs.declared.calls.Spoken.{Spoken}
 use Rattle.dspec_deeds.specs.declared.calls.Traced.{Traced}
 use Rattle.dspec_deeds.specs.declared.deed.Deed.{Deed}
 use Rattle.dspec_deeds.specs.declared.report.Report.{Report}
-use Rattle.dspec_deeds.specs.Own.{dropped_in}
-use Rattle.dspec_deeds.specs.Reports.{report}
-use Rattle.dspec_promise.specs.Promise.{By, commit, discard}
 use Rattle.dspec_cpu.specs.declared.cpu.Cpu.{Cpu}
-use Rattle.dspec_cpu.specs.Dropped.{drops_told}
-use Rattle.dspec_cpu.specs.Lists.{config_of, number_in, schema_of, worn_of}
-use Rattle.dspec_cpu.specs.OneCall.{CommitsIfRoom, OpensOne, DecidesOne, ServesOnce, RecordsValues, OffersValues, SpeculatesOne, TracesOne}
-use Rattle.dspec_cpu.specs.OpenAt.{IsOpenAt}
-use Rattle.dspec_cpu.specs.Standing.{identity}
-use Rattle.dspec_session_core.specs.Sessions.{Has}
 use Rattle.dspec_c.specs.Answered.{Answered, AnsweredWith}
 use Rattle.dspec_c.specs.Homes.{CpuSide}
 use Rattle.dspec_c.specs.Shows.{TellsReport}
 use Rattle.dspec_c.specs.Statuses.{bad_handle, committed_number, committed_status, decided_number, decided_status, id_or_zero, opened_number, opening_status, spoken_status, traced_status}
-use Rattle.dspec_c.specs.declared.held.Held.{Held}
-use Rattle.dspec_c.specs.declared.held.Held.TheVariants as held
+use Rattle.dspec_c.specs.declared.held.HandleValue.{HandleValue}
+use Rattle.dspec_c.specs.declared.held.HandleValue.TheVariants as held
 use Rattle.dspec_c.specs.declared.reports.CReport.{CReport}
 
 -- which records a CPU's schema accepts
@@ -38,12 +26,12 @@ abbrev pub accepts_at : EnabledRows → Record → Bool
 accepts_at e = table_accepts e.header (enabled e.rows)
 
 -- `Cpu::record`
-pub record Recorded (epid stamp : ℕ) (values : List ℕ) (a : Option Traced) (old new : Cpu EnabledRows) : Type 0 where
+pub record CpuRecorded (epid stamp : ℕ) (values : List ℕ) (a : Option Traced) (old new : Cpu EnabledRows) : Type 0 where
   pub same : identity new ≡ identity old
   pub does : RecordsValues Has accepts_at epid stamp values a old new
 
 -- `Cpu::offer`
-pub record Offered (id : Speculation) (epid stamp : ℕ) (values : List ℕ) (a : Option Spoken) (old new : Cpu EnabledRows) : Type 0 where
+pub record CpuOffered (id : Speculation) (epid stamp : ℕ) (values : List ℕ) (a : Option Spoken) (old new : Cpu EnabledRows) : Type 0 where
   pub same : identity new ≡ identity old
   pub does : OffersValues Has accepts_at id epid stamp values a old new
 
@@ -67,7 +55,7 @@ pub record PutIn (id : Speculation) (claim stamp : ℕ) (ws : List ℕ) (a : Opt
   pub one : IfSome a (λ s. IfSome (put_record (schema_of old) claim stamp ws) (λ r. SpeculatesOne Has id r s old new))
 
 -- `Cpu::speculation`
-pub record Opened (a : Opening) (old new : Cpu EnabledRows) : Type 0 where
+pub record CpuOpened (a : Opening) (old new : Cpu EnabledRows) : Type 0 where
   pub same : identity new ≡ identity old
   pub does : OpensOne Has a old new
 
@@ -115,62 +103,62 @@ pub record OnSide (refuses : Bool) (did : Cpu EnabledRows → Cpu EnabledRows �
 
 -- A call of a CPU, on what a handle holds: where that is a CPU, it stays one, and this was done on it; else the status is
 -- BAD_HANDLE, what is held stays as it was, and so do the out parameters.
-abbrev pub OnCpu : (CpuSide → CpuSide → Type 0) → Type 0 → Held → ℕ → Held → Type 0
+abbrev pub OnCpu : (CpuSide → CpuSide → Type 0) → Type 0 → HandleValue → ℕ → HandleValue → Type 0
 OnCpu did stays (held.Cpu old) status now = (new : CpuSide) × (now ≡ held.Cpu new) × did old new
 OnCpu did stays was status now = (status ≡ bad_handle) × (now ≡ was) × stays
 
 -- the identifier of the number
-pub record Names (number : ℕ) (id : Speculation) : Type 0 where
+pub record IsNumberOf (number : ℕ) (id : Speculation) : Type 0 where
   pub numbered : id_number id ≡ number
   pub slot : id.slot < 64
 
-abbrev pub TraceAnswers : ℕ → ℕ → List ℕ → Held → ℕ → Held → Type 0
+abbrev pub TraceAnswers : ℕ → ℕ → List ℕ → HandleValue → ℕ → HandleValue → Type 0
 TraceAnswers epid stamp values was status now =
-    OnCpu (λ old new. Answered traced_status (λ a. OnSide (is_none a) (Recorded epid stamp values a) old new) status) ⊤ was status now
+    OnCpu (λ old new. Answered traced_status (λ a. OnSide (is_none a) (CpuRecorded epid stamp values a) old new) status) ⊤ was status now
 
-abbrev pub PutAnswers : ℕ → ℕ → List ℕ → Held → ℕ → Held → Type 0
+abbrev pub PutAnswers : ℕ → ℕ → List ℕ → HandleValue → ℕ → HandleValue → Type 0
 PutAnswers claim stamp ws was status now =
     OnCpu (λ old new. Answered traced_status (λ a. OnSide (is_none a) (Put claim stamp ws a) old new) status) ⊤ was status now
 
-abbrev pub SpeculationAnswers : Held → ℕ → ℕ → ℕ → Held → Type 0
+abbrev pub SpeculationAnswers : HandleValue → ℕ → ℕ → ℕ → HandleValue → Type 0
 SpeculationAnswers was status before id now =
-    OnCpu (λ old new. AnsweredWith opening_status opened_number (λ a. OnSide false (Opened a) old new) status before id) (id ≡ before) was status now
+    OnCpu (λ old new. AnsweredWith opening_status opened_number (λ a. OnSide false (CpuOpened a) old new) status before id) (id ≡ before) was status now
 
-abbrev pub SpeculateAnswers : ℕ → ℕ → ℕ → List ℕ → Held → ℕ → Held → Type 0
+abbrev pub SpeculateAnswers : ℕ → ℕ → ℕ → List ℕ → HandleValue → ℕ → HandleValue → Type 0
 SpeculateAnswers number epid stamp values was status now =
-    OnCpu (λ old new. (id : Speculation) × Names number id × Answered spoken_status (λ a. OnSide (is_none a) (Offered id epid stamp values a) old new) status) ⊤ was status now
+    OnCpu (λ old new. (id : Speculation) × IsNumberOf number id × Answered spoken_status (λ a. OnSide (is_none a) (CpuOffered id epid stamp values a) old new) status) ⊤ was status now
 
-abbrev pub PutInAnswers : ℕ → ℕ → ℕ → List ℕ → Held → ℕ → Held → Type 0
+abbrev pub PutInAnswers : ℕ → ℕ → ℕ → List ℕ → HandleValue → ℕ → HandleValue → Type 0
 PutInAnswers number claim stamp ws was status now =
-    OnCpu (λ old new. (id : Speculation) × Names number id × Answered spoken_status (λ a. OnSide (is_none a) (PutIn id claim stamp ws a) old new) status) ⊤ was status now
+    OnCpu (λ old new. (id : Speculation) × IsNumberOf number id × Answered spoken_status (λ a. OnSide (is_none a) (PutIn id claim stamp ws a) old new) status) ⊤ was status now
 
-abbrev pub DecideAnswers : By → ℕ → Held → ℕ → ℕ → ℕ → Held → Type 0
+abbrev pub DecideAnswers : By → ℕ → HandleValue → ℕ → ℕ → ℕ → HandleValue → Type 0
 DecideAnswers b number was status before count now =
-    OnCpu (λ old new. (id : Speculation) × Names number id × AnsweredWith decided_status decided_number (λ a. OnSide false (DecidedAs b id a) old new) status before count)
+    OnCpu (λ old new. (id : Speculation) × IsNumberOf number id × AnsweredWith decided_status decided_number (λ a. OnSide false (DecidedAs b id a) old new) status before count)
     (count ≡ before) was status now
 
-abbrev pub CommitAnswers : ℕ → Held → ℕ → ℕ → ℕ → Held → Type 0
+abbrev pub CommitAnswers : ℕ → HandleValue → ℕ → ℕ → ℕ → HandleValue → Type 0
 CommitAnswers = DecideAnswers commit
 
-abbrev pub DiscardAnswers : ℕ → Held → ℕ → ℕ → ℕ → Held → Type 0
+abbrev pub DiscardAnswers : ℕ → HandleValue → ℕ → ℕ → ℕ → HandleValue → Type 0
 DiscardAnswers = DecideAnswers discard
 
-abbrev pub CommitIfRoomAnswers : ℕ → Held → ℕ → ℕ → ℕ → Held → Type 0
+abbrev pub CommitIfRoomAnswers : ℕ → HandleValue → ℕ → ℕ → ℕ → HandleValue → Type 0
 CommitIfRoomAnswers number was status before count now =
-    OnCpu (λ old new. (id : Speculation) × Names number id × AnsweredWith committed_status committed_number (λ a. OnSide false (CommittedIfRoom id a) old new) status before count)
+    OnCpu (λ old new. (id : Speculation) × IsNumberOf number id × AnsweredWith committed_status committed_number (λ a. OnSide false (CommittedIfRoom id a) old new) status before count)
     (count ≡ before) was status now
 
-abbrev pub ServiceAnswers : Held → ℕ → Served → Served → Held → Type 0
+abbrev pub ServiceAnswers : HandleValue → ℕ → Served → Served → HandleValue → Type 0
 ServiceAnswers was status before told now = OnCpu (λ old new. (status ≡ 0) × OnSide false (ServicedSo told) old new) (told ≡ before) was status now
 
-abbrev pub ReportAnswers : Held → ℕ → CReport → CReport → Held → Type 0
+abbrev pub ReportAnswers : HandleValue → ℕ → CReport → CReport → HandleValue → Type 0
 ReportAnswers was status before told now =
     OnCpu (λ old new. (status ≡ 0) × (new ≡ old) × ((r : Report) × Reports old.cpu r × TellsReport told r old.refused)) (told ≡ before) was status now
 
-abbrev pub DroppedInAnswers : ℕ → Held → ℕ → ℕ → ℕ → Held → Type 0
+abbrev pub DroppedInAnswers : ℕ → HandleValue → ℕ → ℕ → ℕ → HandleValue → Type 0
 DroppedInAnswers number was status before count now =
-    OnCpu (λ old new. (status ≡ 0) × (new ≡ old) × ((id : Speculation) × Names number id × Drops id old.cpu count)) (count ≡ before) was status now
+    OnCpu (λ old new. (status ≡ 0) × (new ≡ old) × ((id : Speculation) × IsNumberOf number id × Drops id old.cpu count)) (count ≡ before) was status now
 
-abbrev pub OpenAtAnswers : ℕ → Held → ℕ → ℕ → ℕ → Held → Type 0
+abbrev pub OpenAtAnswers : ℕ → HandleValue → ℕ → ℕ → ℕ → HandleValue → Type 0
 OpenAtAnswers slot was status before id now =
     OnCpu (λ old new. (status ≡ 0) × (new ≡ old) × ((a : Option Speculation) × OpensAt slot old.cpu a × (id ≡ id_or_zero a))) (id ≡ before) was status now

@@ -1,11 +1,9 @@
 -- Cited by calls. The calls on a CPU's files in a trace, and the metadata of one.
 use Rattle.std.specs.Prelude.{ℕ, ◌≡◌, ◌≢◌, ◌⊎◌, true, List, Some, None, length}
-use Rattle.dspec_record.specs.EnablingRows.{EnabledRows}
+use Rattle.dspec_c.specs.Words.Outside.{EnabledRows, CpuFiling, no_packets, unwritten, Hands, HandsNone, HasAsMuchRoom, HasNoBatch, OpensBatch, Reserves, with_more_missed, without_rest}
+use Rattle.dspec_c.specs.Words.Outside.{PutsMetadata, PutsNone}
 use Rattle.dspec_record.specs.declared.header.Header.TheVariants.{One, Two}
 use Rattle.dspec_ctf.specs.declared.stream.PacketFault.{PacketFault}
-use Rattle.dspec_ctf.specs.InMemory.Filing.{CpuFiling, no_packets, unwritten}
-use Rattle.dspec_ctf.specs.InMemory.Calls.{Hands, HandsNone, HasAsMuchRoom, HasNoBatch, OpensBatch, Reserves, with_more_missed, without_rest}
-use Rattle.dspec_ctf.specs.InMemory.Naming.{PutsMetadata, PutsNone}
 use Rattle.dspec_ctf.specs.declared.in_memory.fault.PutFault.{PutFault}
 use Rattle.dspec_ctf.specs.declared.in_memory.fault.TextFault.{TextFault}
 use Rattle.dspec_ctf.specs.declared.in_memory.identity.Identity.{Identity}
@@ -14,8 +12,8 @@ use Rattle.dspec_c.specs.CtfStatuses.{needed_of, no_packet, no_stamp, packet_sta
 use Rattle.dspec_c.specs.Handles.{held_in, is_full}
 use Rattle.dspec_c.specs.Statuses.{bad_handle, no_memory, no_such_cpu}
 use Rattle.dspec_c.specs.declared.handle.Handle.{Handle}
-use Rattle.dspec_c.specs.declared.held.Held.{Held}
-use Rattle.dspec_c.specs.declared.held.Held.TheVariants as held
+use Rattle.dspec_c.specs.declared.held.HandleValue.{HandleValue}
+use Rattle.dspec_c.specs.declared.held.HandleValue.TheVariants as held
 
 -- a room of the caller's, and how many bytes it is told
 pub record TextRoom : Type 0 where
@@ -49,7 +47,7 @@ abbrev pub TellsMetadata : Identity → EnabledRows → List (List ℕ) → List
 TellsMetadata identity e names kinds status before now = HasMetadata identity e names kinds status before now ⊎ LacksMetadata identity e names kinds status before now
 
 -- a schema is looked at, and stays as it was
-abbrev pub CtfMetadataAnswers : Identity → List (List ℕ) → List ℕ → Held → ℕ → TextRoom → TextRoom → Held → Type 0
+abbrev pub CtfMetadataAnswers : Identity → List (List ℕ) → List ℕ → HandleValue → ℕ → TextRoom → TextRoom → HandleValue → Type 0
 CtfMetadataAnswers identity names kinds (held.Schema e) status before now left = (left ≡ held.Schema e) × TellsMetadata identity e names kinds status before now
 CtfMetadataAnswers identity names kinds was status before now left = (left ≡ was) × ((status ≡ bad_handle) × (now ≡ before))
 
@@ -68,7 +66,7 @@ FilesSo uuid e cpu status was now =
     ⊎ (((status ≡ no_stamp) × ((e.header ≡ One) × (now ≡ was))) ⊎ ((status ≡ no_memory) × ((e.header ≡ Two) × (now ≡ was))))
 
 -- a schema is looked at, and stays as it was
-abbrev pub CtfNewAnswers : List ℕ → ℕ → Held → ℕ → Held → Handle → Handle → Type 0
+abbrev pub CtfNewAnswers : List ℕ → ℕ → HandleValue → ℕ → HandleValue → Handle → Handle → Type 0
 CtfNewAnswers uuid cpu (held.Schema e) status left was now = (left ≡ held.Schema e) × FilesSo uuid e cpu status was now
 CtfNewAnswers uuid cpu schema status left was now = (left ≡ schema) × ((status ≡ bad_handle) × (now ≡ was))
 
@@ -76,7 +74,7 @@ CtfNewAnswers uuid cpu schema status left was now = (left ≡ schema) × ((statu
 abbrev pub ReservesSo : ℕ → CpuFiling → ℕ → CpuFiling → Type 0
 ReservesSo size old status new = ((status ≡ 0) × Reserves old size new) ⊎ ((status ≡ no_memory) × HasAsMuchRoom old new)
 
-abbrev pub CtfReserveAnswers : ℕ → Held → ℕ → Held → Type 0
+abbrev pub CtfReserveAnswers : ℕ → HandleValue → ℕ → HandleValue → Type 0
 CtfReserveAnswers size (held.Files old) status now = (new : CpuFiling) × ((now ≡ held.Files new) × ReservesSo size old status new)
 CtfReserveAnswers size was status now = (status ≡ bad_handle) × (now ≡ was)
 
@@ -92,7 +90,7 @@ OpensSo cpu drops bytes old status new =
     ((old.cpu ≢ cpu) × ((status ≡ no_such_cpu) × (new ≡ old)))
     ⊎ ((old.cpu ≡ cpu) × (((status ≡ 0) × OpensBatch old drops bytes new) ⊎ OpensNone drops bytes old status new))
 
-abbrev pub CtfOpenAnswers : ℕ → ℕ → List ℕ → Held → ℕ → Held → Type 0
+abbrev pub CtfOpenAnswers : ℕ → ℕ → List ℕ → HandleValue → ℕ → HandleValue → Type 0
 CtfOpenAnswers cpu drops bytes (held.Files old) status now = (new : CpuFiling) × ((now ≡ held.Files new) × OpensSo cpu drops bytes old status new)
 CtfOpenAnswers cpu drops bytes was status now = (status ≡ bad_handle) × (now ≡ was)
 
@@ -112,14 +110,14 @@ pub record PutsNot (old : CpuFiling) (status : ℕ) (before now : PacketRoom) (n
 abbrev pub PutsSo : CpuFiling → ℕ → PacketRoom → PacketRoom → CpuFiling → Type 0
 PutsSo old status before now new = PutsOne old status before now new ⊎ (PutsNoMore old status before now new ⊎ PutsNot old status before now new)
 
-abbrev pub CtfPutAnswers : Held → ℕ → PacketRoom → PacketRoom → Held → Type 0
+abbrev pub CtfPutAnswers : HandleValue → ℕ → PacketRoom → PacketRoom → HandleValue → Type 0
 CtfPutAnswers (held.Files old) status before now left = (new : CpuFiling) × ((left ≡ held.Files new) × PutsSo old status before now new)
 CtfPutAnswers was status before now left = (status ≡ bad_handle) × ((left ≡ was) × (now ≡ before))
 
-abbrev pub CtfLoseAnswers : Held → ℕ → ℕ → ℕ → Held → Type 0
+abbrev pub CtfLoseAnswers : HandleValue → ℕ → ℕ → ℕ → HandleValue → Type 0
 CtfLoseAnswers (held.Files old) status before told now = (status ≡ 0) × ((told ≡ unwritten old) × (now ≡ held.Files (without_rest old)))
 CtfLoseAnswers was status before told now = (status ≡ bad_handle) × ((told ≡ before) × (now ≡ was))
 
-abbrev pub CtfMissAnswers : ℕ → Held → ℕ → Held → Type 0
+abbrev pub CtfMissAnswers : ℕ → HandleValue → ℕ → HandleValue → Type 0
 CtfMissAnswers count (held.Files old) status now = (status ≡ 0) × (now ≡ held.Files (with_more_missed old count))
 CtfMissAnswers count was status now = (status ≡ bad_handle) × (now ≡ was)

@@ -1,54 +1,53 @@
 -- Cited by calls. What lending keeps: a handle is lent for a call, and has what the call left.
 use Rattle.std.specs.Prelude.{Option, ⊤}
 use Rattle.std.specs.Borrow.{Lends, LendsIf, MutBor, Fml}
-use Rattle.dspec_record.specs.EnablingRows.{EnabledRows}
+use Rattle.dspec_c.specs.Words.Outside.{EnabledRows, CpuFiling}
 use Rattle.dspec_record.specs.contracts.enabling.Enablings.{the_row as schema_row}
-use Rattle.dspec_ctf.specs.InMemory.Filing.{CpuFiling}
 use Rattle.dspec_ctf.specs.contracts.in_memory.cpu_packets.CpuPackets.{the_row as files_row}
 use Rattle.dspec_c.specs.declared.handle.Handle.{Handle}
-use Rattle.dspec_c.specs.declared.held.Held.{Held}
-use Rattle.dspec_c.specs.declared.held.Held.TheVariants as held
-use Rattle.dspec_c.specs.declared.handle.Contents.{Contents}
+use Rattle.dspec_c.specs.declared.held.HandleValue.{HandleValue}
+use Rattle.dspec_c.specs.declared.held.HandleValue.TheVariants as held
+use Rattle.dspec_c.specs.declared.handle.HandleContents.{HandleContents}
 use Rattle.dspec_c.specs.declared.seal.Seal.{Seal}
 use Rattle.dspec_c.specs.contracts.handle.Handle.{the_row as handle_row}
-use Rattle.dspec_c.specs.contracts.held.Held.{the_row as held_row}
-use Rattle.dspec_c.specs.contracts.handle.Contents.{the_row as kept_row}
+use Rattle.dspec_c.specs.contracts.held.HandleValue.{the_row as held_row}
+use Rattle.dspec_c.specs.contracts.handle.HandleContents.{the_row as kept_row}
 use Rattle.dspec_c.specs.contracts.seal.Seal.{the_row as seal_row}
 
 -- the seal with this in its box
-abbrev pub with_inside : Seal → Contents → Seal
+abbrev pub with_inside : Seal → HandleContents → Seal
 with_inside s x = record s { inside = x }
 
 -- what is in a box, once it is this
-abbrev pub with_contents : Contents → Held → Contents
+abbrev pub with_contents : HandleContents → HandleValue → HandleContents
 with_contents k x = record k { held = x }
 
 -- the handle with this in it: it stays full
-abbrev pub with_held : Handle → Held → Handle
+abbrev pub with_held : Handle → HandleValue → Handle
 with_held h x = record h { seal = with_inside h.seal (with_contents h.seal.inside x) }
 
 -- once the loan r ends, the seal has what was left behind it, and so have the box and the handle
-abbrev pub LendsInside : MutBor Seal → MutBor Contents → Fml
+abbrev pub LendsInside : MutBor Seal → MutBor HandleContents → Fml
 LendsInside s r = Lends seal_row kept_row s r (with_inside s.now)
 
-abbrev pub LendsContents : MutBor Contents → MutBor Held → Fml
+abbrev pub LendsContents : MutBor HandleContents → MutBor HandleValue → Fml
 LendsContents k r = Lends kept_row held_row k r (with_contents k.now)
 
-abbrev pub LendsHeld : MutBor Handle → MutBor Held → Fml
+abbrev pub LendsHeld : MutBor Handle → MutBor HandleValue → Fml
 LendsHeld h r = Lends handle_row held_row h r (with_held h.now)
 
 -- a schema that is held is lent, or the files of a CPU; what is held otherwise stays
-abbrev pub LendsSchema : MutBor Held → Option (MutBor EnabledRows) → Fml
+abbrev pub LendsSchema : MutBor HandleValue → Option (MutBor EnabledRows) → Fml
 LendsSchema h r = LendsIf held_row schema_row h r (λ e. held.Schema e) h.now
 
-abbrev pub LendsFiles : MutBor Held → Option (MutBor CpuFiling) → Fml
+abbrev pub LendsFiles : MutBor HandleValue → Option (MutBor CpuFiling) → Fml
 LendsFiles h r = LendsIf held_row files_row h r (λ files. held.Files files) h.now
 
 -- something else is held
-abbrev pub IsNoSchema : Held → Type 0
+abbrev pub IsNoSchema : HandleValue → Type 0
 IsNoSchema (held.Schema e) = ⊥
 IsNoSchema h = ⊤
 
-abbrev pub AreNoFiles : Held → Type 0
+abbrev pub AreNoFiles : HandleValue → Type 0
 AreNoFiles (held.Files files) = ⊥
 AreNoFiles h = ⊤

@@ -18,3 +18,4 @@ pub mod Statuses
 pub mod Tending
 pub mod Whole
 pub mod Widths
+pub mod Words

@@ -1,31 +1,30 @@
 -- Cited by calls. The calls on schemas and sessions, and those that bring a CPU or the consumer home.
 use Rattle.std.specs.Prelude.{ℕ, ◌≡◌, Bool, true, false, nat_lt, [], length, replicate, Option, Some, None, ◌⊎◌, MatchResult, Result, if◌then◌else◌}
-use Rattle.dspec_record.specs.EnablingRows.{EnabledRows}
+use Rattle.dspec_c.specs.Words.Outside.{EnabledRows, start_fault}
 use Rattle.dspec_record.specs.declared.header.Header.TheVariants.{One, Two}
 use Rattle.dspec_deeds.specs.declared.config.Config.{Config}
 use Rattle.dspec_deeds.specs.declared.config.StartFault.{StartFault}
-use Rattle.dspec_deeds.specs.Ranges.{start_fault}
 use Rattle.dspec_c.specs.Homes.{CpuSide}
 use Rattle.dspec_c.specs.Whole.{EndedBy, Going, GoesOut, IsAway, IsHome, IsJustStarted, LookedLater, LooksIfThere, TheyGoOut, inside_at}
 use Rattle.dspec_c.specs.declared.consumer_side.ConsumerSide.{ConsumerSide}
-use Rattle.dspec_c.specs.declared.ended.Ended.{Ended}
+use Rattle.dspec_c.specs.declared.ended.EndedSession.{EndedSession}
 use Rattle.dspec_c.specs.Handles.{held_in, is_full}
 use Rattle.dspec_c.specs.Statuses.{already_out, bad_handle, bad_policy, busy, no_memory, no_such_cpu, not_home, start_status}
 use Rattle.dspec_c.specs.declared.handle.Handle.{Handle}
-use Rattle.dspec_c.specs.declared.held.Held.{Held}
-use Rattle.dspec_c.specs.declared.held.Held.TheVariants as held
+use Rattle.dspec_c.specs.declared.held.HandleValue.{HandleValue}
+use Rattle.dspec_c.specs.declared.held.HandleValue.TheVariants as held
 
 -- no enablings, and no stamp
 abbrev pub new_schema : EnabledRows
 new_schema = record { header = One; rows = [] }
 
 -- a schema that is held is looked at
-abbrev pub LooksAtSchema : Held → Option EnabledRows → Held → Type 0
+abbrev pub LooksAtSchema : HandleValue → Option EnabledRows → HandleValue → Type 0
 LooksAtSchema (held.Schema e) found now = (found ≡ Some e) × (now ≡ held.Schema e)
 LooksAtSchema was found now = (found ≡ None) × (now ≡ was)
 
 -- a schema's records have a stamp from then on; nothing else changes
-abbrev pub StampAnswers : Held → ℕ → Held → Type 0
+abbrev pub StampAnswers : HandleValue → ℕ → HandleValue → Type 0
 StampAnswers (held.Schema e) status now = (status ≡ 0) × (now ≡ held.Schema (record { header = Two; rows = e.rows }))
 StampAnswers was status now = (status ≡ bad_handle) × (now ≡ was)
 
@@ -49,15 +48,15 @@ StartsSo (Some k) schema status was now =
     ⊎ ((fault : StartFault) × (start_fault k ≡ Some fault) × (status ≡ start_status fault) × (now ≡ was))
 
 -- a schema is looked at, and stays as it was
-abbrev pub StartAnswers : Option Config → Held → ℕ → Held → Handle → Handle → Type 0
+abbrev pub StartAnswers : Option Config → HandleValue → ℕ → HandleValue → Handle → Handle → Type 0
 StartAnswers k (held.Schema e) status left was now = (left ≡ held.Schema e) × StartsSo k e status was now
 StartAnswers k schema status left was now = (left ≡ schema) × (status ≡ bad_handle) × (now ≡ was)
 
-abbrev pub is_cpu_in : Held → Bool
+abbrev pub is_cpu_in : HandleValue → Bool
 is_cpu_in (held.Cpu side) = true
 is_cpu_in h = false
 
-abbrev pub is_consumer_in : Held → Bool
+abbrev pub is_consumer_in : HandleValue → Bool
 is_consumer_in (held.Consumer side) = true
 is_consumer_in h = false
 
@@ -98,11 +97,11 @@ HandsOut gives None old status new was now = ((status ≡ 0) × gives old new no
 abbrev pub HandsOutCpu : ℕ → Going → ℕ → Going → Handle → Handle → Type 0
 HandsOutCpu c old status new was now = (looked : Going) × LooksIfThere c old looked × HandsOut (GivesCpu c) (cpu_due c looked) looked status new was now
 
-abbrev pub CpuOfAnswers : ℕ → Held → ℕ → Held → Handle → Handle → Type 0
+abbrev pub CpuOfAnswers : ℕ → HandleValue → ℕ → HandleValue → Handle → Handle → Type 0
 CpuOfAnswers c (held.Session old) status left was now = (new : Going) × (left ≡ held.Session new) × HandsOutCpu c old status new was now
 CpuOfAnswers c session status left was now = (left ≡ session) × (status ≡ bad_handle) × (now ≡ was)
 
-abbrev pub ConsumerOfAnswers : Held → ℕ → Held → Handle → Handle → Type 0
+abbrev pub ConsumerOfAnswers : HandleValue → ℕ → HandleValue → Handle → Handle → Type 0
 ConsumerOfAnswers (held.Session old) status left was now = (new : Going) × (left ≡ held.Session new) × HandsOut GivesConsumer (consumer_due old) old status new was now
 ConsumerOfAnswers session status left was now = (left ≡ session) × (status ≡ bad_handle) × (now ≡ was)
 
@@ -110,7 +109,7 @@ ConsumerOfAnswers session status left was now = (left ≡ session) × (status �
 pub record Ends (old : Going) (now left : Handle) : Type 0 where
   pub emptied : is_full now ≡ false
   pub full : is_full left ≡ true
-  pub ended : Ended
+  pub ended : EndedSession
   pub holds : held_in left ≡ held.Closed ended
   pub all : length ended.closed ≡ old.cpus
   pub by : EndedBy old ended.closed ended.refused.items
@@ -128,19 +127,19 @@ pub record Keeps (was now closed left : Handle) : Type 0 where
   pub other : left ≡ closed
 
 -- a look at whether all of the session that is held is home, and why it doesn't end
-abbrev pub LooksHome : {U : Type 0} → Held → Result U ℕ → Held → Type 0
+abbrev pub LooksHome : {U : Type 0} → HandleValue → Result U ℕ → HandleValue → Type 0
 LooksHome (held.Session old) r now =
     (new : Going) × (now ≡ held.Session new) × LookedLater old new × MatchResult r (λ _. IsHome new) (λ why. (why ≡ not_home) × IsAway new)
 LooksHome h r now = (now ≡ h) × MatchResult r (λ _. ⊥) (λ why. why ≡ bad_handle)
 
 -- What is held ends; or it can't, and is given back as it was.
-abbrev pub EndsSo : Held → Result Ended Held → Type 0
-EndsSo (held.Session old) r = MatchResult r (λ (ended : Ended). (length ended.closed ≡ old.cpus) × EndedBy old ended.closed ended.refused.items) (λ back. back ≡ held.Session old)
+abbrev pub EndsSo : HandleValue → Result EndedSession HandleValue → Type 0
+EndsSo (held.Session old) r = MatchResult r (λ (ended : EndedSession). (length ended.closed ≡ old.cpus) × EndedBy old ended.closed ended.refused.items) (λ back. back ≡ held.Session old)
 EndsSo h r = MatchResult r (λ _. ⊥) (λ back. back ≡ h)
 
 -- A look shows who has come home, and changes nothing else. A session of which all is home ends; or its memory is still shared, and
 -- it goes on. One of which something isn't home goes on.
-abbrev pub FinishAnswers : Held → Handle → Handle → ℕ → Handle → Handle → Type 0
+abbrev pub FinishAnswers : HandleValue → Handle → Handle → ℕ → Handle → Handle → Type 0
 FinishAnswers (held.Session old) was closed status now left = (new : Going) × LookedLater old new × (
     ((status ≡ 0) × IsHome new × Ends new now left)
     ⊎ (((status ≡ busy) × IsHome new × GoesOn new now closed left)

@@ -10,11 +10,11 @@ use Rattle.dspec_deeds.specs.declared.calls.Traced.{Traced}
 use Rattle.dspec_deeds.specs.declared.calls.Traced.TheVariants as traced
 use Rattle.dspec_deeds.specs.declared.config.StartFault.{StartFault}
 use Rattle.dspec_deeds.specs.declared.config.StartFault.TheVariants as start
-use Rattle.dspec_word.specs.SpecId.{Speculation, id_number}
-use Rattle.dspec_c.specs.declared.consumer_side.Found.{Found}
-use Rattle.dspec_c.specs.declared.consumer_side.Found.TheVariants as found
-use Rattle.dspec_c.specs.declared.consumer_side.Returned.{Returned}
-use Rattle.dspec_c.specs.declared.consumer_side.Returned.TheVariants as returned
+use Rattle.dspec_c.specs.Words.Outside.{Speculation, id_number}
+use Rattle.dspec_c.specs.declared.consumer_side.TakeOutcome.{TakeOutcome}
+use Rattle.dspec_c.specs.declared.consumer_side.TakeOutcome.TheVariants as found
+use Rattle.dspec_c.specs.declared.consumer_side.GiveBackOutcome.{GiveBackOutcome}
+use Rattle.dspec_c.specs.declared.consumer_side.GiveBackOutcome.TheVariants as returned
 
 -- the numbers that aren't a library's answer's: memory was refused; there is no such policy; the handle is empty, or holds another
 -- kind; it is full; there is no such CPU; a part isn't home; there is no batch; it was
@@ -111,13 +111,13 @@ abbrev pub asked_status : Bool → ℕ
 asked_status true = 0
 asked_status false = 19
 
-abbrev pub found_status : Found → ℕ
+abbrev pub found_status : TakeOutcome → ℕ
 found_status found.Taken = 0
 found_status found.NoCpu = 19
 found_status found.NoBatch = 21
 found_status found.IsOut = 22
 
-abbrev pub returned_status : Returned → ℕ
+abbrev pub returned_status : GiveBackOutcome → ℕ
 returned_status returned.Back = 0
 returned_status returned.NoCpu = 19
 returned_status returned.NoneOut = 21

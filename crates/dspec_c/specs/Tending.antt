@@ -5,8 +5,8 @@ use Rattle.dspec_c.specs.CpuCalls.{ServicedSo}
 use Rattle.dspec_c.specs.Homes.{AtHome, Came, CpuStay}
 use Rattle.dspec_c.specs.Statuses.{bad_handle}
 use Rattle.dspec_c.specs.Whole.{Going}
-use Rattle.dspec_c.specs.declared.held.Held.{Held}
-use Rattle.dspec_c.specs.declared.held.Held.TheVariants as held
+use Rattle.dspec_c.specs.declared.held.HandleValue.{HandleValue}
+use Rattle.dspec_c.specs.declared.held.HandleValue.TheVariants as held
 
 -- a CPU at home was served once, which settled so many speculations
 pub record ServedAtHome (settled : ℕ) (old new : AtHome) : Type 0 where
@@ -54,6 +54,6 @@ pub record IsTendedWhole (settled : ℕ) (old new : Going) : Type 0 where
   pub places : AreTended (length old.places) settled old.places new.places
 
 -- on another handle nothing is done, and nothing told
-abbrev pub TendAnswers : Held → ℕ → ℕ → ℕ → Held → Type 0
+abbrev pub TendAnswers : HandleValue → ℕ → ℕ → ℕ → HandleValue → Type 0
 TendAnswers (held.Session old) status before settled now = (new : Going) × (now ≡ held.Session new) × (status ≡ 0) × IsTendedWhole settled old new
 TendAnswers h status before settled now = (status ≡ bad_handle) × (now ≡ h) × (settled ≡ before)

@@ -2,18 +2,10 @@
 use Rattle.std.specs.Prelude.{ℕ, ◌≡◌, ◌⊎◌, Bool, true, false, List, [], ◌∷◌, Option, Some, None, IsSome, IsSomeAnd, MatchBool, ⊤, suc, is_some, length, map, nat_lt, slice_get, slice_set}
 use Rattle.std.specs.Option.{option_map, option_map_or}
 use Rattle.dspec_deeds.specs.declared.config.Config.{Config}
-use Rattle.dspec_deeds.specs.Ranges.{start_fault}
-use Rattle.dspec_record.specs.EnablingRows.{EnabledRows}
-use Rattle.dspec_record.specs.Schemas.{enabled, table_accepts, table_shape, table_text}
-use Rattle.dspec_ring.specs.Known.{Pair}
-use Rattle.dspec_table.specs.Seats.{last_seat, set_up}
+use Rattle.dspec_c.specs.Words.Outside.{start_fault, EnabledRows, enabled, table_accepts, table_shape, table_text, Pair, last_seat, set_up, number_in, schema_of, words_of, IsCallable, identity}
+use Rattle.dspec_c.specs.Words.Outside.{Consuming, IsConsumerOf, pairs_of, set_up_of, view_of, IsPromisedBy, called_at, entered_at, Has, IsCpuOf, IsFresh, IsSession, taken_at}
 use Rattle.dspec_cpu.specs.declared.cpu.Cpu.{Cpu}
 use Rattle.dspec_cpu.specs.declared.shared.Shared.{Shared}
-use Rattle.dspec_cpu.specs.Lists.{number_in, schema_of, words_of}
-use Rattle.dspec_cpu.specs.Standing.{IsCallable, identity}
-use Rattle.dspec_session_core.specs.Consumers.{Consuming, IsConsumerOf, pairs_of, set_up_of, view_of}
-use Rattle.dspec_session_core.specs.Promised.{IsPromisedBy, called_at, entered_at}
-use Rattle.dspec_session_core.specs.Sessions.{Has, IsCpuOf, IsFresh, IsSession, taken_at}
 use Rattle.dspec_session_core.specs.declared.left.Left.{Left}
 use Rattle.dspec_session_core.specs.declared.session.Session.{Session}
 use Rattle.dspec_c.specs.ConsumerHomes.{LeaveTheirs, TheirStay, Theirs}

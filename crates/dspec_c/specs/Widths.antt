@@ -1,12 +1,12 @@
 -- Cited by calls. Enabling records by the widths of their fields.
 use Rattle.std.specs.Prelude.{ℕ, ◌≡◌, ◌==◌, ◌+◌, ◌++◌, nat_le, nat_lt, List, [], ◌∷◌, length, Option, Some, None, option_and_then, if◌then◌else◌}
 use Rattle.std.specs.Option.{option_map, option_map_or}
-use Rattle.dspec_record.specs.EnablingRows.{EnabledRows}
+use Rattle.dspec_c.specs.Words.Outside.{EnabledRows}
 use Rattle.dspec_record.specs.declared.field.Field.{Field}
 use Rattle.dspec_record.specs.declared.field.Field.TheVariants.{One, Two, Four, Eight}
 use Rattle.dspec_c.specs.Statuses.{bad_handle}
-use Rattle.dspec_c.specs.declared.held.Held.{Held}
-use Rattle.dspec_c.specs.declared.held.Held.TheVariants as held
+use Rattle.dspec_c.specs.declared.held.HandleValue.{HandleValue}
+use Rattle.dspec_c.specs.declared.held.HandleValue.TheVariants as held
 
 abbrev pub field_of_width : ℕ → Option Field
 field_of_width n =
@@ -40,6 +40,6 @@ abbrev pub EnablesSo : List ℕ → Option ℕ → EnabledRows → ℕ → ℕ �
 EnablesSo ws None old status before epid new = (status ≡ 0) × Enables ws epid old new
 EnablesSo ws (Some why) old status before epid new = (status ≡ why) × (new ≡ old) × (epid ≡ before)
 
-abbrev pub EnableAnswers : List ℕ → Held → ℕ → ℕ → ℕ → Held → Type 0
+abbrev pub EnableAnswers : List ℕ → HandleValue → ℕ → ℕ → ℕ → HandleValue → Type 0
 EnableAnswers ws (held.Schema old) status before epid now = (new : EnabledRows) × (now ≡ held.Schema new) × EnablesSo ws (enable_fault ws old) old status before epid new
 EnableAnswers ws was status before epid now = (status ≡ bad_handle) × (now ≡ was) × (epid ≡ before)

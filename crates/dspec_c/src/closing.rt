@@ -6,16 +6,16 @@ ghost use Rattle.dspec_c.specs.Handles.{held_in, is_full};
 ghost use Rattle.dspec_c.specs.SessionCalls.{is_consumer_in, is_cpu_in};
 
 use crate::handle::Handle;
-use crate::held::Held;
+use crate::held::HandleValue;
 use crate::home_calls::{dspec_consumer_home, dspec_cpu_home, is_consumer, is_cpu};
 use crate::session_calls::dspec_finish;
 use crate::statuses::{BAD_HANDLE, FULL_HANDLE};
 use std::alloc::Global;
 
-fn is_session(held: &Held) -> bool
+fn is_session(held: &HandleValue) -> bool
     ensures { result ≡ is_session_in held.now }
 {
-    matches!(held, Held::Session(_))
+    matches!(held, HandleValue::Session(_))
 }
 
 fn has_session(session: &mut Handle) -> bool

@@ -10,7 +10,7 @@ use std::alloc::{AllocError, Global};
 
 /// What a take found.
 #[derive(Clone, Copy)]
-pub enum Found {
+pub enum TakeOutcome {
     /// There is no such CPU.
     NoCpu,
     /// The batch before wasn't given back.
@@ -23,7 +23,7 @@ pub enum Found {
 
 /// What became of a batch that was to go back.
 #[derive(Clone, Copy)]
-pub enum Returned {
+pub enum GiveBackOutcome {
     /// There is no such CPU.
     NoCpu,
     /// None of the CPU is out.
@@ -82,40 +82,40 @@ impl ConsumerSide {
     }
 
     /// Takes the next batch of a CPU, one at a time, and tells of it. Its bytes stay where they are until it goes back.
-    pub fn take(&mut self, cpu: u32, told: &mut CBatch) -> Found
+    pub fn take(&mut self, cpu: u32, told: &mut CBatch) -> TakeOutcome
         ensures { Finds cpu result told.old told.new self.old self.new }
     {
         let place = cpu as usize;
         if place >= self.taken.len() {
-            return Found::NoCpu;
+            return TakeOutcome::NoCpu;
         }
         if self.taken[place].is_some() {
-            return Found::IsOut;
+            return TakeOutcome::IsOut;
         }
         let Some(batch) = self.out.take(cpu) else {
-            return Found::NoBatch;
+            return TakeOutcome::NoBatch;
         };
         *told = CBatch::of(&batch, batch.buffer.bytes());
         self.taken[place] = Some(batch);
-        Found::Taken
+        TakeOutcome::Taken
     }
 
     /// Gives the batch that is out back.
-    pub fn give_back(&mut self, cpu: u32) -> Returned
+    pub fn give_back(&mut self, cpu: u32) -> GiveBackOutcome
         ensures { Returns cpu result self.old self.new }
     {
         let place = cpu as usize;
         if place >= self.taken.len() {
-            return Returned::NoCpu;
+            return GiveBackOutcome::NoCpu;
         }
         let Some(batch) = self.taken[place].take() else {
-            return Returned::NoneOut;
+            return GiveBackOutcome::NoneOut;
         };
         match self.out.give_back(batch) {
-            Ok(()) => Returned::Back,
+            Ok(()) => GiveBackOutcome::Back,
             Err(batch) => {
                 self.taken[place] = Some(batch);
-                Returned::NoRoom
+                GiveBackOutcome::NoRoom
             }
         }
     }

@@ -1,7 +1,7 @@
 ghost use Rattle.std.specs.Prelude.{◌≡◌, ◌<◌, [], ◌∷◌, IfOk};
 ghost use Rattle.rtrb.specs.Ring.{IsPair, known_free, known_items, sent, received};
 
-use crate::homing::{HomeRule, Homing};
+use crate::homing::{Homing, HomingProtocol};
 use rtrb::{Consumer, Producer, RingBuffer};
 use std::alloc::{AllocError, Global};
 
@@ -10,8 +10,8 @@ pub fn ring(
     alloc: Global,
 ) -> Result<
     (
-        Producer<Homing, Global, HomeRule>,
-        Consumer<Homing, Global, HomeRule>,
+        Producer<Homing, Global, HomingProtocol>,
+        Consumer<Homing, Global, HomingProtocol>,
     ),
     AllocError,
 >
@@ -19,17 +19,17 @@ pub fn ring(
     ensures way { IfOk result (λ r. (sent r.0 ≡ []) × (known_free r.0 ≡ 2)) }
     ensures desk { IfOk result (λ r. (received r.1 ≡ []) × (known_items r.1 ≡ [])) }
 {
-    RingBuffer::with_protocol::<Global, HomeRule>(alloc, 2)
+    RingBuffer::with_protocol::<Global, HomingProtocol>(alloc, 2)
 }
 
 /// A CPU, once it has gone through its ring. There is room for it to come home.
 pub fn pass(
-    way: Producer<Homing, Global, HomeRule>,
-    desk: Consumer<Homing, Global, HomeRule>,
+    way: Producer<Homing, Global, HomingProtocol>,
+    desk: Consumer<Homing, Global, HomingProtocol>,
     cpu: Homing,
 ) -> (
-    Producer<Homing, Global, HomeRule>,
-    Consumer<Homing, Global, HomeRule>,
+    Producer<Homing, Global, HomingProtocol>,
+    Consumer<Homing, Global, HomingProtocol>,
     Homing,
 )
     requires pair { IsPair way desk }
@@ -51,8 +51,8 @@ pub fn open(
     cpu: Homing,
 ) -> Result<
     (
-        Producer<Homing, Global, HomeRule>,
-        Consumer<Homing, Global, HomeRule>,
+        Producer<Homing, Global, HomingProtocol>,
+        Consumer<Homing, Global, HomingProtocol>,
         Homing,
     ),
     AllocError,

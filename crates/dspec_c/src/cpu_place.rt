@@ -1,6 +1,6 @@
 use crate::cpu_desk::{open, pass, ring};
 use crate::home_cpu::HomeCpu;
-use crate::homing::{HomeRule, Homing};
+use crate::homing::{Homing, HomingProtocol};
 use crate::out_cpu::OutCpu;
 use dspec_cpu::Shared;
 use rtrb::{Consumer, Producer};
@@ -13,8 +13,8 @@ use std::sync::Arc;
 /// own. What is inside shares nothing with anybody.
 #[derive(Drop)]
 pub struct CpuPlace {
-    desk: Consumer<Homing, Global, HomeRule>,
-    way: Option<Producer<Homing, Global, HomeRule>>,
+    desk: Consumer<Homing, Global, HomingProtocol>,
+    way: Option<Producer<Homing, Global, HomingProtocol>>,
     inside: Option<HomeCpu>,
 }
 

@@ -6,8 +6,8 @@ ghost use Rattle.dspec_c.specs.CtfCalls.{BeginsFiles, CtfLoseAnswers, CtfMetadat
 
 use crate::boxed::Boxed;
 use crate::ctf_statuses::{NO_PACKET, NO_STAMP, needed_of, of_packet, of_put, of_text, text_size};
-use crate::handle::{Handle, Room};
-use crate::held::Held;
+use crate::handle::{Handle, HandleBox};
+use crate::held::HandleValue;
 use crate::schema_calls::schema_in;
 use crate::statuses::{BAD_HANDLE, FULL_HANDLE, NO_MEMORY, NO_SUCH_CPU, OK};
 use dspec_ctf::{CpuPackets, Identity, Packet, put_metadata};
@@ -85,10 +85,10 @@ pub extern "C" fn dspec_ctf_new(
         Ok(made) => made,
         Err(why) => return why,
     };
-    let Ok(room) = Room::new(alloc) else {
+    let Ok(room) = HandleBox::new(alloc) else {
         return NO_MEMORY;
     };
-    files.put(room, Held::Files(made));
+    files.put(room, HandleValue::Files(made));
     OK
 }
 

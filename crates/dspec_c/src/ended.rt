@@ -6,14 +6,14 @@ use dspec_session_core::Closed;
 
 /// What is left of a session, of how many CPUs, and how many records each of them refused.
 #[derive(Drop)]
-pub struct Ended {
+pub struct EndedSession {
     pub closed: Closed,
     pub cpus: u32,
     pub refused: Vec<u64>,
     pub ghost all: { (cpus ≡ length closed) × (length refused.items ≡ length closed) },
 }
 
-impl Ended {
+impl EndedSession {
     ghost use Rattle.std.specs.Prelude.{◌≡◌, ◌<◌, IsTrue, length, slice_get, Some, option_copied, ◌↔◌};
     ghost use Rattle.dspec_session_core.specs.declared.left.Left.{Left};
     ghost use Rattle.dspec_c.specs.ClosedCalls.{left_of};

@@ -1,83 +1,83 @@
 ghost use Rattle.std.specs.Prelude.{◌≡◌};
 
-use crate::held::Held;
+use crate::held::HandleValue;
 use crate::seal::Seal;
 use std::alloc::{AllocError, Global};
 use std::mem;
 
 /// What is in a handle's box. Where that is let go, what was handed out goes home.
-pub struct Contents {
-    held: Held,
+pub struct HandleContents {
+    held: HandleValue,
 }
 
-impl Drop for Contents {
+impl Drop for HandleContents {
     fn drop(self) {
-        let Contents { held } = self;
+        let HandleContents { held } = self;
         held.let_go();
     }
 }
 
-impl Contents {
+impl HandleContents {
     ghost use Rattle.std.specs.Prelude.{◌≡◌};
     ghost use Rattle.std.specs.Borrow.{sem};
     ghost use Rattle.dspec_c.specs.Lending.{LendsContents};
 
     /// What is in the box, for a call.
     #[inline(always)]
-    fn lend(&mut self) -> &mut Held
+    fn lend(&mut self) -> &mut HandleValue
         ensures* writes_back { sem 𝓛 (LendsContents self.entry result) }
         ensures value { result.now ≡ self.old.held }
     {
         &mut self.held
     }
 
-    fn into_held(self) -> Held
+    fn into_held(self) -> HandleValue
         ensures { result ≡ self.held }
     {
-        let Contents { held } = self;
+        let HandleContents { held } = self;
         held
     }
 }
 
 /// A box with room for what a handle can hold.
 #[derive(Drop)]
-pub struct Room {
-    kept: Box<Contents>,
+pub struct HandleBox {
+    kept: Box<HandleContents>,
 }
 
-impl Room {
+impl HandleBox {
     ghost use Rattle.std.specs.Prelude.{◌≡◌};
 
-    pub(crate) fn new(alloc: Global) -> Result<Room, AllocError> {
-        let nothing = Contents {
-            held: Held::Nothing,
+    pub(crate) fn new(alloc: Global) -> Result<HandleBox, AllocError> {
+        let nothing = HandleContents {
+            held: HandleValue::Nothing,
         };
         let Ok(kept) = Box::new(alloc, nothing) else {
             return Err(AllocError);
         };
-        Ok(Room { kept })
+        Ok(HandleBox { kept })
     }
 
     /// The box, with this in it.
-    fn fill(self, held: Held) -> Box<Contents>
+    fn fill(self, held: HandleValue) -> Box<HandleContents>
         ensures { result.value.held ≡ held }
     {
-        let Room { kept } = self;
+        let HandleBox { kept } = self;
         let mut kept = kept;
-        *kept = Contents { held };
+        *kept = HandleContents { held };
         kept
     }
 
     /// What is in the box, and the room that it leaves.
-    fn clear(kept: Box<Contents>) -> (Held, Room)
+    fn clear(kept: Box<HandleContents>) -> (HandleValue, HandleBox)
         ensures { result.0 ≡ kept.value.held }
     {
         let mut kept = kept;
-        let nothing = Contents {
-            held: Held::Nothing,
+        let nothing = HandleContents {
+            held: HandleValue::Nothing,
         };
         let was = mem::replace(&mut *kept, nothing);
-        (was.into_held(), Room { kept })
+        (was.into_held(), HandleBox { kept })
     }
 }
 
@@ -103,7 +103,7 @@ impl Handle {
     }
 
     /// What is in the handle, for a call; the handle stays full.
-    pub(crate) fn lend(&mut self) -> &mut Held
+    pub(crate) fn lend(&mut self) -> &mut HandleValue
         requires { is_full self.old ≡ true }
         ensures* writes_back { sem 𝓛 (LendsHeld self.entry result) }
         ensures value { result.now ≡ held_in self.old }
@@ -112,7 +112,7 @@ impl Handle {
     }
 
     /// Fills the handle, which was empty.
-    pub(crate) fn put(&mut self, room: Room, what: Held)
+    pub(crate) fn put(&mut self, room: HandleBox, what: HandleValue)
         requires { is_full self.old ≡ false }
         ensures full { is_full self.new ≡ true }
         ensures holds { held_in self.new ≡ what }
@@ -126,7 +126,7 @@ impl Handle {
     }
 
     /// What is in the handle, which is empty then, and the room that it leaves.
-    pub(crate) fn take(&mut self, alloc: Global) -> Option<(Held, Room)>
+    pub(crate) fn take(&mut self, alloc: Global) -> Option<(HandleValue, HandleBox)>
         ensures was { is_some result ≡ is_full self.old }
         ensures held { IfSome result (λ r. r.0 ≡ held_in self.old) }
         ensures empty { is_full self.new ≡ false }
@@ -142,6 +142,6 @@ impl Handle {
             seal.leave();
             return None;
         }
-        Some(Room::clear(seal.into_box()))
+        Some(HandleBox::clear(seal.into_box()))
     }
 }

@@ -3,14 +3,14 @@ ghost use Rattle.std.specs.Borrow.{sem};
 
 use crate::boxed::Boxed;
 use crate::consumer_side::ConsumerSide;
-use crate::ended::Ended;
+use crate::ended::EndedSession;
 use crate::out_cpu::OutCpu;
 use crate::under_way::UnderWay;
 use dspec_ctf::CpuPackets;
 use dspec_record::Enablings;
 
 /// What a handle can hold. It can't be let go as it is: a CPU or the consumer that was handed out has to go home.
-pub enum Held {
+pub enum HandleValue {
     /// Nothing yet, or nothing any more.
     Nothing,
     /// A schema, which grows.
@@ -22,14 +22,14 @@ pub enum Held {
     /// The consumer.
     Consumer(ConsumerSide),
     /// A session that has ended.
-    Closed(Ended),
+    Closed(EndedSession),
     /// The files of a CPU in a trace.
     Files(Boxed<CpuPackets>),
 }
 
-impl Held {
+impl HandleValue {
     ghost use Rattle.dspec_c.specs.Lending.{AreNoFiles, IsNoSchema, LendsFiles, LendsSchema};
-    ghost use Rattle.dspec_c.specs.declared.held.Held.TheVariants as held_as;
+    ghost use Rattle.dspec_c.specs.declared.held.HandleValue.TheVariants as held_as;
 
     /// The schema, for a call.
     pub fn schema(&mut self) -> Option<&mut Enablings>
@@ -37,7 +37,7 @@ impl Held {
         ensures found { MatchOption result (IsNoSchema self.old) (λ schema. self.old ≡ held_as.Schema schema.now) }
     {
         match self {
-            Held::Schema(schema) => Some(schema.lend()),
+            HandleValue::Schema(schema) => Some(schema.lend()),
             _ => None,
         }
     }
@@ -48,7 +48,7 @@ impl Held {
         ensures found { MatchOption result (AreNoFiles self.old) (λ files. self.old ≡ held_as.Files files.now) }
     {
         match self {
-            Held::Files(files) => Some(files.lend()),
+            HandleValue::Files(files) => Some(files.lend()),
             _ => None,
         }
     }
@@ -56,13 +56,13 @@ impl Held {
     /// Lets it go. A CPU or the consumer that was handed out goes home.
     pub fn let_go(self) {
         match self {
-            Held::Nothing => {}
-            Held::Schema(schema) => drop(schema),
-            Held::Session(whole) => drop(whole),
-            Held::Cpu(out) => drop(out.go_home()),
-            Held::Consumer(side) => drop(side.go_home()),
-            Held::Closed(ended) => drop(ended),
-            Held::Files(files) => drop(files),
+            HandleValue::Nothing => {}
+            HandleValue::Schema(schema) => drop(schema),
+            HandleValue::Session(whole) => drop(whole),
+            HandleValue::Cpu(out) => drop(out.go_home()),
+            HandleValue::Consumer(side) => drop(side.go_home()),
+            HandleValue::Closed(ended) => drop(ended),
+            HandleValue::Files(files) => drop(files),
         }
     }
 }

@@ -2,7 +2,7 @@
 
 ghost use Rattle.dspec_c.specs.CpuCalls.{CommitAnswers, CommitIfRoomAnswers, DiscardAnswers, DroppedInAnswers, OpenAtAnswers, PutAnswers, PutInAnswers, ReportAnswers, ServiceAnswers, SpeculateAnswers, SpeculationAnswers, TraceAnswers};
 
-use crate::held::Held;
+use crate::held::HandleValue;
 use crate::reports::CReport;
 use crate::statuses::{
     BAD_HANDLE, OK, bad_handle, number_of, of_committed, of_decided, of_opening, of_spoken,
@@ -12,88 +12,93 @@ use dspec_word::SpecId;
 
 // A call of its own: an export that takes values saves registers before it asks whether its handle is empty, where all stands in it.
 #[inline(never)]
-pub fn held_trace(held: &mut Held, epid: u32, stamp: u64, values: &[u64]) -> u32
+pub fn held_trace(held: &mut HandleValue, epid: u32, stamp: u64, values: &[u64]) -> u32
     ensures { TraceAnswers epid stamp values.now held.old result held.new }
 {
     match held {
-        Held::Cpu(side) => of_traced(side.trace(epid, stamp, values)),
+        HandleValue::Cpu(side) => of_traced(side.trace(epid, stamp, values)),
         _ => bad_handle(),
     }
 }
 
 #[inline(always)]
-pub fn held_put<N>(held: &mut Held, claim: u64, stamp: u64, words: &[u64]) -> u32
+pub fn held_put<N>(held: &mut HandleValue, claim: u64, stamp: u64, words: &[u64]) -> u32
     ensures { PutAnswers claim stamp words.now held.old result held.new }
 {
     match held {
-        Held::Cpu(side) => of_traced(side.put::<N>(claim, stamp, words)),
+        HandleValue::Cpu(side) => of_traced(side.put::<N>(claim, stamp, words)),
         _ => bad_handle(),
     }
 }
 
 #[inline(always)]
-pub fn held_put_in<N>(held: &mut Held, id: u64, claim: u64, stamp: u64, words: &[u64]) -> u32
+pub fn held_put_in<N>(held: &mut HandleValue, id: u64, claim: u64, stamp: u64, words: &[u64]) -> u32
     ensures { PutInAnswers id claim stamp words.now held.old result held.new }
 {
     match held {
-        Held::Cpu(side) => of_spoken(side.put_in::<N>(SpecId::from_raw(id), claim, stamp, words)),
+        HandleValue::Cpu(side) => of_spoken(side.put_in::<N>(
+            SpecId::from_raw(id),
+            claim,
+            stamp,
+            words,
+        )),
         _ => bad_handle(),
     }
 }
 
-pub fn held_speculation(held: &mut Held, id: &mut u64) -> u32
+pub fn held_speculation(held: &mut HandleValue, id: &mut u64) -> u32
     ensures { SpeculationAnswers held.old result id.old id.new held.new }
 {
     match held {
-        Held::Cpu(side) => of_opening(side.speculation(), id),
+        HandleValue::Cpu(side) => of_opening(side.speculation(), id),
         _ => BAD_HANDLE,
     }
 }
 
 // A call of its own, as `held_trace`.
 #[inline(never)]
-pub fn held_speculate(held: &mut Held, id: u64, epid: u32, stamp: u64, values: &[u64]) -> u32
+pub fn held_speculate(held: &mut HandleValue, id: u64, epid: u32, stamp: u64, values: &[u64]) -> u32
     ensures { SpeculateAnswers id epid stamp values.now held.old result held.new }
 {
     match held {
-        Held::Cpu(side) => of_spoken(side.offer(SpecId::from_raw(id), epid, stamp, values)),
+        HandleValue::Cpu(side) => of_spoken(side.offer(SpecId::from_raw(id), epid, stamp, values)),
         _ => bad_handle(),
     }
 }
 
-pub fn held_commit(held: &mut Held, id: u64, count: &mut u32) -> u32
+pub fn held_commit(held: &mut HandleValue, id: u64, count: &mut u32) -> u32
     ensures { CommitAnswers id held.old result count.old count.new held.new }
 {
     match held {
-        Held::Cpu(side) => of_decided(side.commit(SpecId::from_raw(id)), count),
+        HandleValue::Cpu(side) => of_decided(side.commit(SpecId::from_raw(id)), count),
         _ => BAD_HANDLE,
     }
 }
 
-pub fn held_commit_if_room(held: &mut Held, id: u64, count: &mut u32) -> u32
+pub fn held_commit_if_room(held: &mut HandleValue, id: u64, count: &mut u32) -> u32
     ensures { CommitIfRoomAnswers id held.old result count.old count.new held.new }
 {
     match held {
-        Held::Cpu(side) => of_committed(side.commit_if_room(SpecId::from_raw(id)), count),
+        HandleValue::Cpu(side) => of_committed(side.commit_if_room(SpecId::from_raw(id)), count),
         _ => BAD_HANDLE,
     }
 }
 
-pub fn held_discard(held: &mut Held, id: u64, count: &mut u32) -> u32
+pub fn held_discard(held: &mut HandleValue, id: u64, count: &mut u32) -> u32
     ensures { DiscardAnswers id held.old result count.old count.new held.new }
 {
     match held {
-        Held::Cpu(side) => of_decided(side.discard(SpecId::from_raw(id)), count),
+        HandleValue::Cpu(side) => of_decided(side.discard(SpecId::from_raw(id)), count),
         _ => BAD_HANDLE,
     }
 }
 
-pub fn held_service(held: &mut Held, sealed: &mut bool, settled: &mut u32) -> u32
+pub fn held_service(held: &mut HandleValue, sealed: &mut bool, settled: &mut u32) -> u32
     ensures { ServiceAnswers held.old result
         (record { sealed = sealed.old; settled = settled.old }) (record { sealed = sealed.new; settled = settled.new }) held.new }
 {
     match held {
-        Held::Cpu(side) => {
+        HandleValue::Cpu(side) => {
             let served = side.service();
             *sealed = served.sealed;
             *settled = served.settled;
@@ -103,11 +108,11 @@ pub fn held_service(held: &mut Held, sealed: &mut bool, settled: &mut u32) -> u3
     }
 }
 
-pub fn held_dropped_in(held: &mut Held, id: u64, count: &mut u32) -> u32
+pub fn held_dropped_in(held: &mut HandleValue, id: u64, count: &mut u32) -> u32
     ensures { DroppedInAnswers id held.old result count.old count.new held.new }
 {
     match held {
-        Held::Cpu(side) => {
+        HandleValue::Cpu(side) => {
             *count = side.dropped_in(SpecId::from_raw(id));
             OK
         }
@@ -115,11 +120,11 @@ pub fn held_dropped_in(held: &mut Held, id: u64, count: &mut u32) -> u32
     }
 }
 
-pub fn held_open_at(held: &mut Held, slot: u32, id: &mut u64) -> u32
+pub fn held_open_at(held: &mut HandleValue, slot: u32, id: &mut u64) -> u32
     ensures { OpenAtAnswers slot held.old result id.old id.new held.new }
 {
     match held {
-        Held::Cpu(side) => {
+        HandleValue::Cpu(side) => {
             *id = number_of(side.open_at(slot));
             OK
         }
@@ -127,11 +132,11 @@ pub fn held_open_at(held: &mut Held, slot: u32, id: &mut u64) -> u32
     }
 }
 
-pub fn held_report(held: &mut Held, report: &mut CReport) -> u32
+pub fn held_report(held: &mut HandleValue, report: &mut CReport) -> u32
     ensures { ReportAnswers held.old result report.old report.new held.new }
 {
     match held {
-        Held::Cpu(side) => {
+        HandleValue::Cpu(side) => {
             *report = CReport::of(&side.report(), side.refused());
             OK
         }

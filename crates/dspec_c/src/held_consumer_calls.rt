@@ -3,41 +3,41 @@
 ghost use Rattle.dspec_c.specs.ConsumerCalls.{AskAnswers, CleanAnswers, GiveBackAnswers, StopAnswers, TakeAnswers, WaitingAnswers};
 
 use crate::batches::CBatch;
-use crate::held::Held;
+use crate::held::HandleValue;
 use crate::statuses::{BAD_HANDLE, NO_SUCH_CPU, OK, of_asked, of_found, of_returned};
 
-pub fn held_ask(held: &mut Held, cpu: u32) -> u32
+pub fn held_ask(held: &mut HandleValue, cpu: u32) -> u32
     ensures { AskAnswers cpu held.old result held.new }
 {
     match held {
-        Held::Consumer(side) => of_asked(side.ask(cpu)),
+        HandleValue::Consumer(side) => of_asked(side.ask(cpu)),
         _ => BAD_HANDLE,
     }
 }
 
-pub fn held_take(held: &mut Held, cpu: u32, batch: &mut CBatch) -> u32
+pub fn held_take(held: &mut HandleValue, cpu: u32, batch: &mut CBatch) -> u32
     ensures { TakeAnswers cpu held.old result batch.old batch.new held.new }
 {
     match held {
-        Held::Consumer(side) => of_found(side.take(cpu, batch)),
+        HandleValue::Consumer(side) => of_found(side.take(cpu, batch)),
         _ => BAD_HANDLE,
     }
 }
 
-pub fn held_give_back(held: &mut Held, cpu: u32) -> u32
+pub fn held_give_back(held: &mut HandleValue, cpu: u32) -> u32
     ensures { GiveBackAnswers cpu held.old result held.new }
 {
     match held {
-        Held::Consumer(side) => of_returned(side.give_back(cpu)),
+        HandleValue::Consumer(side) => of_returned(side.give_back(cpu)),
         _ => BAD_HANDLE,
     }
 }
 
-pub fn held_clean(held: &mut Held, released: &mut u32) -> u32
+pub fn held_clean(held: &mut HandleValue, released: &mut u32) -> u32
     ensures { CleanAnswers held.old result released.old released.new held.new }
 {
     match held {
-        Held::Consumer(side) => {
+        HandleValue::Consumer(side) => {
             *released = side.clean();
             OK
         }
@@ -45,11 +45,11 @@ pub fn held_clean(held: &mut Held, released: &mut u32) -> u32
     }
 }
 
-pub fn held_waiting_for(held: &mut Held, cpu: u32, count: &mut u32) -> u32
+pub fn held_waiting_for(held: &mut HandleValue, cpu: u32, count: &mut u32) -> u32
     ensures { WaitingAnswers cpu held.old result count.old count.new held.new }
 {
     match held {
-        Held::Consumer(side) => match side.waiting_for(cpu) {
+        HandleValue::Consumer(side) => match side.waiting_for(cpu) {
             Some(number) => {
                 *count = number;
                 OK
@@ -60,11 +60,11 @@ pub fn held_waiting_for(held: &mut Held, cpu: u32, count: &mut u32) -> u32
     }
 }
 
-pub fn held_stop(held: &mut Held) -> u32
+pub fn held_stop(held: &mut HandleValue) -> u32
     ensures { StopAnswers held.old result held.new }
 {
     match held {
-        Held::Consumer(side) => {
+        HandleValue::Consumer(side) => {
             side.stop();
             OK
         }

@@ -6,21 +6,21 @@ ghost use Rattle.dspec_c.specs.SessionCalls.{HomeAnswers, is_consumer_in, is_cpu
 
 use crate::consumer_side::ConsumerSide;
 use crate::handle::Handle;
-use crate::held::Held;
+use crate::held::HandleValue;
 use crate::out_cpu::OutCpu;
 use crate::statuses::{BAD_HANDLE, OK};
 use std::alloc::Global;
 
-pub fn is_cpu(held: &Held) -> bool
+pub fn is_cpu(held: &HandleValue) -> bool
     ensures { result ≡ is_cpu_in held.now }
 {
-    matches!(held, Held::Cpu(_))
+    matches!(held, HandleValue::Cpu(_))
 }
 
-pub fn is_consumer(held: &Held) -> bool
+pub fn is_consumer(held: &HandleValue) -> bool
     ensures { result ≡ is_consumer_in held.now }
 {
-    matches!(held, Held::Consumer(_))
+    matches!(held, HandleValue::Consumer(_))
 }
 
 // Sends the CPU home, and makes no other call of it.
@@ -48,7 +48,7 @@ pub extern "C" fn dspec_cpu_home(alloc: Global, cpu: &mut Handle) -> u32
         return BAD_HANDLE;
     };
     match held {
-        Held::Cpu(out) => cpu_home(out),
+        HandleValue::Cpu(out) => cpu_home(out),
         other => {
             cpu.put(room, other);
             BAD_HANDLE
@@ -65,7 +65,7 @@ pub extern "C" fn dspec_consumer_home(alloc: Global, consumer: &mut Handle) -> u
         return BAD_HANDLE;
     };
     match held {
-        Held::Consumer(side) => consumer_home(side),
+        HandleValue::Consumer(side) => consumer_home(side),
         other => {
             consumer.put(room, other);
             BAD_HANDLE

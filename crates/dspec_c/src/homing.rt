@@ -31,9 +31,9 @@ impl Model for Homing {
 
 /// What comes through a ring is the same CPU of the same session as what came before.
 #[derive(Clone, Copy)]
-pub struct HomeRule;
+pub struct HomingProtocol;
 
-impl Protocol<Homing> for HomeRule {
+impl Protocol<Homing> for HomingProtocol {
     ghost use Rattle.dspec_c.specs.Homes.{IsSameAsAll};
 
     ghost allows = { IsSameAsAll };
@@ -45,7 +45,7 @@ impl Homing {
     ghost use Rattle.dspec_cpu.specs.Standing.{IsCallable};
     ghost use Rattle.dspec_promise.specs.Promise.{commit, discard};
     ghost use Rattle.dspec_c.specs.Homes.{IsSameSide, at_home};
-    ghost use Rattle.dspec_c.specs.CpuCalls.{CommittedIfRoom, DecidedAs, Drops, Offered, OnSide, Opened, OpensAt, Put, PutIn, Recorded, Reports, ServicedSo, one_refused};
+    ghost use Rattle.dspec_c.specs.CpuCalls.{CommittedIfRoom, DecidedAs, Drops, CpuOffered, OnSide, CpuOpened, OpensAt, Put, PutIn, CpuRecorded, Reports, ServicedSo, one_refused};
 
     pub fn of(shared: Arc<Shared, Global>, home: HomeCpu) -> Homing
         requires { IsCallable (arc_value shared) home.cpu }
@@ -63,7 +63,7 @@ impl Homing {
     #[inline(always)]
     pub fn trace(&mut self, epid: u32, stamp: u64, values: &[u64]) -> Option<Traced>
         ensures same { IsSameSide self.old self.new }
-        ensures did { OnSide (is_none result) (Recorded epid stamp values.now result) self.old self.new }
+        ensures did { OnSide (is_none result) (CpuRecorded epid stamp values.now result) self.old self.new }
     {
         let Some(answer) = recording::trace(&mut *self.cpu, &*self.shared, epid, stamp, values)
         else {
@@ -98,7 +98,7 @@ impl Homing {
     #[inline(always)]
     pub fn offer(&mut self, id: SpecId, epid: u32, stamp: u64, values: &[u64]) -> Option<Spoken>
         ensures same { IsSameSide self.old self.new }
-        ensures did { OnSide (is_none result) (Offered id epid stamp values.now result) self.old self.new }
+        ensures did { OnSide (is_none result) (CpuOffered id epid stamp values.now result) self.old self.new }
     {
         let Some(answer) = recording::offer(&mut *self.cpu, id, &*self.shared, epid, stamp, values)
         else {
@@ -142,7 +142,7 @@ impl Homing {
 
     pub fn speculation(&mut self) -> Opening
         ensures same { IsSameSide self.old self.new }
-        ensures did { OnSide false (Opened result) self.old self.new }
+        ensures did { OnSide false (CpuOpened result) self.old self.new }
     {
         self.cpu.speculation(&self.shared)
     }

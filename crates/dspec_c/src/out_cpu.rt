@@ -1,4 +1,4 @@
-use crate::homing::{HomeRule, Homing};
+use crate::homing::{Homing, HomingProtocol};
 use dspec_deeds::{Decided, Opening, Report, Served, Spoken, Traced};
 use dspec_word::SpecId;
 use rtrb::Producer;
@@ -8,7 +8,7 @@ use std::marker::Model;
 /// A CPU that was handed out, with its way home, on which there is room for it. It can't be let go: `go_home` is the one way to be rid
 /// of it.
 pub struct OutCpu {
-    way: Producer<Homing, Global, HomeRule>,
+    way: Producer<Homing, Global, HomingProtocol>,
     homing: Homing,
 }
 
@@ -29,9 +29,9 @@ impl OutCpu {
     ghost use Rattle.rtrb.specs.Ring.{known_free, sent};
     ghost use Rattle.dspec_promise.specs.Promise.{commit, discard};
     ghost use Rattle.dspec_c.specs.Homes.{HasGone, IsOut};
-    ghost use Rattle.dspec_c.specs.CpuCalls.{CommittedIfRoom, DecidedAs, Drops, Offered, OnSide, Opened, OpensAt, Put, PutIn, Recorded, Reports, ServicedSo};
+    ghost use Rattle.dspec_c.specs.CpuCalls.{CommittedIfRoom, DecidedAs, Drops, CpuOffered, OnSide, CpuOpened, OpensAt, Put, PutIn, CpuRecorded, Reports, ServicedSo};
 
-    pub fn of(way: Producer<Homing, Global, HomeRule>, homing: Homing) -> OutCpu
+    pub fn of(way: Producer<Homing, Global, HomingProtocol>, homing: Homing) -> OutCpu
         requires out { IsOut (sent way) homing }
         requires room { 0 < known_free way }
         ensures { result ≡ homing }
@@ -59,7 +59,7 @@ impl OutCpu {
     /// None: it isn't a record of the schema, and is counted as refused.
     #[inline(always)]
     pub fn trace(&mut self, epid: u32, stamp: u64, values: &[u64]) -> Option<Traced>
-        ensures did { OnSide (is_none result) (Recorded epid stamp values.now result) self.old self.new }
+        ensures did { OnSide (is_none result) (CpuRecorded epid stamp values.now result) self.old self.new }
     {
         self.homing.trace(epid, stamp, values)
     }
@@ -73,13 +73,13 @@ impl OutCpu {
     /// None: it isn't a record of the schema, and is counted as refused.
     #[inline(always)]
     pub fn offer(&mut self, id: SpecId, epid: u32, stamp: u64, values: &[u64]) -> Option<Spoken>
-        ensures did { OnSide (is_none result) (Offered id epid stamp values.now result) self.old self.new }
+        ensures did { OnSide (is_none result) (CpuOffered id epid stamp values.now result) self.old self.new }
     {
         self.homing.offer(id, epid, stamp, values)
     }
 
     pub fn speculation(&mut self) -> Opening
-        ensures did { OnSide false (Opened result) self.old self.new }
+        ensures did { OnSide false (CpuOpened result) self.old self.new }
     {
         self.homing.speculation()
     }
@@ -131,7 +131,7 @@ impl OutCpu {
     }
 
     /// Sends the CPU home, by the way that it gives back.
-    pub fn go_home(self) -> Producer<Homing, Global, HomeRule>
+    pub fn go_home(self) -> Producer<Homing, Global, HomingProtocol>
         ensures { HasGone self (sent result) }
     {
         let OutCpu { way, homing } = self;

@@ -2,7 +2,7 @@
 
 ghost use Rattle.std.specs.Prelude.{◌≡◌};
 ghost use Rattle.dspec_cpu.specs.Standing.{IsCallable};
-ghost use Rattle.dspec_c.specs.CpuCalls.{Offered, Put, PutIn, Recorded};
+ghost use Rattle.dspec_c.specs.CpuCalls.{CpuOffered, Put, PutIn, CpuRecorded};
 ghost use Rattle.dspec_c.specs.Puts.{PutAs, PutInAs};
 
 use crate::word_counts::Worded;
@@ -21,7 +21,7 @@ pub fn trace(
     values: &[u64],
 ) -> Option<Traced>
     requires of { IsCallable shared.now cpu.old }
-    ensures { Recorded epid stamp values.now result cpu.old cpu.new }
+    ensures { CpuRecorded epid stamp values.now result cpu.old cpu.new }
 {
     let rec = cpu.schema().borrowed(epid, stamp, values)?;
     Some(cpu.trace_recorded(shared, rec))
@@ -38,7 +38,7 @@ pub fn offer(
     values: &[u64],
 ) -> Option<Spoken>
     requires of { IsCallable shared.now cpu.old }
-    ensures { Offered id epid stamp values.now result cpu.old cpu.new }
+    ensures { CpuOffered id epid stamp values.now result cpu.old cpu.new }
 {
     let rec = cpu.schema().borrowed(epid, stamp, values)?;
     Some(cpu.speculate_recorded(shared, id, rec))

@@ -5,13 +5,13 @@ ghost use Rattle.dspec_c.specs.Handles.{held_in, is_full};
 ghost use Rattle.dspec_c.specs.ClosedCalls.{ClosedReportAnswers, RestAnswers, TellsCountsOf, TellsLeftOf};
 
 use crate::batches::CBatch;
-use crate::ended::Ended;
+use crate::ended::EndedSession;
 use crate::handle::Handle;
-use crate::held::Held;
+use crate::held::HandleValue;
 use crate::reports::CReport;
 use crate::statuses::{BAD_HANDLE, NO_BATCH, NO_SUCH_CPU, OK};
 
-fn rest(ended: &Ended, cpu: u32, last: bool, batch: &mut CBatch) -> u32
+fn rest(ended: &EndedSession, cpu: u32, last: bool, batch: &mut CBatch) -> u32
     ensures { TellsLeftOf last (slice_get ended.now.closed cpu) result batch.old batch.new }
 {
     if !ended.has_cpu(cpu) {
@@ -24,11 +24,11 @@ fn rest(ended: &Ended, cpu: u32, last: bool, batch: &mut CBatch) -> u32
     OK
 }
 
-fn held_rest(held: &mut Held, cpu: u32, last: bool, batch: &mut CBatch) -> u32
+fn held_rest(held: &mut HandleValue, cpu: u32, last: bool, batch: &mut CBatch) -> u32
     ensures { RestAnswers cpu last held.old result batch.old batch.new held.new }
 {
     match held {
-        Held::Closed(ended) => rest(ended, cpu, last, batch),
+        HandleValue::Closed(ended) => rest(ended, cpu, last, batch),
         _ => BAD_HANDLE,
     }
 }
@@ -45,7 +45,7 @@ pub extern "C" fn dspec_rest(closed: &mut Handle, cpu: u32, last: bool, batch: &
     held_rest(closed.lend(), cpu, last, batch)
 }
 
-fn report_to(ended: &Ended, cpu: u32, report: &mut CReport) -> u32
+fn report_to(ended: &EndedSession, cpu: u32, report: &mut CReport) -> u32
     ensures { TellsCountsOf (slice_get ended.now.closed cpu) (slice_get ended.now.refused.items cpu) result report.old report.new }
 {
     if !ended.has_cpu(cpu) {
@@ -55,11 +55,11 @@ fn report_to(ended: &Ended, cpu: u32, report: &mut CReport) -> u32
     OK
 }
 
-fn held_closed_report(held: &mut Held, cpu: u32, report: &mut CReport) -> u32
+fn held_closed_report(held: &mut HandleValue, cpu: u32, report: &mut CReport) -> u32
     ensures { ClosedReportAnswers cpu held.old result report.old report.new held.new }
 {
     match held {
-        Held::Closed(ended) => report_to(ended, cpu, report),
+        HandleValue::Closed(ended) => report_to(ended, cpu, report),
         _ => BAD_HANDLE,
     }
 }

@@ -4,11 +4,11 @@ ghost use Rattle.std.specs.Prelude.{◌≡◌, ◌≤◌, ◌⊎◌, true, false
 ghost use Rattle.dspec_c.specs.Handles.{held_in, is_full};
 ghost use Rattle.dspec_c.specs.SessionCalls.{LooksAtSchema, StampAnswers, new_schema};
 ghost use Rattle.dspec_c.specs.Widths.{EnableAnswers, Enables, EnablesSo, enable_fault, field_of_width, fields_of_widths};
-ghost use Rattle.dspec_c.specs.declared.held.Held.TheVariants as held_as;
+ghost use Rattle.dspec_c.specs.declared.held.HandleValue.TheVariants as held_as;
 
 use crate::boxed::Boxed;
-use crate::handle::{Handle, Room};
-use crate::held::Held;
+use crate::handle::{Handle, HandleBox};
+use crate::held::HandleValue;
 use crate::statuses::{
     BAD_HANDLE, BAD_WIDTH, FULL_HANDLE, NO_MEMORY, OK, TOO_MANY_ENABLINGS, TOO_MANY_FIELDS,
 };
@@ -40,10 +40,10 @@ pub extern "C" fn dspec_schema_new(alloc: Global, schema: &mut Handle) -> u32
     let Ok(made) = Boxed::new(alloc, Enablings::new()) else {
         return NO_MEMORY;
     };
-    let Ok(room) = Room::new(alloc) else {
+    let Ok(room) = HandleBox::new(alloc) else {
         return NO_MEMORY;
     };
-    schema.put(room, Held::Schema(made));
+    schema.put(room, HandleValue::Schema(made));
     OK
 }
 

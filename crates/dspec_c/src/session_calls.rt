@@ -6,13 +6,13 @@ ghost use Rattle.dspec_c.specs.Handles.{held_in, is_full};
 ghost use Rattle.dspec_c.specs.SessionCalls.{ConsumerOfAnswers, CpuOfAnswers, EndsSo, FinishAnswers, GivesConsumer, GivesCpu, HandsOut, HandsOutCpu, KeptSo, LooksHome, StartAnswers, StartsSo, consumer_due};
 ghost use Rattle.dspec_c.specs.Tending.{TendAnswers};
 ghost use Rattle.dspec_c.specs.Whole.{Going, IsHome, inside_at};
-ghost use Rattle.dspec_c.specs.declared.held.Held.TheVariants as held_as;
+ghost use Rattle.dspec_c.specs.declared.held.HandleValue.TheVariants as held_as;
 
 use crate::configs::CConfig;
 use crate::consumer_side::{ConsumerSide, places_for_batches};
-use crate::ended::Ended;
-use crate::handle::{Handle, Room};
-use crate::held::Held;
+use crate::ended::EndedSession;
+use crate::handle::{Handle, HandleBox};
+use crate::held::HandleValue;
 use crate::schema_calls::schema_in;
 use crate::statuses::{
     BAD_HANDLE, BAD_POLICY, BUSY, FULL_HANDLE, NO_MEMORY, NO_SUCH_CPU, NOT_HOME, OK, OUT, of_start,
@@ -27,10 +27,10 @@ fn keep(alloc: Global, whole: UnderWay, session: &mut Handle) -> u32
     requires { is_full session.old ≡ false }
     ensures { KeptSo whole result session.old session.new }
 {
-    let Ok(room) = Room::new(alloc) else {
+    let Ok(room) = HandleBox::new(alloc) else {
         return NO_MEMORY;
     };
-    session.put(room, Held::Session(whole));
+    session.put(room, HandleValue::Session(whole));
     OK
 }
 
@@ -75,7 +75,7 @@ fn give_cpu(alloc: Global, session: &mut UnderWay, number: u32, cpu: &mut Handle
     requires empty { is_full cpu.old ≡ false }
     ensures { HandsOut (GivesCpu number) None session.old result session.new cpu.old cpu.new }
 {
-    let Ok(room) = Room::new(alloc) else {
+    let Ok(room) = HandleBox::new(alloc) else {
         return NO_MEMORY;
     };
     let Ok(shared) = session.share() else {
@@ -84,7 +84,7 @@ fn give_cpu(alloc: Global, session: &mut UnderWay, number: u32, cpu: &mut Handle
     let Ok(out) = session.cpu(alloc, shared, number) else {
         return NO_MEMORY;
     };
-    cpu.put(room, Held::Cpu(out));
+    cpu.put(room, HandleValue::Cpu(out));
     OK
 }
 
@@ -101,12 +101,12 @@ fn hand_out_cpu(alloc: Global, session: &mut UnderWay, number: u32, cpu: &mut Ha
     give_cpu(alloc, session, number, cpu)
 }
 
-fn held_cpu_of(alloc: Global, session: &mut Held, number: u32, cpu: &mut Handle) -> u32
+fn held_cpu_of(alloc: Global, session: &mut HandleValue, number: u32, cpu: &mut Handle) -> u32
     requires { is_full cpu.old ≡ false }
     ensures { CpuOfAnswers number session.old result session.new cpu.old cpu.new }
 {
     match session {
-        Held::Session(whole) => hand_out_cpu(alloc, whole, number, cpu),
+        HandleValue::Session(whole) => hand_out_cpu(alloc, whole, number, cpu),
         _ => BAD_HANDLE,
     }
 }
@@ -139,7 +139,7 @@ fn hand_out_consumer(alloc: Global, session: &mut UnderWay, consumer: &mut Handl
     if !session.has_consumer_in() {
         return OUT;
     }
-    let Ok(room) = Room::new(alloc) else {
+    let Ok(room) = HandleBox::new(alloc) else {
         return NO_MEMORY;
     };
     let Ok(taken) = places_for_batches(alloc, session.count()) else {
@@ -151,16 +151,16 @@ fn hand_out_consumer(alloc: Global, session: &mut UnderWay, consumer: &mut Handl
     let Some(out) = session.consumer(shared) else {
         return OUT;
     };
-    consumer.put(room, Held::Consumer(ConsumerSide::new(out, taken)));
+    consumer.put(room, HandleValue::Consumer(ConsumerSide::new(out, taken)));
     OK
 }
 
-fn held_consumer_of(alloc: Global, session: &mut Held, consumer: &mut Handle) -> u32
+fn held_consumer_of(alloc: Global, session: &mut HandleValue, consumer: &mut Handle) -> u32
     requires { is_full consumer.old ≡ false }
     ensures { ConsumerOfAnswers session.old result session.new consumer.old consumer.new }
 {
     match session {
-        Held::Session(whole) => hand_out_consumer(alloc, whole, consumer),
+        HandleValue::Session(whole) => hand_out_consumer(alloc, whole, consumer),
         _ => BAD_HANDLE,
     }
 }
@@ -185,11 +185,11 @@ pub extern "C" fn dspec_consumer_of(
     held_consumer_of(alloc, session.lend(), consumer)
 }
 
-fn held_tend(session: &mut Held, settled: &mut u64) -> u32
+fn held_tend(session: &mut HandleValue, settled: &mut u64) -> u32
     ensures { TendAnswers session.old result settled.old settled.new session.new }
 {
     match session {
-        Held::Session(whole) => {
+        HandleValue::Session(whole) => {
             *settled = whole.tend();
             OK
         }
@@ -209,11 +209,11 @@ pub extern "C" fn dspec_tend(session: &mut Handle, settled: &mut u64) -> u32
     held_tend(session.lend(), settled)
 }
 
-fn is_home(held: &mut Held) -> Result<(), u32>
+fn is_home(held: &mut HandleValue) -> Result<(), u32>
     ensures { LooksHome held.old result held.new }
 {
     match held {
-        Held::Session(whole) => {
+        HandleValue::Session(whole) => {
             if whole.is_home() {
                 Ok(())
             } else {
@@ -225,14 +225,14 @@ fn is_home(held: &mut Held) -> Result<(), u32>
 }
 
 // What is left of the session whose parts are home; or what is held, as it was.
-fn end(held: Held) -> Result<Ended, Held>
+fn end(held: HandleValue) -> Result<EndedSession, HandleValue>
     requires { (whole : Going) → held ≡ held_as.Session whole → IsHome whole }
     ensures { EndsSo held result }
 {
     match held {
-        Held::Session(whole) => match whole.finish() {
+        HandleValue::Session(whole) => match whole.finish() {
             Ok(ended) => Ok(ended),
-            Err(whole) => Err(Held::Session(whole)),
+            Err(whole) => Err(HandleValue::Session(whole)),
         },
         other => Err(other),
     }
@@ -256,7 +256,7 @@ pub extern "C" fn dspec_finish(alloc: Global, session: &mut Handle, closed: &mut
     }
     match end(held) {
         Ok(ended) => {
-            closed.put(room, Held::Closed(ended));
+            closed.put(room, HandleValue::Closed(ended));
             OK
         }
         Err(back) => {

@@ -3,7 +3,7 @@
 ghost use Rattle.std.specs.Prelude.{◌≡◌};
 ghost use Rattle.dspec_c.specs.Statuses.{asked_status, bad_handle, committed_number, committed_status, decided_number, decided_status, found_status, id_or_zero, opened_number, opening_status, returned_status, spoken_status, start_status, traced_status};
 
-use crate::consumer_side::{Found, Returned};
+use crate::consumer_side::{GiveBackOutcome, TakeOutcome};
 use dspec_deeds::{Decided, Opening, Spoken, StartFault, Traced};
 use dspec_word::SpecId;
 
@@ -170,25 +170,25 @@ pub fn of_asked(found: bool) -> u32
 }
 
 /// What a take found.
-pub fn of_found(found: Found) -> u32
+pub fn of_found(found: TakeOutcome) -> u32
     ensures { result ≡ found_status found }
 {
     match found {
-        Found::NoCpu => NO_SUCH_CPU,
-        Found::IsOut => OUT,
-        Found::NoBatch => NO_BATCH,
-        Found::Taken => OK,
+        TakeOutcome::NoCpu => NO_SUCH_CPU,
+        TakeOutcome::IsOut => OUT,
+        TakeOutcome::NoBatch => NO_BATCH,
+        TakeOutcome::Taken => OK,
     }
 }
 
 /// What became of a batch that was to go back.
-pub fn of_returned(returned: Returned) -> u32
+pub fn of_returned(returned: GiveBackOutcome) -> u32
     ensures { result ≡ returned_status returned }
 {
     match returned {
-        Returned::NoCpu => NO_SUCH_CPU,
-        Returned::NoneOut => NO_BATCH,
-        Returned::NoRoom => BUSY,
-        Returned::Back => OK,
+        GiveBackOutcome::NoCpu => NO_SUCH_CPU,
+        GiveBackOutcome::NoneOut => NO_BATCH,
+        GiveBackOutcome::NoRoom => BUSY,
+        GiveBackOutcome::Back => OK,
     }
 }

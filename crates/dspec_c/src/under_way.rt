@@ -2,7 +2,7 @@ use crate::close::close;
 use crate::consumer_homing::ConsumerHoming;
 use crate::consumer_place::ConsumerPlace;
 use crate::cpu_place::CpuPlace;
-use crate::ended::Ended;
+use crate::ended::EndedSession;
 use crate::gather::{all_home, count_refusals, hand_out, is_in};
 use crate::out_consumer::OutConsumer;
 use crate::out_cpu::OutCpu;
@@ -211,7 +211,7 @@ impl UnderWay {
     }
 
     /// Ends it. It comes back as it was where what it shares is still somebody else's, of whom none is known once all are home.
-    pub fn finish(self) -> Result<Ended, UnderWay>
+    pub fn finish(self) -> Result<EndedSession, UnderWay>
         requires { IsHome self }
         ensures all { IfOk result (λ ended. length ended.closed ≡ self.cpus) }
         ensures ended { IfOk result (λ ended. EndedBy self ended.closed ended.refused.items) }
@@ -229,7 +229,7 @@ impl UnderWay {
             Ok(shared) => {
                 let refused = count_refusals(&places, counts);
                 let closed = close(shared, places, room, place.into_home());
-                Ok(Ended {
+                Ok(EndedSession {
                     closed,
                     cpus,
                     refused,

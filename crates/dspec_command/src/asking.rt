@@ -16,7 +16,7 @@ use std::env;
 
 /// What the words ask of a program.
 #[derive(Debug, Drop)]
-pub enum Asked<'a> {
+pub enum ParsedCommand<'a> {
     /// What was found in them.
     Found(ArgMatches<'a>),
     /// This text, which `--help` or `--version` asks for.
@@ -52,19 +52,23 @@ pub fn asked_of<'a>(
     command: Command<'a>,
     usage: &'a str,
     words: &'a [String],
-) -> Result<Asked<'a>, CommandFault<'a>>
+) -> Result<ParsedCommand<'a>, CommandFault<'a>>
     ensures fault { IfErr result (IsAskFault usage.entry.now) }
     ensures taken { takes (app_of command.entry) (map string_bytes words.entry.now) ≡ true → IfErr result (λ fault. fault ≡ Memory) }
     ensures refused { is_simple_and_free (app_of command.entry) ≡ true → IsAnswerTo usage.entry.now (fault_of (app_of command.entry) (map string_bytes words.entry.now)) result }
 {
     match command.try_get_matches_from(words) {
-        Ok(found) => Ok(Asked::Found(found)),
+        Ok(found) => Ok(ParsedCommand::Found(found)),
         Err(fault) => told(alloc, usage, fault),
     }
 }
 
 /// A text that is asked for is told; everything else is a fault.
-fn told<'a>(alloc: Global, usage: &'a str, fault: Error) -> Result<Asked<'a>, CommandFault<'a>>
+fn told<'a>(
+    alloc: Global,
+    usage: &'a str,
+    fault: Error,
+) -> Result<ParsedCommand<'a>, CommandFault<'a>>
     ensures fault { IfErr result (IsAskFault usage.entry.now) }
     ensures memory { kind_of fault ≡ OutOfMemory → IsErrAnd result (λ told. told ≡ Memory) }
     ensures mistake { IsMistake (kind_of fault) → IsErrAnd result (IsUsage usage.entry.now) }
@@ -72,7 +76,7 @@ fn told<'a>(alloc: Global, usage: &'a str, fault: Error) -> Result<Asked<'a>, Co
 {
     match fault.kind() {
         ErrorKind::DisplayHelp | ErrorKind::DisplayVersion => {
-            Ok(Asked::Text(format!(in alloc; "{fault}")?))
+            Ok(ParsedCommand::Text(format!(in alloc; "{fault}")?))
         }
         ErrorKind::OutOfMemory => Err(CommandFault::Memory),
         _ => Err(CommandFault::Usage(usage)),

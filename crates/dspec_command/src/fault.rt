@@ -97,7 +97,7 @@ pub fn print_text<'a, R: Print>(rt: &R, text: &str) -> Result<(), CommandFault<'
 }
 
 /// A fault by which a program ends.
-pub trait Ending {
+pub trait ExitFault {
     ghost use Rattle.std.specs.Prelude.{ℕ};
 
     // Whether a fault is told by this status. Whoever promises nothing of it leaves it out.
@@ -108,7 +108,7 @@ pub trait Ending {
         ensures { ends self.now result };
 }
 
-impl<'a> Ending for CommandFault<'a> {
+impl<'a> ExitFault for CommandFault<'a> {
     ghost use Rattle.dspec_command.specs.Faults.{status_of_command};
 
     ghost ends = { λ fault status. status ≡ status_of_command fault };
@@ -120,7 +120,7 @@ impl<'a> Ending for CommandFault<'a> {
 
 /// The status by which a program ends: 0 where all is well, 1 where something isn't, and that of a fault, of which one line of standard
 /// error tells behind the program's name, which no clause can say. A line that can't be written changes nothing.
-pub fn ended<R: Eprint, F: Ending + Display + Drop>(
+pub fn ended<R: Eprint, F: ExitFault + Display + Drop>(
     rt: &R,
     program: &str,
     outcome: Result<bool, F>,

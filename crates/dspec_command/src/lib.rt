@@ -10,6 +10,6 @@ mod asking;
 mod fault;
 mod input;
 
-pub use asking::{Asked, asked_of, folder_arg, words_of};
-pub use fault::{CommandFault, Ending, device_fault, ended, output_fault, print_text};
+pub use asking::{ParsedCommand, asked_of, folder_arg, words_of};
+pub use fault::{CommandFault, ExitFault, device_fault, ended, output_fault, print_text};
 pub use input::{Input, open};

@@ -1,11 +1,9 @@
 -- The batches of a CPU: how many were sealed, and the records of the one that grows.
 use Rattle.std.proofs.Common.{◌≡◌, ℕ, ◌+◌, Bool, true, false, ◌&&◌, ◌==◌, if◌then◌else◌, List, [], ◌∷◌, ◌++◌, length, reverse, refl, sym, ap, ◌∙◌, arith, append-nil}
 use Rattle.std.proofs.lemmas.List.{reverse-append}
-use Rattle.dspec_buffer.specs.Extent.{one, block, records}
+use Rattle.dspec_core.specs.Words.{one, block, records, trace_kept, is_copied, Offer, offers, held, accepted, active, contents, empty_batch, growing, batches, seals, seals_now, stream}
 use Rattle.dspec_deeds.specs.declared.deed.Deed.{Deed}
 use Rattle.dspec_deeds.specs.declared.deed.Deed.TheVariants.{Trace, Commit, Settle, Seal}
-use Rattle.dspec_deeds.specs.FateKinds.{trace_kept, is_copied}
-use Rattle.dspec_deeds.specs.Own.{Offer, offers, held, accepted, active, contents, empty_batch, growing, batches, seals, seals_now, stream}
 
 -- the records of offers put together
 contents_append : (os more : List Offer) → contents (os ++ more) ≡ contents os ++ contents more

@@ -1,12 +1,8 @@
 -- How an atomic step of the consumer is put together that changes what is kept of one CPU, and then its own side.
 use Rattle.std.proofs.Common.{◌≡◌, ℕ, List, [], set, Option, None, ap, ◌∙◌}
-use Rattle.dspec_buffer.specs.Extent.{Piece}
+use Rattle.dspec_core.specs.Words.{Piece, Machine, changes, stops, PlayState, ConsumerMakes, history, state_of}
 use Rattle.dspec_deeds.specs.declared.calls.Answer.{Answer}
 use Rattle.dspec_interleaving.specs.declared.flight.CpuProgress.{CpuProgress}
-use Rattle.dspec_core.specs.declared.machine.Machine.{Machine}
-use Rattle.dspec_interleaving.specs.Play.{changes, stops}
-use Rattle.dspec_interleaving.specs.Coherent.{PlayState}
-use Rattle.dspec_core.specs.Machines.{ConsumerMakes, history, state_of}
 
 module _ {S B : Type 0} (has : B → S → List Piece → Type 0) (capacity : B → ℕ) where
   -- a step that changed what is kept of one CPU, and ended

@@ -1,23 +1,14 @@
 -- What a commit or a discard leaves of a CPU, said of both as one.
 use Rattle.std.proofs.Common.{◌≡◌, ℕ, ◌-◌, Bool, true, false, ◌||◌, List, ◌∷◌, ◌++◌, [], reverse, set, if◌then◌else◌, Option, refl, true≢false}
 use Rattle.dspec_record.specs.declared.field.Shape.{Shape}
-use Rattle.dspec_word.specs.SpecId.{Speculation}
-use Rattle.dspec_word.specs.Word.{SlotState}
+use Rattle.dspec_core.specs.Words.{Speculation, SlotState, is_commit, is_copied, is_discard, is_open, word_at, IsSound, CpuLegal, contents, held, seals_now, stream, IsSlot, Decision, Commit}
+use Rattle.dspec_core.specs.Words.{Discard, decides, deed_of, ShowsWords}
 use Rattle.dspec_deeds.specs.declared.config.Config.{Config}
 use Rattle.dspec_deeds.specs.declared.deed.DecideFate.{DecideFate}
 use Rattle.dspec_deeds.specs.declared.deed.DecideFate.TheVariants as decided
 use Rattle.dspec_deeds.specs.declared.deed.Deed.{Deed}
 use Rattle.dspec_deeds.specs.declared.deed.Deed.TheVariants as deed
-use Rattle.dspec_deeds.specs.FateKinds.{is_commit, is_copied, is_discard}
-use Rattle.dspec_deeds.specs.History.{is_open, word_at}
-use Rattle.dspec_deeds.specs.Legal.{IsSound, CpuLegal}
-use Rattle.dspec_deeds.specs.Own.{contents, held, seals_now, stream}
 use Rattle.dspec_deeds.proofs.WordChanges.{commit_open, discard_open}
-use Rattle.dspec_interleaving.specs.Coherent.{IsSlot}
-use Rattle.dspec_core.specs.declared.machine.decision.Decision.{Decision}
-use Rattle.dspec_core.specs.declared.machine.decision.Decision.TheVariants.{Commit, Discard}
-use Rattle.dspec_core.specs.Decisions.{decides, deed_of}
-use Rattle.dspec_core.specs.Shown.{ShowsWords}
 use Rattle.dspec_core.proofs.OwnSlots.{stream_commits, stream_discards}
 use Rattle.dspec_core.proofs.WordsShown.{words_set}
 

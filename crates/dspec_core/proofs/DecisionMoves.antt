@@ -2,9 +2,9 @@
 use Rattle.std.proofs.Common.{◌≡◌, ◌≢◌, ℕ, ◌+◌, ◌<◌, ◌==◌, Bool, true, false, not, List, [], ◌∷◌, ◌++◌, Option, Some, None, if◌then◌else◌, refl, sym, ap, ◌∙◌, subst}
 use Rattle.dspec_record.specs.declared.field.Shape.{Shape}
 use Rattle.dspec_word.specs.declared.act.Act.TheVariants.{Attempt}
-use Rattle.dspec_word.specs.SpecId.{Speculation}
-use Rattle.dspec_word.specs.Word.{SlotState, word_number}
-use Rattle.dspec_word.specs.Tables.{commit_at, discard_at}
+use Rattle.dspec_core.specs.Words.{Speculation, SlotState, word_number, commit_at, discard_at, Decision, Commit, Discard, author, is_among, callers, halted, in_range, issue, word_at, IsAllowed}
+use Rattle.dspec_core.specs.Words.{commit_fate, answer_of, Expects, IsCoherent, OnItsWay, PlayState, StandsCpu, progress_of, cpu_step, call_goes_on, ends, wears, is_worn, same_word, committed_by}
+use Rattle.dspec_core.specs.Words.{discarded_by, act_of_decision, deed_of, decides, begun_of, load_of, try_of, shown_by, ShowsWords}
 use Rattle.dspec_deeds.specs.declared.calls.Actor.TheVariants.{Cpu}
 use Rattle.dspec_deeds.specs.declared.calls.Answer.{Answer}
 use Rattle.dspec_deeds.specs.declared.calls.Answer.TheVariants as answer
@@ -14,16 +14,6 @@ use Rattle.dspec_deeds.specs.declared.deed.DecideFate.{DecideFate}
 use Rattle.dspec_deeds.specs.declared.deed.DecideFate.TheVariants as decided
 use Rattle.dspec_deeds.specs.declared.deed.Deed.{Deed}
 use Rattle.dspec_interleaving.specs.declared.flight.CpuProgress.{CpuProgress}
-use Rattle.dspec_core.specs.declared.machine.decision.Decision.{Decision}
-use Rattle.dspec_core.specs.declared.machine.decision.Decision.TheVariants.{Commit, Discard}
-use Rattle.dspec_deeds.specs.History.{author, is_among, callers, halted, in_range, issue, word_at}
-use Rattle.dspec_deeds.specs.Legal.{IsAllowed}
-use Rattle.dspec_deeds.specs.Settling.{commit_fate}
-use Rattle.dspec_deeds.specs.FateAnswers.{answer_of}
-use Rattle.dspec_interleaving.specs.Coherent.{Expects, IsCoherent, OnItsWay, PlayState, StandsCpu, progress_of}
-use Rattle.dspec_interleaving.specs.Play.{cpu_step, call_goes_on, ends, wears, is_worn, same_word, committed_by, discarded_by}
-use Rattle.dspec_core.specs.Decisions.{act_of_decision, deed_of, decides, begun_of, load_of, try_of, shown_by}
-use Rattle.dspec_core.specs.Shown.{ShowsWords}
 use Rattle.dspec_deeds.proofs.WordActs.{commit_attempt, discard_attempt}
 use Rattle.dspec_interleaving.proofs.DecideMoves.{commit_leaves, commit_next, commit_voids, committed_deeds, discard_leaves, discard_next, discard_voids}
 use Rattle.dspec_interleaving.proofs.StepReads.{flight_stands, step_legal}

@@ -1,21 +1,14 @@
 -- What begins a call and what steps keep a machine that is kept.
 use Rattle.std.proofs.Common.{◌≡◌, ℕ, ◌<◌, Bool, true, List, Option, Some, None, sym, ◌∙◌, subst}
 use Rattle.dspec_record.specs.declared.field.Shape.{Shape}
-use Rattle.dspec_record.specs.Record.{Record}
-use Rattle.dspec_buffer.specs.Extent.{Piece}
+use Rattle.dspec_core.specs.Words.{Record, Piece, Machine, consumer_op_of, record_passes, is_about, PlayState, IsCoherent, progress_of, IsShownMachine, Makes, ConsumerMakes, history, state_of}
+use Rattle.dspec_core.specs.Words.{cpu_step, consumer_step, begin_cpu, moved_to, cleaned_to, WorldInvariant, IsWithin}
 use Rattle.dspec_deeds.specs.declared.calls.Answer.{Answer}
 use Rattle.dspec_deeds.specs.declared.calls.CpuOp.{CpuOp}
 use Rattle.dspec_interleaving.specs.declared.flight.CpuProgress.{CpuProgress}
 use Rattle.dspec_interleaving.specs.declared.flight.ConsumerFlight.{ConsumerFlight}
 use Rattle.dspec_interleaving.specs.declared.flight.CallPlace.{CallPlace}
 use Rattle.dspec_interleaving.specs.declared.flight.CallPlace.TheVariants as flight
-use Rattle.dspec_core.specs.declared.machine.Machine.{Machine}
-use Rattle.dspec_interleaving.specs.Calls.{consumer_op_of, record_passes, is_about}
-use Rattle.dspec_interleaving.specs.Coherent.{PlayState, IsCoherent, progress_of}
-use Rattle.dspec_core.specs.Machines.{IsShownMachine, Makes, ConsumerMakes, history, state_of}
-use Rattle.dspec_interleaving.specs.Play.{cpu_step, consumer_step}
-use Rattle.dspec_interleaving.specs.Turns.{begin_cpu, moved_to, cleaned_to}
-use Rattle.dspec_core.specs.Worlds.{WorldInvariant, IsWithin}
 use Rattle.dspec_interleaving.proofs.Coherence.{begin_cpu_coherent, step_cpu_coherent, step_consumer_coherent}
 use Rattle.dspec_interleaving.proofs.FlightsStay.{flights_stay}
 use Rattle.dspec_interleaving.proofs.KeptCalls.{AllPass, some_passes, set_passes, step_passes, clean_goes}

@@ -3,31 +3,22 @@ use Rattle.std.proofs.Common.{[], ◌≡◌, ℕ, ◌+◌, ◌<◌, ◌≤◌, �
 use Rattle.std.specs.Prelude.{nat_lt}
 use Rattle.std.proofs.lemmas.Bool.Decides.{nat_tests}
 use Rattle.std.proofs.lemmas.List.{reverse-append, length-reverse, take-append-le}
-use Rattle.dspec_record.specs.Record.{Record}
-use Rattle.dspec_buffer.specs.Extent.{Piece}
-use Rattle.dspec_word.specs.SpecId.{Speculation}
+use Rattle.dspec_core.specs.Words.{Record, Piece, Speculation, author, part, same_actor, active, batches, batch_records, contents, growing, seals, seals_now, stream, OwnState, ShowsOwnState}
+use Rattle.dspec_core.specs.Words.{own_side, ReadsApart, counts_of, one_more_worn, IsFilledWith, ShowsList, parts_of_side, Cpu, HasRecords, ShowsCpu, first_or_empty}
 use Rattle.dspec_deeds.specs.declared.config.Config.{Config}
 use Rattle.dspec_deeds.specs.declared.calls.Actor.TheVariants.{Cpu as CpuActor}
 use Rattle.dspec_deeds.specs.declared.deed.Deed.{Deed}
 use Rattle.dspec_deeds.specs.declared.deed.Deed.TheVariants.{Opened, Release, Seal}
 use Rattle.dspec_deeds.specs.declared.report.Report.{Report}
-use Rattle.dspec_deeds.specs.History.{author, part, same_actor}
-use Rattle.dspec_deeds.specs.Own.{active, batches, batch_records, contents, growing, seals, seals_now, stream}
-use Rattle.dspec_deeds.specs.CpuShown.{OwnState, ShowsOwnState, own_side}
-use Rattle.dspec_deeds.specs.Owning.{ReadsApart}
 use Rattle.dspec_deeds.proofs.OwnReads.{apart_other, reads}
 use Rattle.dspec_deeds.proofs.OwnStates.{side_part}
 use Rattle.dspec_deeds.proofs.StayingOwn.{accepted_other, batches_other}
 use Rattle.dspec_deeds.proofs.TestLemmas.{either_way, number_is_itself}
 use Rattle.dspec_cpu_state.specs.declared.counts.Counts.{Counts}
 use Rattle.dspec_cpu_state.specs.declared.cpu_state.CpuState.{CpuState}
-use Rattle.dspec_cpu_state.specs.Counting.{counts_of, one_more_worn}
-use Rattle.dspec_cpu_state.specs.CpuStates.{IsFilledWith, ShowsList, parts_of_side}
 use Rattle.dspec_cpu_state.proofs.Quiet.{quiet_shown}
 use Rattle.dspec_cpu_state.proofs.Tallies.{released_counts}
 use Rattle.dspec_interleaving.specs.declared.flight.CpuProgress.{CpuProgress}
-use Rattle.dspec_core.specs.declared.machine.cpu.Cpu.{Cpu}
-use Rattle.dspec_core.specs.Shown.{HasRecords, ShowsCpu, first_or_empty}
 use Rattle.dspec_core.proofs.Batches.{active_grows, batches_sealed}
 
 -- the counts of which a report tells

@@ -3,17 +3,9 @@ use Rattle.std.proofs.Common.{ℕ, ◌≡◌, ◌-◌, ◌<◌, ◌≤◌, true,
 use Rattle.std.specs.Prelude.{slice_get}
 use Rattle.std.proofs.lemmas.Option.{slice_get_read}
 use Rattle.std.proofs.lemmas.Bool.Decides.{nat_tests}
-use Rattle.dspec_buffer.specs.Extent.{Piece}
-use Rattle.dspec_word.specs.SpecId.{Speculation}
+use Rattle.dspec_core.specs.Words.{Piece, Speculation, Machine, Cpu, ack, in_range, Offer, contents, IsSlot, ShowsCpu, IsShownMachine, history}
 use Rattle.dspec_deeds.specs.declared.config.Config.{Config}
-use Rattle.dspec_core.specs.declared.machine.Machine.{Machine}
-use Rattle.dspec_core.specs.declared.machine.cpu.Cpu.{Cpu}
-use Rattle.dspec_deeds.specs.History.{ack, in_range}
-use Rattle.dspec_deeds.specs.Own.{Offer, contents}
-use Rattle.dspec_interleaving.specs.Coherent.{IsSlot}
 use Rattle.dspec_interleaving.proofs.CleanReads.{number_there}
-use Rattle.dspec_core.specs.Shown.{ShowsCpu}
-use Rattle.dspec_core.specs.Machines.{IsShownMachine, history}
 
 pub slot_in_range : (k : Config) (id : Speculation) → in_range k id ≡ true → IsSlot k id.slot
 slot_in_range k id e = (grind (arith, nat_tests), grind (arith, nat_tests))

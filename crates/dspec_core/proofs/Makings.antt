@@ -5,19 +5,11 @@ use Rattle.std.specs.Vec.{with_item}
 use Rattle.std.proofs.lemmas.List.{length-set, map-set}
 use Rattle.std.proofs.lemmas.Option.{slice_get_within}
 use Rattle.dspec_record.specs.declared.field.Shape.{Shape}
-use Rattle.dspec_buffer.specs.Extent.{Piece}
+use Rattle.dspec_core.specs.Words.{Piece, IsAllowed, Machine, Cpu, CpuStep, PlayState, progress_of, ShowsCpu, IsShownMachine, Adds, Makes, MayEnterOn, history, state_of, StandsAt}
 use Rattle.dspec_deeds.specs.declared.calls.Answer.{Answer}
 use Rattle.dspec_deeds.specs.declared.deed.Deed.{Deed}
-use Rattle.dspec_deeds.specs.Legal.{IsAllowed}
 use Rattle.dspec_interleaving.specs.declared.flight.CallPlace.{CallPlace}
 use Rattle.dspec_interleaving.specs.declared.flight.CpuProgress.{CpuProgress}
-use Rattle.dspec_core.specs.declared.machine.Machine.{Machine}
-use Rattle.dspec_core.specs.declared.machine.cpu.Cpu.{Cpu}
-use Rattle.dspec_interleaving.specs.Play.{CpuStep}
-use Rattle.dspec_interleaving.specs.Coherent.{PlayState, progress_of}
-use Rattle.dspec_core.specs.Shown.{ShowsCpu}
-use Rattle.dspec_core.specs.Machines.{IsShownMachine, Adds, Makes, MayEnterOn, history, state_of}
-use Rattle.dspec_core.specs.Standing.{StandsAt}
 use Rattle.dspec_deeds.proofs.TestLemmas.{either_way, same_number, numbers_differ}
 use Rattle.dspec_deeds.proofs.Places.{got_set, got_other}
 use Rattle.dspec_core.proofs.OneMore.{progress_there}

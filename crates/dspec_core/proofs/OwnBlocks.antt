@@ -1,29 +1,15 @@
 -- A CPU's block of its slot's present speculation, before the deed that ends it, once its records are in the stream, and behind the deed.
 use Rattle.std.proofs.Common.{◌≡◌, ℕ, ◌-◌, ◌<◌, true, false, List, [], ◌∷◌, ◌++◌, length, map, reverse, get_or, if◌then◌else◌, Some, None, refl, sym, ap, ◌∙◌}
 use Rattle.std.specs.Prelude.{slice_get}
-use Rattle.dspec_record.specs.Record.{Record}
-use Rattle.dspec_buffer.specs.Extent.{Piece, one}
-use Rattle.dspec_word.specs.SpecId.{Speculation}
+use Rattle.dspec_core.specs.Words.{Record, Piece, one, Speculation, is_copied, spoken_granted, is_open, issue, IsSound, contents, held, seals_now, stream, start_fault, ShowsList, IsSlot, Cpu}
+use Rattle.dspec_core.specs.Words.{Decision, Machine, decides, deed_of, IsShownMachine, history, ShowsCpu}
 use Rattle.dspec_deeds.specs.declared.deed.DecideFate.{DecideFate}
 use Rattle.dspec_deeds.specs.declared.deed.Deed.{Deed}
 use Rattle.dspec_deeds.specs.declared.deed.Deed.TheVariants.{Settle, Speculate}
 use Rattle.dspec_deeds.specs.declared.deed.SpeculateFate.{SpeculateFate}
-use Rattle.dspec_deeds.specs.FateKinds.{is_copied, spoken_granted}
-use Rattle.dspec_deeds.specs.History.{is_open, issue}
-use Rattle.dspec_deeds.specs.Legal.{IsSound}
-use Rattle.dspec_deeds.specs.Own.{contents, held, seals_now, stream}
-use Rattle.dspec_deeds.specs.Ranges.{start_fault}
 use Rattle.dspec_deeds.proofs.PresentIds.{open_present}
 use Rattle.dspec_deeds.proofs.WordChanges.{granted_open}
 use Rattle.dspec_cpu_state.specs.declared.cpu_state.CpuState.{CpuState}
-use Rattle.dspec_cpu_state.specs.CpuStates.{ShowsList}
-use Rattle.dspec_interleaving.specs.Coherent.{IsSlot}
-use Rattle.dspec_core.specs.declared.machine.cpu.Cpu.{Cpu}
-use Rattle.dspec_core.specs.declared.machine.decision.Decision.{Decision}
-use Rattle.dspec_core.specs.declared.machine.Machine.{Machine}
-use Rattle.dspec_core.specs.Decisions.{decides, deed_of}
-use Rattle.dspec_core.specs.Machines.{IsShownMachine, history}
-use Rattle.dspec_core.specs.Shown.{ShowsCpu}
 use Rattle.dspec_core.proofs.DecidedCpus.{decided_open}
 use Rattle.dspec_core.proofs.KeptCpus.{put_deed, put_side}
 use Rattle.dspec_core.proofs.MachineReads.{cpu_got, place_within}

@@ -3,10 +3,10 @@ use Rattle.std.proofs.Common.{◌≡◌, ℕ, zero, suc, ◌+◌, ◌-◌, ◌<�
 use Rattle.std.proofs.Common.{◌∷◌, ◌++◌, length, map, reverse, if◌then◌else◌, Option, Some, None, refl, sym, ap, ◌∙◌, subst, arith, append-nil, true≢false}
 use Rattle.std.specs.Prelude.{Result, Ok, Err, OnOk, OnErr, slice_get}
 use Rattle.std.proofs.lemmas.List.{reverse-append}
-use Rattle.dspec_record.specs.Record.{Record}
+use Rattle.dspec_core.specs.Words.{Record, Piece, one, Speculation, decided_stopped, is_commit, is_copied, is_discard, spoken_granted, trace_kept, Verdict, undecided, committed, discarded, verdict}
+use Rattle.dspec_core.specs.Words.{is_undecided, is_open, issue, IsSound, CpuLegal, SettlesAs, fits_principal, fits_speculative, mark, accepted, contents, held, stream, last_called, start_fault}
+use Rattle.dspec_core.specs.Words.{IsCaller, ShowsList, IsSlot}
 use Rattle.dspec_record.specs.declared.field.Shape.{Shape}
-use Rattle.dspec_buffer.specs.Extent.{Piece, one}
-use Rattle.dspec_word.specs.SpecId.{Speculation}
 use Rattle.dspec_deeds.specs.declared.config.Config.{Config}
 use Rattle.dspec_deeds.specs.declared.deed.DecideFate.{DecideFate}
 use Rattle.dspec_deeds.specs.declared.deed.DecideFate.TheVariants as decided
@@ -16,21 +16,12 @@ use Rattle.dspec_deeds.specs.declared.deed.TraceFate.{TraceFate}
 use Rattle.dspec_deeds.specs.declared.deed.TraceFate.TheVariants as traced
 use Rattle.dspec_deeds.specs.declared.deed.Deed.{Deed}
 use Rattle.dspec_deeds.specs.declared.deed.Deed.TheVariants.{Trace, Speculate, Commit, Discard, Settle}
-use Rattle.dspec_deeds.specs.FateKinds.{decided_stopped, is_commit, is_copied, is_discard, spoken_granted, trace_kept}
-use Rattle.dspec_deeds.specs.History.{Verdict, undecided, committed, discarded, verdict, is_undecided, is_open, issue}
-use Rattle.dspec_deeds.specs.Legal.{IsSound, CpuLegal, SettlesAs, fits_principal, fits_speculative}
-use Rattle.dspec_deeds.specs.Marks.{mark}
-use Rattle.dspec_deeds.specs.Own.{accepted, contents, held, stream}
-use Rattle.dspec_deeds.specs.CpuShown.{last_called}
-use Rattle.dspec_deeds.specs.Ranges.{start_fault}
 use Rattle.dspec_deeds.proofs.OwnStates.{tells_present}
 use Rattle.dspec_deeds.proofs.PresentIds.{decided_given, open_present, present_is}
 use Rattle.dspec_deeds.proofs.SetUp.{set_up}
 use Rattle.dspec_deeds.proofs.SoundLists.{opened_in_range}
 use Rattle.dspec_deeds.proofs.TestLemmas.{number_is_itself}
 use Rattle.dspec_cpu_state.specs.declared.cpu_state.CpuState.{CpuState}
-use Rattle.dspec_cpu_state.specs.CpuStates.{IsCaller, ShowsList}
-use Rattle.dspec_interleaving.specs.Coherent.{IsSlot}
 use Rattle.dspec_core.proofs.Batches.{stream_more}
 
 -- what follows on success

@@ -2,12 +2,7 @@
 use Rattle.std.proofs.Common.{◌≡◌, ℕ, Option, sym, subst}
 use Rattle.std.specs.Prelude.{Result, Ok, Err, IfOk, OnErr}
 use Rattle.dspec_record.specs.declared.field.Shape.{Shape}
-use Rattle.dspec_core.specs.declared.machine.Machine.{Machine}
-use Rattle.dspec_interleaving.specs.Coherent.{IsCoherent}
-use Rattle.dspec_core.specs.Machines.{state_of}
-use Rattle.dspec_interleaving.specs.Promised.{HasHeadline}
-use Rattle.dspec_core.specs.WorldViews.{WorldView}
-use Rattle.dspec_core.specs.Worlds.{world_view}
+use Rattle.dspec_core.specs.Words.{Machine, IsCoherent, state_of, HasHeadline, WorldView, world_view}
 use Rattle.dspec_deeds.proofs.Headlines.{headline}
 
 -- a coherent machine's session has the headline

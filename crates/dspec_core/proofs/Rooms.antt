@@ -1,31 +1,22 @@
 -- The counts of a CPU have room for its next deed.
 use Rattle.std.proofs.Common.{◌≡◌, ℕ, ◌+◌, ◌-◌, ◌<◌, ◌≤◌, ◌^◌, Bool, true, false, if◌then◌else◌, List, [], ◌∷◌, ◌++◌, length, reverse, Option, None, refl, sym, ap, ◌∙◌, subst, arith, true≢false}
 use Rattle.dspec_record.specs.declared.field.Shape.{Shape}
-use Rattle.dspec_buffer.specs.Extent.{Piece}
-use Rattle.dspec_word.specs.SpecId.{Speculation}
+use Rattle.dspec_core.specs.Words.{Piece, Speculation, is_lost, IsAllowed, calls, is_drop, start_fault, one_if, report, speculative, total, HasRoom, IsRoomy, counts_of, with_decided, with_fate}
+use Rattle.dspec_core.specs.Words.{ShowsList, Decision, decides, deed_of}
 use Rattle.dspec_deeds.specs.declared.config.Config.{Config}
 use Rattle.dspec_deeds.specs.declared.deed.DecideFate.{DecideFate}
 use Rattle.dspec_deeds.specs.declared.deed.DecideFate.TheVariants as decided
 use Rattle.dspec_deeds.specs.declared.deed.Deed.{Deed}
 use Rattle.dspec_deeds.specs.declared.report.Report.{Report}
-use Rattle.dspec_deeds.specs.FateKinds.{is_lost}
-use Rattle.dspec_deeds.specs.Legal.{IsAllowed}
-use Rattle.dspec_deeds.specs.Own.{calls, is_drop}
-use Rattle.dspec_deeds.specs.Ranges.{start_fault}
-use Rattle.dspec_deeds.specs.Reports.{one_if, report, speculative, total}
 use Rattle.dspec_deeds.proofs.Balance.{balance}
 use Rattle.dspec_deeds.proofs.DeedEffects.{legal_accounts}
 use Rattle.dspec_deeds.proofs.ReportBounds.{report_within}
 use Rattle.dspec_cpu_state.specs.declared.counts.Counts.{Counts}
-use Rattle.dspec_cpu_state.specs.Counting.{HasRoom, IsRoomy, counts_of, with_decided, with_fate}
 use Rattle.dspec_cpu_state.specs.declared.cpu_state.CpuState.{CpuState}
-use Rattle.dspec_cpu_state.specs.CpuStates.{ShowsList}
 use Rattle.dspec_cpu_state.proofs.Tallies.{commit_counts, discard_counts, drops_since}
 use Rattle.dspec_interleaving.proofs.CleanReads.{calls_fit}
 use Rattle.dspec_interleaving.proofs.Counts.{calls_counted, drops_counted, one_more, seals_counted}
-use Rattle.dspec_core.specs.declared.machine.decision.Decision.{Decision}
 use Rattle.dspec_core.specs.declared.machine.decision.Decision.TheVariants as decision
-use Rattle.dspec_core.specs.Decisions.{decides, deed_of}
 
 -- the report that is told of counts
 abbrev told_of : Counts → Report

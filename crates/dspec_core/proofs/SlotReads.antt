@@ -1,15 +1,8 @@
 -- What a machine shows a CPU of a slot, and the row of the table of settlements there.
 use Rattle.std.proofs.Common.{◌≡◌, ℕ, ◌-◌, ◌<◌, List, get_or, ◌∙◌}
-use Rattle.dspec_buffer.specs.Extent.{Piece}
+use Rattle.dspec_core.specs.Words.{Piece, settle_at, SlotState, ack, word_at, IsSlot, Cpu, Machine, IsShownMachine, history}
 use Rattle.dspec_word.specs.declared.act.Act.{Act}
-use Rattle.dspec_word.specs.Tables.{settle_at}
-use Rattle.dspec_word.specs.Word.{SlotState}
 use Rattle.dspec_deeds.specs.declared.deed.Deed.{Deed}
-use Rattle.dspec_deeds.specs.History.{ack, word_at}
-use Rattle.dspec_interleaving.specs.Coherent.{IsSlot}
-use Rattle.dspec_core.specs.declared.machine.cpu.Cpu.{Cpu}
-use Rattle.dspec_core.specs.declared.machine.Machine.{Machine}
-use Rattle.dspec_core.specs.Machines.{IsShownMachine, history}
 use Rattle.dspec_core.proofs.MachineReads.{ack_read}
 use Rattle.dspec_core.proofs.OneMore.{word_there}
 

@@ -3,19 +3,9 @@ use Rattle.std.proofs.Common.{◌≡◌, ℕ, zero, suc, ◌+◌, ◌-◌, ◌<�
 use Rattle.std.specs.Prelude.{slice_get}
 use Rattle.std.proofs.lemmas.Option.{slice_get-get_or}
 use Rattle.dspec_record.specs.declared.field.Shape.{Shape}
-use Rattle.dspec_record.specs.Record.{Record}
-use Rattle.dspec_buffer.specs.Extent.{Piece}
+use Rattle.dspec_core.specs.Words.{Record, Piece, SlotState, Machine, Cpu, progress_of, idle_progress, start_fault, idle_cpus, at_start, ShowsCpu, IsShownMachine, history, state_of, IsWithin}
 use Rattle.dspec_word.specs.declared.code.Code.TheVariants.{Inactive}
-use Rattle.dspec_word.specs.Word.{SlotState}
 use Rattle.dspec_deeds.specs.declared.config.Config.{Config}
-use Rattle.dspec_core.specs.declared.machine.Machine.{Machine}
-use Rattle.dspec_core.specs.declared.machine.cpu.Cpu.{Cpu}
-use Rattle.dspec_interleaving.specs.Coherent.{progress_of, idle_progress}
-use Rattle.dspec_deeds.specs.Ranges.{start_fault}
-use Rattle.dspec_interleaving.specs.Turns.{idle_cpus, at_start}
-use Rattle.dspec_core.specs.Shown.{ShowsCpu}
-use Rattle.dspec_core.specs.Machines.{IsShownMachine, history, state_of}
-use Rattle.dspec_core.specs.Worlds.{IsWithin}
 use Rattle.dspec_interleaving.proofs.Coherence.{start_coherent}
 use Rattle.dspec_core.proofs.Keepings.{KeepsState}
 use Rattle.dspec_core.proofs.OneMore.{shown_as}

@@ -10,8 +10,8 @@ use Rattle.dspec_deeds.specs.declared.calls.CpuOp.{CpuOp}
 use Rattle.dspec_deeds.specs.declared.calls.Op.TheVariants as op
 use Rattle.dspec_deeds.specs.declared.config.Config.{Config}
 use Rattle.dspec_deeds.specs.declared.deed.Deed.{Deed}
-use Rattle.dspec_deeds.specs.History.{author, same_actor}
-use Rattle.dspec_deeds.specs.Own.{calls}
+use Rattle.dspec_core.specs.Words.{author, same_actor, calls, op_of, IsCoherent, PlayState, StandsState, progress_of, CpuStep, ConsumerStep, cpu_step, consumer_step, is_counted, is_first}
+use Rattle.dspec_core.specs.Words.{is_told_worn, enters_call, is_due, IsWithin}
 use Rattle.dspec_deeds.proofs.Going.{AllBy}
 use Rattle.dspec_deeds.proofs.StayingOwn.{calls_other}
 use Rattle.dspec_deeds.proofs.TestLemmas.{either_way, same_actor_tells}
@@ -19,10 +19,6 @@ use Rattle.dspec_interleaving.specs.declared.flight.CpuProgress.{CpuProgress}
 use Rattle.dspec_interleaving.specs.declared.flight.CallPlace.{CallPlace}
 use Rattle.dspec_interleaving.specs.declared.flight.CallPlace.TheVariants as cpu
 use Rattle.dspec_interleaving.specs.declared.flight.ConsumerFlight.{ConsumerFlight}
-use Rattle.dspec_interleaving.specs.Calls.{op_of}
-use Rattle.dspec_interleaving.specs.Coherent.{IsCoherent, PlayState, StandsState, progress_of}
-use Rattle.dspec_interleaving.specs.Play.{CpuStep, ConsumerStep, cpu_step, consumer_step}
-use Rattle.dspec_interleaving.specs.Wearing.{is_counted, is_first, is_told_worn, enters_call}
 use Rattle.dspec_interleaving.proofs.ConsumerSteps.{consumer_keeps}
 use Rattle.dspec_interleaving.proofs.CpuSteps.{cpu_step_stands}
 use Rattle.dspec_interleaving.proofs.FlightsStay.{flights_stay}
@@ -30,7 +26,6 @@ use Rattle.dspec_interleaving.proofs.KeptCalls.{step_passes}
 use Rattle.dspec_interleaving.proofs.OwnAnswersPlay.{put}
 use Rattle.dspec_interleaving.proofs.StepEnds.{HasEnded, HasGoneOn, cpu_advances}
 use Rattle.dspec_interleaving.proofs.WornCpuSteps.{ahead, enters, cpu_step_wears}
-use Rattle.dspec_core.specs.Worlds.{is_due, IsWithin}
 
 -- a deed that counts was entered by the call in flight, or is to come, or neither
 abbrev spent : Option CallPlace → ℕ

@@ -2,12 +2,9 @@
 use Rattle.std.proofs.Common.{◌≡◌, ◌≢◌, ℕ, ◌⊎◌, ◌-◌, ◌<◌, ◌≤◌, true, false, ◌==◌, List, ◌∷◌, length, Some, sym, ap, ◌∙◌, subst, ⊎_elim, arith}
 use Rattle.std.specs.Prelude.{slice_get, slice_set}
 use Rattle.std.proofs.lemmas.List.{length-set}
-use Rattle.dspec_word.specs.Word.{SlotState}
+use Rattle.dspec_core.specs.Words.{SlotState, word_at, IsSlot, ShowsWords}
 use Rattle.dspec_deeds.specs.declared.config.Config.{Config}
 use Rattle.dspec_deeds.specs.declared.deed.Deed.{Deed}
-use Rattle.dspec_deeds.specs.History.{word_at}
-use Rattle.dspec_interleaving.specs.Coherent.{IsSlot}
-use Rattle.dspec_core.specs.Shown.{ShowsWords}
 use Rattle.dspec_deeds.proofs.TestLemmas.{either_way, same_number, numbers_differ}
 use Rattle.dspec_deeds.proofs.WordChanges.{touches, untouched, slot_of, elsewhere}
 use Rattle.dspec_deeds.proofs.Places.{got_set, got_other}

@@ -2,9 +2,7 @@
 use Rattle.std.specs.Prelude.{ℕ, Bool, List, Option}
 use Rattle.dspec_record.specs.declared.field.Shape.{Shape}
 use Rattle.dspec_word.specs.declared.act.Act.{Act}
-use Rattle.dspec_word.specs.SpecId.{Speculation}
-use Rattle.dspec_word.specs.Word.{SlotState}
-use Rattle.dspec_word.specs.Tables.{commit_at, discard_at}
+use Rattle.dspec_core.specs.Words.Outside.{Speculation, SlotState, commit_at, discard_at, is_commit, is_discard, is_among, callers, word_at, CpuStep, shown_commit, shown_discard}
 use Rattle.dspec_deeds.specs.declared.calls.CpuOp.TheVariants as cpu_op
 use Rattle.dspec_deeds.specs.declared.config.Config.{Config}
 use Rattle.dspec_deeds.specs.declared.deed.DecideFate.{DecideFate}
@@ -15,9 +13,6 @@ use Rattle.dspec_interleaving.specs.declared.flight.CallPlace.{CallPlace}
 use Rattle.dspec_interleaving.specs.declared.flight.CallPlace.TheVariants as flight
 use Rattle.dspec_core.specs.declared.machine.decision.Decision.{Decision}
 use Rattle.dspec_core.specs.declared.machine.decision.Decision.TheVariants.{Commit, Discard}
-use Rattle.dspec_deeds.specs.FateKinds.{is_commit, is_discard}
-use Rattle.dspec_deeds.specs.History.{is_among, callers, word_at}
-use Rattle.dspec_interleaving.specs.Play.{CpuStep, shown_commit, shown_discard}
 
 -- what the call does at a word, by its table
 abbrev pub act_of_decision : Decision → SlotState → Speculation → Bool → Act

@@ -39,3 +39,4 @@ pub mod Decisions
 pub mod Standing
 pub mod Steps
 pub use Rattle.dspec_interleaving.specs.Laws
+pub mod Words

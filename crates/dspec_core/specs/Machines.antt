@@ -1,20 +1,12 @@
 -- Cited by calls. A machine shows its list of deeds.
 use Rattle.std.specs.Prelude.{ℕ, ◌≡◌, ◌<◌, ◌++◌, List, [], length, map, reverse, slice_get, Option, Some, None, if◌then◌else◌}
 use Rattle.dspec_record.specs.declared.field.Shape.{Shape}
-use Rattle.dspec_record.specs.Record.{Record}
-use Rattle.dspec_buffer.specs.Extent.{Piece, one}
+use Rattle.dspec_core.specs.Words.Outside.{Record, Piece, one, is_copied, halted, IsAllowed, start_fault, CpuStep, ConsumerStep, PlayState, moved_to, cleaned_to}
 use Rattle.dspec_deeds.specs.declared.calls.Answer.{Answer}
 use Rattle.dspec_deeds.specs.declared.deed.DecideFate.{DecideFate}
 use Rattle.dspec_deeds.specs.declared.deed.Deed.{Deed}
 use Rattle.dspec_core.specs.declared.machine.Machine.{Machine}
 use Rattle.dspec_core.specs.declared.machine.cpu.Cpu.{Cpu}
-use Rattle.dspec_deeds.specs.FateKinds.{is_copied}
-use Rattle.dspec_deeds.specs.History.{halted}
-use Rattle.dspec_deeds.specs.Legal.{IsAllowed}
-use Rattle.dspec_deeds.specs.Ranges.{start_fault}
-use Rattle.dspec_interleaving.specs.Play.{CpuStep, ConsumerStep}
-use Rattle.dspec_interleaving.specs.Coherent.{PlayState}
-use Rattle.dspec_interleaving.specs.Turns.{moved_to, cleaned_to}
 use Rattle.dspec_core.specs.Shown.{ShowsWords, ShowsCpu}
 
 -- the deeds of a machine, the latest first

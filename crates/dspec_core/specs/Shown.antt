@@ -1,14 +1,8 @@
 -- Cited by calls. What a machine keeps of a CPU, and the words, show of the list of deeds.
 use Rattle.std.specs.Prelude.{ℕ, ◌≡◌, ◌<◌, ◌-◌, ◌^◌, List, [], ◌∷◌, length, slice_get, Some}
-use Rattle.dspec_record.specs.Record.{Record}
-use Rattle.dspec_buffer.specs.Extent.{Piece, records}
-use Rattle.dspec_word.specs.Word.{SlotState}
+use Rattle.dspec_core.specs.Words.Outside.{Record, Piece, records, SlotState, word_at, Batch, empty_batch, batches, contents, stream, taken, ShowsList, IsSlot}
 use Rattle.dspec_deeds.specs.declared.config.Config.{Config}
 use Rattle.dspec_deeds.specs.declared.deed.Deed.{Deed}
-use Rattle.dspec_deeds.specs.History.{word_at}
-use Rattle.dspec_deeds.specs.Own.{Batch, empty_batch, batches, contents, stream, taken}
-use Rattle.dspec_cpu_state.specs.CpuStates.{ShowsList}
-use Rattle.dspec_interleaving.specs.Coherent.{IsSlot}
 use Rattle.dspec_core.specs.declared.machine.cpu.Cpu.{Cpu}
 
 -- the batch sealed last

@@ -1,12 +1,10 @@
 -- Serves proofs. Where a call in flight stands: what each of its atomic steps takes for granted.
 use Rattle.std.specs.Prelude.{ℕ, ◌≡◌, ◌<◌, ◌≤◌, List, Option, Some}
 use Rattle.dspec_record.specs.declared.field.Shape.{Shape}
-use Rattle.dspec_buffer.specs.Extent.{Piece}
+use Rattle.dspec_core.specs.Words.Outside.{Piece, IsCoherent, progress_of, calls}
 use Rattle.dspec_interleaving.specs.declared.flight.ConsumerFlight.{ConsumerFlight}
 use Rattle.dspec_interleaving.specs.declared.flight.CallPlace.{CallPlace}
 use Rattle.dspec_core.specs.declared.machine.Machine.{Machine}
-use Rattle.dspec_interleaving.specs.Coherent.{IsCoherent, progress_of}
-use Rattle.dspec_deeds.specs.Own.{calls}
 use Rattle.dspec_core.specs.Machines.{IsShownMachine, history, state_of}
 
 -- the machine shows its list of deeds, each call in flight stands where its deeds have brought it, and that CPU's is at that place;

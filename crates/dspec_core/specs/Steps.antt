@@ -1,18 +1,14 @@
 -- Serves proofs. What each atomic step of a call in flight makes of a machine: the play's step, by what the machine shows.
 use Rattle.std.specs.Prelude.{ℕ, ◌+◌, ◌-◌, ◌^◌, min, List, [], ◌∷◌, slice_set, Option, Some, None}
 use Rattle.dspec_record.specs.declared.field.Shape.{Shape}
-use Rattle.dspec_record.specs.Record.{Record}
-use Rattle.dspec_buffer.specs.Extent.{Piece}
-use Rattle.dspec_word.specs.SpecId.{Speculation}
-use Rattle.dspec_word.specs.Word.{SlotState}
+use Rattle.dspec_core.specs.Words.Outside.{Record, Piece, Speculation, SlotState, commit_fate, answer_of, CpuStep, ConsumerStep, ends, cpu_step, consumer_step, spoken_at, committed_by, discarded_by}
+use Rattle.dspec_core.specs.Words.Outside.{missed, loads_service, served, takes_at, PlayState, progress_of}
 use Rattle.dspec_word.specs.declared.act.Act.TheVariants.{Attempt}
 use Rattle.dspec_deeds.specs.declared.calls.Answer.{Answer}
 use Rattle.dspec_deeds.specs.declared.calls.Served.{Served}
 use Rattle.dspec_deeds.specs.declared.deed.DecideFate.{DecideFate}
 use Rattle.dspec_deeds.specs.declared.deed.Deed.{Deed}
 use Rattle.dspec_deeds.specs.declared.deed.Deed.TheVariants.{Commit}
-use Rattle.dspec_deeds.specs.Settling.{commit_fate}
-use Rattle.dspec_deeds.specs.FateAnswers.{answer_of}
 use Rattle.dspec_interleaving.specs.declared.flight.CpuProgress.{CpuProgress}
 use Rattle.dspec_interleaving.specs.declared.flight.ConsumerFlight.{ConsumerFlight}
 use Rattle.dspec_interleaving.specs.declared.flight.CallPlace.{CallPlace}
@@ -21,8 +17,6 @@ use Rattle.dspec_interleaving.specs.declared.flight.Spare.{Spare}
 use Rattle.dspec_interleaving.specs.declared.flight.Spare.TheVariants as spare
 use Rattle.dspec_core.specs.declared.machine.decision.Decision.{Decision}
 use Rattle.dspec_core.specs.declared.machine.Machine.{Machine}
-use Rattle.dspec_interleaving.specs.Play.{CpuStep, ConsumerStep, ends, cpu_step, consumer_step, spoken_at, committed_by, discarded_by, missed, loads_service, served, takes_at}
-use Rattle.dspec_interleaving.specs.Coherent.{PlayState, progress_of}
 use Rattle.dspec_core.specs.Decisions.{deed_of, shown_by}
 use Rattle.dspec_core.specs.Machines.{Makes, ConsumerMakes, history, state_of}
 

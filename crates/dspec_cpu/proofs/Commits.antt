@@ -1,36 +1,21 @@
 -- A call of commit that decided: the list and the deeds behind it.
 use Rattle.std.proofs.Common.{◌≡◌, ◌≢◌, ℕ, ◌+◌, ◌==◌, Bool, true, false, List, [], ◌∷◌, ◌++◌, length, Option, refl, sym, ap, ◌∙◌, subst, inl, true≢false}
-use Rattle.dspec_record.specs.Record.{Record}
+use Rattle.dspec_cpu.specs.Words.{Record, Stored, HasPieces, Speculation, SlotState, is_commit, CpuLegal, fits_principal, mark, contents, held, known, set_up, IsAt, cpu_of, ReleasedWord, IsCaller}
+use Rattle.dspec_cpu.specs.Words.{ShowsList, committed_fate, Cpu, Goes, steps, decided_deeds, HasList, IsReady, IsShown, Reached, Stands, OwnsCommit}
 use Rattle.dspec_record.specs.declared.field.Shape.{Shape}
 use Rattle.dspec_buffer.specs.Extent as extent
-use Rattle.dspec_buffer.specs.Stored.{Stored, HasPieces}
-use Rattle.dspec_word.specs.SpecId.{Speculation}
-use Rattle.dspec_word.specs.Word.{SlotState}
 use Rattle.dspec_word.specs.declared.code.Code.TheVariants.{Committing}
 use Rattle.dspec_word.specs.declared.act.Act.TheVariants.{Attempt}
 use Rattle.dspec_deeds.specs.declared.calls.Decided.{Decided}
 use Rattle.dspec_deeds.specs.declared.deed.DecideFate.{DecideFate}
 use Rattle.dspec_deeds.specs.declared.deed.Deed.{Deed}
 use Rattle.dspec_deeds.specs.declared.deed.Deed.TheVariants.{Commit, Release}
-use Rattle.dspec_deeds.specs.FateKinds.{is_commit}
-use Rattle.dspec_deeds.specs.Legal.{CpuLegal, fits_principal}
-use Rattle.dspec_deeds.specs.Marks.{mark}
-use Rattle.dspec_deeds.specs.Own.{contents, held}
 use Rattle.dspec_deeds.proofs.TestLemmas.{number_is_itself}
 use Rattle.dspec_table.specs.declared.rule.View.{View}
 use Rattle.dspec_table.specs.declared.seats.Words.{Words}
 use Rattle.dspec_table.specs.declared.seats.CpuSeat.{CpuSeat}
-use Rattle.dspec_table.specs.Seats.{known, set_up, IsAt, cpu_of}
-use Rattle.dspec_table.specs.Steps.{ReleasedWord}
 use Rattle.dspec_cpu_state.specs.declared.cpu_state.CpuState.{CpuState}
-use Rattle.dspec_cpu_state.specs.CpuStates.{IsCaller, ShowsList}
-use Rattle.dspec_deeds.specs.Settling.{committed_fate}
-use Rattle.dspec_cpu.specs.declared.parts.CpuParts.{CpuParts as Cpu}
 use Rattle.dspec_cpu.specs.declared.reaching.Reach.TheVariants as reach
-use Rattle.dspec_cpu.specs.Calls.{Goes, steps, decided_deeds}
-use Rattle.dspec_cpu.specs.Lists.{HasList, IsReady, IsShown}
-use Rattle.dspec_cpu.specs.Reached.{Reached, Stands}
-use Rattle.dspec_cpu.specs.Reaching.{OwnsCommit}
 use Rattle.dspec_cpu.proofs.Decisions.{block_answer, block_deeds, fate_commits, fate_copied, fate_count, IsCommitWord, left_by_commit, released_shown, waits_many}
 use Rattle.dspec_cpu.proofs.Decided.{Ended, deciding, deed_of}
 use Rattle.dspec_cpu.proofs.Ready.{few, holder, ready_after, set_up_is, stands_behind}

@@ -1,9 +1,8 @@
 -- What a call of commit or discard left, and a call of either that decided nothing.
 use Rattle.std.proofs.Common.{◌≡◌, ℕ, ◌+◌, Bool, true, false, List, [], ◌∷◌, Option, None, if◌then◌else◌, refl, sym, ap, ◌∙◌, subst, true≢false}
-use Rattle.dspec_record.specs.Record.{Record}
+use Rattle.dspec_cpu.specs.Words.{Record, Stored, HasPieces, Speculation, scan, is_seal, CpuRow, is_of, bare, flight_after, known, set_up, IsAt, cpu_of, ShowsList, Cpu, Reach, Decides, HasList}
+use Rattle.dspec_cpu.specs.Words.{IsReady, Reached, Stands, turns}
 use Rattle.dspec_record.specs.declared.field.Shape.{Shape}
-use Rattle.dspec_buffer.specs.Stored.{Stored, HasPieces}
-use Rattle.dspec_word.specs.SpecId.{Speculation}
 use Rattle.dspec_deeds.specs.declared.config.Config.{Config}
 use Rattle.dspec_deeds.specs.declared.calls.CpuOp.{CpuOp}
 use Rattle.dspec_deeds.specs.declared.calls.CpuOp.TheVariants as op
@@ -13,26 +12,13 @@ use Rattle.dspec_deeds.specs.declared.deed.DecideFate.{DecideFate}
 use Rattle.dspec_deeds.specs.declared.deed.DecideFate.TheVariants as fated
 use Rattle.dspec_deeds.specs.declared.deed.Deed.{Deed}
 use Rattle.dspec_deeds.specs.declared.deed.Deed.TheVariants.{Commit, Discard}
-use Rattle.dspec_deeds.specs.History.{scan}
-use Rattle.dspec_deeds.specs.Legal.{is_seal}
-use Rattle.dspec_deeds.specs.Owning.{CpuRow, is_of}
-use Rattle.dspec_deeds.specs.Weaving.{bare}
 use Rattle.dspec_deeds.proofs.TestLemmas.{number_is_itself}
 use Rattle.dspec_table.specs.declared.doing.Doing.{Doing}
 use Rattle.dspec_table.specs.declared.rule.View.{View}
 use Rattle.dspec_table.specs.declared.seats.Words.{Words}
 use Rattle.dspec_table.specs.declared.seats.CpuSeat.{CpuSeat}
-use Rattle.dspec_table.specs.Flights.{flight_after}
-use Rattle.dspec_table.specs.Seats.{known, set_up, IsAt, cpu_of}
 use Rattle.dspec_cpu_state.specs.declared.cpu_state.CpuState.{CpuState}
-use Rattle.dspec_cpu_state.specs.CpuStates.{ShowsList}
-use Rattle.dspec_cpu.specs.declared.parts.CpuParts.{CpuParts as Cpu}
-use Rattle.dspec_cpu.specs.declared.reaching.Reach.{Reach}
 use Rattle.dspec_cpu.specs.declared.reaching.Reach.TheVariants as reach
-use Rattle.dspec_cpu.specs.Calls.{Decides}
-use Rattle.dspec_cpu.specs.Lists.{HasList, IsReady}
-use Rattle.dspec_cpu.specs.Reached.{Reached, Stands}
-use Rattle.dspec_cpu.specs.Reaching.{turns}
 use Rattle.dspec_cpu.proofs.Ready.{ready_after}
 use Rattle.dspec_cpu.proofs.Shown.{shows, shown_behind}
 

@@ -1,14 +1,11 @@
 -- A call of commit: what its exchange tells, and the lists behind its answers.
 use Rattle.std.proofs.Common.{◌≡◌, ◌≢◌, ◌⊎◌, ℕ, ◌==◌, Bool, true, false, List, ◌∷◌, Option, None, if◌then◌else◌, refl, sym, ap, ◌∙◌, subst, ⊎_elim, inl, inr, add-zero}
-use Rattle.dspec_record.specs.Record.{Record}
+use Rattle.dspec_cpu.specs.Words.{Record, Speculation, SlotState, awaits, commit_act, commit_at, is_commit, is_copied, count_of, issue, owed, solo, word_at, IsSound, sealed_last, CommitsNow}
+use Rattle.dspec_cpu.specs.Words.{IfCommitting, OwnCommit, Cpu, decision, decided_deeds, counts_of, committed_fate, IsShown, OwnsCommit}
 use Rattle.dspec_record.specs.declared.field.Shape.{Shape}
-use Rattle.dspec_word.specs.SpecId.{Speculation}
-use Rattle.dspec_word.specs.Word.{SlotState}
 use Rattle.dspec_word.specs.declared.code.Code.{Code}
 use Rattle.dspec_word.specs.declared.code.Code.TheVariants.{Inactive, Active, ActiveOne, ActiveMany, Committing, CommittingMany, Discarding}
 use Rattle.dspec_word.specs.declared.act.Act.TheVariants.{Attempt}
-use Rattle.dspec_word.specs.Code.{awaits}
-use Rattle.dspec_word.specs.Tables.{commit_act, commit_at}
 use Rattle.dspec_deeds.specs.declared.config.Config.{Config}
 use Rattle.dspec_deeds.specs.declared.calls.CpuOp.TheVariants as op
 use Rattle.dspec_deeds.specs.declared.calls.Decided.{Decided}
@@ -16,22 +13,12 @@ use Rattle.dspec_deeds.specs.declared.calls.Decided.TheVariants as decided
 use Rattle.dspec_deeds.specs.declared.deed.DecideFate.{DecideFate}
 use Rattle.dspec_deeds.specs.declared.deed.Deed.{Deed}
 use Rattle.dspec_deeds.specs.declared.deed.Deed.TheVariants.{Release}
-use Rattle.dspec_deeds.specs.FateKinds.{is_commit, is_copied, count_of}
-use Rattle.dspec_deeds.specs.History.{issue, owed, solo, word_at}
-use Rattle.dspec_deeds.specs.Legal.{IsSound, sealed_last}
 use Rattle.dspec_deeds.proofs.Awaiting.{awaiting}
 use Rattle.dspec_deeds.proofs.PresentIds.{present_is}
 use Rattle.dspec_deeds.proofs.TestLemmas.{same_number}
 use Rattle.dspec_table.specs.declared.rule.View.{View}
 use Rattle.dspec_table.specs.declared.seats.CpuSeat.{CpuSeat}
-use Rattle.dspec_table.specs.Conditions.{CommitsNow, IfCommitting, OwnCommit}
-use Rattle.dspec_cpu.specs.declared.parts.CpuParts.{CpuParts as Cpu}
 use Rattle.dspec_cpu_state.specs.declared.counts.Counts.{Counts}
-use Rattle.dspec_cpu.specs.Calls.{decision, decided_deeds}
-use Rattle.dspec_cpu_state.specs.Counting.{counts_of}
-use Rattle.dspec_deeds.specs.Settling.{committed_fate}
-use Rattle.dspec_cpu.specs.Lists.{IsShown}
-use Rattle.dspec_cpu.specs.Reaching.{OwnsCommit}
 use Rattle.dspec_cpu_state.proofs.Tallies.{released_counts}
 use Rattle.dspec_cpu.proofs.Quiet.{quiet_shown}
 use Rattle.dspec_cpu.proofs.Retries.{here_or_void, attempt_is}

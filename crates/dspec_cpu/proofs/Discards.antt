@@ -1,39 +1,21 @@
 -- A call of discard that decided: the list and the deeds behind it.
 use Rattle.std.proofs.Common.{◌≡◌, ℕ, ◌+◌, ◌==◌, Bool, true, false, List, ◌∷◌, ◌++◌, length, Option, None, refl, sym, ap, ◌∙◌, subst, true≢false}
-use Rattle.dspec_record.specs.Record.{Record}
+use Rattle.dspec_cpu.specs.Words.{Record, Stored, HasPieces, Speculation, SlotState, is_inactive, discard_act, discard_at, scan, is_discard, CpuLegal, mark, held, bare, flight_after, known, set_up}
+use Rattle.dspec_cpu.specs.Words.{IsAt, cpu_of, Cpu, decision, IsCaller, ShowsList, HasList, IsReady, IsShown, Reached, OwnsCommit}
 use Rattle.dspec_record.specs.declared.field.Shape.{Shape}
-use Rattle.dspec_buffer.specs.Stored.{Stored, HasPieces}
-use Rattle.dspec_word.specs.SpecId.{Speculation}
-use Rattle.dspec_word.specs.Word.{SlotState}
-use Rattle.dspec_word.specs.Code.{is_inactive}
 use Rattle.dspec_word.specs.declared.code.Code.{Code}
 use Rattle.dspec_word.specs.declared.code.Code.TheVariants.{Inactive, Active, ActiveOne, ActiveMany, Committing, CommittingMany, Discarding}
 use Rattle.dspec_word.specs.declared.act.Act.TheVariants.{Attempt}
-use Rattle.dspec_word.specs.Tables.{discard_act, discard_at}
 use Rattle.dspec_deeds.specs.declared.calls.Decided.TheVariants as decided
 use Rattle.dspec_deeds.specs.declared.deed.DecideFate.TheVariants as fated
 use Rattle.dspec_deeds.specs.declared.deed.Deed.{Deed}
 use Rattle.dspec_deeds.specs.declared.deed.Deed.TheVariants.{Discard}
-use Rattle.dspec_deeds.specs.History.{scan}
-use Rattle.dspec_deeds.specs.FateKinds.{is_discard}
-use Rattle.dspec_deeds.specs.Legal.{CpuLegal}
-use Rattle.dspec_deeds.specs.Marks.{mark}
-use Rattle.dspec_deeds.specs.Own.{held}
-use Rattle.dspec_deeds.specs.Weaving.{bare}
 use Rattle.dspec_deeds.proofs.TestLemmas.{number_is_itself, same_number}
 use Rattle.dspec_table.specs.declared.rule.View.{View}
-use Rattle.dspec_table.specs.Flights.{flight_after}
 use Rattle.dspec_table.specs.declared.seats.Words.{Words}
 use Rattle.dspec_table.specs.declared.seats.CpuSeat.{CpuSeat}
-use Rattle.dspec_table.specs.Seats.{known, set_up, IsAt, cpu_of}
-use Rattle.dspec_cpu.specs.declared.parts.CpuParts.{CpuParts as Cpu}
 use Rattle.dspec_cpu_state.specs.declared.cpu_state.CpuState.{CpuState}
 use Rattle.dspec_cpu.specs.declared.reaching.Reach.TheVariants as reach
-use Rattle.dspec_cpu.specs.Calls.{decision}
-use Rattle.dspec_cpu_state.specs.CpuStates.{IsCaller, ShowsList}
-use Rattle.dspec_cpu.specs.Lists.{HasList, IsReady, IsShown}
-use Rattle.dspec_cpu.specs.Reached.{Reached}
-use Rattle.dspec_cpu.specs.Reaching.{OwnsCommit}
 use Rattle.dspec_cpu.proofs.Decided.{Ended, deciding, deed_of}
 use Rattle.dspec_cpu.proofs.Decisions.{waits_at, released_shown}
 use Rattle.dspec_cpu.proofs.Retries.{here_or_void, attempt_is}

@@ -1,35 +1,19 @@
 -- The settlement of one slot that is due: the step, the list and the CPU behind it.
 use Rattle.std.proofs.Common.{◌≡◌, ℕ, ◌≤◌, ◌<◌, ◌^◌, Bool, true, List, [], ◌∷◌, Option, refl, sym, ap, ◌∙◌, subst, inl}
-use Rattle.dspec_record.specs.Record.{Record}
+use Rattle.dspec_cpu.specs.Words.{Record, Stored, Speculation, SlotState, settle_at, is_granted, ack, scan, word_at, settled_fate, MaySettle, known, IsAt, cpu_of, number_of, ack_place, Entered}
+use Rattle.dspec_cpu.specs.Words.{SettledWord, Cpu, rests, steps, AreShown, HasList, IsReady, side_of, batches_of, Stands, BlockSettled, CanSettle, DueSettled, IsDueAt, IsPartOf, shown_at}
 use Rattle.dspec_record.specs.declared.field.Shape.{Shape}
-use Rattle.dspec_buffer.specs.Stored.{Stored}
-use Rattle.dspec_word.specs.SpecId.{Speculation}
-use Rattle.dspec_word.specs.Word.{SlotState}
-use Rattle.dspec_word.specs.Tables.{settle_at}
 use Rattle.dspec_deeds.specs.declared.config.Config.{Config}
 use Rattle.dspec_deeds.specs.declared.calls.CpuOp.TheVariants as op
 use Rattle.dspec_deeds.specs.declared.deed.Deed.{Deed}
 use Rattle.dspec_deeds.specs.declared.deed.Deed.TheVariants.{Settle}
-use Rattle.dspec_deeds.specs.Closes.{is_granted}
-use Rattle.dspec_deeds.specs.History.{ack, scan, word_at}
 use Rattle.dspec_deeds.proofs.OwnReads.{apart_bare}
-use Rattle.dspec_deeds.specs.Settling.{settled_fate}
 use Rattle.dspec_table.specs.declared.doing.Doing.{Doing}
 use Rattle.dspec_table.specs.declared.rule.View.{View}
 use Rattle.dspec_table.specs.declared.seats.CpuSeat.{CpuSeat}
 use Rattle.dspec_table.specs.declared.seats.Words.{Words}
-use Rattle.dspec_table.specs.Conditions.{MaySettle}
-use Rattle.dspec_table.specs.Seats.{known, IsAt, cpu_of}
-use Rattle.dspec_table.specs.Holders.{number_of}
-use Rattle.dspec_table.specs.Layout.{ack_place}
-use Rattle.dspec_table.specs.Steps.{Entered, SettledWord}
 use Rattle.dspec_table.proofs.OwnReading.{scan_part}
 use Rattle.dspec_cpu_state.specs.declared.cpu_state.CpuState.{CpuState}
-use Rattle.dspec_cpu.specs.declared.parts.CpuParts.{CpuParts as Cpu}
-use Rattle.dspec_cpu.specs.Calls.{rests, steps}
-use Rattle.dspec_cpu.specs.Lists.{AreShown, HasList, IsReady, side_of, batches_of}
-use Rattle.dspec_cpu.specs.Reached.{Stands}
-use Rattle.dspec_cpu.specs.Settled.{BlockSettled, CanSettle, DueSettled, IsDueAt, IsPartOf, shown_at}
 use Rattle.dspec_cpu.proofs.Ready.{few, holder, number, ready_after, set_up_is, stands_behind}
 use Rattle.dspec_cpu.proofs.Settlements.{can_settle}
 

@@ -1,33 +1,19 @@
 -- What a call that counts keeps, by how it ended.
 use Rattle.std.proofs.Common.{◌≡◌, ℕ, ◌+◌, ◌*◌, ◌<◌, ◌≤◌, Bool, true, false, if◌then◌else◌, refl, sym, ap, ◌∙◌, subst, inr, arith, true≢false}
-use Rattle.dspec_buffer.specs.Stored.{Stored}
-use Rattle.dspec_word.specs.SpecId.{Speculation}
-use Rattle.dspec_word.specs.Word.{SlotState}
+use Rattle.dspec_cpu.specs.Words.{Stored, Speculation, SlotState, in_range, known, activity_place, slot_place, LoadedActivity, ReleasedWord, one_more_worn, is_stopped_opening, Cpu, Reach}
+use Rattle.dspec_cpu.specs.Words.{is_worn_decided, CallLeaves, Reached, is_committing, releases_next, turns, Scanned, is_worn_opening, StopsWhereMet, is_stopped_decided, is_stopped_reach, Touches}
+use Rattle.dspec_cpu.specs.Words.{last_looked, of_activity, of_slot, of_slots}
 use Rattle.dspec_word.specs.declared.code.Code.TheVariants.{Committing}
 use Rattle.dspec_word.specs.declared.act.Act.TheVariants.{Attempt}
 use Rattle.dspec_deeds.specs.declared.config.Config.{Config}
 use Rattle.dspec_deeds.specs.declared.calls.Decided.{Decided}
 use Rattle.dspec_deeds.specs.declared.calls.Opening.{Opening}
-use Rattle.dspec_deeds.specs.History.{in_range}
 use Rattle.dspec_table.specs.declared.rule.View.{View}
 use Rattle.dspec_table.specs.declared.doing.Doing.{Doing}
 use Rattle.dspec_table.specs.declared.seats.CpuSeat.{CpuSeat}
-use Rattle.dspec_table.specs.Seats.{known}
-use Rattle.dspec_table.specs.Layout.{activity_place, slot_place}
-use Rattle.dspec_table.specs.Steps.{LoadedActivity, ReleasedWord}
 use Rattle.dspec_cpu_state.specs.declared.counts.Counts.{Counts}
 use Rattle.dspec_cpu_state.specs.declared.cpu_state.CpuState.{CpuState}
-use Rattle.dspec_cpu_state.specs.Counting.{one_more_worn, is_stopped_opening}
-use Rattle.dspec_cpu.specs.declared.parts.CpuParts.{CpuParts as Cpu}
-use Rattle.dspec_cpu.specs.declared.reaching.Reach.{Reach}
 use Rattle.dspec_cpu.specs.declared.reaching.Reach.TheVariants as reach
-use Rattle.dspec_cpu.specs.Calls.{is_worn_decided}
-use Rattle.dspec_cpu.specs.Keeping.{CallLeaves}
-use Rattle.dspec_cpu.specs.Reached.{Reached}
-use Rattle.dspec_cpu.specs.Reaching.{is_committing, releases_next, turns}
-use Rattle.dspec_cpu.specs.Scans.{Scanned, is_worn_opening}
-use Rattle.dspec_cpu.specs.Stops.{StopsWhereMet, is_stopped_decided, is_stopped_reach}
-use Rattle.dspec_cpu.specs.Touching.{Touches, last_looked, of_activity, of_slot, of_slots}
 use Rattle.dspec_cpu.proofs.Decisions.{block_answer}
 use Rattle.dspec_cpu.proofs.Stopping.{worn_out, shown_stop, shown_running, heeded}
 use Rattle.dspec_cpu.proofs.Touching.{none_touched, touched_more, touched_one}

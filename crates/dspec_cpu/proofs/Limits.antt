@@ -5,13 +5,11 @@ use Rattle.std.proofs.lemmas.Bool.Decides.{nat_tests}
 use Rattle.dspec_deeds.specs.declared.config.Config.{Config}
 use Rattle.dspec_deeds.specs.declared.config.StartFault.{StartFault}
 use Rattle.dspec_deeds.specs.declared.config.StartFault.TheVariants.{Cpus, Specs, BufSize, SpecSize, Issues, Calls}
-use Rattle.dspec_deeds.specs.Ranges.{is_between, is_size, start_fault}
+use Rattle.dspec_cpu.specs.Words.{is_between, is_size, start_fault, count_of, HasRoom, IsRoomy}
 use Rattle.dspec_deeds.specs.declared.deed.DecideFate.{DecideFate}
 use Rattle.dspec_deeds.specs.declared.deed.DecideFate.TheVariants.{Copied, Lost, Thrown, Void, Stopped}
-use Rattle.dspec_deeds.specs.FateKinds.{count_of}
 use Rattle.dspec_deeds.proofs.TestLemmas.{and_tells, same_number}
 use Rattle.dspec_cpu_state.specs.declared.counts.Counts.{Counts}
-use Rattle.dspec_cpu_state.specs.Counting.{HasRoom, IsRoomy}
 
 pub record Within (low high n : ℕ) : Type 0 where
   pub least : low ≤ n

@@ -1,18 +1,9 @@
 -- A CPU before its first call.
 use Rattle.std.proofs.Common.{◌≡◌, ℕ, ◌≤◌, Bool, List, [], ◌++◌, length, reverse, Option, Some, None, sym, ap, ◌∙◌, subst, arith}
-use Rattle.dspec_record.specs.Record.{Record}
+use Rattle.dspec_cpu.specs.Words.{Record, Stored, HasPieces, start_fault, part, scan, known, cpu_of, fresh_seat, IsSound, Cpu, ShowsList, waiting, HasList, IsSteady, batches_of, spare_count}
 use Rattle.dspec_record.specs.declared.field.Shape.{Shape}
-use Rattle.dspec_buffer.specs.Stored.{Stored, HasPieces}
-use Rattle.dspec_deeds.specs.Ranges.{start_fault}
-use Rattle.dspec_deeds.specs.History.{part, scan}
 use Rattle.dspec_deeds.specs.declared.calls.Actor.TheVariants.{Cpu as CpuActor}
 use Rattle.dspec_table.specs.declared.rule.View.{View}
-use Rattle.dspec_table.specs.Seats.{known, cpu_of, fresh_seat}
-use Rattle.dspec_deeds.specs.Legal.{IsSound}
-use Rattle.dspec_cpu.specs.declared.parts.CpuParts.{CpuParts as Cpu}
-use Rattle.dspec_cpu_state.specs.CpuStates.{ShowsList}
-use Rattle.dspec_cpu.specs.Sealed.{waiting}
-use Rattle.dspec_cpu.specs.Lists.{HasList, IsSteady, batches_of, spare_count}
 
 module _ (shape : ℕ → Option Shape) (accepted : Record → Bool) (text : Record → List ℕ) {S : Type 0} (cpu : Cpu S) where
   -- all of it is empty, and its seat is unused

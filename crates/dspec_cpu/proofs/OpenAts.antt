@@ -1,27 +1,16 @@
 -- Of which speculation of a slot a CPU has records: of the one that the slot's mark is of, or of none.
 use Rattle.std.proofs.Common.{◌≡◌, ◌≢◌, ℕ, zero, suc, ◌+◌, ◌-◌, ◌<◌, ◌≤◌, ◌==◌, Bool, true, false, List, [], ◌∷◌, length, Option, Some, sym, ap, ◌∙◌, ⊎_elim, refl, arith}
 use Rattle.std.specs.Prelude.{slice_get}
-use Rattle.dspec_record.specs.Record.{Record}
+use Rattle.dspec_cpu.specs.Words.{Record, Speculation, last_called, part, IsSound, mark, Offer, held, bare, known, Cpu, HasList, IsSteady, IsOpenAt}
 use Rattle.dspec_record.specs.declared.field.Shape.{Shape}
-use Rattle.dspec_word.specs.SpecId.{Speculation}
 use Rattle.dspec_deeds.specs.declared.config.Config.{Config}
 use Rattle.dspec_deeds.specs.declared.calls.Actor.TheVariants.{Cpu as CpuActor}
 use Rattle.dspec_deeds.specs.declared.deed.Deed.{Deed}
-use Rattle.dspec_deeds.specs.CpuShown.{last_called}
-use Rattle.dspec_deeds.specs.History.{part}
-use Rattle.dspec_deeds.specs.Legal.{IsSound}
-use Rattle.dspec_deeds.specs.Marks.{mark}
-use Rattle.dspec_deeds.specs.Own.{Offer, held}
-use Rattle.dspec_deeds.specs.Weaving.{bare}
 use Rattle.dspec_deeds.proofs.Marks.{mark_part, mark_tells}
 use Rattle.dspec_deeds.proofs.OwnReads.{apart_bare}
 use Rattle.dspec_deeds.proofs.TestLemmas.{either_way, same_number}
-use Rattle.dspec_table.specs.Seats.{known}
 use Rattle.dspec_table.proofs.Limits.{issue_within}
 use Rattle.dspec_cpu_state.proofs.Ones.{last_is}
-use Rattle.dspec_cpu.specs.declared.parts.CpuParts.{CpuParts as Cpu}
-use Rattle.dspec_cpu.specs.Lists.{HasList, IsSteady}
-use Rattle.dspec_cpu.specs.OpenAt.{IsOpenAt}
 use Rattle.dspec_cpu.proofs.Mine.{unmarked_empty}
 use Rattle.dspec_cpu.proofs.Ready.{steady_few}
 

@@ -1,15 +1,13 @@
 -- What a call of speculation adds to the counts, deed by deed.
 use Rattle.std.proofs.Common.{◌≡◌, ℕ, ◌+◌, ◌==◌, Bool, true, false, not, ◌&&◌, List, ◌∷◌}
 use Rattle.std.proofs.Common.{ap, ◌∙◌, add-zero}
-use Rattle.dspec_word.specs.SpecId.{Speculation}
+use Rattle.dspec_cpu.specs.Words.{Speculation, missed_busy, one_if, counts_of, with_opening}
 use Rattle.dspec_deeds.specs.declared.config.Config.{Config}
 use Rattle.dspec_deeds.specs.declared.calls.Opening.TheVariants as opening
 use Rattle.dspec_deeds.specs.declared.deed.Deed.{Deed}
 use Rattle.dspec_deeds.specs.declared.deed.Deed.TheVariants.{Scan, Opened, Miss}
-use Rattle.dspec_deeds.specs.Reports.{missed_busy, one_if}
 use Rattle.dspec_deeds.proofs.TestLemmas.{number_is_itself}
 use Rattle.dspec_cpu_state.specs.declared.counts.Counts.{Counts}
-use Rattle.dspec_cpu_state.specs.Counting.{counts_of, with_opening}
 
 -- what the deeds of a scan add to the counts
 module _ (k : Config) (c w : ℕ) where

@@ -1,12 +1,11 @@
 -- The CPU's own block of a speculation that was decided, settled.
 use Rattle.std.proofs.Common.{◌≡◌, ℕ, ◌+◌, ◌-◌, ◌==◌, ◌<◌, ◌≤◌, ◌^◌, ◌||◌, Bool, true, false, List, ◌∷◌, length, Option, Some, if◌then◌else◌, refl, sym, ap, ◌∙◌, subst, arith}
 use Rattle.std.specs.Prelude.{slice_get}
-use Rattle.dspec_record.specs.Record.{Record}
+use Rattle.dspec_cpu.specs.Words.{Record, Stored, HasPieces, Speculation, is_commit, is_discard, is_lost, decided_stopped, CpuLegal, fits_principal, mark, contents, held, CpuRow, HasRoom, IsCaller}
+use Rattle.dspec_cpu.specs.Words.{ShowsList, settled_fate, BlockSettled, CanSettle, serving}
 use Rattle.dspec_record.specs.declared.field.Shape.{Shape}
 use Rattle.dspec_buffer.specs.Extent as extent
-use Rattle.dspec_buffer.specs.Stored.{Stored, HasPieces}
 use Rattle.dspec_ring.specs.declared.batch.Batch.{Batch}
-use Rattle.dspec_word.specs.SpecId.{Speculation}
 use Rattle.dspec_word.specs.declared.code.Code.{Code}
 use Rattle.dspec_word.specs.declared.code.Code.TheVariants.{Inactive, Active, ActiveOne, ActiveMany, Committing, CommittingMany, Discarding}
 use Rattle.dspec_deeds.specs.declared.config.Config.{Config}
@@ -14,19 +13,10 @@ use Rattle.dspec_deeds.specs.declared.deed.DecideFate.{DecideFate}
 use Rattle.dspec_deeds.specs.declared.deed.DecideFate.TheVariants as fated
 use Rattle.dspec_deeds.specs.declared.deed.Deed.TheVariants.{Settle}
 use Rattle.dspec_deeds.specs.declared.deed.Deed.{Deed}
-use Rattle.dspec_deeds.specs.FateKinds.{is_commit, is_discard, is_lost, decided_stopped}
-use Rattle.dspec_deeds.specs.Legal.{CpuLegal, fits_principal}
-use Rattle.dspec_deeds.specs.Marks.{mark}
-use Rattle.dspec_deeds.specs.Own.{contents, held}
-use Rattle.dspec_deeds.specs.Owning.{CpuRow}
 use Rattle.dspec_deeds.specs.Settling as settling
 use Rattle.dspec_deeds.proofs.TestLemmas.{number_is_itself}
 use Rattle.dspec_table.specs.declared.doing.Doing.{Doing}
 use Rattle.dspec_cpu_state.specs.declared.cpu_state.CpuState.{CpuState}
-use Rattle.dspec_cpu_state.specs.Counting.{HasRoom}
-use Rattle.dspec_cpu_state.specs.CpuStates.{IsCaller, ShowsList}
-use Rattle.dspec_deeds.specs.Settling.{settled_fate}
-use Rattle.dspec_cpu.specs.Settled.{BlockSettled, CanSettle, serving}
 use Rattle.dspec_cpu.proofs.Shown.{shows, shown_behind}
 
 -- what becomes of a block is lawful, and never stopped

@@ -1,31 +1,18 @@
 -- A deed that touches neither a buffer nor a mark, an acknowledgement or a batch of its CPU.
 use Rattle.std.proofs.Common.{◌≡◌, ℕ, ◌+◌, ◌-◌, Bool, true, false, not, List, ◌∷◌, map, Option, Some, refl, sym, ap, ◌∙◌, subst, true≢false, add-zero}
-use Rattle.dspec_record.specs.Record.{Record}
+use Rattle.dspec_cpu.specs.Words.{Record, Piece, Speculation, trace_kept, spoken_granted, is_commit, is_discard, ack, is_seal, mark, active, contents, dropped_in, growing, held, seals, calls}
+use Rattle.dspec_cpu.specs.Words.{last_called, CpuRow, is_of, missed_busy, Cpu, counts_of, HasSized, AreSealed, IsShown}
 use Rattle.dspec_record.specs.declared.field.Shape.{Shape}
 use Rattle.dspec_buffer.specs.Extent as extent
-use Rattle.dspec_buffer.specs.Extent.{Piece}
 use Rattle.dspec_ring.specs.declared.batch.Batch.{Batch}
-use Rattle.dspec_word.specs.SpecId.{Speculation}
 use Rattle.dspec_deeds.specs.declared.config.Config.{Config}
 use Rattle.dspec_deeds.specs.declared.deed.TraceFate.TheVariants as traced
 use Rattle.dspec_deeds.specs.declared.deed.SpeculateFate.TheVariants as spoken
 use Rattle.dspec_deeds.specs.declared.deed.DecideFate.TheVariants as decided
 use Rattle.dspec_deeds.specs.declared.deed.Deed.{Deed}
 use Rattle.dspec_deeds.specs.declared.deed.Deed.TheVariants.{Trace, Scan, Opened, Miss, Speculate, Commit, Discard, Settle, Seal, Release, Halt}
-use Rattle.dspec_deeds.specs.FateKinds.{trace_kept, spoken_granted, is_commit, is_discard}
-use Rattle.dspec_deeds.specs.History.{ack}
-use Rattle.dspec_deeds.specs.Legal.{is_seal}
-use Rattle.dspec_deeds.specs.Marks.{mark}
-use Rattle.dspec_deeds.specs.Own.{active, contents, dropped_in, growing, held, seals, calls}
-use Rattle.dspec_deeds.specs.CpuShown.{last_called}
-use Rattle.dspec_deeds.specs.Owning.{CpuRow, is_of}
-use Rattle.dspec_deeds.specs.Reports.{missed_busy}
 use Rattle.dspec_table.specs.declared.seats.CpuSeat.{CpuSeat}
-use Rattle.dspec_cpu.specs.declared.parts.CpuParts.{CpuParts as Cpu}
 use Rattle.dspec_cpu_state.specs.declared.counts.Counts.{Counts}
-use Rattle.dspec_cpu_state.specs.Counting.{counts_of}
-use Rattle.dspec_cpu.specs.Sealed.{HasSized, AreSealed}
-use Rattle.dspec_cpu.specs.Lists.{IsShown}
 
 abbrev pub quiet : Deed → Bool
 quiet (Trace a r f) = not (trace_kept f)

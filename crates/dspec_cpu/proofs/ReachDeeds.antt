@@ -1,14 +1,12 @@
 -- The deeds of a call on a slot, by what it was shown.
 use Rattle.std.proofs.Common.{◌≡◌, ◌≢◌, ℕ, ◌+◌, ◌==◌, Bool, true, false, List, [], ◌∷◌, ◌++◌, if◌then◌else◌, Option, None, refl, sym}
 use Rattle.std.proofs.Common.{ap, ◌∙◌, true≢false, append_assoc}
-use Rattle.dspec_word.specs.SpecId.{Speculation}
-use Rattle.dspec_word.specs.Word.{SlotState}
+use Rattle.dspec_cpu.specs.Words.{Speculation, SlotState, is_inactive, speculate_act, commit_act, discard_act, in_range, at_activity, at_word, at_hit, at_exchange, speculates, void_commit}
+use Rattle.dspec_cpu.specs.Words.{void_discard, discard_hits, IsOn, flight_after, Reach, Goes, rests, steps, act_of, act_reached, is_reached, is_attempt, reached_deeds, is_stopped_reach}
 use Rattle.dspec_word.specs.declared.code.Code.{Code}
 use Rattle.dspec_word.specs.declared.code.Code.TheVariants.{Inactive, Active, ActiveOne, ActiveMany, Committing, CommittingMany, Discarding}
 use Rattle.dspec_word.specs.declared.act.Act.{Act}
 use Rattle.dspec_word.specs.declared.act.Act.TheVariants.{Void, Granted, Idle}
-use Rattle.dspec_word.specs.Code.{is_inactive}
-use Rattle.dspec_word.specs.Tables.{speculate_act, commit_act, discard_act}
 use Rattle.dspec_deeds.specs.declared.config.Config.{Config}
 use Rattle.dspec_deeds.specs.declared.calls.CpuOp.{CpuOp}
 use Rattle.dspec_deeds.specs.declared.calls.CpuOp.TheVariants as op
@@ -16,18 +14,10 @@ use Rattle.dspec_deeds.specs.declared.deed.SpeculateFate.TheVariants as spoken
 use Rattle.dspec_deeds.specs.declared.deed.DecideFate.TheVariants as decided
 use Rattle.dspec_deeds.specs.declared.deed.Deed.{Deed}
 use Rattle.dspec_deeds.specs.declared.deed.Deed.TheVariants.{Speculate, Commit, Discard, Release}
-use Rattle.dspec_deeds.specs.History.{in_range}
 use Rattle.dspec_deeds.proofs.TestLemmas.{same_number}
 use Rattle.dspec_table.specs.declared.rule.View.{View}
 use Rattle.dspec_table.specs.declared.doing.Doing.{Doing}
-use Rattle.dspec_table.specs.Acts.{at_activity, at_word, at_hit, at_exchange, speculates, void_commit, void_discard, discard_hits}
-use Rattle.dspec_table.specs.Conditions.{IsOn}
-use Rattle.dspec_table.specs.Flights.{flight_after}
-use Rattle.dspec_cpu.specs.declared.reaching.Reach.{Reach}
 use Rattle.dspec_cpu.specs.declared.reaching.Reach.TheVariants as reach
-use Rattle.dspec_cpu.specs.Calls.{Goes, rests, steps}
-use Rattle.dspec_cpu.specs.Reaching.{act_of, act_reached, is_reached, is_attempt, reached_deeds}
-use Rattle.dspec_cpu.specs.Stops.{is_stopped_reach}
 use Rattle.dspec_cpu.proofs.Retries.{here_or_void, attempt_is}
 
 -- steps behind steps

@@ -3,34 +3,20 @@ use Rattle.std.proofs.Common.{◌≡◌, ◌≢◌, ℕ, ◌+◌, ◌==◌, ◌�
 use Rattle.std.proofs.Common.{ap, ◌∙◌, subst, inl, inr, arith, true≢false}
 use Rattle.std.specs.Prelude.{nat_le}
 use Rattle.std.proofs.lemmas.Bool.Decides.{nat_tests}
-use Rattle.dspec_word.specs.SpecId.{Speculation}
-use Rattle.dspec_word.specs.Word.{SlotState}
+use Rattle.dspec_cpu.specs.Words.{Speculation, SlotState, in_range, part, scan, IsSound, mark, of_cpu, number_of, part_of, at_activity, at_exchange, IsOn, IsInFlight, calling, activity_place}
+use Rattle.dspec_cpu.specs.Words.{slot_place, Entered, LoadedActivity, Reach, rests, steps, act_of, act_reached, is_reached, is_attempt, reached_deeds, releases_next, EndsAtWord, Reached}
+use Rattle.dspec_cpu.specs.Words.{StopsWhereMet, is_stopped_reach, Touches, at_slot, of_slot}
 use Rattle.dspec_word.specs.declared.act.Act.{Act}
 use Rattle.dspec_word.specs.declared.act.Act.TheVariants.{Void, Granted}
 use Rattle.dspec_deeds.specs.declared.config.Config.{Config}
 use Rattle.dspec_deeds.specs.declared.calls.Actor.TheVariants.{Cpu as CpuActor}
 use Rattle.dspec_deeds.specs.declared.calls.CpuOp.TheVariants as op
 use Rattle.dspec_deeds.specs.declared.deed.Deed.{Deed}
-use Rattle.dspec_deeds.specs.History.{in_range, part, scan}
-use Rattle.dspec_deeds.specs.Legal.{IsSound}
-use Rattle.dspec_deeds.specs.Marks.{mark}
 use Rattle.dspec_deeds.proofs.TestLemmas.{and_tells}
 use Rattle.dspec_table.specs.declared.rule.View.{View}
 use Rattle.dspec_table.specs.declared.doing.Doing.{Doing}
-use Rattle.dspec_table.specs.Holders.{of_cpu, number_of, part_of}
-use Rattle.dspec_table.specs.Acts.{at_activity, at_exchange}
-use Rattle.dspec_table.specs.Conditions.{IsOn, IsInFlight}
-use Rattle.dspec_table.specs.Flights.{calling}
-use Rattle.dspec_table.specs.Layout.{activity_place, slot_place}
-use Rattle.dspec_table.specs.Steps.{Entered, LoadedActivity}
 use Rattle.dspec_table.proofs.Flights.{quiet_activity, in_flight, activity_enters}
-use Rattle.dspec_cpu.specs.declared.reaching.Reach.{Reach}
 use Rattle.dspec_cpu.specs.declared.reaching.Reach.TheVariants as reach
-use Rattle.dspec_cpu.specs.Calls.{rests, steps}
-use Rattle.dspec_cpu.specs.Reaching.{act_of, act_reached, is_reached, is_attempt, reached_deeds, releases_next, EndsAtWord}
-use Rattle.dspec_cpu.specs.Reached.{Reached}
-use Rattle.dspec_cpu.specs.Stops.{StopsWhereMet, is_stopped_reach}
-use Rattle.dspec_cpu.specs.Touching.{Touches, at_slot, of_slot}
 use Rattle.dspec_cpu.proofs.Stopping.{shown_stop, shown_running}
 use Rattle.dspec_cpu.proofs.Mine.{own_mine_tells}
 use Rattle.dspec_cpu.proofs.Ready.{stands_behind, stands_called}

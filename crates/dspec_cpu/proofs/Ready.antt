@@ -1,31 +1,17 @@
 -- A CPU can be called again.
 use Rattle.std.proofs.Common.{◌≡◌, ℕ, ◌+◌, ◌<◌, ◌≤◌, ◌-◌, ◌^◌, Bool, List, ◌++◌, length, Option, Some, None, sym, ◌∙◌, ap, subst, arith}
-use Rattle.dspec_record.specs.Record.{Record}
+use Rattle.dspec_cpu.specs.Words.{Record, Stored, owed, scan, part, IsSound, is_drop, offers, start_fault, report, total, one_if, speculative, records_of_report, of_cpu, number_of, part_of, calling}
+use Rattle.dspec_cpu.specs.Words.{flight_after, Entered, known, IsAt, cpu_of, Cpu, counts_of, with_fate, IsRoomy, Stands, HasList, IsReady, IsSteady, batches_of, spare_count, Belongs, identity}
 use Rattle.dspec_record.specs.declared.field.Shape.{Shape}
-use Rattle.dspec_buffer.specs.Stored.{Stored}
 use Rattle.dspec_deeds.specs.declared.config.Config.{Config}
 use Rattle.dspec_deeds.specs.declared.calls.Actor.TheVariants.{Cpu as CpuActor}
 use Rattle.dspec_deeds.specs.declared.calls.CpuOp.{CpuOp}
 use Rattle.dspec_deeds.specs.declared.deed.Deed.{Deed}
 use Rattle.dspec_deeds.specs.declared.report.Report.{Report}
-use Rattle.dspec_deeds.specs.History.{owed, scan, part}
-use Rattle.dspec_deeds.specs.Legal.{IsSound}
-use Rattle.dspec_deeds.specs.Own.{is_drop, offers}
-use Rattle.dspec_deeds.specs.Ranges.{start_fault}
-use Rattle.dspec_deeds.specs.Reports.{report, total, one_if, speculative, records_of_report}
 use Rattle.dspec_deeds.proofs.OwnAccounts.{own_report}
 use Rattle.dspec_table.specs.declared.rule.View.{View}
 use Rattle.dspec_table.specs.declared.seats.Words.{Words}
-use Rattle.dspec_table.specs.Holders.{of_cpu, number_of, part_of}
-use Rattle.dspec_table.specs.Flights.{calling, flight_after}
-use Rattle.dspec_table.specs.Steps.{Entered}
-use Rattle.dspec_table.specs.Seats.{known, IsAt, cpu_of}
-use Rattle.dspec_cpu.specs.declared.parts.CpuParts.{CpuParts as Cpu}
 use Rattle.dspec_cpu_state.specs.declared.counts.Counts.{Counts}
-use Rattle.dspec_cpu_state.specs.Counting.{counts_of, with_fate, IsRoomy}
-use Rattle.dspec_cpu.specs.Reached.{Stands}
-use Rattle.dspec_cpu.specs.Lists.{HasList, IsReady, IsSteady, batches_of, spare_count}
-use Rattle.dspec_cpu.specs.Standing.{Belongs, identity}
 use Rattle.dspec_cpu_state.proofs.Tallies.{drops_since}
 use Rattle.dspec_cpu.proofs.Limits.{limits}
 

@@ -1,30 +1,17 @@
 -- One slot that what is left of a CPU settles by the last words.
 use Rattle.std.proofs.Common.{◌≡◌, ℕ, ◌<◌, ◌≤◌, ◌^◌, Bool, true, false, List, ◌∷◌, Option, if◌then◌else◌, refl, sym, ap, ◌∙◌, subst}
-use Rattle.dspec_record.specs.Record.{Record}
+use Rattle.dspec_cpu.specs.Words.{Record, settle_at, SlotState, CanBeReleased, word_number, is_granted, ack, word_at, settle_fate, Stored, own_closed_slot, last_set_up, last_words, Shows}
+use Rattle.dspec_cpu.specs.Words.{parts_of_side, CpuRest, AreShown, AreItsWords, CanCloseBehind, RestHasList, batches_of_rest, CanSettle, shown_at}
 use Rattle.dspec_record.specs.declared.field.Shape.{Shape}
 use Rattle.dspec_ring.specs.declared.batch.Batch.{Batch}
-use Rattle.dspec_word.specs.Tables.{settle_at}
-use Rattle.dspec_word.specs.Word.{SlotState, CanBeReleased, word_number}
 use Rattle.dspec_word.specs.declared.act.Act.{Act}
 use Rattle.dspec_word.specs.declared.act.Act.TheVariants.{Granted}
 use Rattle.dspec_deeds.specs.declared.config.Config.{Config}
 use Rattle.dspec_deeds.specs.declared.deed.Deed.{Deed}
 use Rattle.dspec_deeds.specs.declared.deed.Deed.TheVariants.{Settle}
-use Rattle.dspec_deeds.specs.Closes.{is_granted}
-use Rattle.dspec_deeds.specs.History.{ack, word_at}
-use Rattle.dspec_deeds.specs.Settling.{settle_fate}
-use Rattle.dspec_buffer.specs.Stored.{Stored}
-use Rattle.dspec_interleaving.specs.CpuClose.{own_closed_slot}
 use Rattle.dspec_table.specs.declared.last.LastWords.{LastWords}
-use Rattle.dspec_table.specs.Last.{last_set_up, last_words}
-use Rattle.dspec_table.specs.Showing.{Shows}
 use Rattle.dspec_table.proofs.Limits.{limit_of}
 use Rattle.dspec_cpu_state.specs.declared.cpu_state.CpuState.{CpuState}
-use Rattle.dspec_cpu_state.specs.CpuStates.{parts_of_side}
-use Rattle.dspec_cpu.specs.declared.rest.CpuRest.{CpuRest}
-use Rattle.dspec_cpu.specs.Lists.{AreShown}
-use Rattle.dspec_cpu.specs.Rests.{AreItsWords, CanCloseBehind, RestHasList, batches_of_rest}
-use Rattle.dspec_cpu.specs.Settled.{CanSettle, shown_at}
 use Rattle.dspec_cpu.proofs.Settlements.{can_settle}
 
 module _ (shape : ℕ → Option Shape) (accepted : Record → Bool) (text : Record → List ℕ) {S : Type 0} (rest : CpuRest S) (last : LastWords)

@@ -1,11 +1,9 @@
 -- How many moves of its rings a CPU makes.
 use Rattle.std.proofs.Common.{◌≡◌, ℕ, ◌+◌, ◌≤◌, Bool, Option, Some, None, refl, ap, arith, inl, inr}
-use Rattle.dspec_buffer.specs.Stored.{Stored}
+use Rattle.dspec_cpu.specs.Words.{Stored, CpuKnows, Buffers, FindsSpare, HandsOn, Heeds, not_asked, worn_out, no_spare, held_up, switched, Switches, never, looked, most_moves}
 use Rattle.dspec_ring.specs.declared.batch.Batch.{Batch}
-use Rattle.dspec_ring.specs.Known.{CpuKnows}
 use Rattle.dspec_deeds.specs.declared.config.Config.{Config}
 use Rattle.dspec_table.specs.declared.rule.View.{View}
-use Rattle.dspec_cpu.specs.Switching.{Buffers, FindsSpare, HandsOn, Heeds, not_asked, worn_out, no_spare, held_up, switched, Switches, never, looked, most_moves}
 
 -- one push for a batch held back
 handing : Option Batch → ℕ

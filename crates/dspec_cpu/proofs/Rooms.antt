@@ -1,28 +1,17 @@
 -- Whether a CPU's principal buffer would take its block of a speculation, and a commit that was made where it would.
 use Rattle.std.proofs.Common.{◌≡◌, ℕ, ◌≤◌, Bool, true, false, ◌&&◌, ◌||◌, List, [], ◌∷◌, ◌++◌, Option, sym, ap, ◌∙◌, subst, ⊎_elim, refl, arith, true≢false}
 use Rattle.std.proofs.lemmas.Bool.Decides.{nat_tests}
-use Rattle.dspec_record.specs.Record.{Record}
+use Rattle.dspec_cpu.specs.Words.{Record, block, Speculation, fits_principal, contents, held, CpuRow, IsOwn, commit, Cpu, cpu_block_fits, decision, HasList, DecidesOne, is_lost_block}
+use Rattle.dspec_cpu.specs.Words.{made_all_calls, Identity, identity}
 use Rattle.dspec_record.specs.declared.field.Shape.{Shape}
-use Rattle.dspec_buffer.specs.Extent.{block}
-use Rattle.dspec_word.specs.SpecId.{Speculation}
 use Rattle.dspec_deeds.specs.declared.config.Config.{Config}
 use Rattle.dspec_deeds.specs.declared.calls.Decided.{Decided}
 use Rattle.dspec_deeds.specs.declared.calls.Decided.TheVariants as decided
 use Rattle.dspec_deeds.specs.declared.deed.DecideFate.TheVariants as fated
 use Rattle.dspec_deeds.specs.declared.deed.Deed.{Deed}
 use Rattle.dspec_deeds.specs.declared.deed.Deed.TheVariants.{Commit, Release}
-use Rattle.dspec_deeds.specs.Legal.{fits_principal}
-use Rattle.dspec_deeds.specs.Own.{contents, held}
-use Rattle.dspec_deeds.specs.Owning.{CpuRow, IsOwn}
 use Rattle.dspec_deeds.proofs.ReportBounds.{AreFitted, IsFitted, active_within}
 use Rattle.dspec_deeds.proofs.TestLemmas.{or_tells}
-use Rattle.dspec_promise.specs.Promise.{commit}
-use Rattle.dspec_cpu.specs.declared.parts.CpuParts.{CpuParts as Cpu}
-use Rattle.dspec_cpu.specs.Between.{cpu_block_fits}
-use Rattle.dspec_cpu.specs.Calls.{decision}
-use Rattle.dspec_cpu.specs.Lists.{HasList}
-use Rattle.dspec_cpu.specs.OneCall.{DecidesOne, is_lost_block, made_all_calls}
-use Rattle.dspec_cpu.specs.Standing.{Identity, identity}
 
 module _ (shape : ℕ → Option Shape) (k : Config) where
   fitted_row : (d : Deed) (p : List Deed) → CpuRow shape k p d → IsFitted shape k p d

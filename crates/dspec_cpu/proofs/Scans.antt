@@ -1,6 +1,7 @@
 -- The steps of a call of speculation.
 use Rattle.std.proofs.Common.{◌≡◌, ℕ, ◌+◌, ◌*◌, ◌<◌, ◌≤◌, ◌==◌, Bool, true, false, ◌||◌, List, [], ◌∷◌, ◌++◌, length, if◌then◌else◌, Option, Some, None, refl, sym, ap, ◌∙◌, subst, ⊎_elim, inl, arith}
-use Rattle.dspec_word.specs.SpecId.{Speculation}
+use Rattle.dspec_cpu.specs.Words.{Speculation, scan, of_cpu, number_of, calling, flight_after, activity_place, Entered, LoadedActivity, Goes, rests, steps, Stands, StopsWhereMet, any_busy}
+use Rattle.dspec_cpu.specs.Words.{LookedAtSlot, Scanned, misses, opening_deeds, IsOpening, is_worn_opening, Touches, of_slots}
 use Rattle.dspec_deeds.specs.declared.config.Config.{Config}
 use Rattle.dspec_deeds.specs.declared.calls.CpuOp.{CpuOp}
 use Rattle.dspec_deeds.specs.declared.calls.CpuOp.TheVariants as op
@@ -8,20 +9,10 @@ use Rattle.dspec_deeds.specs.declared.calls.Opening.{Opening}
 use Rattle.dspec_deeds.specs.declared.calls.Opening.TheVariants as opening
 use Rattle.dspec_deeds.specs.declared.deed.Deed.{Deed}
 use Rattle.dspec_deeds.specs.declared.deed.Deed.TheVariants.{Scan, Opened, Miss}
-use Rattle.dspec_deeds.specs.History.{scan}
 use Rattle.dspec_deeds.proofs.TestLemmas.{either_way, number_is_itself, other_number, same_number}
 use Rattle.dspec_table.specs.declared.rule.View.{View}
-use Rattle.dspec_table.specs.Holders.{of_cpu, number_of}
-use Rattle.dspec_table.specs.Flights.{calling, flight_after}
-use Rattle.dspec_table.specs.Layout.{activity_place}
-use Rattle.dspec_table.specs.Steps.{Entered, LoadedActivity}
 use Rattle.dspec_table.proofs.Flights.{activity_enters, flight_by_last}
 use Rattle.dspec_cpu.specs.declared.scanning.Look.TheVariants as look
-use Rattle.dspec_cpu.specs.Calls.{Goes, rests, steps}
-use Rattle.dspec_cpu.specs.Reached.{Stands}
-use Rattle.dspec_cpu.specs.Stops.{StopsWhereMet}
-use Rattle.dspec_cpu.specs.Scans.{any_busy, LookedAtSlot, Scanned, misses, opening_deeds, IsOpening, is_worn_opening}
-use Rattle.dspec_cpu.specs.Touching.{Touches, of_slots}
 use Rattle.dspec_cpu.proofs.Ready.{stands_behind, stands_called}
 use Rattle.dspec_cpu.proofs.ReachDeeds.{goes_on}
 use Rattle.dspec_cpu.proofs.Stopping.{shown_stop, shown_running, heeded}

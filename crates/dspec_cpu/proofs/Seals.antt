@@ -1,27 +1,16 @@
 -- How many batches a CPU's own list seals, and the list behind one Seal more.
 use Rattle.std.proofs.Common.{◌≡◌, ℕ, suc, ◌+◌, ◌<◌, ◌≤◌, ◌^◌, Bool, false, List, [], ◌∷◌, ◌++◌, length, reverse, if◌then◌else◌, Option, None, refl, sym, ap, ◌∙◌, subst, arith, add-zero}
-use Rattle.dspec_record.specs.Record.{Record}
+use Rattle.dspec_cpu.specs.Words.{Record, Stored, CpuKnows, scan, active, seals, IsOwn, is_fill, known, Cpu, counts_of, HasList, IsReady, batches_of, HasSized, AreSealed, waiting, batch_of}
+use Rattle.dspec_cpu.specs.Words.{buffers_of}
 use Rattle.dspec_record.specs.declared.field.Shape.{Shape}
-use Rattle.dspec_buffer.specs.Stored.{Stored}
 use Rattle.dspec_ring.specs.declared.batch.Batch.{Batch}
-use Rattle.dspec_ring.specs.Known.{CpuKnows}
 use Rattle.dspec_deeds.specs.declared.config.Config.{Config}
 use Rattle.dspec_deeds.specs.declared.deed.Deed.{Deed}
 use Rattle.dspec_deeds.specs.declared.deed.Deed.TheVariants.{Trace, Scan, Opened, Miss, Speculate, Commit, Discard, Settle, Seal, Release, Halt}
-use Rattle.dspec_deeds.specs.History.{scan}
-use Rattle.dspec_deeds.specs.Own.{active, seals}
-use Rattle.dspec_deeds.specs.Owning.{IsOwn}
-use Rattle.dspec_deeds.specs.Ranges.{is_fill}
 use Rattle.dspec_deeds.proofs.OwnReads.{apart_bare}
 use Rattle.dspec_deeds.proofs.TestLemmas.{number_is_itself, same_number}
 use Rattle.dspec_table.specs.declared.seats.Words.{Words}
 use Rattle.dspec_table.specs.declared.seats.CpuSeat.{CpuSeat}
-use Rattle.dspec_table.specs.Seats.{known}
-use Rattle.dspec_cpu.specs.declared.parts.CpuParts.{CpuParts as Cpu}
-use Rattle.dspec_cpu_state.specs.Counting.{counts_of}
-use Rattle.dspec_cpu.specs.Lists.{HasList, IsReady, batches_of}
-use Rattle.dspec_cpu.specs.Sealed.{HasSized, AreSealed, waiting}
-use Rattle.dspec_cpu.specs.Switching.{batch_of, buffers_of}
 use Rattle.dspec_cpu.proofs.Limits.{limits}
 
 sealed_counts : (k : Config) (c w : ℕ) (p : List Deed) → counts_of k c w (Seal c ∷ p) ≡ counts_of k c w p

@@ -1,10 +1,8 @@
 -- The slots of a service, one behind the other.
 use Rattle.std.proofs.Common.{◌≡◌, ℕ, zero, suc, ◌+◌, ◌≤◌, Bool, true, false, List, [], ◌++◌, length, if◌then◌else◌, refl, sym, ap, ◌∙◌, subst, arith, append_assoc, length-append}
 use Rattle.dspec_deeds.specs.declared.deed.Deed.{Deed}
-use Rattle.dspec_word.specs.Word.{SlotState}
+use Rattle.dspec_cpu.specs.Words.{SlotState, rests, Settled, SettledBehind, SettledSlot, SettledSlots, SlotDone}
 use Rattle.dspec_table.specs.declared.rule.View.{View}
-use Rattle.dspec_cpu.specs.Calls.{rests}
-use Rattle.dspec_cpu.specs.Settled.{Settled, SettledBehind, SettledSlot, SettledSlots, SlotDone}
 use Rattle.dspec_cpu.proofs.ReachDeeds.{goes_on}
 
 -- one Settle where the slot was settled, and none where it was passed

@@ -2,30 +2,19 @@
 use Rattle.std.proofs.Common.{◌≡◌, ℕ, ◌+◌, ◌-◌, ◌^◌, ◌≤◌, ◌<◌, Bool, true, false, List, [], ◌&&◌, nat_le, get_or, Option, if◌then◌else◌, refl, sym, ap, ◌∙◌, subst, inl, inr, arith, true≢false}
 use Rattle.std.proofs.lemmas.List.{append-nil}
 use Rattle.std.proofs.lemmas.Option.{get_or_from_slice_get}
-use Rattle.dspec_record.specs.Record.{Record}
+use Rattle.dspec_cpu.specs.Words.{Record, SlotState, CanBeReleased, awaits, is_decided, settle_at, is_granted, ack, word_at, known, IsAt, cpu_of, LoadedWord, Cpu, Goes, rests, steps, HasList}
+use Rattle.dspec_cpu.specs.Words.{IsReady, Stands, DueSettled, IsDueAt, SlotDone, serving}
 use Rattle.dspec_record.specs.declared.field.Shape.{Shape}
-use Rattle.dspec_word.specs.Word.{SlotState, CanBeReleased}
-use Rattle.dspec_word.specs.Code.{awaits, is_decided}
 use Rattle.dspec_word.specs.declared.code.Code.{Code}
 use Rattle.dspec_word.specs.declared.code.Code.TheVariants.{Inactive, Active, ActiveOne, ActiveMany, Committing, CommittingMany, Discarding}
 use Rattle.dspec_word.specs.declared.act.Act.{Act}
 use Rattle.dspec_word.specs.declared.act.Act.TheVariants.{Void, Granted, Attempt, Idle}
-use Rattle.dspec_word.specs.Tables.{settle_at}
 use Rattle.dspec_deeds.specs.declared.deed.Deed.{Deed}
-use Rattle.dspec_deeds.specs.Closes.{is_granted}
-use Rattle.dspec_deeds.specs.History.{ack, word_at}
 use Rattle.dspec_deeds.proofs.OwnReads.{apart_bare}
 use Rattle.dspec_table.specs.declared.doing.Doing.{Doing}
 use Rattle.dspec_table.specs.declared.rule.View.{View}
 use Rattle.dspec_table.specs.declared.seats.CpuSeat.{CpuSeat}
 use Rattle.dspec_table.specs.declared.seats.Words.{Words}
-use Rattle.dspec_table.specs.Seats.{known, IsAt, cpu_of}
-use Rattle.dspec_table.specs.Steps.{LoadedWord}
-use Rattle.dspec_cpu.specs.declared.parts.CpuParts.{CpuParts as Cpu}
-use Rattle.dspec_cpu.specs.Calls.{Goes, rests, steps}
-use Rattle.dspec_cpu.specs.Lists.{HasList, IsReady}
-use Rattle.dspec_cpu.specs.Reached.{Stands}
-use Rattle.dspec_cpu.specs.Settled.{DueSettled, IsDueAt, SlotDone, serving}
 use Rattle.dspec_cpu.proofs.ReachDeeds.{goes_on}
 use Rattle.dspec_cpu.proofs.Settlements.{grant_tells}
 use Rattle.dspec_cpu.proofs.Ready.{holder, ready_after, set_up_is, stands_behind}

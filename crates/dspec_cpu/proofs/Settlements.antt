@@ -1,31 +1,20 @@
 -- A list that goes on by a settlement, of which a CPU's own list is its part.
 use Rattle.std.proofs.Common.{◌≡◌, ℕ, ◌+◌, ◌==◌, ◌≤◌, ◌<◌, ◌^◌, Bool, true, false, not, ◌&&◌, List, ◌∷◌, length, Option, if◌then◌else◌, refl, sym, ap, ◌∙◌, subst, arith, true≢false}
 use Rattle.std.specs.Prelude.{nat_le}
-use Rattle.dspec_record.specs.Record.{Record}
+use Rattle.dspec_cpu.specs.Words.{Record, Stored, Speculation, SlotState, awaits, settle_at, is_granted, is_commit, is_lost, ack, issue, part, present, settled, solo, verdict, word_at, IsSound}
+use Rattle.dspec_cpu.specs.Words.{SettlesAs, calls, held, growing, is_drop, CountsWithin, report, bare, parts_of_side, HasRoom, counts_of, with_decided, AreShown, CanSettle, IsPartOf, shown_at}
 use Rattle.dspec_record.specs.declared.field.Shape.{Shape}
-use Rattle.dspec_buffer.specs.Stored.{Stored}
 use Rattle.dspec_ring.specs.declared.batch.Batch.{Batch}
-use Rattle.dspec_word.specs.SpecId.{Speculation}
-use Rattle.dspec_word.specs.Word.{SlotState}
-use Rattle.dspec_word.specs.Code.{awaits}
 use Rattle.dspec_word.specs.declared.act.Act.TheVariants.{Granted, Idle}
 use Rattle.dspec_word.specs.declared.code.Code.{Code}
 use Rattle.dspec_word.specs.declared.code.Code.TheVariants.{Inactive, Active, ActiveOne, ActiveMany, Committing, CommittingMany, Discarding}
-use Rattle.dspec_word.specs.Tables.{settle_at}
 use Rattle.dspec_deeds.specs.declared.config.Config.{Config}
 use Rattle.dspec_deeds.specs.declared.calls.Actor.TheVariants.{Cpu as CpuActor}
 use Rattle.dspec_deeds.specs.declared.deed.DecideFate.{DecideFate}
 use Rattle.dspec_deeds.specs.declared.deed.DecideFate.TheVariants as fated
 use Rattle.dspec_deeds.specs.declared.deed.Deed.{Deed}
 use Rattle.dspec_deeds.specs.declared.deed.Deed.TheVariants.{Settle}
-use Rattle.dspec_deeds.specs.Closes.{is_granted}
-use Rattle.dspec_deeds.specs.FateKinds.{is_commit, is_lost}
-use Rattle.dspec_deeds.specs.History.{ack, issue, part, present, settled, solo, verdict, word_at}
-use Rattle.dspec_deeds.specs.Legal.{IsSound, SettlesAs}
-use Rattle.dspec_deeds.specs.Own.{calls, held, growing, is_drop}
-use Rattle.dspec_deeds.specs.Reports.{CountsWithin, report}
 use Rattle.dspec_deeds.specs.Settling as settling
-use Rattle.dspec_deeds.specs.Weaving.{bare}
 use Rattle.dspec_deeds.proofs.Acked.{ack_tells}
 use Rattle.dspec_deeds.proofs.Awaiting.{awaiting, goes_with}
 use Rattle.dspec_deeds.proofs.OwnAccounts.{own_report}
@@ -34,10 +23,6 @@ use Rattle.dspec_deeds.proofs.TestLemmas.{cpu_is_itself, number_is_itself}
 use Rattle.dspec_table.proofs.OwnReading.{ack_part}
 use Rattle.dspec_cpu_state.specs.declared.counts.Counts.{Counts}
 use Rattle.dspec_cpu_state.specs.declared.cpu_state.CpuState.{CpuState}
-use Rattle.dspec_cpu_state.specs.CpuStates.{parts_of_side}
-use Rattle.dspec_cpu_state.specs.Counting.{HasRoom, counts_of, with_decided}
-use Rattle.dspec_cpu.specs.Lists.{AreShown}
-use Rattle.dspec_cpu.specs.Settled.{CanSettle, IsPartOf, shown_at}
 use Rattle.dspec_cpu.proofs.Mine.{unmarked_empty}
 use Rattle.dspec_cpu.proofs.OwnBlocks.{lawful, goes_on}
 use Rattle.dspec_cpu_state.proofs.Tallies.{drops_since, settle_counts}

@@ -1,17 +1,11 @@
 -- What shows a list of a CPU: its side, and the batches that it sealed.
 use Rattle.std.proofs.Common.{◌≡◌, ℕ, Bool, true, false, List, ◌∷◌, Option}
-use Rattle.dspec_record.specs.Record.{Record}
+use Rattle.dspec_cpu.specs.Words.{Record, Piece, Stored, HasPieces, is_seal, CpuRow, is_of, ShowsList, parts_of_side, AreShown}
 use Rattle.dspec_record.specs.declared.field.Shape.{Shape}
-use Rattle.dspec_buffer.specs.Extent.{Piece}
-use Rattle.dspec_buffer.specs.Stored.{Stored, HasPieces}
 use Rattle.dspec_ring.specs.declared.batch.Batch.{Batch}
 use Rattle.dspec_deeds.specs.declared.config.Config.{Config}
 use Rattle.dspec_deeds.specs.declared.deed.Deed.{Deed}
-use Rattle.dspec_deeds.specs.Legal.{is_seal}
-use Rattle.dspec_deeds.specs.Owning.{CpuRow, is_of}
 use Rattle.dspec_cpu_state.specs.declared.cpu_state.CpuState.{CpuState}
-use Rattle.dspec_cpu_state.specs.CpuStates.{ShowsList, parts_of_side}
-use Rattle.dspec_cpu.specs.Lists.{AreShown}
 use Rattle.dspec_cpu.proofs.Quiet.{sealed_on}
 
 module _ (shape : ℕ → Option Shape) (accepted : Record → Bool) (text : Record → List ℕ) {k : Config} {c : ℕ} {batches : List Batch} (side : CpuState Stored) (p : List Deed)

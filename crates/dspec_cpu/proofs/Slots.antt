@@ -1,10 +1,9 @@
 -- The slots of a scan.
 use Rattle.std.proofs.Common.{◌≡◌, ◌≢◌, ℕ, ◌+◌, Bool, true, false, ◌&&◌, List, [], ◌∷◌, if◌then◌else◌, refl, sym, ap, ◌∙◌, subst, inl, arith}
 use Rattle.std.specs.Prelude.{nat_lt}
-use Rattle.dspec_word.specs.Word.{SlotState}
-use Rattle.dspec_word.specs.Code.{is_inactive, is_decided}
+use Rattle.dspec_cpu.specs.Words.{SlotState, is_inactive, is_decided, attempt, open_at, of_cpu, number_of, slot_place, Entered, LoadedWord, OpenedWord, Look, rests, steps, Stands, LookedAtSlot}
+use Rattle.dspec_cpu.specs.Words.{IsGivenAt, look_deed, at_slot}
 use Rattle.dspec_word.specs.declared.act.Act.TheVariants.{Void, Attempt}
-use Rattle.dspec_word.specs.Tables.{attempt, open_at}
 use Rattle.dspec_word.specs.declared.code.Code.TheVariants.{Active}
 use Rattle.dspec_deeds.specs.declared.config.Config.{Config}
 use Rattle.dspec_deeds.specs.declared.calls.CpuOp.TheVariants as op
@@ -12,17 +11,9 @@ use Rattle.dspec_deeds.specs.declared.deed.Deed.{Deed}
 use Rattle.dspec_deeds.specs.declared.deed.Deed.TheVariants.{Miss}
 use Rattle.dspec_table.specs.declared.rule.View.{View}
 use Rattle.dspec_table.specs.declared.doing.Doing.{Doing}
-use Rattle.dspec_table.specs.Holders.{of_cpu, number_of}
 use Rattle.dspec_table.specs.Acts as acts
-use Rattle.dspec_table.specs.Layout.{slot_place}
-use Rattle.dspec_table.specs.Steps.{Entered, LoadedWord, OpenedWord}
 use Rattle.dspec_table.proofs.Flights.{flight_by_last}
-use Rattle.dspec_cpu.specs.declared.scanning.Look.{Look}
 use Rattle.dspec_cpu.specs.declared.scanning.Look.TheVariants as look
-use Rattle.dspec_cpu.specs.Calls.{rests, steps}
-use Rattle.dspec_cpu.specs.Reached.{Stands}
-use Rattle.dspec_cpu.specs.Scans.{LookedAtSlot, IsGivenAt, look_deed}
-use Rattle.dspec_cpu.specs.Touching.{at_slot}
 use Rattle.dspec_cpu.proofs.Ready.{stands_behind}
 use Rattle.dspec_cpu.proofs.Touching.{touched_more, touched_one}
 

@@ -1,14 +1,9 @@
 -- A call heeds a stop that its seat was shown.
 use Rattle.std.proofs.Common.{◌≡◌, Bool, true, false, ◌||◌, List, [], ◌∷◌, ◌++◌, refl, sym, ap, ◌∙◌, true≢false}
 use Rattle.dspec_deeds.specs.declared.deed.Deed.{Deed}
-use Rattle.dspec_deeds.specs.History.{halted, is_halt}
+use Rattle.dspec_cpu.specs.Words.{halted, is_halt, at_activity, Holder, number_of, Since, here, more, LoadedActivity, StopsWhereMet}
 use Rattle.dspec_table.specs.declared.doing.Doing.{Doing}
 use Rattle.dspec_table.specs.declared.rule.View.{View}
-use Rattle.dspec_table.specs.Acts.{at_activity}
-use Rattle.dspec_table.specs.Holders.{Holder, number_of}
-use Rattle.dspec_table.specs.Since.{Since, here, more}
-use Rattle.dspec_table.specs.Steps.{LoadedActivity}
-use Rattle.dspec_cpu.specs.Stops.{StopsWhereMet}
 
 or_yes : (a b : Bool) → b ≡ true → (a || b) ≡ true
 or_yes true b e = refl

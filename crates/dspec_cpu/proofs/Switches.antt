@@ -1,28 +1,16 @@
 -- A CPU behind a switch: its batches, its spare and its lists.
 use Rattle.std.proofs.Common.{◌≡◌, ℕ, ◌+◌, ◌≤◌, Bool, false, List, [], ◌∷◌, ◌++◌, length, reverse, Option, Some, None, refl, sym, ap, ◌∙◌, subst, arith, inl, inr, rules}
 use Rattle.std.proofs.lemmas.List.{length_push, reverse-append}
-use Rattle.dspec_record.specs.Record.{Record}
+use Rattle.dspec_cpu.specs.Words.{Record, Stored, CpuKnows, owed, part, IsSound, is_fill, LoadedAsk, of_cpu, part_of, known, IsAt, cpu_of, Cpu, HasList, IsReady, IsSameCpu, batches_of, spare_count}
+use Rattle.dspec_cpu.specs.Words.{Stands, HasSized, waiting, Buffers, FindsSpare, HandsOn, Heeds, not_asked, worn_out, no_spare, held_up, switched, IsSameBeside, Switches, looked, batch_of}
+use Rattle.dspec_cpu.specs.Words.{buffers_of, emptied, with_buffers, with_seal}
 use Rattle.dspec_record.specs.declared.field.Shape.{Shape}
-use Rattle.dspec_buffer.specs.Stored.{Stored}
 use Rattle.dspec_ring.specs.declared.batch.Batch.{Batch}
-use Rattle.dspec_ring.specs.Known.{CpuKnows}
 use Rattle.dspec_deeds.specs.declared.config.Config.{Config}
 use Rattle.dspec_deeds.specs.declared.deed.Deed.{Deed}
-use Rattle.dspec_deeds.specs.History.{owed, part}
-use Rattle.dspec_deeds.specs.Legal.{IsSound}
-use Rattle.dspec_deeds.specs.Ranges.{is_fill}
 use Rattle.dspec_table.specs.declared.rule.View.{View}
 use Rattle.dspec_table.specs.declared.seats.Words.{Words}
 use Rattle.dspec_table.specs.declared.seats.CpuSeat.{CpuSeat}
-use Rattle.dspec_table.specs.Asks.{LoadedAsk}
-use Rattle.dspec_table.specs.Holders.{of_cpu, part_of}
-use Rattle.dspec_table.specs.Seats.{known, IsAt, cpu_of}
-use Rattle.dspec_cpu.specs.declared.parts.CpuParts.{CpuParts as Cpu}
-use Rattle.dspec_cpu.specs.Lists.{HasList, IsReady, IsSameCpu, batches_of, spare_count}
-use Rattle.dspec_cpu.specs.Reached.{Stands}
-use Rattle.dspec_cpu.specs.Sealed.{HasSized, waiting}
-use Rattle.dspec_cpu.specs.Switching.{Buffers, FindsSpare, HandsOn, Heeds, not_asked, worn_out, no_spare, held_up, switched}
-use Rattle.dspec_cpu.specs.Switching.{IsSameBeside, Switches, looked, batch_of, buffers_of, emptied, with_buffers, with_seal}
 use Rattle.dspec_cpu.proofs.Ready.{holder, ready_after, set_up_is}
 use Rattle.dspec_cpu.proofs.Seals.{kept_list, sealed_list}
 

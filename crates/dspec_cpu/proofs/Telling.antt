@@ -1,8 +1,9 @@
 -- What a call tells by its answer comes in front of what its CPU's calls told before.
 use Rattle.std.proofs.Common.{◌≡◌, ◌+◌, ◌*◌, ℕ, zero, suc, Bool, true, false, List, [], ◌∷◌, ◌++◌, length, refl, sym, ap, ◌∙◌, ⊎_elim, append_assoc, arith}
-use Rattle.dspec_record.specs.Record.{Record}
-use Rattle.dspec_word.specs.SpecId.{Speculation}
-use Rattle.dspec_word.specs.Word.{SlotState}
+use Rattle.dspec_cpu.specs.Words.{Record, Speculation, SlotState, settled_fate, did, commit, discard, Did, is_stopped_opening, calling, known, Entered, EnteredIn, Cpu, called, settled_did}
+use Rattle.dspec_cpu.specs.Words.{WithService, Decides, Goes, rests, steps, spoken_deeds, traced_deeds, is_worn_decided, is_worn_spoken, is_worn_trace, CallLeaves, config_of, number_in, seat_of}
+use Rattle.dspec_cpu.specs.Words.{worn_of, decision_deed, TracesOne, SpeculatesOne, OpensOne, DecidesOne, Opens, is_worn_opening, Serves, SettledBehind, SettledSlots, shown_at, is_stopped_decided}
+use Rattle.dspec_cpu.specs.Words.{is_stopped_spoken, is_stopped_trace, Buffers, Switches, never, looked, last_looked, of_activity, of_slot, of_slots}
 use Rattle.dspec_deeds.specs.declared.calls.Decided.{Decided}
 use Rattle.dspec_deeds.specs.declared.calls.Opening.{Opening}
 use Rattle.dspec_deeds.specs.declared.calls.Served.{Served}
@@ -12,26 +13,7 @@ use Rattle.dspec_deeds.specs.declared.config.Config.{Config}
 use Rattle.dspec_deeds.specs.declared.deed.DecideFate.{DecideFate}
 use Rattle.dspec_deeds.specs.declared.deed.Deed.{Deed}
 use Rattle.dspec_deeds.specs.declared.deed.Deed.TheVariants.{Settle}
-use Rattle.dspec_deeds.specs.Settling.{settled_fate}
-use Rattle.dspec_promise.specs.Deeds.{did}
-use Rattle.dspec_promise.specs.Promise.{commit, discard, Did}
-use Rattle.dspec_cpu_state.specs.Counting.{is_stopped_opening}
 use Rattle.dspec_table.specs.declared.rule.View.{View}
-use Rattle.dspec_table.specs.Flights.{calling}
-use Rattle.dspec_table.specs.Seats.{known}
-use Rattle.dspec_table.specs.Steps.{Entered, EnteredIn}
-use Rattle.dspec_cpu.specs.declared.parts.CpuParts.{CpuParts as Cpu}
-use Rattle.dspec_cpu.specs.Called.{called, settled_did, WithService}
-use Rattle.dspec_cpu.specs.Calls.{Decides, Goes, rests, steps, spoken_deeds, traced_deeds, is_worn_decided, is_worn_spoken, is_worn_trace}
-use Rattle.dspec_cpu.specs.Keeping.{CallLeaves}
-use Rattle.dspec_cpu.specs.Lists.{config_of, number_in, seat_of, worn_of}
-use Rattle.dspec_cpu.specs.OneCall.{decision_deed, TracesOne, SpeculatesOne, OpensOne, DecidesOne}
-use Rattle.dspec_cpu.specs.Scans.{Opens, is_worn_opening}
-use Rattle.dspec_cpu.specs.Serving.{Serves}
-use Rattle.dspec_cpu.specs.Settled.{SettledBehind, SettledSlots, shown_at}
-use Rattle.dspec_cpu.specs.Stops.{is_stopped_decided, is_stopped_spoken, is_stopped_trace}
-use Rattle.dspec_cpu.specs.Switching.{Buffers, Switches, never, looked}
-use Rattle.dspec_cpu.specs.Touching.{last_looked, of_activity, of_slot, of_slots}
 use Rattle.dspec_cpu.proofs.Told.{trace_told, speculate_told, commit_told, discard_told, opening_told, settles, settles_told}
 
 -- steps of a seat put their deeds in front of its list

@@ -1,7 +1,6 @@
 -- The deeds of a call, as the page tells them by its answer.
 use Rattle.std.proofs.Common.{◌≡◌, ℕ, Bool, true, false, List, [], ◌∷◌, ◌++◌, map, refl, ap, ◌∙◌, append_assoc}
-use Rattle.dspec_record.specs.Record.{Record}
-use Rattle.dspec_word.specs.SpecId.{Speculation}
+use Rattle.dspec_cpu.specs.Words.{Record, Speculation, did, commit, discard, trace_did, speculate_did, decision_did, settled_did, traced_deeds, spoken_deeds, decided_deeds, misses, opening_deeds}
 use Rattle.dspec_deeds.specs.declared.calls.Traced.{Traced}
 use Rattle.dspec_deeds.specs.declared.calls.Traced.TheVariants as answer
 use Rattle.dspec_deeds.specs.declared.calls.Spoken.{Spoken}
@@ -14,11 +13,6 @@ use Rattle.dspec_deeds.specs.declared.calls.Opening.{Opening}
 use Rattle.dspec_deeds.specs.declared.calls.Opening.TheVariants as opening
 use Rattle.dspec_deeds.specs.declared.deed.Deed.TheVariants.{Scan, Commit, Discard, Settle}
 use Rattle.dspec_deeds.proofs.TestLemmas.{number_is_itself}
-use Rattle.dspec_promise.specs.Deeds.{did}
-use Rattle.dspec_promise.specs.Promise.{commit, discard}
-use Rattle.dspec_cpu.specs.Called.{trace_did, speculate_did, decision_did, settled_did}
-use Rattle.dspec_cpu.specs.Calls.{traced_deeds, spoken_deeds, decided_deeds}
-use Rattle.dspec_cpu.specs.Scans.{misses, opening_deeds}
 
 pub trace_told : (c : ℕ) (r : Record) (a : Traced) (p : List Deed) → did c (traced_deeds c r a ++ p) ≡ trace_did r a ++ did c p
 trace_told c r answer.Worn p = refl

@@ -1,17 +1,12 @@
 -- The words that steps touch, one behind the other.
 use Rattle.std.proofs.Common.{◌≡◌, ℕ, zero, suc, ◌+◌, ◌≤◌, Bool, true, false, List, [], ◌∷◌, ◌++◌, get_or, refl, sym, ap, ◌∙◌, subst, inl, inr, arith, append_assoc}
 use Rattle.std.proofs.lemmas.List.Elements.{All-nil, All-cons, All-append}
-use Rattle.dspec_word.specs.Word.{SlotState}
+use Rattle.dspec_cpu.specs.Words.{SlotState, of_cpu, number_of, ack_place, ask_place, slot_place, Serves, SettledBehind, SettledSlot, SettledSlots, Buffers, Switches, never, looked, Touches}
+use Rattle.dspec_cpu.specs.Words.{at_slot, of_service, of_slots}
 use Rattle.dspec_deeds.specs.declared.config.Config.{Config}
 use Rattle.dspec_deeds.specs.declared.deed.Deed.{Deed}
 use Rattle.dspec_deeds.specs.declared.calls.Served.{Served}
 use Rattle.dspec_table.specs.declared.rule.View.{View}
-use Rattle.dspec_table.specs.Holders.{of_cpu, number_of}
-use Rattle.dspec_table.specs.Layout.{ack_place, ask_place, slot_place}
-use Rattle.dspec_cpu.specs.Serving.{Serves}
-use Rattle.dspec_cpu.specs.Settled.{SettledBehind, SettledSlot, SettledSlots}
-use Rattle.dspec_cpu.specs.Switching.{Buffers, Switches, never, looked}
-use Rattle.dspec_cpu.specs.Touching.{Touches, at_slot, of_service, of_slots}
 
 pub none_touched : (within : ℕ → Type 0) (v : View) → Touches within v v
 none_touched within v = record { places = []; touched = refl; all = All-nil within }

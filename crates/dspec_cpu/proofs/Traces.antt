@@ -1,6 +1,6 @@
 -- A call of trace.
 use Rattle.std.proofs.Common.{◌≡◌, ℕ, ◌+◌, Bool, false, [], ◌∷◌, if◌then◌else◌, refl, ap, subst}
-use Rattle.dspec_record.specs.Record.{Record}
+use Rattle.dspec_cpu.specs.Words.{Record, of_cpu, number_of, calling, activity_place, LoadedActivity, Entered, Goes, rests, steps, Stands}
 use Rattle.dspec_deeds.specs.declared.config.Config.{Config}
 use Rattle.dspec_deeds.specs.declared.calls.CpuOp.TheVariants as op
 use Rattle.dspec_deeds.specs.declared.deed.TraceFate.{TraceFate}
@@ -8,13 +8,7 @@ use Rattle.dspec_deeds.specs.declared.deed.TraceFate.TheVariants as traced
 use Rattle.dspec_deeds.specs.declared.deed.Deed.TheVariants.{Trace}
 use Rattle.dspec_table.specs.declared.rule.View.{View}
 use Rattle.dspec_table.specs.declared.doing.Doing.{Doing}
-use Rattle.dspec_table.specs.Holders.{of_cpu, number_of}
-use Rattle.dspec_table.specs.Flights.{calling}
-use Rattle.dspec_table.specs.Layout.{activity_place}
-use Rattle.dspec_table.specs.Steps.{LoadedActivity, Entered}
 use Rattle.dspec_table.proofs.Flights.{activity_enters}
-use Rattle.dspec_cpu.specs.Calls.{Goes, rests, steps}
-use Rattle.dspec_cpu.specs.Reached.{Stands}
 use Rattle.dspec_cpu.proofs.Ready.{stands_behind, stands_called}
 
 abbrev pub asked : Record → Bool → Doing

@@ -1,11 +1,8 @@
 -- Cited by calls. What a part of a call did, said of the CPU before it and of the CPU behind it.
 use Rattle.std.specs.Prelude.{ℕ, Bool, List, Option}
-use Rattle.dspec_record.specs.Record.{Record}
+use Rattle.dspec_cpu.specs.Words.Outside.{Record, block, Stored, Speculation, fits_principal, contents, held, known, IsCaller}
 use Rattle.dspec_record.specs.declared.field.Shape.{Shape}
-use Rattle.dspec_buffer.specs.Extent.{block}
-use Rattle.dspec_buffer.specs.Stored.{Stored}
 use Rattle.dspec_ring.specs.declared.batch.Batch.{Batch}
-use Rattle.dspec_word.specs.SpecId.{Speculation}
 use Rattle.dspec_word.specs.declared.code.Code.{Code}
 use Rattle.dspec_deeds.specs.declared.calls.Decided.{Decided}
 use Rattle.dspec_deeds.specs.declared.calls.Opening.{Opening}
@@ -13,11 +10,7 @@ use Rattle.dspec_deeds.specs.declared.calls.Served.{Served}
 use Rattle.dspec_deeds.specs.declared.config.Config.{Config}
 use Rattle.dspec_deeds.specs.declared.deed.DecideFate.{DecideFate}
 use Rattle.dspec_deeds.specs.declared.deed.Deed.{Deed}
-use Rattle.dspec_deeds.specs.Legal.{fits_principal}
-use Rattle.dspec_deeds.specs.Own.{contents, held}
-use Rattle.dspec_table.specs.Seats.{known}
 use Rattle.dspec_table.specs.declared.doing.Doing.{Doing}
-use Rattle.dspec_cpu_state.specs.CpuStates.{IsCaller}
 use Rattle.dspec_cpu_state.specs.declared.cpu_state.CpuState.{CpuState}
 use Rattle.dspec_cpu.specs.declared.parts.CpuParts.{CpuParts as Cpu}
 use Rattle.dspec_cpu.specs.Calls.{Decides}

@@ -1,7 +1,6 @@
 -- Believed. What a CPU's calls did, in the words of the page, and what one call more adds to it by its answer.
 use Rattle.std.specs.Prelude.{ℕ, ◌≡◌, List, [], ◌∷◌, ◌++◌, length, map}
-use Rattle.dspec_record.specs.Record.{Record}
-use Rattle.dspec_word.specs.SpecId.{Speculation}
+use Rattle.dspec_cpu.specs.Words.Outside.{Record, Speculation, did, By, service, Did, traced, speculated, emptied, worn_after, known}
 use Rattle.dspec_deeds.specs.declared.calls.Decided.{Decided}
 use Rattle.dspec_deeds.specs.declared.calls.Decided.TheVariants as decided
 use Rattle.dspec_deeds.specs.declared.calls.Opening.{Opening}
@@ -14,10 +13,6 @@ use Rattle.dspec_deeds.specs.declared.deed.DecideFate.{DecideFate}
 use Rattle.dspec_deeds.specs.declared.deed.DecideFate.TheVariants as decide_fate
 use Rattle.dspec_deeds.specs.declared.deed.SpeculateFate.TheVariants as speculate_fate
 use Rattle.dspec_deeds.specs.declared.deed.TraceFate.TheVariants as trace_fate
-use Rattle.dspec_promise.specs.Deeds.{did}
-use Rattle.dspec_promise.specs.Promise.{By, service, Did, traced, speculated, emptied}
-use Rattle.dspec_cpu_state.specs.Counting.{worn_after}
-use Rattle.dspec_table.specs.Seats.{known}
 use Rattle.dspec_cpu.specs.declared.parts.CpuParts.{CpuParts as Cpu}
 use Rattle.dspec_cpu.specs.Calls.{is_worn_decided, is_worn_spoken, is_worn_trace}
 use Rattle.dspec_cpu.specs.Lists.{number_in, seat_of, worn_of}

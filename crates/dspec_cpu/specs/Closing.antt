@@ -1,14 +1,10 @@
 -- Cited by calls. What the close of a session does with what is left of a CPU, by which lists that has.
 use Rattle.std.specs.Prelude.{ℕ, ◌≡◌, Bool, List, ◌++◌, reverse, Option}
-use Rattle.dspec_record.specs.Record.{Record}
+use Rattle.dspec_cpu.specs.Words.Outside.{Record, word_at, report, own_closed, own_closed_slot, Shows}
 use Rattle.dspec_record.specs.declared.field.Shape.{Shape}
 use Rattle.dspec_ring.specs.declared.batch.Batch.{Batch}
 use Rattle.dspec_deeds.specs.declared.deed.Deed.{Deed}
 use Rattle.dspec_deeds.specs.declared.report.Report.{Report}
-use Rattle.dspec_deeds.specs.History.{word_at}
-use Rattle.dspec_deeds.specs.Reports.{report}
-use Rattle.dspec_interleaving.specs.CpuClose.{own_closed, own_closed_slot}
-use Rattle.dspec_table.specs.Showing.{Shows}
 use Rattle.dspec_cpu.specs.declared.rest.CpuRest.{CpuRest}
 use Rattle.dspec_cpu.specs.Rests.{CanCloseBehind, IsLegalPart, config_of_rest, number_of_rest, schema_of_rest, worn_of_rest}
 use Rattle.dspec_cpu.specs.Sealed.{AreSealed, IsSealed, waiting}

@@ -1,7 +1,6 @@
 -- Cited by calls. What stays of a CPU: what each of its calls keeps, all of it but its count of worn calls, or all of it but its seat.
 use Rattle.std.specs.Prelude.{ℕ, ◌≡◌, ◌≤◌, ◌+◌, ◌↔◌, Bool, true}
-use Rattle.dspec_table.specs.Seats.{known}
-use Rattle.dspec_cpu_state.specs.Counting.{one_more_worn, worn_after}
+use Rattle.dspec_cpu.specs.Words.Outside.{known, one_more_worn, worn_after}
 use Rattle.dspec_cpu.specs.declared.parts.CpuParts.{CpuParts as Cpu}
 use Rattle.dspec_cpu.specs.Lists.{calls_of, config_of, seat_of, worn_of}
 use Rattle.dspec_cpu.specs.Settled.{KeepsBatches}

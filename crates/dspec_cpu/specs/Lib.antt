@@ -19,3 +19,4 @@ pub mod Standing
 pub mod Called
 pub mod OneCall
 pub mod Between
+pub mod Words

@@ -1,27 +1,17 @@
 -- Believed. Which lists of its own deeds a CPU has, the latest first, and what holds of it between two of its calls.
 use Rattle.std.specs.Prelude.{ℕ, ◌≡◌, ◌≤◌, ◌+◌, Bool, List, ◌++◌, length, reverse, Option, Some, None}
-use Rattle.dspec_record.specs.Record.{Record}
+use Rattle.dspec_cpu.specs.Words.Outside.{Record, Stored, part, scan, IsSound, IsOwn, StateParts, ShowsOwnState, own_side, start_fault, bare, known, IsAt, set_up, cpu_of, CpuKnows, counts_of}
+use Rattle.dspec_cpu.specs.Words.Outside.{parts_of_side}
 use Rattle.dspec_record.specs.declared.field.Shape.{Shape}
-use Rattle.dspec_buffer.specs.Stored.{Stored}
 use Rattle.dspec_ring.specs.declared.batch.Batch.{Batch}
 use Rattle.dspec_deeds.specs.declared.config.Config.{Config}
 use Rattle.dspec_deeds.specs.declared.calls.Actor.TheVariants.{Cpu as CpuActor}
 use Rattle.dspec_deeds.specs.declared.deed.Deed.{Deed}
-use Rattle.dspec_deeds.specs.History.{part, scan}
-use Rattle.dspec_deeds.specs.Legal.{IsSound}
-use Rattle.dspec_deeds.specs.Owning.{IsOwn}
-use Rattle.dspec_deeds.specs.CpuShown.{StateParts, ShowsOwnState, own_side}
-use Rattle.dspec_deeds.specs.Ranges.{start_fault}
-use Rattle.dspec_deeds.specs.Weaving.{bare}
 use Rattle.dspec_table.specs.declared.seats.Words.{Words}
 use Rattle.dspec_table.specs.declared.seats.CpuSeat.{CpuSeat}
-use Rattle.dspec_table.specs.Seats.{known, IsAt, set_up, cpu_of}
-use Rattle.dspec_ring.specs.Known.{CpuKnows}
 use Rattle.dspec_cpu_state.specs.declared.counts.Counts.{Counts}
 use Rattle.dspec_cpu.specs.declared.parts.CpuParts.{CpuParts as Cpu}
 use Rattle.dspec_cpu.specs.declared.shared.Shared.{Shared}
-use Rattle.dspec_cpu_state.specs.Counting.{counts_of}
-use Rattle.dspec_cpu_state.specs.CpuStates.{parts_of_side}
 use Rattle.dspec_cpu.specs.Sealed.{HasSized, AreSealed, waiting}
 
 -- the words that all threads of a session share

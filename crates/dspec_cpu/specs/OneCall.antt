@@ -1,8 +1,7 @@
 -- Cited by calls. One call of a CPU: what it did, first in the words of the page, and what it kept.
 use Rattle.std.specs.Prelude.{ℕ, ◌≡◌, ◌≤◌, ◌+◌, ◌*◌, ◌&&◌, ◌||◌, ◌↔◌, nat_le, Bool, true, false, List, length, Option, IsSome, IfSome, IfNone, IsTrue}
-use Rattle.dspec_record.specs.Record.{Record}
+use Rattle.dspec_cpu.specs.Words.Outside.{Record, Speculation, By, commit, discard, service, is_stopped_opening, known}
 use Rattle.dspec_record.specs.declared.field.Shape.{Shape}
-use Rattle.dspec_word.specs.SpecId.{Speculation}
 use Rattle.dspec_deeds.specs.declared.calls.Decided.{Decided}
 use Rattle.dspec_deeds.specs.declared.calls.Decided.TheVariants as decided
 use Rattle.dspec_deeds.specs.declared.calls.Opening.{Opening}
@@ -12,9 +11,6 @@ use Rattle.dspec_deeds.specs.declared.calls.Traced.{Traced}
 use Rattle.dspec_deeds.specs.declared.deed.DecideFate.{DecideFate}
 use Rattle.dspec_deeds.specs.declared.deed.Deed.{Deed}
 use Rattle.dspec_deeds.specs.declared.deed.Deed.TheVariants.{Commit, Discard, Settle}
-use Rattle.dspec_promise.specs.Promise.{By, commit, discard, service}
-use Rattle.dspec_cpu_state.specs.Counting.{is_stopped_opening}
-use Rattle.dspec_table.specs.Seats.{known}
 use Rattle.dspec_cpu.specs.declared.parts.CpuParts.{CpuParts as Cpu}
 use Rattle.dspec_cpu.specs.Between.{cpu_block_fits}
 use Rattle.dspec_cpu.specs.Called.{called, with_trace, with_speculate, with_decision, with_speculation, WithService}

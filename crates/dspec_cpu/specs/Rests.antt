@@ -1,20 +1,13 @@
 -- Cited by calls. Which lists what is left of a CPU has, and how the close of a session settles them.
 use Rattle.std.specs.Prelude.{ℕ, ◌≡◌, ◌<◌, Bool, List, ◌++◌, reverse, Option}
-use Rattle.dspec_record.specs.Record.{Record}
+use Rattle.dspec_cpu.specs.Words.Outside.{Record, Stored, ack, part, word_at, IsLegal, StateParts, last_set_up, Shows, parts_of_side}
 use Rattle.dspec_record.specs.declared.field.Shape.{Shape}
-use Rattle.dspec_buffer.specs.Stored.{Stored}
 use Rattle.dspec_ring.specs.declared.batch.Batch.{Batch}
 use Rattle.dspec_deeds.specs.declared.config.Config.{Config}
 use Rattle.dspec_deeds.specs.declared.calls.Actor.TheVariants.{Cpu as CpuActor}
 use Rattle.dspec_deeds.specs.declared.deed.Deed.{Deed}
-use Rattle.dspec_deeds.specs.History.{ack, part, word_at}
-use Rattle.dspec_deeds.specs.Legal.{IsLegal}
-use Rattle.dspec_deeds.specs.CpuShown.{StateParts}
 use Rattle.dspec_table.specs.declared.last.LastWords.{LastWords}
-use Rattle.dspec_table.specs.Last.{last_set_up}
-use Rattle.dspec_table.specs.Showing.{Shows}
 use Rattle.dspec_cpu.specs.declared.rest.CpuRest.{CpuRest}
-use Rattle.dspec_cpu_state.specs.CpuStates.{parts_of_side}
 use Rattle.dspec_cpu.specs.Lists.{AreShown}
 use Rattle.dspec_cpu.specs.Sealed.{waiting}
 use Rattle.dspec_cpu.specs.Settled.{IsPartOf}

@@ -12,7 +12,7 @@ use Rattle.dspec_cpu.specs.Calls.{Goes}
 use Rattle.dspec_cpu.specs.Reached.{Stands}
 use Rattle.dspec_cpu.specs.Stops.{StopsWhereMet}
 use Rattle.dspec_cpu.specs.Touching.{Touches, at_slot, last_looked, of_slots}
-use Rattle.dspec_cpu_state.specs.Counting.{is_stopped_opening}
+use Rattle.dspec_cpu.specs.Words.Outside.{is_stopped_opening}
 
 -- the deed of one slot
 abbrev pub look_deed : ℕ → ℕ → Look → Deed

@@ -3,8 +3,7 @@ use Rattle.std.specs.Prelude.{ℕ, ◌≡◌}
 use Rattle.atomic_table.specs.Seated.{TableId}
 use Rattle.dspec_deeds.specs.declared.config.Config.{Config}
 use Rattle.dspec_table.specs.declared.seats.Words.{Words}
-use Rattle.dspec_table.specs.Seats.{set_up}
-use Rattle.dspec_ring.specs.Known.{Pair}
+use Rattle.dspec_cpu.specs.Words.Outside.{set_up, Pair}
 use Rattle.dspec_cpu.specs.declared.parts.CpuParts.{CpuParts as Cpu}
 use Rattle.dspec_cpu.specs.declared.shared.Shared.{Shared}
 use Rattle.dspec_cpu.specs.Lists.{words_of}

@@ -3,17 +3,12 @@ use Rattle.std.proofs.Common.{◌≡◌, ◌≢◌, ℕ, ◌+◌, ◌-◌, ◌==
 use Rattle.std.proofs.Common.{Some, if◌then◌else◌, refl, sym, ap, ◌∙◌, ⊎_elim, arith, length-set}
 use Rattle.std.specs.Prelude.{slice_get, slice_set}
 use Rattle.std.proofs.lemmas.Bool.Decides.{nat_tests}
-use Rattle.dspec_record.specs.Record.{Record}
-use Rattle.dspec_word.specs.SpecId.{Speculation}
+use Rattle.dspec_cpu_state.specs.Words.{Record, Speculation, spoken_granted, spoken_dropped, mark, calls, dropped_in, last_called}
 use Rattle.dspec_deeds.specs.declared.config.Config.{Config}
 use Rattle.dspec_deeds.specs.declared.deed.SpeculateFate.{SpeculateFate}
 use Rattle.dspec_deeds.specs.declared.deed.SpeculateFate.TheVariants as spoken
 use Rattle.dspec_deeds.specs.declared.deed.Deed.{Deed}
 use Rattle.dspec_deeds.specs.declared.deed.Deed.TheVariants.{Speculate}
-use Rattle.dspec_deeds.specs.FateKinds.{spoken_granted, spoken_dropped}
-use Rattle.dspec_deeds.specs.Marks.{mark}
-use Rattle.dspec_deeds.specs.Own.{calls, dropped_in}
-use Rattle.dspec_deeds.specs.CpuShown.{last_called}
 use Rattle.dspec_deeds.proofs.Dropping.{unmarked_drops, dropped_called}
 use Rattle.dspec_deeds.proofs.TestLemmas.{either_way, same_number, number_is_itself}
 use Rattle.dspec_cpu_state.proofs.Places.{got_set, got_other}

@@ -5,28 +5,17 @@ use Rattle.std.specs.Prelude.{slice_get, slice_set}
 use Rattle.std.specs.Global.{Vec}
 use Rattle.std.proofs.lemmas.Bool.Decides.{nat_tests}
 use Rattle.std.proofs.lemmas.Option.{slice_get-get_or}
-use Rattle.dspec_record.specs.Record.{Record}
+use Rattle.dspec_cpu_state.specs.Words.{Record, Piece, piece_fits, Speculation, is_commit, is_copied, is_discard, is_lost, decided_stopped, ack, same_id, CpuLegal, fits_principal, mark, Offer}
+use Rattle.dspec_cpu_state.specs.Words.{active, calls, contents, dropped_in, growing, held, seals, last_called, missed_busy, Counts, CpuState, counts_of, with_decided, IsFilledWith, IsCaller}
+use Rattle.dspec_cpu_state.specs.Words.{ShowsList}
 use Rattle.dspec_record.specs.declared.field.Shape.{Shape}
 use Rattle.dspec_buffer.specs.Extent as extent
-use Rattle.dspec_buffer.specs.Extent.{Piece, piece_fits}
-use Rattle.dspec_word.specs.SpecId.{Speculation}
 use Rattle.dspec_deeds.specs.declared.config.Config.{Config}
 use Rattle.dspec_deeds.specs.declared.deed.DecideFate.{DecideFate}
 use Rattle.dspec_deeds.specs.declared.deed.DecideFate.TheVariants as fated
 use Rattle.dspec_deeds.specs.declared.deed.Deed.{Deed}
 use Rattle.dspec_deeds.specs.declared.deed.Deed.TheVariants.{Commit, Discard, Settle}
-use Rattle.dspec_deeds.specs.FateKinds.{is_commit, is_copied, is_discard, is_lost, decided_stopped}
-use Rattle.dspec_deeds.specs.History.{ack, same_id}
-use Rattle.dspec_deeds.specs.Legal.{CpuLegal, fits_principal}
-use Rattle.dspec_deeds.specs.Marks.{mark}
-use Rattle.dspec_deeds.specs.Own.{Offer, active, calls, contents, dropped_in, growing, held, seals}
-use Rattle.dspec_deeds.specs.CpuShown.{last_called}
-use Rattle.dspec_deeds.specs.Reports.{missed_busy}
 use Rattle.dspec_deeds.proofs.TestLemmas.{either_way, same_number, number_is_itself, id_is_itself, same_id_tells, other_slot, and_tells}
-use Rattle.dspec_cpu_state.specs.declared.counts.Counts.{Counts}
-use Rattle.dspec_cpu_state.specs.declared.cpu_state.CpuState.{CpuState}
-use Rattle.dspec_cpu_state.specs.Counting.{counts_of, with_decided}
-use Rattle.dspec_cpu_state.specs.CpuStates.{IsFilledWith, IsCaller, ShowsList}
 use Rattle.dspec_cpu_state.proofs.Tallies.{commit_counts, discard_counts, settle_counts}
 use Rattle.dspec_cpu_state.proofs.Places.{got_set, got_other}
 use Rattle.dspec_cpu_state.proofs.Ones.{last_is, mine_last}

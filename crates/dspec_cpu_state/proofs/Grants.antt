@@ -5,26 +5,15 @@ use Rattle.std.specs.Prelude.{slice_get, slice_set}
 use Rattle.std.specs.Global.{Vec}
 use Rattle.std.proofs.lemmas.Bool.Decides.{nat_tests}
 use Rattle.std.proofs.lemmas.Option.{slice_get-get_or}
-use Rattle.dspec_record.specs.Record.{Record}
+use Rattle.dspec_cpu_state.specs.Words.{Record, Piece, piece_fits, Speculation, spoken_granted, spoken_kept, same_id, fits_speculative, mark, contents, held, offers, seals, last_called, Counts}
+use Rattle.dspec_cpu_state.specs.Words.{CpuState, counts_of, with_spoken, IsFilledWith, IsCaller, ShowsList}
 use Rattle.dspec_record.specs.declared.field.Shape.{Shape}
 use Rattle.dspec_buffer.specs.Extent as extent
-use Rattle.dspec_buffer.specs.Extent.{Piece, piece_fits}
-use Rattle.dspec_word.specs.SpecId.{Speculation}
 use Rattle.dspec_deeds.specs.declared.config.Config.{Config}
 use Rattle.dspec_deeds.specs.declared.deed.SpeculateFate.{SpeculateFate}
 use Rattle.dspec_deeds.specs.declared.deed.Deed.{Deed}
 use Rattle.dspec_deeds.specs.declared.deed.Deed.TheVariants.{Speculate}
-use Rattle.dspec_deeds.specs.FateKinds.{spoken_granted, spoken_kept}
-use Rattle.dspec_deeds.specs.History.{same_id}
-use Rattle.dspec_deeds.specs.Legal.{fits_speculative}
-use Rattle.dspec_deeds.specs.Marks.{mark}
-use Rattle.dspec_deeds.specs.Own.{contents, held, offers, seals}
-use Rattle.dspec_deeds.specs.CpuShown.{last_called}
 use Rattle.dspec_deeds.proofs.TestLemmas.{either_way, same_number, number_is_itself, id_is_itself, other_slot}
-use Rattle.dspec_cpu_state.specs.declared.counts.Counts.{Counts}
-use Rattle.dspec_cpu_state.specs.declared.cpu_state.CpuState.{CpuState}
-use Rattle.dspec_cpu_state.specs.Counting.{counts_of, with_spoken}
-use Rattle.dspec_cpu_state.specs.CpuStates.{IsFilledWith, IsCaller, ShowsList}
 use Rattle.dspec_cpu_state.proofs.Drops.{AreDropped}
 use Rattle.dspec_cpu_state.proofs.OfferTallies.{spoken_counts}
 use Rattle.dspec_cpu_state.proofs.Places.{got_set, got_other}

@@ -3,14 +3,9 @@ use Rattle.std.proofs.Common.{◌≡◌, ℕ, ◌+◌, ◌-◌, Bool, true, fals
 use Rattle.std.specs.Prelude.{slice_get}
 use Rattle.std.proofs.lemmas.Option.{get_or_from_slice_get}
 use Rattle.std.proofs.lemmas.List.{set-get_or}
-use Rattle.dspec_record.specs.Record.{Record}
+use Rattle.dspec_cpu_state.specs.Words.{Record, one, records, extent, extent_of_records, reserved, align_of, size_of, Speculation, mark, contents, held, last_called}
 use Rattle.dspec_record.specs.declared.field.Shape.{Shape}
-use Rattle.dspec_buffer.specs.Extent.{one, records, extent, extent_of_records, reserved, align_of, size_of}
-use Rattle.dspec_word.specs.SpecId.{Speculation}
 use Rattle.dspec_deeds.specs.declared.deed.Deed.{Deed}
-use Rattle.dspec_deeds.specs.Marks.{mark}
-use Rattle.dspec_deeds.specs.Own.{contents, held}
-use Rattle.dspec_deeds.specs.CpuShown.{last_called}
 
 pub extent_ones : (shape : ℕ → Option Shape) (rs : List Record) → extent shape (map one rs) ≡ extent_of_records shape rs
 extent_ones shape [] = refl

@@ -1,24 +1,14 @@
 -- A deed that touches neither a buffer nor a mark, an acknowledgement or a batch of its CPU.
 use Rattle.std.proofs.Common.{◌≡◌, ℕ, ◌+◌, ◌-◌, Bool, true, false, not, List, ◌∷◌, map, Some, refl, sym, ap, ◌∙◌, subst, true≢false, add-zero}
 use Rattle.dspec_buffer.specs.Extent as extent
-use Rattle.dspec_buffer.specs.Extent.{Piece}
-use Rattle.dspec_word.specs.SpecId.{Speculation}
+use Rattle.dspec_cpu_state.specs.Words.{Piece, Speculation, trace_kept, spoken_granted, is_commit, is_discard, ack, mark, active, contents, dropped_in, growing, held, seals, calls, last_called}
+use Rattle.dspec_cpu_state.specs.Words.{missed_busy, Counts, counts_of, CpuState, IsFilledWith, ShowsList}
 use Rattle.dspec_deeds.specs.declared.config.Config.{Config}
 use Rattle.dspec_deeds.specs.declared.deed.TraceFate.TheVariants as traced
 use Rattle.dspec_deeds.specs.declared.deed.SpeculateFate.TheVariants as spoken
 use Rattle.dspec_deeds.specs.declared.deed.DecideFate.TheVariants as decided
 use Rattle.dspec_deeds.specs.declared.deed.Deed.{Deed}
 use Rattle.dspec_deeds.specs.declared.deed.Deed.TheVariants.{Trace, Scan, Opened, Miss, Speculate, Commit, Discard, Settle, Seal, Release, Halt}
-use Rattle.dspec_deeds.specs.FateKinds.{trace_kept, spoken_granted, is_commit, is_discard}
-use Rattle.dspec_deeds.specs.History.{ack}
-use Rattle.dspec_deeds.specs.Marks.{mark}
-use Rattle.dspec_deeds.specs.Own.{active, contents, dropped_in, growing, held, seals, calls}
-use Rattle.dspec_deeds.specs.CpuShown.{last_called}
-use Rattle.dspec_deeds.specs.Reports.{missed_busy}
-use Rattle.dspec_cpu_state.specs.declared.counts.Counts.{Counts}
-use Rattle.dspec_cpu_state.specs.Counting.{counts_of}
-use Rattle.dspec_cpu_state.specs.declared.cpu_state.CpuState.{CpuState}
-use Rattle.dspec_cpu_state.specs.CpuStates.{IsFilledWith, ShowsList}
 
 abbrev pub quiet : Deed → Bool
 quiet (Trace a r f) = not (trace_kept f)

@@ -1,17 +1,12 @@
 -- What a decision, a settlement and a release add to the counts; how drops are counted.
 use Rattle.std.proofs.Common.{◌≡◌, ℕ, ◌+◌, ◌≤◌, Bool, true, false, List, [], ◌∷◌, ◌++◌, if◌then◌else◌, arith, add-zero, true≢false}
-use Rattle.dspec_word.specs.SpecId.{Speculation}
+use Rattle.dspec_cpu_state.specs.Words.{Speculation, is_commit, is_discard, decided_stopped, empty_batch, growing, is_drop, seals_now, accepts, total, one_if, Counts, counts_of, with_decided}
 use Rattle.dspec_deeds.specs.declared.config.Config.{Config}
 use Rattle.dspec_deeds.specs.declared.deed.DecideFate.{DecideFate}
 use Rattle.dspec_deeds.specs.declared.deed.DecideFate.TheVariants as decided
-use Rattle.dspec_deeds.specs.FateKinds.{is_commit, is_discard, decided_stopped}
 use Rattle.dspec_deeds.specs.declared.deed.Deed.{Deed}
 use Rattle.dspec_deeds.specs.declared.deed.Deed.TheVariants.{Commit, Discard, Settle, Release}
-use Rattle.dspec_deeds.specs.Own.{empty_batch, growing, is_drop, seals_now, accepts}
-use Rattle.dspec_deeds.specs.Reports.{total, one_if}
 use Rattle.dspec_deeds.proofs.TestLemmas.{number_is_itself}
-use Rattle.dspec_cpu_state.specs.declared.counts.Counts.{Counts}
-use Rattle.dspec_cpu_state.specs.Counting.{counts_of, with_decided}
 
 module _ (k : Config) (c w : ℕ) (p : List Deed) where
   abbrev n : Counts

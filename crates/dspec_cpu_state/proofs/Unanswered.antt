@@ -1,8 +1,6 @@
 -- A call that decided nothing, and a record that was granted nothing.
 use Rattle.std.proofs.Common.{◌≡◌, ℕ, ◌+◌, ◌==◌, ◌||◌, false, List, ◌∷◌, if◌then◌else◌, refl, sym, ap, ◌∙◌, add-zero, true≢false}
-use Rattle.dspec_record.specs.Record.{Record}
-use Rattle.dspec_buffer.specs.Extent.{Piece}
-use Rattle.dspec_word.specs.SpecId.{Speculation}
+use Rattle.dspec_cpu_state.specs.Words.{Record, Piece, Speculation, is_commit, is_discard, spoken_granted, Counts, CpuState, counts_of, with_decided, with_spoken, ShowsList}
 use Rattle.dspec_deeds.specs.declared.config.Config.{Config}
 use Rattle.dspec_deeds.specs.declared.deed.DecideFate.{DecideFate}
 use Rattle.dspec_deeds.specs.declared.deed.DecideFate.TheVariants as decided
@@ -10,12 +8,7 @@ use Rattle.dspec_deeds.specs.declared.deed.SpeculateFate.{SpeculateFate}
 use Rattle.dspec_deeds.specs.declared.deed.SpeculateFate.TheVariants as spoken
 use Rattle.dspec_deeds.specs.declared.deed.Deed.{Deed}
 use Rattle.dspec_deeds.specs.declared.deed.Deed.TheVariants.{Speculate, Commit, Discard}
-use Rattle.dspec_deeds.specs.FateKinds.{is_commit, is_discard, spoken_granted}
 use Rattle.dspec_deeds.proofs.TestLemmas.{number_is_itself}
-use Rattle.dspec_cpu_state.specs.declared.counts.Counts.{Counts}
-use Rattle.dspec_cpu_state.specs.declared.cpu_state.CpuState.{CpuState}
-use Rattle.dspec_cpu_state.specs.Counting.{counts_of, with_decided, with_spoken}
-use Rattle.dspec_cpu_state.specs.CpuStates.{ShowsList}
 use Rattle.dspec_cpu_state.proofs.OfferTallies.{spoken_counts}
 use Rattle.dspec_cpu_state.proofs.Tallies.{commit_counts, discard_counts}
 use Rattle.dspec_cpu_state.proofs.Quiet.{quiet_shown}

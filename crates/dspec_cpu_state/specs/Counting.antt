@@ -8,9 +8,9 @@ use Rattle.dspec_deeds.specs.declared.deed.Deed.{Deed}
 use Rattle.dspec_deeds.specs.declared.calls.Opening.{Opening}
 use Rattle.dspec_deeds.specs.declared.report.Report.{Report}
 use Rattle.dspec_deeds.specs.declared.calls.Opening.TheVariants as opening
-use Rattle.dspec_deeds.specs.FateKinds.{trace_kept, trace_dropped, trace_stopped, spoken_dropped, spoken_nowhere, spoken_stopped, is_copied, is_lost, is_discard, count_of, decided_stopped}
-use Rattle.dspec_deeds.specs.Own.{offers, is_drop}
-use Rattle.dspec_deeds.specs.Reports.{total, one_if, accepts_now, traces_dropped_now, specdrops_now, loses_now, discards_now, voids_now, stops_now, busy_fails, other_fails}
+use Rattle.dspec_cpu_state.specs.Words.Outside.{trace_kept, trace_dropped, trace_stopped, spoken_dropped, spoken_nowhere, spoken_stopped, is_copied, is_lost, is_discard, count_of, decided_stopped}
+use Rattle.dspec_cpu_state.specs.Words.Outside.{offers, is_drop, total, one_if, accepts_now, traces_dropped_now, specdrops_now, loses_now, discards_now, voids_now, stops_now, busy_fails}
+use Rattle.dspec_cpu_state.specs.Words.Outside.{other_fails}
 use Rattle.dspec_cpu_state.specs.declared.counts.Counts.{Counts}
 
 -- the counts of a list, and of so many calls that were answered Worn

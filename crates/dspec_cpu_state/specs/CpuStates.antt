@@ -1,12 +1,8 @@
 -- Cited by calls. What a CPU's side shows of a list of that CPU's own deeds.
 use Rattle.std.specs.Prelude.{ℕ, ◌≡◌, ◌+◌, ◌==◌, Bool, false, List, []}
-use Rattle.dspec_buffer.specs.Extent.{Piece}
-use Rattle.dspec_word.specs.SpecId.{Speculation}
+use Rattle.dspec_cpu_state.specs.Words.Outside.{Piece, Speculation, mark, held, StateParts, ShowsOwnState, own_side}
 use Rattle.dspec_deeds.specs.declared.config.Config.{Config}
 use Rattle.dspec_deeds.specs.declared.deed.Deed.{Deed}
-use Rattle.dspec_deeds.specs.Marks.{mark}
-use Rattle.dspec_deeds.specs.Own.{held}
-use Rattle.dspec_deeds.specs.CpuShown.{StateParts, ShowsOwnState, own_side}
 use Rattle.dspec_cpu_state.specs.declared.cpu_state.CpuState.{CpuState}
 use Rattle.dspec_cpu_state.specs.Counting.{counts_of}
 

@@ -2,3 +2,4 @@ pub mod Counting
 pub mod CpuStates
 pub mod Showing
 mod MarkPlaces
+pub mod Words

@@ -1,9 +1,6 @@
 -- Records of one text more.
 use Rattle.std.proofs.Common.{◌≡◌, ◌<◌, ◌+◌, ◌++◌, List, ℕ, zero, suc, [], ◌∷◌, length, map, take, slice_index_or, refl, ap, sym, subst, ◌∙◌, append_assoc, arith}
-use Rattle.dspec_record.specs.Record.{Record}
-use Rattle.dspec_record.specs.EnablingRows.{EnabledRows}
-use Rattle.dspec_ctf.specs.Streams.{IsText}
-use Rattle.dspec_ctf.specs.ByTime.{AreTexts, IsAdded}
+use Rattle.dspec_ctf.specs.Words.{Record, EnabledRows, IsText, AreTexts, IsAdded}
 use Rattle.std.proofs.lemmas.List.{append-nil}
 
 more-texts : (e : EnabledRows) (texts : List (List ℕ)) (text : List ℕ) (rs added all : List Record) → AreTexts e texts rs → IsText e text added → all ≡ rs ++ added

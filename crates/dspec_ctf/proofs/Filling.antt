@@ -6,13 +6,8 @@ use Rattle.std.specs.List.{flat_map}
 use Rattle.std.proofs.lemmas.Bool.{leb-true, le-leb, lt-leb}
 use Rattle.std.proofs.lemmas.List.{append-nil, drop_more, length-drop, length-replicate, take-replicate, take_more, get_or-drop}
 use Rattle.std.proofs.lemmas.List.Elements.{All-head, All-tail, All-nil, All-cons, All-push}
-use Rattle.dspec_record.specs.Record.{Record}
-use Rattle.dspec_record.specs.RecordText.{little_endian}
-use Rattle.dspec_record.specs.EnablingRows.{EnabledRows}
-use Rattle.dspec_ctf.specs.Packets.{event, events, header_bytes, span_bytes, context_bytes, front_bytes, front_size}
-use Rattle.dspec_ctf.specs.Filled.{filled_around, filled_packet, filled_packets, filled_size, front_by, portions, portions_from, span_by, takes_another}
-use Rattle.dspec_ctf.specs.Rows.{missed_packets}
-use Rattle.dspec_ctf.specs.Streams.{Accepts}
+use Rattle.dspec_ctf.specs.Words.{Record, little_endian, EnabledRows, event, events, header_bytes, span_bytes, context_bytes, front_bytes, front_size, filled_around, filled_packet, filled_packets}
+use Rattle.dspec_ctf.specs.Words.{filled_size, front_by, portions, portions_from, span_by, takes_another, missed_packets, Accepts}
 use Rattle.dspec_ctf.proofs.OneStream.{accepted-small}
 
 pub zeros_of : (n : ℕ) → n ≤ filled_size → take n (replicate {A = ℕ} filled_size 0) ≡ replicate {A = ℕ} n 0

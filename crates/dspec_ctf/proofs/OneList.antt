@@ -5,19 +5,12 @@ use Rattle.std.proofs.lemmas.List.Elements.{All-head, All-tail}
 use Rattle.std.specs.Prelude.{unwrap_or, option_and_then}
 use Rattle.std.specs.Option.{option_map_or}
 use Rattle.std.proofs.lemmas.Bool.{ltb-true, eqb-true}
-use Rattle.dspec_record.specs.Record.{Record}
-use Rattle.dspec_record.specs.Layout.{width}
-use Rattle.dspec_record.specs.RecordText.{little_endian, stamp_fits, fits}
-use Rattle.dspec_record.specs.Schemas.{within_limit, enabling_of, enabled}
-use Rattle.dspec_record.specs.EnablingRows.{EnabledRows}
-use Rattle.dspec_record.specs.Laws.Texts.{both, append-same, little_endian-same, length-little_endian}
-use Rattle.dspec_record.specs.Laws.Tables.{IsAccepted, accepted-parts}
+use Rattle.dspec_ctf.specs.Words.{Record, width, little_endian, stamp_fits, fits, within_limit, enabling_of, enabled, EnabledRows, both, append-same, little_endian-same, length-little_endian}
+use Rattle.dspec_ctf.specs.Words.{IsAccepted, accepted-parts, stamp_bytes, values_bytes, event, events, event_fields, header_bytes, span_bytes, context_bytes, front_bytes, packet, Accepts}
 use Rattle.dspec_record.specs.declared.field.Field.{Field}
 use Rattle.dspec_record.specs.declared.field.Field.TheVariants.{Four, Eight}
 use Rattle.dspec_record.specs.declared.header.Header.{Header}
 use Rattle.dspec_record.specs.declared.header.Header.TheVariants as header
-use Rattle.dspec_ctf.specs.Packets.{stamp_bytes, values_bytes, event, events, event_fields, header_bytes, span_bytes, context_bytes, front_bytes, packet}
-use Rattle.dspec_ctf.specs.Streams.{Accepts}
 
 -- the values of a record that is accepted fit the fields that its EPID has
 row-fits : (gs : List Field) (vs : List ℕ) (few : Bool) → IsTrue (option_map_or (λ fs. fits fs vs) (cond few (Some gs) None) false) → IsTrue (fits gs vs)

@@ -7,17 +7,10 @@ use Rattle.std.specs.List.{flat_map, range_with_len}
 use Rattle.std.proofs.lemmas.Bool.{leb-true, eqb-true}
 use Rattle.std.proofs.lemmas.List.{take-append-drop, drop_all, drop-drop, length-take}
 use Rattle.std.proofs.lemmas.List.Elements.{All-head, All-tail, All-take, All-drop}
-use Rattle.dspec_record.specs.Record.{Record}
-use Rattle.dspec_record.specs.RecordText.{little_endian, fits}
-use Rattle.dspec_record.specs.Schemas.{within_limit, enabling_of, enabled}
-use Rattle.dspec_record.specs.EnablingRows.{EnabledRows}
-use Rattle.dspec_record.specs.Laws.Texts.{both, append-same, little_endian-same}
-use Rattle.dspec_record.specs.Laws.Tables.{IsAccepted, accepted-parts}
+use Rattle.dspec_ctf.specs.Words.{Record, little_endian, fits, within_limit, enabling_of, enabled, EnabledRows, both, append-same, little_endian-same, IsAccepted, accepted-parts, event, events}
+use Rattle.dspec_ctf.specs.Words.{header_bytes, span_bytes, context_bytes, front_bytes, Accepts, span_of, packet_count, part_at, timed_packet, packet_at, timed_packets}
 use Rattle.dspec_record.specs.declared.field.Field.{Field}
 use Rattle.dspec_record.specs.declared.field.Field.TheVariants.{Eight}
-use Rattle.dspec_ctf.specs.Packets.{event, events, header_bytes, span_bytes, context_bytes, front_bytes}
-use Rattle.dspec_ctf.specs.Streams.{Accepts}
-use Rattle.dspec_ctf.specs.ByTime.{span_of, packet_count, part_at, timed_packet, packet_at, timed_packets}
 use Rattle.dspec_ctf.proofs.Sizes.{event_small}
 use Rattle.dspec_ctf.proofs.OneList.{events-same, length-front}
 

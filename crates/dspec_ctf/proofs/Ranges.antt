@@ -1,7 +1,7 @@
 -- A text that has a piece for each number of a range, while it is written.
 use Rattle.std.proofs.Common.{◌≡◌, ◌<◌, Option, Some, None, false, is_some, refl, ◌+◌, ◌-◌, ◌++◌, ◌∷◌, ◌∙◌, ℕ, suc, List, ap, sym, append_assoc, arith}
 use Rattle.std.specs.List.{flat_map, range_with_len}
-use Rattle.dspec_ctf.specs.Names.{earlier, first_found}
+use Rattle.dspec_ctf.specs.Words.{earlier, first_found}
 
 range-next : (p n : ℕ) → p < n → range_with_len p (n - p) ≡ p ∷ range_with_len (p + 1) (n - (p + 1))
 range-next p n below =

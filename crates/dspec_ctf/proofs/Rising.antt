@@ -6,8 +6,7 @@ use Rattle.std.proofs.lemmas.Bool.{eqb-true, eqb-false}
 use Rattle.std.proofs.lemmas.List.{length-set, get_or-set_same, get_or-set_other, get_or_push, get_or_append_left, length_push}
 use Rattle.std.proofs.lemmas.List.Elements.{All-nil, All-cons, All-get_or, All-weaker}
 use Rattle.std.proofs.lemmas.List.Sorted.{IsNonDecreasingBy-short}
-use Rattle.dspec_record.specs.Record.{Record}
-use Rattle.dspec_ctf.specs.Rows.{GoesToFile, Spreads, of_file}
+use Rattle.dspec_ctf.specs.Words.{Record, GoesToFile, Spreads, of_file}
 
 -- the file that a record goes to has its stamp
 pub goes-here : (lasts mid : List ℕ) (stamp file : ℕ) → GoesToFile lasts stamp file mid → (file < length mid) × (slice_index mid file ≡ stamp)

@@ -1,12 +1,8 @@
 -- The definitions at small worked examples.
 use Rattle.std.proofs.Common.{◌≡◌, ◌++◌, true, false, [], ◌∷◌, replicate, refl}
-use Rattle.dspec_record.specs.EnablingRows.{EnabledRows}
+use Rattle.dspec_ctf.specs.Words.{EnabledRows, Record, event, packet, header_bytes, context_bytes, front_bytes, filled_around, filled_packet, filled_packets, portions, packet_count, span_of}
 use Rattle.dspec_record.specs.declared.field.Field.TheVariants.{One, Two, Eight}
 use Rattle.dspec_record.specs.declared.header.Header.TheVariants as header
-use Rattle.dspec_record.specs.Record.{Record}
-use Rattle.dspec_ctf.specs.Packets.{event, packet, header_bytes, context_bytes, front_bytes}
-use Rattle.dspec_ctf.specs.Filled.{filled_around, filled_packet, filled_packets, portions}
-use Rattle.dspec_ctf.specs.ByTime.{packet_count, span_of}
 
 abbrev rows : EnabledRows
 rows = record { header = header.One; rows = [] ∷ (Eight ∷ []) ∷ (One ∷ Two ∷ []) ∷ [] }

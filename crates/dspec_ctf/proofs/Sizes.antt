@@ -1,15 +1,11 @@
 -- How many bytes events have at most.
 use Rattle.std.proofs.Common.{◌≡◌, ◌≤◌, ◌*◌, ◌++◌, ℕ, zero, suc, List, [], ◌∷◌, length, refl, ap, arith, length-append}
 use Rattle.std.specs.Int.{bytes_low_first}
-use Rattle.dspec_record.specs.Record.{Record}
-use Rattle.dspec_record.specs.Layout.{width}
-use Rattle.dspec_record.specs.RecordText.{little_endian}
-use Rattle.dspec_record.specs.EnablingRows.{EnabledRows}
+use Rattle.dspec_ctf.specs.Words.{Record, width, little_endian, EnabledRows, stamp_bytes, values_bytes, event, event_fields}
 use Rattle.dspec_record.specs.declared.field.Field.{Field}
 use Rattle.dspec_record.specs.declared.field.Field.TheVariants.{One, Two, Four, Eight}
 use Rattle.dspec_record.specs.declared.header.Header.{Header}
 use Rattle.dspec_record.specs.declared.header.Header.TheVariants as header
-use Rattle.dspec_ctf.specs.Packets.{stamp_bytes, values_bytes, event, event_fields}
 
 low-first : (i n x : ℕ) → length (bytes_low_first i n x) ≡ n
 low-first i zero x = refl

@@ -4,9 +4,7 @@ use Rattle.std.specs.Prelude.{slice_get, slice_index, slice_range}
 use Rattle.std.proofs.lemmas.List.{length-drop, get_or-drop, take_more, drop_more, drop-drop, replicate_more}
 use Rattle.std.proofs.Math.Seq.{take-add}
 use Rattle.std.proofs.lemmas.Option.{slice_get-get_or}
-use Rattle.dspec_record.specs.Record.{Record}
-use Rattle.dspec_ctf.specs.Rows.{IsLatestOf, IsFoundOf, GoesToFile, Spreads, AreRuns, run_records, run_files}
-use Rattle.dspec_ctf.specs.declared.rows.Run.{Run}
+use Rattle.dspec_ctf.specs.Words.{Record, IsLatestOf, IsFoundOf, GoesToFile, Spreads, AreRuns, run_records, run_files, Run}
 
 -- one file alone is the latest
 latest-one : (lasts : List ℕ) (n stamp f g : ℕ) → IsLatestOf lasts n stamp f → IsLatestOf lasts n stamp g → f ≡ g

@@ -2,17 +2,10 @@
 use Rattle.std.proofs.Common.{ℕ, ◌≡◌, ◌≤◌, ◌+◌, ◌*◌, ◌/◌, ◌++◌, Bool, IsTrue, List, [], ◌∷◌, length, Option, All, refl, ap, sym, subst, arith, length-append}
 use Rattle.std.specs.Prelude.{unwrap_or}
 use Rattle.std.proofs.lemmas.List.Elements.{All-nil, All-cons}
-use Rattle.dspec_record.specs.Record.{Record}
-use Rattle.dspec_record.specs.EnablingRows.{EnabledRows}
-use Rattle.dspec_record.specs.Schemas.{enabled, table_shape, table_accepts, table_text}
-use Rattle.dspec_record.specs.Layout.{fields_start}
-use Rattle.dspec_record.specs.RecordText.{fields_text, header_text}
+use Rattle.dspec_ctf.specs.Words.{Record, EnabledRows, enabled, table_shape, table_accepts, table_text, fields_start, fields_text, header_text, BufferText, most_records, Accepts, IsText}
 use Rattle.dspec_record.specs.declared.field.Field.{Field}
 use Rattle.dspec_record.specs.declared.field.Shape.{Shape}
 use Rattle.dspec_record.specs.declared.header.Header.TheVariants.{Two}
-use Rattle.dspec_buffer.specs.BufferText.{BufferText}
-use Rattle.dspec_ctf.specs.Rows.{most_records}
-use Rattle.dspec_ctf.specs.Streams.{Accepts, IsText}
 
 read-accepted : (shape : ℕ → Option Shape) (accepted : Record → Bool) (text : Record → List ℕ) (place : ℕ) (bytes : List ℕ) (rs : List Record)
     → BufferText shape accepted text place bytes rs → All (λ r. IsTrue (accepted r)) rs

@@ -4,11 +4,8 @@ use Rattle.std.specs.Option.{option_map_or}
 use Rattle.std.specs.List.{flat_map, range_with_len}
 use Rattle.std.specs.List.Sorted.{IsPermutation, IsNonDecreasingBy, IsStableByKey}
 use Rattle.std.specs.Ordering.{nat_cmp}
-use Rattle.dspec_record.specs.Record.{Record}
-use Rattle.dspec_record.specs.EnablingRows.{EnabledRows}
-use Rattle.dspec_record.specs.Schemas.{enabled, table_shape, table_accepts, table_text}
+use Rattle.dspec_ctf.specs.Words.Outside.{Record, EnabledRows, enabled, table_shape, table_accepts, table_text, StopsAt}
 use Rattle.dspec_record.specs.declared.header.Header.TheVariants as header
-use Rattle.dspec_buffer.specs.Faults.{StopsAt}
 use Rattle.dspec_ctf.specs.Packets.{events, packet_around}
 use Rattle.dspec_ctf.specs.Streams.{IsText}
 use Rattle.dspec_ctf.specs.declared.by_time.TimeFault.{TimeFault}

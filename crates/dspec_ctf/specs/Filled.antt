@@ -2,8 +2,7 @@
 -- file ends leaves whole packets.
 use Rattle.std.specs.Prelude.{ℕ, ◌≡◌, ◌+◌, ◌-◌, Bool, true, false, nat_le, List, [], ◌∷◌, ◌++◌, length, replicate, Option, Some, None, if◌then◌else◌}
 use Rattle.std.specs.List.{flat_map}
-use Rattle.dspec_record.specs.Record.{Record}
-use Rattle.dspec_record.specs.EnablingRows.{EnabledRows}
+use Rattle.dspec_ctf.specs.Words.Outside.{Record, EnabledRows}
 use Rattle.dspec_ctf.specs.Packets.{event, events, front_bytes, front_size}
 use Rattle.dspec_ctf.specs.Streams.{IsText}
 use Rattle.dspec_ctf.specs.ByTime.{span_of}

@@ -2,8 +2,7 @@
 use Rattle.std.specs.Prelude.{◌≡◌, ◌<◌, ◌≤◌, ◌+◌, ◌*◌, ℕ, Bool, List, All, length, map, slice_index, slice_range, zip}
 use Rattle.std.specs.List.{flat_map}
 use Rattle.std.specs.List.Sorted.{IsNonDecreasingBy}
-use Rattle.dspec_record.specs.EnablingRows.{EnabledRows}
-use Rattle.dspec_record.specs.Record.{Record}
+use Rattle.dspec_ctf.specs.Words.Outside.{EnabledRows, Record}
 use Rattle.dspec_ctf.specs.ByTime.{timed_packets}
 use Rattle.dspec_ctf.specs.Filled.{filled_packet, filled_packets, filled_size, front_by, portions}
 use Rattle.dspec_ctf.specs.Packets.{events, packet}

@@ -8,3 +8,4 @@ pub mod Filled
 pub mod Rows
 pub mod Laws
 pub mod InMemory
+pub mod Words

@@ -4,13 +4,11 @@ use Rattle.std.specs.Prelude.{◌∷◌, length, map, take, slice_get, slice_ind
 use Rattle.std.specs.Option.{option_map, option_map_or}
 use Rattle.std.specs.List.{list_any, list_all, range_with_len}
 use Rattle.std.specs.Str.{bytes_eq}
-use Rattle.dspec_record.specs.EnablingRows.{EnabledRows}
+use Rattle.dspec_ctf.specs.Words.Outside.{EnabledRows, width, next_words}
 use Rattle.dspec_record.specs.declared.header.Header.{Header}
 use Rattle.dspec_record.specs.declared.header.Header.TheVariants as header
 use Rattle.dspec_record.specs.declared.field.Field.{Field}
 use Rattle.dspec_record.specs.declared.field.Field.TheVariants.{One}
-use Rattle.dspec_record.specs.Layout.{width}
-use Rattle.dspec_probe.specs.Kinds.{next_words}
 use Rattle.dspec_probe.specs.declared.kind.Kind.{Kind}
 use Rattle.dspec_probe.specs.declared.kind.Kind.TheVariants.{Unsigned, Text, TextNext}
 use Rattle.dspec_ctf.specs.Packets.{event_fields}

@@ -2,8 +2,7 @@
 -- CPU's files is a list: of each, by its number, the stamp of its last event.
 use Rattle.std.specs.Prelude.{true, ◌≡◌, ◌≢◌, ◌<◌, ◌≤◌, ◌-◌, ◌/◌, ◌==◌, ◌⊎◌, ℕ, List, [], ◌∷◌, ◌++◌, Option, Some, None, length, map, replicate}
 use Rattle.std.specs.Prelude.{slice_get, slice_index, slice_range, slice_set, filter, zip, if◌then◌else◌}
-use Rattle.dspec_record.specs.Record.{Record}
-use Rattle.dspec_record.specs.EnablingRows.{EnabledRows}
+use Rattle.dspec_ctf.specs.Words.Outside.{Record, EnabledRows}
 use Rattle.dspec_ctf.specs.Filled.{filled_around, filled_packets}
 use Rattle.dspec_ctf.specs.Streams.{HasNoRecords}
 use Rattle.dspec_ctf.specs.declared.rows.Run.{Run}

@@ -1,7 +1,7 @@
 -- What sizes that agree say.
 use Rattle.std.proofs.Common.{◌≡◌, ◌≤◌, ◌/◌, ◌%◌, ◌==◌, ℕ, true, leb}
 use Rattle.std.proofs.lemmas.Bool.{leb-true, le-leb, and_from, and_parts, eqb-true, eq-eqb}
-use Rattle.dspec_ctf_reading.specs.Reading.{FrontRead, sizes_agree}
+use Rattle.dspec_ctf_reading.specs.Words.{FrontRead, sizes_agree}
 
 pub record Agrees (front : FrontRead) (read there : ℕ) : Type 0 where
   pub content_whole : front.content_size % 8 ≡ 0

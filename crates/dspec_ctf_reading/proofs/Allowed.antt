@@ -5,19 +5,15 @@ use Rattle.std.specs.Prelude.{option_and_then, slice_get, slice_index_or, codes,
 use Rattle.std.specs.Option.{option_map_or}
 use Rattle.std.specs.List.{range_with_len, enumerate_from}
 use Rattle.std.proofs.lemmas.Bool.{eqb-true}
-use Rattle.dspec_record.specs.Layout.{width}
-use Rattle.dspec_record.specs.EnablingRows.{EnabledRows}
+use Rattle.dspec_ctf_reading.specs.Words.{width, EnabledRows, is_next, next_words, name_place, event_fields, type_name, labelled_type, typed_line, text_line, words_at, next_in_front, kind_line}
+use Rattle.dspec_ctf_reading.specs.Words.{field_line, given_line, given_lines, event_name, field_lines, earlier, first_found, first_bad, has_stamp, labels_at, first_bad_label, label_fault_at}
+use Rattle.dspec_ctf_reading.specs.Words.{labels_fault, fields_fault, is_text_before, can_mean, text_fault_at, texts_fault, fault_at, events_fault, names_fault, form_fault, metadata_fault}
+use Rattle.dspec_ctf_reading.specs.Words.{process_fault, origin_fault, FieldLayout, is_digit, is_word, names_by, given_name, given_for, HasNumbers}
 use Rattle.dspec_record.specs.declared.field.Field.{Field}
 use Rattle.dspec_record.specs.declared.field.Field.TheVariants.{One}
 use Rattle.dspec_probe.specs.declared.kind.Kind.{Kind}
 use Rattle.dspec_probe.specs.declared.kind.Kind.TheVariants.{Unsigned, Signed, Float, Text, TextNext}
-use Rattle.dspec_probe.specs.Kinds.{is_next, next_words, name_place}
 use Rattle.dspec_probe.specs.declared.probes.ProbeNames.{ProbeNames}
-use Rattle.dspec_ctf.specs.Packets.{event_fields}
-use Rattle.dspec_ctf.specs.Metadata.{type_name, labelled_type, typed_line, text_line, words_at, next_in_front, kind_line, field_line, given_line, given_lines, event_name, field_lines}
-use Rattle.dspec_ctf.specs.Names.{earlier, first_found, first_bad, has_stamp}
-use Rattle.dspec_ctf.specs.Names.{labels_at, first_bad_label, label_fault_at, labels_fault, fields_fault, is_text_before, can_mean, text_fault_at, texts_fault, fault_at, events_fault, names_fault}
-use Rattle.dspec_ctf.specs.Names.{form_fault, metadata_fault, process_fault, origin_fault}
 use Rattle.dspec_ctf.specs.declared.origin.Origin.{Origin}
 use Rattle.dspec_ctf.specs.declared.names.Names.{Names}
 use Rattle.dspec_ctf.specs.declared.names.Names.TheVariants.{Numbered, Given}
@@ -26,10 +22,6 @@ use Rattle.dspec_ctf.specs.declared.fault.NameFault.{NameFault}
 use Rattle.dspec_ctf.specs.declared.fault.NameFault.TheVariants.{FieldCount, Field as FieldName, Label, Word, Event, EventCount}
 use Rattle.dspec_ctf.specs.declared.fault.MetadataFault.TheVariants.{Name}
 use Rattle.dspec_ctf.specs.declared.form.Form.{Form}
-use Rattle.dspec_ctf_reading.specs.Reading.{FieldLayout}
-use Rattle.dspec_ctf_reading.specs.ReadingMetadata.{is_digit, is_word}
-use Rattle.dspec_ctf_reading.specs.Layouts.{names_by, given_name, given_for}
-use Rattle.dspec_ctf_reading.specs.ToldNumbers.{HasNumbers}
 use Rattle.dspec_ctf_reading.proofs.Lines.{IsWordy, IsPiece, joined-map, AreLines-map, typed-line, text-line}
 use Rattle.dspec_ctf_reading.proofs.FieldTypes.{IsQuotable, type-back, kind-back, no-text-type, no-text-name}
 use Rattle.dspec_ctf_reading.proofs.TextWords.{next-text, CanMean, text-within, first-none, flat, flat-ones, shape_at, piece_by, piece_at}

@@ -6,9 +6,8 @@ use Rattle.std.specs.Option.{option_map_or}
 use Rattle.std.specs.List.{list_all, range_with_len}
 use Rattle.std.proofs.lemmas.Bool.{eqb-true, eqb-false, leb-true, le-leb, ne_eqb, and_parts, and_from, or_cases, or_from, or_right, not_from_false}
 use Rattle.std.proofs.lemmas.List.Elements.{All-nil, All-cons}
-use Rattle.dspec_ctf.specs.Names.{is_letter, is_word_byte, begins_well, is_identifier, unfit, earlier, first_found}
-use Rattle.dspec_ctf.specs.Names.{bad_name, bad_at, first_bad, is_label_byte, is_label, bad_label_at, first_bad_label, process_fault}
-use Rattle.dspec_ctf_reading.specs.ReadingMetadata.{is_digit, is_word, is_quoted}
+use Rattle.dspec_ctf_reading.specs.Words.{is_letter, is_word_byte, begins_well, is_identifier, unfit, earlier, first_found, bad_name, bad_at, first_bad, is_label_byte, is_label, bad_label_at}
+use Rattle.dspec_ctf_reading.specs.Words.{first_bad_label, process_fault, is_digit, is_word, is_quoted}
 use Rattle.dspec_ctf_reading.proofs.Scanning.{list_all-weaker, decimal-digits}
 use Rattle.dspec_ctf_reading.proofs.Lines.{IsWordy}
 use Rattle.dspec_ctf_reading.proofs.FieldTypes.{IsQuotable}

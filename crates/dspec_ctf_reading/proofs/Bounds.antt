@@ -2,9 +2,9 @@
 use Rattle.std.proofs.Common.{◌≡◌, ◌≤◌, ◌<◌, ◌+◌, ◌-◌, ◌*◌, ◌/◌, ◌==◌, ℕ, zero, suc, Bool, true, false, cond, leb, List, [], ◌∷◌, length, take, drop, Option}
 use Rattle.std.proofs.Common.{Some, None, option_map, refl, ap, arith, length-drop}
 use Rattle.std.specs.Prelude.{option_and_then}
-use Rattle.dspec_ctf_reading.specs.Reading.{FieldLayout, EventLayout, Layout, PacketRead, FrontRead, Part, then_read, read_number, read_bytes, read_stamp, read_span, find_event, read_payload}
-use Rattle.dspec_ctf_reading.specs.Reading.{read_event_body, read_event, read_events_within, read_events, read_this, read_header, read_counts, read_front, sizes_agree}
-use Rattle.dspec_ctf_reading.specs.Reading.{with_events, read_body, read_packet, read_packets_within, read_file}
+use Rattle.dspec_ctf_reading.specs.Words.{FieldLayout, EventLayout, Layout, PacketRead, FrontRead, Part, then_read, read_number, read_bytes, read_stamp, read_span, find_event, read_payload}
+use Rattle.dspec_ctf_reading.specs.Words.{read_event_body, read_event, read_events_within, read_events, read_this, read_header, read_counts, read_front, sizes_agree, with_events, read_body}
+use Rattle.dspec_ctf_reading.specs.Words.{read_packet, read_packets_within, read_file}
 use Rattle.dspec_ctf_reading.proofs.Agreeing.{Agrees, agrees}
 
 -- behind the part, if there is one, there are so many bytes at most

@@ -4,13 +4,9 @@ use Rattle.std.proofs.Common.{refl, ap, sym, ◌∙◌, arith, append_assoc, add
 use Rattle.std.specs.Prelude.{option_and_then}
 use Rattle.std.specs.List.{zip}
 use Rattle.std.proofs.lemmas.List.{map-append, append-nil, get_or-map, length-map}
-use Rattle.dspec_record.specs.Layout.{width}
-use Rattle.dspec_ctf_reading.specs.Reading.{Part, then_read, read_number, find_event, read_payload, read_event, read_events, Layout, EventRead}
+use Rattle.dspec_ctf_reading.specs.Words.{width, Part, then_read, read_number, find_event, read_payload, read_event, read_events, Layout, EventRead, FieldText, EventText, told_field, told_event}
+use Rattle.dspec_ctf_reading.specs.Words.{names_of, text_at, behind_events}
 use Rattle.dspec_ctf_reading.proofs.Bounds.{events-on-bytes}
-use Rattle.dspec_ctf_reading.specs.declared.told.FieldText.{FieldText}
-use Rattle.dspec_ctf_reading.specs.declared.told.EventText.{EventText}
-use Rattle.dspec_ctf_reading.specs.Told.{told_field, told_event, names_of, text_at}
-use Rattle.dspec_ctf_reading.specs.Faults.{behind_events}
 
 -- the first event of a number
 find-open : (id i : ℕ) (events : List EventText) (e : EventText) → i < length events → find_event id (map told_event (drop i events))

@@ -7,21 +7,13 @@ use Rattle.std.specs.List.{enumerate_from, range_with_len}
 use Rattle.std.proofs.lemmas.Bool.{ltb-true, leb-true, eqb-true, eqb-false}
 use Rattle.std.proofs.lemmas.List.Elements.{All-head, All-tail}
 use Rattle.std.proofs.lemmas.Option.{slice_get_within}
-use Rattle.dspec_record.specs.Record.{Record}
-use Rattle.dspec_record.specs.Layout.{width}
-use Rattle.dspec_record.specs.RecordText.{little_endian, stamp_fits, fits}
-use Rattle.dspec_record.specs.Schemas.{within_limit, enabled}
-use Rattle.dspec_record.specs.EnablingRows.{EnabledRows}
-use Rattle.dspec_record.specs.Laws.Texts.{both}
-use Rattle.dspec_record.specs.Laws.Tables.{IsAccepted, accepted-parts}
+use Rattle.dspec_ctf_reading.specs.Words.{Record, width, little_endian, stamp_fits, fits, within_limit, enabled, EnabledRows, both, IsAccepted, accepted-parts, stamp_bytes, values_bytes, event}
+use Rattle.dspec_ctf_reading.specs.Words.{events, event_fields, Accepts, FieldLayout, EventLayout, EventRead, Part, then_read, read_number, find_event, read_payload, read_event_body, read_event}
+use Rattle.dspec_ctf_reading.specs.Words.{read_events, Naming, stamp_field, field_layouts, stamp_value, named_values, event_layout, layout_by, event_read}
 use Rattle.dspec_record.specs.declared.field.Field.{Field}
 use Rattle.dspec_record.specs.declared.field.Field.TheVariants.{Four, Eight}
 use Rattle.dspec_record.specs.declared.header.Header.{Header}
 use Rattle.dspec_record.specs.declared.header.Header.TheVariants as header
-use Rattle.dspec_ctf.specs.Packets.{stamp_bytes, values_bytes, event, events, event_fields}
-use Rattle.dspec_ctf.specs.Streams.{Accepts}
-use Rattle.dspec_ctf_reading.specs.Reading.{FieldLayout, EventLayout, EventRead, Part, then_read, read_number, find_event, read_payload, read_event_body, read_event, read_events}
-use Rattle.dspec_ctf_reading.specs.Layouts.{Naming, stamp_field, field_layouts, stamp_value, named_values, event_layout, layout_by, event_read}
 use Rattle.dspec_ctf_reading.proofs.NumbersRead.{number-back}
 use Rattle.dspec_ctf_reading.proofs.Bounds.{events-on-bytes}
 

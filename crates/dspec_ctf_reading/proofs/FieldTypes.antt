@@ -4,15 +4,12 @@ use Rattle.std.proofs.Common.{[], ◌∷◌, length, map, Some, None, option_map
 use Rattle.std.specs.Prelude.{codes, decimal}
 use Rattle.std.specs.List.{flat_map, list_all, enumerate_from}
 use Rattle.std.proofs.lemmas.List.Elements.{All-head, All-tail}
-use Rattle.dspec_record.specs.Layout.{width}
+use Rattle.dspec_ctf_reading.specs.Words.{width, type_name, kind_type, label_item, label_items, labelled_type, Part, then_read, rest_past, past, past_or, is_digit, read_decimal, is_quoted}
+use Rattle.dspec_ctf_reading.specs.Words.{whole_types, float_types, read_type_of, read_label, read_labels, read_type, text_front}
 use Rattle.dspec_record.specs.declared.field.Field.{Field}
 use Rattle.dspec_record.specs.declared.field.Field.TheVariants.{One, Two, Four, Eight}
 use Rattle.dspec_probe.specs.declared.kind.Kind.{Kind}
 use Rattle.dspec_probe.specs.declared.kind.Kind.TheVariants.{Unsigned, Signed, Float, Text, TextNext}
-use Rattle.dspec_ctf.specs.Metadata.{type_name, kind_type, label_item, label_items, labelled_type}
-use Rattle.dspec_ctf_reading.specs.Reading.{Part, then_read}
-use Rattle.dspec_ctf_reading.specs.ReadingMetadata.{rest_past, past, past_or, is_digit, read_decimal, is_quoted, whole_types, float_types, read_type_of}
-use Rattle.dspec_ctf_reading.specs.ReadingMetadata.{read_label, read_labels, read_type, text_front}
 use Rattle.dspec_ctf_reading.proofs.Scanning.{read-run-back, decimal-back}
 
 -- a number's type

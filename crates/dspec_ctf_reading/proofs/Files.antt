@@ -6,19 +6,10 @@ use Rattle.std.specs.List.{flat_map}
 use Rattle.std.proofs.lemmas.Bool.{ltb-true, eqb-true}
 use Rattle.std.proofs.lemmas.List.{append-nil, map-append}
 use Rattle.std.proofs.lemmas.List.Elements.{All-head, All-tail, All-nil, All-cons}
-use Rattle.dspec_record.specs.Record.{Record}
-use Rattle.dspec_record.specs.RecordText.{stamp_fits}
-use Rattle.dspec_record.specs.Schemas.{enabled}
-use Rattle.dspec_record.specs.EnablingRows.{EnabledRows}
-use Rattle.dspec_record.specs.Laws.Tables.{IsAccepted, accepted-parts}
+use Rattle.dspec_ctf_reading.specs.Words.{Record, stamp_fits, enabled, EnabledRows, IsAccepted, accepted-parts, events, header_bytes, front_size, front_bytes, packet_around, filled_around}
+use Rattle.dspec_ctf_reading.specs.Words.{filled_size, Accepts, span_of, Layout, EventRead, PacketRead, read_packet, read_file, events_of, Naming, layout_by, packet_read}
 use Rattle.dspec_record.specs.declared.header.Header.{Header}
 use Rattle.dspec_record.specs.declared.header.Header.TheVariants as header
-use Rattle.dspec_ctf.specs.Packets.{events, header_bytes, front_size, front_bytes, packet_around}
-use Rattle.dspec_ctf.specs.Filled.{filled_around, filled_size}
-use Rattle.dspec_ctf.specs.Streams.{Accepts}
-use Rattle.dspec_ctf.specs.ByTime.{span_of}
-use Rattle.dspec_ctf_reading.specs.Reading.{Layout, EventRead, PacketRead, read_packet, read_file, events_of}
-use Rattle.dspec_ctf_reading.specs.Layouts.{Naming, layout_by, packet_read}
 use Rattle.dspec_ctf_reading.proofs.Bounds.{packets-on-bytes}
 use Rattle.dspec_ctf_reading.proofs.EventsRead.{HasStamps}
 use Rattle.dspec_ctf_reading.proofs.PacketsRead.{HasSpan, packet-back, filled-back}

@@ -5,14 +5,8 @@ use Rattle.std.proofs.lemmas.Bool.{leb-true}
 use Rattle.std.proofs.lemmas.Grind.{flat_map-append}
 use Rattle.std.proofs.lemmas.List.{map-append}
 use Rattle.std.proofs.lemmas.List.Elements.{All-append, All-head, All-tail, All-nil, All-cons, All-push}
-use Rattle.dspec_record.specs.Record.{Record}
-use Rattle.dspec_record.specs.EnablingRows.{EnabledRows}
-use Rattle.dspec_ctf.specs.Packets.{event, events, front_size}
-use Rattle.dspec_ctf.specs.Streams.{Accepts}
-use Rattle.dspec_ctf.specs.Filled.{filled_packet, filled_packets, filled_size, front_by, portions, portions_from, span_by, takes_another}
-use Rattle.dspec_ctf_reading.specs.Reading.{PacketRead, read_file, events_of, loss_of}
-use Rattle.dspec_ctf_reading.specs.Layouts.{Naming, event_read, layout_by, packet_read}
-use Rattle.dspec_ctf_reading.specs.Files.{FileTells, PartTells, last_missed}
+use Rattle.dspec_ctf_reading.specs.Words.{Record, EnabledRows, event, events, front_size, Accepts, filled_packet, filled_packets, filled_size, front_by, portions, portions_from, span_by}
+use Rattle.dspec_ctf_reading.specs.Words.{takes_another, PacketRead, read_file, events_of, loss_of, Naming, event_read, layout_by, packet_read, FileTells, PartTells, last_missed}
 use Rattle.dspec_ctf_reading.proofs.EventsRead.{HasStamps}
 use Rattle.dspec_ctf_reading.proofs.PacketsRead.{HasSpan}
 use Rattle.dspec_ctf_reading.proofs.Joining.{join}

@@ -8,20 +8,16 @@ use Rattle.std.specs.List.{flat_map, list_all, range_with_len}
 use Rattle.std.proofs.lemmas.Bool.{and_from, le-leb, ne_eqb, or_from, not_from_false, ltb-true, ltb-false}
 use Rattle.std.proofs.lemmas.List.Elements.{All-head, All-tail, All-take, All-drop}
 use Rattle.std.proofs.lemmas.List.Folds.{list_all-append}
-use Rattle.dspec_record.specs.EnablingRows.{EnabledRows}
-use Rattle.dspec_ctf.specs.Metadata.{hex, hyphened, uuid_text, types_text, trace_front, trace_back, process_text, environment_text, clock_uuid, seconds_text, ticks_text}
-use Rattle.dspec_ctf.specs.Metadata.{clock_start, start_text, clock_back, clock_text, stream_text, event_text, origin_text}
+use Rattle.dspec_ctf_reading.specs.Words.{EnabledRows, hex, hyphened, uuid_text, types_text, trace_front, trace_back, process_text, environment_text, clock_uuid, seconds_text, ticks_text}
+use Rattle.dspec_ctf_reading.specs.Words.{clock_start, start_text, clock_back, clock_text, stream_text, event_text, origin_text, EventLayout, Layout, rest_past, past, then_rest, with_part, is_digit}
+use Rattle.dspec_ctf_reading.specs.Words.{is_quoted, read_decimal, read_quoted, read_event_texts, header_lines, read_process, read_clock_uuid, read_clock_start, read_clock, read_streams}
+use Rattle.dspec_ctf_reading.specs.Words.{read_metadata, event_layout, is_timed, names_by, layout_of, ticks_of, HasNumbers}
 use Rattle.dspec_ctf.specs.declared.origin.Process.{Process}
 use Rattle.dspec_ctf.specs.declared.origin.ClockStart.{ClockStart}
 use Rattle.dspec_ctf.specs.declared.origin.Origin.{Origin}
 use Rattle.dspec_ctf.specs.declared.form.Form.{Form}
 use Rattle.dspec_ctf.specs.declared.form.Form.TheVariants.{AsTaken, ByTime}
 use Rattle.dspec_ctf.specs.declared.names.Names.{Names}
-use Rattle.dspec_ctf_reading.specs.Reading.{EventLayout, Layout}
-use Rattle.dspec_ctf_reading.specs.ReadingMetadata.{rest_past, past, then_rest, with_part, is_digit, is_quoted, read_decimal, read_quoted, read_event_texts, header_lines}
-use Rattle.dspec_ctf_reading.specs.ReadingMetadata.{read_process, read_clock_uuid, read_clock_start, read_clock, read_streams, read_metadata}
-use Rattle.dspec_ctf_reading.specs.Layouts.{event_layout, is_timed, names_by, layout_of}
-use Rattle.dspec_ctf_reading.specs.ToldNumbers.{ticks_of, HasNumbers}
 use Rattle.dspec_ctf_reading.proofs.Scanning.{read-run-back, decimal-back}
 use Rattle.dspec_ctf_reading.proofs.FieldTypes.{IsQuotable}
 use Rattle.dspec_ctf_reading.proofs.Texts.{IsTold, texts-back}

@@ -4,8 +4,8 @@ use Rattle.std.proofs.Common.{option_map, refl, ap, sym, subst, ◌∙◌, arith
 use Rattle.std.specs.Prelude.{option_and_then}
 use Rattle.std.proofs.lemmas.Bool.{leb-true, le-leb, cond-true}
 use Rattle.std.proofs.lemmas.List.{take-append-le, drop-append-le}
-use Rattle.dspec_ctf_reading.specs.Reading.{Layout, PacketRead, FrontRead, Part, then_read, read_number, read_bytes, read_span}
-use Rattle.dspec_ctf_reading.specs.Reading.{read_this, read_header, read_counts, read_front, sizes_agree, with_events, read_body, read_packet, read_file}
+use Rattle.dspec_ctf_reading.specs.Words.{Layout, PacketRead, FrontRead, Part, then_read, read_number, read_bytes, read_span, read_this, read_header, read_counts, read_front, sizes_agree}
+use Rattle.dspec_ctf_reading.specs.Words.{with_events, read_body, read_packet, read_file}
 use Rattle.dspec_ctf_reading.proofs.Agreeing.{Agrees, agree, agrees}
 use Rattle.dspec_ctf_reading.proofs.Bounds.{Leaves, front-leaves, packet-leaves, packets-on}
 

@@ -3,12 +3,9 @@ use Rattle.std.proofs.Common.{◌≡◌, ◌≤◌, ◌<◌, ◌+◌, ◌*◌, �
 use Rattle.std.proofs.Common.{[], ◌∷◌, length, map, Some, None, option_map, refl, ap, sym, ◌∙◌, arith, append_assoc, length-append}
 use Rattle.std.specs.Prelude.{◌⊎◌, codes, decimal}
 use Rattle.std.specs.List.{flat_map, list_all, enumerate_from}
-use Rattle.dspec_record.specs.Layout.{width}
+use Rattle.dspec_ctf_reading.specs.Words.{width, text_type, text_line, typed_line, FieldLayout, Part, then_read, rest_past, past, past_or, is_digit, read_decimal, is_word, read_word, read_type}
+use Rattle.dspec_ctf_reading.specs.Words.{read_number_field, text_front, text_layouts, read_text_field, read_field, read_fields}
 use Rattle.dspec_record.specs.declared.field.Field.{Field}
-use Rattle.dspec_ctf.specs.Metadata.{text_type, text_line, typed_line}
-use Rattle.dspec_ctf_reading.specs.Reading.{FieldLayout, Part, then_read}
-use Rattle.dspec_ctf_reading.specs.ReadingMetadata.{rest_past, past, past_or, is_digit, read_decimal, is_word, read_word}
-use Rattle.dspec_ctf_reading.specs.ReadingMetadata.{read_type, read_number_field, text_front, text_layouts, read_text_field, read_field, read_fields}
 use Rattle.dspec_ctf_reading.proofs.Scanning.{read-run-back, decimal-back}
 use Rattle.dspec_ctf_reading.proofs.TextWords.{flat}
 use Rattle.dspec_ctf_reading.proofs.FieldTypes.{five}

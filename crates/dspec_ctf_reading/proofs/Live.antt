@@ -7,15 +7,9 @@ use Rattle.std.proofs.lemmas.Bool.{eqb-true}
 use Rattle.std.proofs.lemmas.Grind.{flat_map-append}
 use Rattle.std.proofs.lemmas.List.{map-append, length-take-le, length-drop}
 use Rattle.std.proofs.lemmas.List.Elements.{All-append, All-take, All-drop, All-nil, All-cons}
-use Rattle.dspec_record.specs.Record.{Record}
-use Rattle.dspec_record.specs.EnablingRows.{EnabledRows}
-use Rattle.dspec_ctf.specs.Filled.{filled_around}
-use Rattle.dspec_ctf.specs.Streams.{Accepts}
-use Rattle.dspec_ctf.specs.Rows.{AreRuns, of_file, run_records, run_files, told_by, run_packet, run_packets, missed_packets}
+use Rattle.dspec_ctf_reading.specs.Words.{Record, EnabledRows, filled_around, Accepts, AreRuns, of_file, run_records, run_files, told_by, run_packet, run_packets, missed_packets, Layout, PacketRead}
+use Rattle.dspec_ctf_reading.specs.Words.{events_of, read_file, Naming, event_read, layout_by, packet_read, FileTells, PartTells, file_bytes}
 use Rattle.dspec_ctf.specs.declared.rows.Run.{Run}
-use Rattle.dspec_ctf_reading.specs.Reading.{Layout, PacketRead, events_of, read_file}
-use Rattle.dspec_ctf_reading.specs.Layouts.{Naming, event_read, layout_by, packet_read}
-use Rattle.dspec_ctf_reading.specs.Files.{FileTells, PartTells, file_bytes}
 use Rattle.dspec_ctf_reading.proofs.EventsRead.{HasStamps}
 use Rattle.dspec_ctf_reading.proofs.PacketsRead.{HasSpan}
 use Rattle.dspec_ctf_reading.proofs.Joining.{join}

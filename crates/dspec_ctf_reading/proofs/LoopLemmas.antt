@@ -3,8 +3,7 @@ use Rattle.std.proofs.Common.{◌≡◌, ◌<◌, ◌+◌, ◌-◌, ◌==◌, �
 use Rattle.std.proofs.Common.{append_assoc}
 use Rattle.std.specs.Prelude.{option_and_then}
 use Rattle.std.proofs.lemmas.List.{map-append}
-use Rattle.dspec_ctf_reading.specs.Reading.{Part, then_read, EventLayout}
-use Rattle.dspec_ctf_reading.specs.ReadingMetadata.{rest_past, past_or, read_event_text, read_event_texts}
+use Rattle.dspec_ctf_reading.specs.Words.{Part, then_read, EventLayout, rest_past, past_or, read_event_text, read_event_texts}
 
 -- what is read on, behind what was found before
 abbrev pub found_before : {A : Type 0} → List A → Part (List A) → Part (List A)

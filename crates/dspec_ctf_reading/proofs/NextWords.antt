@@ -3,10 +3,9 @@ use Rattle.std.proofs.Common.{◌≡◌, ◌≤◌, ◌<◌, ◌+◌, ◌-◌, �
 use Rattle.std.proofs.Common.{true, false, List, [], ◌∷◌, take, drop, refl, ap, sym, ◌∙◌, arith}
 use Rattle.std.specs.Prelude.{slice_index_or, if◌then◌else◌}
 use Rattle.std.proofs.lemmas.List.{get_or-drop}
-use Rattle.dspec_probe.specs.Kinds.{is_next, next_words, name_place}
+use Rattle.dspec_ctf_reading.specs.Words.{is_next, next_words, name_place, next_in_front}
 use Rattle.dspec_probe.specs.declared.kind.Kind.{Kind}
 use Rattle.dspec_probe.specs.declared.kind.Kind.TheVariants.{Unsigned, Signed, Float, Text, TextNext}
-use Rattle.dspec_ctf.specs.Metadata.{next_in_front}
 
 abbrev pub kind_of : List Kind → ℕ → Kind
 kind_of ks place = slice_index_or ks place Unsigned

@@ -1,7 +1,7 @@
 -- Numbers at the front of bytes, by std's words.
 use Rattle.std.proofs.Common.{◌≡◌, ◌≤◌, ◌<◌, ℕ, List, [], ◌∷◌, length, take, drop, Some, None, refl, ap, arith}
 use Rattle.std.specs.Int.{w32, w64, from_le_bytes}
-use Rattle.dspec_ctf_reading.specs.Reading.{read_number}
+use Rattle.dspec_ctf_reading.specs.Words.{read_number}
 use Rattle.dspec_ctf_reading.proofs.NumbersRead.{nested-4, nested-8}
 
 pub four-there : (bs : List ℕ) → 4 ≤ length bs → read_number 4 bs ≡ Some (from_le_bytes w32 (take 4 bs), drop 4 bs)

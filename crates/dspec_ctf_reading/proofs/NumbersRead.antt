@@ -1,11 +1,9 @@
 -- A number that was written in so many bytes is read from them.
 use Rattle.std.proofs.Common.{◌≡◌, ◌<◌, ◌+◌, ◌*◌, ◌/◌, ◌%◌, ◌^◌, ℕ, List, ◌++◌, Some, ap, ◌∙◌, arith}
 use Rattle.std.proofs.lemmas.Nat.{from_le_bytes-to_le_bytes_2, from_le_bytes-to_le_bytes_4, from_le_bytes-to_le_bytes_8}
-use Rattle.dspec_record.specs.Layout.{width}
-use Rattle.dspec_record.specs.RecordText.{little_endian}
+use Rattle.dspec_ctf_reading.specs.Words.{width, little_endian, read_number}
 use Rattle.dspec_record.specs.declared.field.Field.{Field}
 use Rattle.dspec_record.specs.declared.field.Field.TheVariants.{One, Two, Four, Eight}
-use Rattle.dspec_ctf_reading.specs.Reading.{read_number}
 
 -- nested sums are those of from_le_bytes
 nested-2 : (a b : ℕ) → a + 256 * (b + 256 * 0) ≡ a + b * 256

@@ -3,16 +3,10 @@ use Rattle.std.proofs.Common.{◌≡◌, ◌≤◌, ◌<◌, ◌+◌, ◌-◌, �
 use Rattle.std.proofs.Common.{option_map, refl, ap, sym, ◌∙◌, arith, append_assoc, length-append, All}
 use Rattle.std.proofs.lemmas.Bool.{le-leb, cond-true}
 use Rattle.std.proofs.lemmas.List.{take_at, drop_at, length-replicate}
-use Rattle.dspec_record.specs.Record.{Record}
-use Rattle.dspec_record.specs.RecordText.{little_endian}
-use Rattle.dspec_record.specs.EnablingRows.{EnabledRows}
+use Rattle.dspec_ctf_reading.specs.Words.{Record, little_endian, EnabledRows, events, header_bytes, span_bytes, front_size, context_bytes, front_bytes, packet_around, filled_around, filled_size}
+use Rattle.dspec_ctf_reading.specs.Words.{Accepts, Layout, EventRead, PacketRead, FrontRead, Part, then_read, read_number, read_bytes, read_this, read_span, read_header, read_counts, read_front}
+use Rattle.dspec_ctf_reading.specs.Words.{sizes_agree, read_events, with_events, read_body, read_packet, Naming, event_read, layout_by, packet_read}
 use Rattle.dspec_record.specs.declared.field.Field.TheVariants.{Four, Eight}
-use Rattle.dspec_ctf.specs.Packets.{events, header_bytes, span_bytes, front_size, context_bytes, front_bytes, packet_around}
-use Rattle.dspec_ctf.specs.Filled.{filled_around, filled_size}
-use Rattle.dspec_ctf.specs.Streams.{Accepts}
-use Rattle.dspec_ctf_reading.specs.Reading.{Layout, EventRead, PacketRead, FrontRead, Part, then_read, read_number, read_bytes, read_this, read_span, read_header, read_counts}
-use Rattle.dspec_ctf_reading.specs.Reading.{read_front, sizes_agree, read_events, with_events, read_body, read_packet}
-use Rattle.dspec_ctf_reading.specs.Layouts.{Naming, event_read, layout_by, packet_read}
 use Rattle.dspec_ctf_reading.proofs.Agreeing.{Agrees, agree}
 use Rattle.dspec_ctf_reading.proofs.NumbersRead.{number-back}
 use Rattle.dspec_ctf_reading.proofs.EventsRead.{HasStamps, events-back}

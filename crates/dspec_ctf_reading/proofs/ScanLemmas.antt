@@ -9,10 +9,7 @@ use Rattle.std.proofs.lemmas.Str.Ascii.{IsAscii-from_all}
 use Rattle.std.proofs.lemmas.Bool.{and_parts, and_from}
 use Rattle.std.proofs.lemmas.Bool.Decides.{nat_tests}
 use Rattle.std.proofs.lemmas.List.Sums.{AllPass-from_list_all}
-use Rattle.dspec_ctf_reading.specs.ReadingMetadata.{rest_past, run_of, digits_number, is_digit, is_word, is_quoted}
-use Rattle.dspec_ctf_reading.specs.Parts.{test_of}
-use Rattle.dspec_ctf_reading.specs.declared.scan.Set.{Set}
-use Rattle.dspec_ctf_reading.specs.declared.scan.Set.TheVariants.{Digits, Word, Quoted}
+use Rattle.dspec_ctf_reading.specs.Words.{rest_past, run_of, digits_number, is_digit, is_word, is_quoted, test_of, Set, Digits, Word, Quoted}
 
 -- fixed texts
 rest_past-there : (text bytes : List ℕ) → pointwise nat_eq (take (length text) bytes) text ≡ true → Some (drop (length text) bytes) ≡ rest_past text bytes

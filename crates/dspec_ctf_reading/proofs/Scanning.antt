@@ -6,7 +6,7 @@ use Rattle.std.proofs.Common.{rules}
 use Rattle.std.proofs.lemmas.Bool.{eq-eqb, ne_eqb, and_parts, and_from, cond-false}
 use Rattle.std.proofs.lemmas.Fmt.{digits_decimal, digits_value-decimal, decimal_nonempty}
 use Rattle.std.proofs.lemmas.Str.Parse.{IsNumeralModel, numerals_by_fold}
-use Rattle.dspec_ctf_reading.specs.ReadingMetadata.{rest_past, past, run_of, read_run, is_digit, digits_number, read_decimal}
+use Rattle.dspec_ctf_reading.specs.Words.{rest_past, past, run_of, read_run, is_digit, digits_number, read_decimal}
 
 pub rest_past-back : (text rest : List ℕ) → rest_past text (text ++ rest) ≡ Some rest
 rest_past-back [] rest = refl

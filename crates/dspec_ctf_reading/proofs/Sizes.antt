@@ -1,19 +1,12 @@
 -- How many bytes the events of records have at most.
 use Rattle.std.proofs.Common.{◌≡◌, ◌≤◌, ◌*◌, ◌++◌, ℕ, List, [], ◌∷◌, length, refl, arith, length-append, All}
 use Rattle.std.proofs.lemmas.List.Elements.{All-head, All-tail}
-use Rattle.dspec_record.specs.Record.{Record}
-use Rattle.dspec_record.specs.Layout.{width}
-use Rattle.dspec_record.specs.RecordText.{little_endian}
-use Rattle.dspec_record.specs.EnablingRows.{EnabledRows}
-use Rattle.dspec_record.specs.Schemas.{enabled}
-use Rattle.dspec_record.specs.Laws.Texts.{length-little_endian}
-use Rattle.dspec_record.specs.Laws.Tables.{IsAccepted, accepted-parts}
+use Rattle.dspec_ctf_reading.specs.Words.{Record, width, little_endian, EnabledRows, enabled, length-little_endian, IsAccepted, accepted-parts, stamp_bytes, values_bytes, event, events}
+use Rattle.dspec_ctf_reading.specs.Words.{event_fields, Accepts}
 use Rattle.dspec_record.specs.declared.field.Field.{Field}
 use Rattle.dspec_record.specs.declared.field.Field.TheVariants.{One, Two, Four, Eight}
 use Rattle.dspec_record.specs.declared.header.Header.{Header}
 use Rattle.dspec_record.specs.declared.header.Header.TheVariants as header
-use Rattle.dspec_ctf.specs.Packets.{stamp_bytes, values_bytes, event, events, event_fields}
-use Rattle.dspec_ctf.specs.Streams.{Accepts}
 use Rattle.dspec_ctf_reading.proofs.EventsRead.{IsKnown, is-known}
 
 narrow : (f : Field) → width f ≤ 8

@@ -6,16 +6,12 @@ use Rattle.std.specs.List.{flat_map, enumerate_from}
 use Rattle.std.proofs.lemmas.Bool.{eqb-true, and_parts}
 use Rattle.std.proofs.Common.{ltb-true, ltb-false}
 use Rattle.std.proofs.lemmas.List.{length-drop, take-append-drop, get_or-drop, get_or_past}
-use Rattle.dspec_record.specs.Layout.{width}
+use Rattle.dspec_ctf_reading.specs.Words.{width, is_next, next_in_front, words_at, is_text, is_text_before, can_mean, FieldLayout}
 use Rattle.dspec_record.specs.declared.field.Field.{Field}
 use Rattle.dspec_record.specs.declared.field.Field.TheVariants.{One}
-use Rattle.dspec_probe.specs.Kinds.{is_next}
 use Rattle.dspec_probe.specs.declared.kind.Kind.{Kind}
 use Rattle.dspec_probe.specs.declared.kind.Kind.TheVariants.{Unsigned, Signed, Float, Text, TextNext}
 use Rattle.dspec_probe.specs.declared.probes.ProbeNames.{ProbeNames}
-use Rattle.dspec_ctf.specs.Metadata.{next_in_front, words_at}
-use Rattle.dspec_ctf.specs.Names.{is_text, is_text_before, can_mean}
-use Rattle.dspec_ctf_reading.specs.Reading.{FieldLayout}
 use Rattle.dspec_ctf_reading.proofs.NextWords.{kind_of, one-more, one-before, next-front}
 
 -- ---- what the check says of each field

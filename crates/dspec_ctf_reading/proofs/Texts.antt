@@ -3,19 +3,16 @@ use Rattle.std.proofs.Common.{◌≡◌, ◌≤◌, ◌<◌, ◌+◌, ◌-◌, �
 use Rattle.std.specs.Prelude.{option_and_then, codes, decimal}
 use Rattle.std.specs.List.{flat_map, range_with_len}
 use Rattle.std.proofs.lemmas.List.{append-nil}
-use Rattle.dspec_record.specs.EnablingRows.{EnabledRows}
+use Rattle.dspec_ctf_reading.specs.Words.{EnabledRows, event_fields, stamp_line, event_name, field_lines, event_number, event_front, event_text, typed_line, FieldLayout, EventLayout, Part}
+use Rattle.dspec_ctf_reading.specs.Words.{then_read, past, is_digit, is_word, is_quoted, read_quoted, read_fields, read_event_text, read_event_texts, stamp_field, field_layouts, event_layout}
+use Rattle.dspec_ctf_reading.specs.Words.{is_timed, names_by}
 use Rattle.dspec_record.specs.declared.field.Field.TheVariants.{Eight}
 use Rattle.dspec_record.specs.declared.header.Header.{Header}
 use Rattle.dspec_record.specs.declared.header.Header.TheVariants as header
 use Rattle.dspec_probe.specs.declared.kind.Kind.TheVariants.{Unsigned}
-use Rattle.dspec_ctf.specs.Packets.{event_fields}
-use Rattle.dspec_ctf.specs.Metadata.{stamp_line, event_name, field_lines, event_number, event_front, event_text, typed_line}
 use Rattle.dspec_ctf.specs.declared.form.Form.{Form}
 use Rattle.dspec_ctf.specs.declared.form.Form.TheVariants.{AsTaken, ByTime}
 use Rattle.dspec_ctf.specs.declared.names.Names.{Names}
-use Rattle.dspec_ctf_reading.specs.Reading.{FieldLayout, EventLayout, Part, then_read}
-use Rattle.dspec_ctf_reading.specs.ReadingMetadata.{past, is_digit, is_word, is_quoted, read_quoted, read_fields, read_event_text, read_event_texts}
-use Rattle.dspec_ctf_reading.specs.Layouts.{stamp_field, field_layouts, event_layout, is_timed, names_by}
 use Rattle.dspec_ctf_reading.proofs.Scanning.{read-run-back, decimal-back}
 use Rattle.dspec_ctf_reading.proofs.Lines.{IsWordy, AreLines, joined, joined-append, AreLines-append, typed-line, lines-back}
 use Rattle.dspec_ctf_reading.proofs.FieldTypes.{IsQuotable, kind-back, no-text-name}

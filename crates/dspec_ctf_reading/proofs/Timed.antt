@@ -5,14 +5,8 @@ use Rattle.std.specs.List.{flat_map, range_with_len}
 use Rattle.std.proofs.lemmas.Bool.{eqb-true, eqb-false, eq-eqb}
 use Rattle.std.proofs.lemmas.List.{take-append-drop, drop_all, drop-drop, length-take}
 use Rattle.std.proofs.lemmas.List.Elements.{All-take, All-drop}
-use Rattle.dspec_record.specs.Record.{Record}
-use Rattle.dspec_record.specs.EnablingRows.{EnabledRows}
-use Rattle.dspec_ctf.specs.Packets.{events, packet}
-use Rattle.dspec_ctf.specs.Streams.{Accepts}
-use Rattle.dspec_ctf.specs.ByTime.{span_of, packet_count, part_at, packet_at, timed_packets}
-use Rattle.dspec_ctf_reading.specs.Reading.{PacketRead, read_file, events_of, loss_of}
-use Rattle.dspec_ctf_reading.specs.Layouts.{Naming, event_read, layout_by, packet_read}
-use Rattle.dspec_ctf_reading.specs.Files.{FileTells, last_missed}
+use Rattle.dspec_ctf_reading.specs.Words.{Record, EnabledRows, events, packet, Accepts, span_of, packet_count, part_at, packet_at, timed_packets, PacketRead, read_file, events_of, loss_of, Naming}
+use Rattle.dspec_ctf_reading.specs.Words.{event_read, layout_by, packet_read, FileTells, last_missed}
 use Rattle.dspec_ctf_reading.proofs.EventsRead.{HasStamps}
 use Rattle.dspec_ctf_reading.proofs.PacketsRead.{HasSpan}
 use Rattle.dspec_ctf_reading.proofs.Sizes.{events-small}

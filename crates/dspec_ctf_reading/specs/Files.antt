@@ -1,7 +1,7 @@
 -- Cited by calls. What the bytes of a file tell by its layout.
 use Rattle.std.specs.Prelude.{◌≡◌, ◌==◌, ℕ, List, [], ◌∷◌, All, Some, filter}
 use Rattle.std.specs.List.{flat_map}
-use Rattle.dspec_record.specs.Record.{Record}
+use Rattle.dspec_ctf_reading.specs.Words.Outside.{Record}
 use Rattle.dspec_ctf_reading.specs.Reading.{Layout, EventRead, PacketRead, read_file, events_of, loss_of}
 
 -- A file of this trace and of this CPU: it is read as packets that have these events, in order, and tell that so many were missed.

@@ -2,17 +2,11 @@
 use Rattle.std.specs.Prelude.{◌≡◌, ◌<◌, ◌^◌, ◌++◌, ◌∷◌, [], ℕ, true, false, All, List, map, length, slice_index, Option, Some, None}
 use Rattle.std.specs.Option.{option_map, option_and_then}
 use Rattle.std.specs.List.{flat_map, range_with_len}
-use Rattle.dspec_record.specs.Record.{Record}
-use Rattle.dspec_record.specs.EnablingRows.{EnabledRows}
+use Rattle.dspec_ctf_reading.specs.Words.Outside.{Record, EnabledRows, events, packet, packet_around, filled_packets, portions, span_by, Accepts, timed_packets, AreRuns, missed_packets, of_file}
+use Rattle.dspec_ctf_reading.specs.Words.Outside.{run_files, run_packets, run_records, told_by, origin_text}
 use Rattle.dspec_record.specs.declared.header.Header.{Header}
 use Rattle.dspec_record.specs.declared.header.Header.TheVariants as header
 use Rattle.dspec_probe.specs.declared.probes.ProbeNames.{ProbeNames}
-use Rattle.dspec_ctf.specs.Packets.{events, packet, packet_around}
-use Rattle.dspec_ctf.specs.Filled.{filled_packets, portions, span_by}
-use Rattle.dspec_ctf.specs.Streams.{Accepts}
-use Rattle.dspec_ctf.specs.ByTime.{timed_packets}
-use Rattle.dspec_ctf.specs.Rows.{AreRuns, missed_packets, of_file, run_files, run_packets, run_records, told_by}
-use Rattle.dspec_ctf.specs.Metadata.{origin_text}
 use Rattle.dspec_ctf.specs.declared.form.Form.{Form}
 use Rattle.dspec_ctf.specs.declared.form.Form.TheVariants.{AsTaken, ByTime}
 use Rattle.dspec_ctf.specs.declared.names.Names.{Names}

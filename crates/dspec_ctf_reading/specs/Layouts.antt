@@ -2,19 +2,14 @@
 use Rattle.std.specs.Prelude.{ℕ, ◌-◌, Bool, true, false, List, [], ◌∷◌, ◌++◌, length, map, slice_get, codes, decimal, Option, Some, None, if◌then◌else◌}
 use Rattle.std.specs.Option.{option_map_or}
 use Rattle.std.specs.List.{enumerate_from, range_with_len}
-use Rattle.dspec_record.specs.Record.{Record}
-use Rattle.dspec_record.specs.Layout.{width}
-use Rattle.dspec_record.specs.EnablingRows.{EnabledRows}
+use Rattle.dspec_ctf_reading.specs.Words.Outside.{Record, width, EnabledRows, event_fields, event_name, name_place}
 use Rattle.dspec_record.specs.declared.field.Field.{Field}
 use Rattle.dspec_record.specs.declared.header.Header.{Header}
 use Rattle.dspec_record.specs.declared.header.Header.TheVariants as header
-use Rattle.dspec_ctf.specs.Packets.{event_fields}
-use Rattle.dspec_ctf.specs.Metadata.{event_name}
 use Rattle.dspec_ctf.specs.declared.names.Names.{Names}
 use Rattle.dspec_ctf.specs.declared.names.Names.TheVariants.{Numbered, Given}
 use Rattle.dspec_ctf.specs.declared.form.Form.{Form}
 use Rattle.dspec_ctf.specs.declared.form.Form.TheVariants.{AsTaken, ByTime}
-use Rattle.dspec_probe.specs.Kinds.{name_place}
 use Rattle.dspec_probe.specs.declared.probes.ProbeNames.{ProbeNames}
 use Rattle.dspec_ctf_reading.specs.Reading.{FieldLayout, EventLayout, Layout, EventRead, PacketRead}
 

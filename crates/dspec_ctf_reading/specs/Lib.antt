@@ -12,3 +12,4 @@ pub mod Faults
 pub mod Packets
 pub mod Laws
 pub mod Folders
+pub mod Words

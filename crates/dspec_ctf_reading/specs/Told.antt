@@ -1,7 +1,7 @@
 -- Cited by calls. What was read in code, in the words of the definitions of reading.
 use Rattle.std.specs.Prelude.{◌≡◌, ◌<◌, ◌+◌, ◌==◌, ℕ, List, [], ◌∷◌, length, map, slice_index_or, is_some, if◌then◌else◌}
 use Rattle.std.specs.List.{zip}
-use Rattle.dspec_record.specs.Layout.{width}
+use Rattle.dspec_ctf_reading.specs.Words.Outside.{width}
 use Rattle.dspec_ctf_reading.specs.Reading.{FieldLayout, EventLayout, Layout, EventRead}
 use Rattle.dspec_ctf_reading.specs.Fronts.{PacketSplit, front_of}
 use Rattle.dspec_ctf_reading.specs.declared.fronts.Packet.{Packet}

@@ -1,9 +1,7 @@
 -- Cited by calls. The numbers that a trace's metadata tells, as they are in memory: each has 64 bits at the most, and a uuid is made of bytes.
 use Rattle.std.specs.Prelude.{ℕ, ◌<◌, ◌≤◌, ◌^◌, [], All, length, unwrap_or}
 use Rattle.std.specs.Option.{option_map_or}
-use Rattle.dspec_record.specs.EnablingRows.{EnabledRows}
-use Rattle.dspec_ctf.specs.Packets.{event_fields}
-use Rattle.dspec_ctf.specs.Names.{labels_at}
+use Rattle.dspec_ctf_reading.specs.Words.Outside.{EnabledRows, event_fields, labels_at}
 use Rattle.dspec_ctf.specs.declared.origin.Origin.{Origin}
 use Rattle.dspec_ctf.specs.declared.names.Names.{Names}
 use Rattle.dspec_ctf.specs.declared.form.Form.{Form}

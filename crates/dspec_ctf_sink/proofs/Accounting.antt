@@ -3,13 +3,8 @@ use Rattle.std.proofs.Common.{◌≡◌, ◌≢◌, ◌⊎◌, ◌<◌, ◌+◌,
 use Rattle.std.specs.Prelude.{None, slice_index, slice_set}
 use Rattle.std.proofs.lemmas.List.{get_or-set_same, get_or-set_other}
 use Rattle.std.proofs.lemmas.Option.{get_or_from_slice_get}
-use Rattle.dspec_record.specs.Record.{Record}
-use Rattle.dspec_record.specs.EnablingRows.{EnabledRows}
+use Rattle.dspec_ctf_sink.specs.Words.{Record, EnabledRows, IsText, HasSoManyRecords, capped, AddsPacket, AreNextOf, GetsPacket, IsNothing, LosesPacket, Tracing, Accounts, missed_on}
 use Rattle.dspec_ring.specs.declared.batch.Batch.{Batch}
-use Rattle.dspec_ctf.specs.Streams.{IsText}
-use Rattle.dspec_ctf_sink.specs.Losses.{HasSoManyRecords, capped}
-use Rattle.dspec_ctf_sink.specs.Writing.{AddsPacket, AreNextOf, GetsPacket, IsNothing, LosesPacket, Tracing}
-use Rattle.dspec_ctf_sink.specs.Accounts.{Accounts, missed_on}
 
 -- what fits isn't capped
 pub capped_below : (n : ℕ) → n < 2 ^ 64 → capped n ≡ n

@@ -1,17 +1,10 @@
 -- A batch by time is added to its CPU's files, or lost.
 use Rattle.std.proofs.Common.{◌≡◌, ◌⊎◌, ◌+◌, ℕ, List, ◌∙◌, ap, inl, inr, refl, subst}
 use Rattle.std.specs.Prelude.{Option, Some, None, slice_get, slice_set}
-use Rattle.dspec_record.specs.Record.{Record}
-use Rattle.dspec_record.specs.EnablingRows.{EnabledRows}
-use Rattle.dspec_ctf.specs.Streams.{IsText}
+use Rattle.dspec_ctf_sink.specs.Words.{Record, EnabledRows, IsText, HasSoManyRecords, lost_more, missed_more, FileWrite, AddsAll, AddsBatch, AddsRuns, CpuFiles, GetsRuns, HasNoRuns, IsBatchLoss}
+use Rattle.dspec_ctf_sink.specs.Words.{LosesRuns, StopsRuns, TellsMissed, TellsNone, TimedTracing, FolderFault, Cpu, Packet, Loss}
 use Rattle.dspec_ring.specs.declared.batch.Batch.{Batch}
 use Rattle.dspec_ctf.specs.declared.stream.PacketFault.{PacketFault}
-use Rattle.dspec_ctf_sink.specs.Losses.{HasSoManyRecords, lost_more, missed_more}
-use Rattle.dspec_ctf_sink.specs.Writes.{FileWrite}
-use Rattle.dspec_ctf_sink.specs.Timed.{AddsAll, AddsBatch, AddsRuns, CpuFiles, GetsRuns, HasNoRuns, IsBatchLoss, LosesRuns, StopsRuns, TellsMissed, TellsNone, TimedTracing}
-use Rattle.dspec_ctf_sink.specs.declared.fault.FolderFault.{FolderFault}
-use Rattle.dspec_ctf_sink.specs.declared.fault.FolderFault.TheVariants.{Cpu, Packet}
-use Rattle.dspec_ctf_sink.specs.declared.losing.Loss.{Loss}
 
 -- a CPU's files, by their parts
 abbrev pub files : ℕ → List ℕ → Option (List FileWrite) → CpuFiles

@@ -2,7 +2,7 @@
 use Rattle.std.proofs.Common.{◌≡◌, ◌≤◌, ◌+◌, ◌∙◌, ℕ, List, ap, arith, length, sym}
 use Rattle.std.specs.Prelude.{slice_index, slice_set}
 use Rattle.std.proofs.lemmas.List.{set_past}
-use Rattle.dspec_ctf_sink.specs.Losses.{capped, missed_more}
+use Rattle.dspec_ctf_sink.specs.Words.{capped, missed_more}
 
 capped_twice : (a d n : ℕ) → capped (capped (a + d) + n) ≡ capped (a + (d + n))
 capped_twice a d n = omega arith

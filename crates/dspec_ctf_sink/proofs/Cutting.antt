@@ -5,7 +5,7 @@ use Rattle.std.specs.Io.KnownBytes.{Appends, Keeps}
 use Rattle.std.proofs.Math.Seq.{take-add}
 use Rattle.std.proofs.lemmas.List.{take_at}
 use Rattle.std.proofs.lemmas.List.{append-nil}
-use Rattle.dspec_ctf_sink.specs.Held.{KeepsInFront, IsCut, IsLong}
+use Rattle.dspec_ctf_sink.specs.Words.{KeepsInFront, IsCut, IsLong}
 
 split : (bs : List ℕ) (at to : ℕ) → at ≤ to → take to bs ≡ take at bs ++ take (to - at) (drop at bs)
 split bs at to below =

@@ -1,19 +1,11 @@
 -- Runs that follow one another, their packets, and what stops them.
 use Rattle.std.proofs.Common.{◌≡◌, ◌≤◌, ◌-◌, ◌+◌, ℕ, List, [], ◌∷◌, ◌∙◌, ap, arith, inl, inr, length, refl, sym, subst}
 use Rattle.std.specs.Prelude.{Option, Some, None, slice_range}
-use Rattle.dspec_record.specs.Record.{Record}
-use Rattle.dspec_record.specs.EnablingRows.{EnabledRows}
-use Rattle.dspec_ctf.specs.Packets.{events}
-use Rattle.dspec_ctf.specs.Rows.{HasNoRun, IsFileRun, run_packet}
-use Rattle.dspec_ctf.specs.Streams.{HasNoRecords, IsTooLong}
+use Rattle.dspec_ctf_sink.specs.Words.{Record, EnabledRows, events, HasNoRun, IsFileRun, run_packet, HasNoRecords, IsTooLong, FileWrite, IsNotTaken, AddsRun, AddsAll, HasNoRuns, StopsRun, StopsRuns}
+use Rattle.dspec_ctf_sink.specs.Words.{row_name, FolderFault, Packet, Loss}
 use Rattle.dspec_ring.specs.declared.batch.Batch.{Batch}
 use Rattle.dspec_ctf.specs.declared.stream.PacketFault.{PacketFault}
 use Rattle.dspec_ctf.specs.declared.stream.PacketFault.TheVariants as packet
-use Rattle.dspec_ctf_sink.specs.Writes.{FileWrite, IsNotTaken}
-use Rattle.dspec_ctf_sink.specs.Timed.{AddsRun, AddsAll, HasNoRuns, StopsRun, StopsRuns, row_name}
-use Rattle.dspec_ctf_sink.specs.declared.fault.FolderFault.{FolderFault}
-use Rattle.dspec_ctf_sink.specs.declared.fault.FolderFault.TheVariants.{Packet}
-use Rattle.dspec_ctf_sink.specs.declared.losing.Loss.{Loss}
 
 -- what a CPU loses
 abbrev pub of_cpu : ℕ → Option ℕ → FolderFault → ℕ → Loss

@@ -1,13 +1,9 @@
 -- A batch's packet is handed to the place, or counted.
 use Rattle.std.proofs.Common.{◌≡◌, ℕ, ◌+◌, ◌∙◌, ap, inr, List, refl, sym, subst}
 use Rattle.std.specs.Prelude.{slice_get, slice_index, slice_set, Option, Some, None}
-use Rattle.dspec_record.specs.EnablingRows.{EnabledRows}
+use Rattle.dspec_ctf_sink.specs.Words.{EnabledRows, lost_more, missed_more, FileWrite, Refuses, Takes, AddsPacket, AreNextOf, CountsLost, IsBatchFault, IsNextPacket, LosesPacket, Tracing, cpu_name}
+use Rattle.dspec_ctf_sink.specs.Words.{whole_loss, FolderFault, Loss}
 use Rattle.dspec_ring.specs.declared.batch.Batch.{Batch}
-use Rattle.dspec_ctf_sink.specs.Losses.{lost_more, missed_more}
-use Rattle.dspec_ctf_sink.specs.Writes.{FileWrite, Refuses, Takes}
-use Rattle.dspec_ctf_sink.specs.Writing.{AddsPacket, AreNextOf, CountsLost, IsBatchFault, IsNextPacket, LosesPacket, Tracing, cpu_name, whole_loss}
-use Rattle.dspec_ctf_sink.specs.declared.fault.FolderFault.{FolderFault}
-use Rattle.dspec_ctf_sink.specs.declared.losing.Loss.{Loss}
 
 -- the trace, by its parts
 abbrev pub tracing : List ℕ → List ℕ → List ℕ → Option (List FileWrite) → Option Loss → Option Loss → Tracing

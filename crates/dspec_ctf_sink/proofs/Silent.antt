@@ -1,18 +1,12 @@
 -- An empty text is that of no records, and has packets unless memory is wanting.
 use Rattle.std.proofs.Common.{◌≡◌, ◌<◌, ◌≤◌, ◌∙◌, ℕ, Bool, false, inl, inr, List, [], ◌∷◌, ◌++◌, Option, refl, sym, ap, arith, length}
-use Rattle.dspec_record.specs.Record.{Record}
-use Rattle.dspec_record.specs.EnablingRows.{EnabledRows}
-use Rattle.dspec_record.specs.Schemas.{enabled, table_shape, table_accepts, table_text}
-use Rattle.dspec_record.specs.Laws.Tables.{enabled-IsLimited, table-shapes_fit, table-texts_fit, table-texts_differ}
+use Rattle.dspec_ctf_sink.specs.Words.{Record, EnabledRows, enabled, table_shape, table_accepts, table_text, enabled-IsLimited, table-shapes_fit, table-texts_fit, table-texts_differ, FaultHere}
+use Rattle.dspec_ctf_sink.specs.Words.{AreFilledOf, filled_packets, events, HasNoPacket, IsText}
 use Rattle.dspec_record.specs.declared.field.Shape.{Shape}
 use Rattle.dspec_record.specs.declared.reading.ReadKind.{ReadKind}
 use Rattle.dspec_record.specs.declared.reading.ReadKind.TheVariants.{Truncated, UnknownEpid, Misaligned, GapNotZero, Padding}
-use Rattle.dspec_buffer.specs.Faults.{FaultHere}
 use Rattle.dspec_buffer.proofs.SchemaLaws.{SchemaLaws}
 use Rattle.dspec_buffer.proofs.OneReading.{one_reading}
-use Rattle.dspec_ctf.specs.Filled.{AreFilledOf, filled_packets}
-use Rattle.dspec_ctf.specs.Packets.{events}
-use Rattle.dspec_ctf.specs.Streams.{HasNoPacket, IsText}
 use Rattle.dspec_ctf.specs.declared.stream.PacketFault.{PacketFault}
 use Rattle.dspec_ctf.specs.declared.stream.PacketFault.TheVariants.{Text, Missed, TooLong, Clock, Memory}
 

@@ -3,14 +3,9 @@ use Rattle.std.proofs.Common.{◌≡◌, ◌≢◌, ◌⊎◌, ◌<◌, ◌+◌,
 use Rattle.std.specs.Prelude.{Some, slice_index, slice_set}
 use Rattle.std.proofs.lemmas.List.{get_or-set_same, get_or-set_other}
 use Rattle.std.proofs.lemmas.Option.{get_or_from_slice_get}
-use Rattle.dspec_record.specs.Record.{Record}
-use Rattle.dspec_record.specs.EnablingRows.{EnabledRows}
+use Rattle.dspec_ctf_sink.specs.Words.{Record, EnabledRows, IsText, HasSoManyRecords, capped, missed_more, AddsBatch, CpuFiles, GetsRuns, IsBatchLoss, LosesBatch, LosesRuns, TimedTracing}
+use Rattle.dspec_ctf_sink.specs.Words.{TimedAccounts, Loss}
 use Rattle.dspec_ring.specs.declared.batch.Batch.{Batch}
-use Rattle.dspec_ctf.specs.Streams.{IsText}
-use Rattle.dspec_ctf_sink.specs.Losses.{HasSoManyRecords, capped, missed_more}
-use Rattle.dspec_ctf_sink.specs.Timed.{AddsBatch, CpuFiles, GetsRuns, IsBatchLoss, LosesBatch, LosesRuns, TimedTracing}
-use Rattle.dspec_ctf_sink.specs.Accounts.{TimedAccounts}
-use Rattle.dspec_ctf_sink.specs.declared.losing.Loss.{Loss}
 use Rattle.dspec_ctf_sink.proofs.Accounting.{capped_below}
 
 module _ (e : EnabledRows) (old new : TimedTracing) (b : Batch) (there : b.cpu < length old.missed) where

@@ -4,9 +4,7 @@ use Rattle.std.specs.Result.{result_err}
 use Rattle.std.specs.Io.KnownBytes.{Appends}
 use Rattle.std.proofs.Math.Logic.{∥∥₁_elim, ∥∥₁_prop}
 use Rattle.std.proofs.lemmas.Option.{get_or_from_slice_get}
-use Rattle.dspec_ctf_sink.specs.Writes.{FileWrite}
-use Rattle.dspec_ctf_sink.specs.Held.{FilesHave, HaveBesides, Held, IsFileAt, LeavesFile}
-use Rattle.dspec_ctf_sink.specs.declared.fault.FolderFault.{FolderFault}
+use Rattle.dspec_ctf_sink.specs.Words.{FileWrite, FilesHave, HaveBesides, Held, IsFileAt, LeavesFile, FolderFault}
 use Rattle.dspec_ctf_sink.proofs.Written.{asks_in_vain, has_left, has_more, none_among, one_file_has, one_file_more}
 
 -- a file was made and pushed

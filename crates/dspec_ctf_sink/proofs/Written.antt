@@ -6,10 +6,8 @@ use Rattle.std.proofs.lemmas.List.{append-nil}
 use Rattle.std.proofs.lemmas.Grind.{flat_map-append}
 use Rattle.std.proofs.lemmas.Option.{slice_get_within, get_or_from_slice_get}
 use Rattle.std.proofs.lemmas.Slice.Eq.{bytes_eq-Decides}
-use Rattle.dspec_ctf_sink.specs.Writes.{FileWrite, brought_to, file_of}
-use Rattle.dspec_ctf_sink.specs.Held.{FilesHave, KeepsInFront, HasWritten, HaveBesides, Held, IsNotAmong, LeavesFile}
-use Rattle.dspec_ctf_sink.specs.declared.fault.FolderFault.{FolderFault}
-use Rattle.dspec_ctf_sink.specs.declared.fault.FolderFault.TheVariants.{Cpu, Cut, Memory, Metadata, NotEmpty, Packet, Read, Write}
+use Rattle.dspec_ctf_sink.specs.Words.{FileWrite, brought_to, file_of, FilesHave, KeepsInFront, HasWritten, HaveBesides, Held, IsNotAmong, LeavesFile, FolderFault, Cpu, Cut, Memory, Metadata}
+use Rattle.dspec_ctf_sink.specs.Words.{NotEmpty, Packet, Read, Write}
 use Rattle.dspec_deeds.proofs.Places.{got_set, got_other}
 
 -- ---- places

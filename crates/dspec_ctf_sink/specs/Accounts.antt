@@ -1,9 +1,7 @@
 -- Cited by calls. Nothing is lost uncounted.
 use Rattle.std.specs.Prelude.{ℕ, ◌≡◌, ◌≢◌, ◌<◌, ◌+◌, ◌^◌, ◌⊎◌, List, length, slice_index, Some}
-use Rattle.dspec_record.specs.Record.{Record}
-use Rattle.dspec_record.specs.EnablingRows.{EnabledRows}
+use Rattle.dspec_ctf_sink.specs.Words.Outside.{Record, EnabledRows, IsText}
 use Rattle.dspec_ring.specs.declared.batch.Batch.{Batch}
-use Rattle.dspec_ctf.specs.Streams.{IsText}
 use Rattle.dspec_ctf_sink.specs.Timed.{AddsBatch, TimedTracing}
 use Rattle.dspec_ctf_sink.specs.Writing.{AddsPacket, Tracing}
 use Rattle.dspec_ctf_sink.specs.declared.losing.Loss.{Loss}

@@ -9,3 +9,4 @@ pub mod Places
 pub mod Writes
 pub mod Writing
 pub mod Timed
+pub mod Words

@@ -1,7 +1,7 @@
 -- Cited by calls. What is written into a trace folder by time while a session runs.
 use Rattle.std.specs.Prelude.{ℕ, ◌≡◌, ◌≢◌, ◌≤◌, ◌+◌, ◌^◌, List, [], ◌∷◌, ◌++◌, ◌⊎◌, Option, Some, None, codes, decimal, replicate, length, slice_get, slice_range, slice_set}
-use Rattle.dspec_record.specs.Record.{Record}
-use Rattle.dspec_record.specs.EnablingRows.{EnabledRows}
+use Rattle.dspec_ctf_sink.specs.Words.Outside.{Record, EnabledRows, origin_text, origin_fault, events, AreRuns, IsFileRun, HasNoRun, missed_packets, run_packet, run_packets, HasNoRecords, IsText}
+use Rattle.dspec_ctf_sink.specs.Words.Outside.{IsTooLong}
 use Rattle.dspec_ring.specs.declared.batch.Batch.{Batch}
 use Rattle.dspec_ctf.specs.declared.form.Form.TheVariants.{ByTime}
 use Rattle.dspec_ctf.specs.declared.names.Names.{Names}
@@ -10,11 +10,6 @@ use Rattle.dspec_ctf.specs.declared.rows.Run.{Run}
 use Rattle.dspec_ctf.specs.declared.stream.PacketFault.{PacketFault}
 use Rattle.dspec_ctf.specs.declared.stream.Stream.{Stream}
 use Rattle.dspec_ctf.specs.declared.stream.PacketFault.TheVariants as packet
-use Rattle.dspec_ctf.specs.Metadata.{origin_text}
-use Rattle.dspec_ctf.specs.Names.{origin_fault}
-use Rattle.dspec_ctf.specs.Packets.{events}
-use Rattle.dspec_ctf.specs.Rows.{AreRuns, IsFileRun, HasNoRun, missed_packets, run_packet, run_packets}
-use Rattle.dspec_ctf.specs.Streams.{HasNoRecords, IsText, IsTooLong}
 use Rattle.dspec_ctf.specs.declared.fault.MetadataFault.TheVariants as metadata
 use Rattle.dspec_ctf_sink.specs.Losses.{HasSoManyRecords, lost_more, missed_more}
 use Rattle.dspec_ctf_sink.specs.Writes.{FileWrite, IsNotTaken, Refuses, Takes}

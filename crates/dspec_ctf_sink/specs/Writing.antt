@@ -1,14 +1,10 @@
 -- Cited by calls. What is written into a trace folder.
 use Rattle.std.specs.Prelude.{ℕ, ◌≡◌, ◌≢◌, ◌+◌, false, List, [], ◌++◌, ◌⊎◌, Option, Some, None, codes, decimal, replicate, slice_get, slice_index, slice_set}
-use Rattle.dspec_record.specs.EnablingRows.{EnabledRows}
+use Rattle.dspec_ctf_sink.specs.Words.Outside.{EnabledRows, origin_text, origin_fault, AreFilledOf, filled_packets, HasNoPacket}
 use Rattle.dspec_ring.specs.declared.batch.Batch.{Batch}
 use Rattle.dspec_ctf.specs.declared.form.Form.TheVariants.{AsTaken}
 use Rattle.dspec_ctf.specs.declared.names.Names.{Names}
 use Rattle.dspec_ctf.specs.declared.origin.Origin.{Origin}
-use Rattle.dspec_ctf.specs.Metadata.{origin_text}
-use Rattle.dspec_ctf.specs.Names.{origin_fault}
-use Rattle.dspec_ctf.specs.Filled.{AreFilledOf, filled_packets}
-use Rattle.dspec_ctf.specs.Streams.{HasNoPacket}
 use Rattle.dspec_ctf.specs.declared.fault.MetadataFault.TheVariants as metadata
 use Rattle.dspec_ctf_sink.specs.Losses.{HasSoManyRecords, lost_more, missed_more}
 use Rattle.dspec_ctf_sink.specs.Writes.{FileWrite, Refuses, Takes}

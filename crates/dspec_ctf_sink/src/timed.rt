@@ -1,4 +1,4 @@
-ghost use Rattle.std.specs.Prelude.{◌≡◌, ◌+◌, ◌<◌, [], All, IfOk, IfErr, OnOk, OnErr, Some, None, length, replicate, string_bytes};
+ghost use Rattle.std.specs.Prelude.{◌≡◌, ◌+◌, ◌<◌, ◌^◌, ℕ, [], All, IfOk, IfErr, OnOk, OnErr, Some, None, length, replicate, slice_index, string_bytes};
 ghost use Rattle.dspec_ctf.specs.Streams.{Accepts};
 ghost use Rattle.dspec_ctf_sink.specs.Losses.{HasSoManyRecords};
 ghost use Rattle.dspec_ctf_sink.specs.Writes.{IsNotTaken, Takes};
@@ -304,6 +304,7 @@ impl<F: Folder> TimedFolder<F> {
     pub fn end(self) -> (F, Option<Loss>)
         ensures lost { result.1 ≡ self.lost }
         ensures place { F.written result.0 ≡ self.written }
+        ensures counts { (c : ℕ) → slice_index self.missed c < 2 ^ 64 }
     {
         let TimedFolder { folder, lost, .. } = self;
         (folder, lost)

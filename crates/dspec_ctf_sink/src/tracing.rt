@@ -1,4 +1,5 @@
-ghost use Rattle.std.specs.Prelude.{◌≡◌, ◌+◌, ◌↔◌, IsTrue, IfOk, IfErr, OnOk, OnErr, Some, None};
+ghost use Rattle.std.specs.Prelude.{◌≡◌, ◌<◌, ◌+◌, ◌^◌, ◌↔◌, ℕ, IsTrue, IfOk, IfErr, OnOk, OnErr, Some, None};
+ghost use Rattle.dspec_ctf_sink.specs.Accounts.{missed_on};
 ghost use Rattle.dspec_ctf_sink.specs.Writing.{AddsPacket, CountsLost, GetsPacket, IsBatchFault, IsBeginFault, IsBegun, IsNothing};
 
 use crate::fault::FolderFault;
@@ -161,6 +162,7 @@ impl<F: Folder> TraceFolder<F> {
     pub fn end(self) -> (F, Option<Loss>)
         ensures place { F.written result.0 ≡ self.written }
         ensures lost { result.1 ≡ self.lost }
+        ensures counts { (c : ℕ) → missed_on self c < 2 ^ 64 }
     {
         let TraceFolder { folder, lost, .. } = self;
         (folder, lost)

@@ -3,18 +3,11 @@ use Prim.Native.Nat.{zero, suc}
 use Rattle.std.proofs.Common.{◌≡◌, ℕ, ◌≤◌, Bool, true, false, ◌&&◌, ◌==◌, if◌then◌else◌, List, [], ◌∷◌, Option, None, Some, refl, sym, ap, ◌∙◌, subst, ⊎_elim, arith, true≢false}
 use Rattle.std.specs.Option.{option_map}
 use Rattle.dspec_record.specs.declared.field.Shape.{Shape}
-use Rattle.dspec_word.specs.SpecId.{Speculation}
-use Rattle.dspec_deeds.specs.declared.config.Config.{Config}
-use Rattle.dspec_deeds.specs.declared.deed.Deed.{Deed}
-use Rattle.dspec_deeds.specs.declared.deed.Deed.TheVariants.{Commit, Discard, Settle}
-use Rattle.dspec_deeds.specs.declared.deed.DecideFate.{DecideFate}
+use Rattle.dspec_deeds.specs.Words.{Speculation, Config, Deed, Commit, Discard, Settle, DecideFate, is_commit, is_discard, same_id, verdict, offered_by, offers, accepted, SettlesAs, Follows}
+use Rattle.dspec_deeds.specs.Words.{IsAllowed, Fate, taken, dropped, void, waiting, fate, emptied_as, is_taken, is_waiting, has_fate, offered_to, destination, times, has_commit, has_discard}
+use Rattle.dspec_deeds.specs.Words.{AcceptanceLaw}
 use Rattle.dspec_deeds.specs.declared.deed.DecideFate.TheVariants as decided
-use Rattle.dspec_deeds.specs.FateKinds.{is_commit, is_discard}
-use Rattle.dspec_deeds.specs.History.{same_id, verdict}
-use Rattle.dspec_deeds.specs.Own.{offered_by, offers, accepted}
-use Rattle.dspec_deeds.specs.Legal.{SettlesAs, Follows, IsAllowed}
-use Rattle.dspec_deeds.specs.Fates.{Fate, taken, dropped, discarded, void, waiting, fate, emptied_as, is_taken, is_waiting, has_fate, offered_to, destination, times, has_commit, has_discard}
-use Rattle.dspec_deeds.specs.Headline.{AcceptanceLaw}
+use Rattle.dspec_deeds.specs.Fates.{discarded}
 use Rattle.dspec_deeds.proofs.TestLemmas.{either_way, off, and_tells, id_is_itself, same_number, same_id_tells}
 use Rattle.dspec_deeds.proofs.Verdicts.{commit_stays, one_decision, settled_commit, verdict_told}
 use Rattle.dspec_deeds.proofs.DeedOffers.{Sent, Empties, Effect, idle, offering, emptying}

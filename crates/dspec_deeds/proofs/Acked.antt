@@ -2,13 +2,8 @@
 use Rattle.std.proofs.Common.{◌≡◌, ℕ, suc, ◌+◌, ◌≤◌, true, false, not, ◌||◌, ◌==◌, List, [], ◌∷◌, refl, sym, ap, ◌∙◌, subst, ⊎_elim, arith, true≢false}
 use Rattle.std.specs.Prelude.{nat_le, nat_lt}
 use Rattle.std.proofs.lemmas.Bool.Decides.{nat_tests}
-use Rattle.dspec_word.specs.SpecId.{Speculation}
-use Rattle.dspec_deeds.specs.declared.config.Config.{Config}
-use Rattle.dspec_deeds.specs.declared.deed.DecideFate.{DecideFate}
-use Rattle.dspec_deeds.specs.declared.deed.Deed.{Deed}
-use Rattle.dspec_deeds.specs.declared.deed.Deed.TheVariants.{Settle}
-use Rattle.dspec_deeds.specs.History.{same_id, issue, releases, present, verdict, undecided, committed, discarded, Verdict, is_undecided, latest, ruling, settled, settles, acks, ack}
-use Rattle.dspec_deeds.specs.Legal.{SettlesAs, IsSound}
+use Rattle.dspec_deeds.specs.Words.{Speculation, Config, DecideFate, Deed, Settle, same_id, issue, releases, present, verdict, undecided, committed, discarded, Verdict, is_undecided, latest, ruling}
+use Rattle.dspec_deeds.specs.Words.{settled, settles, acks, ack, SettlesAs, IsSound}
 use Rattle.dspec_deeds.proofs.TestLemmas.{either_way, off, and_tells, or_tells, or_true, same_number, same_id_tells, id_is_itself}
 use Rattle.dspec_deeds.proofs.SoundLists.{issue_grows}
 use Rattle.dspec_deeds.proofs.WordChanges.{ack_stays}

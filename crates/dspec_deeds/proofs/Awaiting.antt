@@ -3,14 +3,8 @@ use Rattle.std.proofs.Common.{◌≡◌, ℕ, Bool, true, false, if◌then◌els
 use Rattle.std.specs.Prelude.{is_none}
 use Rattle.dspec_word.specs.declared.code.Code.{Code}
 use Rattle.dspec_word.specs.declared.code.Code.TheVariants.{Inactive, Committing, CommittingMany, Discarding}
-use Rattle.dspec_word.specs.Code.{awaits}
-use Rattle.dspec_deeds.specs.declared.config.Config.{Config}
-use Rattle.dspec_deeds.specs.declared.deed.DecideFate.{DecideFate}
-use Rattle.dspec_deeds.specs.declared.deed.Deed.{Deed}
-use Rattle.dspec_deeds.specs.FateKinds.{is_commit, is_discard}
-use Rattle.dspec_deeds.specs.History.{present, opened, Verdict, undecided, committed, discarded, verdict, is_undecided, callers}
-use Rattle.dspec_deeds.specs.History.{standing, active_code, is_sole, is_sole_or_none, word_at, is_busy, solo, solo_of, owed}
-use Rattle.dspec_deeds.specs.Legal.{SettlesAs, IsSound}
+use Rattle.dspec_deeds.specs.Words.{awaits, Config, DecideFate, Deed, is_commit, is_discard, present, opened, Verdict, undecided, committed, discarded, verdict, is_undecided, callers, standing}
+use Rattle.dspec_deeds.specs.Words.{active_code, is_sole, is_sole_or_none, word_at, is_busy, solo, solo_of, owed, SettlesAs, IsSound}
 use Rattle.dspec_deeds.proofs.TestLemmas.{either_way, off, and_tells}
 use Rattle.dspec_deeds.proofs.WordCodes.{decided_awaits}
 use Rattle.dspec_deeds.proofs.Debtless.{debtless}

@@ -1,10 +1,8 @@
 -- Each offered record is in one count of its CPU's report.
 use Rattle.std.proofs.Common.{◌≡◌, ℕ, ◌+◌, false, if◌then◌else◌, List, [], ◌∷◌, ◌++◌, length, refl, arith}
-use Rattle.dspec_deeds.specs.declared.config.Config.{Config}
-use Rattle.dspec_deeds.specs.declared.deed.Deed.{Deed}
-use Rattle.dspec_deeds.specs.Own.{Offer, offers, held}
-use Rattle.dspec_deeds.specs.Reports.{Spoken, speculative, accepts_now, traces_dropped_now, specdrops_now, loses_now, discards_now, voids_now, report, records_of_report}
-use Rattle.dspec_deeds.specs.Fates.{Fate, taken, dropped, discarded, void, waiting, is_taken, is_dropped, is_discarded, is_void, is_waiting}
+use Rattle.dspec_deeds.specs.Words.{Config, Deed, Offer, offers, held, Spoken, speculative, accepts_now, traces_dropped_now, specdrops_now, loses_now, discards_now, voids_now, report}
+use Rattle.dspec_deeds.specs.Words.{records_of_report, Fate, taken, dropped, void, waiting, is_taken, is_dropped, is_discarded, is_void, is_waiting}
+use Rattle.dspec_deeds.specs.Fates.{discarded}
 use Rattle.dspec_deeds.proofs.DeedOffers.{spoken_as, next_offer, Counts, Effect, idle, offering, emptying}
 use Rattle.dspec_deeds.proofs.DeedEffects.{Accounts}
 use Rattle.dspec_deeds.proofs.SpokenRecords.{spoken_idle, spoken_offered, spoken_fewer}

@@ -1,16 +1,10 @@
 -- What is read off all deeds is the same without the Seals.
 use Rattle.std.proofs.Common.{◌≡◌, ℕ, suc, ◌+◌, true, false, ◌||◌, ◌&&◌, if◌then◌else◌, List, [], ◌∷◌, refl, sym, ap, ◌∙◌, ⊎_elim, true≢false}
-use Rattle.dspec_word.specs.SpecId.{Speculation}
-use Rattle.dspec_deeds.specs.declared.config.Config.{Config}
-use Rattle.dspec_deeds.specs.declared.deed.Deed.{Deed}
-use Rattle.dspec_deeds.specs.declared.deed.Deed.TheVariants.{Trace, Scan, Opened, Miss, Speculate, Commit, Discard, Settle, Seal, Release, Halt}
-use Rattle.dspec_deeds.specs.FateKinds.{is_discard}
-use Rattle.dspec_deeds.specs.History.{halted, is_halt, issue, releases, opened, opens, verdict, ruling, latest, callers, calls_on, joined, is_sole, solo, solo_of, present}
-use Rattle.dspec_deeds.specs.History.{settled, settles, scan, scanned, opened_since, is_scan, opens_slot, owing, author, releaser, code_at, standing, word_at, ack, acks, issue_of}
+use Rattle.dspec_deeds.specs.Words.{Speculation, Config, Deed, Trace, Scan, Opened, Miss, Speculate, Commit, Discard, Settle, Seal, Release, Halt, is_discard, halted, is_halt, issue, releases}
+use Rattle.dspec_deeds.specs.Words.{opened, opens, verdict, ruling, latest, callers, calls_on, joined, is_sole, solo, solo_of, present, settled, settles, scan, scanned, opened_since, is_scan}
+use Rattle.dspec_deeds.specs.Words.{opens_slot, owing, author, releaser, code_at, standing, word_at, ack, acks, issue_of, is_seal, bare, ShowsAlike}
 use Rattle.dspec_word.specs.declared.code.Code.TheVariants.{Inactive}
-use Rattle.dspec_deeds.specs.Legal.{is_seal}
 use Rattle.dspec_deeds.proofs.TestLemmas.{either_way}
-use Rattle.dspec_deeds.specs.Weaving.{bare, ShowsAlike}
 
 -- a Seal is a CPU's
 pub seal_is : (d : Deed) → is_seal d ≡ true → (c : ℕ) × (d ≡ Seal c)

@@ -1,13 +1,7 @@
 -- A list with Seals is legal in its common part where the list without them is.
 use Rattle.std.proofs.Common.{◌≡◌, ◌⊎◌, ℕ, Bool, true, false, ◌||◌, ◌&&◌, ◌==◌, if◌then◌else◌, List, [], ◌∷◌, refl, sym, ap, ◌∙◌, subst, ⊎_elim}
-use Rattle.dspec_deeds.specs.declared.config.Config.{Config}
-use Rattle.dspec_deeds.specs.declared.calls.Actor.TheVariants.{Cpu}
-use Rattle.dspec_deeds.specs.declared.deed.Deed.{Deed}
-use Rattle.dspec_deeds.specs.declared.deed.Deed.TheVariants.{Discard, Seal}
-use Rattle.dspec_deeds.specs.History.{halted, is_halt, late, owed, same_actor}
-use Rattle.dspec_deeds.specs.Legal.{facts, Follows, FollowsBy, IsSound, is_seal}
+use Rattle.dspec_deeds.specs.Words.{Config, Cpu, Deed, Discard, Seal, halted, is_halt, late, owed, same_actor, facts, Follows, FollowsBy, IsSound, is_seal, bare}
 use Rattle.dspec_deeds.proofs.TestLemmas.{either_way, same_number, or_false, and_false}
-use Rattle.dspec_deeds.specs.Weaving.{bare}
 use Rattle.dspec_deeds.proofs.BareReads.{seal_is, halted_bare, issue_bare, opened_bare, verdict_bare, callers_bare, settled_bare, scan_bare, since_bare, author_bare, owing_bare}
 
 -- a Seal of the CPU makes nobody later: the session was not stopped, or the CPU has done a deed since

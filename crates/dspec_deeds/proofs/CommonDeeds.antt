@@ -1,24 +1,14 @@
 -- The common part doesn't look at what found room, nor at how many records there were.
 use Rattle.std.proofs.Common.{◌≡◌, ℕ, suc, ◌+◌, Bool, false, ◌||◌, ◌&&◌, if◌then◌else◌, List, [], Some, None, ◌∷◌, refl, sym, ap, ◌∙◌, subst}
-use Rattle.dspec_word.specs.SpecId.{Speculation}
+use Rattle.dspec_deeds.specs.Words.{Speculation, Config, Cpu, TraceFate, SpeculateFate, DecideFate, Deed, Trace, Speculate, Commit, Discard, Settle, Release, Halt, trace_stopped, spoken_stopped}
+use Rattle.dspec_deeds.specs.Words.{spoken_granted, decided_stopped, is_commit, is_discard, same_id, halted, is_halt, issue, releases, present, opened, opens, Verdict, undecided, committed}
+use Rattle.dspec_deeds.specs.Words.{discarded, verdict, ruling, latest, callers, calls_on, joined, is_sole, solo, solo_of, settled, settles, scan, scanned, opened_since, is_scan, opens_slot, owed}
+use Rattle.dspec_deeds.specs.Words.{author, releaser, same_actor, late, code_at, standing, word_at, ack, acks, issue_of, Facts, facts, SettlesAs, AnswersBy, FollowsBy, IsSound, HasAuthors}
+use Rattle.dspec_deeds.specs.Words.{common_traced, common_spoken, common_decided, common_deed, common_deeds, IsSameInCommon, AreSameInCommon, ShowsAlike}
 use Rattle.dspec_word.specs.declared.code.Code.TheVariants.{Inactive}
-use Rattle.dspec_deeds.specs.declared.config.Config.{Config}
-use Rattle.dspec_deeds.specs.declared.calls.Actor.TheVariants.{Cpu}
-use Rattle.dspec_deeds.specs.declared.deed.TraceFate.{TraceFate}
 use Rattle.dspec_deeds.specs.declared.deed.TraceFate.TheVariants as traced
-use Rattle.dspec_deeds.specs.declared.deed.SpeculateFate.{SpeculateFate}
 use Rattle.dspec_deeds.specs.declared.deed.SpeculateFate.TheVariants as spoken
-use Rattle.dspec_deeds.specs.declared.deed.DecideFate.{DecideFate}
 use Rattle.dspec_deeds.specs.declared.deed.DecideFate.TheVariants as decided
-use Rattle.dspec_deeds.specs.declared.deed.Deed.{Deed}
-use Rattle.dspec_deeds.specs.declared.deed.Deed.TheVariants.{Trace, Speculate, Commit, Discard, Settle, Release, Halt}
-use Rattle.dspec_deeds.specs.FateKinds.{trace_stopped, spoken_stopped, spoken_granted, decided_stopped, is_commit, is_discard}
-use Rattle.dspec_deeds.specs.History.{same_id, halted, is_halt, issue, releases, present, opened, opens, Verdict, undecided, committed, discarded, verdict}
-use Rattle.dspec_deeds.specs.History.{ruling, latest, callers, calls_on, joined, is_sole, solo, solo_of, settled, settles, scan, scanned, opened_since}
-use Rattle.dspec_deeds.specs.History.{is_scan, opens_slot, owed, author, releaser, same_actor, late, code_at, standing, word_at, ack, acks, issue_of}
-use Rattle.dspec_deeds.specs.Legal.{Facts, facts, SettlesAs, AnswersBy, FollowsBy, IsSound, HasAuthors}
-use Rattle.dspec_deeds.specs.CommonDeeds.{common_traced, common_spoken, common_decided, common_deed, common_deeds, IsSameInCommon, AreSameInCommon}
-use Rattle.dspec_deeds.specs.Weaving.{ShowsAlike}
 
 -- The tests of fates that the common part makes.
 

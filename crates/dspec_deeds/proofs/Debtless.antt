@@ -1,12 +1,7 @@
 -- What one caller discarded alone is the present speculation of its slot only until the release that is owed.
 use Rattle.std.proofs.Common.{◌≡◌, ℕ, suc, ◌≤◌, true, false, ◌&&◌, ◌==◌, if◌then◌else◌, List, [], ◌∷◌, refl, sym, ap, ◌∙◌, subst, ⊎_elim, arith, true≢false}
-use Rattle.dspec_word.specs.SpecId.{Speculation}
-use Rattle.dspec_deeds.specs.declared.config.Config.{Config}
-use Rattle.dspec_deeds.specs.declared.deed.Deed.{Deed}
-use Rattle.dspec_deeds.specs.declared.deed.Deed.TheVariants.{Opened, Speculate, Commit, Discard, Release}
-use Rattle.dspec_deeds.specs.FateKinds.{is_commit, is_discard}
-use Rattle.dspec_deeds.specs.History.{same_id, issue, present, opens, opened, undecided, committed, discarded, verdict, latest, is_undecided, callers, is_sole, owed}
-use Rattle.dspec_deeds.specs.Legal.{IsSound}
+use Rattle.dspec_deeds.specs.Words.{Speculation, Config, Deed, Opened, Speculate, Commit, Discard, Release, is_commit, is_discard, same_id, issue, present, opens, opened, undecided, committed}
+use Rattle.dspec_deeds.specs.Words.{discarded, verdict, latest, is_undecided, callers, is_sole, owed, IsSound}
 use Rattle.dspec_deeds.proofs.TestLemmas.{either_way, off, and_tells, or_tells, number_is_itself, same_id_tells}
 use Rattle.dspec_deeds.proofs.SoundLists.{unseen}
 use Rattle.dspec_deeds.proofs.PresentIds.{decided_given, decided_shut, later_unopened}

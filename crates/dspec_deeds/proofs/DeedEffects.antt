@@ -1,17 +1,10 @@
 -- What a deed does for a CPU: nothing, it offers a record, or it empties a speculative buffer.
 use Rattle.std.proofs.Common.{◌≡◌, ℕ, true, false, ◌==◌, List, [], ◌∷◌, length, Option, refl, sym, ◌∙◌, subst, ⊎_elim, true≢false, arith}
 use Rattle.dspec_record.specs.declared.field.Shape.{Shape}
-use Rattle.dspec_word.specs.SpecId.{Speculation}
-use Rattle.dspec_deeds.specs.declared.config.Config.{Config}
-use Rattle.dspec_deeds.specs.declared.deed.DecideFate.{DecideFate}
+use Rattle.dspec_deeds.specs.Words.{Speculation, Config, DecideFate, Deed, Trace, Speculate, Commit, Discard, Settle, Verdict, undecided, committed, ruled_out, verdict, empties, held, accepts}
+use Rattle.dspec_deeds.specs.Words.{SettlesAs, Follows, CpuLegal, IsAllowed, is_commit, is_discard, taken, dropped, first_fate}
 use Rattle.dspec_deeds.specs.declared.deed.DecideFate.TheVariants as decided
-use Rattle.dspec_deeds.specs.declared.deed.Deed.{Deed}
-use Rattle.dspec_deeds.specs.declared.deed.Deed.TheVariants.{Trace, Speculate, Commit, Discard, Settle}
-use Rattle.dspec_deeds.specs.History.{Verdict, undecided, committed, discarded as ruled_out, verdict}
-use Rattle.dspec_deeds.specs.Own.{empties, held, accepts}
-use Rattle.dspec_deeds.specs.Legal.{SettlesAs, Follows, CpuLegal, IsAllowed}
-use Rattle.dspec_deeds.specs.FateKinds.{is_commit, is_discard}
-use Rattle.dspec_deeds.specs.Fates.{taken, dropped, discarded, first_fate}
+use Rattle.dspec_deeds.specs.Fates.{discarded}
 use Rattle.dspec_deeds.proofs.TestLemmas.{either_way, same_number, number_is_itself}
 use Rattle.dspec_deeds.proofs.DeedOffers.{Effect, Empties, Idle, emptying, idle, offering, other_commit, other_discard, other_settle, other_speculate, other_trace, own_speculate, own_trace}
 

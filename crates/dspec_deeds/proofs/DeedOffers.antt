@@ -1,18 +1,10 @@
 -- What a deed does for a CPU: nothing, it offers a record, or it empties a speculative buffer; other CPUs' deeds, and the CPU's own offers.
 use Rattle.std.proofs.Common.{◌≡◌, ℕ, ◌+◌, Bool, false, ◌==◌, if◌then◌else◌, List, [], ◌∷◌, length, Option, None, Some, refl}
-use Rattle.dspec_record.specs.Record.{Record}
-use Rattle.dspec_word.specs.SpecId.{Speculation}
-use Rattle.dspec_deeds.specs.declared.deed.TraceFate.{TraceFate}
+use Rattle.dspec_deeds.specs.Words.{Record, Speculation, TraceFate, SpeculateFate, DecideFate, Deed, Trace, Speculate, Commit, Discard, Settle, same_id, Offer, offered_by, offers, empties, held}
+use Rattle.dspec_deeds.specs.Words.{accepts, accepts_now, traces_dropped_now, specdrops_now, loses_now, discards_now, voids_now, adds_now, Spoken, Fate, taken, waiting, first_fate, fate_by}
+use Rattle.dspec_deeds.specs.Words.{is_taken, is_dropped, is_discarded, is_void, is_waiting, offered_to}
 use Rattle.dspec_deeds.specs.declared.deed.TraceFate.TheVariants as traced
-use Rattle.dspec_deeds.specs.declared.deed.SpeculateFate.{SpeculateFate}
 use Rattle.dspec_deeds.specs.declared.deed.SpeculateFate.TheVariants as spoken
-use Rattle.dspec_deeds.specs.declared.deed.DecideFate.{DecideFate}
-use Rattle.dspec_deeds.specs.declared.deed.Deed.{Deed}
-use Rattle.dspec_deeds.specs.declared.deed.Deed.TheVariants.{Trace, Speculate, Commit, Discard, Settle}
-use Rattle.dspec_deeds.specs.History.{same_id}
-use Rattle.dspec_deeds.specs.Own.{Offer, offered_by, offers, empties, held, accepts}
-use Rattle.dspec_deeds.specs.Reports.{accepts_now, traces_dropped_now, specdrops_now, loses_now, discards_now, voids_now, adds_now, Spoken}
-use Rattle.dspec_deeds.specs.Fates.{Fate, taken, waiting, first_fate, fate_by, is_taken, is_dropped, is_discarded, is_void, is_waiting, offered_to}
 use Rattle.dspec_deeds.proofs.TestLemmas.{and_false, number_is_itself}
 
 -- the record that the CPU offers next

@@ -1,23 +1,14 @@
 -- What one deed more changes of what is read off a CPU's own deeds, and that another's deed leaves its report.
 use Rattle.std.proofs.Common.{◌≡◌, ℕ, ◌+◌, Bool, true, false, not, ◌&&◌, ◌||◌, ◌==◌, ◌++◌, List, [], ◌∷◌, length, Option, Some, None, if◌then◌else◌, arith, refl, sym, ap, ◌∙◌}
 use Rattle.std.specs.Prelude.{filter}
-use Rattle.dspec_word.specs.SpecId.{Speculation}
-use Rattle.dspec_deeds.specs.declared.config.Config.{Config}
-use Rattle.dspec_deeds.specs.declared.calls.Actor.TheVariants.{Cpu}
-use Rattle.dspec_deeds.specs.declared.deed.Deed.{Deed}
-use Rattle.dspec_deeds.specs.declared.deed.Deed.TheVariants.{Trace, Scan, Miss, Speculate, Commit, Discard, Settle, Seal}
-use Rattle.dspec_deeds.specs.FateKinds.{trace_kept, trace_dropped, trace_stopped, spoken_kept, spoken_dropped, spoken_nowhere, spoken_stopped}
-use Rattle.dspec_deeds.specs.FateKinds.{decided_stopped, is_commit, is_discard, is_copied, is_lost, count_of}
-use Rattle.dspec_deeds.specs.History.{same_actor, author, scanned, is_among, joined, calls_on, callers, settles, acks, issue_of}
-use Rattle.dspec_deeds.specs.Reports.{Spoken, total, one_if, accepts_now, traces_dropped_now, specdrops_now, loses_now, discards_now, voids_now}
-use Rattle.dspec_deeds.specs.Reports.{stops_now, adds_now, speculative, missed_busy, fails_now, busy_fails, other_fails, report}
-use Rattle.dspec_deeds.specs.Own.{contents, one_if_record, offered_by, is_call, seals_now, keeps, empties, held, dropped_after, accepts, active, empty_batch, is_drop}
-use Rattle.dspec_buffer.specs.Extent.{one, block}
+use Rattle.dspec_deeds.specs.Words.{Speculation, Config, Cpu, Deed, Trace, Scan, Miss, Speculate, Commit, Discard, Settle, Seal, trace_kept, trace_dropped, trace_stopped, spoken_kept}
+use Rattle.dspec_deeds.specs.Words.{spoken_dropped, spoken_nowhere, spoken_stopped, decided_stopped, is_commit, is_discard, is_copied, is_lost, count_of, same_actor, author, scanned, is_among}
+use Rattle.dspec_deeds.specs.Words.{joined, calls_on, callers, settles, acks, issue_of, Spoken, total, one_if, accepts_now, traces_dropped_now, specdrops_now, loses_now, discards_now, voids_now}
+use Rattle.dspec_deeds.specs.Words.{stops_now, adds_now, speculative, missed_busy, fails_now, busy_fails, other_fails, report, contents, one_if_record, offered_by, is_call, seals_now, keeps}
+use Rattle.dspec_deeds.specs.Words.{empties, held, dropped_after, accepts, active, empty_batch, is_drop, one, block, mark_after, ReadsApart, ReadsAlike}
 use Rattle.dspec_deeds.proofs.TestLemmas.{and_false, has_joined}
 use Rattle.dspec_deeds.proofs.StayingOwn.{offers_other}
 use Rattle.dspec_deeds.proofs.StayingOwn.{is_drop_other}
-use Rattle.dspec_deeds.specs.Marks.{mark_after}
-use Rattle.dspec_deeds.specs.Owning.{ReadsApart, ReadsAlike}
 
 -- one more caller
 also_called : (c : ℕ) (x : Option ℕ) (cs ds : List ℕ) → is_among c cs ≡ is_among c ds → is_among c (joined x cs) ≡ is_among c (joined x ds)

@@ -1,11 +1,6 @@
 -- What was dropped from a CPU's buffer of a speculation.
 use Rattle.std.proofs.Common.{◌≡◌, ℕ, ◌+◌, ◌≤◌, Bool, true, false, ◌&&◌, ◌==◌, List, [], ◌∷◌, if◌then◌else◌, refl, ap, arith}
-use Rattle.dspec_word.specs.SpecId.{Speculation}
-use Rattle.dspec_deeds.specs.declared.deed.Deed.{Deed}
-use Rattle.dspec_deeds.specs.declared.deed.Deed.TheVariants.{Speculate}
-use Rattle.dspec_deeds.specs.FateKinds.{spoken_granted, spoken_dropped}
-use Rattle.dspec_deeds.specs.Marks.{mark}
-use Rattle.dspec_deeds.specs.Own.{calls, dropped_in}
+use Rattle.dspec_deeds.specs.Words.{Speculation, Deed, Speculate, spoken_granted, spoken_dropped, mark, calls, dropped_in}
 use Rattle.dspec_deeds.proofs.TestLemmas.{numbers_differ, other_number}
 
 -- nothing was dropped of a speculation that isn't the one granted last of its slot

@@ -1,18 +1,10 @@
 -- Where a CPU's buffer of a speculation is empty.
 use Rattle.std.proofs.Common.{[], ◌≡◌, ◌≢◌, ◌⊎◌, ℕ, suc, ◌<◌, Bool, true, false, ◌&&◌, ◌==◌, if◌then◌else◌, List, ◌∷◌, Some, None, refl, sym, ap, ◌∙◌, subst, ⊎_elim, inl, inr, arith, true≢false}
 use Rattle.std.proofs.lemmas.Bool.Decides.{nat_tests}
-use Rattle.dspec_word.specs.SpecId.{Speculation}
-use Rattle.dspec_record.specs.Record.{Record}
-use Rattle.dspec_deeds.specs.declared.config.Config.{Config}
-use Rattle.dspec_deeds.specs.declared.deed.SpeculateFate.{SpeculateFate}
+use Rattle.dspec_deeds.specs.Words.{Speculation, Record, Config, SpeculateFate, Deed, Speculate, Commit, Discard, Settle, Release, spoken_granted, spoken_kept, is_commit, is_discard, same_id}
+use Rattle.dspec_deeds.specs.Words.{is_among, issue, releases, present, opened, Verdict, undecided, committed, discarded, verdict, ruling, latest, is_undecided, is_open, callers, joined, is_sole}
+use Rattle.dspec_deeds.specs.Words.{is_sole_or_none, solo, solo_of, settled, settles, Offer, keeps, empties, held, IsSound}
 use Rattle.dspec_deeds.specs.declared.deed.SpeculateFate.TheVariants as spoken
-use Rattle.dspec_deeds.specs.declared.deed.Deed.{Deed}
-use Rattle.dspec_deeds.specs.declared.deed.Deed.TheVariants.{Speculate, Commit, Discard, Settle, Release}
-use Rattle.dspec_deeds.specs.FateKinds.{spoken_granted, spoken_kept, is_commit, is_discard}
-use Rattle.dspec_deeds.specs.History.{same_id, is_among, issue, releases, present, opened, Verdict, undecided, committed, discarded, verdict}
-use Rattle.dspec_deeds.specs.History.{ruling, latest, is_undecided, is_open, callers, joined, is_sole, is_sole_or_none, solo, solo_of, settled, settles}
-use Rattle.dspec_deeds.specs.Own.{Offer, keeps, empties, held}
-use Rattle.dspec_deeds.specs.Legal.{IsSound}
 use Rattle.dspec_deeds.proofs.TestLemmas.{either_way, off, and_tells, and_false, or_none, or_tells, same_number, same_id_tells, has_joined}
 use Rattle.dspec_deeds.proofs.SoundLists.{unseen}
 use Rattle.dspec_deeds.proofs.PresentIds.{past_shut, decided_shut}

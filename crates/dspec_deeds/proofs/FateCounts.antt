@@ -2,12 +2,8 @@
 use Prim.Native.Nat.{zero, suc}
 use Rattle.std.proofs.Common.{◌≡◌, ℕ, ◌+◌, ◌<◌, Bool, true, false, ◌==◌, ltb as nat_lt, if◌then◌else◌, List, [], ◌∷◌, length, refl, ap, ◌∙◌, arith}
 use Rattle.std.proofs.lemmas.Bool.Decides.{nat_tests}
-use Rattle.dspec_record.specs.Record.{Record}
-use Rattle.dspec_word.specs.SpecId.{Speculation}
-use Rattle.dspec_deeds.specs.declared.deed.Deed.{Deed}
-use Rattle.dspec_deeds.specs.Own.{Offer, offers, held}
-use Rattle.dspec_deeds.specs.Reports.{total, accepts_now, traces_dropped_now, specdrops_now, loses_now, discards_now, voids_now}
-use Rattle.dspec_deeds.specs.Fates.{Fate, taken, waiting, fate, fates, fates_below, is_taken, is_dropped, is_discarded, is_void, is_waiting, times}
+use Rattle.dspec_deeds.specs.Words.{Record, Speculation, Deed, Offer, offers, held, total, accepts_now, traces_dropped_now, specdrops_now, loses_now, discards_now, voids_now, Fate, taken, waiting}
+use Rattle.dspec_deeds.specs.Words.{fate, fates, fates_below, is_taken, is_dropped, is_discarded, is_void, is_waiting, times}
 use Rattle.dspec_deeds.proofs.DeedOffers.{waits_for, Counts, Idle, Offers, Empties, Effect, idle, offering, emptying}
 use Rattle.dspec_deeds.proofs.DeedEffects.{Accounts}
 use Rattle.dspec_deeds.proofs.HeldOffers.{fate_idle, fate_offered, fate_earlier, fate_emptied, tally, emptied_gains, emptied_leaves, times_held}

@@ -3,23 +3,10 @@ use Rattle.std.proofs.Common.{◌≡◌, ℕ, ◌+◌, Bool, true, false, ◌&&�
 use Rattle.std.specs.Prelude.{nat_lt}
 use Rattle.std.proofs.lemmas.Bool.Decides.{nat_tests}
 use Rattle.dspec_record.specs.declared.field.Shape.{Shape}
-use Rattle.dspec_buffer.specs.Extent.{Piece, one, block, piece_fits}
-use Rattle.dspec_deeds.specs.declared.config.Config.{Config}
-use Rattle.dspec_record.specs.Record.{Record}
-use Rattle.dspec_word.specs.SpecId.{Speculation}
-use Rattle.dspec_deeds.specs.declared.deed.TraceFate.{TraceFate}
+use Rattle.dspec_deeds.specs.Words.{Piece, one, block, piece_fits, Config, Record, Speculation, TraceFate, DecideFate, Deed, Trace, Commit, Settle, Seal, is_fill, trace_stopped, is_commit, Offer}
+use Rattle.dspec_deeds.specs.Words.{contents, held, active, accepts, is_drop, full, growing, batches, seals, seals_now, IsOwn, is_empty, fits_principal, CpuLegal, IsFitting, total, one_if, drops_of}
 use Rattle.dspec_deeds.specs.declared.deed.TraceFate.TheVariants as traced
-use Rattle.dspec_deeds.specs.declared.deed.DecideFate.{DecideFate}
 use Rattle.dspec_deeds.specs.declared.deed.DecideFate.TheVariants as decided
-use Rattle.dspec_deeds.specs.declared.deed.Deed.{Deed}
-use Rattle.dspec_deeds.specs.declared.deed.Deed.TheVariants.{Trace, Commit, Settle, Seal}
-use Rattle.dspec_deeds.specs.Ranges.{is_fill}
-use Rattle.dspec_deeds.specs.FateKinds.{trace_stopped, is_commit}
-use Rattle.dspec_deeds.specs.Own.{Offer, contents, held, active, accepts, is_drop, full, growing, batches, seals, seals_now}
-use Rattle.dspec_deeds.specs.Owning.{IsOwn}
-use Rattle.dspec_deeds.specs.Legal.{is_empty, fits_principal, CpuLegal, IsFitting}
-use Rattle.dspec_deeds.specs.Reports.{total, one_if}
-use Rattle.dspec_deeds.specs.Rules.{drops_of}
 use Rattle.dspec_deeds.proofs.TestLemmas.{and_false, either_way, number_is_itself, same_number}
 use Rattle.dspec_deeds.proofs.ReportBounds.{fitting_fitted, active_within}
 use Rattle.dspec_deeds.proofs.WholeLists.{drops_add_up}

@@ -1,10 +1,7 @@
 -- The headline, of every legal list of deeds.
 use Rattle.std.proofs.Common.{ℕ, List, Option}
 use Rattle.dspec_record.specs.declared.field.Shape.{Shape}
-use Rattle.dspec_deeds.specs.declared.config.Config.{Config}
-use Rattle.dspec_deeds.specs.declared.deed.Deed.{Deed}
-use Rattle.dspec_deeds.specs.Legal.{IsAllowed}
-use Rattle.dspec_deeds.specs.Headline.{FateLaw, Headline}
+use Rattle.dspec_deeds.specs.Words.{Config, Deed, IsAllowed, FateLaw, Headline}
 use Rattle.dspec_deeds.proofs.DeedEffects.{Accounts, legal_accounts}
 use Rattle.dspec_deeds.proofs.Prefixes.{prefix_law}
 use Rattle.dspec_deeds.proofs.HeldOffers.{fate_within, times_taken}

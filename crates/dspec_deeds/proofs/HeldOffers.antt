@@ -2,12 +2,9 @@
 use Rattle.std.proofs.Common.{◌≡◌, ℕ, ◌+◌, ◌≤◌, ◌<◌, Bool, true, false, ◌==◌, if◌then◌else◌, List, [], ◌∷◌, ◌++◌, Option, None, Some, IsSome, refl, sym, ap, ◌∙◌, subst, ⊎_elim, arith, true≢false}
 use Rattle.std.specs.Option.{option_map}
 use Rattle.std.proofs.lemmas.Bool.Decides.{nat_tests}
-use Rattle.dspec_record.specs.Record.{Record}
-use Rattle.dspec_word.specs.SpecId.{Speculation}
-use Rattle.dspec_deeds.specs.declared.deed.Deed.{Deed}
-use Rattle.dspec_deeds.specs.History.{same_id}
-use Rattle.dspec_deeds.specs.Own.{Offer, offered_by, offers, empties, held, accepted}
-use Rattle.dspec_deeds.specs.Fates.{Fate, taken, dropped, discarded, void, waiting, next_fate, fate, is_taken, is_waiting, has_fate, times}
+use Rattle.dspec_deeds.specs.Words.{Record, Speculation, Deed, same_id, Offer, offered_by, offers, empties, held, accepted, Fate, taken, dropped, void, waiting, next_fate, fate, is_taken}
+use Rattle.dspec_deeds.specs.Words.{is_waiting, has_fate, times}
+use Rattle.dspec_deeds.specs.Fates.{discarded}
 use Rattle.dspec_deeds.proofs.TestLemmas.{either_way, same_id_tells, number_is_itself, same_number}
 use Rattle.dspec_deeds.proofs.DeedOffers.{waits_for, next_offer, Idle, Offers, Empties, Effect, idle, offering, emptying}
 use Rattle.dspec_deeds.proofs.DeedEffects.{Accounts}

@@ -1,15 +1,8 @@
 -- The mark of a slot tells of its present speculation whether the CPU is a caller.
 use Rattle.std.proofs.Common.{◌≡◌, ℕ, suc, ◌+◌, ◌≤◌, Bool, true, false, ◌&&◌, ◌==◌, List, [], ◌∷◌, Some, None, if◌then◌else◌, refl, sym, ap, ◌∙◌, subst, ⊎_elim, arith, true≢false}
 use Rattle.std.proofs.lemmas.Bool.Decides.{nat_tests}
-use Rattle.dspec_word.specs.SpecId.{Speculation}
-use Rattle.dspec_deeds.specs.declared.config.Config.{Config}
-use Rattle.dspec_deeds.specs.declared.deed.Deed.{Deed}
-use Rattle.dspec_deeds.specs.declared.deed.Deed.TheVariants.{Trace, Scan, Opened, Miss, Speculate, Commit, Discard, Settle, Seal, Release, Halt}
-use Rattle.dspec_deeds.specs.declared.calls.Actor.TheVariants.{Cpu}
-use Rattle.dspec_deeds.specs.FateKinds.{spoken_granted, spoken_stopped}
-use Rattle.dspec_deeds.specs.History.{same_id, is_among, issue, present, opened, is_open, callers, joined, same_actor, author, part}
-use Rattle.dspec_deeds.specs.Marks.{mark, mark_after}
-use Rattle.dspec_deeds.specs.Legal.{IsSound}
+use Rattle.dspec_deeds.specs.Words.{Speculation, Config, Deed, Trace, Scan, Opened, Miss, Speculate, Commit, Discard, Settle, Seal, Release, Halt, Cpu, spoken_granted, spoken_stopped, same_id}
+use Rattle.dspec_deeds.specs.Words.{is_among, issue, present, opened, is_open, callers, joined, same_actor, author, part, mark, mark_after, IsSound}
 use Rattle.dspec_deeds.proofs.TestLemmas.{either_way, off, and_tells, same_number, number_is_itself, other_number, id_is_itself, has_joined}
 use Rattle.dspec_deeds.proofs.SoundLists.{granted_goes, answered_open, unseen, opened_by_now}
 use Rattle.dspec_deeds.proofs.PresentIds.{open_is_present}

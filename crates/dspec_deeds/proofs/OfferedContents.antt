@@ -2,12 +2,7 @@
 use Rattle.std.proofs.Common.{◌≡◌, ℕ, ◌<◌, Bool, true, false, ◌==◌, if◌then◌else◌, List, [], ◌∷◌, ◌++◌, Option, None, Some, refl, arith}
 use Rattle.std.specs.List.{AllByRecursion}
 use Rattle.std.proofs.lemmas.Bool.Decides.{nat_tests}
-use Rattle.dspec_record.specs.Record.{Record}
-use Rattle.dspec_word.specs.SpecId.{Speculation}
-use Rattle.dspec_deeds.specs.declared.deed.Deed.{Deed}
-use Rattle.dspec_deeds.specs.History.{same_id}
-use Rattle.dspec_deeds.specs.Own.{Offer, offered_by, offers, held, accepts, accepted}
-use Rattle.dspec_deeds.specs.Fates.{is_taken, content_of}
+use Rattle.dspec_deeds.specs.Words.{Record, Speculation, Deed, same_id, Offer, offered_by, offers, held, accepts, accepted, is_taken, content_of}
 use Rattle.dspec_deeds.proofs.TestLemmas.{number_is_itself}
 use Rattle.dspec_deeds.proofs.DeedOffers.{waits_for, next_offer, Effect, idle, offering, emptying}
 use Rattle.dspec_deeds.proofs.DeedEffects.{Accounts}

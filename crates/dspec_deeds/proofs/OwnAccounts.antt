@@ -1,22 +1,12 @@
 -- A CPU's own list accounts for its records: its report balances, each count is at most the calls, and each record has one fate.
 use Rattle.std.proofs.Common.{◌≡◌, ℕ, true, false, if◌then◌else◌, List, [], ◌∷◌, Option, refl, sym, ◌∙◌, subst, ⊎_elim}
 use Rattle.dspec_record.specs.declared.field.Shape.{Shape}
-use Rattle.dspec_deeds.specs.declared.config.Config.{Config}
-use Rattle.dspec_deeds.specs.declared.calls.Actor.TheVariants.{Cpu}
-use Rattle.dspec_deeds.specs.declared.deed.Deed.{Deed}
-use Rattle.dspec_deeds.specs.declared.deed.Deed.TheVariants.{Miss, Release}
-use Rattle.dspec_deeds.specs.History.{same_actor, author, part, scan}
-use Rattle.dspec_deeds.specs.Own.{calls}
-use Rattle.dspec_deeds.specs.Reports.{report, CountsWithin}
-use Rattle.dspec_deeds.specs.Headline.{FateLaw}
-use Rattle.dspec_deeds.specs.Legal.{IsSound, is_seal}
+use Rattle.dspec_deeds.specs.Words.{Config, Cpu, Deed, Miss, Release, same_actor, author, part, scan, calls, report, CountsWithin, FateLaw, IsSound, is_seal, CpuRow, IsOwn, bare}
 use Rattle.dspec_deeds.proofs.TestLemmas.{either_way, same_number}
 use Rattle.dspec_deeds.proofs.DeedOffers.{Effect, idle}
 use Rattle.dspec_deeds.proofs.DeedEffects.{effect, IsDecisive, decisive, Accounts}
 use Rattle.dspec_deeds.proofs.ReportBounds.{counts_within, IsScanned, AreScanned, IsFitted, AreFitted}
 use Rattle.dspec_deeds.proofs.Headlines.{accounts_fate_law}
-use Rattle.dspec_deeds.specs.Owning.{CpuRow, IsOwn}
-use Rattle.dspec_deeds.specs.Weaving.{bare}
 use Rattle.dspec_deeds.proofs.BareReads.{seal_is}
 use Rattle.dspec_deeds.proofs.OwnReads.{reads, apart_bare}
 

@@ -2,17 +2,10 @@
 use Rattle.std.proofs.Common.{◌≡◌, ◌<◌, ℕ, Bool, true, false, if◌then◌else◌, List, [], ◌∷◌, Option, refl, sym, ap, ◌∙◌, subst, ⊎_elim, true≢false}
 use Rattle.std.specs.Prelude.{MatchBool, map, length}
 use Rattle.dspec_record.specs.declared.field.Shape.{Shape}
-use Rattle.dspec_buffer.specs.Extent.{one, piece_fits}
-use Rattle.dspec_deeds.specs.declared.config.Config.{Config}
-use Rattle.dspec_deeds.specs.declared.calls.Actor.TheVariants.{Cpu}
-use Rattle.dspec_deeds.specs.declared.deed.Deed.{Deed}
-use Rattle.dspec_deeds.specs.declared.deed.Deed.TheVariants.{Trace, Speculate, Commit, Discard, Settle, Seal, Release, Halt}
-use Rattle.dspec_deeds.specs.FateKinds.{trace_stopped, trace_kept, spoken_granted, spoken_kept, is_commit, is_discard, is_copied, count_of}
-use Rattle.dspec_deeds.specs.History.{same_actor, author, part, scan}
-use Rattle.dspec_deeds.specs.Own.{Offer, contents, held, seals}
-use Rattle.dspec_deeds.specs.Legal.{HasAuthors, CpuLegal, IsFitting}
+use Rattle.dspec_deeds.specs.Words.{one, piece_fits, Config, Cpu, Deed, Trace, Speculate, Commit, Discard, Settle, Seal, Release, Halt, trace_stopped, trace_kept, spoken_granted, spoken_kept}
+use Rattle.dspec_deeds.specs.Words.{is_commit, is_discard, is_copied, count_of, same_actor, author, part, scan, Offer, contents, held, seals, HasAuthors, CpuLegal, IsFitting, is_of, CpuRow, IsOwn}
+use Rattle.dspec_deeds.specs.Words.{ReadsAlike}
 use Rattle.dspec_deeds.proofs.TestLemmas.{either_way, same_actor_tells, cpu_is_itself, number_is_itself, same_number}
-use Rattle.dspec_deeds.specs.Owning.{is_of, CpuRow, IsOwn, ReadsAlike}
 use Rattle.dspec_deeds.proofs.OwnReads.{alike_back, fits_alike, block_alike, reads}
 
 -- what a CPU does names it, or is a Release

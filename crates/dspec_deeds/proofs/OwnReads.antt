@@ -1,22 +1,11 @@
 -- What is read off a CPU's own deeds.
 use Rattle.std.proofs.Common.{◌≡◌, ℕ, suc, true, false, not, ◌&&◌, ◌||◌, List, [], ◌∷◌, Option, arith, refl, sym, ap, ◌∙◌, subst, ⊎_elim}
-use Rattle.dspec_word.specs.SpecId.{Speculation}
-use Rattle.dspec_deeds.specs.declared.config.Config.{Config}
-use Rattle.dspec_deeds.specs.declared.calls.Actor.TheVariants.{Cpu}
-use Rattle.dspec_deeds.specs.declared.deed.Deed.{Deed}
-use Rattle.dspec_deeds.specs.declared.deed.Deed.TheVariants.{Seal}
-use Rattle.dspec_deeds.specs.History.{same_actor, author, part, acks}
-use Rattle.dspec_deeds.specs.Own.{contents, held}
+use Rattle.dspec_deeds.specs.Words.{Speculation, Config, Cpu, Deed, Seal, same_actor, author, part, acks, contents, held, Piece, one, block, piece_fits, is_fill, is_seal, is_empty, fits_principal}
+use Rattle.dspec_deeds.specs.Words.{mark, ReadsApart, ReadsAlike, bare}
 use Rattle.dspec_record.specs.declared.field.Shape.{Shape}
-use Rattle.dspec_buffer.specs.Extent.{Piece, one, block, piece_fits}
 use Rattle.dspec_deeds.proofs.TestLemmas.{either_way, other_number}
 use Rattle.dspec_deeds.proofs.StayingOwn.{scan_other, held_other, dropped_other, offers_other, calls_other, accepted_other, seals_other, active_other, growing_other}
 use Rattle.dspec_deeds.proofs.StayingOwn.{batches_other, full_other, has_other, settled_other, ack_other, missed_other}
-use Rattle.dspec_deeds.specs.Ranges.{is_fill}
-use Rattle.dspec_deeds.specs.Legal.{is_seal, is_empty, fits_principal}
-use Rattle.dspec_deeds.specs.Marks.{mark}
-use Rattle.dspec_deeds.specs.Owning.{ReadsApart, ReadsAlike}
-use Rattle.dspec_deeds.specs.Weaving.{bare}
 use Rattle.dspec_deeds.proofs.BareReads.{seal_is}
 use Rattle.dspec_deeds.proofs.Marks.{mark_other}
 use Rattle.dspec_deeds.proofs.DeedReads.{alike_on, apart_on, counts_nowhere, nothing_apart, report_other}

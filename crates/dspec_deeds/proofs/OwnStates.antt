@@ -1,18 +1,7 @@
 -- A CPU's own list tells what its side shows, and what it holds of each slot's present speculation.
 use Rattle.std.proofs.Common.{◌≡◌, ℕ, ◌+◌, ◌-◌, ◌<◌, true, false, ◌==◌, List, [], refl, sym, ap, ◌∙◌, subst, ⊎_elim, arith}
 use Rattle.std.specs.Prelude.{reverse}
-use Rattle.dspec_word.specs.SpecId.{Speculation}
-use Rattle.dspec_deeds.specs.declared.config.Config.{Config}
-use Rattle.dspec_deeds.specs.declared.config.Policy.TheVariants.{Switch}
-use Rattle.dspec_deeds.specs.declared.calls.Actor.TheVariants.{Cpu}
-use Rattle.dspec_deeds.specs.declared.deed.Deed.{Deed}
-use Rattle.dspec_deeds.specs.History.{part, issue, present}
-use Rattle.dspec_deeds.specs.Own.{contents, dropped_in, held}
-use Rattle.dspec_deeds.specs.Legal.{IsSound}
-use Rattle.dspec_deeds.specs.Marks.{mark}
-use Rattle.dspec_deeds.specs.CpuShown.{last_called, own_side, TellsPresent}
-use Rattle.dspec_deeds.specs.Owning.{ReadsApart}
-use Rattle.dspec_deeds.specs.Weaving.{bare}
+use Rattle.dspec_deeds.specs.Words.{Speculation, Config, Switch, Cpu, Deed, part, issue, present, contents, dropped_in, held, IsSound, mark, last_called, own_side, TellsPresent, ReadsApart, bare}
 use Rattle.dspec_deeds.proofs.TestLemmas.{either_way, same_number, other_number, numbers_differ}
 use Rattle.dspec_deeds.proofs.Emptied.{callers_hold, past_empty}
 use Rattle.dspec_deeds.proofs.Marks.{mark_tells}

@@ -1,15 +1,9 @@
 -- A list whose Seals are placed is legal, where it is without them and each CPU's own list is.
 use Rattle.std.proofs.Common.{◌≡◌, ◌⊎◌, ℕ, ◌<◌, true, false, if◌then◌else◌, List, [], ◌∷◌, Option, refl, sym, ap, ◌∙◌, subst, ⊎_elim, inl, inr, true≢false}
 use Rattle.dspec_record.specs.declared.field.Shape.{Shape}
-use Rattle.dspec_deeds.specs.declared.config.Config.{Config}
-use Rattle.dspec_deeds.specs.declared.calls.Actor.TheVariants.{Cpu}
-use Rattle.dspec_deeds.specs.declared.deed.Deed.{Deed}
-use Rattle.dspec_deeds.specs.declared.deed.Deed.TheVariants.{Discard, Seal, Release, Halt}
-use Rattle.dspec_deeds.specs.History.{halted, is_halt, late, owed, author, part}
-use Rattle.dspec_deeds.specs.Legal.{HasAuthors, CpuLegal, IsSound, IsFitting, IsAllowed, is_seal, sealed_last}
+use Rattle.dspec_deeds.specs.Words.{Config, Cpu, Deed, Discard, Seal, Release, Halt, halted, is_halt, late, owed, author, part, HasAuthors, CpuLegal, IsSound, IsFitting, IsAllowed, is_seal}
+use Rattle.dspec_deeds.specs.Words.{sealed_last, IsOwn, bare, IsLastOf, MayStand, IsPlaced, ArePlaced}
 use Rattle.dspec_deeds.proofs.TestLemmas.{either_way, off, number_is_itself, cpu_is_itself, or_true}
-use Rattle.dspec_deeds.specs.Owning.{IsOwn}
-use Rattle.dspec_deeds.specs.Weaving.{bare, IsLastOf, MayStand, IsPlaced, ArePlaced}
 use Rattle.dspec_deeds.proofs.OwnParts.{fitting_of_own}
 use Rattle.dspec_deeds.proofs.BareReads.{seal_is, halted_bare, author_bare}
 use Rattle.dspec_deeds.proofs.BareSound.{IsNoLater, MayPut, ArePut, owed_bare, sound_with_seals}

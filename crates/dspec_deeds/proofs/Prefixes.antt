@@ -1,10 +1,7 @@
 -- What was taken from a CPU is a prefix of what its principal buffers accepted.
 use Rattle.std.proofs.Common.{◌≡◌, ℕ, Bool, true, false, List, [], ◌∷◌, ◌++◌, reverse, take, drop, refl, sym, ap, ◌∙◌, append_assoc, true≢false}
 use Rattle.std.proofs.lemmas.List.{reverse-append, append-nil, take-append-drop}
-use Rattle.dspec_deeds.specs.declared.deed.Deed.{Deed}
-use Rattle.dspec_deeds.specs.declared.deed.Deed.TheVariants.{Seal}
-use Rattle.dspec_deeds.specs.Own.{Offer, contents, accepts, accepted, stream, seals_now, Batch, growing, batches, batch_records}
-use Rattle.dspec_deeds.specs.Headline.{PrefixLaw}
+use Rattle.dspec_deeds.specs.Words.{Deed, Seal, Offer, contents, accepts, accepted, stream, seals_now, Batch, growing, batches, batch_records, PrefixLaw}
 
 -- the offers of batches, the latest first
 abbrev batch_offers : List Batch → List Offer

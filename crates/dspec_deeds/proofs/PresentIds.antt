@@ -1,12 +1,8 @@
 -- Only the present speculation of a slot can be open.
 use Rattle.std.proofs.Common.{◌≡◌, ◌≢◌, suc, ◌<◌, Bool, true, false, ◌&&◌, ◌==◌, List, [], ◌∷◌, if◌then◌else◌, refl, sym, ap, ◌∙◌, subst, ⊎_elim, arith, true≢false}
 use Rattle.std.proofs.lemmas.Bool.Decides.{nat_tests}
-use Rattle.dspec_word.specs.SpecId.{Speculation}
-use Rattle.dspec_deeds.specs.declared.config.Config.{Config}
-use Rattle.dspec_deeds.specs.declared.deed.Deed.{Deed}
-use Rattle.dspec_deeds.specs.declared.deed.Deed.TheVariants.{Opened, Release}
-use Rattle.dspec_deeds.specs.History.{same_id, issue, releases, present, opens, opened, Verdict, undecided, committed, discarded, verdict, ruling, latest, is_undecided, is_open}
-use Rattle.dspec_deeds.specs.Legal.{IsSound}
+use Rattle.dspec_deeds.specs.Words.{Speculation, Config, Deed, Opened, Release, same_id, issue, releases, present, opens, opened, Verdict, undecided, committed, discarded, verdict, ruling, latest}
+use Rattle.dspec_deeds.specs.Words.{is_undecided, is_open, IsSound}
 use Rattle.dspec_deeds.proofs.TestLemmas.{either_way, off, and_tells, same_number, same_id_tells}
 use Rattle.dspec_deeds.proofs.SoundLists.{opened_by_now, unseen}
 

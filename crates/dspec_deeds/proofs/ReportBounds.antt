@@ -3,19 +3,12 @@ use Rattle.std.proofs.Common.{◌≡◌, ℕ, ◌+◌, ◌≤◌, ◌<◌, Bool,
 use Rattle.std.proofs.Common.{List, [], ◌∷◌, length, Option, None, Some, refl, sym, ◌∙◌, subst, ⊎_elim, arith, true≢false}
 use Rattle.std.proofs.lemmas.Bool.Decides.{nat_tests}
 use Rattle.dspec_record.specs.declared.field.Shape.{Shape}
-use Rattle.dspec_word.specs.SpecId.{Speculation}
-use Rattle.dspec_buffer.specs.Extent.{Piece, one, block, extent, piece_fits}
-use Rattle.dspec_deeds.specs.declared.config.Config.{Config}
+use Rattle.dspec_deeds.specs.Words.{Speculation, Piece, one, block, extent, piece_fits, Config, DecideFate, Deed, Trace, Scan, Opened, Miss, Speculate, Commit, Discard, Settle, Seal, Release}
+use Rattle.dspec_deeds.specs.Words.{trace_stopped, spoken_stopped, decided_stopped, is_copied, scan, scanned, Offer, contents, offered_by, one_if_record, offers, is_call, calls, held, active}
+use Rattle.dspec_deeds.specs.Words.{is_drop, seals, is_empty, is_closed, fits_principal, IsSound, CpuLegal, IsFitting, CopiesOrLoses, IsAllowed, total, one_if, traces_dropped_now, loses_now}
+use Rattle.dspec_deeds.specs.Words.{stops_now, fails_now, missed_busy, busy_fails, other_fails, report, CountsWithin}
 use Rattle.dspec_deeds.specs.declared.deed.TraceFate.TheVariants as traced
-use Rattle.dspec_deeds.specs.declared.deed.DecideFate.{DecideFate}
 use Rattle.dspec_deeds.specs.declared.deed.DecideFate.TheVariants as decided
-use Rattle.dspec_deeds.specs.declared.deed.Deed.{Deed}
-use Rattle.dspec_deeds.specs.declared.deed.Deed.TheVariants.{Trace, Scan, Opened, Miss, Speculate, Commit, Discard, Settle, Seal, Release}
-use Rattle.dspec_deeds.specs.FateKinds.{trace_stopped, spoken_stopped, decided_stopped, is_copied}
-use Rattle.dspec_deeds.specs.History.{scan, scanned}
-use Rattle.dspec_deeds.specs.Own.{Offer, contents, offered_by, one_if_record, offers, is_call, calls, held, active, is_drop, seals}
-use Rattle.dspec_deeds.specs.Legal.{is_empty, is_closed, fits_principal, IsSound, CpuLegal, IsFitting, CopiesOrLoses, IsAllowed}
-use Rattle.dspec_deeds.specs.Reports.{total, one_if, traces_dropped_now, loses_now, stops_now, fails_now, missed_busy, busy_fails, other_fails, report, CountsWithin}
 use Rattle.dspec_deeds.proofs.TestLemmas.{either_way, and_tells, and_false, same_number}
 use Rattle.dspec_deeds.proofs.DeedEffects.{Accounts, legal_accounts}
 use Rattle.dspec_deeds.proofs.Balance.{balance}

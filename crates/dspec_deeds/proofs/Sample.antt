@@ -1,20 +1,11 @@
 -- The laws at one small history: they ask for nothing that cannot be, and Seals come where they are to come.
 use Rattle.std.proofs.Common.{◌≡◌, ◌<◌, ℕ, zero, suc, true, List, [], ◌∷◌, Option, None, refl, subst, inl, inr, arith}
 use Rattle.dspec_record.specs.declared.field.Shape.{Shape}
-use Rattle.dspec_record.specs.Record.{Record}
-use Rattle.dspec_word.specs.SpecId.{Speculation}
-use Rattle.dspec_deeds.specs.declared.config.Config.{Config}
-use Rattle.dspec_deeds.specs.declared.config.Policy.TheVariants.{Switch}
-use Rattle.dspec_deeds.specs.declared.calls.Actor.TheVariants.{Cpu}
+use Rattle.dspec_deeds.specs.Words.{Record, Speculation, Config, Switch, Cpu, Deed, Trace, Scan, Opened, Speculate, Discard, Seal, Release, part, scan, HasAuthors, IsSound, IsLegal, IsOwn, bare}
+use Rattle.dspec_deeds.specs.Words.{woven, HaveLists}
 use Rattle.dspec_deeds.specs.declared.deed.TraceFate.TheVariants as traced
 use Rattle.dspec_deeds.specs.declared.deed.SpeculateFate.TheVariants as spoken
 use Rattle.dspec_deeds.specs.declared.deed.DecideFate.TheVariants as decided
-use Rattle.dspec_deeds.specs.declared.deed.Deed.{Deed}
-use Rattle.dspec_deeds.specs.declared.deed.Deed.TheVariants.{Trace, Scan, Opened, Speculate, Discard, Seal, Release}
-use Rattle.dspec_deeds.specs.History.{part, scan}
-use Rattle.dspec_deeds.specs.Legal.{HasAuthors, IsSound, IsLegal}
-use Rattle.dspec_deeds.specs.Owning.{IsOwn}
-use Rattle.dspec_deeds.specs.Weaving.{bare, woven, HaveLists}
 use Rattle.dspec_deeds.proofs.WovenLists.{weaves}
 
 abbrev k : Config

@@ -1,15 +1,8 @@
 -- Seals of one CPU put on top of a list.
 use Rattle.std.proofs.Common.{◌≡◌, ℕ, zero, suc, ◌≤◌, ◌<◌, true, false, ◌==◌, if◌then◌else◌, List, [], ◌∷◌, ◌++◌, refl, sym, ap, ◌∙◌, subst, ⊎_elim, inl, inr, arith}
 use Rattle.std.proofs.lemmas.Bool.Decides.{nat_tests}
-use Rattle.dspec_deeds.specs.declared.config.Config.{Config}
-use Rattle.dspec_deeds.specs.declared.calls.Actor.{Actor}
-use Rattle.dspec_deeds.specs.declared.calls.Actor.TheVariants.{Cpu, Consumer}
-use Rattle.dspec_deeds.specs.declared.deed.Deed.{Deed}
-use Rattle.dspec_deeds.specs.declared.deed.Deed.TheVariants.{Seal}
-use Rattle.dspec_deeds.specs.History.{author, part, same_actor}
+use Rattle.dspec_deeds.specs.Words.{Config, Actor, Cpu, Consumer, Deed, Seal, author, part, same_actor, HasAuthors, bare, front, MayStand, IsPlaced, ArePlaced}
 use Rattle.dspec_deeds.proofs.TestLemmas.{either_way, same_number, number_is_itself, other_number}
-use Rattle.dspec_deeds.specs.Legal.{HasAuthors}
-use Rattle.dspec_deeds.specs.Weaving.{bare, front, MayStand, IsPlaced, ArePlaced}
 
 -- all are Seals of the CPU
 abbrev pub AreSeals : ℕ → List Deed → Type 0

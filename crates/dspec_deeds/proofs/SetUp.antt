@@ -2,10 +2,7 @@
 use Rattle.std.proofs.Common.{◌≡◌, ℕ, ◌≤◌, Bool, true, false, not, Option, Some, None, if◌then◌else◌, refl, arith}
 use Rattle.std.specs.Prelude.{nat_le}
 use Rattle.std.proofs.lemmas.Bool.Decides.{nat_tests}
-use Rattle.dspec_deeds.specs.declared.config.Config.{Config}
-use Rattle.dspec_deeds.specs.declared.config.StartFault.{StartFault}
-use Rattle.dspec_deeds.specs.declared.config.StartFault.TheVariants.{Cpus, Specs}
-use Rattle.dspec_deeds.specs.Ranges.{is_between, start_fault}
+use Rattle.dspec_deeds.specs.Words.{Config, StartFault, Cpus, Specs, is_between, start_fault}
 use Rattle.dspec_deeds.proofs.TestLemmas.{and_tells}
 
 passed : (b : Bool) (x : StartFault) (rest : Option StartFault) → (if not b then Some x else rest) ≡ None → (b ≡ true) × (rest ≡ None)

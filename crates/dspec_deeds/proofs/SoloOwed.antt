@@ -1,18 +1,10 @@
 -- A Release that is owed is its decider's own.
 use Rattle.std.proofs.Common.{◌≡◌, ◌⊎◌, ℕ, true, false, ◌&&◌, if◌then◌else◌, List, [], ◌∷◌, Some, None, refl, sym, ap, ◌∙◌, subst, ⊎_elim, inl, inr}
-use Rattle.dspec_word.specs.SpecId.{Speculation}
-use Rattle.dspec_deeds.specs.declared.config.Config.{Config}
-use Rattle.dspec_deeds.specs.declared.calls.Actor.TheVariants.{Cpu}
-use Rattle.dspec_deeds.specs.declared.deed.DecideFate.{DecideFate}
-use Rattle.dspec_deeds.specs.declared.deed.Deed.{Deed}
-use Rattle.dspec_deeds.specs.declared.deed.Deed.TheVariants.{Discard, Release}
-use Rattle.dspec_deeds.specs.FateKinds.{is_discard, decided_stopped}
-use Rattle.dspec_deeds.specs.History.{author, releaser, owed, present, solo, solo_of, verdict, discarded, callers, is_sole, is_open}
-use Rattle.dspec_deeds.specs.Legal.{IsSound}
+use Rattle.dspec_deeds.specs.Words.{Speculation, Config, Cpu, DecideFate, Deed, Discard, Release, is_discard, decided_stopped, author, releaser, owed, present, solo, solo_of, verdict, discarded}
+use Rattle.dspec_deeds.specs.Words.{callers, is_sole, is_open, IsSound, IsLastOf}
 use Rattle.dspec_deeds.proofs.TestLemmas.{either_way, and_tells, id_is_itself}
 use Rattle.dspec_deeds.proofs.SoundLists.{answered_open, discard_goes}
 use Rattle.dspec_deeds.proofs.PresentIds.{open_is_now, present_is}
-use Rattle.dspec_deeds.specs.Weaving.{IsLastOf}
 
 -- the Release of a slot, by the CPU that did the deed before it
 abbrev pub IsOwnRelease : Deed → List Deed → Type 0

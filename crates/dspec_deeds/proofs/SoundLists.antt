@@ -1,17 +1,10 @@
 -- What a legal list keeps.
 use Rattle.std.proofs.Common.{◌≡◌, ℕ, ◌+◌, ◌≤◌, Bool, true, false, ◌&&◌, ◌==◌, List, [], ◌∷◌, if◌then◌else◌, refl, sym, ◌∙◌, subst, ⊎_elim, arith, true≢false}
 use Rattle.std.proofs.lemmas.Bool.Decides.{nat_tests}
-use Rattle.dspec_word.specs.SpecId.{Speculation}
-use Rattle.dspec_deeds.specs.declared.config.Config.{Config}
-use Rattle.dspec_deeds.specs.declared.deed.SpeculateFate.{SpeculateFate}
+use Rattle.dspec_deeds.specs.Words.{Speculation, Config, SpeculateFate, DecideFate, Deed, Scan, Opened, Miss, Speculate, Commit, Discard, spoken_granted, spoken_stopped, is_commit, is_discard}
+use Rattle.dspec_deeds.specs.Words.{decided_stopped, same_id, halted, issue, releases, opens, opened, verdict, undecided, is_undecided, is_open, callers, scan, late, is_halt, StopsOrActs, IsSound}
 use Rattle.dspec_deeds.specs.declared.deed.SpeculateFate.TheVariants as spoken
-use Rattle.dspec_deeds.specs.declared.deed.DecideFate.{DecideFate}
 use Rattle.dspec_deeds.specs.declared.deed.DecideFate.TheVariants as decided
-use Rattle.dspec_deeds.specs.declared.deed.Deed.{Deed}
-use Rattle.dspec_deeds.specs.declared.deed.Deed.TheVariants.{Scan, Opened, Miss, Speculate, Commit, Discard}
-use Rattle.dspec_deeds.specs.FateKinds.{spoken_granted, spoken_stopped, is_commit, is_discard, decided_stopped}
-use Rattle.dspec_deeds.specs.History.{same_id, halted, issue, releases, opens, opened, verdict, undecided, is_undecided, is_open, callers, scan, late, is_halt}
-use Rattle.dspec_deeds.specs.Legal.{StopsOrActs, IsSound}
 use Rattle.dspec_deeds.proofs.TestLemmas.{either_way, off, and_tells, or_none, or_tells, same_id_tells}
 
 -- a granted record was not stopped

@@ -1,13 +1,8 @@
 -- The records in all of a CPU's speculative buffers, and those in one of them.
 use Rattle.std.proofs.Common.{◌≡◌, ℕ, ◌+◌, Bool, true, false, not, if◌then◌else◌, List, [], ◌∷◌, ◌++◌, length, refl, sym, ap, ◌∙◌, subst, arith}
 use Rattle.std.specs.List.{filter}
-use Rattle.dspec_record.specs.Record.{Record}
-use Rattle.dspec_word.specs.SpecId.{Speculation}
-use Rattle.dspec_deeds.specs.declared.deed.Deed.{Deed}
-use Rattle.dspec_deeds.specs.History.{same_id}
-use Rattle.dspec_deeds.specs.Own.{Offer, empties, held}
-use Rattle.dspec_deeds.specs.Reports.{Spoken, speculative}
-use Rattle.dspec_deeds.specs.Fates.{Fate, taken, dropped, discarded, void, waiting, fates, is_waiting}
+use Rattle.dspec_deeds.specs.Words.{Record, Speculation, Deed, same_id, Offer, empties, held, Spoken, speculative, Fate, taken, dropped, void, waiting, fates, is_waiting}
+use Rattle.dspec_deeds.specs.Fates.{discarded}
 use Rattle.dspec_deeds.proofs.TestLemmas.{same_id_tells}
 use Rattle.dspec_deeds.proofs.DeedOffers.{waits_for, spoken_as, next_offer, Idle, Offers, Empties, Effect, idle, offering, emptying}
 use Rattle.dspec_deeds.proofs.DeedEffects.{Accounts}

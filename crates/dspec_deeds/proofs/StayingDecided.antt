@@ -1,15 +1,9 @@
 -- A decided speculation stays as it is until the CPUs that it waits for have settled it.
 use Rattle.std.proofs.Common.{◌≡◌, ◌⊎◌, ℕ, ◌<◌, Bool, true, false, ◌||◌, ◌&&◌, ◌==◌, List, ◌∷◌, Some, None, if◌then◌else◌, refl, sym, ap, ◌∙◌, subst, ⊎_elim, inl, inr, true≢false}
-use Rattle.dspec_word.specs.SpecId.{Speculation}
+use Rattle.dspec_deeds.specs.Words.{Speculation, Config, Cpu, Deed, Speculate, Commit, Discard, Release, spoken_granted, spoken_stopped, is_commit, is_discard, decided_stopped, same_id, halted}
+use Rattle.dspec_deeds.specs.Words.{late, issue, releases, present, opens, opened, verdict, is_undecided, is_open, callers, standing, code_at, same_actor, author, releaser, solo, solo_of, settled}
+use Rattle.dspec_deeds.specs.Words.{StopsOrActs, IsSound}
 use Rattle.dspec_word.specs.declared.code.Code.TheVariants.{Inactive}
-use Rattle.dspec_deeds.specs.declared.config.Config.{Config}
-use Rattle.dspec_deeds.specs.declared.calls.Actor.TheVariants.{Cpu}
-use Rattle.dspec_deeds.specs.declared.deed.Deed.{Deed}
-use Rattle.dspec_deeds.specs.declared.deed.Deed.TheVariants.{Speculate, Commit, Discard, Release}
-use Rattle.dspec_deeds.specs.FateKinds.{spoken_granted, spoken_stopped, is_commit, is_discard, decided_stopped}
-use Rattle.dspec_deeds.specs.History.{same_id, halted, late, issue, releases, present, opens, opened, verdict, is_undecided}
-use Rattle.dspec_deeds.specs.History.{is_open, callers, standing, code_at, same_actor, author, releaser, solo, solo_of, settled}
-use Rattle.dspec_deeds.specs.Legal.{StopsOrActs, IsSound}
 pub use Rattle.dspec_deeds.specs.OthersDeeds.{WaitsFor, StandsAsBefore}
 use Rattle.dspec_deeds.proofs.TestLemmas.{either_way, off, or_true, and_tells, same_number, same_id_tells, cpu_is_itself}
 use Rattle.dspec_deeds.proofs.SoundLists.{answered_open, granted_goes, commit_goes, discard_goes}

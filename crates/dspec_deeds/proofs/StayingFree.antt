@@ -1,15 +1,8 @@
 -- A slot that is free keeps its word until it is given out.
 use Rattle.std.proofs.Common.{◌≡◌, ◌⊎◌, ℕ, true, false, ◌==◌, List, ◌∷◌, if◌then◌else◌, refl, sym, ap, ◌∙◌, subst, ⊎_elim, inl, inr, true≢false}
-use Rattle.dspec_word.specs.SpecId.{Speculation}
-use Rattle.dspec_word.specs.Word.{SlotState}
+use Rattle.dspec_deeds.specs.Words.{Speculation, SlotState, is_inactive, Config, Cpu, Deed, Opened, Release, same_id, issue, releases, present, opens, opens_slot, opened, opened_since, verdict}
+use Rattle.dspec_deeds.specs.Words.{is_undecided, callers, standing, code_at, word_at, same_actor, author, IsSound}
 use Rattle.dspec_word.specs.declared.code.Code.TheVariants.{Inactive}
-use Rattle.dspec_word.specs.Code.{is_inactive}
-use Rattle.dspec_deeds.specs.declared.config.Config.{Config}
-use Rattle.dspec_deeds.specs.declared.calls.Actor.TheVariants.{Cpu}
-use Rattle.dspec_deeds.specs.declared.deed.Deed.{Deed}
-use Rattle.dspec_deeds.specs.declared.deed.Deed.TheVariants.{Opened, Release}
-use Rattle.dspec_deeds.specs.History.{same_id, issue, releases, present, opens, opens_slot, opened, opened_since, verdict, is_undecided, callers, standing, code_at, word_at, same_actor, author}
-use Rattle.dspec_deeds.specs.Legal.{IsSound}
 use Rattle.dspec_deeds.proofs.TestLemmas.{either_way, off, and_tells, or_true, same_number}
 use Rattle.dspec_deeds.proofs.SoundLists.{unseen}
 use Rattle.dspec_deeds.proofs.WordCodes.{code_inactive}

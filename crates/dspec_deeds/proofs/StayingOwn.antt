@@ -1,14 +1,8 @@
 -- What another's deed leaves of a CPU's own: its call of speculation, its buffers and its batches.
 use Rattle.std.proofs.Common.{◌≡◌, ℕ, ◌+◌, Bool, true, false, ◌&&◌, ◌||◌, ◌==◌, List, [], ◌∷◌, Some, None, if◌then◌else◌, refl, ap, ◌∙◌, arith}
-use Rattle.dspec_word.specs.SpecId.{Speculation}
-use Rattle.dspec_deeds.specs.declared.config.Config.{Config}
-use Rattle.dspec_deeds.specs.declared.calls.Actor.TheVariants.{Cpu}
-use Rattle.dspec_deeds.specs.declared.deed.Deed.{Deed}
-use Rattle.dspec_deeds.specs.declared.deed.Deed.TheVariants.{Trace, Scan, Opened, Miss, Speculate, Commit, Discard, Settle, Seal}
-use Rattle.dspec_deeds.specs.FateKinds.{trace_kept, trace_dropped, spoken_granted, spoken_kept, is_commit, is_discard, is_copied, is_lost}
-use Rattle.dspec_deeds.specs.History.{same_id, same_actor, author, scan, joined, callers, is_among, settled, late, halted, is_halt, ack, is_scan}
-use Rattle.dspec_deeds.specs.Own.{offers, calls, held, dropped_in, seals_now, seals, accepts, accepted, active, is_drop, full, growing, batches}
-use Rattle.dspec_deeds.specs.Reports.{missed_busy}
+use Rattle.dspec_deeds.specs.Words.{Speculation, Config, Cpu, Deed, Trace, Scan, Opened, Miss, Speculate, Commit, Discard, Settle, Seal, trace_kept, trace_dropped, spoken_granted, spoken_kept}
+use Rattle.dspec_deeds.specs.Words.{is_commit, is_discard, is_copied, is_lost, same_id, same_actor, author, scan, joined, callers, is_among, settled, late, halted, is_halt, ack, is_scan, offers}
+use Rattle.dspec_deeds.specs.Words.{calls, held, dropped_in, seals_now, seals, accepts, accepted, active, is_drop, full, growing, batches, missed_busy}
 use Rattle.dspec_deeds.proofs.TestLemmas.{and_false, has_joined}
 
 -- a test that fails

@@ -1,10 +1,7 @@
 -- What tests tell.
 use Rattle.std.proofs.Common.{◌≡◌, ◌≢◌, ◌⊎◌, ℕ, Bool, true, false, not, ◌&&◌, ◌||◌, ◌==◌, List, Some, refl, sym, ap, ◌∙◌, subst, inl, inr, ⊎_elim, true≢false, arith}
 use Rattle.std.proofs.lemmas.Bool.Decides.{nat_tests}
-use Rattle.dspec_word.specs.SpecId.{Speculation}
-use Rattle.dspec_deeds.specs.declared.calls.Actor.{Actor}
-use Rattle.dspec_deeds.specs.declared.calls.Actor.TheVariants.{Cpu, Consumer}
-use Rattle.dspec_deeds.specs.History.{same_id, same_actor, is_among, joined}
+use Rattle.dspec_deeds.specs.Words.{Speculation, Actor, Cpu, Consumer, same_id, same_actor, is_among, joined}
 
 -- a test is true or false
 pub either_way : (b : Bool) → (b ≡ true) ⊎ (b ≡ false)

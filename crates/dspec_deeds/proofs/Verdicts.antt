@@ -1,14 +1,7 @@
 -- A speculation is committed or discarded, and not both.
 use Rattle.std.proofs.Common.{◌≡◌, Bool, true, false, ◌&&◌, ◌||◌, List, [], ◌∷◌, refl, sym, ap, ◌∙◌, subst, ⊎_elim, true≢false}
-use Rattle.dspec_word.specs.SpecId.{Speculation}
-use Rattle.dspec_deeds.specs.declared.config.Config.{Config}
-use Rattle.dspec_deeds.specs.declared.deed.DecideFate.{DecideFate}
-use Rattle.dspec_deeds.specs.declared.deed.Deed.{Deed}
-use Rattle.dspec_deeds.specs.declared.deed.Deed.TheVariants.{Commit, Discard}
-use Rattle.dspec_deeds.specs.FateKinds.{is_commit, is_discard, decided_stopped}
-use Rattle.dspec_deeds.specs.History.{same_id, opened, Verdict, undecided, committed, discarded, verdict, is_undecided, is_open}
-use Rattle.dspec_deeds.specs.Legal.{SettlesAs, Follows, IsSound}
-use Rattle.dspec_deeds.specs.Fates.{commits, discards, has_commit, has_discard}
+use Rattle.dspec_deeds.specs.Words.{Speculation, Config, DecideFate, Deed, Commit, Discard, is_commit, is_discard, decided_stopped, same_id, opened, Verdict, undecided, committed, discarded}
+use Rattle.dspec_deeds.specs.Words.{verdict, is_undecided, is_open, SettlesAs, Follows, IsSound, commits, discards, has_commit, has_discard}
 use Rattle.dspec_deeds.proofs.TestLemmas.{either_way, off, and_tells, or_tells, or_true, same_id_tells}
 use Rattle.dspec_deeds.proofs.SoundLists.{answered_open, commit_goes, discard_goes}
 

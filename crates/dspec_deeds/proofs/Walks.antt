@@ -1,8 +1,7 @@
 -- What a walk over a buffer's records has taken.
 use Rattle.std.proofs.Common.{◌≡◌, ℕ, ◌+◌, List, [], ◌∷◌, ◌++◌, length, sym, ap, ◌∙◌, subst, append_assoc, arith, length-append}
 use Rattle.std.specs.Prelude.{Some}
-use Rattle.dspec_record.specs.Record.{Record}
-use Rattle.dspec_buffer.specs.Walking.{Steps}
+use Rattle.dspec_deeds.specs.Words.{Record, Steps}
 
 -- a walk over these records has taken so many of them, and put them behind what was there
 pub record Walked (ahead : ℕ → List Record → Type 0) (before all to : List Record) (place count : ℕ) : Type 0 where

@@ -2,17 +2,9 @@
 use Rattle.std.proofs.Common.{◌≡◌, ℕ, ◌+◌, ◌≤◌, ◌<◌, Bool, true, false, not, ◌&&◌, ◌||◌, ◌==◌, List, [], ◌∷◌, None, if◌then◌else◌, refl, sym, ap, ◌∙◌, subst, ⊎_elim, arith, true≢false}
 use Rattle.std.specs.Prelude.{MatchBool, nat_lt}
 use Rattle.std.proofs.lemmas.Bool.Decides.{nat_tests}
-use Rattle.dspec_word.specs.SpecId.{Speculation}
-use Rattle.dspec_deeds.specs.declared.config.Config.{Config}
-use Rattle.dspec_deeds.specs.declared.calls.Actor.TheVariants.{Cpu}
-use Rattle.dspec_deeds.specs.declared.deed.Deed.{Deed}
-use Rattle.dspec_deeds.specs.declared.deed.Deed.TheVariants.{Trace, Scan, Opened, Speculate, Commit, Discard, Settle, Seal, Halt}
-use Rattle.dspec_deeds.specs.FateKinds.{trace_stopped, spoken_stopped, decided_stopped}
-use Rattle.dspec_deeds.specs.History.{same_id, is_halt, halted, issue, opens, opened, solo, solo_of, settles, settled, late, author, same_actor}
-use Rattle.dspec_deeds.specs.Legal.{IsSound}
-use Rattle.dspec_deeds.specs.Own.{is_drop, seals_now, growing, batches}
-use Rattle.dspec_deeds.specs.Reports.{total, one_if}
-use Rattle.dspec_deeds.specs.Rules.{settlements, SettlesOnce, goes_on, late_calls, IsGivenBelow, drops_of}
+use Rattle.dspec_deeds.specs.Words.{Speculation, Config, Cpu, Deed, Trace, Scan, Opened, Speculate, Commit, Discard, Settle, Seal, Halt, trace_stopped, spoken_stopped, decided_stopped, same_id}
+use Rattle.dspec_deeds.specs.Words.{is_halt, halted, issue, opens, opened, solo, solo_of, settles, settled, late, author, same_actor, IsSound, is_drop, seals_now, growing, batches, total, one_if}
+use Rattle.dspec_deeds.specs.Words.{settlements, SettlesOnce, goes_on, late_calls, IsGivenBelow, drops_of}
 use Rattle.dspec_deeds.proofs.TestLemmas.{either_way, off, and_tells, or_none, or_tells, or_true, same_number, same_id_tells}
 use Rattle.dspec_deeds.proofs.PresentIds.{decided_shut}
 use Rattle.dspec_deeds.proofs.StayingDecided.{shut_stays}

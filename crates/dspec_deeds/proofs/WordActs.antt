@@ -1,18 +1,13 @@
 -- What the tables do at the word that the list shows: the exchanges of speculate, commit and discard.
 use Rattle.std.proofs.Common.{◌≡◌, ◌≢◌, ◌⊎◌, ℕ, Bool, true, false, ◌&&◌, ◌==◌, List, [], ◌∷◌, Some, if◌then◌else◌, refl, sym, ap, ◌∙◌, subst, ⊎_elim, inl, inr, arith}
 use Rattle.std.proofs.lemmas.Bool.Decides.{nat_tests}
-use Rattle.dspec_word.specs.SpecId.{Speculation}
-use Rattle.dspec_word.specs.Word.{SlotState, released}
+use Rattle.dspec_deeds.specs.Words.{Speculation, SlotState, released, speculate_at, speculate_act, commit_at, commit_act, discard_at, discard_act, Config, Deed, is_among, issue, present, opened}
+use Rattle.dspec_deeds.specs.Words.{Verdict, undecided, committed, discarded, verdict, is_undecided, is_open, callers, joined, standing, active_code, is_sole, is_sole_or_none, code_at, word_at}
+use Rattle.dspec_deeds.specs.Words.{IsSound}
 use Rattle.dspec_word.specs.declared.act.Act.{Act}
 use Rattle.dspec_word.specs.declared.act.Act.TheVariants.{Void, Granted, Attempt}
 use Rattle.dspec_word.specs.declared.code.Code.{Code}
 use Rattle.dspec_word.specs.declared.code.Code.TheVariants.{Inactive, ActiveMany, Committing, CommittingMany, Discarding}
-use Rattle.dspec_word.specs.Tables.{speculate_at, speculate_act, commit_at, commit_act, discard_at, discard_act}
-use Rattle.dspec_deeds.specs.declared.config.Config.{Config}
-use Rattle.dspec_deeds.specs.declared.deed.Deed.{Deed}
-use Rattle.dspec_deeds.specs.History.{is_among, issue, present, opened, Verdict, undecided, committed, discarded, verdict, is_undecided}
-use Rattle.dspec_deeds.specs.History.{is_open, callers, joined, standing, active_code, is_sole, is_sole_or_none, code_at, word_at}
-use Rattle.dspec_deeds.specs.Legal.{IsSound}
 use Rattle.dspec_deeds.proofs.TestLemmas.{either_way, off, or_false, same_number}
 use Rattle.dspec_deeds.proofs.PresentIds.{open_is_present, present_is}
 

@@ -1,19 +1,11 @@
 -- What each deed makes of the words and the acknowledgements that the list shows.
 use Rattle.std.proofs.Common.{◌≡◌, ◌≢◌, ℕ, suc, ◌+◌, Bool, true, false, ◌&&◌, ◌==◌, List, ◌∷◌, Some, refl, sym, ap, ◌∙◌, subst, add-one, arith}
 use Rattle.std.specs.Prelude.{nat_lt}
-use Rattle.dspec_word.specs.SpecId.{Speculation}
-use Rattle.dspec_word.specs.Word.{released}
+use Rattle.dspec_deeds.specs.Words.{Speculation, released, Config, SpeculateFate, DecideFate, Deed, Trace, Scan, Opened, Miss, Speculate, Commit, Discard, Settle, Seal, Release, Halt, Record}
+use Rattle.dspec_deeds.specs.Words.{spoken_granted, spoken_stopped, is_commit, is_discard, decided_stopped, same_id, issue, present, opened, undecided, committed, is_open, callers, joined, standing}
+use Rattle.dspec_deeds.specs.Words.{code_at, word_at, acks, ack, IsSound}
 use Rattle.dspec_word.specs.declared.code.Code.{Code}
 use Rattle.dspec_word.specs.declared.code.Code.TheVariants.{Inactive, Active, Discarding}
-use Rattle.dspec_deeds.specs.declared.config.Config.{Config}
-use Rattle.dspec_deeds.specs.declared.deed.SpeculateFate.{SpeculateFate}
-use Rattle.dspec_deeds.specs.declared.deed.DecideFate.{DecideFate}
-use Rattle.dspec_deeds.specs.declared.deed.Deed.{Deed}
-use Rattle.dspec_deeds.specs.declared.deed.Deed.TheVariants.{Trace, Scan, Opened, Miss, Speculate, Commit, Discard, Settle, Seal, Release, Halt}
-use Rattle.dspec_record.specs.Record.{Record}
-use Rattle.dspec_deeds.specs.FateKinds.{spoken_granted, spoken_stopped, is_commit, is_discard, decided_stopped}
-use Rattle.dspec_deeds.specs.History.{same_id, issue, present, opened, undecided, committed, is_open, callers, joined, standing, code_at, word_at, acks, ack}
-use Rattle.dspec_deeds.specs.Legal.{IsSound}
 pub use Rattle.dspec_deeds.specs.WordSteps.{touches}
 use Rattle.dspec_deeds.proofs.TestLemmas.{and_false, not_false, number_is_itself, other_number, id_is_itself}
 use Rattle.dspec_deeds.proofs.SoundLists.{unseen, answered_open, granted_goes, commit_goes, discard_goes}

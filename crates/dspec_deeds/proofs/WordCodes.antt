@@ -1,16 +1,10 @@
 -- What the code of the word that the list shows tells.
 use Rattle.std.proofs.Common.{◌≡◌, ℕ, Bool, true, false, not, ◌&&◌, List, [], ◌∷◌, Some, None, if◌then◌else◌, refl, sym, ap, ◌∙◌, ⊎_elim, true≢false}
 use Rattle.std.specs.Prelude.{nat_lt}
-use Rattle.dspec_word.specs.Word.{SlotState}
+use Rattle.dspec_deeds.specs.Words.{SlotState, is_inactive, is_decided, awaits, open_at, Config, Deed, issue, present, opened, Verdict, undecided, committed, discarded, verdict, is_undecided}
+use Rattle.dspec_deeds.specs.Words.{callers, standing, active_code, is_sole_or_none, word_at, solo, solo_of, is_free, is_busy, IsSound}
 use Rattle.dspec_word.specs.declared.act.Act.TheVariants.{Void, Attempt}
 use Rattle.dspec_word.specs.declared.code.Code.TheVariants.{Inactive, Active, Committing, CommittingMany, Discarding}
-use Rattle.dspec_word.specs.Code.{is_inactive, is_decided, awaits}
-use Rattle.dspec_word.specs.Tables.{open_at}
-use Rattle.dspec_deeds.specs.declared.config.Config.{Config}
-use Rattle.dspec_deeds.specs.declared.deed.Deed.{Deed}
-use Rattle.dspec_deeds.specs.History.{issue, present, opened, Verdict, undecided, committed, discarded, verdict, is_undecided}
-use Rattle.dspec_deeds.specs.History.{callers, standing, active_code, is_sole_or_none, word_at, solo, solo_of, is_free, is_busy}
-use Rattle.dspec_deeds.specs.Legal.{IsSound}
 use Rattle.dspec_deeds.proofs.TestLemmas.{either_way}
 use Rattle.dspec_deeds.proofs.SoundLists.{unseen}
 use Rattle.dspec_deeds.proofs.PresentIds.{decided_given}

@@ -1,14 +1,8 @@
 -- Each deed changes one word at most, to a word that it tells.
 use Rattle.std.proofs.Common.{◌≡◌, ℕ, ◌+◌, true, false, ◌==◌, List, ◌∷◌, if◌then◌else◌, sym, ap, ◌∙◌, ⊎_elim}
 use Rattle.dspec_word.specs.declared.code.Code.{Code}
-use Rattle.dspec_word.specs.Word.{SlotState}
-use Rattle.dspec_deeds.specs.declared.config.Config.{Config}
-use Rattle.dspec_deeds.specs.declared.deed.Deed.{Deed}
-use Rattle.dspec_deeds.specs.declared.deed.Deed.TheVariants.{Opened, Speculate, Commit, Discard, Settle, Release}
-use Rattle.dspec_deeds.specs.FateKinds.{spoken_granted, is_commit, is_discard}
-use Rattle.dspec_deeds.specs.History.{issue, word_at, acks, ack}
-use Rattle.dspec_deeds.specs.Legal.{IsSound}
-use Rattle.dspec_deeds.specs.WordSteps.{touches, word_made, word_after, ack_after}
+use Rattle.dspec_deeds.specs.Words.{SlotState, Config, Deed, Opened, Speculate, Commit, Discard, Settle, Release, spoken_granted, is_commit, is_discard, issue, word_at, acks, ack, IsSound, touches}
+use Rattle.dspec_deeds.specs.Words.{word_made, word_after, ack_after}
 use Rattle.dspec_deeds.proofs.TestLemmas.{either_way, and_tells, same_number}
 use Rattle.dspec_deeds.proofs.PresentIds.{open_present}
 use Rattle.dspec_deeds.proofs.WordChanges.{untouched, granted_open, commit_open, discard_open, opened_word, granted_word, committed_word, discarded_word, released_word, ack_stays, ack_settled}

@@ -1,17 +1,10 @@
 -- The words that the list shows never fall.
 use Rattle.std.proofs.Common.{◌≡◌, ℕ, ◌+◌, ◌*◌, ◌≤◌, Bool, true, false, ◌==◌, List, [], ◌∷◌, Some, if◌then◌else◌, refl, sym, ap, ◌∙◌, subst, ⊎_elim, arith}
 use Rattle.std.specs.Prelude.{nat_lt}
-use Rattle.dspec_word.specs.SpecId.{Speculation}
-use Rattle.dspec_word.specs.Word.{word_number}
+use Rattle.dspec_deeds.specs.Words.{Speculation, word_number, code_number, Config, Deed, Opened, Speculate, Commit, Discard, Release, spoken_granted, is_commit, is_discard, is_among, issue, present}
+use Rattle.dspec_deeds.specs.Words.{opened, undecided, committed, callers, joined, standing, active_code, is_sole_or_none, code_at, word_at, IsSound}
 use Rattle.dspec_word.specs.declared.code.Code.{Code}
 use Rattle.dspec_word.specs.declared.code.Code.TheVariants.{Inactive, Active, Committing, CommittingMany, Discarding}
-use Rattle.dspec_word.specs.Code.{code_number}
-use Rattle.dspec_deeds.specs.declared.config.Config.{Config}
-use Rattle.dspec_deeds.specs.declared.deed.Deed.{Deed}
-use Rattle.dspec_deeds.specs.declared.deed.Deed.TheVariants.{Opened, Speculate, Commit, Discard, Release}
-use Rattle.dspec_deeds.specs.FateKinds.{spoken_granted, is_commit, is_discard}
-use Rattle.dspec_deeds.specs.History.{is_among, issue, present, opened, undecided, committed, callers, joined, standing, active_code, is_sole_or_none, code_at, word_at}
-use Rattle.dspec_deeds.specs.Legal.{IsSound}
 use Rattle.dspec_word.proofs.Numbers.{code_below}
 use Rattle.dspec_deeds.proofs.TestLemmas.{either_way, and_tells, not_false, same_number}
 use Rattle.dspec_deeds.proofs.PresentIds.{IsPresent, open_present}

@@ -1,16 +1,9 @@
 -- A list woven of the CPUs' own lists.
 use Rattle.std.proofs.Common.{◌≡◌, ℕ, ◌<◌, true, false, ◌==◌, if◌then◌else◌, List, [], ◌∷◌, ◌++◌, Option, refl, sym, ap, ◌∙◌, subst, ⊎_elim, inr, arith, true≢false}
 use Rattle.dspec_record.specs.declared.field.Shape.{Shape}
-use Rattle.dspec_deeds.specs.declared.config.Config.{Config}
-use Rattle.dspec_deeds.specs.declared.calls.Actor.{Actor}
-use Rattle.dspec_deeds.specs.declared.calls.Actor.TheVariants.{Cpu, Consumer}
-use Rattle.dspec_deeds.specs.declared.deed.Deed.{Deed}
-use Rattle.dspec_deeds.specs.declared.deed.Deed.TheVariants.{Seal}
-use Rattle.dspec_deeds.specs.History.{owed, author, part, same_actor}
-use Rattle.dspec_deeds.specs.Legal.{HasAuthors, IsSound, is_seal}
+use Rattle.dspec_deeds.specs.Words.{Config, Actor, Cpu, Consumer, Deed, Seal, owed, author, part, same_actor, HasAuthors, IsSound, is_seal, is_of, IsOwn, ReadsAlike, bare, IsPlaced, ArePlaced, lead}
+use Rattle.dspec_deeds.specs.Words.{behind, taken_off, seals_behind, woven, HaveLists, ShowsAlike, IsWoven}
 use Rattle.dspec_deeds.proofs.TestLemmas.{either_way, same_number, number_is_itself, cpu_is_itself}
-use Rattle.dspec_deeds.specs.Owning.{is_of, IsOwn, ReadsAlike}
-use Rattle.dspec_deeds.specs.Weaving.{bare, IsPlaced, ArePlaced, lead, behind, taken_off, seals_behind, woven, HaveLists, ShowsAlike, IsWoven}
 use Rattle.dspec_deeds.proofs.OwnReads.{reads}
 use Rattle.dspec_deeds.proofs.BareReads.{author_bare, shows_bare}
 use Rattle.dspec_deeds.proofs.SealsPut.{AreSeals, placed_on, bare_on, own_on, other_on, authors_on, front_bare, front_consumer, front_own, front_authors, front_placed}

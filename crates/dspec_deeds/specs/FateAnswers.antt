@@ -1,5 +1,5 @@
 -- Cited by calls. What a fate is answered as, and which identifier an answer gives.
-use Rattle.dspec_word.specs.SpecId.{Speculation, no_speculation}
+use Rattle.dspec_deeds.specs.Words.Outside.{Speculation, no_speculation}
 use Rattle.dspec_deeds.specs.declared.calls.Answer.{Answer}
 use Rattle.dspec_deeds.specs.declared.calls.Answer.TheVariants as any_answer
 use Rattle.dspec_deeds.specs.declared.calls.Decided.{Decided}

@@ -1,8 +1,7 @@
 -- Cited by calls. The headline: three laws of every legal list of deeds.
 use Rattle.std.specs.Prelude.{ℕ, ◌≡◌, ◌+◌, ◌≤◌, ◌<◌, ◌++◌, true, IsSome, List, if◌then◌else◌, Some}
 use Rattle.std.specs.List.{AllByRecursion}
-use Rattle.dspec_record.specs.Record.{Record}
-use Rattle.dspec_word.specs.SpecId.{Speculation}
+use Rattle.dspec_deeds.specs.Words.Outside.{Record, Speculation}
 use Rattle.dspec_deeds.specs.declared.config.Config.{Config}
 use Rattle.dspec_deeds.specs.declared.deed.Deed.{Deed}
 use Rattle.dspec_deeds.specs.Own.{offers, accepted, stream, taken}

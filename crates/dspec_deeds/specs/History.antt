@@ -2,8 +2,7 @@
 use Rattle.std.specs.Prelude.{ℕ, suc, ◌==◌, Bool, true, false, not, ◌&&◌, ◌||◌, nat_lt, nat_le, List, [], ◌∷◌, ◌+◌, if◌then◌else◌, Option, Some, None}
 use Rattle.dspec_word.specs.declared.code.Code.{Code}
 use Rattle.dspec_word.specs.declared.code.Code.TheVariants.{Inactive, Active, ActiveOne, ActiveMany, Committing, CommittingMany, Discarding}
-use Rattle.dspec_word.specs.SpecId.{Speculation}
-use Rattle.dspec_word.specs.Word.{SlotState}
+use Rattle.dspec_deeds.specs.Words.Outside.{Speculation, SlotState}
 use Rattle.dspec_deeds.specs.declared.config.Config.{Config}
 use Rattle.dspec_deeds.specs.declared.calls.Actor.{Actor}
 use Rattle.dspec_deeds.specs.declared.calls.Actor.TheVariants.{Cpu, Consumer}

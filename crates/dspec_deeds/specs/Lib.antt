@@ -18,3 +18,4 @@ pub mod WordSteps
 pub mod Rules
 pub mod OthersDeeds
 pub mod Refusals
+pub mod Words

@@ -1,7 +1,6 @@
 -- Serves proofs. What a deed of another actor leaves a CPU: all that its own deeds tell, the word of a free slot, what waits for it.
 use Rattle.std.specs.Prelude.{ℕ, ◌≡◌, ◌⊎◌, true, false, List, ◌∷◌, Some, None}
-use Rattle.dspec_word.specs.Code.{is_inactive}
-use Rattle.dspec_word.specs.Word.{SlotState}
+use Rattle.dspec_deeds.specs.Words.Outside.{is_inactive, SlotState}
 use Rattle.dspec_deeds.specs.declared.config.Config.{Config}
 use Rattle.dspec_deeds.specs.declared.deed.Deed.{Deed}
 use Rattle.dspec_deeds.specs.History.{issue, present, opened, opened_since, verdict, is_undecided, callers, solo, settled, late, word_at}

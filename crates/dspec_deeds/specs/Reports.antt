@@ -1,6 +1,6 @@
 -- Cited by calls. The counts of a CPU's report, read off the deeds.
 use Rattle.std.specs.Prelude.{ℕ, ◌≤◌, ◌+◌, ◌==◌, Bool, false, not, ◌&&◌, ◌||◌, List, [], ◌∷◌, ◌++◌, length, filter, if◌then◌else◌}
-use Rattle.dspec_word.specs.SpecId.{Speculation}
+use Rattle.dspec_deeds.specs.Words.Outside.{Speculation}
 use Rattle.dspec_deeds.specs.declared.config.Config.{Config}
 use Rattle.dspec_deeds.specs.declared.deed.Deed.{Deed}
 use Rattle.dspec_deeds.specs.declared.deed.Deed.TheVariants.{Trace, Scan, Miss, Speculate, Commit, Discard, Settle}

@@ -1,10 +1,9 @@
 -- Cited by calls. What becomes of a CPU's own buffer of a speculation once that is decided.
 use Rattle.std.specs.Prelude.{ℕ, Bool, List, length, if◌then◌else◌, Option}
 use Rattle.dspec_record.specs.declared.field.Shape.{Shape}
-use Rattle.dspec_buffer.specs.Extent.{block}
+use Rattle.dspec_deeds.specs.Words.Outside.{block, Speculation}
 use Rattle.dspec_word.specs.declared.code.Code.{Code}
 use Rattle.dspec_word.specs.declared.code.Code.TheVariants.{Discarding}
-use Rattle.dspec_word.specs.SpecId.{Speculation}
 use Rattle.dspec_deeds.specs.declared.config.Config.{Config}
 use Rattle.dspec_deeds.specs.declared.deed.DecideFate.{DecideFate}
 use Rattle.dspec_deeds.specs.declared.deed.DecideFate.TheVariants as decided

@@ -1,6 +1,6 @@
 -- Cited by calls. Seals put into a list of deeds, so that each CPU's part of it is that CPU's own list.
 use Rattle.std.specs.Prelude.{ℕ, zero, suc, ◌≡◌, ◌<◌, ◌⊎◌, ◌==◌, List, [], ◌∷◌, ◌++◌, Option, if◌then◌else◌}
-use Rattle.dspec_word.specs.SpecId.{Speculation}
+use Rattle.dspec_deeds.specs.Words.Outside.{Speculation}
 use Rattle.dspec_record.specs.declared.field.Shape.{Shape}
 use Rattle.dspec_deeds.specs.declared.config.Config.{Config}
 use Rattle.dspec_deeds.specs.declared.calls.Actor.{Actor}

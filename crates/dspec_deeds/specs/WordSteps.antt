@@ -1,7 +1,7 @@
 -- Serves proofs. Which word, which acknowledgement each deed changes, and to what.
 use Rattle.std.specs.Prelude.{ℕ, ◌+◌, ◌==◌, Bool, false, ◌&&◌, List, if◌then◌else◌, Some}
 use Rattle.dspec_word.specs.declared.code.Code.TheVariants.{Inactive, Active, Committing, CommittingMany, Discarding}
-use Rattle.dspec_word.specs.Word.{SlotState, released}
+use Rattle.dspec_deeds.specs.Words.Outside.{SlotState, released}
 use Rattle.dspec_deeds.specs.declared.deed.Deed.{Deed}
 use Rattle.dspec_deeds.specs.declared.deed.Deed.TheVariants.{Opened, Speculate, Commit, Discard, Release}
 use Rattle.dspec_deeds.specs.FateKinds.{spoken_granted, is_commit, is_discard}

@@ -5,23 +5,15 @@ use Rattle.dspec_word.specs.declared.act.Act.{Act}
 use Rattle.dspec_word.specs.declared.act.Act.TheVariants.{Attempt, Void}
 use Rattle.dspec_word.specs.declared.code.Code.{Code}
 use Rattle.dspec_word.specs.declared.code.Code.TheVariants.{Inactive, Active, ActiveOne, ActiveMany, Committing, CommittingMany, Discarding}
-use Rattle.dspec_word.specs.Code.{code_number}
-use Rattle.dspec_word.specs.Word.{SlotState}
-use Rattle.dspec_word.specs.Tables.{speculate_act, commit_act, discard_act}
+use Rattle.dspec_interleaving.specs.Words.{code_number, SlotState, speculate_act, commit_act, discard_act, CpuProgress, ConsumerFlight, ConsumerProgress, CallPlace, is_among, callers, op_bound}
+use Rattle.dspec_interleaving.specs.Words.{flight_bound, clean_bound, StandsCpu, StandsConsumer}
 use Rattle.dspec_deeds.specs.declared.config.Config.{Config}
 use Rattle.dspec_deeds.specs.declared.calls.ConsumerOp.TheVariants as consumer_op
 use Rattle.dspec_deeds.specs.declared.calls.CpuOp.{CpuOp}
 use Rattle.dspec_deeds.specs.declared.calls.CpuOp.TheVariants as cpu_op
 use Rattle.dspec_deeds.specs.declared.deed.Deed.{Deed}
-use Rattle.dspec_interleaving.specs.declared.flight.CpuProgress.{CpuProgress}
-use Rattle.dspec_interleaving.specs.declared.flight.ConsumerFlight.{ConsumerFlight}
 use Rattle.dspec_interleaving.specs.declared.flight.ConsumerFlight.TheVariants as consumer
-use Rattle.dspec_interleaving.specs.declared.flight.ConsumerProgress.{ConsumerProgress}
-use Rattle.dspec_interleaving.specs.declared.flight.CallPlace.{CallPlace}
 use Rattle.dspec_interleaving.specs.declared.flight.CallPlace.TheVariants as cpu
-use Rattle.dspec_deeds.specs.History.{is_among, callers}
-use Rattle.dspec_interleaving.specs.Bounds.{op_bound, flight_bound, clean_bound}
-use Rattle.dspec_interleaving.specs.Coherent.{StandsCpu, StandsConsumer}
 use Rattle.dspec_interleaving.proofs.ConsumerSteps.{share}
 
 -- a table that attempts an exchange at a word of the identifier's issue only

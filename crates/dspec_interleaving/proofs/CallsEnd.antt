@@ -6,16 +6,11 @@ use Rattle.dspec_deeds.specs.declared.calls.Actor.{Actor}
 use Rattle.dspec_deeds.specs.declared.calls.Actor.TheVariants as actor
 use Rattle.dspec_deeds.specs.declared.calls.Answer.{Answer}
 use Rattle.dspec_deeds.specs.declared.calls.CpuOp.{CpuOp}
-use Rattle.dspec_interleaving.specs.declared.flight.CpuProgress.{CpuProgress}
-use Rattle.dspec_interleaving.specs.declared.flight.ConsumerFlight.{ConsumerFlight}
-use Rattle.dspec_interleaving.specs.declared.flight.CallPlace.{CallPlace}
+use Rattle.dspec_interleaving.specs.Words.{CpuProgress, ConsumerFlight, CallPlace, CpuStep, ConsumerStep, cpu_step, consumer_step, StandsProgress, StandsState, progress_of, PlayState, IsCoherent}
+use Rattle.dspec_interleaving.specs.Words.{idle_progress, begin_cpu, Stepped, moved_to, cleaned_to, step_cpu, step_consumer, on_to_end, op_bound, flight_bound, clean_bound}
 use Rattle.dspec_interleaving.specs.declared.flight.CallPlace.TheVariants as cpu
-use Rattle.dspec_interleaving.specs.Play.{CpuStep, ConsumerStep, cpu_step, consumer_step}
-use Rattle.dspec_interleaving.specs.Coherent.{StandsProgress, StandsState, progress_of, PlayState, IsCoherent, idle_progress}
-use Rattle.dspec_interleaving.specs.Turns.{begin_cpu, Stepped, moved_to, cleaned_to, step_cpu, step_consumer, on_to_end}
 use Rattle.dspec_deeds.proofs.SetUp.{set_up}
 use Rattle.dspec_interleaving.proofs.Coherence.{begin_cpu_coherent, step_cpu_coherent, step_consumer_coherent}
-use Rattle.dspec_interleaving.specs.Bounds.{op_bound, flight_bound, clean_bound}
 use Rattle.dspec_interleaving.proofs.Bounded.{cpu_below, clean_below}
 use Rattle.dspec_interleaving.proofs.StepEnds.{HasEnded, HasGoneOn, HasClosed, HasKeptOn, cpu_advances, clean_advances}
 

@@ -7,25 +7,15 @@ use Rattle.std.proofs.lemmas.Bool.Decides.{nat_tests}
 use Rattle.std.proofs.lemmas.Nat.{mul-le}
 use Rattle.dspec_record.specs.declared.field.Shape.{Shape}
 use Rattle.dspec_word.specs.declared.act.Act.TheVariants.{Attempt, Idle}
-use Rattle.dspec_word.specs.Code.{awaits}
-use Rattle.dspec_word.specs.Word.{SlotState, released}
-use Rattle.dspec_word.specs.Tables.{reap_at}
+use Rattle.dspec_interleaving.specs.Words.{awaits, SlotState, released, reap_at, CpuProgress, ConsumerFlight, ConsumerProgress, is_between, is_size, start_fault, word_at, IsAllowed, seals}
+use Rattle.dspec_interleaving.specs.Words.{ConsumerStep, consumer_step, keeps_on, next_slot, same_word, stops, PlayState, IsCoherent, StandsConsumer, StandsState, progress_of}
 use Rattle.dspec_deeds.specs.declared.config.Config.{Config}
 use Rattle.dspec_deeds.specs.declared.config.StartFault.{StartFault}
 use Rattle.dspec_deeds.specs.declared.config.StartFault.TheVariants.{Cpus, Specs, BufSize, SpecSize, Issues, Calls}
 use Rattle.dspec_deeds.specs.declared.calls.Answer.TheVariants as answer
 use Rattle.dspec_deeds.specs.declared.deed.Deed.{Deed}
 use Rattle.dspec_deeds.specs.declared.deed.Deed.TheVariants.{Release}
-use Rattle.dspec_interleaving.specs.declared.flight.CpuProgress.{CpuProgress}
-use Rattle.dspec_interleaving.specs.declared.flight.ConsumerFlight.{ConsumerFlight}
 use Rattle.dspec_interleaving.specs.declared.flight.ConsumerFlight.TheVariants as consumer
-use Rattle.dspec_interleaving.specs.declared.flight.ConsumerProgress.{ConsumerProgress}
-use Rattle.dspec_deeds.specs.Ranges.{is_between, is_size, start_fault}
-use Rattle.dspec_deeds.specs.History.{word_at}
-use Rattle.dspec_deeds.specs.Legal.{IsAllowed}
-use Rattle.dspec_deeds.specs.Own.{seals}
-use Rattle.dspec_interleaving.specs.Play.{ConsumerStep, consumer_step, keeps_on, next_slot, same_word, stops}
-use Rattle.dspec_interleaving.specs.Coherent.{PlayState, IsCoherent, StandsConsumer, StandsState, progress_of}
 use Rattle.dspec_deeds.proofs.TestLemmas.{and_tells}
 use Rattle.dspec_interleaving.proofs.Counts.{takes_sealed}
 use Rattle.dspec_interleaving.proofs.StepReads.{slots_fit}

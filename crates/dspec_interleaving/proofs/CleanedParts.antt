@@ -4,8 +4,9 @@ use Rattle.std.proofs.Common.{◌≡◌, ◌≤◌, ◌<◌, ◌+◌, inl, inr, 
 use Rattle.std.proofs.Common.{◌∷◌, ◌++◌, Option, Some, None, is_none, if◌then◌else◌, refl, sym, ap, ◌∙◌, subst, ⊎_elim, arith, true≢false}
 use Rattle.std.proofs.lemmas.Bool.Decides.{nat_tests}
 use Rattle.dspec_record.specs.declared.field.Shape.{Shape}
-use Rattle.dspec_word.specs.SpecId.{Speculation}
-use Rattle.dspec_word.specs.Code.{awaits}
+use Rattle.dspec_interleaving.specs.Words.{Speculation, awaits, CpuProgress, ConsumerFlight, ConsumerProgress, present, verdict, is_undecided, solo, settled, is_busy, owed, releaser, word_at}
+use Rattle.dspec_interleaving.specs.Words.{IsSound, PlayState, ConsumerStep, consumer_step, keeps_on, stops, Stepped, step, on_to_end, WholeConsumer, all_settled, is_reapable, cleaned_at}
+use Rattle.dspec_interleaving.specs.Words.{cleaned_up}
 use Rattle.dspec_deeds.specs.declared.config.Config.{Config}
 use Rattle.dspec_deeds.specs.declared.calls.Actor.{Actor}
 use Rattle.dspec_deeds.specs.declared.calls.Actor.TheVariants as actor
@@ -13,16 +14,7 @@ use Rattle.dspec_deeds.specs.declared.calls.Answer.{Answer}
 use Rattle.dspec_deeds.specs.declared.calls.Answer.TheVariants as answer
 use Rattle.dspec_deeds.specs.declared.deed.Deed.{Deed}
 use Rattle.dspec_deeds.specs.declared.deed.Deed.TheVariants.{Release}
-use Rattle.dspec_interleaving.specs.declared.flight.CpuProgress.{CpuProgress}
-use Rattle.dspec_interleaving.specs.declared.flight.ConsumerFlight.{ConsumerFlight}
 use Rattle.dspec_interleaving.specs.declared.flight.ConsumerFlight.TheVariants as consumer
-use Rattle.dspec_interleaving.specs.declared.flight.ConsumerProgress.{ConsumerProgress}
-use Rattle.dspec_deeds.specs.History.{present, verdict, is_undecided, solo, settled, is_busy, owed, releaser, word_at}
-use Rattle.dspec_deeds.specs.Legal.{IsSound}
-use Rattle.dspec_interleaving.specs.Coherent.{PlayState}
-use Rattle.dspec_interleaving.specs.Play.{ConsumerStep, consumer_step, keeps_on, stops}
-use Rattle.dspec_interleaving.specs.Turns.{Stepped, step, on_to_end}
-use Rattle.dspec_interleaving.specs.Whole.{WholeConsumer, all_settled, is_reapable, cleaned_at, cleaned_up}
 use Rattle.dspec_deeds.proofs.TestLemmas.{either_way, and_tells}
 use Rattle.dspec_interleaving.proofs.WholeSettling.{awaits_is}
 

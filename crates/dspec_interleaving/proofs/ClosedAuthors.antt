@@ -1,16 +1,11 @@
 -- What the close of a session enters is of its CPUs.
 use Rattle.std.proofs.Common.{◌≡◌, ℕ, zero, suc, ◌<◌, ◌≤◌, Bool, true, false, if◌then◌else◌, List, ◌∷◌, Option, subst, arith}
 use Rattle.dspec_record.specs.declared.field.Shape.{Shape}
-use Rattle.dspec_word.specs.SpecId.{Speculation}
-use Rattle.dspec_word.specs.Tables.{settle_at}
+use Rattle.dspec_interleaving.specs.Words.{Speculation, settle_at, ack, present, word_at, HasAuthors, settle_fate, is_granted, closed_slots, closed_cpus, closing}
 use Rattle.dspec_deeds.specs.declared.config.Config.{Config}
 use Rattle.dspec_deeds.specs.declared.deed.DecideFate.{DecideFate}
 use Rattle.dspec_deeds.specs.declared.deed.Deed.{Deed}
 use Rattle.dspec_deeds.specs.declared.deed.Deed.TheVariants.{Settle}
-use Rattle.dspec_deeds.specs.History.{ack, present, word_at}
-use Rattle.dspec_deeds.specs.Legal.{HasAuthors}
-use Rattle.dspec_deeds.specs.Settling.{settle_fate}
-use Rattle.dspec_deeds.specs.Closes.{is_granted, closed_slots, closed_cpus, closing}
 
 module _ (shape : ℕ → Option Shape) (k : Config) where
   -- what the close enters is of CPUs of the session

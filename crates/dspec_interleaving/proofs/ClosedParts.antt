@@ -2,9 +2,8 @@
 use Rattle.std.proofs.Common.{◌≡◌, ℕ, zero, suc, ◌<◌, ◌≤◌, Bool, true, false, ◌==◌, if◌then◌else◌, List, ◌∷◌, Option, None, refl, sym, ap, ◌∙◌, subst, ⊎_elim, length, arith}
 use Rattle.std.proofs.lemmas.Bool.Decides.{nat_tests}
 use Rattle.dspec_record.specs.declared.field.Shape.{Shape}
-use Rattle.dspec_word.specs.SpecId.{Speculation}
-use Rattle.dspec_word.specs.Tables.{settle_at}
-use Rattle.dspec_word.specs.Word.{SlotState}
+use Rattle.dspec_interleaving.specs.Words.{Speculation, settle_at, SlotState, part, ack, present, scan, word_at, same_actor, CanClose, is_granted, closed_slot, closed_slots, closed_cpus, closing}
+use Rattle.dspec_interleaving.specs.Words.{Headline, IsLegal, settle_fate, start_fault, ReadsAlike, IsWoven, own_closed_slot, own_closed, IsCloseOf}
 use Rattle.dspec_word.specs.declared.code.Code.{Code}
 use Rattle.dspec_word.specs.declared.code.Code.TheVariants.{Discarding}
 use Rattle.dspec_deeds.specs.declared.config.Config.{Config}
@@ -14,18 +13,9 @@ use Rattle.dspec_deeds.specs.declared.deed.DecideFate.{DecideFate}
 use Rattle.dspec_deeds.specs.declared.deed.DecideFate.TheVariants as decided
 use Rattle.dspec_deeds.specs.declared.deed.Deed.{Deed}
 use Rattle.dspec_deeds.specs.declared.deed.Deed.TheVariants.{Settle}
-use Rattle.dspec_deeds.specs.History.{part, ack, present, scan, word_at, same_actor}
-use Rattle.dspec_deeds.specs.Closes.{CanClose, is_granted, closed_slot, closed_slots, closed_cpus, closing}
-use Rattle.dspec_deeds.specs.Headline.{Headline}
-use Rattle.dspec_deeds.specs.Legal.{IsLegal}
-use Rattle.dspec_deeds.specs.Settling.{settle_fate}
-use Rattle.dspec_deeds.specs.Ranges.{start_fault}
 use Rattle.dspec_deeds.proofs.TestLemmas.{either_way, same_number, cpu_is_itself, other_number}
 use Rattle.dspec_interleaving.proofs.Closing.{closing_closes}
 use Rattle.dspec_interleaving.proofs.ClosedAuthors.{closing_authors}
-use Rattle.dspec_deeds.specs.Owning.{ReadsAlike}
-use Rattle.dspec_deeds.specs.Weaving.{IsWoven}
-use Rattle.dspec_interleaving.specs.CpuClose.{own_closed_slot, own_closed, IsCloseOf}
 use Rattle.dspec_deeds.proofs.BareReads.{scan_bare}
 use Rattle.dspec_deeds.proofs.OwnReads.{block_alike, reads}
 

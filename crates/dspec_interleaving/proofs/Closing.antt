@@ -3,33 +3,23 @@ use Rattle.std.proofs.Common.{◌≡◌, ℕ, zero, suc, ◌+◌, ◌<◌, ◌�
 use Rattle.std.specs.Prelude.{nat_le}
 use Rattle.dspec_record.specs.declared.field.Shape.{Shape}
 use Rattle.dspec_word.specs.declared.act.Act.TheVariants.{Granted, Idle}
-use Rattle.dspec_word.specs.Code.{awaits}
-use Rattle.dspec_word.specs.SpecId.{Speculation}
-use Rattle.dspec_word.specs.Word.{SlotState}
+use Rattle.dspec_interleaving.specs.Words.{awaits, Speculation, SlotState, CpuProgress, issue, present, opened, verdict, is_undecided, solo, settled, word_at, ack, seals, held, IsAllowed, served}
+use Rattle.dspec_interleaving.specs.Words.{ends, call_goes_on, settle_fate, start_fault, IsSlot, StandsProgress, ProgressStands, progress_of, PlayState, IsCoherent, CanClose, is_granted}
+use Rattle.dspec_interleaving.specs.Words.{closed_slot, closed_slots, closed_cpus, closing, WaitsUndecided, waiting, fate, times}
 use Rattle.dspec_deeds.specs.declared.config.Config.{Config}
 use Rattle.dspec_deeds.specs.declared.calls.Actor.TheVariants.{Cpu}
 use Rattle.dspec_deeds.specs.declared.calls.Answer.TheVariants as answer
 use Rattle.dspec_deeds.specs.declared.calls.Served.{Served}
 use Rattle.dspec_deeds.specs.declared.deed.Deed.{Deed}
 use Rattle.dspec_deeds.specs.declared.deed.Deed.TheVariants.{Settle}
-use Rattle.dspec_interleaving.specs.declared.flight.CpuProgress.{CpuProgress}
 use Rattle.dspec_interleaving.specs.declared.flight.CallPlace.TheVariants as cpu
 use Rattle.dspec_interleaving.specs.declared.flight.Spare.TheVariants as spare
-use Rattle.dspec_deeds.specs.History.{issue, present, opened, verdict, is_undecided, solo, settled, word_at, ack}
-use Rattle.dspec_deeds.specs.Own.{seals, held}
-use Rattle.dspec_deeds.specs.Legal.{IsAllowed}
-use Rattle.dspec_interleaving.specs.Play.{served, ends, call_goes_on}
-use Rattle.dspec_deeds.specs.Settling.{settle_fate}
-use Rattle.dspec_deeds.specs.Ranges.{start_fault}
-use Rattle.dspec_interleaving.specs.Coherent.{IsSlot, StandsProgress, ProgressStands, progress_of, PlayState, IsCoherent}
 use Rattle.dspec_deeds.proofs.TestLemmas.{either_way, and_tells, number_is_itself, same_number, numbers_differ, id_is_itself}
 use Rattle.dspec_deeds.proofs.SetUp.{set_up}
 use Rattle.dspec_deeds.proofs.SoundLists.{opened_by_now, opened_in_range}
 use Rattle.dspec_deeds.proofs.PresentIds.{present_is, decided_given}
 use Rattle.dspec_deeds.proofs.WordCodes.{decided_awaits}
-use Rattle.dspec_deeds.specs.Closes.{CanClose, is_granted, closed_slot, closed_slots, closed_cpus, closing, WaitsUndecided}
 use Rattle.dspec_deeds.proofs.Acked.{settled_stays, ack_tells}
-use Rattle.dspec_deeds.specs.Fates.{waiting, fate, times}
 use Rattle.dspec_deeds.proofs.DeedOffers.{waits_for}
 use Rattle.dspec_deeds.proofs.DeedEffects.{legal_accounts}
 use Rattle.dspec_deeds.proofs.HeldOffers.{tally, times_held}

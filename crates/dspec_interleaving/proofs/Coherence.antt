@@ -8,15 +8,10 @@ use Rattle.dspec_deeds.specs.declared.calls.Actor.TheVariants as actor
 use Rattle.dspec_deeds.specs.declared.calls.Answer.{Answer}
 use Rattle.dspec_deeds.specs.declared.calls.ConsumerOp.{ConsumerOp}
 use Rattle.dspec_deeds.specs.declared.calls.CpuOp.{CpuOp}
-use Rattle.dspec_interleaving.specs.declared.flight.ConsumerFlight.{ConsumerFlight}
-use Rattle.dspec_interleaving.specs.declared.flight.CallPlace.{CallPlace}
+use Rattle.dspec_interleaving.specs.Words.{ConsumerFlight, CallPlace, Spare, cpu_step, start_fault, StandsProgress, StandsState, PushesNext, ProgressStands, progress_of, PlayState, IsCoherent}
+use Rattle.dspec_interleaving.specs.Words.{idle_progress, idle_cpus, at_start, begin_cpu, begin_consumer, step_cpu, step_consumer, step, on_to_end}
 use Rattle.dspec_interleaving.specs.declared.flight.CallPlace.TheVariants as cpu
-use Rattle.dspec_interleaving.specs.declared.flight.Spare.{Spare}
 use Rattle.dspec_interleaving.specs.declared.flight.Spare.TheVariants as spare
-use Rattle.dspec_interleaving.specs.Play.{cpu_step}
-use Rattle.dspec_deeds.specs.Ranges.{start_fault}
-use Rattle.dspec_interleaving.specs.Coherent.{StandsProgress, StandsState, PushesNext, ProgressStands, progress_of, PlayState, IsCoherent, idle_progress}
-use Rattle.dspec_interleaving.specs.Turns.{idle_cpus, at_start, begin_cpu, begin_consumer, step_cpu, step_consumer, step, on_to_end}
 use Rattle.dspec_interleaving.proofs.OthersStand.{others_stand}
 use Rattle.dspec_deeds.proofs.Going.{authors_go_on}
 use Rattle.dspec_interleaving.proofs.CpuSteps.{cpu_step_stands}

@@ -4,8 +4,9 @@ use Rattle.std.specs.Prelude.{nat_lt}
 use Rattle.std.proofs.lemmas.Bool.Decides.{nat_tests}
 use Rattle.std.proofs.lemmas.List.{length-set, get_or-set_same, get_or-set_other}
 use Rattle.dspec_record.specs.declared.field.Shape.{Shape}
-use Rattle.dspec_word.specs.Code.{awaits}
-use Rattle.dspec_word.specs.Word.{SlotState}
+use Rattle.dspec_interleaving.specs.Words.{awaits, SlotState, CpuProgress, ConsumerFlight, ConsumerProgress, CallPlace, Spare, halted, issue, present, settled, releaser, author, owed, word_at, ack}
+use Rattle.dspec_interleaving.specs.Words.{seals, IsAllowed, ConsumerStep, same_word, consumer_step, consumer_begun, changes, stops, takes_at, gives_at, next_slot, loads_slot, loads_ack, reaps}
+use Rattle.dspec_interleaving.specs.Words.{start_fault, IsSlot, StandsProgress, SettledBelow, StandsConsumer, StandsState, SpareCounts, ProgressStands, progress_of, idle_progress}
 use Rattle.dspec_deeds.specs.declared.config.Config.{Config}
 use Rattle.dspec_deeds.specs.declared.calls.Actor.TheVariants.{Consumer}
 use Rattle.dspec_deeds.specs.declared.calls.Answer.{Answer}
@@ -14,20 +15,9 @@ use Rattle.dspec_deeds.specs.declared.calls.ConsumerOp.{ConsumerOp}
 use Rattle.dspec_deeds.specs.declared.calls.ConsumerOp.TheVariants as consumer_op
 use Rattle.dspec_deeds.specs.declared.deed.Deed.{Deed}
 use Rattle.dspec_deeds.specs.declared.deed.Deed.TheVariants.{Release, Halt}
-use Rattle.dspec_interleaving.specs.declared.flight.CpuProgress.{CpuProgress}
-use Rattle.dspec_interleaving.specs.declared.flight.ConsumerFlight.{ConsumerFlight}
 use Rattle.dspec_interleaving.specs.declared.flight.ConsumerFlight.TheVariants as consumer
-use Rattle.dspec_interleaving.specs.declared.flight.ConsumerProgress.{ConsumerProgress}
-use Rattle.dspec_interleaving.specs.declared.flight.CallPlace.{CallPlace}
 use Rattle.dspec_interleaving.specs.declared.flight.CallPlace.TheVariants as cpu
-use Rattle.dspec_interleaving.specs.declared.flight.Spare.{Spare}
 use Rattle.dspec_interleaving.specs.declared.flight.Spare.TheVariants as spare
-use Rattle.dspec_deeds.specs.History.{halted, issue, present, settled, releaser, author, owed, word_at, ack}
-use Rattle.dspec_deeds.specs.Own.{seals}
-use Rattle.dspec_deeds.specs.Legal.{IsAllowed}
-use Rattle.dspec_interleaving.specs.Play.{ConsumerStep, same_word, consumer_step, consumer_begun, changes, stops, takes_at, gives_at, next_slot, loads_slot, loads_ack, reaps}
-use Rattle.dspec_deeds.specs.Ranges.{start_fault}
-use Rattle.dspec_interleaving.specs.Coherent.{IsSlot, StandsProgress, SettledBelow, StandsConsumer, StandsState, SpareCounts, ProgressStands, progress_of, idle_progress}
 use Rattle.dspec_deeds.proofs.TestLemmas.{either_way, same_number, numbers_differ}
 use Rattle.dspec_deeds.proofs.SetUp.{set_up}
 use Rattle.dspec_deeds.proofs.Acked.{acked}

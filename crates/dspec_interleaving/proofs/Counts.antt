@@ -4,19 +4,14 @@ use Rattle.std.proofs.Common.{[], ◌∷◌, ◌++◌, length, reverse, if◌the
 use Rattle.std.specs.Prelude.{nat_lt, nat_le}
 use Rattle.std.proofs.lemmas.Bool.Decides.{nat_tests}
 use Rattle.std.proofs.lemmas.List.{length-reverse}
-use Rattle.dspec_word.specs.SpecId.{Speculation}
+use Rattle.dspec_interleaving.specs.Words.{Speculation, is_between, is_size, start_fault, opens, opened, issue, present, Spare, SpareCounts, is_call, calls, seals_now, seals, is_drop, growing}
+use Rattle.dspec_interleaving.specs.Words.{IsSound, Follows}
 use Rattle.dspec_deeds.specs.declared.config.Config.{Config}
 use Rattle.dspec_deeds.specs.declared.deed.Deed.{Deed}
 use Rattle.dspec_deeds.specs.declared.deed.Deed.TheVariants.{Opened}
 use Rattle.dspec_deeds.specs.declared.config.StartFault.{StartFault}
 use Rattle.dspec_deeds.specs.declared.config.StartFault.TheVariants.{Cpus, Specs, BufSize, SpecSize, Issues}
-use Rattle.dspec_deeds.specs.Ranges.{is_between, is_size, start_fault}
-use Rattle.dspec_deeds.specs.History.{opens, opened, issue, present}
-use Rattle.dspec_interleaving.specs.declared.flight.Spare.{Spare}
 use Rattle.dspec_interleaving.specs.declared.flight.Spare.TheVariants as spare
-use Rattle.dspec_interleaving.specs.Coherent.{SpareCounts}
-use Rattle.dspec_deeds.specs.Own.{is_call, calls, seals_now, seals, is_drop, growing}
-use Rattle.dspec_deeds.specs.Legal.{IsSound, Follows}
 use Rattle.dspec_deeds.proofs.TestLemmas.{or_tells, and_tells, same_id_tells}
 
 -- one at the most

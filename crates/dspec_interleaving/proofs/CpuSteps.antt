@@ -5,14 +5,8 @@ use Rattle.dspec_deeds.specs.declared.config.Config.{Config}
 use Rattle.dspec_deeds.specs.declared.calls.CpuOp.{CpuOp}
 use Rattle.dspec_deeds.specs.declared.calls.CpuOp.TheVariants as cpu_op
 use Rattle.dspec_deeds.specs.declared.deed.Deed.{Deed}
-use Rattle.dspec_interleaving.specs.declared.flight.CpuProgress.{CpuProgress}
-use Rattle.dspec_interleaving.specs.declared.flight.CallPlace.{CallPlace}
+use Rattle.dspec_interleaving.specs.Words.{CpuProgress, CallPlace, start_fault, owed, scan, IsAllowed, begun, cpu_step, StandsCpu, StandsProgress, ProgressStands}
 use Rattle.dspec_interleaving.specs.declared.flight.CallPlace.TheVariants as cpu
-use Rattle.dspec_deeds.specs.Ranges.{start_fault}
-use Rattle.dspec_deeds.specs.History.{owed, scan}
-use Rattle.dspec_deeds.specs.Legal.{IsAllowed}
-use Rattle.dspec_interleaving.specs.Play.{begun, cpu_step}
-use Rattle.dspec_interleaving.specs.Coherent.{StandsCpu, StandsProgress, ProgressStands}
 use Rattle.dspec_interleaving.proofs.StepsParts.{IsUnderWay, StepStands, pushes_not}
 use Rattle.dspec_interleaving.proofs.StepsTrace.{trace_begins}
 use Rattle.dspec_interleaving.proofs.StepsScan.{scan_begins, scan_loads, scan_tries}

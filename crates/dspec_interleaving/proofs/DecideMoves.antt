@@ -2,16 +2,13 @@
 use Rattle.std.proofs.Common.{◌≡◌, ◌≢◌, ℕ, ◌+◌, Bool, true, false, List, [], ◌∷◌, ◌++◌, length, Option, Some, None, if◌then◌else◌, refl, sym, ◌∙◌, subst, ⊎_elim}
 use denote.Enum.Bare.{sameb}
 use Rattle.dspec_record.specs.declared.field.Shape.{Shape}
-use Rattle.dspec_buffer.specs.Extent.{block}
+use Rattle.dspec_interleaving.specs.Words.{block, is_inactive, Speculation, SlotState, released, commit_at, discard_at, CpuProgress, is_commit, is_among, callers, issue, is_sole, word_at, contents}
+use Rattle.dspec_interleaving.specs.Words.{held, IsSound, fits_principal, ends, shown_commit, shown_discard, is_alone, committed_by, discarded_by, commit_fate, discard_fate, answer_of}
 use Rattle.dspec_word.specs.contracts.code.Code.{the_type}
 use Rattle.dspec_word.specs.declared.act.Act.{Act}
 use Rattle.dspec_word.specs.declared.act.Act.TheVariants.{Void, Granted, Attempt, Idle}
 use Rattle.dspec_word.specs.declared.code.Code.{Code}
 use Rattle.dspec_word.specs.declared.code.Code.TheVariants.{Inactive, Active, ActiveOne, ActiveMany, Committing, CommittingMany, Discarding}
-use Rattle.dspec_word.specs.Code.{is_inactive}
-use Rattle.dspec_word.specs.SpecId.{Speculation}
-use Rattle.dspec_word.specs.Word.{SlotState, released}
-use Rattle.dspec_word.specs.Tables.{commit_at, discard_at}
 use Rattle.dspec_deeds.specs.declared.config.Config.{Config}
 use Rattle.dspec_deeds.specs.declared.calls.Answer.{Answer}
 use Rattle.dspec_deeds.specs.declared.calls.Answer.TheVariants as answer
@@ -19,15 +16,7 @@ use Rattle.dspec_deeds.specs.declared.calls.Decided.TheVariants as decided_answe
 use Rattle.dspec_deeds.specs.declared.deed.DecideFate.TheVariants as decided
 use Rattle.dspec_deeds.specs.declared.deed.Deed.{Deed}
 use Rattle.dspec_deeds.specs.declared.deed.Deed.TheVariants.{Commit, Discard, Release}
-use Rattle.dspec_interleaving.specs.declared.flight.CpuProgress.{CpuProgress}
 use Rattle.dspec_interleaving.specs.declared.flight.CallPlace.TheVariants as cpu
-use Rattle.dspec_deeds.specs.FateKinds.{is_commit}
-use Rattle.dspec_deeds.specs.History.{is_among, callers, issue, is_sole, word_at}
-use Rattle.dspec_deeds.specs.Own.{contents, held}
-use Rattle.dspec_deeds.specs.Legal.{IsSound, fits_principal}
-use Rattle.dspec_interleaving.specs.Play.{ends, shown_commit, shown_discard, is_alone, committed_by, discarded_by}
-use Rattle.dspec_deeds.specs.Settling.{commit_fate, discard_fate}
-use Rattle.dspec_deeds.specs.FateAnswers.{answer_of}
 use Rattle.dspec_deeds.proofs.TestLemmas.{either_way}
 use Rattle.dspec_deeds.proofs.WordActs.{commit_attempt, discard_attempt}
 use Rattle.dspec_deeds.proofs.WordChanges.{committed_word, discarded_word, released_word}

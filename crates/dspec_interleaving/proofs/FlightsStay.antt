@@ -2,19 +2,13 @@
 use Rattle.std.proofs.Common.{◌≡◌, ◌+◌, ℕ, ◌<◌, Bool, true, false, ◌==◌, List, [], length, slice_set, if◌then◌else◌, refl, sym, ap, ◌∙◌, subst, ⊎_elim, arith}
 use Rattle.std.specs.Prelude.{nat_lt}
 use Rattle.std.proofs.lemmas.List.{get_or-set_same, get_or-set_other}
-use Rattle.dspec_word.specs.Code.{awaits}
+use Rattle.dspec_interleaving.specs.Words.{awaits, CpuProgress, ConsumerFlight, ConsumerProgress, Spare, halted, word_at, ack, ConsumerStep, same_word, consumer_step, takes_at, gives_at, next_slot}
+use Rattle.dspec_interleaving.specs.Words.{loads_slot, progress_of, idle_progress}
 use Rattle.dspec_deeds.specs.declared.config.Config.{Config}
 use Rattle.dspec_deeds.specs.declared.calls.ConsumerOp.TheVariants as consumer_op
 use Rattle.dspec_deeds.specs.declared.deed.Deed.{Deed}
-use Rattle.dspec_interleaving.specs.declared.flight.CpuProgress.{CpuProgress}
-use Rattle.dspec_interleaving.specs.declared.flight.ConsumerFlight.{ConsumerFlight}
 use Rattle.dspec_interleaving.specs.declared.flight.ConsumerFlight.TheVariants as consumer
-use Rattle.dspec_interleaving.specs.declared.flight.ConsumerProgress.{ConsumerProgress}
-use Rattle.dspec_interleaving.specs.declared.flight.Spare.{Spare}
 use Rattle.dspec_interleaving.specs.declared.flight.Spare.TheVariants as spare
-use Rattle.dspec_deeds.specs.History.{halted, word_at, ack}
-use Rattle.dspec_interleaving.specs.Play.{ConsumerStep, same_word, consumer_step, takes_at, gives_at, next_slot, loads_slot}
-use Rattle.dspec_interleaving.specs.Coherent.{progress_of, idle_progress}
 use Rattle.dspec_deeds.proofs.TestLemmas.{either_way, same_number, numbers_differ}
 
 module _ (k : Config) (h : List Deed) (side : ConsumerProgress) (all : List CpuProgress) (count : length all ≡ k.cpus) where

@@ -3,14 +3,12 @@ use Rattle.std.proofs.Common.{◌≡◌, ℕ, ◌+◌, ◌<◌, Bool, true, fals
 use Rattle.std.specs.Prelude.{nat_lt}
 use Rattle.std.proofs.lemmas.List.{get_or-set_same, get_or-set_other}
 use Rattle.dspec_record.specs.declared.field.Shape.{Shape}
-use Rattle.dspec_record.specs.Record.{Record}
-use Rattle.dspec_buffer.specs.Extent.{one}
+use Rattle.dspec_interleaving.specs.Words.{Record, one, awaits, Speculation, SlotState, speculate_at, commit_at, discard_at, open_at, settle_at, CpuProgress, ConsumerFlight, ConsumerProgress}
+use Rattle.dspec_interleaving.specs.Words.{CallPlace, Spare, is_fill, halted, in_range, word_at, ack, seals, fits_principal, fits_speculative, op_of, consumer_op_of, CpuStep, ConsumerStep}
+use Rattle.dspec_interleaving.specs.Words.{same_word, is_alone, is_release, is_worn, is_mine, spoken_at, shown_speculate, shown_commit, shown_discard, missed, shown_scan, asked, begun, popped}
+use Rattle.dspec_interleaving.specs.Words.{served, shown_service, cpu_step, takes_at, gives_at, next_slot, loads_slot, consumer_step, progress_of, idle_progress}
 use Rattle.dspec_word.specs.declared.act.Act.{Act}
 use Rattle.dspec_word.specs.declared.act.Act.TheVariants.{Void, Granted, Attempt, Idle}
-use Rattle.dspec_word.specs.Code.{awaits}
-use Rattle.dspec_word.specs.SpecId.{Speculation}
-use Rattle.dspec_word.specs.Word.{SlotState}
-use Rattle.dspec_word.specs.Tables.{speculate_at, commit_at, discard_at, open_at, settle_at}
 use Rattle.dspec_deeds.specs.declared.config.Config.{Config}
 use Rattle.dspec_deeds.specs.declared.calls.ConsumerOp.{ConsumerOp}
 use Rattle.dspec_deeds.specs.declared.calls.ConsumerOp.TheVariants as consumer_op
@@ -18,22 +16,9 @@ use Rattle.dspec_deeds.specs.declared.calls.CpuOp.{CpuOp}
 use Rattle.dspec_deeds.specs.declared.calls.CpuOp.TheVariants as cpu_op
 use Rattle.dspec_deeds.specs.declared.calls.Served.{Served}
 use Rattle.dspec_deeds.specs.declared.deed.Deed.{Deed}
-use Rattle.dspec_interleaving.specs.declared.flight.CpuProgress.{CpuProgress}
-use Rattle.dspec_interleaving.specs.declared.flight.ConsumerFlight.{ConsumerFlight}
 use Rattle.dspec_interleaving.specs.declared.flight.ConsumerFlight.TheVariants as consumer
-use Rattle.dspec_interleaving.specs.declared.flight.ConsumerProgress.{ConsumerProgress}
-use Rattle.dspec_interleaving.specs.declared.flight.CallPlace.{CallPlace}
 use Rattle.dspec_interleaving.specs.declared.flight.CallPlace.TheVariants as cpu
-use Rattle.dspec_interleaving.specs.declared.flight.Spare.{Spare}
 use Rattle.dspec_interleaving.specs.declared.flight.Spare.TheVariants as spare
-use Rattle.dspec_deeds.specs.Ranges.{is_fill}
-use Rattle.dspec_deeds.specs.History.{halted, in_range, word_at, ack}
-use Rattle.dspec_deeds.specs.Own.{seals}
-use Rattle.dspec_deeds.specs.Legal.{fits_principal, fits_speculative}
-use Rattle.dspec_interleaving.specs.Calls.{op_of, consumer_op_of}
-use Rattle.dspec_interleaving.specs.Play.{CpuStep, ConsumerStep, same_word, is_alone, is_release, is_worn, is_mine, spoken_at, shown_speculate, shown_commit, shown_discard, missed}
-use Rattle.dspec_interleaving.specs.Play.{shown_scan, asked, begun, popped, served, shown_service, cpu_step, takes_at, gives_at, next_slot, loads_slot, consumer_step}
-use Rattle.dspec_interleaving.specs.Coherent.{progress_of, idle_progress}
 use Rattle.dspec_deeds.proofs.TestLemmas.{either_way, same_number, numbers_differ}
 
 module _ (P : CpuOp → Type 0) where

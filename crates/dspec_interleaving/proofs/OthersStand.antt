@@ -2,20 +2,14 @@
 use Rattle.std.proofs.Common.{◌≡◌, ◌⊎◌, ℕ, ◌<◌, ◌≤◌, Bool, true, false, List, [], ◌∷◌, ◌++◌, Option, Some, None, refl, sym, ap, ◌∙◌, subst, ⊎_elim, inl, inr, arith}
 use Rattle.dspec_record.specs.declared.field.Shape.{Shape}
 use Rattle.dspec_word.specs.declared.act.Act.{Act}
-use Rattle.dspec_word.specs.SpecId.{Speculation}
-use Rattle.dspec_word.specs.Word.{SlotState, word_number}
-use Rattle.dspec_word.specs.Tables.{speculate_at, commit_at, discard_at}
+use Rattle.dspec_interleaving.specs.Words.{Speculation, SlotState, word_number, speculate_at, commit_at, discard_at, CpuProgress, CallPlace, same_actor, author, is_among, issue, present, opened}
+use Rattle.dspec_interleaving.specs.Words.{committed, verdict, is_undecided, callers, solo, settled, scan, opened_since, part, late, owed, word_at, seals, IsSound, sealed_last, OnItsWay, Expects}
+use Rattle.dspec_interleaving.specs.Words.{StandsCpu, StandsProgress, SpareCounts, ProgressStands}
 use Rattle.dspec_deeds.specs.declared.config.Config.{Config}
 use Rattle.dspec_deeds.specs.declared.calls.Actor.{Actor}
 use Rattle.dspec_deeds.specs.declared.calls.Actor.TheVariants.{Cpu}
 use Rattle.dspec_deeds.specs.declared.deed.Deed.{Deed}
-use Rattle.dspec_interleaving.specs.declared.flight.CpuProgress.{CpuProgress}
-use Rattle.dspec_interleaving.specs.declared.flight.CallPlace.{CallPlace}
 use Rattle.dspec_interleaving.specs.declared.flight.CallPlace.TheVariants as cpu
-use Rattle.dspec_deeds.specs.History.{same_actor, author, is_among, issue, present, opened, committed, verdict, is_undecided, callers, solo, settled, scan, opened_since, part, late, owed, word_at}
-use Rattle.dspec_deeds.specs.Own.{seals}
-use Rattle.dspec_deeds.specs.Legal.{IsSound, sealed_last}
-use Rattle.dspec_interleaving.specs.Coherent.{OnItsWay, Expects, StandsCpu, StandsProgress, SpareCounts, ProgressStands}
 use Rattle.dspec_deeds.proofs.TestLemmas.{same_actor_tells}
 use Rattle.dspec_deeds.proofs.PresentIds.{present_is}
 use Rattle.dspec_deeds.proofs.WordsRise.{words_rise}

@@ -2,14 +2,12 @@
 use Rattle.std.proofs.Common.{◌≡◌, ℕ, ◌+◌, ◌-◌, Bool, true, false, ◌==◌, ◌&&◌, List, [], ◌∷◌, ◌++◌, Option, if◌then◌else◌, refl, sym, ap, subst}
 use Rattle.std.specs.Prelude.{nat_lt}
 use Rattle.dspec_record.specs.declared.field.Shape.{Shape}
-use Rattle.dspec_record.specs.Record.{Record}
-use Rattle.dspec_buffer.specs.Extent.{one}
+use Rattle.dspec_interleaving.specs.Words.{Record, one, is_decided, Speculation, SlotState, speculate_at, commit_at, discard_at, open_at, settle_at, CpuProgress, CallPlace, Spare, is_busy_among}
+use Rattle.dspec_interleaving.specs.Words.{answer_of_cpu, op_of, is_fill, halted, in_range, word_at, ack, seals, fits_principal, fits_speculative, CpuStep, same_word, is_alone, is_release, is_worn}
+use Rattle.dspec_interleaving.specs.Words.{is_mine, ends, wears, call_goes_on, spoken_at, shown_speculate, shown_commit, shown_discard, missed, shown_scan, asked, begun, popped, served}
+use Rattle.dspec_interleaving.specs.Words.{shown_service, cpu_step, commit_fate, discard_fate, settle_fate, answer_of, is_worn_answer, missed_busy}
 use Rattle.dspec_word.specs.declared.act.Act.{Act}
 use Rattle.dspec_word.specs.declared.act.Act.TheVariants.{Void, Granted, Attempt, Idle}
-use Rattle.dspec_word.specs.Code.{is_decided}
-use Rattle.dspec_word.specs.SpecId.{Speculation}
-use Rattle.dspec_word.specs.Word.{SlotState}
-use Rattle.dspec_word.specs.Tables.{speculate_at, commit_at, discard_at, open_at, settle_at}
 use Rattle.dspec_deeds.specs.declared.config.Config.{Config}
 use Rattle.dspec_deeds.specs.declared.calls.Answer.{Answer}
 use Rattle.dspec_deeds.specs.declared.calls.Answer.TheVariants as answer
@@ -26,23 +24,8 @@ use Rattle.dspec_deeds.specs.declared.deed.SpeculateFate.TheVariants as spoken
 use Rattle.dspec_deeds.specs.declared.deed.TraceFate.TheVariants as traced
 use Rattle.dspec_deeds.specs.declared.deed.Deed.{Deed}
 use Rattle.dspec_deeds.specs.declared.deed.Deed.TheVariants.{Trace, Scan, Miss, Speculate, Commit, Discard, Settle, Seal, Release}
-use Rattle.dspec_interleaving.specs.declared.flight.CpuProgress.{CpuProgress}
-use Rattle.dspec_interleaving.specs.declared.flight.CallPlace.{CallPlace}
 use Rattle.dspec_interleaving.specs.declared.flight.CallPlace.TheVariants as cpu
-use Rattle.dspec_interleaving.specs.declared.flight.Spare.{Spare}
 use Rattle.dspec_interleaving.specs.declared.flight.Spare.TheVariants as spare
-use Rattle.dspec_interleaving.specs.ReadOff.{is_busy_among, answer_of_cpu}
-use Rattle.dspec_interleaving.specs.Calls.{op_of}
-use Rattle.dspec_deeds.specs.Ranges.{is_fill}
-use Rattle.dspec_deeds.specs.History.{halted, in_range, word_at, ack}
-use Rattle.dspec_deeds.specs.Own.{seals}
-use Rattle.dspec_deeds.specs.Legal.{fits_principal, fits_speculative}
-use Rattle.dspec_interleaving.specs.Play.{CpuStep, same_word, is_alone, is_release, is_worn, is_mine, ends, wears, call_goes_on, spoken_at, shown_speculate}
-use Rattle.dspec_interleaving.specs.Play.{shown_commit, shown_discard, missed, shown_scan, asked, begun, popped, served, shown_service, cpu_step}
-use Rattle.dspec_deeds.specs.Settling.{commit_fate, discard_fate, settle_fate}
-use Rattle.dspec_deeds.specs.FateAnswers.{answer_of}
-use Rattle.dspec_interleaving.specs.Plays.{is_worn_answer}
-use Rattle.dspec_deeds.specs.Reports.{missed_busy}
 use Rattle.dspec_deeds.proofs.TestLemmas.{number_is_itself}
 use Rattle.dspec_interleaving.proofs.OwnTelling.{HasServed, OwnDeeds, ReadsOff, busy_now, fails_unworn, told_unworn}
 

@@ -3,8 +3,9 @@ use Rattle.std.proofs.Common.{◌≡◌, ℕ, ◌+◌, ◌<◌, Bool, true, fals
 use Rattle.std.specs.Prelude.{nat_lt, slice_set}
 use Rattle.std.proofs.lemmas.Bool.Decides.{nat_tests}
 use Rattle.std.proofs.lemmas.List.{get_or-set_same, get_or-set_other}
-use Rattle.dspec_word.specs.Code.{awaits}
-use Rattle.dspec_word.specs.Word.{SlotState}
+use Rattle.dspec_interleaving.specs.Words.{awaits, SlotState, CpuProgress, ConsumerFlight, Spare, release_count, is_unpushed, answer_of_consumer, consumer_op_of, is_about, SpareCounts}
+use Rattle.dspec_interleaving.specs.Words.{ProgressStands, PlayState, progress_of, idle_progress, halted, word_at, ack, seals, ConsumerStep, same_word, keeps_on, stops, changes, takes_at, gives_at}
+use Rattle.dspec_interleaving.specs.Words.{next_slot, loads_slot, loads_ack, reaps, consumer_begun, consumer_step, took, is_out}
 use Rattle.dspec_deeds.specs.declared.config.Config.{Config}
 use Rattle.dspec_deeds.specs.declared.calls.Answer.{Answer}
 use Rattle.dspec_deeds.specs.declared.calls.Answer.TheVariants as answer
@@ -12,18 +13,8 @@ use Rattle.dspec_deeds.specs.declared.calls.ConsumerOp.{ConsumerOp}
 use Rattle.dspec_deeds.specs.declared.calls.ConsumerOp.TheVariants as consumer_op
 use Rattle.dspec_deeds.specs.declared.deed.Deed.{Deed}
 use Rattle.dspec_deeds.specs.declared.deed.Deed.TheVariants.{Release, Halt}
-use Rattle.dspec_interleaving.specs.declared.flight.CpuProgress.{CpuProgress}
-use Rattle.dspec_interleaving.specs.declared.flight.ConsumerFlight.{ConsumerFlight}
 use Rattle.dspec_interleaving.specs.declared.flight.ConsumerFlight.TheVariants as consumer
-use Rattle.dspec_interleaving.specs.declared.flight.Spare.{Spare}
 use Rattle.dspec_interleaving.specs.declared.flight.Spare.TheVariants as spare
-use Rattle.dspec_interleaving.specs.ReadOff.{release_count, is_unpushed, answer_of_consumer}
-use Rattle.dspec_interleaving.specs.Calls.{consumer_op_of, is_about}
-use Rattle.dspec_interleaving.specs.Coherent.{SpareCounts, ProgressStands, PlayState, progress_of, idle_progress}
-use Rattle.dspec_deeds.specs.History.{halted, word_at, ack}
-use Rattle.dspec_deeds.specs.Own.{seals}
-use Rattle.dspec_interleaving.specs.Play.{ConsumerStep, same_word, keeps_on, stops, changes, takes_at, gives_at, next_slot, loads_slot, loads_ack, reaps, consumer_begun, consumer_step, took}
-use Rattle.dspec_interleaving.specs.Whole.{is_out}
 use Rattle.dspec_deeds.proofs.TestLemmas.{either_way, same_number, numbers_differ}
 use Rattle.dspec_interleaving.proofs.OwnTelling.{Tells}
 

@@ -5,7 +5,9 @@ use Rattle.std.specs.List.{AllByRecursion}
 use Rattle.std.proofs.lemmas.Bool.Decides.{nat_tests}
 use Rattle.std.proofs.lemmas.List.{get_or-set_same, get_or-set_other, reverse-append, map-append}
 use Rattle.dspec_record.specs.declared.field.Shape.{Shape}
-use Rattle.dspec_record.specs.Record.{Record}
+use Rattle.dspec_interleaving.specs.Words.{Record, CpuProgress, ConsumerFlight, CallPlace, op_of, consumer_op_of, is_about, StandsState, PlayState, progress_of, idle_progress, CpuStep, ConsumerStep}
+use Rattle.dspec_interleaving.specs.Words.{cpu_step, consumer_step, start_fault, EndedCall, Noted, ended, read_off, IsReadOff, Playing, with_note, with_entered, playing_at_start, begun_cpu}
+use Rattle.dspec_interleaving.specs.Words.{begun_consumer, played, answers_of, play_fault, is_worn_answer, is_by, worn_answers, worn_count}
 use Rattle.dspec_deeds.specs.declared.config.Config.{Config}
 use Rattle.dspec_deeds.specs.declared.calls.Actor.{Actor}
 use Rattle.dspec_deeds.specs.declared.calls.Actor.TheVariants as actor
@@ -16,16 +18,7 @@ use Rattle.dspec_deeds.specs.declared.calls.Op.{Op}
 use Rattle.dspec_deeds.specs.declared.calls.Op.TheVariants as op
 use Rattle.dspec_deeds.specs.declared.calls.Turn.{Turn}
 use Rattle.dspec_deeds.specs.declared.deed.Deed.{Deed}
-use Rattle.dspec_interleaving.specs.declared.flight.CpuProgress.{CpuProgress}
-use Rattle.dspec_interleaving.specs.declared.flight.ConsumerFlight.{ConsumerFlight}
-use Rattle.dspec_interleaving.specs.declared.flight.CallPlace.{CallPlace}
 use Rattle.dspec_interleaving.specs.declared.flight.CallPlace.TheVariants as cpu
-use Rattle.dspec_interleaving.specs.Calls.{op_of, consumer_op_of, is_about}
-use Rattle.dspec_interleaving.specs.Coherent.{StandsState, PlayState, progress_of, idle_progress}
-use Rattle.dspec_interleaving.specs.Play.{CpuStep, ConsumerStep, cpu_step, consumer_step}
-use Rattle.dspec_deeds.specs.Ranges.{start_fault}
-use Rattle.dspec_interleaving.specs.Plays.{EndedCall, Noted, ended, read_off, IsReadOff, Playing, with_note, with_entered, playing_at_start}
-use Rattle.dspec_interleaving.specs.Plays.{begun_cpu, begun_consumer, played, answers_of, play_fault, is_worn_answer, is_by, worn_answers, worn_count}
 use Rattle.dspec_deeds.proofs.TestLemmas.{either_way, number_is_itself, same_number, numbers_differ}
 use Rattle.dspec_interleaving.proofs.Coherence.{idle_at, start_coherent}
 use Rattle.dspec_interleaving.proofs.CpuSteps.{cpu_step_stands}

@@ -1,7 +1,8 @@
 -- What a call holds of its own deeds, and that other actors' deeds leave it.
 use Rattle.std.proofs.Common.{◌≡◌, ℕ, ◌+◌, ◌-◌, ◌^◌, Bool, true, false, List, [], ◌∷◌, ◌++◌, Option, Some, None, if◌then◌else◌, refl, sym, ◌∙◌, subst}
 use Rattle.std.specs.Prelude.{min}
-use Rattle.dspec_buffer.specs.Extent.{one}
+use Rattle.dspec_interleaving.specs.Words.{one, CpuProgress, CallPlace, is_busy_among, has_seal, settle_count, answer_of_cpu, author, same_actor, CpuStep, wears, missed, answer_of, is_worn_answer}
+use Rattle.dspec_interleaving.specs.Words.{missed_busy}
 use Rattle.dspec_word.specs.declared.act.Act.TheVariants.{Void}
 use Rattle.dspec_deeds.specs.declared.calls.Actor.{Actor}
 use Rattle.dspec_deeds.specs.declared.calls.Actor.TheVariants.{Cpu}
@@ -14,16 +15,7 @@ use Rattle.dspec_deeds.specs.declared.deed.DecideFate.{DecideFate}
 use Rattle.dspec_deeds.specs.declared.deed.DecideFate.TheVariants as decided
 use Rattle.dspec_deeds.specs.declared.deed.Deed.{Deed}
 use Rattle.dspec_deeds.specs.declared.deed.Deed.TheVariants.{Miss, Commit, Seal}
-use Rattle.dspec_interleaving.specs.declared.flight.CpuProgress.{CpuProgress}
-use Rattle.dspec_interleaving.specs.declared.flight.CallPlace.{CallPlace}
 use Rattle.dspec_interleaving.specs.declared.flight.CallPlace.TheVariants as cpu
-use Rattle.dspec_interleaving.specs.ReadOff.{is_busy_among, has_seal, settle_count, answer_of_cpu}
-use Rattle.dspec_deeds.specs.History.{author, same_actor}
-use Rattle.dspec_interleaving.specs.Play.{CpuStep, wears}
-use Rattle.dspec_interleaving.specs.Play.{missed}
-use Rattle.dspec_deeds.specs.FateAnswers.{answer_of}
-use Rattle.dspec_interleaving.specs.Plays.{is_worn_answer}
-use Rattle.dspec_deeds.specs.Reports.{missed_busy}
 use Rattle.dspec_deeds.proofs.StayingOwn.{missed_other}
 use Rattle.dspec_deeds.proofs.TestLemmas.{number_is_itself, same_actor_tells}
 use Rattle.dspec_deeds.proofs.Going.{AllBy}

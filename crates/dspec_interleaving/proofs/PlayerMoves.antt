@@ -6,13 +6,8 @@ use Rattle.dspec_deeds.specs.declared.calls.Actor.{Actor}
 use Rattle.dspec_deeds.specs.declared.calls.Actor.TheVariants as actor
 use Rattle.dspec_deeds.specs.declared.calls.Answer.{Answer}
 use Rattle.dspec_deeds.specs.declared.calls.Op.{Op}
-use Rattle.dspec_interleaving.specs.declared.flight.ConsumerFlight.{ConsumerFlight}
-use Rattle.dspec_interleaving.specs.declared.flight.CallPlace.{CallPlace}
-use Rattle.dspec_interleaving.specs.declared.refusal.Stepped.TheVariants.{Done}
-use Rattle.dspec_interleaving.specs.Calls.{cpu_call_of, consumer_call_of, call_of, is_idle, told_step}
-use Rattle.dspec_interleaving.specs.Coherent.{PlayState, progress_of}
-use Rattle.dspec_interleaving.specs.Plays.{EndedCall, IsPlayingAt, Noted, Playing, cpu_stepped, consumer_stepped, ended, with_note, stepped, to_end}
-use Rattle.dspec_interleaving.specs.Turns.{step}
+use Rattle.dspec_interleaving.specs.Words.{ConsumerFlight, CallPlace, Done, cpu_call_of, consumer_call_of, call_of, is_idle, told_step, PlayState, progress_of, EndedCall, IsPlayingAt, Noted}
+use Rattle.dspec_interleaving.specs.Words.{Playing, cpu_stepped, consumer_stepped, ended, with_note, stepped, to_end, step}
 
 -- the latest call to end is put down last
 put_last : (n : Noted) (ns : List Noted) → map ended (reverse (n ∷ ns)) ≡ map ended (reverse ns) ++ ended n ∷ []

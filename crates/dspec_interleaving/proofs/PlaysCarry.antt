@@ -3,7 +3,10 @@ use Rattle.std.proofs.Common.{◌≡◌, ℕ, zero, suc, ◌+◌, ◌<◌, ◌�
 use Rattle.std.specs.Prelude.{nat_lt, is_none}
 use Rattle.std.proofs.lemmas.Bool.Decides.{nat_tests}
 use Rattle.dspec_record.specs.declared.field.Shape.{Shape}
-use Rattle.dspec_record.specs.Record.{Record}
+use Rattle.dspec_interleaving.specs.Words.{Record, ConsumerFlight, CallPlace, PlayFault, BeginFault, most_steps, op_of, consumer_op_of, record_passes, is_about, is_actor, is_idle, begin_cpu_fault}
+use Rattle.dspec_interleaving.specs.Words.{begin_consumer_fault, PlayState, progress_of, cpu_step, consumer_step, start_fault, moved_to, cleaned_to, step_cpu, step_consumer, Playing, with_note}
+use Rattle.dspec_interleaving.specs.Words.{with_entered, playing_at_start, begun_cpu, begun_consumer, cpu_stepped, consumer_stepped, stepped, to_end, ran, turned, all_turned, cpus_ran, all_ran}
+use Rattle.dspec_interleaving.specs.Words.{played, begin_refusal, step_refusal, or_else, setup_fault, refusal, turn_fault, play_fault}
 use Rattle.dspec_deeds.specs.declared.config.Config.{Config}
 use Rattle.dspec_deeds.specs.declared.config.StartFault.{StartFault}
 use Rattle.dspec_deeds.specs.declared.calls.Actor.{Actor}
@@ -13,20 +16,8 @@ use Rattle.dspec_deeds.specs.declared.calls.CpuOp.{CpuOp}
 use Rattle.dspec_deeds.specs.declared.calls.Op.TheVariants as op
 use Rattle.dspec_deeds.specs.declared.calls.Turn.{Turn}
 use Rattle.dspec_deeds.specs.declared.calls.Turn.TheVariants.{BeginCpu, BeginConsumer, Step, RunCpu, RunConsumer}
-use Rattle.dspec_interleaving.specs.declared.flight.ConsumerFlight.{ConsumerFlight}
-use Rattle.dspec_interleaving.specs.declared.flight.CallPlace.{CallPlace}
-use Rattle.dspec_interleaving.specs.declared.outcome.PlayFault.{PlayFault}
-use Rattle.dspec_interleaving.specs.declared.refusal.BeginFault.{BeginFault}
 use Rattle.dspec_interleaving.specs.declared.refusal.BeginFault.TheVariants as begin_fault
 use Rattle.dspec_interleaving.specs.declared.refusal.StepFault.TheVariants as step_fault
-use Rattle.dspec_interleaving.specs.Bounds.{most_steps}
-use Rattle.dspec_interleaving.specs.Calls.{op_of, consumer_op_of, record_passes, is_about, is_actor, is_idle, begin_cpu_fault, begin_consumer_fault}
-use Rattle.dspec_interleaving.specs.Coherent.{PlayState, progress_of}
-use Rattle.dspec_interleaving.specs.Play.{cpu_step, consumer_step}
-use Rattle.dspec_deeds.specs.Ranges.{start_fault}
-use Rattle.dspec_interleaving.specs.Turns.{moved_to, cleaned_to, step_cpu, step_consumer}
-use Rattle.dspec_interleaving.specs.Plays.{Playing, with_note, with_entered, playing_at_start, begun_cpu, begun_consumer, cpu_stepped, consumer_stepped, stepped, to_end, ran, turned}
-use Rattle.dspec_interleaving.specs.Plays.{all_turned, cpus_ran, all_ran, played, begin_refusal, step_refusal, or_else, setup_fault, refusal, turn_fault, play_fault}
 
 module _ (shape : ℕ → Option Shape) where
   -- a play behind a step of a CPU's call in flight

@@ -11,16 +11,10 @@ use Rattle.dspec_deeds.specs.declared.calls.Actor.TheVariants as actor
 use Rattle.dspec_deeds.specs.declared.calls.ConsumerOp.TheVariants as consumer_op
 use Rattle.dspec_deeds.specs.declared.calls.CpuOp.{CpuOp}
 use Rattle.dspec_deeds.specs.declared.calls.CpuOp.TheVariants as cpu_op
-use Rattle.dspec_interleaving.specs.declared.flight.CpuProgress.{CpuProgress}
-use Rattle.dspec_interleaving.specs.declared.flight.ConsumerFlight.{ConsumerFlight}
+use Rattle.dspec_interleaving.specs.Words.{CpuProgress, ConsumerFlight, CallPlace, op_bound, flight_bound, clean_bound, most_steps, is_actor, is_idle, StandsProgress, StandsState, IsCoherent}
+use Rattle.dspec_interleaving.specs.Words.{progress_of, idle_progress, CpuStep, ConsumerStep, cpu_step, consumer_step, Playing, stepped, to_end, ran, cpus_ran, all_ran}
 use Rattle.dspec_interleaving.specs.declared.flight.ConsumerFlight.TheVariants as consumer
-use Rattle.dspec_interleaving.specs.declared.flight.CallPlace.{CallPlace}
 use Rattle.dspec_interleaving.specs.declared.flight.CallPlace.TheVariants as cpu
-use Rattle.dspec_interleaving.specs.Bounds.{op_bound, flight_bound, clean_bound, most_steps}
-use Rattle.dspec_interleaving.specs.Calls.{is_actor, is_idle}
-use Rattle.dspec_interleaving.specs.Coherent.{StandsProgress, StandsState, IsCoherent, progress_of, idle_progress}
-use Rattle.dspec_interleaving.specs.Play.{CpuStep, ConsumerStep, cpu_step, consumer_step}
-use Rattle.dspec_interleaving.specs.Plays.{Playing, stepped, to_end, ran, cpus_ran, all_ran}
 use Rattle.dspec_deeds.proofs.SetUp.{set_up}
 use Rattle.dspec_deeds.proofs.TestLemmas.{either_way, same_number, numbers_differ}
 use Rattle.dspec_interleaving.proofs.Coherence.{begin_cpu_coherent, begin_consumer_coherent, step_cpu_coherent, step_consumer_coherent}

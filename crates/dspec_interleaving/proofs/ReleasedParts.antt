@@ -4,14 +4,11 @@ use Rattle.std.proofs.Common.{◌≡◌, ◌≤◌, ◌<◌, ◌⊎◌, inl, inr
 use Rattle.std.proofs.Common.{[], ◌∷◌, ◌++◌, Option, None, is_none, if◌then◌else◌, refl, sym, ap, ◌∙◌, subst, ⊎_elim, arith}
 use Rattle.std.proofs.lemmas.Bool.Decides.{nat_tests}
 use Rattle.dspec_record.specs.declared.field.Shape.{Shape}
-use Rattle.dspec_word.specs.SpecId.{Speculation}
+use Rattle.dspec_interleaving.specs.Words.{Speculation, issue, present, verdict, is_undecided, solo, solo_of, settled, same_id, IsSound, owes, settled_at, settled_up, settles_as, all_settled}
+use Rattle.dspec_interleaving.specs.Words.{is_reapable, cleaned_at, cleaned_up, IsReleased}
 use Rattle.dspec_deeds.specs.declared.config.Config.{Config}
 use Rattle.dspec_deeds.specs.declared.deed.Deed.{Deed}
 use Rattle.dspec_deeds.specs.declared.deed.Deed.TheVariants.{Settle, Release}
-use Rattle.dspec_deeds.specs.History.{issue, present, verdict, is_undecided, solo, solo_of, settled, same_id}
-use Rattle.dspec_deeds.specs.Legal.{IsSound}
-use Rattle.dspec_interleaving.specs.Whole.{owes, settled_at, settled_up, settles_as}
-use Rattle.dspec_interleaving.specs.Whole.{all_settled, is_reapable, cleaned_at, cleaned_up, IsReleased}
 use Rattle.dspec_deeds.proofs.TestLemmas.{either_way, and_tells, number_is_itself, id_is_itself}
 use Rattle.dspec_deeds.proofs.SoundLists.{opened_by_now}
 use Rattle.dspec_deeds.proofs.PresentIds.{decided_shut, present_is, decided_given}

@@ -5,19 +5,14 @@ use Rattle.std.proofs.lemmas.Bool.Decides.{nat_tests}
 use Rattle.dspec_record.specs.declared.field.Shape.{Shape}
 use Rattle.dspec_word.specs.declared.act.Act.{Act}
 use Rattle.dspec_word.specs.declared.act.Act.TheVariants.{Void, Granted, Attempt, Idle}
-use Rattle.dspec_word.specs.Word.{SlotState}
+use Rattle.dspec_interleaving.specs.Words.{SlotState, CpuProgress, Spare, is_fill, seals, asked, begun, served, shown_service}
 use Rattle.dspec_deeds.specs.declared.config.Config.{Config}
 use Rattle.dspec_deeds.specs.declared.calls.Answer.{Answer}
 use Rattle.dspec_deeds.specs.declared.calls.Served.{Served}
 use Rattle.dspec_deeds.specs.declared.deed.Deed.{Deed}
-use Rattle.dspec_interleaving.specs.declared.flight.CpuProgress.{CpuProgress}
 use Rattle.dspec_interleaving.specs.declared.flight.CallPlace.TheVariants as cpu
-use Rattle.dspec_interleaving.specs.declared.flight.Spare.{Spare}
 use Rattle.dspec_interleaving.specs.declared.flight.Spare.TheVariants as spare
 use Rattle.dspec_deeds.specs.declared.calls.CpuOp.TheVariants as cpu_op
-use Rattle.dspec_deeds.specs.Ranges.{is_fill}
-use Rattle.dspec_deeds.specs.Own.{seals}
-use Rattle.dspec_interleaving.specs.Play.{asked, begun, served, shown_service}
 use Rattle.dspec_deeds.proofs.TestLemmas.{either_way}
 
 -- a CPU isn't asked where the batches wanted, or all that it may seal, were sealed

@@ -8,11 +8,7 @@ use Rattle.dspec_deeds.specs.declared.calls.Actor.{Actor}
 use Rattle.dspec_deeds.specs.declared.calls.Actor.TheVariants as actor
 use Rattle.dspec_deeds.specs.declared.config.Config.{Config}
 use Rattle.dspec_deeds.specs.declared.deed.Deed.{Deed}
-use Rattle.dspec_interleaving.specs.declared.outcome.Close.{Close}
-use Rattle.dspec_interleaving.specs.Calls.{is_actor, is_idle}
-use Rattle.dspec_deeds.specs.Closes.{CanClose, closing}
-use Rattle.dspec_interleaving.specs.Coherent.{progress_of, PlayState, IsCoherent}
-use Rattle.dspec_deeds.specs.Legal.{IsLegal}
+use Rattle.dspec_interleaving.specs.Words.{Close, is_actor, is_idle, CanClose, closing, progress_of, PlayState, IsCoherent, IsLegal}
 use Rattle.dspec_interleaving.proofs.ClosedAuthors.{closing_authors}
 use Rattle.dspec_interleaving.proofs.Closing.{can_close, closing_closes}
 

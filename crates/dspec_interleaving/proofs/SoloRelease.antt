@@ -3,20 +3,13 @@
 use Rattle.std.proofs.Common.{◌≡◌, ◌≢◌, ◌<◌, ℕ, List, [], ◌∷◌, ◌++◌, Option, Some, None, refl, sym, ap, ◌∙◌, subst, ⊎_elim, inl, inr, arith, true≢false}
 use Rattle.std.proofs.lemmas.List.{get_or-set_same}
 use Rattle.dspec_record.specs.declared.field.Shape.{Shape}
-use Rattle.dspec_word.specs.SpecId.{Speculation}
+use Rattle.dspec_interleaving.specs.Words.{Speculation, CpuProgress, ConsumerFlight, CallPlace, verdict, solo, CpuStep, cpu_step, StandsState, PlayState, progress_of, IsCoherent, idle_progress}
+use Rattle.dspec_interleaving.specs.Words.{IsReleasing, ReleasesLast, DecidesNothing, moved_to, step_cpu, step_consumer, step}
 use Rattle.dspec_deeds.specs.declared.calls.Actor.TheVariants.{Cpu, Consumer}
 use Rattle.dspec_deeds.specs.declared.deed.DecideFate.{DecideFate}
 use Rattle.dspec_deeds.specs.declared.deed.Deed.{Deed}
 use Rattle.dspec_deeds.specs.declared.deed.Deed.TheVariants.{Trace, Scan, Opened, Miss, Speculate, Commit, Discard, Settle, Seal, Release, Halt}
-use Rattle.dspec_interleaving.specs.declared.flight.CpuProgress.{CpuProgress}
-use Rattle.dspec_interleaving.specs.declared.flight.ConsumerFlight.{ConsumerFlight}
-use Rattle.dspec_interleaving.specs.declared.flight.CallPlace.{CallPlace}
 use Rattle.dspec_interleaving.specs.declared.flight.CallPlace.TheVariants as cpu
-use Rattle.dspec_deeds.specs.History.{verdict, solo}
-use Rattle.dspec_interleaving.specs.Play.{CpuStep, cpu_step}
-use Rattle.dspec_interleaving.specs.Coherent.{StandsState, PlayState, progress_of, IsCoherent, idle_progress}
-use Rattle.dspec_interleaving.specs.SoloRule.{IsReleasing, ReleasesLast, DecidesNothing}
-use Rattle.dspec_interleaving.specs.Turns.{moved_to, step_cpu, step_consumer, step}
 use Rattle.dspec_deeds.proofs.Going.{AllBy}
 use Rattle.dspec_interleaving.proofs.ConsumerSteps.{consumer_keeps}
 use Rattle.dspec_interleaving.proofs.CpuSteps.{cpu_step_stands}

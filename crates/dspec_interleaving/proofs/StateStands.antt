@@ -1,17 +1,13 @@
 -- A CPU's deeds leave the consumer's side standing.
 use Rattle.std.proofs.Common.{◌≡◌, ℕ, ◌<◌, true, false, ◌==◌, ◌||◌, List, ◌∷◌, ◌++◌, Option, Some, None, refl, sym, ap, ◌∙◌, subst, ⊎_elim, true≢false}
 use Rattle.dspec_record.specs.declared.field.Shape.{Shape}
-use Rattle.dspec_word.specs.Word.{SlotState}
+use Rattle.dspec_interleaving.specs.Words.{SlotState, ConsumerProgress, ConsumerFlight, same_actor, author, releaser, releases, present, opened, verdict, is_undecided, solo, settled, owed, word_at}
+use Rattle.dspec_interleaving.specs.Words.{opens, IsSound, SettledBelow, StandsConsumer, StandsState}
 use Rattle.dspec_deeds.specs.declared.config.Config.{Config}
 use Rattle.dspec_deeds.specs.declared.calls.Actor.TheVariants.{Cpu}
 use Rattle.dspec_deeds.specs.declared.deed.Deed.{Deed}
 use Rattle.dspec_deeds.specs.declared.deed.Deed.TheVariants.{Release}
-use Rattle.dspec_interleaving.specs.declared.flight.ConsumerProgress.{ConsumerProgress}
-use Rattle.dspec_interleaving.specs.declared.flight.ConsumerFlight.{ConsumerFlight}
 use Rattle.dspec_interleaving.specs.declared.flight.ConsumerFlight.TheVariants as consumer
-use Rattle.dspec_deeds.specs.History.{same_actor, author, releaser, releases, present, opened, verdict, is_undecided, solo, settled, owed, word_at, opens}
-use Rattle.dspec_deeds.specs.Legal.{IsSound}
-use Rattle.dspec_interleaving.specs.Coherent.{SettledBelow, StandsConsumer, StandsState}
 use Rattle.dspec_deeds.proofs.TestLemmas.{either_way, same_number, or_true}
 use Rattle.dspec_deeds.proofs.StayingDecided.{decided_stands}
 use Rattle.dspec_deeds.proofs.Acked.{settled_stays}

@@ -8,16 +8,9 @@ use Rattle.dspec_deeds.specs.declared.config.Config.{Config}
 use Rattle.dspec_deeds.specs.declared.calls.Actor.{Actor}
 use Rattle.dspec_deeds.specs.declared.calls.Actor.TheVariants as actor
 use Rattle.dspec_deeds.specs.declared.calls.Answer.{Answer}
-use Rattle.dspec_interleaving.specs.declared.flight.CpuProgress.{CpuProgress}
-use Rattle.dspec_interleaving.specs.declared.flight.ConsumerFlight.{ConsumerFlight}
-use Rattle.dspec_interleaving.specs.declared.flight.ConsumerProgress.{ConsumerProgress}
-use Rattle.dspec_interleaving.specs.declared.flight.CallPlace.{CallPlace}
+use Rattle.dspec_interleaving.specs.Words.{CpuProgress, ConsumerFlight, ConsumerProgress, CallPlace, cpu_limit, consumer_limit, steps_limit, flight_bound, clean_bound, is_actor, is_idle, steps_of}
+use Rattle.dspec_interleaving.specs.Words.{StandsProgress, StandsState, progress_of, PlayState, IsCoherent, idle_progress, cpu_step, consumer_step, step_cpu, step_consumer, step}
 use Rattle.dspec_deeds.specs.declared.deed.Deed.{Deed}
-use Rattle.dspec_interleaving.specs.Bounds.{cpu_limit, consumer_limit, steps_limit, flight_bound, clean_bound}
-use Rattle.dspec_interleaving.specs.Calls.{is_actor, is_idle, steps_of}
-use Rattle.dspec_interleaving.specs.Coherent.{StandsProgress, StandsState, progress_of, PlayState, IsCoherent, idle_progress}
-use Rattle.dspec_interleaving.specs.Play.{cpu_step, consumer_step}
-use Rattle.dspec_interleaving.specs.Turns.{step_cpu, step_consumer, step}
 use Rattle.dspec_interleaving.proofs.Bounded.{cpu_below, clean_below}
 use Rattle.dspec_deeds.proofs.SetUp.{set_up}
 use Rattle.dspec_interleaving.proofs.StepEnds.{HasEnded, HasGoneOn, HasClosed, HasKeptOn, cpu_advances, clean_advances}

@@ -5,20 +5,13 @@ use Rattle.std.proofs.lemmas.Bool.Decides.{nat_tests}
 use Rattle.dspec_record.specs.declared.field.Shape.{Shape}
 use Rattle.dspec_word.specs.declared.code.Code.{Code}
 use Rattle.dspec_word.specs.declared.code.Code.TheVariants.{Inactive, Active, ActiveOne, ActiveMany, Committing, CommittingMany, Discarding}
-use Rattle.dspec_word.specs.Code.{code_number, is_inactive}
-use Rattle.dspec_word.specs.Word.{SlotState, CanBeReleased}
+use Rattle.dspec_interleaving.specs.Words.{code_number, is_inactive, SlotState, CanBeReleased, CpuProgress, CallPlace, is_between, start_fault, opened, present, word_at, issue, IsSound, IsAllowed}
+use Rattle.dspec_interleaving.specs.Words.{CpuStep, cpu_step, PlayState, IsCoherent, StandsCpu, StandsProgress, TriedBy, progress_of}
 use Rattle.dspec_deeds.specs.declared.config.Config.{Config}
 use Rattle.dspec_deeds.specs.declared.config.StartFault.{StartFault}
 use Rattle.dspec_deeds.specs.declared.config.StartFault.TheVariants.{Cpus, Specs}
 use Rattle.dspec_deeds.specs.declared.deed.Deed.{Deed}
-use Rattle.dspec_interleaving.specs.declared.flight.CpuProgress.{CpuProgress}
-use Rattle.dspec_interleaving.specs.declared.flight.CallPlace.{CallPlace}
 use Rattle.dspec_interleaving.specs.declared.flight.CallPlace.TheVariants as cpu
-use Rattle.dspec_deeds.specs.Ranges.{is_between, start_fault}
-use Rattle.dspec_deeds.specs.History.{opened, present, word_at, issue}
-use Rattle.dspec_deeds.specs.Legal.{IsSound, IsAllowed}
-use Rattle.dspec_interleaving.specs.Play.{CpuStep, cpu_step}
-use Rattle.dspec_interleaving.specs.Coherent.{PlayState, IsCoherent, StandsCpu, StandsProgress, TriedBy, progress_of}
 use Rattle.dspec_deeds.proofs.TestLemmas.{either_way, and_tells}
 use Rattle.dspec_interleaving.proofs.Counts.{issue_below, issues_fit}
 use Rattle.dspec_deeds.proofs.WordCodes.{word_inactive}

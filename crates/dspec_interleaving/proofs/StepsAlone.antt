@@ -1,6 +1,7 @@
 -- What follows a decision that a CPU makes alone: the release of the slot.
 use Rattle.std.proofs.Common.{◌≡◌, ◌≢◌, ◌⊎◌, ℕ, true, false, ◌&&◌, List, [], ◌∷◌, ◌++◌, Option, Some, None, if◌then◌else◌, refl, sym, ap, ◌∙◌, subst, ⊎_elim, inl, inr}
-use Rattle.dspec_word.specs.SpecId.{Speculation}
+use Rattle.dspec_interleaving.specs.Words.{Speculation, CallPlace, spoken_granted, is_commit, is_discard, same_id, undecided, committed, discarded, verdict, latest, callers, joined, is_sole}
+use Rattle.dspec_interleaving.specs.Words.{is_sole_or_none, solo, solo_of, author, owing, IsSound, answer_of}
 use Rattle.dspec_deeds.specs.declared.config.Config.{Config}
 use Rattle.dspec_deeds.specs.declared.calls.Actor.TheVariants.{Cpu}
 use Rattle.dspec_deeds.specs.declared.calls.Answer.{Answer}
@@ -8,12 +9,7 @@ use Rattle.dspec_deeds.specs.declared.deed.DecideFate.{DecideFate}
 use Rattle.dspec_deeds.specs.declared.deed.DecideFate.TheVariants as decided
 use Rattle.dspec_deeds.specs.declared.deed.Deed.{Deed}
 use Rattle.dspec_deeds.specs.declared.deed.Deed.TheVariants.{Trace, Scan, Opened, Miss, Speculate, Commit, Discard, Settle, Seal, Release, Halt}
-use Rattle.dspec_interleaving.specs.declared.flight.CallPlace.{CallPlace}
 use Rattle.dspec_interleaving.specs.declared.flight.CallPlace.TheVariants as cpu
-use Rattle.dspec_deeds.specs.FateKinds.{spoken_granted, is_commit, is_discard}
-use Rattle.dspec_deeds.specs.History.{same_id, undecided, committed, discarded, verdict, latest, callers, joined, is_sole, is_sole_or_none, solo, solo_of, author, owing}
-use Rattle.dspec_deeds.specs.Legal.{IsSound}
-use Rattle.dspec_deeds.specs.FateAnswers.{answer_of}
 use Rattle.dspec_deeds.proofs.TestLemmas.{either_way, and_tells, same_id_tells}
 use Rattle.dspec_deeds.proofs.PresentIds.{open_present}
 use Rattle.dspec_deeds.proofs.WordChanges.{granted_open}

@@ -1,14 +1,12 @@
 -- The steps of a call of commit.
 use Rattle.std.proofs.Common.{◌≡◌, ◌≤◌, ◌+◌, ◌==◌, ℕ, Bool, true, false, List, [], ◌∷◌, length, Option, Some, if◌then◌else◌, refl, sym, ap, ◌∙◌, subst, inl, inr, arith, true≢false}
 use Rattle.dspec_record.specs.declared.field.Shape.{Shape}
-use Rattle.dspec_buffer.specs.Extent.{block}
+use Rattle.dspec_interleaving.specs.Words.{block, code_number, Speculation, SlotState, commit_at, CpuProgress, is_commit, halted, scan, is_among, issue, opened, committed, verdict, is_undecided}
+use Rattle.dspec_interleaving.specs.Words.{is_sole_or_none, solo, releaser, part, standing, callers, present, word_at, is_open, in_range, late, contents, held, fits_principal, sealed_last, is_worn}
+use Rattle.dspec_interleaving.specs.Words.{begun, wears, ends, call_goes_on, committed_by, is_alone, shown_commit, same_word, cpu_step, answer_of, OnItsWay, StandsCpu}
 use Rattle.dspec_word.specs.declared.act.Act.{Act}
 use Rattle.dspec_word.specs.declared.act.Act.TheVariants.{Void, Granted, Attempt, Idle}
 use Rattle.dspec_word.specs.declared.code.Code.TheVariants.{Committing, CommittingMany}
-use Rattle.dspec_word.specs.Code.{code_number}
-use Rattle.dspec_word.specs.SpecId.{Speculation}
-use Rattle.dspec_word.specs.Word.{SlotState}
-use Rattle.dspec_word.specs.Tables.{commit_at}
 use Rattle.dspec_deeds.specs.declared.config.Config.{Config}
 use Rattle.dspec_deeds.specs.declared.calls.Actor.TheVariants.{Cpu}
 use Rattle.dspec_deeds.specs.declared.calls.Answer.TheVariants as answer
@@ -18,16 +16,7 @@ use Rattle.dspec_deeds.specs.declared.deed.DecideFate.{DecideFate}
 use Rattle.dspec_deeds.specs.declared.deed.DecideFate.TheVariants as decided
 use Rattle.dspec_deeds.specs.declared.deed.Deed.{Deed}
 use Rattle.dspec_deeds.specs.declared.deed.Deed.TheVariants.{Commit, Release}
-use Rattle.dspec_interleaving.specs.declared.flight.CpuProgress.{CpuProgress}
 use Rattle.dspec_interleaving.specs.declared.flight.CallPlace.TheVariants as cpu
-use Rattle.dspec_deeds.specs.FateKinds.{is_commit}
-use Rattle.dspec_deeds.specs.History.{halted, scan, is_among, issue, opened, committed, verdict, is_undecided, is_sole_or_none, solo}
-use Rattle.dspec_deeds.specs.History.{releaser, part, standing, callers, present, word_at, is_open, in_range, late}
-use Rattle.dspec_deeds.specs.Own.{contents, held}
-use Rattle.dspec_deeds.specs.Legal.{fits_principal, sealed_last}
-use Rattle.dspec_interleaving.specs.Play.{is_worn, begun, wears, ends, call_goes_on, committed_by, is_alone, shown_commit, same_word, cpu_step}
-use Rattle.dspec_deeds.specs.FateAnswers.{answer_of}
-use Rattle.dspec_interleaving.specs.Coherent.{OnItsWay, StandsCpu}
 use Rattle.dspec_deeds.proofs.TestLemmas.{number_is_itself, id_is_itself}
 use Rattle.dspec_deeds.proofs.SoundLists.{running_not_late}
 use Rattle.dspec_deeds.proofs.PresentIds.{open_present, present_is}

@@ -4,10 +4,9 @@ use Rattle.dspec_record.specs.declared.field.Shape.{Shape}
 use Rattle.dspec_word.specs.declared.act.Act.{Act}
 use Rattle.dspec_word.specs.declared.act.Act.TheVariants.{Void, Granted, Attempt, Idle}
 use Rattle.dspec_word.specs.declared.code.Code.TheVariants.{Discarding}
-use Rattle.dspec_word.specs.Code.{code_number}
-use Rattle.dspec_word.specs.SpecId.{Speculation}
-use Rattle.dspec_word.specs.Word.{SlotState, released}
-use Rattle.dspec_word.specs.Tables.{discard_at}
+use Rattle.dspec_interleaving.specs.Words.{code_number, Speculation, SlotState, released, discard_at, CpuProgress, halted, scan, is_among, issue, owed, discarded, verdict, is_undecided, is_sole}
+use Rattle.dspec_interleaving.specs.Words.{solo, releaser, same_actor, part, callers, present, word_at, is_open, in_range, late, held, seals, sealed_last, is_worn, begun, wears, ends, call_goes_on}
+use Rattle.dspec_interleaving.specs.Words.{discarded_by, shown_discard, same_word, cpu_step, OnItsWay, StandsCpu}
 use Rattle.dspec_deeds.specs.declared.config.Config.{Config}
 use Rattle.dspec_deeds.specs.declared.calls.Actor.TheVariants.{Cpu}
 use Rattle.dspec_deeds.specs.declared.calls.Answer.TheVariants as answer
@@ -16,14 +15,7 @@ use Rattle.dspec_deeds.specs.declared.calls.Decided.TheVariants as decided_answe
 use Rattle.dspec_deeds.specs.declared.deed.DecideFate.TheVariants as decided
 use Rattle.dspec_deeds.specs.declared.deed.Deed.{Deed}
 use Rattle.dspec_deeds.specs.declared.deed.Deed.TheVariants.{Discard, Release}
-use Rattle.dspec_interleaving.specs.declared.flight.CpuProgress.{CpuProgress}
 use Rattle.dspec_interleaving.specs.declared.flight.CallPlace.TheVariants as cpu
-use Rattle.dspec_deeds.specs.History.{halted, scan, is_among, issue, owed, discarded, verdict, is_undecided, is_sole, solo}
-use Rattle.dspec_deeds.specs.History.{releaser, same_actor, part, callers, present, word_at, is_open, in_range, late}
-use Rattle.dspec_deeds.specs.Own.{held, seals}
-use Rattle.dspec_deeds.specs.Legal.{sealed_last}
-use Rattle.dspec_interleaving.specs.Play.{is_worn, begun, wears, ends, call_goes_on, discarded_by, shown_discard, same_word, cpu_step}
-use Rattle.dspec_interleaving.specs.Coherent.{OnItsWay, StandsCpu}
 use Rattle.dspec_deeds.proofs.TestLemmas.{either_way, cpu_is_itself, number_is_itself, id_is_itself}
 use Rattle.dspec_deeds.proofs.SoundLists.{running_not_late}
 use Rattle.dspec_deeds.proofs.PresentIds.{present_is}

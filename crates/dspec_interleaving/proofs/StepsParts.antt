@@ -3,22 +3,15 @@ use Rattle.std.proofs.Common.{◌≡◌, ◌≢◌, ◌≤◌, ◌+◌, ℕ, tru
 use Rattle.std.specs.Prelude.{nat_le}
 use Rattle.std.proofs.lemmas.Bool.Decides.{nat_tests}
 use Rattle.dspec_record.specs.declared.field.Shape.{Shape}
-use Rattle.dspec_word.specs.SpecId.{Speculation}
+use Rattle.dspec_interleaving.specs.Words.{Speculation, CpuProgress, CallPlace, Spare, start_fault, author, same_actor, owed, owing, scan, in_range, opened, is_undecided, verdict, is_open, releaser}
+use Rattle.dspec_interleaving.specs.Words.{seals, seals_now, IsSound, IsAllowed, CpuLegal, MayComeBy, Pays, facts, CpuStep, call_goes_on, ends, wears, IsSlot, StandsCpu, SpareCounts, PushesNext}
+use Rattle.dspec_interleaving.specs.Words.{ProgressStands}
 use Rattle.dspec_deeds.specs.declared.config.Config.{Config}
 use Rattle.dspec_deeds.specs.declared.calls.Actor.TheVariants.{Cpu}
 use Rattle.dspec_deeds.specs.declared.calls.Answer.{Answer}
 use Rattle.dspec_deeds.specs.declared.deed.Deed.{Deed}
-use Rattle.dspec_interleaving.specs.declared.flight.CpuProgress.{CpuProgress}
-use Rattle.dspec_interleaving.specs.declared.flight.CallPlace.{CallPlace}
 use Rattle.dspec_interleaving.specs.declared.flight.CallPlace.TheVariants as cpu
-use Rattle.dspec_interleaving.specs.declared.flight.Spare.{Spare}
 use Rattle.dspec_interleaving.specs.declared.flight.Spare.TheVariants as spare
-use Rattle.dspec_deeds.specs.Ranges.{start_fault}
-use Rattle.dspec_deeds.specs.History.{author, same_actor, owed, owing, scan, in_range, opened, is_undecided, verdict, is_open, releaser}
-use Rattle.dspec_deeds.specs.Own.{seals, seals_now}
-use Rattle.dspec_deeds.specs.Legal.{IsSound, IsAllowed, CpuLegal, MayComeBy, Pays, facts}
-use Rattle.dspec_interleaving.specs.Play.{CpuStep, call_goes_on, ends, wears}
-use Rattle.dspec_interleaving.specs.Coherent.{IsSlot, StandsCpu, SpareCounts, PushesNext, ProgressStands}
 use Rattle.dspec_deeds.proofs.TestLemmas.{either_way, off, and_tells, cpu_is_itself}
 use Rattle.dspec_deeds.proofs.SoundLists.{opened_in_range}
 use Rattle.dspec_deeds.proofs.SetUp.{set_up}

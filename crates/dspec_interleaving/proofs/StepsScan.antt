@@ -3,22 +3,15 @@ use Rattle.std.proofs.Common.{◌≡◌, ◌⊎◌, ◌≤◌, ◌+◌, ◌*◌,
 use Rattle.dspec_record.specs.declared.field.Shape.{Shape}
 use Rattle.dspec_word.specs.declared.act.Act.{Act}
 use Rattle.dspec_word.specs.declared.act.Act.TheVariants.{Void, Granted, Attempt, Idle}
-use Rattle.dspec_word.specs.Code.{is_decided}
-use Rattle.dspec_word.specs.SpecId.{Speculation}
-use Rattle.dspec_word.specs.Word.{SlotState}
-use Rattle.dspec_word.specs.Tables.{open_at}
+use Rattle.dspec_interleaving.specs.Words.{is_decided, Speculation, SlotState, open_at, CpuProgress, halted, scan, word_at, is_free, opened_since, is_worn, begun, wears, ends, call_goes_on, missed}
+use Rattle.dspec_interleaving.specs.Words.{shown_scan, same_word, cpu_step, missed_busy, IsSlot, StandsCpu}
 use Rattle.dspec_deeds.specs.declared.config.Config.{Config}
 use Rattle.dspec_deeds.specs.declared.calls.Answer.TheVariants as answer
 use Rattle.dspec_deeds.specs.declared.calls.CpuOp.TheVariants as cpu_op
 use Rattle.dspec_deeds.specs.declared.calls.Opening.TheVariants as opening
 use Rattle.dspec_deeds.specs.declared.deed.Deed.{Deed}
 use Rattle.dspec_deeds.specs.declared.deed.Deed.TheVariants.{Scan, Opened, Miss}
-use Rattle.dspec_interleaving.specs.declared.flight.CpuProgress.{CpuProgress}
 use Rattle.dspec_interleaving.specs.declared.flight.CallPlace.TheVariants as cpu
-use Rattle.dspec_deeds.specs.History.{halted, scan, word_at, is_free, opened_since}
-use Rattle.dspec_interleaving.specs.Play.{is_worn, begun, wears, ends, call_goes_on, missed, shown_scan, same_word, cpu_step}
-use Rattle.dspec_deeds.specs.Reports.{missed_busy}
-use Rattle.dspec_interleaving.specs.Coherent.{IsSlot, StandsCpu}
 use Rattle.dspec_deeds.proofs.TestLemmas.{number_is_itself, numbers_differ, off}
 use Rattle.dspec_deeds.proofs.WordCodes.{busy_is, open_void, open_attempt}
 use Rattle.dspec_deeds.proofs.SetUp.{set_up}

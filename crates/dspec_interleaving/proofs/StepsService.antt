@@ -3,14 +3,13 @@ use Rattle.std.proofs.Common.{◌≡◌, ◌≤◌, ◌<◌, ◌+◌, ◌*◌, �
 use Rattle.std.specs.Prelude.{nat_lt, nat_le}
 use Rattle.std.proofs.lemmas.Bool.Decides.{nat_tests}
 use Rattle.dspec_record.specs.declared.field.Shape.{Shape}
-use Rattle.dspec_buffer.specs.Extent.{block}
+use Rattle.dspec_interleaving.specs.Words.{block, awaits, SlotState, settle_at, CpuProgress, Spare, start_fault, is_fill, scan, issue, owed, present, verdict, solo, settled, word_at, ack, contents}
+use Rattle.dspec_interleaving.specs.Words.{held, seals, IsSound, IsAllowed, CpuLegal, SettlesAs, fits_principal, begun, asked, popped, served, shown_service, loads_service, call_goes_on, ends}
+use Rattle.dspec_interleaving.specs.Words.{cpu_step, settle_fate, IsSlot, StandsCpu, SpareCounts}
 use Rattle.dspec_word.specs.declared.act.Act.{Act}
 use Rattle.dspec_word.specs.declared.act.Act.TheVariants.{Void, Granted, Attempt, Idle}
 use Rattle.dspec_word.specs.declared.code.Code.{Code}
 use Rattle.dspec_word.specs.declared.code.Code.TheVariants.{Inactive, Active, ActiveOne, ActiveMany, Committing, CommittingMany, Discarding}
-use Rattle.dspec_word.specs.Code.{awaits}
-use Rattle.dspec_word.specs.Word.{SlotState}
-use Rattle.dspec_word.specs.Tables.{settle_at}
 use Rattle.dspec_deeds.specs.declared.config.Config.{Config}
 use Rattle.dspec_deeds.specs.declared.calls.Answer.TheVariants as answer
 use Rattle.dspec_deeds.specs.declared.calls.CpuOp.TheVariants as cpu_op
@@ -19,17 +18,8 @@ use Rattle.dspec_deeds.specs.declared.deed.DecideFate.{DecideFate}
 use Rattle.dspec_deeds.specs.declared.deed.DecideFate.TheVariants as decided
 use Rattle.dspec_deeds.specs.declared.deed.Deed.{Deed}
 use Rattle.dspec_deeds.specs.declared.deed.Deed.TheVariants.{Settle, Seal}
-use Rattle.dspec_interleaving.specs.declared.flight.CpuProgress.{CpuProgress}
 use Rattle.dspec_interleaving.specs.declared.flight.CallPlace.TheVariants as cpu
-use Rattle.dspec_interleaving.specs.declared.flight.Spare.{Spare}
 use Rattle.dspec_interleaving.specs.declared.flight.Spare.TheVariants as spare
-use Rattle.dspec_deeds.specs.Ranges.{start_fault, is_fill}
-use Rattle.dspec_deeds.specs.History.{scan, issue, owed, present, verdict, solo, settled, word_at, ack}
-use Rattle.dspec_deeds.specs.Own.{contents, held, seals}
-use Rattle.dspec_deeds.specs.Legal.{IsSound, IsAllowed, CpuLegal, SettlesAs, fits_principal}
-use Rattle.dspec_interleaving.specs.Play.{begun, asked, popped, served, shown_service, loads_service, call_goes_on, ends, cpu_step}
-use Rattle.dspec_deeds.specs.Settling.{settle_fate}
-use Rattle.dspec_interleaving.specs.Coherent.{IsSlot, StandsCpu, SpareCounts}
 use Rattle.dspec_deeds.proofs.TestLemmas.{and_tells, number_is_itself, numbers_differ}
 use Rattle.dspec_deeds.proofs.Acked.{ack_tells}
 use Rattle.dspec_deeds.proofs.Awaiting.{IsAwaiting, awaiting}

@@ -1,13 +1,10 @@
 -- The steps of a call of speculate.
 use Rattle.std.proofs.Common.{◌≡◌, ◌≤◌, ℕ, Bool, true, false, List, [], ◌∷◌, Option, if◌then◌else◌, refl, sym, subst, arith}
 use Rattle.dspec_record.specs.declared.field.Shape.{Shape}
-use Rattle.dspec_record.specs.Record.{Record}
+use Rattle.dspec_interleaving.specs.Words.{Record, code_number, Speculation, SlotState, speculate_at, CpuProgress, halted, scan, is_among, callers, word_at, is_open, in_range, late}
+use Rattle.dspec_interleaving.specs.Words.{fits_speculative, is_worn, begun, wears, ends, call_goes_on, spoken_at, shown_speculate, same_word, cpu_step, OnItsWay, StandsCpu}
 use Rattle.dspec_word.specs.declared.act.Act.{Act}
 use Rattle.dspec_word.specs.declared.act.Act.TheVariants.{Void, Granted, Attempt, Idle}
-use Rattle.dspec_word.specs.Code.{code_number}
-use Rattle.dspec_word.specs.SpecId.{Speculation}
-use Rattle.dspec_word.specs.Word.{SlotState}
-use Rattle.dspec_word.specs.Tables.{speculate_at}
 use Rattle.dspec_deeds.specs.declared.config.Config.{Config}
 use Rattle.dspec_deeds.specs.declared.calls.Answer.TheVariants as answer
 use Rattle.dspec_deeds.specs.declared.calls.CpuOp.TheVariants as cpu_op
@@ -15,12 +12,7 @@ use Rattle.dspec_deeds.specs.declared.calls.Spoken.TheVariants as spoken_answer
 use Rattle.dspec_deeds.specs.declared.deed.SpeculateFate.TheVariants as spoken
 use Rattle.dspec_deeds.specs.declared.deed.Deed.{Deed}
 use Rattle.dspec_deeds.specs.declared.deed.Deed.TheVariants.{Speculate}
-use Rattle.dspec_interleaving.specs.declared.flight.CpuProgress.{CpuProgress}
 use Rattle.dspec_interleaving.specs.declared.flight.CallPlace.TheVariants as cpu
-use Rattle.dspec_deeds.specs.History.{halted, scan, is_among, callers, word_at, is_open, in_range, late}
-use Rattle.dspec_deeds.specs.Legal.{fits_speculative}
-use Rattle.dspec_interleaving.specs.Play.{is_worn, begun, wears, ends, call_goes_on, spoken_at, shown_speculate, same_word, cpu_step}
-use Rattle.dspec_interleaving.specs.Coherent.{OnItsWay, StandsCpu}
 use Rattle.dspec_deeds.proofs.SoundLists.{running_not_late}
 use Rattle.dspec_deeds.proofs.WordActs.{speculate_void, speculate_granted, speculate_attempt}
 use Rattle.dspec_interleaving.proofs.StepsWords.{same_word_tells, code_rises, speculate_tells, speculate_not_idle}

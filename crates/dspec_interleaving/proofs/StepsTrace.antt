@@ -1,8 +1,7 @@
 -- The step of a call of trace.
 use Rattle.std.proofs.Common.{◌≡◌, ℕ, Bool, true, false, List, Option, [], ◌∷◌, if◌then◌else◌, refl, sym}
 use Rattle.dspec_record.specs.declared.field.Shape.{Shape}
-use Rattle.dspec_record.specs.Record.{Record}
-use Rattle.dspec_buffer.specs.Extent.{one}
+use Rattle.dspec_interleaving.specs.Words.{Record, one, CpuProgress, halted, scan, fits_principal, is_worn, begun, wears, ends}
 use Rattle.dspec_deeds.specs.declared.config.Config.{Config}
 use Rattle.dspec_deeds.specs.declared.calls.Answer.TheVariants as answer
 use Rattle.dspec_deeds.specs.declared.calls.CpuOp.TheVariants as cpu_op
@@ -10,10 +9,6 @@ use Rattle.dspec_deeds.specs.declared.calls.Traced.TheVariants as traced_answer
 use Rattle.dspec_deeds.specs.declared.deed.TraceFate.TheVariants as traced
 use Rattle.dspec_deeds.specs.declared.deed.Deed.{Deed}
 use Rattle.dspec_deeds.specs.declared.deed.Deed.TheVariants.{Trace}
-use Rattle.dspec_interleaving.specs.declared.flight.CpuProgress.{CpuProgress}
-use Rattle.dspec_deeds.specs.History.{halted, scan}
-use Rattle.dspec_deeds.specs.Legal.{fits_principal}
-use Rattle.dspec_interleaving.specs.Play.{is_worn, begun, wears, ends}
 use Rattle.dspec_interleaving.proofs.StepsParts.{IsUnderWay, StepStands, ends_by, wears_stand}
 
 pub trace_begins : (shape : ℕ → Option Shape) (k : Config) (c : ℕ) (h : List Deed) (me : CpuProgress) → IsUnderWay shape k c h me → (r : Record) → scan k c h ≡ 0

@@ -6,11 +6,8 @@ use Rattle.dspec_word.specs.declared.act.Act.{Act}
 use Rattle.dspec_word.specs.declared.act.Act.TheVariants.{Void, Granted, Attempt, Idle}
 use Rattle.dspec_word.specs.declared.code.Code.{Code}
 use Rattle.dspec_word.specs.declared.code.Code.TheVariants.{Inactive, Active, ActiveOne, ActiveMany, Committing, CommittingMany, Discarding}
-use Rattle.dspec_word.specs.Code.{code_number, is_inactive, awaits}
-use Rattle.dspec_word.specs.SpecId.{Speculation}
-use Rattle.dspec_word.specs.Word.{SlotState, word_number}
-use Rattle.dspec_word.specs.Tables.{speculate_at, speculate_act, commit_at, commit_act, discard_at, discard_act, open_at, settle_at}
-use Rattle.dspec_interleaving.specs.Play.{same_word, is_alone}
+use Rattle.dspec_interleaving.specs.Words.{code_number, is_inactive, awaits, Speculation, SlotState, word_number, speculate_at, speculate_act, commit_at, commit_act, discard_at, discard_act}
+use Rattle.dspec_interleaving.specs.Words.{open_at, settle_at, same_word, is_alone}
 use Rattle.dspec_word.proofs.Numbers.{one_code, one_word}
 use Rattle.dspec_deeds.proofs.TestLemmas.{either_way, off, and_tells, same_number, number_is_itself}
 

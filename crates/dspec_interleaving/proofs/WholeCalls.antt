@@ -13,21 +13,13 @@ use Rattle.dspec_deeds.specs.declared.calls.CpuOp.{CpuOp}
 use Rattle.dspec_deeds.specs.declared.calls.CpuOp.TheVariants as cpu_op
 use Rattle.dspec_deeds.specs.declared.deed.Deed.{Deed}
 use Rattle.dspec_deeds.specs.declared.deed.Deed.TheVariants.{Halt}
-use Rattle.dspec_interleaving.specs.declared.flight.CpuProgress.{CpuProgress}
+use Rattle.dspec_interleaving.specs.Words.{CpuProgress, ConsumerProgress, CallPlace, Spare, halted, scan, seals, PlayState, IsCoherent, StandsProgress, SpareCounts, PushesNext, ProgressStands}
+use Rattle.dspec_interleaving.specs.Words.{progress_of, consumer_begun, takes_at, gives_at, stops, took, begin_cpu, begin_consumer, on_to_end, whole_cpu, is_out, behind_cpu, behind_consumer}
+use Rattle.dspec_interleaving.specs.Words.{cpu_call, consumer_call, IsApart, op_bound, consumer_bound}
 use Rattle.dspec_interleaving.specs.declared.flight.ConsumerFlight.TheVariants as consumer
-use Rattle.dspec_interleaving.specs.declared.flight.ConsumerProgress.{ConsumerProgress}
-use Rattle.dspec_interleaving.specs.declared.flight.CallPlace.{CallPlace}
 use Rattle.dspec_interleaving.specs.declared.flight.CallPlace.TheVariants as cpu
-use Rattle.dspec_interleaving.specs.declared.flight.Spare.{Spare}
 use Rattle.dspec_interleaving.specs.declared.flight.Spare.TheVariants as spare
-use Rattle.dspec_deeds.specs.History.{halted, scan}
-use Rattle.dspec_deeds.specs.Own.{seals}
-use Rattle.dspec_interleaving.specs.Coherent.{PlayState, IsCoherent, StandsProgress, SpareCounts, PushesNext, ProgressStands, progress_of}
-use Rattle.dspec_interleaving.specs.Play.{consumer_begun, takes_at, gives_at, stops, took}
-use Rattle.dspec_interleaving.specs.Turns.{begin_cpu, begin_consumer, on_to_end}
-use Rattle.dspec_interleaving.specs.Whole.{whole_cpu, is_out, behind_cpu, behind_consumer, cpu_call, consumer_call, IsApart}
 use Rattle.dspec_deeds.proofs.SetUp.{set_up}
-use Rattle.dspec_interleaving.specs.Bounds.{op_bound, consumer_bound}
 use Rattle.dspec_interleaving.proofs.WholeRuns.{whole, runs, runs_more, call_alone}
 use Rattle.dspec_interleaving.proofs.WholeTrace.{begins, idle, trace_alone}
 use Rattle.dspec_interleaving.proofs.WholeSpeculate.{speculate_alone}

@@ -5,17 +5,12 @@ use Rattle.std.proofs.Common.{◌∷◌, ◌++◌, Option, if◌then◌else◌, 
 use Rattle.std.specs.Prelude.{nat_lt}
 use Rattle.std.proofs.lemmas.Bool.Decides.{nat_tests}
 use Rattle.dspec_record.specs.declared.field.Shape.{Shape}
-use Rattle.dspec_word.specs.Code.{awaits}
+use Rattle.dspec_interleaving.specs.Words.{awaits, CpuProgress, ConsumerProgress, issue, present, settled, ack, word_at, PlayState, stops, next_slot, loads_slot, loads_ack, reaps, same_word}
+use Rattle.dspec_interleaving.specs.Words.{WholeConsumer, all_settled, is_reapable, cleaned_up, releases_up}
 use Rattle.dspec_deeds.specs.declared.calls.Answer.TheVariants as answer
 use Rattle.dspec_deeds.specs.declared.deed.Deed.{Deed}
 use Rattle.dspec_deeds.specs.declared.deed.Deed.TheVariants.{Release}
-use Rattle.dspec_interleaving.specs.declared.flight.CpuProgress.{CpuProgress}
 use Rattle.dspec_interleaving.specs.declared.flight.ConsumerFlight.TheVariants as consumer
-use Rattle.dspec_interleaving.specs.declared.flight.ConsumerProgress.{ConsumerProgress}
-use Rattle.dspec_deeds.specs.History.{issue, present, settled, ack, word_at}
-use Rattle.dspec_interleaving.specs.Coherent.{PlayState}
-use Rattle.dspec_interleaving.specs.Play.{stops, next_slot, loads_slot, loads_ack, reaps, same_word}
-use Rattle.dspec_interleaving.specs.Whole.{WholeConsumer, all_settled, is_reapable, cleaned_up, releases_up}
 use Rattle.dspec_deeds.proofs.TestLemmas.{number_is_itself}
 use Rattle.dspec_deeds.proofs.Acked.{acked_is}
 use Rattle.dspec_interleaving.proofs.WholeTrace.{same_word_is}

@@ -1,13 +1,13 @@
 -- A commit, or a discard, that runs alone.
 use Rattle.std.proofs.Common.{◌≡◌, ◌≤◌, ℕ, Bool, true, false, List, [], ◌∷◌, ◌++◌, Option, None, if◌then◌else◌, refl, ap, ◌∙◌, subst}
 use Rattle.dspec_record.specs.declared.field.Shape.{Shape}
-use Rattle.dspec_word.specs.SpecId.{Speculation}
-use Rattle.dspec_word.specs.Word.{released}
+use Rattle.dspec_interleaving.specs.Words.{Speculation, released, commit_at, commit_act, discard_at, discard_act, CpuProgress, halted, in_range, is_among, callers, is_open, issue, word_at, is_sole}
+use Rattle.dspec_interleaving.specs.Words.{is_sole_or_none, IsSound, is_worn, shown_commit, shown_discard, is_alone, is_release, same_word, call_goes_on, ends, commit_fate, discard_fate, answer_of}
+use Rattle.dspec_interleaving.specs.Words.{WholeCpu, whole_cpu, enters}
 use Rattle.dspec_word.specs.declared.act.Act.{Act}
 use Rattle.dspec_word.specs.declared.act.Act.TheVariants.{Void, Granted, Attempt, Idle}
 use Rattle.dspec_word.specs.declared.code.Code.{Code}
 use Rattle.dspec_word.specs.declared.code.Code.TheVariants.{Inactive, Active, ActiveOne, ActiveMany, Committing, CommittingMany, Discarding}
-use Rattle.dspec_word.specs.Tables.{commit_at, commit_act, discard_at, discard_act}
 use Rattle.dspec_deeds.specs.declared.config.Config.{Config}
 use Rattle.dspec_deeds.specs.declared.calls.Answer.TheVariants as answer
 use Rattle.dspec_deeds.specs.declared.calls.CpuOp.TheVariants as cpu_op
@@ -16,14 +16,7 @@ use Rattle.dspec_deeds.specs.declared.deed.DecideFate.{DecideFate}
 use Rattle.dspec_deeds.specs.declared.deed.DecideFate.TheVariants as decided
 use Rattle.dspec_deeds.specs.declared.deed.Deed.{Deed}
 use Rattle.dspec_deeds.specs.declared.deed.Deed.TheVariants.{Commit, Discard, Release}
-use Rattle.dspec_interleaving.specs.declared.flight.CpuProgress.{CpuProgress}
 use Rattle.dspec_interleaving.specs.declared.flight.CallPlace.TheVariants as cpu
-use Rattle.dspec_deeds.specs.History.{halted, in_range, is_among, callers, is_open, issue, word_at, is_sole, is_sole_or_none}
-use Rattle.dspec_deeds.specs.Legal.{IsSound}
-use Rattle.dspec_interleaving.specs.Play.{is_worn, shown_commit, shown_discard, is_alone, is_release, same_word, call_goes_on, ends}
-use Rattle.dspec_deeds.specs.Settling.{commit_fate, discard_fate}
-use Rattle.dspec_deeds.specs.FateAnswers.{answer_of}
-use Rattle.dspec_interleaving.specs.Whole.{WholeCpu, whole_cpu, enters}
 use Rattle.dspec_deeds.proofs.TestLemmas.{off}
 use Rattle.dspec_deeds.proofs.WordActs.{commit_void, commit_attempt, discard_void, discard_attempt}
 use Rattle.dspec_interleaving.proofs.WholeRuns.{whole, runs}

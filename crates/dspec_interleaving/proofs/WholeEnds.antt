@@ -10,15 +10,9 @@ use Rattle.dspec_deeds.specs.declared.calls.ConsumerOp.{ConsumerOp}
 use Rattle.dspec_deeds.specs.declared.calls.CpuOp.{CpuOp}
 use Rattle.dspec_deeds.specs.declared.calls.Op.{Op}
 use Rattle.dspec_deeds.specs.declared.calls.Op.TheVariants as op
-use Rattle.dspec_interleaving.specs.declared.flight.CpuProgress.{CpuProgress}
-use Rattle.dspec_interleaving.specs.declared.flight.ConsumerFlight.{ConsumerFlight}
-use Rattle.dspec_interleaving.specs.declared.flight.CallPlace.{CallPlace}
-use Rattle.dspec_interleaving.specs.Bounds.{flight_bound, clean_bound}
-use Rattle.dspec_interleaving.specs.Calls.{op_of, consumer_op_of, is_idle}
-use Rattle.dspec_interleaving.specs.Coherent.{StandsProgress, StandsState, IsCoherent, progress_of, idle_progress}
-use Rattle.dspec_interleaving.specs.Play.{CpuStep, ConsumerStep, cpu_step, consumer_step}
-use Rattle.dspec_interleaving.specs.Turns.{Stepped, step_cpu, step_consumer, on_to_end}
-use Rattle.dspec_interleaving.specs.Plays.{Noted, Playing, ended, with_note, stepped, to_end}
+use Rattle.dspec_interleaving.specs.Words.{CpuProgress, ConsumerFlight, CallPlace, flight_bound, clean_bound, op_of, consumer_op_of, is_idle, StandsProgress, StandsState, IsCoherent, progress_of}
+use Rattle.dspec_interleaving.specs.Words.{idle_progress, CpuStep, ConsumerStep, cpu_step, consumer_step, Stepped, step_cpu, step_consumer, on_to_end, Noted, Playing, ended, with_note, stepped}
+use Rattle.dspec_interleaving.specs.Words.{to_end}
 use Rattle.dspec_deeds.proofs.SetUp.{set_up}
 use Rattle.dspec_interleaving.proofs.Bounded.{cpu_below, clean_below}
 use Rattle.dspec_interleaving.proofs.Coherence.{step_cpu_coherent, step_consumer_coherent}

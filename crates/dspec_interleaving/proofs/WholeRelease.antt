@@ -3,15 +3,12 @@ use Prim.Native.Nat.{zero, suc}
 use Rattle.std.proofs.Common.{◌≡◌, ◌≤◌, ◌<◌, ◌⊎◌, inl, inr, ℕ, Bool, true, false, ◌&&◌, List}
 use Rattle.std.proofs.Common.{[], ◌∷◌, ◌++◌, Option, Some, None, if◌then◌else◌, refl, sym, ap, ◌∙◌, subst, ⊎_elim, arith}
 use Rattle.dspec_record.specs.declared.field.Shape.{Shape}
-use Rattle.dspec_word.specs.SpecId.{Speculation}
+use Rattle.dspec_interleaving.specs.Words.{Speculation, issue, verdict, is_undecided, solo, settled, PlayState, StandsProgress, progress_of, Call, of_cpu, of_consumer, behind_call, behind_all}
+use Rattle.dspec_interleaving.specs.Words.{is_sealing, whole_service, all_settled, IsCall, AreCalls, HasService, IsReleased}
 use Rattle.dspec_deeds.specs.declared.calls.ConsumerOp.TheVariants as consumer_op
 use Rattle.dspec_deeds.specs.declared.calls.CpuOp.TheVariants as cpu_op
 use Rattle.dspec_deeds.specs.declared.deed.Deed.TheVariants.{Seal}
 use Rattle.dspec_interleaving.specs.declared.flight.Spare.TheVariants as spare
-use Rattle.dspec_deeds.specs.History.{issue, verdict, is_undecided, solo, settled}
-use Rattle.dspec_interleaving.specs.Coherent.{PlayState, StandsProgress, progress_of}
-use Rattle.dspec_interleaving.specs.Whole.{Call, of_cpu, of_consumer, behind_call, behind_all, is_sealing}
-use Rattle.dspec_interleaving.specs.Whole.{whole_service, all_settled, IsCall, AreCalls, HasService, IsReleased}
 use Rattle.dspec_deeds.proofs.SoundLists.{opened_in_range}
 use Rattle.dspec_deeds.proofs.SetUp.{set_up}
 use Rattle.dspec_deeds.proofs.PresentIds.{decided_given}

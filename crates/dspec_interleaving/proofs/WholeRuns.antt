@@ -9,13 +9,8 @@ use Rattle.dspec_deeds.specs.declared.calls.Actor.TheVariants as actor
 use Rattle.dspec_deeds.specs.declared.calls.Answer.{Answer}
 use Rattle.dspec_deeds.specs.declared.calls.CpuOp.{CpuOp}
 use Rattle.dspec_deeds.specs.declared.deed.Deed.{Deed}
-use Rattle.dspec_interleaving.specs.declared.flight.CpuProgress.{CpuProgress}
-use Rattle.dspec_interleaving.specs.declared.flight.CallPlace.{CallPlace}
+use Rattle.dspec_interleaving.specs.Words.{CpuProgress, CallPlace, CpuStep, cpu_step, PlayState, progress_of, idle_progress, Stepped, begin_cpu, moved_to, step_cpu, on_to_end, WholeCpu, behind_cpu}
 use Rattle.dspec_interleaving.specs.declared.flight.CallPlace.TheVariants as cpu
-use Rattle.dspec_interleaving.specs.Play.{CpuStep, cpu_step}
-use Rattle.dspec_interleaving.specs.Coherent.{PlayState, progress_of, idle_progress}
-use Rattle.dspec_interleaving.specs.Turns.{Stepped, begin_cpu, moved_to, step_cpu, on_to_end}
-use Rattle.dspec_interleaving.specs.Whole.{WholeCpu, behind_cpu}
 
 -- a CPU's side, the list, and the answer where the call has ended
 pub record Lone : Type 0 where

@@ -9,16 +9,10 @@ use Rattle.dspec_deeds.specs.declared.config.Config.{Config}
 use Rattle.dspec_deeds.specs.declared.calls.CpuOp.TheVariants as cpu_op
 use Rattle.dspec_deeds.specs.declared.deed.Deed.{Deed}
 use Rattle.dspec_deeds.specs.declared.deed.Deed.TheVariants.{Seal}
-use Rattle.dspec_interleaving.specs.declared.flight.CpuProgress.{CpuProgress}
+use Rattle.dspec_interleaving.specs.Words.{CpuProgress, Spare, is_fill, settled, seals, SpareCounts, CpuStep, cpu_step, loads_service, asked, popped, call_goes_on, WholeCpu, whole_cpu}
+use Rattle.dspec_interleaving.specs.Words.{whole_service, are_all_back, is_out}
 use Rattle.dspec_interleaving.specs.declared.flight.CallPlace.TheVariants as cpu
-use Rattle.dspec_interleaving.specs.declared.flight.Spare.{Spare}
 use Rattle.dspec_interleaving.specs.declared.flight.Spare.TheVariants as spare
-use Rattle.dspec_deeds.specs.Ranges.{is_fill}
-use Rattle.dspec_deeds.specs.History.{settled}
-use Rattle.dspec_deeds.specs.Own.{seals}
-use Rattle.dspec_interleaving.specs.Coherent.{SpareCounts}
-use Rattle.dspec_interleaving.specs.Play.{CpuStep, cpu_step, loads_service, asked, popped, call_goes_on}
-use Rattle.dspec_interleaving.specs.Whole.{WholeCpu, whole_cpu, whole_service, are_all_back, is_out}
 use Rattle.dspec_deeds.proofs.TestLemmas.{and_false}
 use Rattle.dspec_interleaving.proofs.WholeRuns.{whole, runs}
 use Rattle.dspec_interleaving.proofs.WholeTrace.{begins, later, idle, Leads, goes, starts, leads_more}

@@ -7,22 +7,16 @@ use Rattle.std.proofs.lemmas.Bool.Decides.{nat_tests}
 use Rattle.dspec_record.specs.declared.field.Shape.{Shape}
 use Rattle.dspec_word.specs.declared.act.Act.TheVariants.{Granted, Idle}
 use Rattle.dspec_word.specs.declared.code.Code.TheVariants.{Inactive, Committing, CommittingMany}
-use Rattle.dspec_word.specs.Code.{awaits}
+use Rattle.dspec_interleaving.specs.Words.{awaits, CpuProgress, is_commit, issue, present, opened, Verdict, undecided, committed, discarded, verdict, is_undecided, callers, active_code, standing}
+use Rattle.dspec_interleaving.specs.Words.{is_sole, is_sole_or_none, solo, solo_of, settled, is_busy, owed, scan, ack, word_at, IsSound, SettlesAs, cpu_step, shown_service, served, call_goes_on}
+use Rattle.dspec_interleaving.specs.Words.{ends, commit_fate, settle_fate, WholeCpu, enters, owes, settles_as, settled_at, settled_up, settlements_up_to, whole_service}
 use Rattle.dspec_deeds.specs.declared.config.Config.{Config}
 use Rattle.dspec_deeds.specs.declared.calls.Answer.TheVariants as answer
 use Rattle.dspec_deeds.specs.declared.calls.Served.{Served}
 use Rattle.dspec_deeds.specs.declared.deed.DecideFate.{DecideFate}
 use Rattle.dspec_deeds.specs.declared.deed.Deed.{Deed}
 use Rattle.dspec_deeds.specs.declared.deed.Deed.TheVariants.{Settle}
-use Rattle.dspec_interleaving.specs.declared.flight.CpuProgress.{CpuProgress}
 use Rattle.dspec_interleaving.specs.declared.flight.CallPlace.TheVariants as cpu
-use Rattle.dspec_deeds.specs.FateKinds.{is_commit}
-use Rattle.dspec_deeds.specs.History.{issue, present, opened, Verdict, undecided, committed, discarded, verdict, is_undecided, callers, active_code}
-use Rattle.dspec_deeds.specs.History.{standing, is_sole, is_sole_or_none, solo, solo_of, settled, is_busy, owed, scan, ack, word_at}
-use Rattle.dspec_deeds.specs.Legal.{IsSound, SettlesAs}
-use Rattle.dspec_interleaving.specs.Play.{cpu_step, shown_service, served, call_goes_on, ends}
-use Rattle.dspec_deeds.specs.Settling.{commit_fate, settle_fate}
-use Rattle.dspec_interleaving.specs.Whole.{WholeCpu, enters, owes, settles_as, settled_at, settled_up, settlements_up_to, whole_service}
 use Rattle.dspec_deeds.proofs.TestLemmas.{and_tells, number_is_itself}
 use Rattle.dspec_deeds.proofs.SoundLists.{unseen}
 use Rattle.dspec_deeds.proofs.Acked.{ack_tells}

@@ -1,13 +1,12 @@
 -- A speculate that runs alone.
 use Rattle.std.proofs.Common.{◌≡◌, ◌≤◌, ℕ, Bool, true, false, List, [], ◌∷◌, Option, None, if◌then◌else◌, refl}
 use Rattle.dspec_record.specs.declared.field.Shape.{Shape}
-use Rattle.dspec_record.specs.Record.{Record}
-use Rattle.dspec_word.specs.SpecId.{Speculation}
+use Rattle.dspec_interleaving.specs.Words.{Record, Speculation, speculate_at, speculate_act, CpuProgress, halted, in_range, is_among, callers, is_open, word_at, IsSound, fits_speculative, is_worn}
+use Rattle.dspec_interleaving.specs.Words.{shown_speculate, spoken_at, same_word, WholeCpu, whole_cpu, enters}
 use Rattle.dspec_word.specs.declared.act.Act.{Act}
 use Rattle.dspec_word.specs.declared.act.Act.TheVariants.{Void, Granted, Attempt, Idle}
 use Rattle.dspec_word.specs.declared.code.Code.{Code}
 use Rattle.dspec_word.specs.declared.code.Code.TheVariants.{Inactive, Active, ActiveOne, ActiveMany, Committing, CommittingMany, Discarding}
-use Rattle.dspec_word.specs.Tables.{speculate_at, speculate_act}
 use Rattle.dspec_deeds.specs.declared.config.Config.{Config}
 use Rattle.dspec_deeds.specs.declared.calls.CpuOp.TheVariants as cpu_op
 use Rattle.dspec_deeds.specs.declared.calls.Answer.TheVariants as answer
@@ -15,12 +14,7 @@ use Rattle.dspec_deeds.specs.declared.calls.Spoken.TheVariants as spoken_answer
 use Rattle.dspec_deeds.specs.declared.deed.SpeculateFate.TheVariants as spoken
 use Rattle.dspec_deeds.specs.declared.deed.Deed.TheVariants.{Speculate}
 use Rattle.dspec_deeds.specs.declared.deed.Deed.{Deed}
-use Rattle.dspec_interleaving.specs.declared.flight.CpuProgress.{CpuProgress}
 use Rattle.dspec_interleaving.specs.declared.flight.CallPlace.TheVariants as cpu
-use Rattle.dspec_deeds.specs.History.{halted, in_range, is_among, callers, is_open, word_at}
-use Rattle.dspec_deeds.specs.Legal.{IsSound, fits_speculative}
-use Rattle.dspec_interleaving.specs.Play.{is_worn, shown_speculate, spoken_at, same_word}
-use Rattle.dspec_interleaving.specs.Whole.{WholeCpu, whole_cpu, enters}
 use Rattle.dspec_deeds.proofs.TestLemmas.{off}
 use Rattle.dspec_deeds.proofs.WordActs.{speculate_void, speculate_granted, speculate_attempt}
 use Rattle.dspec_interleaving.proofs.WholeRuns.{whole, runs}

@@ -6,7 +6,10 @@ use Rattle.std.specs.Prelude.{nat_lt, slice_set}
 use Rattle.std.proofs.lemmas.List.{get_or-set_same, get_or-set_other}
 use Rattle.std.proofs.lemmas.Bool.Decides.{nat_tests}
 use Rattle.dspec_record.specs.declared.field.Shape.{Shape}
-use Rattle.dspec_word.specs.SpecId.{Speculation}
+use Rattle.dspec_interleaving.specs.Words.{Speculation, CpuProgress, ConsumerFlight, CallPlace, issue, solo, start_fault, seals, IsSound, IsLegal, PlayState, IsCoherent, StandsProgress, progress_of}
+use Rattle.dspec_interleaving.specs.Words.{idle_progress, answer_of, IsLast, ReleasesThen, Stepped, at_start, begin_cpu, begin_consumer, step, step_cpu, step_consumer, on_to_end, WholeConsumer}
+use Rattle.dspec_interleaving.specs.Words.{is_out, Call, of_cpu, of_consumer, behind_call, behind_all, cpu_call, consumer_call, behind_cpu, behind_consumer, IsApart, IsCall, AreCalls, IsReleased}
+use Rattle.dspec_interleaving.specs.Words.{op_bound, consumer_bound}
 use Rattle.dspec_deeds.specs.declared.config.Config.{Config}
 use Rattle.dspec_deeds.specs.declared.calls.Actor.{Actor}
 use Rattle.dspec_deeds.specs.declared.calls.Actor.TheVariants as actor
@@ -18,26 +21,12 @@ use Rattle.dspec_deeds.specs.declared.deed.DecideFate.{DecideFate}
 use Rattle.dspec_deeds.specs.declared.deed.DecideFate.TheVariants as decided
 use Rattle.dspec_deeds.specs.declared.deed.Deed.{Deed}
 use Rattle.dspec_deeds.specs.declared.deed.Deed.TheVariants.{Commit, Discard, Release}
-use Rattle.dspec_interleaving.specs.declared.flight.CpuProgress.{CpuProgress}
-use Rattle.dspec_interleaving.specs.declared.flight.ConsumerFlight.{ConsumerFlight}
-use Rattle.dspec_interleaving.specs.declared.flight.CallPlace.{CallPlace}
 use Rattle.dspec_interleaving.specs.declared.flight.CallPlace.TheVariants as cpu
-use Rattle.dspec_deeds.specs.History.{issue, solo}
-use Rattle.dspec_deeds.specs.Ranges.{start_fault}
-use Rattle.dspec_deeds.specs.Own.{seals}
-use Rattle.dspec_deeds.specs.Legal.{IsSound, IsLegal}
-use Rattle.dspec_interleaving.specs.Coherent.{PlayState, IsCoherent, StandsProgress, progress_of, idle_progress}
-use Rattle.dspec_deeds.specs.FateAnswers.{answer_of}
-use Rattle.dspec_interleaving.specs.SoloRule.{IsLast, ReleasesThen}
-use Rattle.dspec_interleaving.specs.Turns.{Stepped, at_start, begin_cpu, begin_consumer, step, step_cpu, step_consumer, on_to_end}
-use Rattle.dspec_interleaving.specs.Whole.{WholeConsumer, is_out, Call, of_cpu, of_consumer, behind_call, behind_all, cpu_call}
-use Rattle.dspec_interleaving.specs.Whole.{consumer_call, behind_cpu, behind_consumer, IsApart, IsCall, AreCalls, IsReleased}
 use Rattle.dspec_deeds.proofs.TestLemmas.{either_way, number_is_itself, numbers_differ}
 use Rattle.dspec_deeds.proofs.PresentIds.{open_is_now}
 use Rattle.dspec_deeds.proofs.WordChanges.{discard_open}
 use Rattle.dspec_deeds.proofs.SoundLists.{issue_grows}
 use Rattle.dspec_interleaving.proofs.Coherence.{idle_at, start_coherent, begin_cpu_coherent, begin_consumer_coherent, step_config, step_coherent, on_to_end_coherent}
-use Rattle.dspec_interleaving.specs.Bounds.{op_bound, consumer_bound}
 use Rattle.dspec_interleaving.proofs.CallsEnd.{cpu_call_answers}
 use Rattle.dspec_interleaving.proofs.SoloRelease.{decided_alone, consumer_decides_none, released_next}
 use Rattle.dspec_interleaving.proofs.WholeCalls.{cpu_whole, consumer_whole}

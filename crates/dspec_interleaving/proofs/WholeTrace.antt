@@ -3,23 +3,14 @@ use Prim.Native.Nat.{suc}
 use Rattle.std.proofs.Common.{◌+◌, ◌≡◌, ◌≤◌, ℕ, Bool, true, false, not, List, ◌++◌, Option, Some, None, if◌then◌else◌, refl, sym, arith, true≢false}
 use Rattle.std.proofs.lemmas.Bool.Decides.{nat_tests}
 use Rattle.dspec_record.specs.declared.field.Shape.{Shape}
-use Rattle.dspec_record.specs.Record.{Record}
-use Rattle.dspec_buffer.specs.Extent.{one}
-use Rattle.dspec_word.specs.SpecId.{Speculation}
-use Rattle.dspec_word.specs.Word.{SlotState}
-use Rattle.dspec_word.specs.Code.{code_number}
+use Rattle.dspec_interleaving.specs.Words.{Record, one, Speculation, SlotState, code_number, CpuProgress, CallPlace, halted, in_range, opened, verdict, is_undecided, is_open, IsSound}
+use Rattle.dspec_interleaving.specs.Words.{fits_principal, is_worn, CpuStep, call_goes_on, ends, wears, begun, cpu_step, same_word, WholeCpu, whole_cpu, enters, wears_out}
 use Rattle.dspec_deeds.specs.declared.config.Config.{Config}
 use Rattle.dspec_deeds.specs.declared.calls.Answer.{Answer}
 use Rattle.dspec_deeds.specs.declared.calls.CpuOp.{CpuOp}
 use Rattle.dspec_deeds.specs.declared.calls.CpuOp.TheVariants as cpu_op
 use Rattle.dspec_deeds.specs.declared.deed.Deed.{Deed}
-use Rattle.dspec_interleaving.specs.declared.flight.CpuProgress.{CpuProgress}
-use Rattle.dspec_interleaving.specs.declared.flight.CallPlace.{CallPlace}
 use Rattle.dspec_interleaving.specs.declared.flight.CallPlace.TheVariants as cpu
-use Rattle.dspec_deeds.specs.History.{halted, in_range, opened, verdict, is_undecided, is_open}
-use Rattle.dspec_deeds.specs.Legal.{IsSound, fits_principal}
-use Rattle.dspec_interleaving.specs.Play.{is_worn, CpuStep, call_goes_on, ends, wears, begun, cpu_step, same_word}
-use Rattle.dspec_interleaving.specs.Whole.{WholeCpu, whole_cpu, enters, wears_out}
 use Rattle.dspec_deeds.proofs.TestLemmas.{and_tells, number_is_itself}
 use Rattle.dspec_deeds.proofs.SoundLists.{opened_in_range}
 use Rattle.dspec_interleaving.proofs.WholeRuns.{whole, runs, runs_stay, runs_more}

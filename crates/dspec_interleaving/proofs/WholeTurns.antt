@@ -5,29 +5,19 @@ use Rattle.std.specs.Prelude.{nat_lt, is_none}
 use Rattle.std.proofs.lemmas.Bool.Decides.{nat_tests}
 use Rattle.std.proofs.lemmas.List.{append-nil, map-append, reverse-append, get_or-set_same}
 use Rattle.dspec_record.specs.declared.field.Shape.{Shape}
-use Rattle.dspec_record.specs.Record.{Record}
+use Rattle.dspec_interleaving.specs.Words.{Record, CpuProgress, ConsumerFlight, CallPlace, PlayFault, op_bound, consumer_bound, most_steps, record_passes, is_about, PlayState, progress_of}
+use Rattle.dspec_interleaving.specs.Words.{idle_progress, start_fault, Stepped, at_start, EndedCall, Noted, Playing, IsPlayingAt, ended, begun_cpu, begun_consumer, playing_at_start, ran, turned}
+use Rattle.dspec_interleaving.specs.Words.{all_turned, cpus_ran, all_ran, played, begin_refusal, or_else, setup_fault, refusal, turn_fault, play_fault, Call, of_cpu, of_consumer, behind_call}
+use Rattle.dspec_interleaving.specs.Words.{behind_all, whole_answer, IsCall, AreCalls, turn_of, actor_of, operation_of, HasAcceptedRecord, AreAccepted, all_ended}
 use Rattle.dspec_deeds.specs.declared.config.Config.{Config}
 use Rattle.dspec_deeds.specs.declared.config.StartFault.{StartFault}
 use Rattle.dspec_deeds.specs.declared.calls.Actor.TheVariants as actor
 use Rattle.dspec_deeds.specs.declared.calls.Answer.{Answer}
 use Rattle.dspec_deeds.specs.declared.calls.ConsumerOp.{ConsumerOp}
 use Rattle.dspec_deeds.specs.declared.calls.ConsumerOp.TheVariants as consumer_op
-use Rattle.dspec_interleaving.specs.declared.flight.CpuProgress.{CpuProgress}
-use Rattle.dspec_interleaving.specs.declared.flight.ConsumerFlight.{ConsumerFlight}
 use Rattle.dspec_interleaving.specs.declared.flight.ConsumerFlight.TheVariants as consumer
-use Rattle.dspec_interleaving.specs.declared.flight.CallPlace.{CallPlace}
 use Rattle.dspec_interleaving.specs.declared.flight.CallPlace.TheVariants as cpu
-use Rattle.dspec_interleaving.specs.declared.outcome.PlayFault.{PlayFault}
 use Rattle.dspec_interleaving.specs.declared.refusal.BeginFault.TheVariants as begin_fault
-use Rattle.dspec_interleaving.specs.Bounds.{op_bound, consumer_bound, most_steps}
-use Rattle.dspec_interleaving.specs.Calls.{record_passes, is_about}
-use Rattle.dspec_interleaving.specs.Coherent.{PlayState, progress_of, idle_progress}
-use Rattle.dspec_deeds.specs.Ranges.{start_fault}
-use Rattle.dspec_interleaving.specs.Turns.{Stepped, at_start}
-use Rattle.dspec_interleaving.specs.Plays.{EndedCall, Noted, Playing, IsPlayingAt, ended, begun_cpu, begun_consumer, playing_at_start, ran, turned}
-use Rattle.dspec_interleaving.specs.Plays.{all_turned, cpus_ran, all_ran, played, begin_refusal, or_else, setup_fault, refusal, turn_fault, play_fault}
-use Rattle.dspec_interleaving.specs.Whole.{Call, of_cpu, of_consumer, behind_call, behind_all, whole_answer, IsCall, AreCalls}
-use Rattle.dspec_interleaving.specs.WholePlays.{turn_of, actor_of, operation_of, HasAcceptedRecord, AreAccepted, all_ended}
 use Rattle.dspec_deeds.proofs.SetUp.{set_up}
 use Rattle.dspec_interleaving.proofs.Coherence.{begin_cpu_coherent, begin_consumer_coherent}
 use Rattle.dspec_interleaving.proofs.PlaysEnd.{ended_stays, op_within, clean_within}

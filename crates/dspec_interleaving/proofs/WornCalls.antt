@@ -3,7 +3,9 @@ use Rattle.std.proofs.Common.{◌≡◌, ℕ, ◌+◌, ◌<◌, Bool, true, ◌&
 use Rattle.std.specs.Prelude.{map, nat_le, reverse}
 use Rattle.std.proofs.lemmas.List.{reverse-append, map-append}
 use Rattle.dspec_record.specs.declared.field.Shape.{Shape}
-use Rattle.dspec_record.specs.Record.{Record}
+use Rattle.dspec_interleaving.specs.Words.{Record, CpuProgress, ConsumerFlight, CallPlace, calls, start_fault, op_of, consumer_op_of, is_about, StandsState, PlayState, progress_of, CpuStep}
+use Rattle.dspec_interleaving.specs.Words.{ConsumerStep, cpu_step, consumer_step, Noted, ended, Playing, with_note, playing_at_start, begun_cpu, begun_consumer, played, answers_of, play_fault}
+use Rattle.dspec_interleaving.specs.Words.{is_first, is_told_worn, is_worn_behind, AreWornRightly}
 use Rattle.dspec_deeds.specs.declared.config.Config.{Config}
 use Rattle.dspec_deeds.specs.declared.calls.Actor.TheVariants as actor
 use Rattle.dspec_deeds.specs.declared.calls.ConsumerOp.{ConsumerOp}
@@ -12,17 +14,7 @@ use Rattle.dspec_deeds.specs.declared.calls.Op.{Op}
 use Rattle.dspec_deeds.specs.declared.calls.Op.TheVariants as op
 use Rattle.dspec_deeds.specs.declared.calls.Turn.{Turn}
 use Rattle.dspec_deeds.specs.declared.deed.Deed.{Deed}
-use Rattle.dspec_interleaving.specs.declared.flight.CpuProgress.{CpuProgress}
-use Rattle.dspec_interleaving.specs.declared.flight.ConsumerFlight.{ConsumerFlight}
-use Rattle.dspec_interleaving.specs.declared.flight.CallPlace.{CallPlace}
 use Rattle.dspec_interleaving.specs.declared.flight.CallPlace.TheVariants as cpu
-use Rattle.dspec_deeds.specs.Own.{calls}
-use Rattle.dspec_deeds.specs.Ranges.{start_fault}
-use Rattle.dspec_interleaving.specs.Calls.{op_of, consumer_op_of, is_about}
-use Rattle.dspec_interleaving.specs.Coherent.{StandsState, PlayState, progress_of}
-use Rattle.dspec_interleaving.specs.Play.{CpuStep, ConsumerStep, cpu_step, consumer_step}
-use Rattle.dspec_interleaving.specs.Plays.{Noted, ended, Playing, with_note, playing_at_start, begun_cpu, begun_consumer, played, answers_of, play_fault}
-use Rattle.dspec_interleaving.specs.Wearing.{is_first, is_told_worn, is_worn_behind, AreWornRightly}
 use Rattle.dspec_interleaving.proofs.Coherence.{idle_at, start_coherent}
 use Rattle.dspec_interleaving.proofs.ConsumerSteps.{consumer_keeps}
 use Rattle.dspec_interleaving.proofs.CpuSteps.{cpu_step_stands}

@@ -10,18 +10,9 @@ use Rattle.dspec_deeds.specs.declared.calls.CpuOp.{CpuOp}
 use Rattle.dspec_deeds.specs.declared.calls.Op.{Op}
 use Rattle.dspec_deeds.specs.declared.calls.Op.TheVariants as op
 use Rattle.dspec_deeds.specs.declared.deed.Deed.{Deed}
-use Rattle.dspec_interleaving.specs.declared.flight.CpuProgress.{CpuProgress}
-use Rattle.dspec_interleaving.specs.declared.flight.ConsumerFlight.{ConsumerFlight}
-use Rattle.dspec_interleaving.specs.declared.flight.CallPlace.{CallPlace}
+use Rattle.dspec_interleaving.specs.Words.{CpuProgress, ConsumerFlight, CallPlace, author, same_actor, calls, op_of, PlayState, progress_of, cpu_step, EndedCall, Noted, ended, Playing, with_note}
+use Rattle.dspec_interleaving.specs.Words.{is_by, is_worn_answer, step_cpu, step_consumer, step, is_counted, is_first, is_told_worn, entered_calls, is_worn_behind, AreWornRightly}
 use Rattle.dspec_interleaving.specs.declared.flight.CallPlace.TheVariants as cpu
-use Rattle.dspec_deeds.specs.History.{author, same_actor}
-use Rattle.dspec_deeds.specs.Own.{calls}
-use Rattle.dspec_interleaving.specs.Calls.{op_of}
-use Rattle.dspec_interleaving.specs.Coherent.{PlayState, progress_of}
-use Rattle.dspec_interleaving.specs.Play.{cpu_step}
-use Rattle.dspec_interleaving.specs.Plays.{EndedCall, Noted, ended, Playing, with_note, is_by, is_worn_answer}
-use Rattle.dspec_interleaving.specs.Turns.{step_cpu, step_consumer, step}
-use Rattle.dspec_interleaving.specs.Wearing.{is_counted, is_first, is_told_worn, entered_calls, is_worn_behind, AreWornRightly}
 use Rattle.dspec_deeds.proofs.Going.{AllBy}
 use Rattle.dspec_deeds.proofs.StayingOwn.{calls_other}
 use Rattle.dspec_deeds.proofs.TestLemmas.{number_is_itself, same_actor_tells}

@@ -2,14 +2,12 @@
 use Rattle.std.proofs.Common.{◌≡◌, ℕ, ◌+◌, Bool, true, false, ◌==◌, ◌&&◌, List, [], ◌∷◌, ◌++◌, Option, Some, None, if◌then◌else◌, refl, arith}
 use Rattle.std.specs.Prelude.{nat_lt, nat_le}
 use Rattle.dspec_record.specs.declared.field.Shape.{Shape}
-use Rattle.dspec_record.specs.Record.{Record}
-use Rattle.dspec_buffer.specs.Extent.{one}
+use Rattle.dspec_interleaving.specs.Words.{Record, one, is_decided, Speculation, SlotState, speculate_at, commit_at, discard_at, open_at, settle_at, CpuProgress, CallPlace, Spare, op_of, is_fill}
+use Rattle.dspec_interleaving.specs.Words.{halted, in_range, word_at, ack, calls, seals, fits_principal, fits_speculative, missed_busy, commit_fate, discard_fate, settle_fate, answer_of, CpuStep}
+use Rattle.dspec_interleaving.specs.Words.{same_word, is_alone, is_release, is_worn, is_mine, ends, wears, call_goes_on, spoken_at, shown_speculate, shown_commit, shown_discard, missed, shown_scan}
+use Rattle.dspec_interleaving.specs.Words.{asked, begun, popped, served, shown_service, cpu_step, is_worn_answer, is_counted, is_first, is_told_worn, enters_call}
 use Rattle.dspec_word.specs.declared.act.Act.{Act}
 use Rattle.dspec_word.specs.declared.act.Act.TheVariants.{Void, Granted, Attempt, Idle}
-use Rattle.dspec_word.specs.Code.{is_decided}
-use Rattle.dspec_word.specs.SpecId.{Speculation}
-use Rattle.dspec_word.specs.Word.{SlotState}
-use Rattle.dspec_word.specs.Tables.{speculate_at, commit_at, discard_at, open_at, settle_at}
 use Rattle.dspec_deeds.specs.declared.config.Config.{Config}
 use Rattle.dspec_deeds.specs.declared.calls.Answer.{Answer}
 use Rattle.dspec_deeds.specs.declared.calls.Answer.TheVariants as answer
@@ -27,23 +25,8 @@ use Rattle.dspec_deeds.specs.declared.deed.SpeculateFate.TheVariants as spoken
 use Rattle.dspec_deeds.specs.declared.deed.TraceFate.TheVariants as traced
 use Rattle.dspec_deeds.specs.declared.deed.Deed.{Deed}
 use Rattle.dspec_deeds.specs.declared.deed.Deed.TheVariants.{Trace, Scan, Opened, Miss, Speculate, Commit, Discard, Settle, Release}
-use Rattle.dspec_interleaving.specs.declared.flight.CpuProgress.{CpuProgress}
-use Rattle.dspec_interleaving.specs.declared.flight.CallPlace.{CallPlace}
 use Rattle.dspec_interleaving.specs.declared.flight.CallPlace.TheVariants as cpu
-use Rattle.dspec_interleaving.specs.declared.flight.Spare.{Spare}
 use Rattle.dspec_interleaving.specs.declared.flight.Spare.TheVariants as spare
-use Rattle.dspec_interleaving.specs.Calls.{op_of}
-use Rattle.dspec_deeds.specs.Ranges.{is_fill}
-use Rattle.dspec_deeds.specs.History.{halted, in_range, word_at, ack}
-use Rattle.dspec_deeds.specs.Own.{calls, seals}
-use Rattle.dspec_deeds.specs.Legal.{fits_principal, fits_speculative}
-use Rattle.dspec_deeds.specs.Reports.{missed_busy}
-use Rattle.dspec_deeds.specs.Settling.{commit_fate, discard_fate, settle_fate}
-use Rattle.dspec_deeds.specs.FateAnswers.{answer_of}
-use Rattle.dspec_interleaving.specs.Play.{CpuStep, same_word, is_alone, is_release, is_worn, is_mine, ends, wears, call_goes_on, spoken_at, shown_speculate, shown_commit, shown_discard}
-use Rattle.dspec_interleaving.specs.Play.{missed, shown_scan, asked, begun, popped, served, shown_service, cpu_step}
-use Rattle.dspec_interleaving.specs.Plays.{is_worn_answer}
-use Rattle.dspec_interleaving.specs.Wearing.{is_counted, is_first, is_told_worn, enters_call}
 use Rattle.dspec_deeds.proofs.TestLemmas.{number_is_itself}
 use Rattle.dspec_interleaving.proofs.OwnTelling.{fails_unworn, told_unworn}
 

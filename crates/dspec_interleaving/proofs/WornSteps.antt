@@ -2,23 +2,15 @@
 -- make; each other call that counts enters one deed that does.
 use Rattle.std.proofs.Common.{◌≡◌, ℕ, ◌+◌, Bool, true, false, ◌==◌, List, [], if◌then◌else◌, refl}
 use Rattle.std.specs.Prelude.{nat_lt}
-use Rattle.dspec_word.specs.Code.{awaits}
+use Rattle.dspec_interleaving.specs.Words.{awaits, CpuProgress, ConsumerFlight, ConsumerProgress, Spare, halted, word_at, ack, ConsumerStep, same_word, takes_at, gives_at, next_slot, loads_slot}
+use Rattle.dspec_interleaving.specs.Words.{consumer_step, progress_of, is_told_worn}
 use Rattle.dspec_deeds.specs.declared.config.Config.{Config}
 use Rattle.dspec_deeds.specs.declared.calls.Answer.TheVariants as answer
 use Rattle.dspec_deeds.specs.declared.calls.ConsumerOp.TheVariants as consumer_op
 use Rattle.dspec_deeds.specs.declared.calls.Op.TheVariants as op
 use Rattle.dspec_deeds.specs.declared.deed.Deed.{Deed}
-use Rattle.dspec_interleaving.specs.declared.flight.CpuProgress.{CpuProgress}
-use Rattle.dspec_interleaving.specs.declared.flight.ConsumerFlight.{ConsumerFlight}
 use Rattle.dspec_interleaving.specs.declared.flight.ConsumerFlight.TheVariants as consumer
-use Rattle.dspec_interleaving.specs.declared.flight.ConsumerProgress.{ConsumerProgress}
-use Rattle.dspec_interleaving.specs.declared.flight.Spare.{Spare}
 use Rattle.dspec_interleaving.specs.declared.flight.Spare.TheVariants as spare
-use Rattle.dspec_deeds.specs.History.{halted, word_at, ack}
-use Rattle.dspec_interleaving.specs.Play.{ConsumerStep, same_word}
-use Rattle.dspec_interleaving.specs.Play.{takes_at, gives_at, next_slot, loads_slot, consumer_step}
-use Rattle.dspec_interleaving.specs.Coherent.{progress_of}
-use Rattle.dspec_interleaving.specs.Wearing.{is_told_worn}
 
 module _ (k : Config) (h : List Deed) (side : ConsumerProgress) (all : List CpuProgress) where
   abbrev IsUnworn : ConsumerStep → Type 0

@@ -1,6 +1,6 @@
 -- Cited by calls. Which call is in flight, whether it may begin, and why a begin or a step is refused.
 use Rattle.std.specs.Prelude.{ℕ, nat_lt, Bool, true, not, is_none, if◌then◌else◌, Option, Some, None}
-use Rattle.dspec_record.specs.Record.{Record}
+use Rattle.dspec_interleaving.specs.Words.Outside.{Record}
 use Rattle.dspec_deeds.specs.declared.config.Config.{Config}
 use Rattle.dspec_deeds.specs.declared.calls.Actor.{Actor}
 use Rattle.dspec_deeds.specs.declared.calls.Actor.TheVariants as actor

@@ -4,10 +4,9 @@ use Rattle.std.specs.Prelude.{ℕ, ◌≡◌, ◌⊎◌, ◌+◌, ◌*◌, ◌-�
 use Rattle.dspec_record.specs.declared.field.Shape.{Shape}
 use Rattle.dspec_word.specs.declared.act.Act.{Act}
 use Rattle.dspec_word.specs.declared.act.Act.TheVariants.{Attempt}
-use Rattle.dspec_word.specs.Code.{awaits, code_number}
-use Rattle.dspec_word.specs.SpecId.{Speculation}
-use Rattle.dspec_word.specs.Word.{SlotState, word_number}
-use Rattle.dspec_word.specs.Tables.{speculate_at, commit_at, discard_at, open_at}
+use Rattle.dspec_interleaving.specs.Words.Outside.{awaits, code_number, Speculation, SlotState, word_number, speculate_at, commit_at, discard_at, open_at, start_fault, is_fill, committed, verdict}
+use Rattle.dspec_interleaving.specs.Words.Outside.{is_among, callers, in_range, issue, present, solo, scan, opened, opened_since, part, late, owed, settled, word_at, seals, HasAuthors, IsAllowed}
+use Rattle.dspec_interleaving.specs.Words.Outside.{sealed_last}
 use Rattle.dspec_deeds.specs.declared.config.Config.{Config}
 use Rattle.dspec_deeds.specs.declared.calls.Actor.TheVariants.{Cpu}
 use Rattle.dspec_deeds.specs.declared.deed.Deed.{Deed}
@@ -19,10 +18,6 @@ use Rattle.dspec_interleaving.specs.declared.flight.CallPlace.{CallPlace}
 use Rattle.dspec_interleaving.specs.declared.flight.CallPlace.TheVariants as cpu
 use Rattle.dspec_interleaving.specs.declared.flight.Spare.{Spare}
 use Rattle.dspec_interleaving.specs.declared.flight.Spare.TheVariants as spare
-use Rattle.dspec_deeds.specs.Ranges.{start_fault, is_fill}
-use Rattle.dspec_deeds.specs.History.{committed, verdict, is_among, callers, in_range, issue, present, solo, scan, opened, opened_since, part, late, owed, settled, word_at}
-use Rattle.dspec_deeds.specs.Own.{seals}
-use Rattle.dspec_deeds.specs.Legal.{HasAuthors, IsAllowed, sealed_last}
 
 abbrev pub IsSlot : Config → ℕ → Type 0
 IsSlot k s = (1 ≤ s) × (s ≤ k.nspec)

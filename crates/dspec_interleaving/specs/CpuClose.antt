@@ -1,20 +1,12 @@
 -- Cited by calls. The settlements of the close, told of one CPU's own list and the words alone.
 use Rattle.std.specs.Prelude.{ℕ, zero, suc, ◌≡◌, ◌<◌, List, [], ◌∷◌, false, Option, if◌then◌else◌}
 use Rattle.dspec_record.specs.declared.field.Shape.{Shape}
-use Rattle.dspec_word.specs.SpecId.{Speculation}
-use Rattle.dspec_word.specs.Tables.{settle_at}
-use Rattle.dspec_word.specs.Word.{SlotState}
+use Rattle.dspec_interleaving.specs.Words.Outside.{Speculation, settle_at, SlotState, part, ack, word_at, verdict, is_undecided, Headline, IsLegal, held, settle_fate, is_granted, WaitsUndecided}
+use Rattle.dspec_interleaving.specs.Words.Outside.{ReadsAlike}
 use Rattle.dspec_deeds.specs.declared.config.Config.{Config}
 use Rattle.dspec_deeds.specs.declared.calls.Actor.TheVariants.{Cpu, Consumer}
 use Rattle.dspec_deeds.specs.declared.deed.Deed.{Deed}
 use Rattle.dspec_deeds.specs.declared.deed.Deed.TheVariants.{Settle}
-use Rattle.dspec_deeds.specs.History.{part, ack, word_at, verdict, is_undecided}
-use Rattle.dspec_deeds.specs.Headline.{Headline}
-use Rattle.dspec_deeds.specs.Legal.{IsLegal}
-use Rattle.dspec_deeds.specs.Own.{held}
-use Rattle.dspec_deeds.specs.Settling.{settle_fate}
-use Rattle.dspec_deeds.specs.Closes.{is_granted, WaitsUndecided}
-use Rattle.dspec_deeds.specs.Owning.{ReadsAlike}
 
 module _ (shape : ℕ → Option Shape) (k : Config) (words : ℕ → SlotState) (c : ℕ) where
   -- what the CPU has still to settle in a slot

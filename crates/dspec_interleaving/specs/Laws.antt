@@ -1,8 +1,7 @@
 -- Cited by calls. What the laws of plays say of a state, of a call and of whole calls, where it is long.
 use Rattle.std.specs.Prelude.{ℕ, ◌≡◌, ◌≢◌, ◌<◌, ◌∷◌, ◌++◌, Bool, false, nat_le, ◌&&◌, List, map, Option, Some, None}
-use Rattle.dspec_record.specs.Record.{Record}
+use Rattle.dspec_interleaving.specs.Words.Outside.{Record, Speculation, closing, solo, verdict, is_undecided, scan, calls, woven, HaveLists}
 use Rattle.dspec_record.specs.declared.field.Shape.{Shape}
-use Rattle.dspec_word.specs.SpecId.{Speculation}
 use Rattle.dspec_deeds.specs.declared.calls.Actor.TheVariants as actor
 use Rattle.dspec_deeds.specs.declared.calls.ConsumerOp.{ConsumerOp}
 use Rattle.dspec_deeds.specs.declared.calls.ConsumerOp.TheVariants as consumer_op
@@ -11,10 +10,6 @@ use Rattle.dspec_deeds.specs.declared.calls.Turn.{Turn}
 use Rattle.dspec_deeds.specs.declared.config.Config.{Config}
 use Rattle.dspec_deeds.specs.declared.deed.DecideFate.{DecideFate}
 use Rattle.dspec_deeds.specs.declared.deed.Deed.{Deed}
-use Rattle.dspec_deeds.specs.Closes.{closing}
-use Rattle.dspec_deeds.specs.History.{solo, verdict, is_undecided, scan}
-use Rattle.dspec_deeds.specs.Own.{calls}
-use Rattle.dspec_deeds.specs.Weaving.{woven, HaveLists}
 use Rattle.dspec_interleaving.specs.declared.flight.CallPlace.{CallPlace}
 use Rattle.dspec_interleaving.specs.declared.flight.CallPlace.TheVariants as flight
 use Rattle.dspec_interleaving.specs.Bounds.{flight_bound, op_bound, consumer_bound}

@@ -12,3 +12,4 @@ pub mod WholePlays
 pub mod Promised
 pub mod CpuClose
 pub mod Laws
+pub mod Words

@@ -2,14 +2,11 @@
 -- Every word, acknowledgement and activity that a step is shown is read off the list.
 use Rattle.std.specs.Prelude.{ℕ, ◌+◌, ◌-◌, ◌==◌, ◌^◌, nat_le, nat_lt, min, Bool, true, false, ◌&&◌, List, [], ◌∷◌, length, reverse, slice_index_or, slice_set, if◌then◌else◌, Option, Some, None}
 use Rattle.dspec_record.specs.declared.field.Shape.{Shape}
-use Rattle.dspec_record.specs.Record.{Record}
-use Rattle.dspec_buffer.specs.Extent.{one}
+use Rattle.dspec_interleaving.specs.Words.Outside.{Record, one, is_inactive, is_decided, awaits, code_number, Speculation, SlotState, speculate_at, commit_at, discard_at, open_at, settle_at}
+use Rattle.dspec_interleaving.specs.Words.Outside.{is_fill, halted, in_range, is_among, callers, word_at, ack, calls, seals, batches, taken, Batch, empty_batch, fits_principal, fits_speculative}
+use Rattle.dspec_interleaving.specs.Words.Outside.{missed_busy, commit_fate, discard_fate, settle_fate, answer_of}
 use Rattle.dspec_word.specs.declared.act.Act.{Act}
 use Rattle.dspec_word.specs.declared.act.Act.TheVariants.{Granted, Attempt}
-use Rattle.dspec_word.specs.Code.{is_inactive, is_decided, awaits, code_number}
-use Rattle.dspec_word.specs.SpecId.{Speculation}
-use Rattle.dspec_word.specs.Word.{SlotState}
-use Rattle.dspec_word.specs.Tables.{speculate_at, commit_at, discard_at, open_at, settle_at}
 use Rattle.dspec_deeds.specs.declared.config.Config.{Config}
 use Rattle.dspec_deeds.specs.declared.calls.Answer.{Answer}
 use Rattle.dspec_deeds.specs.declared.calls.Answer.TheVariants as answer
@@ -35,14 +32,7 @@ use Rattle.dspec_interleaving.specs.declared.flight.CallPlace.{CallPlace}
 use Rattle.dspec_interleaving.specs.declared.flight.CallPlace.TheVariants as cpu
 use Rattle.dspec_interleaving.specs.declared.flight.Spare.{Spare}
 use Rattle.dspec_interleaving.specs.declared.flight.Spare.TheVariants as spare
-use Rattle.dspec_deeds.specs.Ranges.{is_fill}
-use Rattle.dspec_deeds.specs.History.{halted, in_range, is_among, callers, word_at, ack}
-use Rattle.dspec_deeds.specs.Own.{calls, seals, batches, taken, Batch, empty_batch}
 use Rattle.dspec_interleaving.specs.Coherent.{progress_of}
-use Rattle.dspec_deeds.specs.Legal.{fits_principal, fits_speculative}
-use Rattle.dspec_deeds.specs.Reports.{missed_busy}
-use Rattle.dspec_deeds.specs.Settling.{commit_fate, discard_fate, settle_fate}
-use Rattle.dspec_deeds.specs.FateAnswers.{answer_of}
 
 abbrev pub same_word : SlotState → SlotState → Bool
 same_word v w = (v.issue == w.issue) && (code_number v.code == code_number w.code)

@@ -2,7 +2,7 @@
 use Prim.Native.Nat.{zero, suc}
 use Rattle.std.specs.Prelude.{ℕ, ◌≡◌, ◌+◌, ◌-◌, ◌^◌, ◌==◌, min, Bool, true, false, ◌&&◌, List, [], ◌∷◌, ◌++◌, map, reverse, if◌then◌else◌, Option, Some, None}
 use Rattle.dspec_record.specs.declared.field.Shape.{Shape}
-use Rattle.dspec_record.specs.Record.{Record}
+use Rattle.dspec_interleaving.specs.Words.Outside.{Record, start_fault, closing}
 use Rattle.dspec_deeds.specs.declared.config.Config.{Config}
 use Rattle.dspec_deeds.specs.declared.config.StartFault.{StartFault}
 use Rattle.dspec_deeds.specs.declared.calls.Actor.{Actor}
@@ -33,9 +33,7 @@ use Rattle.dspec_interleaving.specs.Bounds.{most_steps}
 use Rattle.dspec_interleaving.specs.Calls.{op_of, consumer_op_of, is_idle, begin_cpu_fault, begin_consumer_fault, idle_step_fault}
 use Rattle.dspec_interleaving.specs.Coherent.{PlayState, progress_of}
 use Rattle.dspec_interleaving.specs.Play.{cpu_step, consumer_step}
-use Rattle.dspec_deeds.specs.Ranges.{start_fault}
 use Rattle.dspec_interleaving.specs.Turns.{at_start, begin_cpu, begin_consumer, step}
-use Rattle.dspec_deeds.specs.Closes.{closing}
 
 abbrev pub EndedCall : Type 0
 EndedCall = Actor × Op × Answer

@@ -2,7 +2,7 @@
 use Rattle.std.specs.Prelude.{ℕ, Option}
 use Rattle.dspec_record.specs.declared.field.Shape.{Shape}
 use Rattle.dspec_interleaving.specs.Coherent.{PlayState, IsCoherent}
-use Rattle.dspec_deeds.specs.Headline.{Headline}
+use Rattle.dspec_interleaving.specs.Words.Outside.{Headline}
 
 -- the state is coherent, so its list of deeds is legal and the laws of plays go on from it; and the headline is true of
 -- that list for each CPU

@@ -17,11 +17,10 @@ use Rattle.dspec_deeds.specs.declared.deed.SpeculateFate.{SpeculateFate}
 use Rattle.dspec_deeds.specs.declared.deed.SpeculateFate.TheVariants as spoken
 use Rattle.dspec_deeds.specs.declared.deed.TraceFate.{TraceFate}
 use Rattle.dspec_deeds.specs.declared.deed.TraceFate.TheVariants as traced
-use Rattle.dspec_deeds.specs.FateAnswers.{answer_of}
+use Rattle.dspec_interleaving.specs.Words.Outside.{answer_of, seals}
 use Rattle.dspec_interleaving.specs.declared.flight.Spare.{Spare}
 use Rattle.dspec_interleaving.specs.declared.flight.Spare.TheVariants as spare
 use Rattle.dspec_interleaving.specs.Coherent.{PlayState, progress_of}
-use Rattle.dspec_deeds.specs.Own.{seals}
 use Rattle.dspec_interleaving.specs.Whole.{is_out}
 use Rattle.dspec_interleaving.specs.Play.{took}
 

@@ -2,8 +2,8 @@
 use Prim.Native.Nat.{zero, suc}
 use Rattle.std.specs.Prelude.{ℕ, ◌≡◌, ◌<◌, ◌⊎◌, ◌+◌, ◌-◌, ◌==◌, ◌^◌, nat_lt, min, Bool, true, false, not, ◌&&◌, ◌||◌, is_none, List, [], ◌∷◌, slice_set, if◌then◌else◌, Option, Some, None}
 use Rattle.dspec_record.specs.declared.field.Shape.{Shape}
-use Rattle.dspec_buffer.specs.Extent.{one}
-use Rattle.dspec_word.specs.SpecId.{Speculation}
+use Rattle.dspec_interleaving.specs.Words.Outside.{one, Speculation, is_fill, halted, issue, present, Verdict, discarded, verdict, is_open, callers, is_sole, is_sole_or_none, solo, settled, is_free}
+use Rattle.dspec_interleaving.specs.Words.Outside.{is_busy, seals, fits_principal, fits_speculative, commit_fate, discard_fate, answer_of}
 use Rattle.dspec_deeds.specs.declared.config.Config.{Config}
 use Rattle.dspec_deeds.specs.declared.calls.Answer.{Answer}
 use Rattle.dspec_deeds.specs.declared.calls.Answer.TheVariants as answer
@@ -24,12 +24,6 @@ use Rattle.dspec_deeds.specs.declared.deed.Deed.TheVariants.{Trace, Scan, Opened
 use Rattle.dspec_interleaving.specs.declared.flight.CpuProgress.{CpuProgress}
 use Rattle.dspec_interleaving.specs.declared.flight.Spare.{Spare}
 use Rattle.dspec_interleaving.specs.declared.flight.Spare.TheVariants as spare
-use Rattle.dspec_deeds.specs.Ranges.{is_fill}
-use Rattle.dspec_deeds.specs.History.{halted, issue, present, Verdict, discarded, verdict, is_open, callers, is_sole, is_sole_or_none, solo, settled, is_free, is_busy}
-use Rattle.dspec_deeds.specs.Own.{seals}
-use Rattle.dspec_deeds.specs.Legal.{fits_principal, fits_speculative}
-use Rattle.dspec_deeds.specs.Settling.{commit_fate, discard_fate}
-use Rattle.dspec_deeds.specs.FateAnswers.{answer_of}
 use Rattle.dspec_interleaving.specs.Coherent.{progress_of, PlayState}
 use Rattle.dspec_interleaving.specs.Play.{is_worn, took}
 

@@ -1,7 +1,7 @@
 -- Serves proofs. A schedule of whole calls: its turns, and what it answers.
 use Rattle.std.specs.Prelude.{◌≡◌, ℕ, Bool, true, List, [], ◌∷◌, Option}
 use Rattle.dspec_record.specs.declared.field.Shape.{Shape}
-use Rattle.dspec_record.specs.Record.{Record}
+use Rattle.dspec_interleaving.specs.Words.Outside.{Record}
 use Rattle.dspec_deeds.specs.declared.calls.Actor.{Actor}
 use Rattle.dspec_deeds.specs.declared.calls.Actor.TheVariants as actor
 use Rattle.dspec_deeds.specs.declared.calls.Op.{Op}

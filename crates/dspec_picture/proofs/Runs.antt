@@ -3,20 +3,15 @@ use Prim.Native.Nat.{zero, suc}
 use Rattle.std.proofs.Common.{◌≡◌, ℕ, ◌+◌, ◌-◌, ◌<◌, ◌≤◌, Bool, true, false, List, [], ◌∷◌, length, drop, get_or, Option, Some, None, is_none}
 use Rattle.std.proofs.Common.{true≢false, refl, sym, ap, ◌∙◌, subst, arith, add-one, drop-cons}
 use Rattle.dspec_record.specs.declared.field.Shape.{Shape}
-use Rattle.dspec_record.specs.Record.{Record}
+use Rattle.dspec_picture.specs.Words.{Record, start_fault, is_idle, PlayState, progress_of, Playing, cpu_stepped, consumer_stepped, playing_at_start, stepped, to_end, turned, or_else, play_fault}
+use Rattle.dspec_picture.specs.Words.{refusal, setup_fault, turn_fault, step, step_cpu, step_consumer}
 use Rattle.dspec_deeds.specs.declared.calls.Actor.{Actor}
 use Rattle.dspec_deeds.specs.declared.calls.Actor.TheVariants as actor
 use Rattle.dspec_deeds.specs.declared.calls.Turn.{Turn}
 use Rattle.dspec_deeds.specs.declared.config.Config.{Config}
-use Rattle.dspec_deeds.specs.Ranges.{start_fault}
 use Rattle.dspec_interleaving.specs.declared.flight.CallPlace.{CallPlace}
 use Rattle.dspec_interleaving.specs.declared.flight.ConsumerFlight.{ConsumerFlight}
 use Rattle.dspec_interleaving.specs.declared.outcome.PlayFault.{PlayFault}
-use Rattle.dspec_interleaving.specs.Calls.{is_idle}
-use Rattle.dspec_interleaving.specs.Coherent.{PlayState, progress_of}
-use Rattle.dspec_interleaving.specs.Plays.{Playing, cpu_stepped, consumer_stepped, playing_at_start, stepped, to_end, turned}
-use Rattle.dspec_interleaving.specs.Plays.{or_else, play_fault, refusal, setup_fault, turn_fault}
-use Rattle.dspec_interleaving.specs.Turns.{step, step_cpu, step_consumer}
 
 module _ (shape : ℕ → Option Shape) where
   cpu_goes_on : (c : ℕ) (p : Playing) (f : Option CallPlace) → (progress_of p.state.progresses c).flight ≡ f → is_none f ≡ false

@@ -1,21 +1,16 @@
 -- A call in flight of a machine that is kept can be told.
 use Rattle.std.proofs.Common.{◌≡◌, ℕ, suc, ◌<◌, ◌≤◌, ◌^◌, Bool, true, false, true≢false, List, [], ◌∷◌, Option, Some, None, refl, sym, ap, ◌∙◌, subst, ⊎_elim, inl, inr, arith}
 use Rattle.dspec_record.specs.declared.field.Shape.{Shape}
-use Rattle.dspec_record.specs.Record.{Record}
-use Rattle.dspec_buffer.specs.Extent.{Piece}
+use Rattle.dspec_picture.specs.Words.{Record, Piece, code_number, is_inactive, Speculation, SlotState, word_number, CanBeReleased, start_fault, issue, is_undecided, present, releases, verdict}
+use Rattle.dspec_picture.specs.Words.{word_at, IsSound, Follows, consumer_op_of, is_about, Expects, StandsConsumer, StandsCpu, progress_of, history, state_of, WorldInvariant, CanBeTold}
+use Rattle.dspec_picture.specs.Words.{ConsumerCanBeTold, IsTellable}
 use Rattle.dspec_word.specs.declared.act.Act.{Act}
 use Rattle.dspec_word.specs.declared.code.Code.{Code}
 use Rattle.dspec_word.specs.declared.code.Code.TheVariants.{Inactive, Active, ActiveOne, ActiveMany, Committing, CommittingMany, Discarding}
-use Rattle.dspec_word.specs.Code.{code_number, is_inactive}
-use Rattle.dspec_word.specs.SpecId.{Speculation}
-use Rattle.dspec_word.specs.Word.{SlotState, word_number, CanBeReleased}
 use Rattle.dspec_word.proofs.Numbers.{code_below}
 use Rattle.dspec_deeds.specs.declared.config.Config.{Config}
 use Rattle.dspec_deeds.specs.declared.deed.Deed.{Deed}
 use Rattle.dspec_deeds.specs.declared.deed.Deed.TheVariants.{Release}
-use Rattle.dspec_deeds.specs.Ranges.{start_fault}
-use Rattle.dspec_deeds.specs.History.{issue, is_undecided, present, releases, verdict, word_at}
-use Rattle.dspec_deeds.specs.Legal.{IsSound, Follows}
 use Rattle.dspec_deeds.proofs.PresentIds.{decided_given}
 use Rattle.dspec_deeds.proofs.SetUp.{set_up}
 use Rattle.dspec_deeds.proofs.TestLemmas.{either_way, same_number}
@@ -26,16 +21,11 @@ use Rattle.dspec_interleaving.specs.declared.flight.ConsumerFlight.TheVariants a
 use Rattle.dspec_interleaving.specs.declared.flight.ConsumerProgress.{ConsumerProgress}
 use Rattle.dspec_interleaving.specs.declared.flight.CallPlace.{CallPlace}
 use Rattle.dspec_interleaving.specs.declared.flight.CallPlace.TheVariants as cpu
-use Rattle.dspec_interleaving.specs.Calls.{consumer_op_of, is_about}
-use Rattle.dspec_interleaving.specs.Coherent.{Expects, StandsConsumer, StandsCpu, progress_of}
 use Rattle.dspec_interleaving.proofs.CleanReads.{clean_stands}
 use Rattle.dspec_interleaving.proofs.Counts.{issue_below, issues_fit}
 use Rattle.dspec_interleaving.proofs.StepReads.{can_be_released, flight_stands, slots_fit}
 use Rattle.dspec_core.specs.declared.machine.Machine.{Machine}
-use Rattle.dspec_core.specs.Machines.{history, state_of}
-use Rattle.dspec_core.specs.Worlds.{WorldInvariant}
 use Rattle.dspec_core.proofs.MachineReads.{slot_in_range}
-use Rattle.dspec_picture.specs.Tellable.{CanBeTold, ConsumerCanBeTold, IsTellable}
 
 -- what is released was decided
 was_decided : (k : Config) (s : ℕ) (d : Deed) (h : List Deed) → Follows k h d → releases s d ≡ true → is_undecided (verdict (present s h) h) ≡ false

@@ -1,16 +1,12 @@
 -- Serves proofs. What has to hold so that the next step of a call in flight can be told.
 use Rattle.std.specs.Prelude.{ℕ, ◌≡◌, ◌<◌, ◌≤◌, true, List}
-use Rattle.dspec_buffer.specs.Extent.{Piece}
-use Rattle.dspec_word.specs.Word.{CanBeReleased}
+use Rattle.dspec_picture.specs.Words.Outside.{Piece, CanBeReleased, is_about, IsSlot, IsShownMachine}
 use Rattle.dspec_deeds.specs.declared.config.Config.{Config}
 use Rattle.dspec_interleaving.specs.declared.flight.ConsumerFlight.{ConsumerFlight}
 use Rattle.dspec_interleaving.specs.declared.flight.ConsumerFlight.TheVariants as consumer
 use Rattle.dspec_interleaving.specs.declared.flight.CallPlace.{CallPlace}
 use Rattle.dspec_interleaving.specs.declared.flight.CallPlace.TheVariants as cpu
-use Rattle.dspec_interleaving.specs.Calls.{is_about}
-use Rattle.dspec_interleaving.specs.Coherent.{IsSlot}
 use Rattle.dspec_core.specs.declared.machine.Machine.{Machine}
-use Rattle.dspec_core.specs.Machines.{IsShownMachine}
 
 -- the machine shows its list of deeds, and has a slot, and no slot that an identifier has no room for
 pub record IsTellable {S B : Type 0} (has : B → S → List Piece → Type 0) (capacity : B → ℕ) (m : Machine S B) : Type 0 where

@@ -3,7 +3,7 @@ ghost use Rattle.std.specs.Prelude.{◌*◌, ◌^◌, ◌<◌, ◌≤◌, IfOk, 
 
 use crate::fates::{commits, discards, same_id};
 use crate::grid::{COLUMNS, SLOTS, bar_top, columns_in, row_top, was_given};
-use crate::shape::{Caption, Shape};
+use crate::shape::{Caption, DrawnShape};
 use crate::sheet::draw;
 use dspec_deeds::{Deed, SpeculateFate};
 use dspec_interleaving::Series;
@@ -236,7 +236,7 @@ fn begins(before: Option<Word>, word: Word) -> bool {
 
 /// The segment of a word, if it begins at this place.
 fn push_segment(
-    shapes: &mut Series<Shape>,
+    shapes: &mut Series<DrawnShape>,
     slot: u32,
     y: u64,
     columns: u64,
@@ -256,13 +256,13 @@ fn push_segment(
     let end = change_x(columns, column + 1 + same_front(word, behind));
     draw(
         shapes,
-        Shape::Segment(x, y, end.saturating_sub(x), slot, word),
+        DrawnShape::Segment(x, y, end.saturating_sub(x), slot, word),
     )
 }
 
 /// A segment for each word that begins in a row.
 fn push_segments(
-    shapes: &mut Series<Shape>,
+    shapes: &mut Series<DrawnShape>,
     slot: u32,
     y: u64,
     columns: u64,
@@ -292,7 +292,7 @@ fn push_segments(
 /// One slot's bar in one row.
 fn push_bar(
     alloc: Global,
-    shapes: &mut Series<Shape>,
+    shapes: &mut Series<DrawnShape>,
     slot: u32,
     row: u64,
     y: u64,
@@ -303,7 +303,7 @@ fn push_bar(
     requires within { 40 * row ≤ length deeds.now }
     requires place { y < 2 ^ 60 }
 {
-    draw(shapes, Shape::Name(8, y + 15, Caption::Slot(slot)))?;
+    draw(shapes, DrawnShape::Name(8, y + 15, Caption::Slot(slot)))?;
     let words = row_words(alloc, slot, row, deeds)?;
     let columns = columns_in(row, deeds.len() as u64);
     push_segments(shapes, slot, y, columns, words.as_slice())
@@ -312,7 +312,7 @@ fn push_bar(
 /// The slot's bar in one row, if it was given out.
 fn push_if_given(
     alloc: Global,
-    shapes: &mut Series<Shape>,
+    shapes: &mut Series<DrawnShape>,
     slot: u32,
     stride: u64,
     row: u64,
@@ -333,7 +333,7 @@ fn push_if_given(
 /// The bars of a row: one for each slot that was given out.
 pub(crate) fn push_bars(
     alloc: Global,
-    shapes: &mut Series<Shape>,
+    shapes: &mut Series<DrawnShape>,
     stride: u64,
     row: u64,
     deeds: &[Deed],

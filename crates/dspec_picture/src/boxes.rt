@@ -1,7 +1,7 @@
 //! The text of records in a picture: boxes, crosses where their buffer wasn't copied, entries of the legend.
 
 use crate::group::{print_class, print_placed};
-use crate::shape::{Look, Offered};
+use crate::shape::{Offered, RecordStyle};
 use dspec_record::{Header, Rec};
 use dspec_schedule::print_record;
 use dspec_word::SpecId;
@@ -10,23 +10,23 @@ use std::alloc::{AllocError, Global};
 /// The most characters of a record that its box shows whole.
 const LABEL: usize = 6;
 
-fn look_name(look: Look) -> &'static str {
+fn look_name(look: RecordStyle) -> &'static str {
     match look {
-        Look::Taken => "taken",
-        Look::Dropped => "dropped",
-        Look::Discarded => "discarded",
-        Look::Void => "void",
-        Look::Abandoned => "abandoned",
+        RecordStyle::Taken => "taken",
+        RecordStyle::Dropped => "dropped",
+        RecordStyle::Discarded => "discarded",
+        RecordStyle::Void => "void",
+        RecordStyle::Abandoned => "abandoned",
     }
 }
 
-fn legend_name(look: Look) -> &'static str {
+fn legend_name(look: RecordStyle) -> &'static str {
     match look {
-        Look::Taken => "taken",
-        Look::Dropped => "dropped, lost",
-        Look::Discarded => "discarded",
-        Look::Void => "void",
-        Look::Abandoned => "abandoned",
+        RecordStyle::Taken => "taken",
+        RecordStyle::Dropped => "dropped, lost",
+        RecordStyle::Discarded => "discarded",
+        RecordStyle::Void => "void",
+        RecordStyle::Abandoned => "abandoned",
     }
 }
 
@@ -35,11 +35,11 @@ fn filled_name(filled: bool) -> &'static str {
 }
 
 /// The line through a record that is gone.
-fn strike(look: Look) -> &'static str {
+fn strike(look: RecordStyle) -> &'static str {
     match look {
-        Look::Dropped => "<path d='M-3 10H47'/>",
-        Look::Discarded => "<path d='M0 22L44 -2'/>",
-        Look::Taken | Look::Void | Look::Abandoned => "",
+        RecordStyle::Dropped => "<path d='M-3 10H47'/>",
+        RecordStyle::Discarded => "<path d='M0 22L44 -2'/>",
+        RecordStyle::Taken | RecordStyle::Void | RecordStyle::Abandoned => "",
     }
 }
 
@@ -52,7 +52,11 @@ fn print_target(text: &mut String, target: Option<SpecId>) -> Result<(), AllocEr
 }
 
 /// What a screen reader reads of a box.
-fn print_offered(text: &mut String, look: Look, offered: &Offered) -> Result<(), AllocError> {
+fn print_offered(
+    text: &mut String,
+    look: RecordStyle,
+    offered: &Offered,
+) -> Result<(), AllocError> {
     let cpu = offered.cpu;
     write!(text, "cpu {cpu}, record ")?;
     print_record(text, offered.header, &offered.content)?;
@@ -89,7 +93,7 @@ pub(crate) fn print_box(
     x: u64,
     y: u64,
     filled: bool,
-    look: Look,
+    look: RecordStyle,
     offered: &Offered,
 ) -> Result<(), AllocError> {
     print_group(text, look, filled)?;
@@ -103,14 +107,19 @@ pub(crate) fn print_box(
 }
 
 /// The head of a record's group.
-fn print_group(text: &mut String, look: Look, filled: bool) -> Result<(), AllocError> {
+fn print_group(text: &mut String, look: RecordStyle, filled: bool) -> Result<(), AllocError> {
     let class = look_name(look);
     let more = filled_name(filled);
     write!(text, "<g class='{class}{more}")
 }
 
 /// The end of a buffer that wasn't copied.
-pub(crate) fn print_cross(text: &mut String, x: u64, y: u64, look: Look) -> Result<(), AllocError> {
+pub(crate) fn print_cross(
+    text: &mut String,
+    x: u64,
+    y: u64,
+    look: RecordStyle,
+) -> Result<(), AllocError> {
     print_class(text, look_name(look))?;
     print_placed(text, x, y)?;
     let name = look_name(look);
@@ -120,15 +129,20 @@ pub(crate) fn print_cross(text: &mut String, x: u64, y: u64, look: Look) -> Resu
     )
 }
 
-fn key_filled(look: Look) -> bool {
+fn key_filled(look: RecordStyle) -> bool {
     match look {
-        Look::Taken => true,
+        RecordStyle::Taken => true,
         _ => false,
     }
 }
 
 /// An entry of the legend.
-pub(crate) fn print_key(text: &mut String, x: u64, y: u64, look: Look) -> Result<(), AllocError> {
+pub(crate) fn print_key(
+    text: &mut String,
+    x: u64,
+    y: u64,
+    look: RecordStyle,
+) -> Result<(), AllocError> {
     print_group(text, look, key_filled(look))?;
     print_placed(text, x, y)?;
     let line = strike(look);

@@ -11,7 +11,7 @@ use crate::grid::{
     row_end, row_top,
 };
 use crate::marks::{label_above, push_band};
-use crate::shape::{Caption, Look, Shape};
+use crate::shape::{Caption, DrawnShape, RecordStyle};
 use crate::sheet::draw;
 use crate::svg::svg_text;
 use dspec_deeds::{Config, Deed};
@@ -120,7 +120,7 @@ fn bands(
 
 /// The name and the line of a slot's lane in one row, if the CPU spoke to the slot; so many lanes stand above it.
 fn push_lane(
-    shapes: &mut Series<Shape>,
+    shapes: &mut Series<DrawnShape>,
     y: u64,
     end: u64,
     slot: u32,
@@ -134,13 +134,13 @@ fn push_lane(
         return Ok(());
     }
     let top = y + (18 + 32 * above);
-    draw(shapes, Shape::Name(55, top + 14, Caption::Slot(slot)))?;
-    draw(shapes, Shape::LaneLine(top + 10, end))
+    draw(shapes, DrawnShape::Name(55, top + 14, Caption::Slot(slot)))?;
+    draw(shapes, DrawnShape::LaneLine(top + 10, end))
 }
 
 /// The name and the line of each lane, in one row.
 fn push_lanes(
-    shapes: &mut Series<Shape>,
+    shapes: &mut Series<DrawnShape>,
     band: &Band,
     y: u64,
     end: u64,
@@ -158,29 +158,29 @@ fn push_lanes(
 }
 
 /// The name and the line of a stream, in one row.
-fn push_stream(shapes: &mut Series<Shape>, y: u64, end: u64) -> Result<(), AllocError>
+fn push_stream(shapes: &mut Series<DrawnShape>, y: u64, end: u64) -> Result<(), AllocError>
     requires place { y < 2 ^ 60 }
 {
-    draw(shapes, Shape::Name(55, y + 14, Caption::Stream))?;
-    draw(shapes, Shape::StreamLine(y + 10, end))
+    draw(shapes, DrawnShape::Name(55, y + 14, Caption::Stream))?;
+    draw(shapes, DrawnShape::StreamLine(y + 10, end))
 }
 
 /// The ground and the name of a band, in one row.
 fn push_ground(
-    shapes: &mut Series<Shape>,
+    shapes: &mut Series<DrawnShape>,
     band: &Band,
     y: u64,
     width: u64,
 ) -> Result<(), AllocError>
     requires place { y < 2 ^ 60 }
 {
-    draw(shapes, Shape::Ground(y, width, band.height))?;
-    draw(shapes, Shape::Name(8, y + 32, Caption::Cpu(band.cpu)))
+    draw(shapes, DrawnShape::Ground(y, width, band.height))?;
+    draw(shapes, DrawnShape::Name(8, y + 32, Caption::Cpu(band.cpu)))
 }
 
 /// What stands behind the marks of a CPU, in one row.
 fn push_frame(
-    shapes: &mut Series<Shape>,
+    shapes: &mut Series<DrawnShape>,
     band: &Band,
     row: u64,
     deeds: &[Deed],
@@ -197,7 +197,7 @@ fn push_frame(
 }
 
 fn push_frames(
-    shapes: &mut Series<Shape>,
+    shapes: &mut Series<DrawnShape>,
     bands: &[Band],
     row: u64,
     deeds: &[Deed],
@@ -214,7 +214,7 @@ fn push_frames(
 /// The bars of a row, and its bands.
 fn push_row(
     alloc: Global,
-    shapes: &mut Series<Shape>,
+    shapes: &mut Series<DrawnShape>,
     stride: u64,
     bands: &[Band],
     deeds: &[Deed],
@@ -231,7 +231,7 @@ fn push_row(
 
 fn push_rows(
     alloc: Global,
-    shapes: &mut Series<Shape>,
+    shapes: &mut Series<DrawnShape>,
     stride: u64,
     bands: &[Band],
     deeds: &[Deed],
@@ -248,7 +248,7 @@ fn push_rows(
 
 fn push_bands(
     alloc: Global,
-    shapes: &mut Series<Shape>,
+    shapes: &mut Series<DrawnShape>,
     bands: &[Band],
     deeds: &[Deed],
 ) -> Result<(), AllocError>
@@ -263,7 +263,7 @@ fn push_bands(
 
 /// A release above its slot's bar, or a stop through all bands.
 fn push_shared(
-    shapes: &mut Series<Shape>,
+    shapes: &mut Series<DrawnShape>,
     stride: u64,
     deeds: &[Deed],
     column: u64,
@@ -281,7 +281,7 @@ fn push_shared(
 }
 
 fn push_release(
-    shapes: &mut Series<Shape>,
+    shapes: &mut Series<DrawnShape>,
     row: u64,
     deeds: &[Deed],
     column: u64,
@@ -294,7 +294,7 @@ fn push_release(
 }
 
 fn push_stop(
-    shapes: &mut Series<Shape>,
+    shapes: &mut Series<DrawnShape>,
     stride: u64,
     row: u64,
     deeds: &[Deed],
@@ -305,13 +305,13 @@ fn push_stop(
     let top = bands_top(deeds);
     draw(
         shapes,
-        Shape::StopStroke(middle_x(column), row + top, stride.saturating_sub(top)),
+        DrawnShape::StopStroke(middle_x(column), row + top, stride.saturating_sub(top)),
     )?;
     draw(shapes, label_above(column, row + top, Caption::Stop))
 }
 
 fn push_all_shared(
-    shapes: &mut Series<Shape>,
+    shapes: &mut Series<DrawnShape>,
     stride: u64,
     deeds: &[Deed],
 ) -> Result<(), AllocError>
@@ -325,18 +325,18 @@ fn push_all_shared(
 }
 
 /// The five fates, each with its name.
-fn push_legend(shapes: &mut Series<Shape>, y: u64) -> Result<(), AllocError> {
-    draw(shapes, Shape::Key(100, y, Look::Taken))?;
-    draw(shapes, Shape::Key(220, y, Look::Dropped))?;
-    draw(shapes, Shape::Key(370, y, Look::Discarded))?;
-    draw(shapes, Shape::Key(490, y, Look::Void))?;
-    draw(shapes, Shape::Key(610, y, Look::Abandoned))
+fn push_legend(shapes: &mut Series<DrawnShape>, y: u64) -> Result<(), AllocError> {
+    draw(shapes, DrawnShape::Key(100, y, RecordStyle::Taken))?;
+    draw(shapes, DrawnShape::Key(220, y, RecordStyle::Dropped))?;
+    draw(shapes, DrawnShape::Key(370, y, RecordStyle::Discarded))?;
+    draw(shapes, DrawnShape::Key(490, y, RecordStyle::Void))?;
+    draw(shapes, DrawnShape::Key(610, y, RecordStyle::Abandoned))
 }
 
 /// All that the deeds show.
 fn push_deeds(
     alloc: Global,
-    shapes: &mut Series<Shape>,
+    shapes: &mut Series<DrawnShape>,
     stride: u64,
     bands: &[Band],
     deeds: &[Deed],

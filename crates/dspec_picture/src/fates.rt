@@ -1,7 +1,7 @@
 //! What is read off the deeds for a band: the fate of each offered record, and what a buffer held.
 ghost use Rattle.std.specs.Prelude.{◌≡◌, ◌+◌, ◌<◌, ◌≤◌, ◌^◌, OnOk, IfOk, length};
 
-use crate::shape::Look;
+use crate::shape::RecordStyle;
 use dspec_deeds::{DecideFate, Deed, SpeculateFate, TraceFate};
 use dspec_interleaving::Series;
 use dspec_record::Rec;
@@ -42,48 +42,48 @@ fn empties(cpu: u32, id: SpecId, deed: &Deed) -> bool {
 }
 
 /// The fate that the emptying of its buffer gives to a record that waits.
-fn emptied_as(fate: DecideFate) -> Look {
+fn emptied_as(fate: DecideFate) -> RecordStyle {
     match fate {
-        DecideFate::Copied(_) => Look::Taken,
-        DecideFate::Lost(_) => Look::Dropped,
-        DecideFate::Thrown(_) => Look::Discarded,
-        DecideFate::Void | DecideFate::Stopped => Look::Abandoned,
+        DecideFate::Copied(_) => RecordStyle::Taken,
+        DecideFate::Lost(_) => RecordStyle::Dropped,
+        DecideFate::Thrown(_) => RecordStyle::Discarded,
+        DecideFate::Void | DecideFate::Stopped => RecordStyle::Abandoned,
     }
 }
 
 /// The fate that a deed which empties its buffer gives to a record that waits.
-fn look_by(deed: &Deed) -> Look {
+fn look_by(deed: &Deed) -> RecordStyle {
     match *deed {
         Deed::Commit(_, _, fate) => emptied_as(fate),
         Deed::Discard(_, _, fate) => emptied_as(fate),
         Deed::Settle(_, _, fate) => emptied_as(fate),
-        _ => Look::Abandoned,
+        _ => RecordStyle::Abandoned,
     }
 }
 
 /// The look, after one more deed, of a record that was offered to the speculation.
-fn next_look(cpu: u32, id: SpecId, deed: &Deed, look: Look) -> Look {
-    if matches!(look, Look::Abandoned) && empties(cpu, id, deed) {
+fn next_look(cpu: u32, id: SpecId, deed: &Deed, look: RecordStyle) -> RecordStyle {
+    if matches!(look, RecordStyle::Abandoned) && empties(cpu, id, deed) {
         return look_by(deed);
     }
     look
 }
 
 /// The look of a traced record, which no later deed changes.
-pub(crate) fn traced_look(fate: TraceFate) -> Look {
+pub(crate) fn traced_look(fate: TraceFate) -> RecordStyle {
     match fate {
-        TraceFate::Kept => Look::Taken,
-        TraceFate::Dropped => Look::Dropped,
-        TraceFate::Stopped => Look::Void,
+        TraceFate::Kept => RecordStyle::Taken,
+        TraceFate::Dropped => RecordStyle::Dropped,
+        TraceFate::Stopped => RecordStyle::Void,
     }
 }
 
 /// The look of a record offered to a speculation, before any later deed.
-fn first_look(fate: SpeculateFate) -> Look {
+fn first_look(fate: SpeculateFate) -> RecordStyle {
     match fate {
-        SpeculateFate::Kept => Look::Abandoned,
-        SpeculateFate::Dropped => Look::Dropped,
-        SpeculateFate::Void | SpeculateFate::Stopped => Look::Void,
+        SpeculateFate::Kept => RecordStyle::Abandoned,
+        SpeculateFate::Dropped => RecordStyle::Dropped,
+        SpeculateFate::Void | SpeculateFate::Stopped => RecordStyle::Void,
     }
 }
 
@@ -94,7 +94,7 @@ pub(crate) fn spoken_look(
     fate: SpeculateFate,
     at: usize,
     deeds: &[Deed],
-) -> Look
+) -> RecordStyle
     requires within { at < length deeds.now }
 {
     let mut look = first_look(fate);

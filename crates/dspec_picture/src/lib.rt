@@ -14,7 +14,7 @@
 //!
 //! | File | What is in it |
 //! |---|---|
-//! | `shape.rt`, `style.rt` | `Shape` and what is in one (`Look`, `Caption`, `Offered`); the style sheet |
+//! | `shape.rt`, `style.rt` | `DrawnShape` and what is in one (`RecordStyle`, `Caption`, `Offered`); the style sheet |
 //! | `svg.rt`, `boxes.rt`, `segments.rt`, `group.rt` | the text of shapes: head, words, lines and strokes; records and the legend; states of slots; what groups have in common |
 //! | `grid.rt`, `fates.rt`, `marks.rt` | where things stand; what became of each offer; what a deed shows in its CPU's band |
 //! | `bars.rt`, `band.rt`, `drawing.rt`, `sheet.rt` | the segments of a slot; a band; the whole; one shape more |
@@ -45,6 +45,6 @@ mod words;
 
 pub use band::Band;
 pub use drawing::{MOST_DEEDS, PictureFault, picture};
-pub use shape::{Caption, Look, Offered, Shape};
+pub use shape::{Caption, DrawnShape, Offered, RecordStyle};
 pub use svg::svg_text;
 pub use walking::steps_of;

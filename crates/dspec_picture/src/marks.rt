@@ -5,7 +5,7 @@ ghost use Rattle.dspec_picture.specs.Bands.{IsSmall};
 use crate::band::Band;
 use crate::fates::{held, seals, spoken_look, traced_look};
 use crate::grid::{COLUMNS, box_x, lane_top, middle_x, row_top};
-use crate::shape::{Caption, Look, Offered, Shape};
+use crate::shape::{Caption, DrawnShape, Offered, RecordStyle};
 use crate::sheet::draw;
 use dspec_deeds::{DecideFate, Deed, SpeculateFate, TraceFate};
 use dspec_interleaving::Series;
@@ -42,8 +42,8 @@ fn lane_y(band: &Band, id: SpecId, deeds: &[Deed], column: u64) -> u64
 }
 
 /// A small text above what stands at a height.
-pub(crate) fn label_above(column: u64, y: u64, text: Caption) -> Shape {
-    Shape::Label(middle_x(column), y.saturating_sub(3), text)
+pub(crate) fn label_above(column: u64, y: u64, text: Caption) -> DrawnShape {
+    DrawnShape::Label(middle_x(column), y.saturating_sub(3), text)
 }
 
 fn offered_here(band: &Band, target: Option<SpecId>, content: Rec) -> Offered {
@@ -56,14 +56,14 @@ fn offered_here(band: &Band, target: Option<SpecId>, content: Rec) -> Offered {
 }
 
 /// The box of a traced record, on the stream.
-fn traced(band: &Band, column: u64, rec: Rec, fate: TraceFate) -> Shape
+fn traced(band: &Band, column: u64, rec: Rec, fate: TraceFate) -> DrawnShape
     requires band { IsSmall band.now }
     requires column { column ≤ 2000 }
 {
     let offered = offered_here(band, None, rec);
     let look = traced_look(fate);
     let filled = matches!(fate, TraceFate::Kept);
-    Shape::RecordBox(box_x(column), stream_y(band, column), filled, look, offered)
+    DrawnShape::RecordBox(box_x(column), stream_y(band, column), filled, look, offered)
 }
 
 /// The box of the record that the deed at this place offered to a speculation, in its lane.
@@ -74,7 +74,7 @@ fn spoken(
     id: SpecId,
     rec: Rec,
     fate: SpeculateFate,
-) -> Shape
+) -> DrawnShape
     requires band { IsSmall band.now }
     requires few { length deeds.now ≤ 2000 }
     requires within { at < length deeds.now }
@@ -82,7 +82,7 @@ fn spoken(
     let column = at as u64;
     let offered = offered_here(band, Some(id), rec);
     let look = spoken_look(band.cpu, id, fate, at, deeds);
-    Shape::RecordBox(
+    DrawnShape::RecordBox(
         box_x(column),
         lane_y(band, id, deeds, column),
         false,
@@ -93,7 +93,7 @@ fn spoken(
 
 /// The records of a block on the stream, below one another.
 fn push_stacked(
-    shapes: &mut Series<Shape>,
+    shapes: &mut Series<DrawnShape>,
     band: &Band,
     id: SpecId,
     x: u64,
@@ -106,7 +106,10 @@ fn push_stacked(
     let mut y = top;
     for rec in recs {
         let offered = offered_here(band, Some(id), *rec);
-        draw(shapes, Shape::RecordBox(x, y, true, Look::Taken, offered))?;
+        draw(
+            shapes,
+            DrawnShape::RecordBox(x, y, true, RecordStyle::Taken, offered),
+        )?;
         y += STACK;
     }
     Ok(())
@@ -114,7 +117,7 @@ fn push_stacked(
 
 /// What a copied buffer shows: an arrow down to its records, or a stroke where it was empty.
 fn push_copied(
-    shapes: &mut Series<Shape>,
+    shapes: &mut Series<DrawnShape>,
     band: &Band,
     id: SpecId,
     deeds: &[Deed],
@@ -128,24 +131,24 @@ fn push_copied(
     let x = middle_x(column);
     let y = lane_y(band, id, deeds, column);
     if recs.is_empty() {
-        return draw(shapes, Shape::Tick(x, y));
+        return draw(shapes, DrawnShape::Tick(x, y));
     }
     let stream = stream_y(band, column);
-    draw(shapes, Shape::Arrow(x, y, stream.saturating_sub(y)))?;
+    draw(shapes, DrawnShape::Arrow(x, y, stream.saturating_sub(y)))?;
     push_stacked(shapes, band, id, box_x(column), stream, recs)
 }
 
 /// What a discarded buffer shows: a cross, or a stroke where it was empty.
-fn thrown(x: u64, y: u64, count: u32) -> Shape {
+fn thrown(x: u64, y: u64, count: u32) -> DrawnShape {
     if count == 0 {
-        return Shape::Tick(x, y);
+        return DrawnShape::Tick(x, y);
     }
-    Shape::Cross(x, y, Look::Discarded)
+    DrawnShape::Cross(x, y, RecordStyle::Discarded)
 }
 
 /// What became of a buffer, in its speculation's lane.
 fn push_outcome(
-    shapes: &mut Series<Shape>,
+    shapes: &mut Series<DrawnShape>,
     band: &Band,
     id: SpecId,
     deeds: &[Deed],
@@ -161,16 +164,16 @@ fn push_outcome(
     let y = lane_y(band, id, deeds, column);
     match fate {
         DecideFate::Copied(_) => push_copied(shapes, band, id, deeds, column, recs),
-        DecideFate::Lost(_) => draw(shapes, Shape::Cross(x, y, Look::Dropped)),
+        DecideFate::Lost(_) => draw(shapes, DrawnShape::Cross(x, y, RecordStyle::Dropped)),
         DecideFate::Thrown(count) => draw(shapes, thrown(x, y, count)),
-        DecideFate::Void => draw(shapes, Shape::Label(x, y + 14, Caption::Void)),
-        DecideFate::Stopped => draw(shapes, Shape::Label(x, y + 14, Caption::Stopped)),
+        DecideFate::Void => draw(shapes, DrawnShape::Label(x, y + 14, Caption::Void)),
+        DecideFate::Stopped => draw(shapes, DrawnShape::Label(x, y + 14, Caption::Stopped)),
     }
 }
 
 /// A decision or a settlement, by its name, and what became of the buffer.
 fn push_decision(
-    shapes: &mut Series<Shape>,
+    shapes: &mut Series<DrawnShape>,
     band: &Band,
     verb: Caption,
     id: SpecId,
@@ -191,7 +194,7 @@ fn push_decision(
 /// A decision or a settlement, with the records that the buffer had before it.
 fn push_moved(
     alloc: Global,
-    shapes: &mut Series<Shape>,
+    shapes: &mut Series<DrawnShape>,
     band: &Band,
     verb: Caption,
     id: SpecId,
@@ -218,7 +221,7 @@ fn push_moved(
 
 /// A discard, which copies no record.
 fn push_discard(
-    shapes: &mut Series<Shape>,
+    shapes: &mut Series<DrawnShape>,
     band: &Band,
     id: SpecId,
     deeds: &[Deed],
@@ -233,7 +236,7 @@ fn push_discard(
 
 /// The end of a batch.
 fn push_seal(
-    shapes: &mut Series<Shape>,
+    shapes: &mut Series<DrawnShape>,
     band: &Band,
     column: u64,
     number: u64,
@@ -245,14 +248,14 @@ fn push_seal(
     let y = stream_y(band, column);
     draw(
         shapes,
-        Shape::SealStroke(x, y, band.cpu, number, number <= band.taken),
+        DrawnShape::SealStroke(x, y, band.cpu, number, number <= band.taken),
     )?;
     draw(shapes, label_above(column, y, Caption::Batch(number)))
 }
 
 /// A small text above the stream.
 fn push_on_stream(
-    shapes: &mut Series<Shape>,
+    shapes: &mut Series<DrawnShape>,
     band: &Band,
     column: u64,
     text: Caption,
@@ -284,7 +287,7 @@ fn is_of(cpu: u32, deed: &Deed) -> bool {
 /// What the deed at this place shows, if it is the CPU's.
 fn push_deed(
     alloc: Global,
-    shapes: &mut Series<Shape>,
+    shapes: &mut Series<DrawnShape>,
     band: &Band,
     deeds: &[Deed],
     at: usize,
@@ -302,7 +305,7 @@ fn push_deed(
 
 fn push_own(
     alloc: Global,
-    shapes: &mut Series<Shape>,
+    shapes: &mut Series<DrawnShape>,
     band: &Band,
     deeds: &[Deed],
     at: usize,
@@ -349,7 +352,7 @@ fn push_own(
 
 /// The end of the CPU's batch that the deed at this place sealed.
 fn push_sealed(
-    shapes: &mut Series<Shape>,
+    shapes: &mut Series<DrawnShape>,
     band: &Band,
     deeds: &[Deed],
     at: usize,
@@ -363,7 +366,7 @@ fn push_sealed(
 }
 
 fn push_scan(
-    shapes: &mut Series<Shape>,
+    shapes: &mut Series<DrawnShape>,
     band: &Band,
     column: u64,
     running: bool,
@@ -379,7 +382,7 @@ fn push_scan(
 
 /// A walk over the slots that found none free shows so at its last slot.
 fn push_miss(
-    shapes: &mut Series<Shape>,
+    shapes: &mut Series<DrawnShape>,
     band: &Band,
     column: u64,
     slot: u32,
@@ -396,7 +399,7 @@ fn push_miss(
 /// What all deeds of the CPU show.
 pub(crate) fn push_band(
     alloc: Global,
-    shapes: &mut Series<Shape>,
+    shapes: &mut Series<DrawnShape>,
     band: &Band,
     deeds: &[Deed],
 ) -> Result<(), AllocError>

@@ -16,7 +16,7 @@ use dspec_word::SpecId;
 
 /// The buffers of a CPU as a step finds them.
 #[derive(Clone, Copy, Debug)]
-pub struct Room {
+pub struct CpuBuffers {
     /// Whether the active principal buffer takes nothing more.
     pub closed: bool,
     /// How far that reaches, in bytes.
@@ -87,17 +87,20 @@ fn aimed_bytes<S: Schema, B: TraceBuffer<S>>(machine: &Machine<S, B>, cpu: u32) 
 }
 
 /// The room that the actor's next step finds.
-pub(crate) fn room_at<S: Schema, B: TraceBuffer<S>>(machine: &Machine<S, B>, actor: Actor) -> Room
+pub(crate) fn room_at<S: Schema, B: TraceBuffer<S>>(
+    machine: &Machine<S, B>,
+    actor: Actor,
+) -> CpuBuffers
     requires kept { WorldInvariant B.has B.capacity S.shape_of S.accepted machine.now }
     requires exists { is_actor machine.now.config actor ≡ true }
 {
     match actor {
-        Actor::Consumer => Room {
+        Actor::Consumer => CpuBuffers {
             closed: false,
             reach: 0,
             held: 0,
         },
-        Actor::Cpu(cpu) => Room {
+        Actor::Cpu(cpu) => CpuBuffers {
             closed: is_closed(machine, cpu),
             reach: reach(machine, cpu),
             held: aimed_bytes(machine, cpu),

@@ -4,7 +4,7 @@ use dspec_word::{SpecId, Word};
 
 /// How a record looks: by the fate that it has in the end.
 #[derive(Clone, Copy, Debug, PartialEq, Eq)]
-pub enum Look {
+pub enum RecordStyle {
     /// A principal buffer accepted it.
     Taken,
     /// There was no room for it, or for its block.
@@ -63,7 +63,7 @@ pub struct Offered {
 
 /// One thing drawn.
 #[derive(Clone, Copy, Debug, PartialEq, Eq)]
-pub enum Shape {
+pub enum DrawnShape {
     /// The ground of a band: y, width, height.
     Ground(u64, u64, u64),
     /// A name that begins at a place: x, y of its foot.
@@ -77,11 +77,11 @@ pub enum Shape {
     /// A state of a slot's word: x, y, width, slot.
     Segment(u64, u64, u64, u32, Word),
     /// A record's box: x, y, and whether it is filled, as those on a stream are.
-    RecordBox(u64, u64, bool, Look, Offered),
+    RecordBox(u64, u64, bool, RecordStyle, Offered),
     /// An arrow downwards: x, y, height.
     Arrow(u64, u64, u64),
     /// The end of a buffer that wasn't copied: x of its middle, y.
-    Cross(u64, u64, Look),
+    Cross(u64, u64, RecordStyle),
     /// A decision with nothing to copy: x, y.
     Tick(u64, u64),
     /// The end of a batch on a stream: x, y, CPU, number of the batch, and whether the consumer took it.
@@ -89,5 +89,5 @@ pub enum Shape {
     /// The stop: x, y, height.
     StopStroke(u64, u64, u64),
     /// An entry of the legend: x, y.
-    Key(u64, u64, Look),
+    Key(u64, u64, RecordStyle),
 }

@@ -3,7 +3,7 @@
 use crate::boxes::{print_box, print_cross, print_key};
 use crate::group::{print_class, print_placed};
 use crate::segments::print_segment;
-use crate::shape::{Caption, Shape};
+use crate::shape::{Caption, DrawnShape};
 use crate::style::print_style;
 use std::alloc::{AllocError, Global};
 
@@ -12,7 +12,7 @@ pub fn svg_text(
     alloc: Global,
     width: u64,
     height: u64,
-    shapes: &[Shape],
+    shapes: &[DrawnShape],
 ) -> Result<String, AllocError> {
     let mut text = String::new(alloc);
     print_head(&mut text, width, height)?;
@@ -29,30 +29,34 @@ fn print_head(text: &mut String, width: u64, height: u64) -> Result<(), AllocErr
     print_style(text)
 }
 
-fn print_shapes(alloc: Global, text: &mut String, shapes: &[Shape]) -> Result<(), AllocError> {
+fn print_shapes(alloc: Global, text: &mut String, shapes: &[DrawnShape]) -> Result<(), AllocError> {
     for shape in shapes {
         print_shape(alloc, text, shape)?;
     }
     Ok(())
 }
 
-fn print_shape(alloc: Global, text: &mut String, shape: &Shape) -> Result<(), AllocError> {
+fn print_shape(alloc: Global, text: &mut String, shape: &DrawnShape) -> Result<(), AllocError> {
     match *shape {
-        Shape::Ground(y, width, height) => print_ground(text, y, width, height),
-        Shape::Name(x, y, caption) => print_words(text, "name", x, y, caption),
-        Shape::Label(x, y, caption) => print_words(text, "label", x, y, caption),
-        Shape::LaneLine(y, end) => print_level(text, "lane", y, end),
-        Shape::StreamLine(y, end) => print_level(text, "stream", y, end),
-        Shape::Segment(x, y, width, slot, word) => print_segment(text, x, y, width, slot, word),
-        Shape::RecordBox(x, y, filled, look, offered) => {
+        DrawnShape::Ground(y, width, height) => print_ground(text, y, width, height),
+        DrawnShape::Name(x, y, caption) => print_words(text, "name", x, y, caption),
+        DrawnShape::Label(x, y, caption) => print_words(text, "label", x, y, caption),
+        DrawnShape::LaneLine(y, end) => print_level(text, "lane", y, end),
+        DrawnShape::StreamLine(y, end) => print_level(text, "stream", y, end),
+        DrawnShape::Segment(x, y, width, slot, word) => print_segment(
+            text, x, y, width, slot, word,
+        ),
+        DrawnShape::RecordBox(x, y, filled, look, offered) => {
             print_box(alloc, text, x, y, filled, look, &offered)
         }
-        Shape::Arrow(x, y, height) => print_down(text, "arrow", x, y, height),
-        Shape::Cross(x, y, look) => print_cross(text, x, y, look),
-        Shape::Tick(x, y) => print_down(text, "tick", x, y, 20),
-        Shape::SealStroke(x, y, cpu, number, taken) => print_seal(text, x, y, cpu, number, taken),
-        Shape::StopStroke(x, y, height) => print_down(text, "stop", x, y, height),
-        Shape::Key(x, y, look) => print_key(text, x, y, look),
+        DrawnShape::Arrow(x, y, height) => print_down(text, "arrow", x, y, height),
+        DrawnShape::Cross(x, y, look) => print_cross(text, x, y, look),
+        DrawnShape::Tick(x, y) => print_down(text, "tick", x, y, 20),
+        DrawnShape::SealStroke(x, y, cpu, number, taken) => print_seal(
+            text, x, y, cpu, number, taken,
+        ),
+        DrawnShape::StopStroke(x, y, height) => print_down(text, "stop", x, y, height),
+        DrawnShape::Key(x, y, look) => print_key(text, x, y, look),
     }
 }
 

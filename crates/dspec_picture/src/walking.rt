@@ -9,7 +9,7 @@ ghost use Rattle.dspec_interleaving.specs.Turns.{at_start, begin_consumer, begin
 ghost use Rattle.dspec_core.specs.Machines.{state_of};
 ghost use Rattle.dspec_core.specs.Worlds.{WorldInvariant};
 
-use crate::room::{Room, room_at};
+use crate::room::{CpuBuffers, room_at};
 use crate::telling::tell_step;
 use crate::words::tell_behind;
 use dspec_buffer::{ListBuffer, TraceBuffer};
@@ -39,7 +39,7 @@ fn tell_deeds<S: Schema>(
     text: &mut String,
     config: &Config,
     schema: &S,
-    room: Room,
+    room: CpuBuffers,
     header: Header,
     deeds: &[Deed],
 ) -> Result<(), AllocError> {

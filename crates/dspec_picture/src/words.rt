@@ -1,7 +1,7 @@
 //! The words in which a step is told.
 ghost use Rattle.std.specs.Prelude.{◌<◌};
 
-use crate::room::{Room, bytes_needed};
+use crate::room::{CpuBuffers, bytes_needed};
 use dspec_deeds::{Config, DecideFate, Deed, SpeculateFate, TraceFate};
 use dspec_record::{Header, Rec, Schema, Shape};
 use dspec_schedule::print_record;
@@ -151,7 +151,7 @@ fn tell_refused(
 fn tell_principal(
     text: &mut String,
     config: &Config,
-    room: Room,
+    room: CpuBuffers,
     align: u32,
     needed: u32,
 ) -> Result<(), AllocError> {
@@ -174,7 +174,7 @@ fn tell_undropped<S: Schema>(
     text: &mut String,
     config: &Config,
     schema: &S,
-    room: Room,
+    room: CpuBuffers,
     rec: &Rec,
     fate: TraceFate,
 ) -> Result<(), AllocError> {
@@ -190,7 +190,7 @@ fn tell_unspoken<S: Schema>(
     text: &mut String,
     config: &Config,
     schema: &S,
-    room: Room,
+    room: CpuBuffers,
     rec: &Rec,
     fate: SpeculateFate,
 ) -> Result<(), AllocError> {
@@ -205,7 +205,7 @@ fn tell_unspoken<S: Schema>(
 fn tell_lost(
     text: &mut String,
     config: &Config,
-    room: Room,
+    room: CpuBuffers,
     fate: DecideFate,
 ) -> Result<(), AllocError> {
     if !matches!(fate, DecideFate::Lost(_)) {
@@ -219,7 +219,7 @@ fn tell_refusal<S: Schema>(
     text: &mut String,
     config: &Config,
     schema: &S,
-    room: Room,
+    room: CpuBuffers,
     deed: &Deed,
 ) -> Result<(), AllocError> {
     match *deed {
@@ -238,7 +238,7 @@ pub(crate) fn tell_behind<S: Schema>(
     text: &mut String,
     config: &Config,
     schema: &S,
-    room: Room,
+    room: CpuBuffers,
     header: Header,
     deed: &Deed,
 ) -> Result<(), AllocError> {

@@ -2,15 +2,8 @@
 use Rattle.std.proofs.Common.{◌≡◌, ◌≤◌, ◌<◌, ◌+◌, ◌*◌, ◌/◌, ◌%◌, ◌^◌, ◌∙◌, ℕ, List, IsTrue, option_map, length, take, get_or, replicate, refl, sym, ap, subst, arith}
 use Rattle.std.proofs.Math.Nat.{pow-le-pow_right}
 use Rattle.std.proofs.lemmas.List.{length-take-le}
-use Rattle.dspec_record.specs.EnablingRows.{EnabledRows}
-use Rattle.dspec_record.specs.LaidOut.{IsSaid}
-use Rattle.dspec_record.specs.Layout.{fields_start, fields_end, layout, rounded_up}
-use Rattle.dspec_record.specs.Packing.{number_of_words, value_number, packed_record, ArePacked, IsClean}
-use Rattle.dspec_record.specs.Record.{Record}
-use Rattle.dspec_record.specs.RecordText.{record_text, fits}
-use Rattle.dspec_record.specs.Schemas.{enabled, table_shape, table_text}
-use Rattle.dspec_record.specs.Laws.Layouts.{fields_end-ge}
-use Rattle.dspec_record.specs.Laws.Texts.{length-record_text}
+use Rattle.dspec_probe.specs.Words.{EnabledRows, IsSaid, fields_start, fields_end, layout, rounded_up, number_of_words, value_number, packed_record, ArePacked, IsClean, Record, record_text, fits}
+use Rattle.dspec_probe.specs.Words.{enabled, table_shape, table_text, fields_end-ge, length-record_text, HasProbe}
 use Rattle.dspec_record.specs.declared.field.Field.{Field}
 use Rattle.dspec_record.specs.declared.header.Header.{Header}
 use Rattle.dspec_record.specs.declared.header.Header.TheVariants as header
@@ -19,7 +12,6 @@ use Rattle.dspec_record.proofs.Gets.{enabled-row, table_text-is}
 use Rattle.dspec_record.proofs.Masking.{pow256, ends-within}
 use Rattle.dspec_record.proofs.PackedValues.{value_number-packed, value_number-below, record-of_number, clean-of_number, taken-number}
 use Rattle.dspec_record.proofs.PackedRecords.{first-zeros, room-of}
-use Rattle.dspec_probe.specs.Probes.{HasProbe}
 
 -- each schema that has the probe lays the record out as the probe does
 pub said_of_probe : (h : Header) (fs : List Field) (r : Record) (schema : EnabledRows) → length fs ≤ 8 → HasProbe h r.epid fs schema

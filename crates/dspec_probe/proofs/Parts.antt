@@ -3,13 +3,8 @@ use Rattle.std.proofs.Common.{◌≡◌, ◌≤◌, ◌<◌, ◌+◌, ◌*◌, �
 use Rattle.std.proofs.Common.{[], length, take, drop, Option, Some, None, option_map, nat_lt, ltb, ap, refl, sym, subst, arith, length-append}
 use Rattle.std.specs.Prelude.{option_and_then, if◌then◌else◌}
 use Rattle.std.proofs.lemmas.List.{take_at, drop_at}
-use Rattle.dspec_record.specs.Layout.{width, rounded_up, after, fields_end}
-use Rattle.dspec_record.specs.Packing.{number_of_words, value_number, AreFree, ArePacked}
-use Rattle.dspec_record.specs.RecordText.{fits}
-use Rattle.dspec_record.specs.Laws.Layouts.{fields_end-le}
-use Rattle.dspec_record.specs.Laws.Texts.{both}
+use Rattle.dspec_probe.specs.Words.{width, rounded_up, after, fields_end, number_of_words, value_number, AreFree, ArePacked, fits, fields_end-le, both, both_of}
 use Rattle.dspec_record.specs.declared.field.Field.{Field}
-use Rattle.dspec_probe.specs.Parts.{both_of}
 
 pub fits-long : (fs : List Field) (vs : List ℕ) → IsTrue (fits fs vs) → length vs ≡ length fs
 fits-long [] [] h = refl

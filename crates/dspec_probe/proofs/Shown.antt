@@ -3,9 +3,7 @@ use Rattle.std.proofs.Common.{◌≡◌, ◌∙◌, ◌+◌, ℕ, suc, true, Lis
 use Rattle.std.proofs.Output.{has_written_append}
 use Rattle.std.specs.Fmt.{HasWritten, IsPlainFormatter, option_append}
 use Rattle.std.specs.declared.fmt.Formatter.{Formatter}
-use Rattle.dspec_probe.specs.Telling.{named_text, told_fields, told_meaning, told_name}
-use Rattle.dspec_probe.specs.declared.telling.Meaning.{Meaning}
-use Rattle.dspec_probe.specs.declared.telling.Told.{Told}
+use Rattle.dspec_probe.specs.Words.{named_text, told_fields, told_meaning, told_name, Meaning, Told}
 
 module _ {W : Type 0} (took : W → List ℕ → W → Type 0) where
   joined : (f g h : Formatter W) (a b : Option (List ℕ)) → IfSome a (λ bs. HasWritten took f bs g)

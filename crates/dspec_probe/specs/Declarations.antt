@@ -1,6 +1,6 @@
 -- Cited by calls. The probes of a program: their schema and their names, and what one more adds.
 use Rattle.std.specs.Prelude.{◌≡◌, ◌+◌, ◌++◌, ◌∷◌, [], ℕ, Bool, List, length, map}
-use Rattle.dspec_record.specs.EnablingRows.{EnabledRows}
+use Rattle.dspec_probe.specs.Words.Outside.{EnabledRows}
 use Rattle.dspec_record.specs.declared.field.Field.{Field}
 use Rattle.dspec_record.specs.declared.header.Header.{Header}
 use Rattle.dspec_probe.specs.Kinds.{next_words}

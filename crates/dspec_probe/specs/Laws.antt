@@ -1,7 +1,7 @@
 -- Serves proofs. The places of a `FieldList` follow from the list that it holds.
 use Rattle.std.proofs.Common.{◌≡◌, ◌≤◌, ◌-◌, ◌++◌, length, take, replicate, arith}
 use Rattle.std.proofs.lemmas.List.{length-take-le}
-use Rattle.dspec_record.specs.Laws.Padding.{padded_list}
+use Rattle.dspec_probe.specs.Words.Outside.{padded_list}
 use Rattle.dspec_record.specs.declared.field.Field.TheVariants.{One}
 use Rattle.dspec_probe.specs.FieldLists.{listed_fields, IsFieldList, list_places}
 use Rattle.dspec_probe.specs.declared.field_list.FieldList.TheInside.{Inside}

@@ -10,3 +10,4 @@ pub mod Probes
 pub mod Truths
 pub mod Declarations
 pub mod Telling
+pub mod Words

@@ -1,9 +1,6 @@
 -- Cited by calls. Which records are those of a probe, and which schemas have the probe.
 use Rattle.std.specs.Prelude.{◌≡◌, ℕ, nat_eq, List, Option, Some, None, if◌then◌else◌}
-use Rattle.dspec_record.specs.EnablingRows.{EnabledRows}
-use Rattle.dspec_record.specs.Record.{Record}
-use Rattle.dspec_record.specs.LaidOut.{IsLaidBy, Laid}
-use Rattle.dspec_record.specs.Schemas.{enabled, enabling_of, table_shape, table_text}
+use Rattle.dspec_probe.specs.Words.Outside.{EnabledRows, Record, IsLaidBy, Laid, enabled, enabling_of, table_shape, table_text}
 use Rattle.dspec_record.specs.declared.field.Field.{Field}
 use Rattle.dspec_record.specs.declared.header.Header.{Header}
 use Rattle.dspec_record.specs.declared.header.Header.TheVariants as header

@@ -5,8 +5,7 @@ use Rattle.std.specs.Fmt.{option_append, signed_decimal}
 use Rattle.std.specs.Int.{w8, w16, w32, w64}
 use Rattle.std.specs.Option.{option_map_or}
 use Rattle.std.specs.Float.Ieee.{binary32, binary64}
-use Rattle.dspec_record.specs.Record.{Record}
-use Rattle.dspec_record.specs.Schemas.{enabling_of}
+use Rattle.dspec_probe.specs.Words.Outside.{Record, enabling_of}
 use Rattle.dspec_record.specs.declared.field.Field.{Field}
 use Rattle.dspec_record.specs.declared.field.Field.TheVariants.{One, Two, Four, Eight}
 use Rattle.dspec_probe.specs.Declarations.{Declared}

@@ -1,16 +1,13 @@
 -- A decision in the list of deeds is one that a CPU of the session made, and the other way round.
 use Rattle.std.proofs.Common.{◌≡◌, ℕ, Bool, true, false, ◌||◌, ◌==◌, if◌then◌else◌, List, [], ◌∷◌, ◌++◌, refl, sym, ap, ◌∙◌, ⊎_elim, true≢false}
-use Rattle.dspec_word.specs.SpecId.{Speculation}
+use Rattle.dspec_promise.specs.Words.{Speculation, HasAuthors, done_by, did, all_did, commit, discard, Did, emptied, is_commit_of, is_discard_of, some, Happened}
 use Rattle.dspec_deeds.specs.declared.config.Config.{Config}
 use Rattle.dspec_deeds.specs.declared.deed.DecideFate.{DecideFate}
 use Rattle.dspec_deeds.specs.declared.deed.DecideFate.TheVariants as decide
 use Rattle.dspec_deeds.specs.declared.deed.Deed.{Deed}
 use Rattle.dspec_deeds.specs.declared.deed.Deed.TheVariants.{Trace, Speculate, Commit, Discard, Settle}
-use Rattle.dspec_deeds.specs.Legal.{HasAuthors}
 use Rattle.dspec_deeds.specs.Fates as told
 use Rattle.dspec_deeds.proofs.TestLemmas.{either_way, off, or_tells, or_true, number_is_itself}
-use Rattle.dspec_promise.specs.Deeds.{done_by, did, all_did}
-use Rattle.dspec_promise.specs.Promise.{commit, discard, Did, emptied, is_commit_of, is_discard_of, some, Happened}
 
 -- of two lists, one has it
 some_append : (test : Did → Bool) (xs ys : List Did) → some test (xs ++ ys) ≡ (some test xs || some test ys)

@@ -1,18 +1,13 @@
 -- What a deed may do for a CPU, as the page tells it, and that the deeds of others do nothing.
 use Rattle.std.proofs.Common.{◌≡◌, ◌⊎◌, ℕ, true, false, if◌then◌else◌, List, [], ◌∷◌, ◌++◌, map, length, Option, None, Some, refl, sym, ◌∙◌, ⊎_elim}
-use Rattle.dspec_word.specs.SpecId.{Speculation}
+use Rattle.dspec_promise.specs.Words.{Speculation, offered_by, empties, buffer, traces_dropped_now, specdrops_now, done_by, By, Did, emptied, RecordFate, taken, dropped, specdropped, lost}
+use Rattle.dspec_promise.specs.Words.{discarded, void, held, emptied_fate, same_fate, Handed, once_emptied, handed, held_for, cpu_stream, TellNumbers, IsFate}
 use Rattle.dspec_deeds.specs.declared.deed.DecideFate.{DecideFate}
 use Rattle.dspec_deeds.specs.declared.deed.DecideFate.TheVariants as decide
 use Rattle.dspec_deeds.specs.declared.deed.Deed.{Deed}
-use Rattle.dspec_deeds.specs.Own.{offered_by, empties, held as buffer}
-use Rattle.dspec_deeds.specs.Reports.{traces_dropped_now, specdrops_now}
 use Rattle.dspec_deeds.specs.Fates as told
 use Rattle.dspec_deeds.proofs.TestLemmas.{off, id_is_itself}
 use Rattle.dspec_deeds.proofs.DeedOffers.{Idle, Offers, Empties, Effect, idle, offering, emptying}
-use Rattle.dspec_promise.specs.Deeds.{done_by}
-use Rattle.dspec_promise.specs.Promise.{By, Did, emptied, RecordFate, taken, dropped, specdropped, lost, discarded, void, held}
-use Rattle.dspec_promise.specs.Promise.{emptied_fate, same_fate, Handed, once_emptied, handed, held_for, cpu_stream, TellNumbers}
-use Rattle.dspec_promise.specs.SameFates.{IsFate}
 use Rattle.dspec_promise.proofs.Emptying.{one, nothing_emptied}
 
 -- the fate as the list of deeds tells it

@@ -1,8 +1,8 @@
 -- What each deed of a legal list does for a CPU, as the page tells it: nothing, it offers a record, or it empties a buffer.
 use Rattle.std.proofs.Common.{◌≡◌, ℕ, true, false, ◌==◌, List, [], ◌∷◌, length, Option, None, Some, refl, sym, ◌∙◌, subst, inl, inr, ⊎_elim, true≢false}
 use Rattle.dspec_record.specs.declared.field.Shape.{Shape}
-use Rattle.dspec_record.specs.Record.{Record}
-use Rattle.dspec_word.specs.SpecId.{Speculation}
+use Rattle.dspec_promise.specs.Words.{Record, Speculation, is_commit, is_discard, Verdict, undecided, committed, ruled_out, verdict, buffer, SettlesAs, IsAllowed, traces_dropped_now, specdrops_now}
+use Rattle.dspec_promise.specs.Words.{done_by, By, commit, discard, service, emptied, traced_fate, speculated_fate}
 use Rattle.dspec_deeds.specs.declared.config.Config.{Config}
 use Rattle.dspec_deeds.specs.declared.deed.TraceFate.{TraceFate}
 use Rattle.dspec_deeds.specs.declared.deed.TraceFate.TheVariants as trace
@@ -12,20 +12,12 @@ use Rattle.dspec_deeds.specs.declared.deed.DecideFate.{DecideFate}
 use Rattle.dspec_deeds.specs.declared.deed.DecideFate.TheVariants as decide
 use Rattle.dspec_deeds.specs.declared.deed.Deed.{Deed}
 use Rattle.dspec_deeds.specs.declared.deed.Deed.TheVariants.{Trace, Speculate, Commit, Discard, Settle}
-use Rattle.dspec_deeds.specs.FateKinds.{is_commit, is_discard}
-use Rattle.dspec_deeds.specs.History.{Verdict, undecided, committed, discarded as ruled_out, verdict}
-use Rattle.dspec_deeds.specs.Own.{held as buffer}
-use Rattle.dspec_deeds.specs.Legal.{SettlesAs, IsAllowed}
-use Rattle.dspec_deeds.specs.Reports.{traces_dropped_now, specdrops_now}
 use Rattle.dspec_deeds.specs.Fates as told
 use Rattle.dspec_deeds.proofs.TestLemmas.{either_way, and_false, same_number, number_is_itself, id_is_itself}
 use Rattle.dspec_deeds.proofs.Verdicts.{Told, verdict_told}
 use Rattle.dspec_deeds.proofs.DeedOffers.{Empties, own_trace}
 use Rattle.dspec_deeds.proofs.DeedOffers.{own_speculate}
 use Rattle.dspec_deeds.proofs.DeedEffects.{copied_commit, lost_commit, thrown_discard, copied_settle, lost_settle, thrown_settle, legal_effect}
-use Rattle.dspec_promise.specs.Deeds.{done_by}
-use Rattle.dspec_promise.specs.Promise.{By, commit, discard, service, emptied}
-use Rattle.dspec_promise.specs.Promise.{traced_fate, speculated_fate}
 use Rattle.dspec_promise.proofs.DoingKinds.{Does, DoesEmpty, DoesOffer, does_not, does_not_decide, empties_one, nothing, offers_one}
 
 -- the CPU's own offers

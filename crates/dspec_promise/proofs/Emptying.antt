@@ -1,10 +1,8 @@
 -- What the emptying of a buffer does to the offers.
 use Rattle.std.proofs.Common.{◌≡◌, ℕ, ◌+◌, Bool, true, false, ◌&&◌, if◌then◌else◌, List, [], ◌∷◌, map, Option, None, Some, refl, sym, ap, ◌∙◌, subst, ⊎_elim, true≢false, arith}
-use Rattle.dspec_record.specs.Record.{Record}
-use Rattle.dspec_word.specs.SpecId.{Speculation}
+use Rattle.dspec_promise.specs.Words.{Record, Speculation, RecordFate, held, emptied_fate, same_fate, is_same_id, Handed, is_for, waits_for, once_emptied, held_for, number, of}
 use Rattle.dspec_deeds.specs.declared.deed.DecideFate.{DecideFate}
 use Rattle.dspec_deeds.proofs.TestLemmas.{either_way, off, and_tells, and_false, same_id_tells}
-use Rattle.dspec_promise.specs.Promise.{RecordFate, held, emptied_fate, same_fate, is_same_id, Handed, is_for, waits_for, once_emptied, held_for, number, of}
 
 -- a held record is held
 pub same_held : (f : RecordFate) → same_fate held f ≡ true → f ≡ held

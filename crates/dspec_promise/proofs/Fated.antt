@@ -3,20 +3,15 @@ use Prim.Native.Nat.{suc}
 use Rattle.std.proofs.Common.{◌≡◌, ℕ, ◌<◌, Bool, true, false, ◌&&◌, ◌==◌, List, [], ◌∷◌, map, length, Option, None, Some, refl, sym, ap, ◌∙◌, subst, ⊎_elim, true≢false, arith}
 use Rattle.std.proofs.lemmas.Bool.Decides.{nat_tests}
 use Rattle.dspec_record.specs.declared.field.Shape.{Shape}
-use Rattle.dspec_word.specs.SpecId.{Speculation}
+use Rattle.dspec_promise.specs.Words.{Speculation, offers_of, IsAllowed, did, RecordFate, taken, dropped, specdropped, lost, discarded, void, held, emptied_fate, same_fate, is_same_id, Handed}
+use Rattle.dspec_promise.specs.Words.{is_for, waits_for, once_emptied, handed, number, IsFate, IsOffer, AreOffers}
 use Rattle.dspec_deeds.specs.declared.config.Config.{Config}
 use Rattle.dspec_deeds.specs.declared.deed.DecideFate.{DecideFate}
 use Rattle.dspec_deeds.specs.declared.deed.Deed.{Deed}
-use Rattle.dspec_deeds.specs.Own.{offers as offers_of}
-use Rattle.dspec_deeds.specs.Legal.{IsAllowed}
 use Rattle.dspec_deeds.specs.Fates as told
 use Rattle.dspec_deeds.proofs.TestLemmas.{either_way, and_false, number_is_itself, id_is_itself}
 use Rattle.dspec_deeds.proofs.DeedEffects.{legal_before}
 use Rattle.dspec_deeds.proofs.HeldOffers.{fate_idle, fate_offered, fate_earlier, fate_emptied, settled_as, same_id_back}
-use Rattle.dspec_promise.specs.Deeds.{did}
-use Rattle.dspec_promise.specs.Promise.{RecordFate, taken, dropped, specdropped, lost, discarded, void, held}
-use Rattle.dspec_promise.specs.Promise.{emptied_fate, same_fate, is_same_id, Handed, is_for, waits_for, once_emptied, handed, number}
-use Rattle.dspec_promise.specs.SameFates.{IsFate, IsOffer, AreOffers}
 use Rattle.dspec_promise.proofs.Emptying.{waits_tells, emptied_one, emptied_other}
 use Rattle.dspec_promise.proofs.DoingKinds.{as_told, DoesEmpty, Does, nothing, offers_one, empties_one}
 use Rattle.dspec_promise.proofs.Doings.{does}

@@ -3,24 +3,16 @@ use Rattle.std.proofs.Common.{◌≡◌, ℕ, ◌+◌, ◌<◌, Bool, true, fals
 use Rattle.std.proofs.Common.{map, reverse, Option, None, Some, refl, sym, ap, ◌∙◌, arith}
 use Rattle.std.proofs.lemmas.List.{append-nil}
 use Rattle.dspec_record.specs.declared.field.Shape.{Shape}
-use Rattle.dspec_record.specs.Record.{Record}
-use Rattle.dspec_word.specs.SpecId.{Speculation}
+use Rattle.dspec_promise.specs.Words.{Record, Speculation, WaitsUndecided, FateLaw, IsAllowed, IsLegal, stream_of, taken_first, offers_of, report, total, traces_dropped_now, specdrops_now, did}
+use Rattle.dspec_promise.specs.Words.{all_did, AtEachMoment, DecidedSoFar, RecordFate, taken, dropped, specdropped, lost, discarded, void, held, emptied_fate, same_fate, Handed, once_emptied}
+use Rattle.dspec_promise.specs.Words.{handed, cpu_stream, number, of, KeepsPromise, Promise, IsFate}
 use Rattle.dspec_deeds.specs.declared.config.Config.{Config}
 use Rattle.dspec_deeds.specs.declared.deed.DecideFate.{DecideFate}
 use Rattle.dspec_deeds.specs.declared.deed.Deed.{Deed}
-use Rattle.dspec_deeds.specs.Closes.{WaitsUndecided}
-use Rattle.dspec_deeds.specs.Headline.{FateLaw}
-use Rattle.dspec_deeds.specs.Legal.{IsAllowed, IsLegal}
-use Rattle.dspec_deeds.specs.Own.{stream as stream_of, taken as taken_first, offers as offers_of}
-use Rattle.dspec_deeds.specs.Reports.{report, total, traces_dropped_now, specdrops_now}
 use Rattle.dspec_deeds.specs.Fates as told
 use Rattle.dspec_deeds.proofs.Verdicts.{one_decision}
 use Rattle.dspec_deeds.proofs.DeedEffects.{legal_before}
 use Rattle.dspec_deeds.proofs.Headlines.{headline}
-use Rattle.dspec_promise.specs.Deeds.{did, all_did, AtEachMoment, DecidedSoFar}
-use Rattle.dspec_promise.specs.Promise.{RecordFate, taken, dropped, specdropped, lost, discarded, void, held, emptied_fate, same_fate, Handed}
-use Rattle.dspec_promise.specs.Promise.{once_emptied, handed, cpu_stream, number, of, KeepsPromise, Promise}
-use Rattle.dspec_promise.specs.SameFates.{IsFate}
 use Rattle.dspec_promise.proofs.Emptying.{one, counted_emptied}
 use Rattle.dspec_promise.proofs.Once.{once}
 use Rattle.dspec_promise.proofs.DoingKinds.{Does, nothing, offers_one, empties_one}

@@ -3,23 +3,17 @@ use Rattle.std.proofs.Common.{◌≡◌, ℕ, ◌<◌, Bool, true, false, ◌&&�
 use Rattle.std.proofs.Common.{map, length, Option, None, Some, refl, sym, ap, ◌∙◌, subst, ⊎_elim, true≢false, arith}
 use Rattle.std.specs.List.{AllByRecursion}
 use Rattle.dspec_record.specs.declared.field.Shape.{Shape}
-use Rattle.dspec_word.specs.SpecId.{Speculation}
+use Rattle.dspec_promise.specs.Words.{Speculation, WaitsUndecided, Verdict, undecided, committed, ruled_out, verdict, is_undecided, IsAllowed, HasAuthors, Entry, contents, buffer, accepted}
+use Rattle.dspec_promise.specs.Words.{offers_of, did, all_did, RecordFate, taken, dropped, specdropped, lost, discarded, void, held, emptied_fate, same_fate, is_same_id, Handed, is_for, waits_for}
+use Rattle.dspec_promise.specs.Words.{once_emptied, handed, held_for, cpu_stream, is_commit_of, is_discard_of, TellNumbers, Never, AllDecided, WasDecided, IsFate, AreOffers}
 use Rattle.dspec_deeds.specs.declared.config.Config.{Config}
 use Rattle.dspec_deeds.specs.declared.deed.DecideFate.{DecideFate}
 use Rattle.dspec_deeds.specs.declared.deed.Deed.{Deed}
-use Rattle.dspec_deeds.specs.Closes.{WaitsUndecided}
-use Rattle.dspec_deeds.specs.History.{Verdict, undecided, committed, discarded as ruled_out, verdict, is_undecided}
-use Rattle.dspec_deeds.specs.Legal.{IsAllowed, HasAuthors}
-use Rattle.dspec_deeds.specs.Own.{Offer as Entry, contents, held as buffer, accepted, offers as offers_of}
 use Rattle.dspec_deeds.specs.Fates as told
 use Rattle.dspec_deeds.proofs.TestLemmas.{either_way, or_true}
 use Rattle.dspec_deeds.proofs.Verdicts.{Told, verdict_told, commit_stays}
 use Rattle.dspec_deeds.proofs.DeedOffers.{waits_for as waits_told}
 use Rattle.dspec_deeds.proofs.DeedEffects.{legal_before}
-use Rattle.dspec_promise.specs.Deeds.{did, all_did}
-use Rattle.dspec_promise.specs.Promise.{RecordFate, taken, dropped, specdropped, lost, discarded, void, held, emptied_fate, same_fate, is_same_id, Handed, is_for}
-use Rattle.dspec_promise.specs.Promise.{waits_for, once_emptied, handed, held_for, cpu_stream, is_commit_of, is_discard_of, TellNumbers, Never, AllDecided, WasDecided}
-use Rattle.dspec_promise.specs.SameFates.{IsFate, AreOffers}
 use Rattle.dspec_promise.proofs.Emptying.{waits_tells, emptied_one, emptied_other, waiting_emptied}
 use Rattle.dspec_promise.proofs.DoingKinds.{as_told, IsDue, DoesEmpty, Does, nothing, offers_one, empties_one}
 use Rattle.dspec_promise.proofs.Doings.{does}

@@ -1,10 +1,9 @@
 -- Each taken record is in the stream once.
 use Rattle.std.proofs.Common.{◌≡◌, ◌+◌, Bool, ◌&&◌, List, [], ◌∷◌, ◌++◌, refl, ◌∙◌, arith}
-use Rattle.dspec_record.specs.Record.{Record}
+use Rattle.dspec_promise.specs.Words.{Record, Did, traced, speculated, emptied, taken, handed, held_for, cpu_stream, number, of}
 use Rattle.dspec_deeds.specs.declared.deed.TraceFate.TheVariants as trace
 use Rattle.dspec_deeds.specs.declared.deed.SpeculateFate.TheVariants as speculate
 use Rattle.dspec_deeds.specs.declared.deed.DecideFate.TheVariants as decide
-use Rattle.dspec_promise.specs.Promise.{Did, traced, speculated, emptied, taken, handed, held_for, cpu_stream, number, of}
 use Rattle.dspec_promise.proofs.Emptying.{counted_emptied, waiting_number}
 
 -- the numbers of two lists add up

@@ -1,8 +1,7 @@
 -- Whatever is answered in a legal list has its reason.
 use Rattle.std.proofs.Common.{◌≡◌, ℕ, true, false, not, ◌&&◌, ltb as nat_lt, List, [], ◌∷◌, Option, refl, sym, ◌∙◌, subst, ⊎_elim, true≢false, arith}
 use Rattle.dspec_record.specs.declared.field.Shape.{Shape}
-use Rattle.dspec_record.specs.Record.{Record}
-use Rattle.dspec_word.specs.SpecId.{Speculation}
+use Rattle.dspec_promise.specs.Words.{Record, Speculation, verdict, issue, opens, opened, IsAllowed, IsSound, number, HasReason, HaveReasons, GivenOnce}
 use Rattle.dspec_deeds.specs.declared.config.Config.{Config}
 use Rattle.dspec_deeds.specs.declared.deed.TraceFate.{TraceFate}
 use Rattle.dspec_deeds.specs.declared.deed.TraceFate.TheVariants as trace
@@ -12,11 +11,7 @@ use Rattle.dspec_deeds.specs.declared.deed.DecideFate.{DecideFate}
 use Rattle.dspec_deeds.specs.declared.deed.DecideFate.TheVariants as decide
 use Rattle.dspec_deeds.specs.declared.deed.Deed.{Deed}
 use Rattle.dspec_deeds.specs.declared.deed.Deed.TheVariants.{Trace, Opened, Speculate, Commit, Discard, Settle}
-use Rattle.dspec_deeds.specs.History.{verdict, issue, opens, opened}
-use Rattle.dspec_deeds.specs.Legal.{IsAllowed, IsSound}
 use Rattle.dspec_deeds.proofs.TestLemmas.{either_way, or_none, not_false, same_id_tells}
-use Rattle.dspec_promise.specs.Promise.{number}
-use Rattle.dspec_promise.specs.Reasons.{HasReason, HaveReasons, GivenOnce}
 use Rattle.dspec_promise.proofs.Doings.{never_settles}
 
 traced_reason : (shape : ℕ → Option Shape) (k : Config) (a : ℕ) (r : Record) (f : TraceFate) (h : List Deed) → IsAllowed shape k (Trace a r f ∷ h) → HasReason shape k (Trace a r f) h

@@ -1,15 +1,12 @@
 -- The page at one small history: two CPUs speculate to a speculation, one commits it, and the other settles that.
 use Rattle.std.proofs.Common.{◌≡◌, ℕ, true, List, [], ◌∷◌, None, Some, refl}
-use Rattle.dspec_record.specs.Record.{Record}
-use Rattle.dspec_word.specs.SpecId.{Speculation}
+use Rattle.dspec_promise.specs.Words.{Record, Speculation, did, traced, taken, dropped, held, handed, cpu_stream, Promise}
 use Rattle.dspec_deeds.specs.declared.deed.TraceFate.TheVariants as trace
 use Rattle.dspec_deeds.specs.declared.deed.SpeculateFate.TheVariants as speculate
 use Rattle.dspec_deeds.specs.declared.deed.DecideFate.TheVariants as decide
 use Rattle.dspec_deeds.specs.declared.deed.Deed.{Deed}
 use Rattle.dspec_deeds.specs.declared.deed.Deed.TheVariants.{Trace, Scan, Opened, Speculate, Commit, Settle}
 use Rattle.dspec_deeds.specs.declared.report.Report.{Report}
-use Rattle.dspec_promise.specs.Deeds.{did}
-use Rattle.dspec_promise.specs.Promise.{traced, taken, dropped, held, handed, cpu_stream, Promise}
 
 abbrev id : Speculation
 id = record { issue = 0; slot = 1 }

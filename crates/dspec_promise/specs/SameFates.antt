@@ -1,6 +1,6 @@
 -- Serves proofs. The page's fates are those of the list of deeds, record by record.
 use Rattle.std.specs.Prelude.{ℕ, ◌≡◌, suc, List, [], ◌∷◌, Option, Some, None}
-use Rattle.dspec_word.specs.SpecId.{Speculation}
+use Rattle.dspec_promise.specs.Words.Outside.{Speculation}
 use Rattle.dspec_deeds.specs.declared.deed.Deed.{Deed}
 use Rattle.dspec_deeds.specs.Fates as told
 use Rattle.dspec_promise.specs.Promise.{RecordFate, taken, dropped, specdropped, lost, discarded, void, held, Handed}

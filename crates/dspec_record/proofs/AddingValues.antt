@@ -3,13 +3,9 @@ use Rattle.std.proofs.Common.{◌≡◌, ◌≤◌, ◌<◌, ◌+◌, ◌*◌, �
 use Rattle.std.proofs.Math.Nat.{mul_assoc, pow-le-pow_right}
 use Rattle.std.proofs.lemmas.Nat.{pow-add, shr_below, shr-shr, mul-add-lt}
 use Rattle.std.proofs.lemmas.List.Elements.{All-head, All-tail}
-use Rattle.dspec_record.specs.Layout.{width, rounded_up, after}
-use Rattle.dspec_record.specs.Packing.{number_of_words}
-use Rattle.dspec_record.specs.Laws.Layouts.{rounded_up-ge}
+use Rattle.dspec_record.specs.Words.{width, rounded_up, after, number_of_words, rounded_up-ge, Field, One, Two, Four, Eight}
 use Rattle.dspec_record.proofs.LittleEndian.{pow-add256}
 use Rattle.dspec_record.proofs.Masking.{pow256}
-use Rattle.dspec_record.specs.declared.field.Field.{Field}
-use Rattle.dspec_record.specs.declared.field.Field.TheVariants.{One, Two, Four, Eight}
 
 -- ---- places
 

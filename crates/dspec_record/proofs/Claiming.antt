@@ -4,12 +4,7 @@ use Rattle.std.proofs.Common.{[], ◌∷◌, length, take, drop, set, replicate,
 use Rattle.std.proofs.Math.Nat.{pow-suc, pow-le-pow_right}
 use Rattle.std.proofs.lemmas.Bool.{eqb-true, eq-eqb, ltb-true, lt-ltb, cases_lt}
 use Rattle.std.proofs.lemmas.List.{append_assoc, length-append, length-take-le, get_or_append_left, get_or-take, get_or-drop, set_at}
-use Rattle.dspec_record.specs.Layout.{width}
-use Rattle.dspec_record.specs.Packing.{words_in, signature_of, claim_of, claimed_by, claimed, claims_from, padded_claims}
-use Rattle.dspec_record.specs.Schemas.{enabling_of}
-use Rattle.dspec_record.specs.Laws.Texts.{both}
-use Rattle.dspec_record.specs.declared.field.Field.{Field}
-use Rattle.dspec_record.specs.declared.field.Field.TheVariants.{One, Two, Four, Eight}
+use Rattle.dspec_record.specs.Words.{width, words_in, signature_of, claim_of, claimed_by, claimed, claims_from, padded_claims, enabling_of, both, Field, One, Two, Four, Eight}
 
 width-below : (f : Field) → width f < 16
 width-below One = omega arith

@@ -4,14 +4,8 @@ use Rattle.std.proofs.lemmas.List.{append_assoc, length-append, length-take-le, 
 use Rattle.std.proofs.lemmas.List.{get_or-drop, take-take, drop-take, take-append-drop}
 use Rattle.std.proofs.Math.Seq.{take-append-add}
 use Rattle.std.specs.Int.{byte_at}
-use Rattle.dspec_record.specs.Layout.{width, rounded_up}
-use Rattle.dspec_record.specs.RecordText.{little_endian, gap}
-use Rattle.dspec_record.specs.Writing.{IsClearBehind}
-use Rattle.dspec_record.specs.Laws.Layouts.{rounded_up-ge}
-use Rattle.dspec_record.specs.Laws.Texts.{length-little_endian}
+use Rattle.dspec_record.specs.Words.{width, rounded_up, little_endian, gap, IsClearBehind, rounded_up-ge, length-little_endian, Field, One, Two, Four, Eight}
 use Rattle.dspec_record.proofs.LittleEndian.{take-little_endian}
-use Rattle.dspec_record.specs.declared.field.Field.{Field}
-use Rattle.dspec_record.specs.declared.field.Field.TheVariants.{One, Two, Four, Eight}
 
 -- a value is known from its field's bytes; those above are zero
 eight_bytes : (f : Field) (v : ℕ) → v < 256 ^ width f → little_endian 8 v ≡ little_endian (width f) v ++ replicate (8 - width f) 0

@@ -5,12 +5,8 @@ use Rattle.std.proofs.lemmas.Nat.{shr-shr, field_of, and_mask}
 use Rattle.std.proofs.lemmas.List.{append_assoc, append-nil, length-append, drop_more, drop_all}
 use Rattle.std.proofs.lemmas.List.Elements.{All-head, All-tail}
 use Rattle.std.specs.Int.RustNames.{bit_and}
-use Rattle.dspec_record.specs.Layout.{width, limit, rounded_up, after, fields_end}
-use Rattle.dspec_record.specs.Packing.{number_of_words, cuts, words_in}
-use Rattle.dspec_record.specs.Laws.Layouts.{fields_end-ge}
+use Rattle.dspec_record.specs.Words.{width, limit, rounded_up, after, fields_end, number_of_words, cuts, words_in, fields_end-ge, Field, One, Two, Four, Eight}
 use Rattle.dspec_record.proofs.Masking.{pow256, ends-within}
-use Rattle.dspec_record.specs.declared.field.Field.{Field}
-use Rattle.dspec_record.specs.declared.field.Field.TheVariants.{One, Two, Four, Eight}
 
 -- a word of a number
 word-at : (ws : List ℕ) (j : ℕ) → All (λ w. w < 2 ^ 64) ws → j < length ws → number_of_words ws / 2 ^ (64 * j) % 2 ^ 64 ≡ get_or ws j 0

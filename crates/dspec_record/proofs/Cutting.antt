@@ -3,14 +3,8 @@ use Rattle.std.proofs.Common.{◌≡◌, ◌<◌, ◌+◌, ◌-◌, ◌*◌, ◌
 use Rattle.std.proofs.Math.Nat.{mod-lt, mul-lt-mul_of_pos_right}
 use Rattle.std.proofs.lemmas.Nat.{div-mul-add, mod-mul-add, mul-add-lt}
 use Rattle.std.proofs.lemmas.Bool.{lt-ltb, ltb-true}
-use Rattle.dspec_record.specs.Layout.{width, rounded_up, after, fields_end}
-use Rattle.dspec_record.specs.RecordText.{little_endian, gap, fields_text, fits}
-use Rattle.dspec_record.specs.Packing.{cuts}
-use Rattle.dspec_record.specs.Laws.Layouts.{rounded_up-ge, fields_end-ge}
-use Rattle.dspec_record.specs.Laws.Texts.{both}
+use Rattle.dspec_record.specs.Words.{width, rounded_up, after, fields_end, little_endian, gap, fields_text, fits, cuts, rounded_up-ge, fields_end-ge, both, Field, One, Two, Four, Eight}
 use Rattle.dspec_record.proofs.LittleEndian.{pow_pos256, pow-add256, div-more, shifted-back, little_endian-zero, little_endian-parts}
-use Rattle.dspec_record.specs.declared.field.Field.{Field}
-use Rattle.dspec_record.specs.declared.field.Field.TheVariants.{One, Two, Four, Eight}
 
 -- what is cut fits
 pub cuts_fit : (start : ℕ) (fs : List Field) (n : ℕ) → IsTrue (fits fs (cuts start fs n))

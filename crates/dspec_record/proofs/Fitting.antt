@@ -1,9 +1,6 @@
 -- When values fit fields.
 use Rattle.std.proofs.Common.{◌≡◌, ◌≢◌, ◌&&◌, ◌^◌, ℕ, suc, Bool, true, false, ltb, IsTrue, List, [], ◌∷◌, length, refl, ap, ◌∙◌}
-use Rattle.dspec_record.specs.Layout.{width}
-use Rattle.dspec_record.specs.RecordText.{fits}
-use Rattle.dspec_record.specs.Laws.Texts.{both}
-use Rattle.dspec_record.specs.declared.field.Field.{Field}
+use Rattle.dspec_record.specs.Words.{width, fits, both, Field}
 
 and-false : (b : Bool) → (b && false) ≡ false
 and-false true = refl

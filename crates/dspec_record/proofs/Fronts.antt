@@ -3,8 +3,7 @@ use Rattle.std.proofs.Common.{◌≡◌, ◌≤◌, ◌<◌, ◌^◌, ℕ, zero,
 use Rattle.std.specs.Int.{w32, from_le_bytes}
 use Rattle.std.proofs.lemmas.List.{length-take-le, get_or-take}
 use Rattle.std.proofs.lemmas.Nat.{le_bytes_4, from_le_bytes-to_le_bytes_4}
-use Rattle.dspec_record.specs.RecordText.{little_endian}
-use Rattle.dspec_record.specs.Reading.{front_epid}
+use Rattle.dspec_record.specs.Words.{little_endian, front_epid}
 
 -- only the first four bytes count for an EPID
 pub front_epid-take : (bytes : List ℕ) → front_epid (take 4 bytes) ≡ front_epid bytes

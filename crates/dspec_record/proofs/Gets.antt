@@ -3,16 +3,8 @@ use Rattle.std.proofs.Common.{◌≡◌, ◌≢◌, ◌≤◌, ◌<◌, ◌^◌,
 use Rattle.std.specs.Prelude.{unwrap_or, option_and_then}
 use Rattle.std.specs.Option.{option_map_or}
 use Rattle.std.proofs.lemmas.Bool.{lt-ltb, le-leb}
-use Rattle.dspec_record.specs.Record.{Record}
-use Rattle.dspec_record.specs.Layout.{layout}
-use Rattle.dspec_record.specs.RecordText.{little_endian, record_text, stamp_fits, fits, IsRead}
-use Rattle.dspec_record.specs.Reading.{BeginsWith}
-use Rattle.dspec_record.specs.Schemas.{FieldTable, table_accepts, table_text, within_limit, enabling_of, enabled}
-use Rattle.dspec_record.specs.Laws.Texts.{little_endian-same, length-record_text}
-use Rattle.dspec_record.specs.Laws.Tables.{IsAccepted, accepted-parts, table-texts_fit}
-use Rattle.dspec_record.specs.declared.field.Field.{Field}
-use Rattle.dspec_record.specs.declared.field.Field.TheVariants.{Four}
-use Rattle.dspec_record.specs.declared.header.Header.{Header}
+use Rattle.dspec_record.specs.Words.{Record, layout, little_endian, record_text, stamp_fits, fits, IsRead, BeginsWith, FieldTable, table_accepts, table_text, within_limit, enabling_of, enabled}
+use Rattle.dspec_record.specs.Words.{little_endian-same, length-record_text, IsAccepted, accepted-parts, table-texts_fit, Field, Four, Header}
 
 enabled-is : (rows : List (List Field)) (epid : ℕ) (fs : List Field) → enabling_of rows epid ≡ Some fs → length fs ≤ 8 → enabled rows epid ≡ Some fs
 enabled-is rows epid fs is few =

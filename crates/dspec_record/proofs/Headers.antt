@@ -2,13 +2,8 @@
 use Rattle.std.proofs.Common.{◌≡◌, ◌≤◌, ◌<◌, ◌+◌, ◌*◌, ◌/◌, ◌%◌, ◌^◌, ◌++◌, ℕ, List, length, take, sym, ◌∙◌, ap, subst, arith}
 use Rattle.std.proofs.lemmas.List.{take-take}
 use Rattle.std.proofs.Math.Seq.{take-append-add}
-use Rattle.dspec_record.specs.Layout.{fields_start}
-use Rattle.dspec_record.specs.Record.{Record}
-use Rattle.dspec_record.specs.RecordText.{little_endian, header_text}
-use Rattle.dspec_record.specs.Writing.{IsClearBehind}
-use Rattle.dspec_record.specs.declared.header.Header.{Header}
+use Rattle.dspec_record.specs.Words.{fields_start, Record, little_endian, header_text, IsClearBehind, Header, Four}
 use Rattle.dspec_record.specs.declared.header.Header.TheVariants as header
-use Rattle.dspec_record.specs.declared.field.Field.TheVariants.{Four}
 use Rattle.dspec_record.proofs.Clearing.{written-clear}
 use Rattle.dspec_record.proofs.LittleEndian.{little_endian-parts, take-little_endian}
 

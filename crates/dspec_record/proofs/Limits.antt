@@ -1,13 +1,9 @@
 -- The greatest value of each field.
 use Rattle.std.proofs.Common.{[], ◌≡◌, ◌≤◌, ◌<◌, ◌+◌, ◌-◌, ◌^◌, ◌++◌, ℕ, ◌&&◌, false, leb, ltb, List, ◌∷◌, length, map, get_or, take, drop, set, replicate, refl, sym, ◌∙◌, ap, arith}
 use Rattle.std.proofs.lemmas.List.{take_at, take_more_set, append_assoc, drop_more, drop-drop, drop-replicate, drop-set-lt, length-set, length-map, get_or-map}
-use Rattle.dspec_record.specs.Layout.{width, limit}
+use Rattle.dspec_record.specs.Words.{width, limit, fits, padded_limits, Field, One, Two, Four, Eight}
 use Rattle.std.proofs.Math.Dec.{leb-suc-suc}
 use Rattle.std.proofs.lemmas.Bool.{le-leb, lt-leb}
-use Rattle.dspec_record.specs.RecordText.{fits}
-use Rattle.dspec_record.specs.EnablingFields.{padded_limits}
-use Rattle.dspec_record.specs.declared.field.Field.{Field}
-use Rattle.dspec_record.specs.declared.field.Field.TheVariants.{One, Two, Four, Eight}
 
 -- the limits of a list of fields, out of those of all eight
 pub take-padded : (fs : List Field) (n : ℕ) → n ≡ length fs → take n (padded_limits fs) ≡ map limit fs

@@ -3,7 +3,7 @@ use Rattle.std.proofs.Common.{◌≡◌, ◌≤◌, ◌<◌, ◌+◌, ◌*◌, �
 use Rattle.std.proofs.Math.Nat.{one-le-pow, pow-suc, mul_assoc, mul_comm, div-div-eq-div-mul, mul-div_cancel}
 use Rattle.std.proofs.lemmas.Nat.{pow-add, div-mul-add}
 use Rattle.std.specs.Int.{byte_at, bytes_low_first}
-use Rattle.dspec_record.specs.RecordText.{little_endian}
+use Rattle.dspec_record.specs.Words.{little_endian}
 
 pub pow_pos256 : (k : ℕ) → zero < 256 ^ k
 pow_pos256 k = one-le-pow k 256 (omega arith)

@@ -3,12 +3,9 @@ use Rattle.std.proofs.Common.{◌≡◌, ◌≤◌, ◌<◌, ◌+◌, ◌*◌, �
 use Rattle.std.proofs.Math.Nat.{mul_assoc}
 use Rattle.std.proofs.lemmas.Nat.{pow-add, shr-shr}
 use Rattle.std.proofs.lemmas.List.{drop_more, drop_all}
-use Rattle.dspec_record.specs.Layout.{width, limit, rounded_up, after}
-use Rattle.dspec_record.specs.Packing.{mask_number, words_of_number}
+use Rattle.dspec_record.specs.Words.{width, limit, rounded_up, after, mask_number, words_of_number, Field, One}
 use Rattle.dspec_record.proofs.LittleEndian.{pow_pos256}
 use Rattle.dspec_record.proofs.AddingValues.{next-near, place-near, width-some, sum-in-word, sum-below, at-place}
-use Rattle.dspec_record.specs.declared.field.Field.{Field}
-use Rattle.dspec_record.specs.declared.field.Field.TheVariants.{One}
 
 -- a number is added to one word, which holds the sum
 words_of_number-add : (k j n x : ℕ) → j < k → get_or (words_of_number k n) j 0 + x < 2 ^ 64

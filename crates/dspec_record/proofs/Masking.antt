@@ -6,14 +6,11 @@ use Rattle.std.proofs.lemmas.Bool.{lt-ltb}
 use Rattle.std.proofs.lemmas.List.{ext_get_or}
 use Rattle.std.proofs.lemmas.List.Elements.{All-nil, All-cons, All-head, All-tail}
 use Rattle.std.specs.Int.RustNames.{bit_and}
-use Rattle.dspec_record.specs.Layout.{width, limit, rounded_up, after, fields_end, layout}
-use Rattle.dspec_record.specs.RecordText.{fits}
-use Rattle.dspec_record.specs.Packing.{number_of_words, cuts, packed_record, words_in, mask_number, words_of_number, masks_for, masked_words, IsClean}
-use Rattle.dspec_record.specs.Laws.Layouts.{rounded_up-ge, fields_end-le}
+use Rattle.dspec_record.specs.Words.{width, limit, rounded_up, after, fields_end, layout, fits, number_of_words, cuts, packed_record, words_in, mask_number, words_of_number, masks_for, masked_words}
+use Rattle.dspec_record.specs.Words.{IsClean, rounded_up-ge, fields_end-le, Field}
 use Rattle.dspec_record.proofs.LittleEndian.{pow_pos256, div-more}
 use Rattle.dspec_record.proofs.Cutting.{packed, cuts_fit}
 use Rattle.dspec_record.proofs.PackedValues.{value_number-packed, value_number-below, record-of_number, clean-of_number}
-use Rattle.dspec_record.specs.declared.field.Field.{Field}
 use Rattle.dspec_record.specs.declared.header.Header.TheVariants as header
 
 -- ---- words

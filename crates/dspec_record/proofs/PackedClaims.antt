@@ -2,14 +2,8 @@
 use Rattle.std.proofs.Common.{◌≡◌, ◌≤◌, ◌<◌, ◌+◌, ◌%◌, ◌^◌, ℕ, suc, IsTrue, List, length, Some, option_map, false, refl, sym, ◌∙◌, ap, arith}
 use Rattle.std.proofs.lemmas.Bool.{lt-ltb, and_from}
 use Rattle.std.specs.Option.{option_map_or}
-use Rattle.dspec_record.specs.LaidOut.{IsSaid}
-use Rattle.dspec_record.specs.Layout.{layout}
-use Rattle.dspec_record.specs.Record.{Record}
-use Rattle.dspec_record.specs.RecordText.{record_text, stamp_fits, fits}
-use Rattle.dspec_record.specs.Packing.{number_of_words, cuts, packed_record, claimed}
-use Rattle.dspec_record.specs.Schemas.{enabled, enabling_of, table_accepts, table_shape, table_text}
-use Rattle.dspec_record.specs.declared.field.Field.{Field}
-use Rattle.dspec_record.specs.declared.header.Header.{Header}
+use Rattle.dspec_record.specs.Words.{IsSaid, layout, Record, record_text, stamp_fits, fits, number_of_words, cuts, packed_record, claimed, enabled, enabling_of, table_accepts, table_shape}
+use Rattle.dspec_record.specs.Words.{table_text, Field, Header}
 use Rattle.dspec_record.proofs.Claiming.{IsClaimed, claimed-is}
 use Rattle.dspec_record.proofs.Cutting.{cuts_fit}
 use Rattle.dspec_record.proofs.Gets.{enabled-row, table_text-is}

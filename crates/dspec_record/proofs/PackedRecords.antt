@@ -3,15 +3,8 @@ use Rattle.std.proofs.Common.{◌≡◌, ◌≤◌, ◌<◌, ◌+◌, ◌*◌, �
 use Rattle.std.proofs.lemmas.List.{length-take-le, length-append, get_or-take, get_or-set_same, get_or-set_other, take_at, append_assoc}
 use Rattle.std.proofs.lemmas.Bool.{cases_lt}
 use Rattle.std.specs.Int.RustNames.{bit_and}
-use Rattle.dspec_record.specs.FirstWords.{with_low}
-use Rattle.dspec_record.specs.Layout.{rounded_up, fields_start, layout}
-use Rattle.dspec_record.specs.Record.{Record}
-use Rattle.dspec_record.specs.RecordText.{little_endian, record_text}
-use Rattle.dspec_record.specs.Packing.{number_of_words, packed_record, words_in, bytes_of_words, masked_words, IsClean, BeginsWithWords}
-use Rattle.dspec_record.specs.Laws.Layouts.{size-stamped}
-use Rattle.dspec_record.specs.Laws.Texts.{length-record_text}
-use Rattle.dspec_record.specs.declared.field.Field.{Field}
-use Rattle.dspec_record.specs.declared.header.Header.{Header}
+use Rattle.dspec_record.specs.Words.{with_low, rounded_up, fields_start, layout, Record, little_endian, record_text, number_of_words, packed_record, words_in, bytes_of_words, masked_words, IsClean}
+use Rattle.dspec_record.specs.Words.{BeginsWithWords, size-stamped, length-record_text, Field, Header}
 use Rattle.dspec_record.specs.declared.header.Header.TheVariants as header
 use Rattle.dspec_record.proofs.Cutting.{cuts_fit}
 use Rattle.dspec_record.proofs.Masking.{masked_words-is}

@@ -2,14 +2,10 @@
 use Rattle.std.proofs.Common.{◌≡◌, ◌≤◌, ◌<◌, ◌+◌, ◌-◌, ◌*◌, ◌/◌, ◌^◌, ◌++◌, ℕ, zero, suc, IsTrue, List, [], ◌∷◌, length, take, refl, sym, ◌∙◌, ap, subst, arith}
 use Rattle.std.proofs.Math.Nat.{mul_assoc, add-mul, mul-lt-mul_of_pos_right}
 use Rattle.std.proofs.lemmas.Nat.{shr_below}
-use Rattle.dspec_record.specs.Layout.{width, rounded_up, after, fields_end, layout}
-use Rattle.dspec_record.specs.RecordText.{little_endian, fields_text, fits}
-use Rattle.dspec_record.specs.Packing.{number_of_words, cuts, packed_record, value_number, IsClean}
-use Rattle.dspec_record.specs.Laws.Layouts.{rounded_up-ge, fields_end-ge}
+use Rattle.dspec_record.specs.Words.{width, rounded_up, after, fields_end, layout, little_endian, fields_text, fits, number_of_words, cuts, packed_record, value_number, IsClean, rounded_up-ge}
+use Rattle.dspec_record.specs.Words.{fields_end-ge, Field, Four}
 use Rattle.dspec_record.proofs.LittleEndian.{pow_pos256, pow-add256, shifted-back, little_endian-parts, take-little_endian}
 use Rattle.dspec_record.proofs.Cutting.{packed, cuts-packed, packed-text, packed-below}
-use Rattle.dspec_record.specs.declared.field.Field.{Field}
-use Rattle.dspec_record.specs.declared.field.Field.TheVariants.{Four}
 use Rattle.dspec_record.specs.declared.header.Header.TheVariants as header
 
 -- values at their places, as one number

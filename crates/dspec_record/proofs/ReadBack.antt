@@ -3,14 +3,8 @@ use Rattle.std.proofs.Common.{◌≡◌, ◌≤◌, ◌<◌, ◌+◌, ◌-◌, �
 use Rattle.std.proofs.lemmas.List.{append_assoc, append-nil, take_at, drop_at, drop_more, length-replicate, drop-drop, length-append}
 use Rattle.std.proofs.lemmas.List.{length-take, length-drop, take-append-drop, drop-take, take-take, take_rest, drop_all}
 use Rattle.std.proofs.lemmas.Bool.{lt-ltb}
-use Rattle.dspec_record.specs.Record.{Record}
-use Rattle.dspec_record.specs.Layout.{width, rounded_up, after, fields_start, fields_end, layout}
-use Rattle.dspec_record.specs.RecordText.{little_endian, gap, stamp_text, header_text, fields_text, record_text, stamp_fits, fits, IsRead}
-use Rattle.dspec_record.specs.Laws.Layouts.{rounded_up-ge, fields_end-ge, fields_start-ge, layout-IsShape}
-use Rattle.dspec_record.specs.Laws.Texts.{both, length-little_endian, length-header_text}
-use Rattle.dspec_record.specs.declared.field.Field.{Field}
-use Rattle.dspec_record.specs.declared.field.Field.TheVariants.{One, Four}
-use Rattle.dspec_record.specs.declared.header.Header.{Header}
+use Rattle.dspec_record.specs.Words.{Record, width, rounded_up, after, fields_start, fields_end, layout, little_endian, gap, stamp_text, header_text, fields_text, record_text, stamp_fits, fits}
+use Rattle.dspec_record.specs.Words.{IsRead, rounded_up-ge, fields_end-ge, fields_start-ge, layout-IsShape, both, length-little_endian, length-header_text, Field, One, Four, Header}
 
 -- the first values are read, up to `end`: with any further values the text goes on as theirs does, and any
 -- record that has the text has further values whose text is what is left

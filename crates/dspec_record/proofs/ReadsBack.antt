@@ -1,12 +1,8 @@
 -- What reading answers where the bytes begin with the text of an accepted record: that record.
 use Rattle.std.proofs.Common.{◌≡◌, ◌≤◌, ◌++◌, inl, inr, ℕ, Bool, IsTrue, List, length, take, drop, Option, Some, None, Result, Ok, Err, sym, ◌∙◌, ap, arith}
 use Rattle.std.proofs.lemmas.List.{take-append-drop, length-append, take-append-le, take_at}
-use Rattle.dspec_record.specs.Record.{Record}
-use Rattle.dspec_record.specs.Reading.{IsShape, IsTextOf, front_epid, Answers}
+use Rattle.dspec_record.specs.Words.{Record, IsShape, IsTextOf, front_epid, Answers, Shape, ReadKind, Truncated, UnknownEpid, Misaligned, GapNotZero, Padding}
 use Rattle.dspec_record.proofs.Fronts.{front_epid-is}
-use Rattle.dspec_record.specs.declared.field.Shape.{Shape}
-use Rattle.dspec_record.specs.declared.reading.ReadKind.{ReadKind}
-use Rattle.dspec_record.specs.declared.reading.ReadKind.TheVariants.{Truncated, UnknownEpid, Misaligned, GapNotZero, Padding}
 
 -- the laws of a schema
 pub record KeepsLaws (shape : ℕ → Option Shape) (accepted : Record → Bool) (text : Record → List ℕ) : Type 0 where

@@ -1,10 +1,7 @@
 -- The word of fields, one field more at a time.
 use Rattle.std.proofs.Common.{◌≡◌, ◌≤◌, ◌+◌, ◌*◌, ◌-◌, ℕ, zero, suc, List, ◌∷◌, length, get_or, drop, sym, ap, subst, arith}
 use Rattle.std.proofs.Math.Seq.{drop-cons}
-use Rattle.dspec_record.specs.Layout.{width}
-use Rattle.dspec_record.specs.declared.field.Field.{Field}
-use Rattle.dspec_record.specs.declared.field.Field.TheVariants.{One}
-use Rattle.dspec_record.specs.Packing.{signature_of}
+use Rattle.dspec_record.specs.Words.{width, Field, One, signature_of}
 
 -- the field before the others
 pub signature-more : (fs : List Field) (rest : ℕ) → 1 ≤ rest → rest ≤ length fs → signature_of (drop rest fs) * 16 + width (get_or fs (rest - 1) One) ≡ signature_of (drop (rest - 1) fs)

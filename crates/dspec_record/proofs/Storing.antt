@@ -3,15 +3,10 @@ use Rattle.std.proofs.Common.{◌≡◌, ◌≤◌, ◌<◌, ◌+◌, ◌-◌, �
 use Rattle.std.proofs.Math.Seq.{take-append-add, take-take}
 use Rattle.std.proofs.lemmas.List.{length-append, append_assoc, append-nil, take_more}
 use Rattle.std.proofs.lemmas.List.Elements.{All-head, All-tail}
-use Rattle.dspec_record.specs.Layout.{fields_end, layout}
-use Rattle.dspec_record.specs.RecordText.{little_endian, fields_text, record_text}
-use Rattle.dspec_record.specs.Packing.{number_of_words, cuts, packed_record, bytes_of_words, IsClean}
-use Rattle.dspec_record.specs.Laws.Layouts.{rounded_up-ge, fields_end-ge, size-stamped}
-use Rattle.dspec_record.specs.Laws.Texts.{append-same}
+use Rattle.dspec_record.specs.Words.{fields_end, layout, little_endian, fields_text, record_text, number_of_words, cuts, packed_record, bytes_of_words, IsClean, rounded_up-ge, fields_end-ge}
+use Rattle.dspec_record.specs.Words.{size-stamped, append-same, Field, Four}
 use Rattle.dspec_record.proofs.LittleEndian.{little_endian-append, little_endian-parts}
 use Rattle.dspec_record.proofs.Cutting.{moved}
-use Rattle.dspec_record.specs.declared.field.Field.{Field}
-use Rattle.dspec_record.specs.declared.field.Field.TheVariants.{Four}
 use Rattle.dspec_record.specs.declared.header.Header.TheVariants as header
 
 -- words stored one behind the other are their number's bytes

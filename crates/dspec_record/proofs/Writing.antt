@@ -1,16 +1,9 @@
 -- A record's text while it is written.
 use Rattle.std.proofs.Common.{◌≡◌, ◌≤◌, ◌-◌, ◌++◌, ◌+◌, ◌^◌, ℕ, ltb, IsTrue, List, [], ◌∷◌, length, take, drop, replicate, refl, sym, ◌∙◌, ap, arith}
 use Rattle.std.proofs.lemmas.List.{append_assoc}
-use Rattle.dspec_record.specs.Record.{Record}
-use Rattle.dspec_record.specs.Layout.{width, rounded_up, after, fields_start, fields_end, layout}
-use Rattle.dspec_record.specs.RecordText.{little_endian, gap, header_text, fields_text, record_text, fits}
-use Rattle.dspec_record.specs.Writing.{IsClearBehind}
+use Rattle.dspec_record.specs.Words.{Record, width, rounded_up, after, fields_start, fields_end, layout, little_endian, gap, header_text, fields_text, record_text, fits, IsClearBehind}
+use Rattle.dspec_record.specs.Words.{rounded_up-ge, fields_end-ge, layout-IsShape, both, Field, Four, Header}
 use Rattle.dspec_record.proofs.Clearing.{clear-part, take-add}
-use Rattle.dspec_record.specs.Laws.Layouts.{rounded_up-ge, fields_end-ge, layout-IsShape}
-use Rattle.dspec_record.specs.Laws.Texts.{both}
-use Rattle.dspec_record.specs.declared.field.Field.{Field}
-use Rattle.dspec_record.specs.declared.field.Field.TheVariants.{Four}
-use Rattle.dspec_record.specs.declared.header.Header.{Header}
 
 -- `out` holds the text up to `end`, with zeros behind it, and these fields and values are still to be written
 pub record IsWriting (text : List ℕ) (size end : ℕ) (out : List ℕ) (fs : List Field) (vs : List ℕ) : Type 0 where

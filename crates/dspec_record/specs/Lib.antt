@@ -13,3 +13,4 @@ pub mod EnablingRows
 pub mod FirstWords
 pub mod PackedFields
 pub mod Laws
+pub mod Words

@@ -3,15 +3,11 @@ use Prim.Native.Nat.{zero, suc}
 use Rattle.std.proofs.Common.{◌≡◌, ◌<◌, ◌≤◌, ◌+◌, ◌++◌, ◌∷◌, [], ℕ, Bool, List, Option, Some, None, length, map}
 use Rattle.std.proofs.Common.{Result, Ok, Err, IfOk, take, drop, drop-cons, get_or, add-one, refl, sym, ap, ◌∙◌, subst, arith}
 use Rattle.std.proofs.lemmas.List.{take_more, map-append}
-use Rattle.dspec_record.specs.Record.{Record}
+use Rattle.dspec_replay.specs.Words.{Record, start_fault, EndedCall, SessionFault, Play, NoText, NoWholeCall, IsDue, call_that_ended, first_refusal, first_of, schedule_refusal, setup_refusal}
+use Rattle.dspec_replay.specs.Words.{turn_refusal, whole_call_of}
 use Rattle.dspec_deeds.specs.declared.calls.Turn.{Turn}
 use Rattle.dspec_deeds.specs.declared.config.Config.{Config}
-use Rattle.dspec_deeds.specs.Ranges.{start_fault}
 use Rattle.dspec_interleaving.specs.declared.outcome.PlayFault.TheVariants as play_fault
-use Rattle.dspec_interleaving.specs.Plays.{EndedCall}
-use Rattle.dspec_replay.specs.declared.session_fault.SessionFault.{SessionFault}
-use Rattle.dspec_replay.specs.declared.session_fault.SessionFault.TheVariants.{Play, NoText, NoWholeCall}
-use Rattle.dspec_replay.specs.Replayed.{IsDue, call_that_ended, first_refusal, first_of, schedule_refusal, setup_refusal, turn_refusal, whole_call_of}
 
 -- what is due here is due there
 pub due_by : (a b : Option SessionFault) (h : SessionFault) → ((x : SessionFault) → a ≡ Some x → b ≡ Some x) → IsDue a h → IsDue b h

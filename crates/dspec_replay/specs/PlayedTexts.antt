@@ -1,16 +1,10 @@
 -- Cited by calls. What the play of a schedule is, and what is told of a text that says none, or whose play is refused.
 use Rattle.std.specs.Prelude.{◌≡◌, ℕ, ◌⊎◌, Bool, List, reverse, Option, Some, None, Ok, Err}
-use Rattle.dspec_record.specs.Record.{Record}
-use Rattle.dspec_record.specs.EnablingRows.{EnabledRows}
+use Rattle.dspec_replay.specs.Words.Outside.{Record, EnabledRows, FieldTable, default_fields, enabled, table_shape, table_accepts, reports, streams, IsLegal, answers_of, deeds_of, play_fault}
+use Rattle.dspec_replay.specs.Words.Outside.{worn_count, Plan, header_of, schedule_of, fault_as_told}
 use Rattle.dspec_record.specs.declared.field.Shape.{Shape}
-use Rattle.dspec_record.specs.Schemas.{FieldTable, default_fields, enabled, table_shape, table_accepts}
-use Rattle.dspec_deeds.specs.Closes.{reports, streams}
-use Rattle.dspec_deeds.specs.Legal.{IsLegal}
 use Rattle.dspec_interleaving.specs.declared.outcome.Outcome.{Outcome}
 use Rattle.dspec_interleaving.specs.declared.outcome.PlayFault.{PlayFault}
-use Rattle.dspec_interleaving.specs.Plays.{answers_of, deeds_of, play_fault, worn_count}
-use Rattle.dspec_schedule.specs.Reading.{Plan, header_of, schedule_of}
-use Rattle.dspec_schedule.specs.Schedules.{fault_as_told}
 use Rattle.dspec_schedule.specs.declared.fault.ScheduleFault.{ScheduleFault}
 use Rattle.dspec_schedule.specs.declared.fault.ScheduleFault.TheVariants.{Line, Memory}
 

@@ -1,8 +1,6 @@
 -- Cited by calls. Schedules of whole calls on a session: which call a turn is, and why a turn or a whole schedule isn't played.
 use Rattle.std.specs.Prelude.{ℕ, ◌≡◌, ◌+◌, Bool, nat_lt, true, List, [], ◌∷◌, length, Option, Some, None, if◌then◌else◌}
-use Rattle.dspec_record.specs.EnablingRows.{EnabledRows}
-use Rattle.dspec_record.specs.Record.{Record}
-use Rattle.dspec_record.specs.Schemas.{default_fields, enabled, table_accepts}
+use Rattle.dspec_replay.specs.Words.Outside.{EnabledRows, Record, default_fields, enabled, table_accepts, start_fault, record_passes, EndedCall}
 use Rattle.dspec_record.specs.declared.header.Header.{Header}
 use Rattle.dspec_deeds.specs.declared.calls.Actor.{Actor}
 use Rattle.dspec_deeds.specs.declared.calls.Actor.TheVariants as actor
@@ -14,12 +12,9 @@ use Rattle.dspec_deeds.specs.declared.calls.Turn.{Turn}
 use Rattle.dspec_deeds.specs.declared.calls.Turn.TheVariants.{RunCpu, RunConsumer}
 use Rattle.dspec_deeds.specs.declared.config.Config.{Config}
 use Rattle.dspec_deeds.specs.declared.config.StartFault.{StartFault}
-use Rattle.dspec_deeds.specs.Ranges.{start_fault}
 use Rattle.dspec_interleaving.specs.declared.outcome.PlayFault.TheVariants as play_fault
-use Rattle.dspec_interleaving.specs.Calls.{record_passes}
-use Rattle.dspec_interleaving.specs.Plays.{EndedCall}
 use Rattle.dspec_replay.specs.declared.session_fault.SessionFault.{SessionFault}
-use Rattle.dspec_replay.specs.declared.playing.Playing.{Playing}
+use Rattle.dspec_replay.specs.declared.playing.SessionReplay.{SessionReplay}
 use Rattle.dspec_replay.specs.declared.session_fault.SessionFault.TheVariants.{Play, NoText, NoWholeCall}
 
 -- who makes the whole call that a turn is, and which call it is
@@ -80,6 +75,6 @@ abbrev pub IsSudden : SessionFault → Type 0
 IsSudden h = (due : Option SessionFault) → IsDue due h
 
 -- what a call leaves of a session that is played on: its schema, and how many CPUs it has
-pub record IsSamePlay {S : Type 0} (old new : Playing S) : Type 0 where
+pub record IsSamePlay {S : Type 0} (old new : SessionReplay S) : Type 0 where
   pub schema : new.schema ≡ old.schema
   pub cpus : length new.session.cpus.items ≡ length old.session.cpus.items

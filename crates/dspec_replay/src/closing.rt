@@ -2,7 +2,7 @@ ghost use Rattle.std.specs.Prelude.{◌≡◌, ◌<◌, length, IfErr, IfOk};
 ghost use Rattle.dspec_session_core.specs.Sessions.{IsSession};
 ghost use Rattle.dspec_replay.specs.Replayed.{IsSudden};
 
-use crate::playing::Playing;
+use crate::playing::SessionReplay;
 use crate::session_fault::SessionFault;
 use crate::taken::Basket;
 use crate::texts::Replayed;
@@ -33,7 +33,7 @@ fn read_left<S: Schema>(
     Ok(())
 }
 
-impl<S: Schema> Playing<S> {
+impl<S: Schema> SessionReplay<S> {
     /// Ends the session, and gives what a play leaves, but for the deeds, and the texts: what is left of each CPU is read behind what
     /// was taken.
     pub fn close(self, alloc: Global) -> Result<Replayed, SessionFault>

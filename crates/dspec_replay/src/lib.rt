@@ -35,5 +35,5 @@ pub use played::{Played, play_text};
 pub use replaying::{replay, replay_schedule};
 pub use session_fault::SessionFault;
 pub use showing::printed_with_bytes;
-pub use texts::{Origin, Replayed, Text};
+pub use texts::{BufferOrigin, ReadBuffer, Replayed};
 pub use whole_calls::{Uncalled, call_cpu, is_accepted, meet_all, run_cpu};

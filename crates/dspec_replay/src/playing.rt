@@ -18,16 +18,20 @@ use std::alloc::Global;
 /// A schedule that is played on a session from one thread: the session, its schema, what was taken, and the calls that have
 /// ended.
 #[derive(Drop)]
-pub struct Playing<S: Schema> {
+pub struct SessionReplay<S: Schema> {
     pub schema: S,
     pub session: Session<S>,
     pub basket: Basket,
     pub answers: Series<(Actor, Op, Answer)>,
 }
 
-impl<S: Schema> Playing<S> {
+impl<S: Schema> SessionReplay<S> {
     /// A session that has just begun.
-    pub fn start(alloc: Global, config: &Config, schema: S) -> Result<Playing<S>, SessionFault>
+    pub fn start(
+        alloc: Global,
+        config: &Config,
+        schema: S,
+    ) -> Result<SessionReplay<S>, SessionFault>
         ensures session { IfOk result (λ p. IsSession p.schema p.session) }
         ensures schema { IfOk result (λ p. p.schema ≡ schema) }
         ensures cpus { IfOk result (λ p. length p.session.cpus.items ≡ config.now.cpus) }
@@ -40,7 +44,7 @@ impl<S: Schema> Playing<S> {
             Err(StartFault::Memory) => return Err(SessionFault::Play(PlayFault::Memory)),
             Err(fault) => return Err(SessionFault::Play(PlayFault::Setup(fault))),
         };
-        Ok(Playing {
+        Ok(SessionReplay {
             schema,
             session,
             basket: Basket::new(alloc, config.cpus)?,

@@ -3,7 +3,7 @@ ghost use Rattle.dspec_schedule.specs.Reading.{header_of};
 ghost use Rattle.dspec_schedule.specs.Schedules.{plan_of};
 ghost use Rattle.dspec_replay.specs.Replayed.{IsDue, accepted_in, call_that_ended, schedule_refusal, whole_call_of};
 
-use crate::playing::Playing;
+use crate::playing::SessionReplay;
 use crate::session_fault::SessionFault;
 use crate::texts::Replayed;
 use dspec_deeds::{Config, Turn};
@@ -25,7 +25,7 @@ pub fn replay<S: Schema>(
     ensures allowed { IfOk result (λ _. schedule_refusal (S.accepted schema) config.now turns.now ≡ None) }
     ensures refused { IfErr result (IsDue (schedule_refusal (S.accepted schema) config.now turns.now)) }
 {
-    let mut playing = Playing::start(alloc, config, schema)?;
+    let mut playing = SessionReplay::start(alloc, config, schema)?;
     for (number, turn) in turns.iter().enumerate() {
         playing.turn(number, *turn)?;
     }

@@ -4,7 +4,7 @@ ghost use Rattle.std.specs.List.{enumerate_from, flat_map};
 ghost use Rattle.dspec_schedule.specs.Printed.{printed_text, records_text};
 ghost use Rattle.dspec_replay.specs.Buffers.{all_buffers, buffer_front, buffer_lines, bytes_digits, bytes_line, cpu_buffers};
 
-use crate::texts::{Origin, Replayed, Text};
+use crate::texts::{BufferOrigin, ReadBuffer, Replayed};
 use dspec_interleaving::Series;
 use dspec_record::{Header, Rec};
 use dspec_schedule::{print_record, printed};
@@ -25,7 +25,11 @@ pub fn printed_with_bytes(
 }
 
 /// The buffers of all CPUs.
-fn print_all(text: &mut String, header: Header, all: &[Series<Text>]) -> Result<(), AllocError>
+fn print_all(
+    text: &mut String,
+    header: Header,
+    all: &[Series<ReadBuffer>],
+) -> Result<(), AllocError>
     ensures { OnOk result (string_bytes text.new ≡ string_bytes text.old ++ all_buffers header all.now) }
 {
     for (cpu, buffers) in all.iter().enumerate() {
@@ -39,7 +43,7 @@ fn print_buffers(
     text: &mut String,
     header: Header,
     cpu: usize,
-    buffers: &Series<Text>,
+    buffers: &Series<ReadBuffer>,
 ) -> Result<(), AllocError>
     ensures { OnOk result (string_bytes text.new ≡ string_bytes text.old ++ cpu_buffers header (cpu, buffers.now)) }
 {
@@ -54,7 +58,7 @@ fn print_buffer(
     text: &mut String,
     header: Header,
     cpu: usize,
-    buffer: &Text,
+    buffer: &ReadBuffer,
 ) -> Result<(), AllocError>
     ensures { OnOk result (string_bytes text.new ≡ string_bytes text.old ++ buffer_lines header cpu buffer.now) }
 {
@@ -64,13 +68,13 @@ fn print_buffer(
 }
 
 /// What stands before a buffer's records.
-fn print_front(text: &mut String, cpu: usize, buffer: &Text) -> Result<(), AllocError>
+fn print_front(text: &mut String, cpu: usize, buffer: &ReadBuffer) -> Result<(), AllocError>
     ensures { OnOk result (string_bytes text.new ≡ string_bytes text.old ++ buffer_front cpu buffer.now) }
 {
     let (drops, count) = (buffer.drops, buffer.records.len());
     match buffer.origin {
-        Origin::Batch => write!(text, "batch cpu {cpu} drops {drops} records {count}:"),
-        Origin::Rest => write!(text, "rest cpu {cpu} drops {drops} records {count}:"),
+        BufferOrigin::Batch => write!(text, "batch cpu {cpu} drops {drops} records {count}:"),
+        BufferOrigin::Rest => write!(text, "rest cpu {cpu} drops {drops} records {count}:"),
     }
 }
 

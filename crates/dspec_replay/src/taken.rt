@@ -3,7 +3,7 @@ ghost use Rattle.dspec_replay.specs.Buffers.{KeepsBufferText};
 ghost use Rattle.dspec_replay.specs.Replayed.{IsSudden};
 
 use crate::session_fault::SessionFault;
-use crate::texts::{Origin, Text};
+use crate::texts::{BufferOrigin, ReadBuffer};
 use dspec_buffer::read_all;
 use dspec_deeds::Answer;
 use dspec_interleaving::Series;
@@ -19,7 +19,7 @@ struct Taken {
     /// The records of all batches, read back from their texts.
     stream: Series<Rec>,
     /// The texts.
-    texts: Series<Text>,
+    texts: Series<ReadBuffer>,
 }
 
 /// What the consumer took, CPU by CPU.
@@ -31,19 +31,19 @@ pub struct Basket {
 
 /// The records and the buffers of each CPU.
 #[derive(Drop)]
-pub struct Contents {
+pub struct ReplayContents {
     pub streams: Series<Series<Rec>>,
-    pub texts: Series<Series<Text>>,
+    pub texts: Series<Series<ReadBuffer>>,
 }
 
 /// Reads the records of a batch back, behind those before, keeps its text, and answers what taking it does.
 fn read_back<S: Schema>(
     alloc: Global,
     schema: &S,
-    origin: Origin,
+    origin: BufferOrigin,
     batch: &Batch,
     stream: &mut Series<Rec>,
-    texts: &mut Series<Text>,
+    texts: &mut Series<ReadBuffer>,
 ) -> Result<Answer, SessionFault>
     ensures refused { IfErr result IsSudden }
     ensures kept { OnOk result (KeepsBufferText origin batch.now texts.old texts.new) }
@@ -59,7 +59,7 @@ fn read_back<S: Schema>(
         own.push(rec)?;
         count = count.saturating_add(1);
     }
-    texts.push(Text::of(alloc, origin, batch, own)?)?;
+    texts.push(ReadBuffer::of(alloc, origin, batch, own)?)?;
     Ok(Answer::Took {
         drops: batch.drops,
         from,
@@ -94,7 +94,14 @@ impl Basket {
             return Ok(Answer::TookNone);
         };
         let Taken { out, stream, texts } = taken;
-        let answer = read_back(self.alloc, schema, Origin::Batch, &batch, stream, texts)?;
+        let answer = read_back(
+            self.alloc,
+            schema,
+            BufferOrigin::Batch,
+            &batch,
+            stream,
+            texts,
+        )?;
         out.push(batch)?;
         Ok(answer)
     }
@@ -112,7 +119,7 @@ impl Basket {
             return Ok(());
         };
         let Taken { stream, texts, .. } = taken;
-        read_back(self.alloc, schema, Origin::Rest, batch, stream, texts)?;
+        read_back(self.alloc, schema, BufferOrigin::Rest, batch, stream, texts)?;
         Ok(())
     }
 
@@ -126,7 +133,7 @@ impl Basket {
     }
 
     /// All that was read of each CPU.
-    pub fn contents(self) -> Result<Contents, SessionFault>
+    pub fn contents(self) -> Result<ReplayContents, SessionFault>
         ensures { IfErr result IsSudden }
     {
         let mut streams = Series::new(self.alloc);
@@ -135,6 +142,6 @@ impl Basket {
             streams.push(taken.stream)?;
             texts.push(taken.texts)?;
         }
-        Ok(Contents { streams, texts })
+        Ok(ReplayContents { streams, texts })
     }
 }

@@ -8,7 +8,7 @@ use std::alloc::{AllocError, Global};
 
 /// How a principal buffer came to be read.
 #[derive(Clone, Copy, Debug, PartialEq, Eq)]
-pub enum Origin {
+pub enum BufferOrigin {
     /// The consumer took it as a batch.
     Batch,
     /// It was left at the end: the batch that was sealed and not taken, or the last buffer.
@@ -17,9 +17,9 @@ pub enum Origin {
 
 /// A principal buffer that was read: its bytes, and the records that they are the text of.
 #[derive(Debug, Drop)]
-pub struct Text {
+pub struct ReadBuffer {
     /// How it came.
-    pub origin: Origin,
+    pub origin: BufferOrigin,
     /// How many reservations it refused.
     pub drops: u64,
     /// Its records, in order.
@@ -28,20 +28,20 @@ pub struct Text {
     pub bytes: Vec<u8>,
 }
 
-impl Text {
+impl ReadBuffer {
     /// The drops and the bytes of a batch, which has these records.
     pub fn of(
         alloc: Global,
-        origin: Origin,
+        origin: BufferOrigin,
         batch: &Batch,
         records: Series<Rec>,
-    ) -> Result<Text, AllocError>
+    ) -> Result<ReadBuffer, AllocError>
         ensures text { IfOk result (IsTextOfBatch origin batch.now) }
         ensures records { IfOk result (λ text. text.records ≡ records) }
     {
         let mut bytes = Vec::new(alloc);
         bytes.extend_from_slice(batch.buffer.bytes())?;
-        Ok(Text {
+        Ok(ReadBuffer {
             origin,
             drops: batch.drops,
             records,
@@ -57,5 +57,5 @@ pub struct Replayed {
     /// The answers, the streams and the reports.
     pub outcome: Outcome,
     /// The buffers of each CPU.
-    pub texts: Series<Series<Text>>,
+    pub texts: Series<Series<ReadBuffer>>,
 }

@@ -1,6 +1,6 @@
 use crate::answers::{decision_in, identifier_in};
-use crate::flaws::{Checked, Flaw, Kind};
-use crate::logging::Called;
+use crate::flaws::{Checked, Flaw, FlawKind};
+use crate::logging::LoggedCall;
 use dspec_deeds::{Answer, Spoken};
 use std::alloc::{AllocError, Global};
 use std::collections::BTreeMap;
@@ -24,7 +24,7 @@ pub struct Blocks {
 
 impl Blocks {
     /// What a log tells. It refuses a decision that tells of a block of another size.
-    pub fn read(alloc: Global, cpu: u32, calls: &[Called]) -> Checked<Blocks> {
+    pub fn read(alloc: Global, cpu: u32, calls: &[LoggedCall]) -> Checked<Blocks> {
         let mut blocks = Blocks {
             all: BTreeMap::new(alloc),
         };
@@ -35,7 +35,7 @@ impl Blocks {
     }
 
     /// One call more.
-    fn note(&mut self, alloc: Global, cpu: u32, number: usize, called: &Called) -> Checked<()> {
+    fn note(&mut self, alloc: Global, cpu: u32, number: usize, called: &LoggedCall) -> Checked<()> {
         let Some(id) = identifier_in(called.op) else {
             return Ok(());
         };
@@ -46,7 +46,7 @@ impl Blocks {
         if let Some((_, size)) = decision_in(called.answer) {
             let due = self.decide(alloc, raw, number, called.answer)?;
             if u64::from(size) != due {
-                let flaw = Flaw::new(Kind::BlockCount, cpu).at(number).of(id);
+                let flaw = Flaw::new(FlawKind::BlockCount, cpu).at(number).of(id);
                 return Err(flaw.with(u64::from(size), due).into());
             }
         }

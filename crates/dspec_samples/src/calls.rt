@@ -1,9 +1,9 @@
 use crate::answers::{
     decision_in, identifier_in, is_granted, is_kept, is_refused, is_stopped, is_void, is_worn,
 };
-use crate::flaws::{Checked, Flaw, Kind};
+use crate::flaws::{Checked, Flaw, FlawKind};
 use crate::identifiers::Identifiers;
-use crate::logging::Called;
+use crate::logging::LoggedCall;
 use dspec_deeds::{Answer, Config, CpuOp, Decided, Traced};
 use std::alloc::Global;
 use std::collections::BTreeSet;
@@ -22,33 +22,33 @@ struct Standing {
 
 impl Standing {
     /// Once a call was stopped all are, and those are worn that come behind the most calls. A service is neither.
-    fn check_bounds(&mut self, called: &Called, config: &Config) -> Result<(), Kind> {
+    fn check_bounds(&mut self, called: &LoggedCall, config: &Config) -> Result<(), FlawKind> {
         if called.op == CpuOp::Service {
             return Ok(());
         }
         if is_worn(called.answer) != (self.made >= config.max_calls) {
-            return Err(Kind::Worn);
+            return Err(FlawKind::Worn);
         }
         self.made = self.made.saturating_add(1);
         if is_worn(called.answer) {
             return Ok(());
         }
         if self.stopped && !is_stopped(called.answer) {
-            return Err(Kind::AfterStop);
+            return Err(FlawKind::AfterStop);
         }
         self.stopped = is_stopped(called.answer);
         Ok(())
     }
 
     /// Under policy fill nothing is kept behind the first refusal.
-    fn check_full(&mut self, called: &Called, config: &Config) -> Result<(), Kind> {
+    fn check_full(&mut self, called: &LoggedCall, config: &Config) -> Result<(), FlawKind> {
         let takes = match called.answer {
             Answer::Traced(Traced::Kept) => true,
             Answer::Decided(Decided::Copied(size)) => size > 0,
             _ => false,
         };
         if takes && self.refused && config.policy.is_fill() {
-            return Err(Kind::AfterFull);
+            return Err(FlawKind::AfterFull);
         }
         self.refused = self.refused || is_refused(called.answer);
         Ok(())
@@ -59,7 +59,7 @@ impl Standing {
 pub fn check_calls(
     alloc: Global,
     cpu: u32,
-    calls: &[Called],
+    calls: &[LoggedCall],
     config: &Config,
     identifiers: &Identifiers,
 ) -> Checked<()> {
@@ -83,7 +83,7 @@ pub fn check_calls(
         if (is_granted(called.answer) || is_kept(called.answer) || decides)
             && standing.closed.contains(&id.raw())
         {
-            return Err(Flaw::new(Kind::Revived, cpu).at(number).of(id).into());
+            return Err(Flaw::new(FlawKind::Revived, cpu).at(number).of(id).into());
         }
         if decides || (is_void(called.answer) && identifiers.is_given(id)) {
             standing.closed.insert(id.raw())?;

@@ -3,10 +3,10 @@ ghost use Rattle.dspec_samples.specs.Balanced.{IsBalanced};
 
 use crate::answers::{is_stopped, is_void, is_worn, record_in};
 use crate::blocks::Blocks;
-use crate::flaws::{Checked, Flaw, Kind, Number};
+use crate::flaws::{Checked, Flaw, FlawKind, Number};
 use crate::identifiers::Identifiers;
-use crate::logging::Called;
-use crate::stories::Stream;
+use crate::logging::LoggedCall;
+use crate::stories::CpuBatches;
 use dspec_deeds::{Answer, Opening, Report, Spoken, Traced};
 use dspec_word::SpecId;
 
@@ -16,7 +16,7 @@ fn more(count: &mut u64) {
 }
 
 /// What a call adds to its CPU's report.
-fn count_call(due: &mut Report, called: &Called) {
+fn count_call(due: &mut Report, called: &LoggedCall) {
     if is_worn(called.answer) {
         more(&mut due.worn);
         return;
@@ -61,7 +61,7 @@ fn count_blocks(due: &mut Report, blocks: &Blocks, identifiers: &Identifiers) {
 
 /// The report that is due, where so many records were found.
 pub fn report_due(
-    calls: &[Called],
+    calls: &[LoggedCall],
     found: u64,
     blocks: &Blocks,
     identifiers: &Identifiers,
@@ -111,11 +111,11 @@ pub fn check_report(cpu: u32, told: &Report, due: &Report) -> Checked<()>
     ensures { OnOk result (IsBalanced told.now) }
 {
     if !is_balanced(told) {
-        return Err(Flaw::new(Kind::Unbalanced, cpu).into());
+        return Err(Flaw::new(FlawKind::Unbalanced, cpu).into());
     }
     for (number, wanted) in numbers(told).iter().zip(numbers(due).iter()) {
         if number.1 != wanted.1 {
-            let flaw = Flaw::new(Kind::Report(number.0), cpu);
+            let flaw = Flaw::new(FlawKind::Report(number.0), cpu);
             return Err(flaw.with(number.1, wanted.1).into());
         }
     }
@@ -125,8 +125,8 @@ pub fn check_report(cpu: u32, told: &Report, due: &Report) -> Checked<()>
 /// Refuses batches whose drops aren't those of the report, and a CPU that settled more than was decided.
 pub fn check_sums(
     cpu: u32,
-    calls: &[Called],
-    stream: &Stream,
+    calls: &[LoggedCall],
+    stream: &CpuBatches,
     report: &Report,
     decided: u64,
 ) -> Checked<()> {
@@ -135,7 +135,7 @@ pub fn check_sums(
         drops = drops.saturating_add(part.drops);
     }
     if drops != report.drops {
-        let flaw = Flaw::new(Kind::AllDrops, cpu);
+        let flaw = Flaw::new(FlawKind::AllDrops, cpu);
         return Err(flaw.with(drops, report.drops).into());
     }
     let mut settled = 0u64;
@@ -145,7 +145,7 @@ pub fn check_sums(
         }
     }
     if settled > decided {
-        let flaw = Flaw::new(Kind::Settled, cpu);
+        let flaw = Flaw::new(FlawKind::Settled, cpu);
         return Err(flaw.with(settled, decided).into());
     }
     Ok(())

@@ -42,7 +42,7 @@ impl fmt::Display for Number {
 
 /// What is wrong.
 #[derive(Clone, Copy, Debug, PartialEq, Eq)]
-pub enum Kind {
+pub enum FlawKind {
     LogMissing,
     GiveBackRefused,
     Unreadable,
@@ -74,48 +74,49 @@ pub enum Kind {
     Report(Number),
 }
 
-impl Kind {
+impl FlawKind {
     /// In words.
     fn words(self) -> &'static str {
         match self {
-            Kind::LogMissing => "its log is missing",
-            Kind::GiveBackRefused => "batches were refused as they were given back",
-            Kind::Unreadable => "a batch can't be read",
-            Kind::OtherCpu => "a batch names another CPU",
-            Kind::Unknown => "a record is there that no call of this CPU offered",
-            Kind::NotKept => "a record is there whose call answered something else than Kept",
-            Kind::Twice => "a record is there twice",
-            Kind::Order => "a record or a block isn't at its place in the order of the calls",
-            Kind::BlockTorn => "a block isn't whole, or not in one piece",
-            Kind::NotCommitted => "a block is there that nobody committed",
-            Kind::LostButThere => "a block is there that its own commit told lost",
-            Kind::TraceMissing => "a record that a trace kept isn't there",
-            Kind::BlockMissing => "a block that its own commit told copied isn't there",
-            Kind::Batches => "not as many batches came as were sealed",
-            Kind::BatchDrops => "a batch tells of fewer drops than its calls were told",
-            Kind::AllDrops => "the drops of the batches aren't those of the report",
-            Kind::GivenTwice => "an identifier was given out twice",
-            Kind::NoSuchSlot => "an identifier was given out that the session doesn't have",
-            Kind::DecidedTwice => "an identifier was decided twice",
-            Kind::NeverGiven => "an identifier that was never given out was spoken to or decided",
-            Kind::VoidUndecided => "an identifier was void that nobody decided",
-            Kind::Revived => "an identifier was open behind a call that found it decided",
-            Kind::AfterStop => "a call behind one that was stopped wasn't",
-            Kind::Worn => "a call was worn too early, or wasn't",
-            Kind::AfterFull => "a record was kept behind a refusal, under policy fill",
-            Kind::BlockCount => "a decision tells of a block of another size",
-            Kind::Settled => "more were settled than were decided",
-            Kind::Unbalanced => "the report's records aren't those offered",
-            Kind::Report(_) => "a number of the report isn't the log's",
+            FlawKind::LogMissing => "its log is missing",
+            FlawKind::GiveBackRefused => "batches were refused as they were given back",
+            FlawKind::Unreadable => "a batch can't be read",
+            FlawKind::OtherCpu => "a batch names another CPU",
+            FlawKind::Unknown => "a record is there that no call of this CPU offered",
+            FlawKind::NotKept => "a record is there whose call answered something else than Kept",
+            FlawKind::Twice => "a record is there twice",
+            FlawKind::Order => "a record or a block isn't at its place in the order of the calls",
+            FlawKind::BlockTorn => "a block isn't whole, or not in one piece",
+            FlawKind::NotCommitted => "a block is there that nobody committed",
+            FlawKind::LostButThere => "a block is there that its own commit told lost",
+            FlawKind::TraceMissing => "a record that a trace kept isn't there",
+            FlawKind::BlockMissing => "a block that its own commit told copied isn't there",
+            FlawKind::Batches => "not as many batches came as were sealed",
+            FlawKind::BatchDrops => "a batch tells of fewer drops than its calls were told",
+            FlawKind::AllDrops => "the drops of the batches aren't those of the report",
+            FlawKind::GivenTwice => "an identifier was given out twice",
+            FlawKind::NoSuchSlot => "an identifier was given out that the session doesn't have",
+            FlawKind::DecidedTwice => "an identifier was decided twice",
+            FlawKind::NeverGiven =>
+                "an identifier that was never given out was spoken to or decided",
+            FlawKind::VoidUndecided => "an identifier was void that nobody decided",
+            FlawKind::Revived => "an identifier was open behind a call that found it decided",
+            FlawKind::AfterStop => "a call behind one that was stopped wasn't",
+            FlawKind::Worn => "a call was worn too early, or wasn't",
+            FlawKind::AfterFull => "a record was kept behind a refusal, under policy fill",
+            FlawKind::BlockCount => "a decision tells of a block of another size",
+            FlawKind::Settled => "more were settled than were decided",
+            FlawKind::Unbalanced => "the report's records aren't those offered",
+            FlawKind::Report(_) => "a number of the report isn't the log's",
         }
     }
 }
 
-impl fmt::Display for Kind {
+impl fmt::Display for FlawKind {
     fn fmt<W: fmt::Write>(&self, f: &mut fmt::Formatter<W>) -> fmt::Result {
         let words = self.words();
         match *self {
-            Kind::Report(number) => write!(f, "{words}: {number}"),
+            FlawKind::Report(number) => write!(f, "{words}: {number}"),
             _ => write!(f, "{words}"),
         }
     }
@@ -124,7 +125,7 @@ impl fmt::Display for Kind {
 /// A contradiction between what the calls answered and what was recorded and reported.
 #[derive(Clone, Copy, Debug, PartialEq, Eq)]
 pub struct Flaw {
-    pub kind: Kind,
+    pub kind: FlawKind,
     pub cpu: u32,
     /// The call of the CPU that it is about, where it is about one.
     pub call: Option<usize>,
@@ -136,7 +137,7 @@ pub struct Flaw {
 
 impl Flaw {
     /// About a CPU alone.
-    pub fn new(kind: Kind, cpu: u32) -> Flaw {
+    pub fn new(kind: FlawKind, cpu: u32) -> Flaw {
         Flaw {
             kind,
             cpu,

@@ -1,6 +1,6 @@
 use crate::answers::{decision_in, identifier_in, is_granted, is_void};
-use crate::flaws::{Checked, Flaw, Kind};
-use crate::logging::Called;
+use crate::flaws::{Checked, Flaw, FlawKind};
+use crate::logging::LoggedCall;
 use crate::stories::Story;
 use dspec_deeds::{Answer, Config, Opening};
 use dspec_word::SpecId;
@@ -9,7 +9,7 @@ use std::collections::BTreeMap;
 
 /// What all logs tell of an identifier.
 #[derive(Clone, Copy, Debug, PartialEq, Eq)]
-struct Fate {
+struct IdentifierHistory {
     given: bool,
     /// The CPUs whose records it was granted, as bits.
     callers: u64,
@@ -20,7 +20,7 @@ struct Fate {
 /// The identifiers of a session, by their numbers.
 #[derive(Drop)]
 pub struct Identifiers {
-    fates: BTreeMap<u64, Fate>,
+    fates: BTreeMap<u64, IdentifierHistory>,
 }
 
 impl Identifiers {
@@ -39,10 +39,10 @@ impl Identifiers {
     }
 
     /// What is known so far of an identifier, or that nothing is.
-    fn fate(&self, id: SpecId) -> Fate {
+    fn fate(&self, id: SpecId) -> IdentifierHistory {
         match self.fates.get(&id.raw()) {
             Some(fate) => *fate,
-            None => Fate {
+            None => IdentifierHistory {
                 given: false,
                 callers: 0,
                 decision: None,
@@ -50,17 +50,22 @@ impl Identifiers {
         }
     }
 
-    fn keep(&mut self, id: SpecId, fate: Fate) -> Result<(), AllocError> {
+    fn keep(&mut self, id: SpecId, fate: IdentifierHistory) -> Result<(), AllocError> {
         self.fates.insert(id.raw(), fate)?;
         Ok(())
     }
 
     /// One call more.
-    fn note(&mut self, cpu: u32, number: usize, called: &Called) -> Checked<()> {
+    fn note(&mut self, cpu: u32, number: usize, called: &LoggedCall) -> Checked<()> {
         if let Answer::Opening(Opening::Id(id)) = called.answer {
             let mut fate = self.fate(id);
             if fate.given {
-                return Err(Flaw::new(Kind::GivenTwice, cpu).at(number).of(id).into());
+                return Err(
+                    Flaw::new(FlawKind::GivenTwice, cpu)
+                        .at(number)
+                        .of(id)
+                        .into(),
+                );
             }
             fate.given = true;
             self.keep(id, fate)?;
@@ -74,7 +79,12 @@ impl Identifiers {
         }
         if let Some((commits, _)) = decision_in(called.answer) {
             if fate.decision.is_some() {
-                return Err(Flaw::new(Kind::DecidedTwice, cpu).at(number).of(id).into());
+                return Err(
+                    Flaw::new(FlawKind::DecidedTwice, cpu)
+                        .at(number)
+                        .of(id)
+                        .into(),
+                );
             }
             fate.decision = Some(commits);
         }
@@ -97,10 +107,10 @@ impl Identifiers {
     }
 
     /// The same of one call.
-    fn check_call(&self, called: &Called, config: &Config) -> Result<(), (Kind, SpecId)> {
+    fn check_call(&self, called: &LoggedCall, config: &Config) -> Result<(), (FlawKind, SpecId)> {
         if let Answer::Opening(Opening::Id(id)) = called.answer {
             if id.slot() == 0 || id.slot() > config.nspec || id.issue() >= config.max_issues {
-                return Err((Kind::NoSuchSlot, id));
+                return Err((FlawKind::NoSuchSlot, id));
             }
         }
         let Some(id) = identifier_in(called.op) else {
@@ -109,10 +119,10 @@ impl Identifiers {
         let fate = self.fate(id);
         let open = is_granted(called.answer) || decision_in(called.answer).is_some();
         if open && !fate.given {
-            return Err((Kind::NeverGiven, id));
+            return Err((FlawKind::NeverGiven, id));
         }
         if is_void(called.answer) && fate.given && fate.decision.is_none() {
-            return Err((Kind::VoidUndecided, id));
+            return Err((FlawKind::VoidUndecided, id));
         }
         Ok(())
     }

@@ -7,7 +7,7 @@
 //! |---|---|
 //! | `setups.rt`, `subject.rt`, `texts.rt` | configurations and the four enablings; the records that are measured; a padded text and its damages |
 //! | `dice.rt` | `Dice`: random numbers of a seed |
-//! | `logging.rt`, `stories.rt`, `answers.rt`, `records.rt` | `Called`, `Log`; `Story`, all that is known of a session that has ended; what an answer says; records with a value of their own |
+//! | `logging.rt`, `stories.rt`, `answers.rt`, `records.rt` | `LoggedCall`, `Log`; `Story`, all that is known of a session that has ended; what an answer says; records with a value of their own |
 //! | `identifiers.rt`, `blocks.rt`, `calls.rt`, `order.rt`, `due.rt`, `checking.rt`, `flaws.rt`, `sums.rt` | the comparisons, `check`, which calls them in turn, contradictions and their texts |
 //! | `made.rt`, `damage_kinds.rt`, `damaging.rt` | a session made up by hand, and its damages, one for each kind of contradiction at the least |
 #![tactic(auto)]
@@ -37,11 +37,11 @@ pub use checking::check;
 pub use damage_kinds::{DAMAGES, Damage};
 pub use damaging::found;
 pub use dice::Dice;
-pub use flaws::{CheckFault, Checked, Flaw, Kind, Number};
-pub use logging::{Called, Log};
+pub use flaws::{CheckFault, Checked, Flaw, FlawKind, Number};
+pub use logging::{Log, LoggedCall};
 pub use records::{KINDS, enable, record_of};
 pub use setups::{four_enablings, sized};
-pub use stories::{Part, Story, Stream};
+pub use stories::{BatchContents, CpuBatches, Story};
 pub use subject::{SUBJECTS, Subject, UNSTAMPED, timed_enablings};
 pub use sums::Sums;
 pub use texts::{PADDED_TEXT, WHOLE_TEXTS, cut_fault, damaged, damages, fault, fault_of, is_read};

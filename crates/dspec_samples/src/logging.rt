@@ -6,7 +6,7 @@ use std::alloc::Global;
 
 /// A call of a CPU, and what it answered.
 #[derive(Clone, Copy, Debug, PartialEq, Eq)]
-pub struct Called {
+pub struct LoggedCall {
     pub op: CpuOp,
     pub answer: Answer,
 }
@@ -14,7 +14,7 @@ pub struct Called {
 /// The calls of a CPU, in order.
 #[derive(Debug, Drop)]
 pub struct Log {
-    pub calls: Series<Called>,
+    pub calls: Series<LoggedCall>,
     /// Whether a call found no room here.
     pub torn: bool,
 }
@@ -44,7 +44,7 @@ impl Log {
             Option<Decided>,
             Option<Served>,
         ) = (None, None, None, None, None);
-        if self.calls.push(Called { op, answer }).is_err() {
+        if self.calls.push(LoggedCall { op, answer }).is_err() {
             self.torn = true;
         }
     }

@@ -1,9 +1,9 @@
 //! A made-up session of two CPUs, by hand: what its calls answered, what came, and what is reported. CPU 0 commits a speculation of
 //! both, and CPU 1 discards another, to which CPU 0 alone has speculated.
 
-use crate::logging::{Called, Log};
+use crate::logging::{Log, LoggedCall};
 use crate::records::record_of;
-use crate::stories::{Part, Story, Stream};
+use crate::stories::{BatchContents, CpuBatches, Story};
 use dspec_deeds::{
     Answer, Config, CpuOp, Decided, Opening, Policy, Report, Served, Spoken, Traced,
 };
@@ -12,7 +12,7 @@ use std::alloc::{AllocError, Global};
 
 /// A call of a CPU whose record, where it offers one, is of the first kind.
 #[derive(Clone, Copy)]
-enum Said {
+enum SampleCall {
     Traced(Traced),
     Opened(SpecId),
     Spoken(SpecId, Spoken),
@@ -22,23 +22,29 @@ enum Said {
 }
 
 /// The call of this number, and its answer.
-fn called(cpu: u32, number: usize, said: Said) -> Called {
+fn called(cpu: u32, number: usize, said: SampleCall) -> LoggedCall {
     let rec = record_of(cpu, number, 0);
     let (op, answer) = match said {
-        Said::Traced(traced) => (CpuOp::Trace(rec), Answer::Traced(traced)),
-        Said::Opened(id) => (CpuOp::Speculation, Answer::Opening(Opening::Id(id))),
-        Said::Spoken(id, spoken) => (CpuOp::Speculate(id, rec), Answer::Spoken(spoken)),
-        Said::Committed(id, size) => (CpuOp::Commit(id), Answer::Decided(Decided::Copied(size))),
-        Said::Discarded(id, size) => (CpuOp::Discard(id), Answer::Decided(Decided::Thrown(size))),
-        Said::Served(sealed, settled) => {
+        SampleCall::Traced(traced) => (CpuOp::Trace(rec), Answer::Traced(traced)),
+        SampleCall::Opened(id) => (CpuOp::Speculation, Answer::Opening(Opening::Id(id))),
+        SampleCall::Spoken(id, spoken) => (CpuOp::Speculate(id, rec), Answer::Spoken(spoken)),
+        SampleCall::Committed(id, size) => (
+            CpuOp::Commit(id),
+            Answer::Decided(Decided::Copied(size)),
+        ),
+        SampleCall::Discarded(id, size) => (
+            CpuOp::Discard(id),
+            Answer::Decided(Decided::Thrown(size)),
+        ),
+        SampleCall::Served(sealed, settled) => {
             (CpuOp::Service, Answer::Served(Served { sealed, settled }))
         }
     };
-    Called { op, answer }
+    LoggedCall { op, answer }
 }
 
 /// The log of a CPU.
-fn log(alloc: Global, cpu: u32, all: &[Said]) -> Log {
+fn log(alloc: Global, cpu: u32, all: &[SampleCall]) -> Log {
     let mut log = Log::new(alloc);
     for said in all {
         let called = called(cpu, log.calls.len(), *said);
@@ -48,12 +54,17 @@ fn log(alloc: Global, cpu: u32, all: &[Said]) -> Log {
 }
 
 /// A batch with the records of these calls.
-fn part(alloc: Global, cpu: u32, drops: u64, numbers: &[usize]) -> Result<Part, AllocError> {
+fn part(
+    alloc: Global,
+    cpu: u32,
+    drops: u64,
+    numbers: &[usize],
+) -> Result<BatchContents, AllocError> {
     let mut records = Vec::new(alloc);
     for number in numbers {
         records.push(record_of(cpu, *number, 0))?;
     }
-    Ok(Part {
+    Ok(BatchContents {
         cpu,
         drops,
         records,
@@ -65,25 +76,25 @@ fn part(alloc: Global, cpu: u32, drops: u64, numbers: &[usize]) -> Result<Part, 
 fn logs(alloc: Global) -> Result<Vec<Log>, AllocError> {
     let (kept, thrown) = (SpecId::of(0, 1), SpecId::of(0, 2));
     let first = [
-        Said::Traced(Traced::Kept),
-        Said::Opened(kept),
-        Said::Spoken(kept, Spoken::Kept),
-        Said::Spoken(kept, Spoken::Kept),
-        Said::Traced(Traced::Dropped),
-        Said::Served(true, 0),
-        Said::Committed(kept, 2),
-        Said::Spoken(kept, Spoken::Void),
-        Said::Traced(Traced::Kept),
-        Said::Opened(thrown),
-        Said::Spoken(thrown, Spoken::Kept),
-        Said::Served(false, 2),
+        SampleCall::Traced(Traced::Kept),
+        SampleCall::Opened(kept),
+        SampleCall::Spoken(kept, Spoken::Kept),
+        SampleCall::Spoken(kept, Spoken::Kept),
+        SampleCall::Traced(Traced::Dropped),
+        SampleCall::Served(true, 0),
+        SampleCall::Committed(kept, 2),
+        SampleCall::Spoken(kept, Spoken::Void),
+        SampleCall::Traced(Traced::Kept),
+        SampleCall::Opened(thrown),
+        SampleCall::Spoken(thrown, Spoken::Kept),
+        SampleCall::Served(false, 2),
     ];
     let second = [
-        Said::Spoken(kept, Spoken::Kept),
-        Said::Traced(Traced::Kept),
-        Said::Served(false, 1),
-        Said::Discarded(thrown, 0),
-        Said::Traced(Traced::Kept),
+        SampleCall::Spoken(kept, Spoken::Kept),
+        SampleCall::Traced(Traced::Kept),
+        SampleCall::Served(false, 1),
+        SampleCall::Discarded(thrown, 0),
+        SampleCall::Traced(Traced::Kept),
     ];
     let mut logs = Vec::new(alloc);
     logs.push(log(alloc, 0, &first))?;
@@ -92,15 +103,15 @@ fn logs(alloc: Global) -> Result<Vec<Log>, AllocError> {
 }
 
 /// What came, and what was left.
-fn streams(alloc: Global) -> Result<Vec<Stream>, AllocError> {
+fn streams(alloc: Global) -> Result<Vec<CpuBatches>, AllocError> {
     let mut first = Vec::new(alloc);
     first.push(part(alloc, 0, 1, &[0])?)?;
     first.push(part(alloc, 0, 0, &[2, 3, 8])?)?;
     let mut second = Vec::new(alloc);
     second.push(part(alloc, 1, 0, &[1, 0, 4])?)?;
     let mut streams = Vec::new(alloc);
-    streams.push(Stream { parts: first })?;
-    streams.push(Stream { parts: second })?;
+    streams.push(CpuBatches { parts: first })?;
+    streams.push(CpuBatches { parts: second })?;
     Ok(streams)
 }
 

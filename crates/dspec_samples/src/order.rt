@@ -1,10 +1,10 @@
 use crate::answers::{is_kept, is_refused, record_in};
 use crate::blocks::{Block, Blocks};
-use crate::flaws::{Checked, Flaw, Kind};
+use crate::flaws::{Checked, Flaw, FlawKind};
 use crate::identifiers::Identifiers;
-use crate::logging::Called;
+use crate::logging::LoggedCall;
 use crate::records::number_of;
-use crate::stories::{Part, Stream};
+use crate::stories::{BatchContents, CpuBatches};
 use dspec_deeds::{Answer, CpuOp, Decided};
 use dspec_record::Rec;
 use dspec_word::SpecId;
@@ -14,9 +14,9 @@ use std::alloc::{AllocError, Global};
 /// as its own CPU's commit is, or else at a service behind the last call that spoke to it: at the first one that the order leaves.
 /// Several blocks of one service come slots upwards. The close is a service behind the last call.
 #[derive(Drop)]
-pub struct Walk<'a> {
+pub struct OrderCheck<'a> {
     cpu: u32,
-    calls: &'a [Called],
+    calls: &'a [LoggedCall],
     /// For each call the first service that isn't before it; the number of calls where there is none.
     services: Vec<usize>,
     /// The services that sealed a batch.
@@ -34,7 +34,7 @@ pub struct Walk<'a> {
 }
 
 /// For each call the first service that isn't before it.
-fn services_of(alloc: Global, calls: &[Called]) -> Result<Vec<usize>, AllocError> {
+fn services_of(alloc: Global, calls: &[LoggedCall]) -> Result<Vec<usize>, AllocError> {
     let mut services = Vec::new(alloc);
     let mut first = calls.len();
     for (number, called) in calls.iter().enumerate().rev() {
@@ -47,9 +47,13 @@ fn services_of(alloc: Global, calls: &[Called]) -> Result<Vec<usize>, AllocError
     Ok(services)
 }
 
-impl<'a> Walk<'a> {
+impl<'a> OrderCheck<'a> {
     /// Before the first record.
-    pub fn new(alloc: Global, cpu: u32, calls: &'a [Called]) -> Result<Walk<'a>, AllocError> {
+    pub fn new(
+        alloc: Global,
+        cpu: u32,
+        calls: &'a [LoggedCall],
+    ) -> Result<OrderCheck<'a>, AllocError> {
         let mut seals = Vec::new(alloc);
         let mut seen = Vec::new(alloc);
         for (number, called) in calls.iter().enumerate() {
@@ -60,7 +64,7 @@ impl<'a> Walk<'a> {
                 }
             }
         }
-        Ok(Walk {
+        Ok(OrderCheck {
             cpu,
             calls,
             services: services_of(alloc, calls)?,
@@ -73,29 +77,29 @@ impl<'a> Walk<'a> {
         })
     }
 
-    fn flaw(&self, kind: Kind) -> Flaw {
+    fn flaw(&self, kind: FlawKind) -> Flaw {
         Flaw::new(kind, self.cpu)
     }
 
     /// Which call's record it is. It refuses one that no call offered, whose call didn't keep it, or that was found before.
     fn find(&mut self, rec: &Rec) -> Checked<(usize, CpuOp)> {
         let Some(number) = number_of(rec) else {
-            return Err(self.flaw(Kind::Unknown).into());
+            return Err(self.flaw(FlawKind::Unknown).into());
         };
         let Some(called) = self.calls.get(number) else {
-            return Err(self.flaw(Kind::Unknown).into());
+            return Err(self.flaw(FlawKind::Unknown).into());
         };
         if record_in(called.op) != Some(*rec) {
-            return Err(self.flaw(Kind::Unknown).at(number).into());
+            return Err(self.flaw(FlawKind::Unknown).at(number).into());
         }
         if !is_kept(called.answer) {
-            return Err(self.flaw(Kind::NotKept).at(number).into());
+            return Err(self.flaw(FlawKind::NotKept).at(number).into());
         }
         let Some(seen) = self.seen.get_mut(number) else {
-            return Err(self.flaw(Kind::Unknown).into());
+            return Err(self.flaw(FlawKind::Unknown).into());
         };
         if *seen {
-            return Err(self.flaw(Kind::Twice).at(number).into());
+            return Err(self.flaw(FlawKind::Twice).at(number).into());
         }
         *seen = true;
         self.found = self.found.saturating_add(1);
@@ -125,7 +129,7 @@ impl<'a> Walk<'a> {
         identifiers: &Identifiers,
     ) -> Checked<()> {
         if identifiers.decision(id) != Some(true) {
-            return Err(self.flaw(Kind::NotCommitted).of(id).into());
+            return Err(self.flaw(FlawKind::NotCommitted).of(id).into());
         }
         let place = match block.decided {
             Some((number, Answer::Decided(Decided::Copied(_)))) => {
@@ -133,7 +137,7 @@ impl<'a> Walk<'a> {
                 number
             }
             Some((number, _)) => {
-                let flaw = self.flaw(Kind::LostButThere).at(number);
+                let flaw = self.flaw(FlawKind::LostButThere).at(number);
                 return Err(flaw.of(id).into());
             }
             None => {
@@ -150,7 +154,7 @@ impl<'a> Walk<'a> {
     /// The walk goes behind a call.
     fn go_to(&mut self, place: usize, until: usize, id: SpecId) -> Checked<()> {
         if place < self.next || place >= until {
-            return Err(self.flaw(Kind::Order).at(place).of(id).into());
+            return Err(self.flaw(FlawKind::Order).at(place).of(id).into());
         }
         self.next = place.saturating_add(1);
         Ok(())
@@ -166,12 +170,12 @@ impl<'a> Walk<'a> {
         identifiers: &Identifiers,
     ) -> Checked<()> {
         let Some(block) = blocks.all.get_mut(&id.raw()) else {
-            return Err(self.flaw(Kind::Unknown).at(number).of(id).into());
+            return Err(self.flaw(FlawKind::Unknown).at(number).of(id).into());
         };
         let within = self.within;
         let place = match within {
             Some((same, place)) if same == id => place,
-            Some(_) => return Err(self.flaw(Kind::BlockTorn).at(number).of(id).into()),
+            Some(_) => return Err(self.flaw(FlawKind::BlockTorn).at(number).of(id).into()),
             None => {
                 self.begin(id, block, until, identifiers)?;
                 block.seen = true;
@@ -179,7 +183,7 @@ impl<'a> Walk<'a> {
             }
         };
         if block.kept.get(place) != Some(&number) {
-            return Err(self.flaw(Kind::BlockTorn).at(number).of(id).into());
+            return Err(self.flaw(FlawKind::BlockTorn).at(number).of(id).into());
         }
         let next = place.saturating_add(1);
         self.within = if next < block.kept.len() {
@@ -203,7 +207,7 @@ impl<'a> Walk<'a> {
             CpuOp::Speculate(id, _) => self.follow(number, id, until, blocks, identifiers),
             _ => {
                 if self.within.is_some() {
-                    return Err(self.flaw(Kind::BlockTorn).at(number).into());
+                    return Err(self.flaw(FlawKind::BlockTorn).at(number).into());
                 }
                 self.serving = None;
                 self.go_to(number, until, SpecId::NONE)
@@ -214,22 +218,22 @@ impl<'a> Walk<'a> {
     /// A batch, whose first call is this one and whose last is before that one.
     fn walk_part(
         &mut self,
-        part: &Part,
+        part: &BatchContents,
         until: usize,
         blocks: &mut Blocks,
         identifiers: &Identifiers,
     ) -> Checked<()> {
         if part.cpu != self.cpu {
-            return Err(self.flaw(Kind::OtherCpu).into());
+            return Err(self.flaw(FlawKind::OtherCpu).into());
         }
         if part.fault.is_some() {
-            return Err(self.flaw(Kind::Unreadable).into());
+            return Err(self.flaw(FlawKind::Unreadable).into());
         }
         for rec in &part.records {
             self.step(rec, until, blocks, identifiers)?;
         }
         if let Some((id, _)) = self.within {
-            return Err(self.flaw(Kind::BlockTorn).of(id).into());
+            return Err(self.flaw(FlawKind::BlockTorn).of(id).into());
         }
         Ok(())
     }
@@ -248,13 +252,13 @@ impl<'a> Walk<'a> {
     /// All that came of the CPU. It refuses what can't be there, or not there, and batches that aren't those sealed.
     pub fn walk(
         &mut self,
-        stream: &Stream,
+        stream: &CpuBatches,
         blocks: &mut Blocks,
         identifiers: &Identifiers,
     ) -> Checked<()> {
         let (came, sealed) = (stream.parts.len(), self.seals.len());
         if came != sealed.saturating_add(1) {
-            let flaw = self.flaw(Kind::Batches);
+            let flaw = self.flaw(FlawKind::Batches);
             return Err(flaw.with(came as u64, sealed as u64 + 1).into());
         }
         let mut from = 0;
@@ -265,7 +269,7 @@ impl<'a> Walk<'a> {
             self.walk_part(part, until, blocks, identifiers)?;
             let due = self.drops_within(from, until);
             if part.drops < due {
-                let flaw = self.flaw(Kind::BatchDrops).at(from);
+                let flaw = self.flaw(FlawKind::BatchDrops).at(from);
                 return Err(flaw.with(part.drops, due).into());
             }
             from = until;
@@ -277,13 +281,13 @@ impl<'a> Walk<'a> {
     fn miss(&self, blocks: &Blocks) -> Checked<()> {
         for (number, (called, seen)) in self.calls.iter().zip(self.seen.iter()).enumerate() {
             if matches!(called.op, CpuOp::Trace(_)) && is_kept(called.answer) && !*seen {
-                return Err(self.flaw(Kind::TraceMissing).at(number).into());
+                return Err(self.flaw(FlawKind::TraceMissing).at(number).into());
             }
         }
         for (raw, block) in blocks.all.iter() {
             if let Some((number, Answer::Decided(Decided::Copied(size)))) = block.decided {
                 if size > 0 && !block.seen {
-                    let flaw = self.flaw(Kind::BlockMissing).at(number);
+                    let flaw = self.flaw(FlawKind::BlockMissing).at(number);
                     return Err(flaw.of(SpecId::from_raw(*raw)).into());
                 }
             }

@@ -5,7 +5,7 @@ use dspec_record::Rec;
 
 /// What the text of a batch says.
 #[derive(Debug, Drop)]
-pub struct Part {
+pub struct BatchContents {
     /// The CPU that the batch names.
     pub cpu: u32,
     /// The refused reservations that it tells of.
@@ -17,9 +17,9 @@ pub struct Part {
 
 /// What came of a CPU.
 #[derive(Debug, Drop)]
-pub struct Stream {
+pub struct CpuBatches {
     /// What its batches say, in order, the last of them what was left in its active buffer.
-    pub parts: Vec<Part>,
+    pub parts: Vec<BatchContents>,
 }
 
 /// All that is known of a session that has ended.
@@ -29,7 +29,7 @@ pub struct Story {
     /// The calls of each CPU.
     pub logs: Vec<Log>,
     /// What came of each CPU, and what was left.
-    pub streams: Vec<Stream>,
+    pub streams: Vec<CpuBatches>,
     pub reports: Vec<Report>,
     /// How many batches were refused when they were given back.
     pub refused: u64,

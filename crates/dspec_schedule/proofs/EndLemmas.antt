@@ -2,7 +2,7 @@
 use Rattle.std.proofs.Common.{◌≡◌, ℕ, ◌+◌, ◌<◌, suc, Bool, true, false, not, if◌then◌else◌, List, [], ◌∷◌, ◌++◌, length, take, drop, get_or, ap, sym, ◌∙◌, refl, arith}
 use Rattle.std.proofs.Math.Seq.{drop-cons}
 use Rattle.std.proofs.lemmas.List.{take-append-drop}
-use Rattle.dspec_schedule.specs.Reading.{without_empty_end}
+use Rattle.dspec_schedule.specs.Words.{without_empty_end}
 
 length-empty_end : (ps : List (List ℕ)) → length (without_empty_end (ps ++ [] ∷ [])) ≡ length ps
 length-empty_end [] = refl

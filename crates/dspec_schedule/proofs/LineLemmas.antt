@@ -3,14 +3,8 @@ use Rattle.std.proofs.Common.{◌≡◌, ℕ, ◌+◌, List, [], ◌∷◌, ◌+
 use Rattle.std.specs.Option.{ok_or}
 use Rattle.std.specs.List.{slice_split}
 use Rattle.std.specs.Prelude.{◌==◌}
-use Rattle.dspec_schedule.specs.declared.fault.LineKind.{LineKind}
-use Rattle.dspec_schedule.specs.declared.fault.LineKind.TheVariants.{NoConfig}
-use Rattle.dspec_schedule.specs.declared.fault.ScheduleFault.{ScheduleFault}
-use Rattle.dspec_schedule.specs.declared.fault.ScheduleFault.TheVariants.{Line, Memory}
-use Rattle.dspec_schedule.specs.declared.schedule.Schedule.{Schedule}
-use Rattle.dspec_schedule.specs.Reading.{Plan, first_line_of, words_read, line_read, lines_read, without_empty_end, lines_of, schedule_of, configured}
-use Rattle.dspec_schedule.specs.Schedules.{IsReadingFault, plan_of}
-use Rattle.dspec_schedule.specs.Steps.{◌>>=◌, at_line}
+use Rattle.dspec_schedule.specs.Words.{LineKind, NoConfig, ScheduleFault, Line, Memory, Schedule, Plan, first_line_of, words_read, line_read, lines_read, without_empty_end, lines_of, schedule_of}
+use Rattle.dspec_schedule.specs.Words.{configured, IsReadingFault, plan_of, ◌>>=◌, at_line}
 
 -- a step that has no fault of its own
 IsReadingFault-then : {A B : Type 0} (line : ℕ) (r : Result A LineKind) (f : A → B) (fault : ScheduleFault)

@@ -5,9 +5,7 @@ use Rattle.std.specs.Str.{all_ascii_digits}
 use Rattle.std.specs.Str.Parse.{IsNumeral, digits_value}
 use Rattle.std.proofs.lemmas.Bool.{ltb-true, lt-ltb}
 use Rattle.std.proofs.lemmas.Str.Parse.{IsNumeralModel, numerals_by_value, tells_all_ascii_digits}
-use Rattle.dspec_schedule.specs.declared.fault.LineKind.{LineKind}
-use Rattle.dspec_schedule.specs.declared.fault.LineKind.TheVariants.{BadNumber}
-use Rattle.dspec_schedule.specs.Words.{is_numeral, number_read}
+use Rattle.dspec_schedule.specs.Words.{LineKind, BadNumber, is_numeral, number_read}
 
 digits_model : IsNumeralModel (λ ds. all_ascii_digits ds ≡ true) (digits_value 10)
 digits_model = numerals_by_value (λ ds. all_ascii_digits ds ≡ true) tells_all_ascii_digits

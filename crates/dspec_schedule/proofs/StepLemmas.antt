@@ -3,7 +3,7 @@ use Rattle.std.proofs.Common.{◌≡◌, ℕ, ◌+◌, ◌<◌, ◌&&◌, List, 
 use Rattle.std.specs.List.{list_all}
 use Rattle.std.proofs.Math.Seq.{take-suc, take-suc-set, drop-cons}
 use Rattle.std.proofs.lemmas.List.{map-append, take-append-drop}
-use Rattle.dspec_schedule.specs.Steps.{◌>>=◌, each}
+use Rattle.dspec_schedule.specs.Words.{◌>>=◌, each}
 
 and_then_ok : {C E : Type 0} (r : Result C E) → r ≡ (r >>= λ y. Ok y)
 and_then_ok (Ok y) = refl

@@ -1,10 +1,9 @@
 -- Cited by calls. What the words of a turn say: a call of an actor, or one step of it.
 use Rattle.std.specs.Prelude.{ℕ, ◌/◌, ◌%◌, ◌==◌, nat_le, nat_lt, ◌&&◌, Bool, List, [], ◌∷◌, length, if◌then◌else◌, bytes_eq, codes, Result, Ok, Err}
 use Rattle.std.specs.List.{position_or_len, before_first, after_first}
-use Rattle.dspec_record.specs.Record.{Record}
+use Rattle.dspec_schedule.specs.Words.Outside.{Record, Speculation}
 use Rattle.dspec_record.specs.declared.header.Header.{Header}
 use Rattle.dspec_record.specs.declared.header.Header.TheVariants as header
-use Rattle.dspec_word.specs.SpecId.{Speculation}
 use Rattle.dspec_deeds.specs.declared.calls.Actor.{Actor}
 use Rattle.dspec_deeds.specs.declared.calls.Actor.TheVariants as actor
 use Rattle.dspec_deeds.specs.declared.calls.CpuOp.{CpuOp}
@@ -15,10 +14,10 @@ use Rattle.dspec_deeds.specs.declared.calls.Turn.{Turn}
 use Rattle.dspec_deeds.specs.declared.calls.Turn.TheVariants.{BeginCpu, BeginConsumer, Step, RunCpu, RunConsumer}
 use Rattle.dspec_schedule.specs.declared.fault.LineKind.{LineKind}
 use Rattle.dspec_schedule.specs.declared.fault.LineKind.TheVariants.{UnknownWord, WordCount}
-use Rattle.dspec_schedule.specs.declared.grammar.Call.{Call}
-use Rattle.dspec_schedule.specs.declared.grammar.Call.TheVariants as call
+use Rattle.dspec_schedule.specs.declared.grammar.ActorCall.{ActorCall}
+use Rattle.dspec_schedule.specs.declared.grammar.ActorCall.TheVariants as call
 use Rattle.dspec_schedule.specs.Steps.{◌>>=◌}
-use Rattle.dspec_schedule.specs.Words.{small_number_of, wide_number_of, numbers_of, only_word, no_word}
+use Rattle.dspec_schedule.specs.LineWords.{small_number_of, wide_number_of, numbers_of, only_word, no_word}
 
 -- `consumer`, or the number of a CPU
 unfoldable pub actor_read : List ℕ → Result Actor LineKind
@@ -126,7 +125,7 @@ consumer_call_read operation words =
       Ok Stop) else Err UnknownWord))))
 
 -- a call of this actor
-unfoldable pub actor_call_of : Header → Actor → List ℕ → List (List ℕ) → Result Call LineKind
+unfoldable pub actor_call_of : Header → Actor → List ℕ → List (List ℕ) → Result ActorCall LineKind
 actor_call_of h (actor.Cpu cpu) operation words = do
   op ← cpu_call_read h operation words
   Ok (call.Cpu cpu op)
@@ -135,7 +134,7 @@ actor_call_of h actor.Consumer operation words = do
   Ok (call.Consumer op)
 
 -- an actor, and a call of it
-unfoldable pub call_read : Header → List (List ℕ) → Result Call LineKind
+unfoldable pub call_read : Header → List (List ℕ) → Result ActorCall LineKind
 call_read h [] = Err WordCount
 call_read h (who ∷ []) = Err WordCount
 call_read h (who ∷ operation ∷ words) = do
@@ -150,11 +149,11 @@ stepping_of (who ∷ words) = do
   none ← no_word words
   Ok a
 
-abbrev pub whole_call : Call → Turn
+abbrev pub whole_call : ActorCall → Turn
 whole_call (call.Cpu cpu op) = RunCpu cpu op
 whole_call (call.Consumer op) = RunConsumer op
 
-abbrev pub begun_call : Call → Turn
+abbrev pub begun_call : ActorCall → Turn
 begun_call (call.Cpu cpu op) = BeginCpu cpu op
 begun_call (call.Consumer op) = BeginConsumer op
 

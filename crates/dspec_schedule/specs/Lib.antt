@@ -4,4 +4,5 @@ pub mod Reading
 pub mod Schedules
 pub mod SetUp
 pub mod Steps
+pub mod LineWords
 pub mod Words

@@ -22,10 +22,9 @@ use Rattle.dspec_deeds.specs.declared.calls.Decided.TheVariants as decided
 use Rattle.dspec_deeds.specs.declared.calls.Served.{Served}
 use Rattle.dspec_deeds.specs.declared.report.Report.{Report}
 use Rattle.dspec_interleaving.specs.declared.outcome.Outcome.{Outcome}
-use Rattle.dspec_record.specs.Record.{Record}
+use Rattle.dspec_schedule.specs.Words.Outside.{Record, id_number}
 use Rattle.dspec_record.specs.declared.header.Header.{Header}
 use Rattle.dspec_record.specs.declared.header.Header.TheVariants as header
-use Rattle.dspec_word.specs.SpecId.{id_number}
 
 -- who makes a call
 abbrev pub actor_text : Actor → List ℕ

@@ -2,7 +2,7 @@
 use Rattle.std.specs.Prelude.{◌≡◌, ℕ, ◌+◌, ◌==◌, ◌&&◌, Bool, true, false, not, List, [], ◌∷◌, ◌++◌}
 use Rattle.std.specs.Prelude.{length, if◌then◌else◌, bytes_eq, codes, Option, Some, None, unwrap_or, is_none, IfSome, Result, Ok, Err}
 use Rattle.std.specs.List.{slice_split, list_all}
-use Rattle.dspec_record.specs.EnablingRows.{EnabledRows}
+use Rattle.dspec_schedule.specs.Words.Outside.{EnabledRows}
 use Rattle.dspec_record.specs.declared.header.Header.{Header}
 use Rattle.dspec_record.specs.declared.header.Header.TheVariants.{One}
 use Rattle.dspec_deeds.specs.declared.config.Config.{Config}
@@ -13,7 +13,7 @@ use Rattle.dspec_schedule.specs.declared.fault.LineKind.TheVariants.{NotPrintabl
 use Rattle.dspec_schedule.specs.Calls.{turn_read}
 use Rattle.dspec_schedule.specs.SetUp.{config_read, enabling_read, header_of_words, policy_of_words}
 use Rattle.dspec_schedule.specs.Steps.{◌>>=◌, at_line}
-use Rattle.dspec_schedule.specs.Words.{is_printable, words_of_line}
+use Rattle.dspec_schedule.specs.LineWords.{is_printable, words_of_line}
 
 -- a schedule: its configuration with its line, the header that a line names, whether a line names the policy, its
 -- enablings where there are any, and its turns with their lines

@@ -1,7 +1,7 @@
 ghost use Rattle.std.specs.Prelude.{◌≡◌, map};
 ghost use Rattle.std.specs.Result.{result_map_both};
 ghost use Rattle.dspec_schedule.specs.Calls.{actor_call_of, actor_read, begun_call, call_read, consumer_call_read, cpu_call_read, cpu_read, epid_of, id_of, record_read, speculate_of, stamped_epid_of, stepping_of, turn_read, whole_call};
-ghost use Rattle.dspec_schedule.specs.Words.{no_word, only_word};
+ghost use Rattle.dspec_schedule.specs.LineWords.{no_word, only_word};
 
 use crate::fault::LineKind;
 use crate::number::{number, small_number};
@@ -14,7 +14,7 @@ const MAX_VALUES: usize = 8;
 
 /// A call with its actor.
 #[derive(Clone, Copy, Debug, PartialEq, Eq)]
-pub enum Call {
+pub enum ActorCall {
     Cpu(u32, CpuOp),
     Consumer(ConsumerOp),
 }
@@ -33,22 +33,22 @@ pub fn turn(header: Header, first: &str, words: &[&str]) -> Result<Turn, LineKin
 }
 
 /// The turn that makes a whole call.
-fn whole(call: Call) -> Turn
+fn whole(call: ActorCall) -> Turn
     ensures { result ≡ whole_call call }
 {
     match call {
-        Call::Cpu(cpu, op) => Turn::RunCpu(cpu, op),
-        Call::Consumer(op) => Turn::RunConsumer(op),
+        ActorCall::Cpu(cpu, op) => Turn::RunCpu(cpu, op),
+        ActorCall::Consumer(op) => Turn::RunConsumer(op),
     }
 }
 
 /// The turn that begins a call.
-fn begun(call: Call) -> Turn
+fn begun(call: ActorCall) -> Turn
     ensures { result ≡ begun_call call }
 {
     match call {
-        Call::Cpu(cpu, op) => Turn::BeginCpu(cpu, op),
-        Call::Consumer(op) => Turn::BeginConsumer(op),
+        ActorCall::Cpu(cpu, op) => Turn::BeginCpu(cpu, op),
+        ActorCall::Consumer(op) => Turn::BeginConsumer(op),
     }
 }
 
@@ -67,7 +67,7 @@ fn stepping(words: &[&str]) -> Result<Actor, LineKind>
 
 /// An actor, and a call of it.
 #[tactic(auto, unfolding(crate::specs::Calls::call_read))]
-fn named_call(header: Header, words: &[&str]) -> Result<Call, LineKind>
+fn named_call(header: Header, words: &[&str]) -> Result<ActorCall, LineKind>
     ensures { result ≡ call_read header (map (λ word. word.now) words.now) }
 {
     let [who, operation, operands @ ..] = words else {
@@ -84,12 +84,12 @@ fn call_by(
     actor: Actor,
     operation: &str,
     operands: &[&str],
-) -> Result<Call, LineKind>
+) -> Result<ActorCall, LineKind>
     ensures { result ≡ actor_call_of header actor operation.now (map (λ word. word.now) operands.now) }
 {
     match actor {
-        Actor::Cpu(cpu) => Ok(Call::Cpu(cpu, cpu_call(header, operation, operands)?)),
-        Actor::Consumer => Ok(Call::Consumer(consumer_call(operation, operands)?)),
+        Actor::Cpu(cpu) => Ok(ActorCall::Cpu(cpu, cpu_call(header, operation, operands)?)),
+        Actor::Consumer => Ok(ActorCall::Consumer(consumer_call(operation, operands)?)),
     }
 }
 
@@ -220,7 +220,7 @@ fn stamped_epid(word: &str) -> Result<(u32, u64), LineKind>
 }
 
 /// The only word.
-#[tactic(auto, unfolding(crate::specs::Words::only_word))]
+#[tactic(auto, unfolding(crate::specs::LineWords::only_word))]
 pub(crate) fn only<'a>(words: &[&'a str]) -> Result<&'a str, LineKind>
     ensures { result_map_both (λ word. word.now) (λ kind. kind) result ≡ only_word (map (λ word. word.now) words.now) }
 {
@@ -231,7 +231,7 @@ pub(crate) fn only<'a>(words: &[&'a str]) -> Result<&'a str, LineKind>
 }
 
 /// No word.
-#[tactic(auto, unfolding(crate::specs::Words::no_word))]
+#[tactic(auto, unfolding(crate::specs::LineWords::no_word))]
 fn no_more(words: &[&str]) -> Result<(), LineKind>
     ensures { result ≡ no_word (map (λ word. word.now) words.now) }
 {

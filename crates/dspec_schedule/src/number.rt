@@ -1,5 +1,5 @@
 ghost use Rattle.std.specs.Prelude.{◌≡◌, ◌↔◌, IsTrue, slice_index, is_ok, map};
-ghost use Rattle.dspec_schedule.specs.Words.{numbers_of, small_number_of, wide_number_of};
+ghost use Rattle.dspec_schedule.specs.LineWords.{numbers_of, small_number_of, wide_number_of};
 
 use crate::fault::LineKind;
 

@@ -1,6 +1,6 @@
 ghost use Rattle.std.specs.Prelude.{◌≡◌, false, map, IfOk, IfSome, MatchOption, true};
 ghost use Rattle.std.specs.List.{list_all};
-ghost use Rattle.dspec_schedule.specs.Words.{is_printable, pieces_of, words_of_line};
+ghost use Rattle.dspec_schedule.specs.LineWords.{is_printable, pieces_of, words_of_line};
 
 use std::alloc::{AllocError, Global};
 

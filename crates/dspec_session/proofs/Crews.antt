@@ -1,20 +1,11 @@
 -- Four CPUs of a session, taken out and put back.
 use Rattle.std.proofs.Common.{◌≡◌, ℕ, ◌+◌, Bool, true, false, List, [], ◌∷◌, ◌&&◌, length, Some, Option, refl, sym, ap, ◌∙◌, subst, arith}
 use Rattle.std.specs.Prelude.{slice_get}
-use Rattle.dspec_record.specs.EnablingRows.{EnabledRows}
-use Rattle.dspec_deeds.specs.Own.{offers}
-use Rattle.dspec_ring.specs.Known.{Pair}
+use Rattle.dspec_session.specs.Words.{EnabledRows, offers, Pair, words_of, identity, Consuming, pairs_of, Stays, Four, AllCanWork, AllWorked, Has, IsCpuOf, CanWork, CpuRounds, demonstrated, IsBack}
+use Rattle.dspec_session.specs.Words.{Worked, HaveMade, HaveOffered, HaveRoom, IsDemonstrated, all_finished}
 use Rattle.dspec_cpu.specs.declared.cpu.Cpu.{Cpu}
 use Rattle.dspec_cpu.specs.declared.shared.Shared.{Shared}
-use Rattle.dspec_cpu.specs.Lists.{words_of}
-use Rattle.dspec_cpu.specs.Standing.{identity}
 use Rattle.dspec_session_core.specs.declared.session.Session.{Session}
-use Rattle.dspec_session_core.specs.Consumers.{Consuming, pairs_of, Stays}
-use Rattle.dspec_session.specs.declared.demonstration.four.Four.{Four}
-use Rattle.dspec_session.specs.Crews.{AllCanWork, AllWorked}
-use Rattle.dspec_session_core.specs.Sessions.{Has, IsCpuOf}
-use Rattle.dspec_session.specs.Demonstrated.{CanWork, CpuRounds, demonstrated, IsBack, Worked}
-use Rattle.dspec_session.specs.Races.{HaveMade, HaveOffered, HaveRoom, IsDemonstrated, all_finished}
 use Rattle.dspec_session.proofs.Fours.{at_each}
 
 listed : Four (Cpu EnabledRows) → List (Cpu EnabledRows)

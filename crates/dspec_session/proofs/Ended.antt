@@ -1,30 +1,17 @@
 -- What is left of the session of the demonstration.
 use Rattle.std.proofs.Common.{◌≡◌, ℕ, zero, suc, ◌<◌, ◌==◌, Bool, true, false, List, [], ◌∷◌, length, Some, None, Option, refl, sym, ap, ◌∙◌, subst, arith}
 use Rattle.std.specs.Prelude.{slice_get}
-use Rattle.dspec_record.specs.Record.{Record}
-use Rattle.dspec_record.specs.EnablingRows.{EnabledRows}
+use Rattle.dspec_session.specs.Words.{Record, EnabledRows, SlotState, settle_at, is_granted, ack, word_at, offers, records_of_report, own_closed, own_closed_slot, IsClosedBy, IsLeftBy, Consuming}
+use Rattle.dspec_session.specs.Words.{IsConsumerOf, IsSameConsumer, Has, HasAt, words_of, DemoLine, AllTold, HaveOffered, IsDemonstrated}
 use Rattle.dspec_record.specs.declared.field.Shape.{Shape}
-use Rattle.dspec_word.specs.Word.{SlotState}
-use Rattle.dspec_word.specs.Tables.{settle_at}
 use Rattle.dspec_deeds.specs.declared.config.Config.{Config}
 use Rattle.dspec_deeds.specs.declared.deed.Deed.{Deed}
-use Rattle.dspec_deeds.specs.Closes.{is_granted}
-use Rattle.dspec_deeds.specs.History.{ack, word_at}
-use Rattle.dspec_deeds.specs.Own.{offers}
-use Rattle.dspec_deeds.specs.Reports.{records_of_report}
 use Rattle.dspec_deeds.proofs.OwnReads.{reads}
 use Rattle.dspec_deeds.proofs.TestLemmas.{number_is_itself}
-use Rattle.dspec_interleaving.specs.CpuClose.{own_closed, own_closed_slot}
 use Rattle.dspec_ring.specs.declared.batch.Batch.{Batch}
 use Rattle.dspec_cpu.specs.declared.cpu.Cpu.{Cpu}
-use Rattle.dspec_session_core.specs.Closing.{IsClosedBy, IsLeftBy}
 use Rattle.dspec_session_core.specs.declared.session.Session.{Session}
-use Rattle.dspec_session_core.specs.Consumers.{Consuming, IsConsumerOf, IsSameConsumer}
-use Rattle.dspec_session_core.specs.Sessions.{Has, HasAt}
-use Rattle.dspec_cpu.specs.Lists.{words_of}
-use Rattle.dspec_session.specs.declared.demonstration.lines.DemoLine.{DemoLine}
 use Rattle.dspec_session_core.specs.declared.left.Left.{Left}
-use Rattle.dspec_session.specs.Races.{AllTold, HaveOffered, IsDemonstrated}
 
 -- the settlements of the close offer nothing
 slot_offers : (shape : ℕ → Option Shape) (k : Config) (words : ℕ → SlotState) (c s : ℕ) (p : List Deed) (b : Bool) → is_granted (settle_at (words s) (ack c s p)) ≡ b

@@ -1,11 +1,8 @@
 -- A call of service counts as no call, and offers nothing.
 use Rattle.std.proofs.Common.{◌≡◌, ℕ, zero, suc, ◌+◌, Bool, true, false, List, [], ◌∷◌, ◌++◌, ◌∙◌, ap, arith}
-use Rattle.dspec_word.specs.Word.{SlotState}
+use Rattle.dspec_session.specs.Words.{SlotState, offers, calls, SettledBehind, SettledSlots, with_seal}
 use Rattle.dspec_deeds.specs.declared.deed.Deed.{Deed}
-use Rattle.dspec_deeds.specs.Own.{offers, calls}
 use Rattle.dspec_table.specs.declared.rule.View.{View}
-use Rattle.dspec_cpu.specs.Settled.{SettledBehind, SettledSlots}
-use Rattle.dspec_cpu.specs.Switching.{with_seal}
 
 -- a list reads as another, of offers and of calls
 record ReadsAs (c : ℕ) (p q : List Deed) : Type 0 where

@@ -1,6 +1,6 @@
 -- Serves proofs. What four workers are given, and give back.
 use Rattle.std.specs.Prelude.{Bool}
-use Rattle.dspec_record.specs.EnablingRows.{EnabledRows}
+use Rattle.dspec_session.specs.Words.Outside.{EnabledRows}
 use Rattle.dspec_cpu.specs.declared.cpu.Cpu.{Cpu}
 use Rattle.dspec_cpu.specs.declared.shared.Shared.{Shared}
 use Rattle.dspec_session.specs.declared.demonstration.four.Four.{Four}

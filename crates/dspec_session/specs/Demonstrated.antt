@@ -1,10 +1,9 @@
 -- Cited by calls. What the demonstration traces, and what its calls leave of a CPU.
 use Rattle.std.specs.Prelude.{ℕ, ◌≡◌, ◌≤◌, ◌+◌, ◌%◌, ◌==◌, Bool, true, List, [], ◌∷◌, ◌++◌, if◌then◌else◌}
-use Rattle.dspec_record.specs.Record.{Record}
-use Rattle.dspec_record.specs.EnablingRows.{EnabledRows}
+use Rattle.dspec_session.specs.Words.Outside.{Record, EnabledRows, Speculation, offers, id_given, known, decided_deeds, spoken_deeds, traced_deeds, opening_deeds, Serves, buffers_of, Has, calls_of}
+use Rattle.dspec_session.specs.Words.Outside.{config_of, number_in, schema_of, seat_of, worn_of, IsCallable, identity}
 use Rattle.dspec_record.specs.declared.field.Field.TheVariants.{Four}
 use Rattle.dspec_record.specs.declared.header.Header.TheVariants.{One}
-use Rattle.dspec_word.specs.SpecId.{Speculation}
 use Rattle.dspec_deeds.specs.declared.calls.Traced.{Traced}
 use Rattle.dspec_deeds.specs.declared.calls.Opening.{Opening}
 use Rattle.dspec_deeds.specs.declared.calls.Spoken.{Spoken}
@@ -13,18 +12,8 @@ use Rattle.dspec_deeds.specs.declared.calls.Served.{Served as ServedSo}
 use Rattle.dspec_deeds.specs.declared.deed.DecideFate.{DecideFate}
 use Rattle.dspec_deeds.specs.declared.deed.Deed.{Deed}
 use Rattle.dspec_deeds.specs.declared.deed.Deed.TheVariants.{Commit, Discard}
-use Rattle.dspec_deeds.specs.Own.{offers}
-use Rattle.dspec_deeds.specs.FateAnswers.{id_given}
-use Rattle.dspec_table.specs.Seats.{known}
-use Rattle.dspec_cpu.specs.Calls.{decided_deeds, spoken_deeds, traced_deeds}
-use Rattle.dspec_cpu.specs.Scans.{opening_deeds}
-use Rattle.dspec_cpu.specs.Serving.{Serves}
-use Rattle.dspec_cpu.specs.Switching.{buffers_of}
 use Rattle.dspec_cpu.specs.declared.cpu.Cpu.{Cpu}
 use Rattle.dspec_cpu.specs.declared.shared.Shared.{Shared}
-use Rattle.dspec_session_core.specs.Sessions.{Has}
-use Rattle.dspec_cpu.specs.Lists.{calls_of, config_of, number_in, schema_of, seat_of, worn_of}
-use Rattle.dspec_cpu.specs.Standing.{IsCallable, identity}
 
 -- EPID 1 and EPID 2, each with one field of four bytes
 abbrev pub demonstrated : EnabledRows

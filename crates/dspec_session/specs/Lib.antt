@@ -18,3 +18,4 @@ pub mod Visits
 pub mod Crews
 pub mod Races
 pub mod Results
+pub mod Words

@@ -1,23 +1,17 @@
 -- Cited by calls. What a run of the demonstration leaves, and tells.
 use Rattle.std.specs.Prelude.{ℕ, zero, suc, ◌≡◌, true, List, length, slice_get, Some}
-use Rattle.dspec_record.specs.EnablingRows.{EnabledRows}
-use Rattle.dspec_record.specs.Schemas.{enabled, table_shape, table_accepts, table_text}
-use Rattle.dspec_table.specs.Seats.{set_up}
+use Rattle.dspec_session.specs.Words.Outside.{EnabledRows, enabled, table_shape, table_accepts, table_text, set_up, words_of, IsClosedBy, Consuming, view_of, Has, HasAt, IsFresh, taken_at, worn_at}
+use Rattle.dspec_session.specs.Words.Outside.{Stopped}
 use Rattle.dspec_cpu.specs.declared.cpu.Cpu.{Cpu}
-use Rattle.dspec_cpu.specs.Lists.{words_of}
 use Rattle.dspec_session_core.specs.declared.left.Left.{Left}
 use Rattle.dspec_session_core.specs.declared.session.Session.{Session}
 use Rattle.dspec_session.specs.declared.demonstration.four.Four.{Four}
 use Rattle.dspec_session.specs.declared.demonstration.lines.DemoLine.{DemoLine}
 use Rattle.dspec_session.specs.declared.demonstration.order.Order.{Order}
 use Rattle.dspec_session.specs.declared.demonstration.showing.Demonstration.{Demonstration}
-use Rattle.dspec_session_core.specs.Closing.{IsClosedBy}
-use Rattle.dspec_session_core.specs.Consumers.{Consuming, view_of}
-use Rattle.dspec_session_core.specs.Sessions.{Has, HasAt, IsFresh, taken_at, worn_at}
 use Rattle.dspec_session.specs.Demonstrated.{CpuRounds, demonstrated}
 use Rattle.dspec_session.specs.Races.{HaveOffered, IsDemonstrated}
 use Rattle.dspec_session.specs.Rising.{FollowsLeft}
-use Rattle.dspec_session_core.specs.Stopping.{Stopped}
 use Rattle.dspec_session.specs.Visits.{ConsumerRounds, none_taken}
 
 -- the consumer made a thousand rounds, in which it followed what it took, and then stopped the session

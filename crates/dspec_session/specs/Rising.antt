@@ -1,8 +1,7 @@
 -- Cited by calls. Whether the values of EPID 1 rise strictly, followed from record to record.
 use Rattle.std.specs.Prelude.{ℕ, ◌≡◌, ◌⊎◌, ◌==◌, Bool, true, false, ◌&&◌, nat_lt, List, [], ◌∷◌, Option, Some, None, if◌then◌else◌}
-use Rattle.dspec_record.specs.Record.{Record}
+use Rattle.dspec_session.specs.Words.Outside.{Record, BufferText}
 use Rattle.dspec_record.specs.declared.field.Shape.{Shape}
-use Rattle.dspec_buffer.specs.BufferText.{BufferText}
 use Rattle.dspec_ring.specs.declared.batch.Batch.{Batch}
 use Rattle.dspec_session_core.specs.declared.left.Left.{Left}
 use Rattle.dspec_session.specs.declared.demonstration.order.Order.{Order}

@@ -1,12 +1,7 @@
 -- Cited by calls. What the demonstration's consumer does in its rounds, and what it follows of the batches.
 use Rattle.std.specs.Prelude.{ℕ, ◌≡◌, ◌<◌, ◌+◌, ◌⊎◌, true, None}
-use Rattle.dspec_record.specs.EnablingRows.{EnabledRows}
-use Rattle.dspec_record.specs.Schemas.{enabled, table_shape, table_accepts, table_text}
+use Rattle.dspec_session.specs.Words.Outside.{EnabledRows, enabled, table_shape, table_accepts, table_text, Asked, FoundNone, GaveBack, IsNotTakenBack, Took, Cleaned, Consuming, set_up_of, view_of}
 use Rattle.dspec_ring.specs.declared.batch.Batch.{Batch}
-use Rattle.dspec_session_core.specs.Asking.{Asked}
-use Rattle.dspec_session_core.specs.Batches.{FoundNone, GaveBack, IsNotTakenBack, Took}
-use Rattle.dspec_session_core.specs.Cleaning.{Cleaned}
-use Rattle.dspec_session_core.specs.Consumers.{Consuming, set_up_of, view_of}
 use Rattle.dspec_session.specs.declared.demonstration.four.Four.{Four}
 use Rattle.dspec_session.specs.declared.demonstration.order.Order.{Order}
 use Rattle.dspec_session.specs.Rising.{FollowsText}

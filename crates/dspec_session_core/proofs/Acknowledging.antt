@@ -1,20 +1,14 @@
 -- What a clean's loads and exchanges leave its seat.
 use Rattle.std.proofs.Common.{true≢false, ◌≡◌, ℕ, zero, suc, ◌+◌, ◌*◌, ◌<◌, ◌≤◌, ◌==◌, Bool, true, false, if◌then◌else◌, List, [], ◌∷◌, ◌++◌, length, map, refl, sym, ap, ◌∙◌, subst, arith}
 use Rattle.std.specs.Prelude.{Result, Ok, Err, MatchResult, IsOk, is_ok}
-use Rattle.dspec_word.specs.Word.{SlotState}
-use Rattle.dspec_word.specs.Code.{awaits}
+use Rattle.dspec_session_core.specs.Words.{SlotState, awaits, word_at, ack, of_consumer, Since, MayReap, acted, LookedWord, LoadedAck, ReapedWord, Acknowledged, MissesOne, CleanedSlot}
+use Rattle.dspec_session_core.specs.Words.{waits_for_none, waits_for_one, released, CleanedSlots, Cleaned}
 use Rattle.dspec_deeds.specs.declared.config.Config.{Config}
 use Rattle.dspec_deeds.specs.declared.deed.Deed.{Deed}
 use Rattle.dspec_deeds.specs.declared.deed.Deed.TheVariants.{Release}
-use Rattle.dspec_deeds.specs.History.{word_at, ack}
 use Rattle.dspec_deeds.proofs.Awaiting.{awaiting}
 use Rattle.dspec_table.specs.declared.rule.View.{View}
-use Rattle.dspec_table.specs.Holders.{of_consumer}
-use Rattle.dspec_table.specs.Since.{Since}
-use Rattle.dspec_table.specs.Conditions.{MayReap}
-use Rattle.dspec_table.specs.Steps.{acted, LookedWord, LoadedAck, ReapedWord}
 use Rattle.dspec_table.proofs.Reaping.{acked_since}
-use Rattle.dspec_session_core.specs.Cleaning.{Acknowledged, MissesOne, CleanedSlot, waits_for_none, waits_for_one, released, CleanedSlots, Cleaned}
 use Rattle.dspec_session_core.proofs.Waiting.{Waits, awaited_waits, waits_since}
 
 -- n steps that entered nothing

@@ -3,23 +3,16 @@ use Rattle.std.proofs.Common.{◌≡◌, ℕ, ◌+◌, ◌<◌, List, [], ◌∷
 use Rattle.std.specs.Prelude.{Bool, slice_index_or}
 use Rattle.std.proofs.lemmas.List.{length-append, length-map, map-append}
 use Rattle.std.proofs.lemmas.Option.{slice_get_read}
-use Rattle.dspec_record.specs.Record.{Record}
+use Rattle.dspec_session_core.specs.Words.{Record, AreSeats, set_up, ConsumerKnows, rest_with, schema_of, seat_of, RestHasList, Left, Parted, AllParted, AreLeft, AreParting, HasParted, IsRestOf}
+use Rattle.dspec_session_core.specs.Words.{Leaves}
 use Rattle.dspec_record.specs.declared.field.Shape.{Shape}
 use Rattle.dspec_deeds.specs.declared.config.Config.{Config}
 use Rattle.dspec_deeds.specs.declared.deed.Deed.{Deed}
 use Rattle.dspec_table.specs.declared.seats.CpuSeat.{CpuSeat}
 use Rattle.dspec_table.specs.declared.seats.Words.{Words}
-use Rattle.dspec_table.specs.Last.{AreSeats}
-use Rattle.dspec_table.specs.Seats.{set_up}
-use Rattle.dspec_ring.specs.Known.{ConsumerKnows}
 use Rattle.dspec_cpu.specs.declared.cpu.Cpu.{Cpu}
 use Rattle.dspec_cpu.specs.declared.rest.CpuRest.{CpuRest}
-use Rattle.dspec_cpu.specs.KeptRests.{rest_with}
-use Rattle.dspec_cpu.specs.Lists.{schema_of, seat_of}
-use Rattle.dspec_cpu.specs.Rests.{RestHasList}
-use Rattle.dspec_session_core.specs.declared.left.Left.{Left}
-use Rattle.dspec_session_core.specs.declared.parted.Parted.{Parted}
-use Rattle.dspec_session_core.specs.Leaving.{AllParted, AreLeft, AreParting, Has, HasParted, IsRestOf, Leaves}
+use Rattle.dspec_session_core.specs.Leaving.{Has}
 use Rattle.dspec_session_core.proofs.Ends.{none_in}
 use Rattle.dspec_session_core.proofs.FirstParted.{next_left}
 use Rattle.dspec_session_core.proofs.Partings.{are_seats, one_parted}

@@ -3,8 +3,7 @@ use Rattle.std.proofs.Common.{◌≡◌, ℕ, ◌==◌, ◌+◌, ◌≤◌, leng
 use Rattle.std.specs.Prelude.{slice_get, slice_index, slice_index_or, Some}
 use Rattle.dspec_deeds.proofs.TestLemmas.{same_number, numbers_differ}
 use Rattle.dspec_table.specs.declared.rule.View.{View}
-use Rattle.dspec_table.specs.Asks.{with_ask, StoredAsk}
-use Rattle.dspec_ring.specs.Known.{ConsumerKnows}
+use Rattle.dspec_session_core.specs.Words.{with_ask, StoredAsk, ConsumerKnows}
 use Rattle.dspec_session_core.proofs.Ends.{end_at}
 use Rattle.dspec_table.proofs.AsksKept.{with_ask_same, with_ask_other}
 

@@ -2,7 +2,8 @@
 use Rattle.std.proofs.Common.{◌≡◌, ℕ, zero, suc, ◌+◌, ◌*◌, ◌≤◌, Bool, true, false, if◌then◌else◌, refl, sym, ◌∙◌, subst, arith}
 use Rattle.dspec_deeds.specs.declared.config.Config.{Config}
 use Rattle.dspec_table.specs.declared.rule.View.{View}
-use Rattle.dspec_session_core.specs.Awaiting.{AwaitedIn, waits_for_none, waits_for_all, AwaitedSlots, Awaited}
+use Rattle.dspec_session_core.specs.Words.{AwaitedIn, waits_for_all, AwaitedSlots, Awaited}
+use Rattle.dspec_session_core.specs.Awaiting.{waits_for_none}
 use Rattle.dspec_session_core.proofs.Acknowledging.{Idled, idled_none, idled_more, idled_load}
 
 -- so many steps at most, and nothing entered

@@ -5,19 +5,13 @@ use Rattle.std.proofs.lemmas.List.{length-append, length-map, map-append}
 use Rattle.std.proofs.lemmas.List.Elements.{All-nil, All-push}
 use Rattle.dspec_deeds.specs.declared.config.Config.{Config}
 use Rattle.dspec_deeds.specs.declared.deed.Deed.{Deed}
-use Rattle.dspec_deeds.specs.Ranges.{start_fault}
-use Rattle.dspec_ring.specs.Known.{Pair, ConsumerKnows, IsUnusedConsumer}
+use Rattle.dspec_session_core.specs.Words.{start_fault, Pair, ConsumerKnows, IsUnusedConsumer, known, cpu_of, fresh_seat, set_up, FreshSeats, IsAt, IsConsumerAt, end_of, words_of, identity, Session}
+use Rattle.dspec_session_core.specs.Words.{IsConsumerOf, pairs_of, IsCpuOf, IsSession, IsFresh}
 use Rattle.dspec_table.specs.declared.rule.View.{View}
 use Rattle.dspec_table.specs.declared.seats.ConsumerSeat.{ConsumerSeat}
-use Rattle.dspec_table.specs.Seats.{known, cpu_of, fresh_seat, set_up, FreshSeats, IsAt, IsConsumerAt}
 use Rattle.dspec_table.specs.declared.seats.CpuSeat.{CpuSeat}
 use Rattle.dspec_table.specs.declared.seats.Words.{Words}
 use Rattle.dspec_cpu.specs.declared.cpu.Cpu.{Cpu}
-use Rattle.dspec_cpu.specs.Lists.{end_of, words_of}
-use Rattle.dspec_cpu.specs.Standing.{identity}
-use Rattle.dspec_session_core.specs.declared.session.Session.{Session}
-use Rattle.dspec_session_core.specs.Consumers.{IsConsumerOf, pairs_of}
-use Rattle.dspec_session_core.specs.Sessions.{IsCpuOf, IsSession, IsFresh}
 
 -- what stands in a list behind a push
 pub pushed : {A : Type 0} (xs : List A) (y : A) (i : ℕ) (x : A) → slice_get (xs ++ y ∷ []) i ≡ Some x → (slice_get xs i ≡ Some x) ⊎ ((i ≡ length xs) × (y ≡ x))

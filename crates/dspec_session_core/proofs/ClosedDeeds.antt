@@ -1,21 +1,13 @@
 -- The close adds settlements to a CPU's list.
 use Rattle.std.proofs.Common.{◌≡◌, ℕ, zero, suc, Bool, true, false, ◌==◌, if◌then◌else◌, List, [], ◌∷◌, ◌++◌, Option, refl, ap, ◌∙◌}
-use Rattle.dspec_record.specs.Record.{Record}
+use Rattle.dspec_session_core.specs.Words.{Record, Speculation, SlotState, own_closed, did, service, emptied, settled_did, AreSealed, settle_deeds}
 use Rattle.dspec_record.specs.declared.field.Shape.{Shape}
-use Rattle.dspec_word.specs.SpecId.{Speculation}
-use Rattle.dspec_word.specs.Word.{SlotState}
 use Rattle.dspec_deeds.specs.declared.config.Config.{Config}
 use Rattle.dspec_deeds.specs.declared.deed.DecideFate.{DecideFate}
 use Rattle.dspec_deeds.specs.declared.deed.Deed.{Deed}
 use Rattle.dspec_deeds.specs.declared.deed.Deed.TheVariants.{Settle}
-use Rattle.dspec_interleaving.specs.CpuClose.{own_closed}
-use Rattle.dspec_promise.specs.Deeds.{did}
-use Rattle.dspec_promise.specs.Promise.{service, emptied}
 use Rattle.dspec_promise.proofs.OwnDid.{did_own}
 use Rattle.dspec_ring.specs.declared.batch.Batch.{Batch}
-use Rattle.dspec_cpu.specs.Called.{settled_did}
-use Rattle.dspec_cpu.specs.Sealed.{AreSealed}
-use Rattle.dspec_session_core.specs.Promised.{settle_deeds}
 
 -- the second list has more settlements in front
 abbrev pub AddsSettlements : ℕ → List Deed → List Deed → Type 0

@@ -1,21 +1,14 @@
 -- The batches of a CPU and its last active buffer hold what it accepted, in order.
 use Rattle.std.proofs.Common.{◌≡◌, ℕ, ◌+◌, Bool, true, false, ◌&&◌, ◌==◌, if◌then◌else◌, List, [], ◌∷◌, ◌++◌, reverse, length, take, Option, refl, sym, ap, ◌∙◌, subst, subst₂, append_assoc}
 use Rattle.std.proofs.lemmas.List.{reverse-append, reverse-reverse, append-nil}
-use Rattle.dspec_record.specs.Record.{Record}
+use Rattle.dspec_session_core.specs.Words.{Record, Piece, one, block, records, HasPieces, trace_kept, is_copied, Offer, contents, offers, held, active, growing, batches, batch_records, empty_batch}
+use Rattle.dspec_session_core.specs.Words.{stream, taken, Sealing, IsOwn, IsSealed, AreSealed, HoldInOrder}
 use Rattle.dspec_record.specs.declared.field.Shape.{Shape}
-use Rattle.dspec_buffer.specs.Extent.{Piece, one, block, records}
-use Rattle.dspec_buffer.specs.Stored.{HasPieces}
 use Rattle.dspec_deeds.specs.declared.config.Config.{Config}
 use Rattle.dspec_deeds.specs.declared.deed.Deed.{Deed}
 use Rattle.dspec_deeds.specs.declared.deed.Deed.TheVariants.{Trace, Commit, Settle, Seal}
-use Rattle.dspec_deeds.specs.FateKinds.{trace_kept, is_copied}
-use Rattle.dspec_deeds.specs.Own.{Offer, contents, offers, held, active, growing, batches, batch_records, empty_batch, stream, taken}
-use Rattle.dspec_deeds.specs.Own.{Batch as Sealing}
-use Rattle.dspec_deeds.specs.Owning.{IsOwn}
 use Rattle.dspec_deeds.proofs.Prefixes.{stream_in_batches}
 use Rattle.dspec_ring.specs.declared.batch.Batch.{Batch}
-use Rattle.dspec_cpu.specs.Sealed.{IsSealed, AreSealed}
-use Rattle.dspec_session_core.specs.Closing.{HoldInOrder}
 
 -- the contents of two lists, one behind the other
 both_contents : (xs ys : List Offer) → contents (xs ++ ys) ≡ contents xs ++ contents ys

@@ -3,8 +3,7 @@ use Rattle.std.proofs.Common.{◌≡◌, ℕ, ◌+◌, ◌≤◌, List, [], ◌�
 use Rattle.std.proofs.lemmas.List.{reverse-append, length-reverse, length-append}
 use mathlib.Core.List.{IsPrefix}
 use Rattle.dspec_ring.specs.declared.batch.Batch.{Batch}
-use Rattle.dspec_cpu.specs.Sealed.{waiting}
-use Rattle.dspec_session_core.specs.Closing.{rest_of}
+use Rattle.dspec_session_core.specs.Words.{waiting, rest_of}
 
 -- the batches taken, and the one in hand
 held_back_last : (taken : List Batch) (x : Option Batch) → reverse (taken ++ waiting x) ≡ waiting x ++ reverse taken

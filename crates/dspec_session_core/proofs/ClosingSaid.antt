@@ -2,15 +2,11 @@
 use Rattle.std.proofs.Common.{◌≡◌, ℕ, zero, suc, ◌<◌, ◌≤◌, true, false, ◌==◌, List, [], ◌++◌, Option, refl, sym, ap, ◌∙◌, subst, ⊎_elim, arith}
 use Rattle.std.proofs.lemmas.Bool.Decides.{nat_tests}
 use Rattle.dspec_record.specs.declared.field.Shape.{Shape}
-use Rattle.dspec_word.specs.SpecId.{Speculation}
+use Rattle.dspec_session_core.specs.Words.{Speculation, closed_slots, closed_cpus, closing, did, settled_did, settle_deeds, closed_up}
 use Rattle.dspec_deeds.specs.declared.config.Config.{Config}
 use Rattle.dspec_deeds.specs.declared.deed.DecideFate.{DecideFate}
 use Rattle.dspec_deeds.specs.declared.deed.Deed.{Deed}
-use Rattle.dspec_deeds.specs.Closes.{closed_slots, closed_cpus, closing}
 use Rattle.dspec_deeds.proofs.TestLemmas.{either_way, same_number, other_number}
-use Rattle.dspec_promise.specs.Deeds.{did}
-use Rattle.dspec_cpu.specs.Called.{settled_did}
-use Rattle.dspec_session_core.specs.Promised.{settle_deeds, closed_up}
 use Rattle.dspec_session_core.proofs.ClosedDeeds.{AddsSettlements, did_settlements, did_others, settles}
 
 module _ (shape : ℕ → Option Shape) (k : Config) where

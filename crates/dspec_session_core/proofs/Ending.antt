@@ -4,27 +4,16 @@ use Rattle.std.specs.Prelude.{Bool, slice_get}
 use Rattle.std.specs.Option.{option_map_or}
 use Rattle.std.proofs.lemmas.List.{length-reverse}
 use Rattle.std.proofs.lemmas.Option.{slice_get_within}
-use Rattle.dspec_record.specs.Record.{Record}
+use Rattle.dspec_session_core.specs.Words.{Record, word_at, own_closed, Ended, known_there, set_up, ConsumerKnows, seat_of, words_of, worn_of, identity, Left, Session, Consuming, IsClosedBy}
+use Rattle.dspec_session_core.specs.Words.{LeftShows, IsClosing, Steady, AllSteady, IsLeft, AreLeft, AreParting, IsCpuOf, IsSession, HasAt, worn_at, taken_at}
 use Rattle.dspec_record.specs.declared.field.Shape.{Shape}
 use Rattle.dspec_deeds.specs.declared.config.Config.{Config}
 use Rattle.dspec_deeds.specs.declared.deed.Deed.{Deed}
-use Rattle.dspec_deeds.specs.History.{word_at}
-use Rattle.dspec_interleaving.specs.CpuClose.{own_closed}
 use Rattle.dspec_table.specs.declared.rule.View.{View}
 use Rattle.dspec_table.specs.declared.seats.CpuSeat.{CpuSeat}
 use Rattle.dspec_table.specs.declared.seats.Words.{Words}
-use Rattle.dspec_table.specs.Last.{Ended}
-use Rattle.dspec_table.specs.Seats.{known_there, set_up}
-use Rattle.dspec_ring.specs.Known.{ConsumerKnows}
 use Rattle.dspec_cpu.specs.declared.cpu.Cpu.{Cpu}
-use Rattle.dspec_cpu.specs.Lists.{seat_of, words_of, worn_of}
-use Rattle.dspec_cpu.specs.Standing.{identity}
-use Rattle.dspec_session_core.specs.declared.left.Left.{Left}
-use Rattle.dspec_session_core.specs.declared.session.Session.{Session}
-use Rattle.dspec_session_core.specs.Consumers.{Consuming}
-use Rattle.dspec_session_core.specs.Closing.{IsClosedBy, LeftShows}
-use Rattle.dspec_session_core.specs.Leaving.{IsClosing, Has, Steady, AllSteady, IsLeft, AreLeft, AreParting}
-use Rattle.dspec_session_core.specs.Sessions.{IsCpuOf, IsSession, HasAt, worn_at, taken_at}
+use Rattle.dspec_session_core.specs.Leaving.{Has}
 use Rattle.dspec_session_core.proofs.ClosingLists.{closes_as}
 use Rattle.dspec_session_core.proofs.Partings.{all_at_rest, seats_all, closings}
 

@@ -2,7 +2,7 @@
 use Rattle.std.proofs.Common.{◌≡◌, ℕ, ◌<◌, List, [], ◌∷◌, length, refl, ap, ◌∙◌, arith}
 use Rattle.std.specs.Prelude.{slice_get, slice_set, slice_index_or, remove, Some}
 use Rattle.std.specs.Option.{option_map_or}
-use Rattle.dspec_ring.specs.Known.{ConsumerKnows}
+use Rattle.dspec_session_core.specs.Words.{ConsumerKnows}
 use Rattle.std.proofs.lemmas.List.{set-get_or}
 use Rattle.std.proofs.lemmas.Option.{get_or_from_slice_get, slice_get_read}
 

@@ -2,25 +2,18 @@
 use Rattle.std.proofs.Common.{◌≡◌, ℕ, ◌+◌, ◌<◌, ◌≤◌, List, [], ◌∷◌, ◌++◌, length, map, reverse, Option, Some, None, refl, sym, ap, ◌∙◌, subst, append_assoc, if◌then◌else◌, arith}
 use Rattle.std.specs.Prelude.{Bool, Result, Ok, is_ok, slice_get}
 use Rattle.std.proofs.lemmas.List.{length-append}
-use Rattle.dspec_record.specs.Record.{Record}
+use Rattle.dspec_session_core.specs.Words.{Record, start_fault, Ended, last_set_up, set_up, CpuKnows, ConsumerKnows, config_of, end_of, number_in, seat_of, worn_of, AreItsWords, RestHasList}
+use Rattle.dspec_session_core.specs.Words.{waiting, Left, IsClosing, IsRestOf, Leaves, IsLeft, AreLeft, AreParting}
 use Rattle.dspec_record.specs.declared.field.Shape.{Shape}
 use Rattle.dspec_deeds.specs.declared.config.Config.{Config}
 use Rattle.dspec_deeds.specs.declared.deed.Deed.{Deed}
-use Rattle.dspec_deeds.specs.Ranges.{start_fault}
 use Rattle.dspec_table.specs.declared.last.LastWords.{LastWords}
 use Rattle.dspec_table.specs.declared.rule.View.{View}
 use Rattle.dspec_table.specs.declared.seats.CpuSeat.{CpuSeat}
 use Rattle.dspec_table.specs.declared.seats.Words.{Words}
-use Rattle.dspec_table.specs.Last.{Ended, last_set_up}
-use Rattle.dspec_table.specs.Seats.{set_up}
-use Rattle.dspec_ring.specs.Known.{CpuKnows, ConsumerKnows}
 use Rattle.dspec_cpu.specs.declared.cpu.Cpu.{Cpu}
 use Rattle.dspec_cpu.specs.declared.rest.CpuRest.{CpuRest}
-use Rattle.dspec_cpu.specs.Lists.{config_of, end_of, number_in, seat_of, worn_of}
-use Rattle.dspec_cpu.specs.Rests.{AreItsWords, RestHasList}
-use Rattle.dspec_cpu.specs.Sealed.{waiting}
-use Rattle.dspec_session_core.specs.declared.left.Left.{Left}
-use Rattle.dspec_session_core.specs.Leaving.{IsClosing, IsRestOf, Has, Leaves, IsLeft, AreLeft, AreParting}
+use Rattle.dspec_session_core.specs.Leaving.{Has}
 use Rattle.dspec_session_core.proofs.Leavings.{closing_same, leaves_same}
 use Rattle.dspec_session_core.proofs.Partings.{closings, one_parted, one_left_more}
 

@@ -3,11 +3,8 @@ use Rattle.std.proofs.Common.{◌≡◌, Bool, true, false, ◌||◌, if◌then�
 use Rattle.dspec_deeds.specs.declared.calls.Actor.TheVariants.{Consumer}
 use Rattle.dspec_deeds.specs.declared.deed.Deed.{Deed}
 use Rattle.dspec_deeds.specs.declared.deed.Deed.TheVariants.{Halt}
-use Rattle.dspec_deeds.specs.History.{halted, is_halt, author, same_actor, part}
+use Rattle.dspec_session_core.specs.Words.{halted, is_halt, author, same_actor, part, at_stop, of_consumer, part_of, StoredActivity}
 use Rattle.dspec_table.specs.declared.rule.View.{View}
-use Rattle.dspec_table.specs.Acts.{at_stop}
-use Rattle.dspec_table.specs.Holders.{of_consumer, part_of}
-use Rattle.dspec_table.specs.Steps.{StoredActivity}
 
 -- a Halt is the consumer's
 pub halted_part : (h : List Deed) → halted (part Consumer h) ≡ halted h

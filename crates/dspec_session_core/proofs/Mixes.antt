@@ -2,20 +2,15 @@
 use Rattle.std.proofs.Common.{◌≡◌, ◌≢◌, ℕ, ◌<◌, ◌≤◌, true, false, if◌then◌else◌, List, [], ◌∷◌, Option, refl, sym, ap, ◌∙◌, ⊎_elim, arith}
 use Rattle.std.specs.Prelude.{Bool, nat_lt}
 use Rattle.std.proofs.lemmas.Bool.Decides.{nat_tests}
-use Rattle.dspec_record.specs.Record.{Record}
+use Rattle.dspec_session_core.specs.Words.{Record, author, part, same_actor, HasAuthors, bare, AreSealed, IsMixOf, IsWithSeals, deeds_by}
 use Rattle.dspec_record.specs.declared.field.Shape.{Shape}
 use Rattle.dspec_deeds.specs.declared.config.Config.{Config}
 use Rattle.dspec_deeds.specs.declared.calls.Actor.{Actor}
 use Rattle.dspec_deeds.specs.declared.calls.Actor.TheVariants.{Cpu, Consumer}
 use Rattle.dspec_deeds.specs.declared.deed.Deed.{Deed}
 use Rattle.dspec_deeds.specs.declared.deed.Deed.TheVariants.{Seal}
-use Rattle.dspec_deeds.specs.History.{author, part, same_actor}
-use Rattle.dspec_deeds.specs.Legal.{HasAuthors}
-use Rattle.dspec_deeds.specs.Weaving.{bare}
 use Rattle.dspec_deeds.proofs.TestLemmas.{actor_is_itself, either_way, same_actor_tells}
 use Rattle.dspec_ring.specs.declared.batch.Batch.{Batch}
-use Rattle.dspec_cpu.specs.Sealed.{AreSealed}
-use Rattle.dspec_session_core.specs.Promised.{IsMixOf, IsWithSeals, deeds_by}
 
 -- a deed is in no other's part
 not_there : (v : Actor) (d : Deed) (h : List Deed) → v ≢ author d h → part v (d ∷ h) ≡ part v h

@@ -4,25 +4,18 @@ use Rattle.std.specs.Prelude.{is_none, nat_le}
 use Rattle.dspec_record.specs.declared.field.Shape.{Shape}
 use Rattle.dspec_word.specs.declared.act.Act.TheVariants.{Granted, Idle}
 use Rattle.dspec_word.specs.declared.code.Code.TheVariants.{Inactive, Committing, CommittingMany}
-use Rattle.dspec_word.specs.Code.{awaits}
-use Rattle.dspec_word.specs.SpecId.{Speculation}
-use Rattle.dspec_word.specs.Tables.{settle_at}
+use Rattle.dspec_session_core.specs.Words.{awaits, Speculation, settle_at, CanClose, is_granted, closed_slot, closed_slots, closed_cpus, closing, Verdict, undecided, committed, discarded, verdict}
+use Rattle.dspec_session_core.specs.Words.{is_undecided, callers, is_busy, is_sole_or_none, standing, issue, present, owed, settled, solo, word_at, ack, IsSound, start_fault, settle_fate}
+use Rattle.dspec_session_core.specs.Words.{owes_settlement, owed_fate, owed_more, owed_in, owed_up, settle_deeds}
 use Rattle.dspec_deeds.specs.declared.config.Config.{Config}
 use Rattle.dspec_deeds.specs.declared.deed.DecideFate.{DecideFate}
 use Rattle.dspec_deeds.specs.declared.deed.Deed.{Deed}
 use Rattle.dspec_deeds.specs.declared.deed.Deed.TheVariants.{Settle}
-use Rattle.dspec_deeds.specs.Closes.{CanClose, is_granted, closed_slot, closed_slots, closed_cpus, closing}
-use Rattle.dspec_deeds.specs.History.{Verdict, undecided, committed, discarded, verdict, is_undecided, callers, is_busy, is_sole_or_none, standing, issue, present, owed, settled, solo, word_at, ack}
-use Rattle.dspec_deeds.specs.Legal.{IsSound}
-use Rattle.dspec_deeds.specs.Ranges.{start_fault}
-use Rattle.dspec_deeds.specs.Settling.{settle_fate}
 use Rattle.dspec_deeds.proofs.Acked.{ack_tells}
 use Rattle.dspec_deeds.proofs.Awaiting.{awaits_is}
 use Rattle.dspec_deeds.proofs.PresentIds.{decided_given}
 use Rattle.dspec_deeds.proofs.TestLemmas.{either_way, and_tells}
 use Rattle.dspec_interleaving.proofs.Closing.{slots_settle, cpus_settle}
-use Rattle.dspec_session_core.specs.Owed.{owes_settlement, owed_fate, owed_more, owed_in, owed_up}
-use Rattle.dspec_session_core.specs.Promised.{settle_deeds}
 
 granted_is : (b : Bool) → is_granted (if b then Granted else Idle) ≡ b
 granted_is true = refl

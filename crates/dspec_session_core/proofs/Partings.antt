@@ -3,27 +3,17 @@ use Rattle.std.proofs.Common.{◌≡◌, ℕ, zero, suc, ◌+◌, ◌<◌, ◌�
 use Rattle.std.specs.Prelude.{Bool, slice_get}
 use Rattle.std.proofs.lemmas.List.{length-append, length-map, reverse-append}
 use Rattle.std.proofs.lemmas.Option.{slice_get_within}
-use Rattle.dspec_record.specs.Record.{Record}
+use Rattle.dspec_session_core.specs.Words.{Record, scan, IsOwn, start_fault, AreSeats, Ended, known, set_up, ConsumerKnows, seat_of, config_of, number_in, schema_of, identity, Left, IsAtRest}
+use Rattle.dspec_session_core.specs.Words.{IsClosing, IsParted, Steady, IsLeft, AreLeft, AreParting, IsCpuOf}
 use Rattle.dspec_record.specs.declared.field.Shape.{Shape}
 use Rattle.dspec_deeds.specs.declared.config.Config.{Config}
 use Rattle.dspec_deeds.specs.declared.deed.Deed.{Deed}
-use Rattle.dspec_deeds.specs.History.{scan}
-use Rattle.dspec_deeds.specs.Owning.{IsOwn}
-use Rattle.dspec_deeds.specs.Ranges.{start_fault}
 use Rattle.dspec_deeds.proofs.OwnReads.{reads}
 use Rattle.dspec_table.specs.declared.rule.View.{View}
 use Rattle.dspec_table.specs.declared.seats.CpuSeat.{CpuSeat}
 use Rattle.dspec_table.specs.declared.seats.Words.{Words}
-use Rattle.dspec_table.specs.Last.{AreSeats, Ended}
-use Rattle.dspec_table.specs.Seats.{known, set_up}
-use Rattle.dspec_ring.specs.Known.{ConsumerKnows}
 use Rattle.dspec_cpu.specs.declared.cpu.Cpu.{Cpu}
-use Rattle.dspec_cpu.specs.Lists.{seat_of, config_of, number_in, schema_of}
-use Rattle.dspec_cpu.specs.Standing.{identity}
-use Rattle.dspec_session_core.specs.declared.left.Left.{Left}
-use Rattle.dspec_session_core.specs.Closing.{IsAtRest}
-use Rattle.dspec_session_core.specs.Leaving.{IsClosing, IsParted, Has, Steady, IsLeft, AreLeft, AreParting}
-use Rattle.dspec_session_core.specs.Sessions.{IsCpuOf}
+use Rattle.dspec_session_core.specs.Leaving.{Has}
 use Rattle.dspec_session_core.proofs.Begins.{pushed}
 use Rattle.dspec_session_core.proofs.ClosingLists.{close_of_ended}
 

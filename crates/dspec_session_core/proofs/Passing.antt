@@ -3,12 +3,9 @@ use Rattle.std.proofs.Common.{◌≡◌, ℕ, ◌<◌, ◌≤◌, List, length, 
 use Rattle.std.specs.Prelude.{Option, Some, None, IfSome, IfNone, Result, Ok, Err, OnOk, OnErr, IfErr, slice_get, slice_set, slice_index_or}
 use Rattle.std.proofs.Math.Seq.{map-set_same}
 use Rattle.dspec_ring.specs.declared.batch.Batch.{Batch}
-use Rattle.dspec_ring.specs.Known.{ConsumerKnows, consumer_moved}
+use Rattle.dspec_session_core.specs.Words.{ConsumerKnows, consumer_moved, known_there, IsSameConsumer, TookFrom, GivenTo, Took, FoundNone, GaveBack, IsNotTakenBack}
 use Rattle.dspec_table.specs.declared.seats.ConsumerSeat.{ConsumerSeat}
-use Rattle.dspec_table.specs.Seats.{known_there}
-use Rattle.dspec_session_core.specs.Consumers.{IsSameConsumer}
 use Rattle.dspec_session_core.proofs.Ends.{end_at, put_back}
-use Rattle.dspec_session_core.specs.Batches.{TookFrom, GivenTo, Took, FoundNone, GaveBack, IsNotTakenBack}
 
 -- an end that passes batches stays one of its pair
 kept_pairs : (es : List ConsumerKnows) (c : ℕ) (d f : ConsumerKnows) → d ≡ slice_index_or es c d → f.pair ≡ d.pair

@@ -3,34 +3,20 @@ use Rattle.std.proofs.Common.{◌≡◌, ℕ, zero, suc, ◌<◌, Bool, List, []
 use Rattle.std.specs.Prelude.{reverse, slice_get}
 use Rattle.std.specs.Option.{option_map_or}
 use Rattle.std.proofs.lemmas.Option.{slice_get_within}
-use Rattle.dspec_record.specs.Record.{Record}
+use Rattle.dspec_session_core.specs.Words.{Record, Speculation, part, word_at, stream, bare, own_closed, did, all_did, Promise, known, CallsMade, called, no_calls, settled_did, number_in, seat_of}
+use Rattle.dspec_session_core.specs.Words.{worn_of, AreSealed, waiting, Left, ClosesAs, IsPromised, IsPromisedBy, KeepsPage, called_at, closed_up, entered_at, settle_deeds, worn_at}
 use Rattle.dspec_record.specs.declared.field.Shape.{Shape}
-use Rattle.dspec_word.specs.SpecId.{Speculation}
 use Rattle.dspec_deeds.specs.declared.config.Config.{Config}
 use Rattle.dspec_deeds.specs.declared.calls.Actor.TheVariants.{Cpu as CpuActor}
 use Rattle.dspec_deeds.specs.declared.deed.DecideFate.{DecideFate}
 use Rattle.dspec_deeds.specs.declared.deed.Deed.{Deed}
 use Rattle.dspec_deeds.specs.declared.report.Report.{Report}
-use Rattle.dspec_deeds.specs.History.{part, word_at}
-use Rattle.dspec_deeds.specs.Own.{stream}
-use Rattle.dspec_deeds.specs.Weaving.{bare}
-use Rattle.dspec_interleaving.specs.CpuClose.{own_closed}
-use Rattle.dspec_promise.specs.Deeds.{did, all_did}
-use Rattle.dspec_promise.specs.Promise.{Promise}
 use Rattle.dspec_promise.proofs.Kept.{always, promise}
 use Rattle.dspec_promise.proofs.OwnDid.{did_part, did_bare}
 use Rattle.dspec_promise.proofs.Refused.{given_once, reasons}
 use Rattle.dspec_ring.specs.declared.batch.Batch.{Batch}
-use Rattle.dspec_table.specs.Seats.{known}
 use Rattle.dspec_cpu.specs.declared.cpu.Cpu.{Cpu}
-use Rattle.dspec_cpu.specs.Called.{CallsMade, called, no_calls, settled_did}
-use Rattle.dspec_cpu.specs.Lists.{number_in, seat_of, worn_of}
-use Rattle.dspec_cpu.specs.Sealed.{AreSealed, waiting}
-use Rattle.dspec_session_core.specs.declared.left.Left.{Left}
-use Rattle.dspec_session_core.specs.Closing.{ClosesAs}
 use Rattle.dspec_session_core.specs.Leaving.{Has}
-use Rattle.dspec_session_core.specs.Promised.{IsPromised, IsPromisedBy, KeepsPage, called_at, closed_up, entered_at, settle_deeds}
-use Rattle.dspec_session_core.specs.Sessions.{worn_at}
 use Rattle.dspec_session_core.proofs.ClosedDeeds.{AddsSettlements, close_adds, sealed_before}
 use Rattle.dspec_session_core.proofs.ClosingSaid.{closed_for, closing_said, did_closed}
 use Rattle.dspec_session_core.proofs.Mixes.{mix_of_all, with_seals}

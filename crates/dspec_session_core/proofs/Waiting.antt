@@ -5,13 +5,10 @@ use Rattle.dspec_deeds.specs.declared.config.Config.{Config}
 use Rattle.dspec_deeds.specs.declared.calls.Actor.TheVariants.{Consumer}
 use Rattle.dspec_deeds.specs.declared.deed.Deed.{Deed}
 use Rattle.dspec_deeds.specs.declared.deed.Deed.TheVariants.{Release}
-use Rattle.dspec_deeds.specs.History.{releaser, same_actor, releases, present, opened, opens, verdict, is_undecided, solo, word_at}
-use Rattle.dspec_deeds.specs.Legal.{IsSound}
+use Rattle.dspec_session_core.specs.Words.{releaser, same_actor, releases, present, opened, opens, verdict, is_undecided, solo, word_at, IsSound, of_consumer, same_holder, doer, Since, here, more}
 use Rattle.dspec_deeds.proofs.TestLemmas.{either_way, same_number, or_true}
 use Rattle.dspec_deeds.proofs.Awaiting.{IsAwaiting}
 use Rattle.dspec_deeds.proofs.StayingDecided.{decided_stands}
-use Rattle.dspec_table.specs.Holders.{of_consumer, same_holder, doer}
-use Rattle.dspec_table.specs.Since.{Since, here, more}
 
 -- the present speculation of the slot is decided, and by no CPU alone
 pub record Waits (s : ℕ) (h : List Deed) : Type 0 where

@@ -1,6 +1,6 @@
 -- Cited by calls. What an ask does.
 use Rattle.std.specs.Prelude.{ℕ, ◌≡◌, ◌==◌, ◌+◌, slice_index, if◌then◌else◌}
-use Rattle.dspec_table.specs.Asks.{StoredAsk}
+use Rattle.dspec_session_core.specs.Words.Outside.{StoredAsk}
 use Rattle.dspec_session_core.specs.Consumers.{Consuming, view_of, taken_from}
 
 -- One store, of one more than the batches taken: the batch after those is asked of the CPU c, and of no other CPU anything. Where

@@ -2,7 +2,7 @@
 use Rattle.std.specs.Prelude.{ℕ, ◌≡◌, ◌≢◌, ◌<◌, ◌≤◌, ◌⊎◌, ◌+◌, [], ◌∷◌, ◌++◌, length, slice_get, slice_set, Some}
 use mathlib.Core.List.{IsPrefix}
 use Rattle.dspec_ring.specs.declared.batch.Batch.{Batch}
-use Rattle.dspec_ring.specs.Known.{ConsumerKnows, consumer_moved}
+use Rattle.dspec_session_core.specs.Words.Outside.{ConsumerKnows, consumer_moved}
 use Rattle.dspec_session_core.specs.Consumers.{Consuming, set_up_of}
 
 -- the batch came out of the end, by one pop: it is the one known to be waiting first, if one is

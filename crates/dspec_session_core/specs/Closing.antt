@@ -1,29 +1,14 @@
 -- Believed. What the close of a session promises.
 use Rattle.std.specs.Prelude.{ℕ, ◌≡◌, ◌<◌, Bool, false, List, [], ◌∷◌, ◌++◌, length, reverse, slice_get, Option, Some, None}
-use Rattle.dspec_record.specs.Record.{Record}
+use Rattle.dspec_session_core.specs.Words.Outside.{Record, Piece, records, HasPieces, Speculation, part, scan, verdict, is_undecided, word_at, CanClose, WaitsUndecided, closing, Headline, IsLegal}
+use Rattle.dspec_session_core.specs.Words.Outside.{HasAuthors, held, stream, accepted_first, IsOwn, start_fault, report, bare, own_closed, Ended, known, IsSealed, AreSealed, waiting}
 use Rattle.dspec_record.specs.declared.field.Shape.{Shape}
-use Rattle.dspec_buffer.specs.Extent.{Piece, records}
-use Rattle.dspec_buffer.specs.Stored.{HasPieces}
-use Rattle.dspec_word.specs.SpecId.{Speculation}
 use Rattle.dspec_deeds.specs.declared.config.Config.{Config}
 use Rattle.dspec_deeds.specs.declared.calls.Actor.TheVariants.{Cpu, Consumer}
 use Rattle.dspec_deeds.specs.declared.deed.Deed.{Deed}
-use Rattle.dspec_deeds.specs.History.{part, scan, verdict, is_undecided, word_at}
-use Rattle.dspec_deeds.specs.Closes.{CanClose, WaitsUndecided, closing}
-use Rattle.dspec_deeds.specs.Headline.{Headline}
-use Rattle.dspec_deeds.specs.Legal.{IsLegal, HasAuthors}
-use Rattle.dspec_deeds.specs.Own.{held, stream, taken as accepted_first}
-use Rattle.dspec_deeds.specs.Owning.{IsOwn}
-use Rattle.dspec_deeds.specs.Ranges.{start_fault}
-use Rattle.dspec_deeds.specs.Reports.{report}
-use Rattle.dspec_deeds.specs.Weaving.{bare}
-use Rattle.dspec_interleaving.specs.CpuClose.{own_closed}
 use Rattle.dspec_table.specs.declared.rule.View.{View}
 use Rattle.dspec_table.specs.declared.seats.CpuSeat.{CpuSeat}
-use Rattle.dspec_table.specs.Last.{Ended}
-use Rattle.dspec_table.specs.Seats.{known}
 use Rattle.dspec_ring.specs.declared.batch.Batch.{Batch}
-use Rattle.dspec_cpu.specs.Sealed.{IsSealed, AreSealed, waiting}
 use Rattle.dspec_session_core.specs.declared.left.Left.{Left}
 
 -- which sealed batch wasn't taken: the first of those drained, else the one in hand

@@ -1,7 +1,6 @@
 -- Cited by calls. How a consumer's fields say what contracts see, and what holds of them.
 use Rattle.std.specs.Prelude.{ℕ, ◌≡◌, ◌≤◌, ◌+◌, length, slice_get, slice_index, vec_len, vec_capacity, Some}
-use Rattle.dspec_ring.specs.Known.{ConsumerKnows}
-use Rattle.dspec_table.specs.Seats.{known_there}
+use Rattle.dspec_session_core.specs.Words.Outside.{ConsumerKnows, known_there}
 use Rattle.dspec_session_core.specs.Consumers.{Consuming}
 use Rattle.dspec_session_core.specs.declared.consumer.Consumer.TheInside.{Inside}
 

@@ -5,8 +5,7 @@ use Rattle.dspec_deeds.specs.declared.config.Config.{Config}
 use Rattle.dspec_table.specs.declared.rule.View.{View}
 use Rattle.dspec_table.specs.declared.seats.Words.{Words}
 use Rattle.dspec_table.specs.declared.seats.ConsumerSeat.{ConsumerSeat}
-use Rattle.dspec_table.specs.Seats.{known_there, IsConsumerAt}
-use Rattle.dspec_ring.specs.Known.{Pair, ConsumerKnows}
+use Rattle.dspec_session_core.specs.Words.Outside.{known_there, IsConsumerAt, Pair, ConsumerKnows}
 
 -- its seat at the words, and its ends of the CPUs' rings, in order
 pub record Consuming : Type 0 where

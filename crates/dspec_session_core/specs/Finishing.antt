@@ -1,16 +1,13 @@
 -- Cited by calls. The laws of a session's close, as sentences.
 use mathlib.Core.List.{IsPrefix}
 use Rattle.std.specs.Prelude.{ℕ, ◌≡◌, ◌≤◌, ◌+◌, Bool, List, ◌++◌, length, reverse, Option, None}
-use Rattle.dspec_record.specs.Record.{Record}
+use Rattle.dspec_session_core.specs.Words.Outside.{Record, CanClose, closing, start_fault, waiting}
 use Rattle.dspec_record.specs.declared.field.Shape.{Shape}
 use Rattle.dspec_deeds.specs.declared.config.Config.{Config}
 use Rattle.dspec_deeds.specs.declared.deed.Deed.{Deed}
-use Rattle.dspec_deeds.specs.Closes.{CanClose, closing}
-use Rattle.dspec_deeds.specs.Ranges.{start_fault}
 use Rattle.dspec_table.specs.declared.rule.View.{View}
 use Rattle.dspec_table.specs.declared.seats.CpuSeat.{CpuSeat}
 use Rattle.dspec_ring.specs.declared.batch.Batch.{Batch}
-use Rattle.dspec_cpu.specs.Sealed.{waiting}
 use Rattle.dspec_session_core.specs.declared.left.Left.{Left}
 use Rattle.dspec_session_core.specs.Closing.{ClosedFrom, ClosesAs, rest_of}
 use Rattle.dspec_session_core.specs.Owed.{owed_up}

@@ -13,3 +13,4 @@ pub mod Owed
 pub mod Leaving
 pub mod Finish
 pub mod Finishing
+pub mod Words

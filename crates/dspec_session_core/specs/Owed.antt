@@ -1,15 +1,11 @@
 -- Cited by calls. What each CPU owes where a session is closed, by decisions and settlements.
 use Rattle.std.specs.Prelude.{ℕ, zero, suc, not, ◌&&◌, Bool, List, [], ◌∷◌, ◌++◌, length, Option, is_none, if◌then◌else◌}
 use Rattle.dspec_record.specs.declared.field.Shape.{Shape}
-use Rattle.dspec_buffer.specs.Extent.{block}
-use Rattle.dspec_word.specs.SpecId.{Speculation}
+use Rattle.dspec_session_core.specs.Words.Outside.{block, Speculation, Verdict, discarded, verdict, present, is_busy, solo, settled, contents, held, fits_principal}
 use Rattle.dspec_deeds.specs.declared.config.Config.{Config}
 use Rattle.dspec_deeds.specs.declared.deed.DecideFate.{DecideFate}
 use Rattle.dspec_deeds.specs.declared.deed.DecideFate.TheVariants as decide
 use Rattle.dspec_deeds.specs.declared.deed.Deed.{Deed}
-use Rattle.dspec_deeds.specs.History.{Verdict, discarded, verdict, present, is_busy, solo, settled}
-use Rattle.dspec_deeds.specs.Own.{contents, held}
-use Rattle.dspec_deeds.specs.Legal.{fits_principal}
 use Rattle.dspec_session_core.specs.Promised.{settle_deeds}
 
 -- The CPU owes a settlement of the slot's present speculation: that was decided, no CPU decided it alone, and this CPU hasn't settled it.

@@ -1,9 +1,9 @@
 -- Believed. What the close of a session promises of each CPU, in the words of the page.
 use Rattle.std.specs.Prelude.{ℕ, zero, suc, ◌≡◌, ◌≢◌, nat_lt, Bool, List, [], ◌∷◌, ◌++◌, map, reverse, slice_get, Option, Some, if◌then◌else◌}
 use Rattle.std.specs.Option.{option_map_or}
-use Rattle.dspec_record.specs.Record.{Record}
+use Rattle.dspec_session_core.specs.Words.Outside.{Record, Speculation, AtEachMoment, DecidedSoFar, all_did, Did, Promise, GivenOnce, HaveReasons, known, CallsMade, called, no_calls, settled_did}
+use Rattle.dspec_session_core.specs.Words.Outside.{seat_of, IsSealed, waiting}
 use Rattle.dspec_record.specs.declared.field.Shape.{Shape}
-use Rattle.dspec_word.specs.SpecId.{Speculation}
 use Rattle.dspec_deeds.specs.declared.config.Config.{Config}
 use Rattle.dspec_deeds.specs.declared.calls.Actor.{Actor}
 use Rattle.dspec_deeds.specs.declared.calls.Actor.TheVariants.{Cpu as CpuActor, Consumer}
@@ -11,15 +11,8 @@ use Rattle.dspec_deeds.specs.declared.deed.DecideFate.{DecideFate}
 use Rattle.dspec_deeds.specs.declared.deed.Deed.{Deed}
 use Rattle.dspec_deeds.specs.declared.deed.Deed.TheVariants.{Seal, Settle}
 use Rattle.dspec_deeds.specs.declared.report.Report.{Report}
-use Rattle.dspec_promise.specs.Deeds.{AtEachMoment, DecidedSoFar, all_did}
-use Rattle.dspec_promise.specs.Promise.{Did, Promise}
-use Rattle.dspec_promise.specs.Reasons.{GivenOnce, HaveReasons}
-use Rattle.dspec_table.specs.Seats.{known}
 use Rattle.dspec_ring.specs.declared.batch.Batch.{Batch}
 use Rattle.dspec_cpu.specs.declared.cpu.Cpu.{Cpu}
-use Rattle.dspec_cpu.specs.Called.{CallsMade, called, no_calls, settled_did}
-use Rattle.dspec_cpu.specs.Lists.{seat_of}
-use Rattle.dspec_cpu.specs.Sealed.{IsSealed, waiting}
 use Rattle.dspec_session_core.specs.declared.left.Left.{Left}
 use Rattle.dspec_session_core.specs.Closing.{HoldInOrder}
 

@@ -1,17 +1,12 @@
 -- Believed. The parts of one session, and what it begins with.
 use Rattle.std.specs.Prelude.{ℕ, ◌≡◌, List, [], length, Option, Some, None, IsSome, slice_get}
 use Rattle.std.specs.Option.{option_map_or}
-use Rattle.dspec_record.specs.EnablingRows.{EnabledRows}
-use Rattle.dspec_record.specs.Schemas.{enabled, table_shape, table_accepts, table_text}
-use Rattle.dspec_deeds.specs.Ranges.{start_fault}
+use Rattle.dspec_session_core.specs.Words.Outside.{EnabledRows, enabled, table_shape, table_accepts, table_text, start_fault, Pair, ConsumerKnows, IsUnusedCpu, set_up, HasList, end_of, spare_of}
+use Rattle.dspec_session_core.specs.Words.Outside.{words_of, worn_of, Belongs, Identity, identity}
 use Rattle.dspec_ring.specs.declared.batch.Batch.{Batch}
 use Rattle.dspec_deeds.specs.declared.deed.Deed.{Deed}
-use Rattle.dspec_ring.specs.Known.{Pair, ConsumerKnows, IsUnusedCpu}
-use Rattle.dspec_table.specs.Seats.{set_up}
 use Rattle.dspec_table.specs.declared.seats.Words.{Words}
 use Rattle.dspec_cpu.specs.declared.cpu.Cpu.{Cpu}
-use Rattle.dspec_cpu.specs.Lists.{HasList, end_of, spare_of, words_of, worn_of}
-use Rattle.dspec_cpu.specs.Standing.{Belongs, Identity, identity}
 use Rattle.dspec_session_core.specs.Consumers.{Consuming, IsConsumerOf, pairs_of}
 use Rattle.dspec_session_core.specs.declared.session.Session.{Session}
 

@@ -1,8 +1,6 @@
 -- Cited by calls. What a stop does.
 use Rattle.std.specs.Prelude.{◌≡◌, ◌++◌}
-use Rattle.dspec_deeds.specs.History.{halted}
-use Rattle.dspec_table.specs.Acts.{at_stop}
-use Rattle.dspec_table.specs.Steps.{StoredActivity}
+use Rattle.dspec_session_core.specs.Words.Outside.{halted, at_stop, StoredActivity}
 use Rattle.dspec_session_core.specs.Consumers.{Consuming, view_of}
 
 -- One store, which enters a Halt unless the consumer's list has it.

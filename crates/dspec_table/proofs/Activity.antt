@@ -3,27 +3,14 @@ use Rattle.std.proofs.Common.{◌≡◌, ℕ, ◌≤◌, Bool, true, false, ◌=
 use Rattle.std.specs.Prelude.{slice_index}
 use Rattle.std.proofs.lemmas.Bool.Decides.{nat_tests}
 use Rattle.atomic_table.specs.Table.{keeps, Allows, Me}
-use Rattle.dspec_word.specs.SpecId.{Speculation}
+use Rattle.dspec_table.specs.Words.{Speculation, trace_stopped, Record, Holder, of_cpu, halted, scan, owed, is_open, opened, is_undecided, verdict, in_range, IsSound, View, Doing, WordsRule}
+use Rattle.dspec_table.specs.Words.{activity, activity_place, flight_after, calling, acted, Entered, LoadedActivity, at_activity, number_of}
 use Rattle.dspec_deeds.specs.declared.config.Config.{Config}
-use Rattle.dspec_deeds.specs.FateKinds.{trace_stopped}
 use Rattle.dspec_deeds.specs.declared.deed.Deed.{Deed}
-use Rattle.dspec_record.specs.Record.{Record}
 use Rattle.dspec_deeds.specs.declared.deed.Deed.TheVariants.{Speculate, Commit, Discard}
-use Rattle.dspec_table.specs.Holders.{Holder, of_cpu}
-use Rattle.dspec_deeds.specs.History.{halted, scan, owed, is_open, opened, is_undecided, verdict, in_range}
-use Rattle.dspec_deeds.specs.Legal.{IsSound}
 use Rattle.dspec_deeds.proofs.TestLemmas.{either_way, off, and_tells}
 use Rattle.dspec_deeds.proofs.SoundLists.{opened_in_range, running_not_late}
-use Rattle.dspec_table.specs.declared.rule.View.{View}
 use Rattle.dspec_deeds.specs.declared.calls.CpuOp.{CpuOp}
-use Rattle.dspec_table.specs.declared.doing.Doing.{Doing}
-use Rattle.dspec_table.specs.Rule.{WordsRule}
-use Rattle.dspec_table.specs.Showing.{activity}
-use Rattle.dspec_table.specs.Layout.{activity_place}
-use Rattle.dspec_table.specs.Flights.{flight_after, calling}
-use Rattle.dspec_table.specs.Steps.{acted, Entered, LoadedActivity}
-use Rattle.dspec_table.specs.Acts.{at_activity}
-use Rattle.dspec_table.specs.Holders.{number_of}
 use Rattle.dspec_table.proofs.InFlight.{activity_of}
 use Rattle.dspec_table.proofs.Adding.{sound_adds, part_adds}
 use Rattle.dspec_table.proofs.Keeps.{Owes, none_owed, acts_owed, finds, idle_log, is_cpu, its_config}

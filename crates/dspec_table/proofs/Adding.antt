@@ -9,17 +9,10 @@ use Rattle.atomic_table.proofs.Lists.{at_set}
 use Rattle.dspec_deeds.specs.declared.config.Config.{Config}
 use Rattle.dspec_deeds.specs.declared.calls.CpuOp.{CpuOp}
 use Rattle.dspec_deeds.specs.declared.deed.Deed.{Deed}
-use Rattle.dspec_table.specs.Holders.{Holder, of_cpu, of_nobody, doer, part_of, same_holder}
-use Rattle.dspec_deeds.specs.History.{owed}
-use Rattle.dspec_deeds.specs.Legal.{IsSound, Follows, HasAuthors}
+use Rattle.dspec_table.specs.Words.{Holder, of_cpu, of_nobody, doer, part_of, same_holder, owed, IsSound, Follows, HasAuthors, View, Shows, Since, here, more, Past, holdings, times_among, Parts}
+use Rattle.dspec_table.specs.Words.{Each, Remembers, Knows, KnowsAsks, WordsRule, with_asks}
 use Rattle.dspec_deeds.proofs.TestLemmas.{either_way}
 use Rattle.dspec_table.proofs.HolderTests.{same_holder_tells, part_next}
-use Rattle.dspec_table.specs.declared.rule.View.{View}
-use Rattle.dspec_table.specs.Showing.{Shows}
-use Rattle.dspec_table.specs.Since.{Since, here, more}
-use Rattle.dspec_table.specs.declared.rule.Past.{Past}
-use Rattle.dspec_table.specs.Rule.{holdings, times_among, Parts, Each, Remembers, Knows, KnowsAsks, WordsRule}
-use Rattle.dspec_table.specs.Steps.{with_asks}
 use Rattle.dspec_table.proofs.Pasts.{each_map}
 use Rattle.dspec_table.proofs.Totals.{total_two, total_set, one_seat, same_seats, of_session}
 

@@ -1,11 +1,8 @@
 -- What a call answers, from the number that its exchange found.
 use Rattle.std.proofs.Common.{◌≡◌, ◌≢◌, ℕ, true, false, ◌==◌, sym, ◌∙◌, subst}
-use Rattle.dspec_word.specs.Word.{SlotState, word_number}
+use Rattle.dspec_table.specs.Words.{SlotState, word_number, View, Doing, TriedNumber, TriedWord, ReapedNumber, ReapedWord}
 use Rattle.dspec_word.proofs.Numbers.{one_word}
 use Rattle.dspec_deeds.proofs.TestLemmas.{number_is_itself, other_number}
-use Rattle.dspec_table.specs.declared.rule.View.{View}
-use Rattle.dspec_table.specs.declared.doing.Doing.{Doing}
-use Rattle.dspec_table.specs.Steps.{TriedNumber, TriedWord, ReapedNumber, ReapedWord}
 
 pub tried_hit : (doing : Doing) (slot : ℕ) (v w : View) (new n : ℕ) (from : SlotState) → n ≡ word_number from → TriedNumber doing slot v new n (n == word_number from) w
     → TriedWord doing slot v from true w

@@ -7,15 +7,9 @@ use Rattle.std.proofs.Math.ListN.{length-set}
 use Rattle.atomic_table.specs.Table.{keeps, Allows, Me}
 use Rattle.dspec_deeds.specs.declared.config.Config.{Config}
 use Rattle.dspec_deeds.specs.declared.deed.Deed.{Deed}
-use Rattle.dspec_table.specs.Holders.{of_cpu, of_consumer, same_holder}
+use Rattle.dspec_table.specs.Words.{of_cpu, of_consumer, same_holder, View, WordsRule, Least, KnowsAsks, Shows, slot_place, activity_place, ack_place, ask_place, with_asks, with_ask, StoredAskAt}
+use Rattle.dspec_table.specs.Words.{LoadedAsk, number_of}
 use Rattle.dspec_deeds.proofs.TestLemmas.{either_way, same_number}
-use Rattle.dspec_table.specs.declared.rule.View.{View}
-use Rattle.dspec_table.specs.Rule.{WordsRule, Least, KnowsAsks}
-use Rattle.dspec_table.specs.Showing.{Shows}
-use Rattle.dspec_table.specs.Layout.{slot_place, activity_place, ack_place, ask_place}
-use Rattle.dspec_table.specs.Steps.{with_asks}
-use Rattle.dspec_table.specs.Asks.{with_ask, StoredAskAt, LoadedAsk}
-use Rattle.dspec_table.specs.Holders.{number_of}
 use Rattle.dspec_table.proofs.Quiet.{same_words}
 use Rattle.dspec_table.proofs.Pasts.{each_map}
 use Rattle.dspec_table.proofs.Adding.{acts_asking}

@@ -7,20 +7,10 @@ use Rattle.atomic_table.specs.Table.{Final, Seen}
 use Rattle.atomic_table.specs.Seated.{TableId}
 use Rattle.dspec_deeds.specs.declared.config.Config.{Config}
 use Rattle.dspec_deeds.specs.declared.deed.Deed.{Deed}
-use Rattle.dspec_table.specs.Holders.{Holder, of_cpu, of_consumer, part_of}
-use Rattle.dspec_table.specs.Since.{Since}
-use Rattle.dspec_deeds.specs.Legal.{HasAuthors}
-use Rattle.dspec_deeds.specs.Legal.{IsSound}
-use Rattle.dspec_table.specs.declared.rule.View.{View}
-use Rattle.dspec_table.specs.declared.seats.CpuSeat.{CpuSeat}
-use Rattle.dspec_table.specs.Showing.{Shows, AreWords, IsWordNumber}
+use Rattle.dspec_table.specs.Words.{Holder, of_cpu, of_consumer, part_of, Since, HasAuthors, IsSound, View, CpuSeat, Shows, AreWords, IsWordNumber, ask_place, WordsRule, Parts, Remembers, Least}
+use Rattle.dspec_table.specs.Words.{holdings, known, In, AllAt, Joined, Recalled, Ended, past_of}
 use Rattle.dspec_table.proofs.Limits.{shown_number}
-use Rattle.dspec_table.specs.Layout.{ask_place}
-use Rattle.dspec_table.specs.Rule.{WordsRule, Parts, Remembers, Least, holdings}
 use Rattle.dspec_table.proofs.Pasts.{each_in, others_since}
-use Rattle.dspec_table.specs.Seats.{known}
-use Rattle.dspec_table.specs.Last.{In, AllAt, Joined, Recalled, Ended}
-use Rattle.dspec_table.specs.Notes.{past_of}
 use Rattle.dspec_table.proofs.Dealing.{got_pushed}
 
 in_front : {A : Type 0} (p : A) (ps qs : List A) → In p ps → In p (ps ++ qs)

@@ -7,12 +7,9 @@ use mathlib.Core.Option.{some, some-injective, some-ne-none}
 use lib.ListN.{get_elem?}
 use Rattle.atomic_table.specs.Table.{opening}
 use Rattle.dspec_deeds.specs.declared.config.Config.{Config}
-use Rattle.dspec_table.specs.Holders.{of_cpu, of_consumer}
+use Rattle.dspec_table.specs.Words.{of_cpu, of_consumer, View, here, times_among, Parts, HaveSeats, Knows, KnowsAsks, WordsRule, cpus_from, newcomer, slot_place, word_count, activity_place}
+use Rattle.dspec_table.specs.Words.{ack_place, ask_place}
 use Rattle.dspec_deeds.proofs.TestLemmas.{either_way, same_number}
-use Rattle.dspec_table.specs.declared.rule.View.{View}
-use Rattle.dspec_table.specs.Since.{here}
-use Rattle.dspec_table.specs.Rule.{times_among, Parts, HaveSeats, Knows, KnowsAsks, WordsRule, cpus_from, newcomer}
-use Rattle.dspec_table.specs.Layout.{slot_place, word_count, activity_place, ack_place, ask_place}
 
 zeros_at : (n i : ℕ) → slice_index (replicate n 0) i ≡ 0
 zeros_at zero i = refl

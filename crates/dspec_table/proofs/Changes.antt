@@ -10,15 +10,9 @@ use prog.Atomic.{either}
 use Rattle.atomic_table.specs.Table.{State, keeps, Allows, Me, stepped}
 use Rattle.dspec_deeds.specs.declared.config.Config.{Config}
 use Rattle.dspec_deeds.specs.declared.deed.Deed.{Deed}
-use Rattle.dspec_table.specs.Holders.{Holder, same_holder}
-use Rattle.dspec_deeds.specs.History.{ack, owed}
+use Rattle.dspec_table.specs.Words.{Holder, same_holder, ack, owed, View, WordsRule, Shows, activity, word, slot_place, activity_place, group_width, group_place, ack_place, ask_place, AreOf}
+use Rattle.dspec_table.specs.Words.{flight_after, acted, Entered}
 use Rattle.dspec_deeds.proofs.TestLemmas.{either_way, same_number}
-use Rattle.dspec_table.specs.declared.rule.View.{View}
-use Rattle.dspec_table.specs.Rule.{WordsRule}
-use Rattle.dspec_table.specs.Showing.{Shows, activity, word}
-use Rattle.dspec_table.specs.Layout.{slot_place, activity_place, group_width, group_place, ack_place, ask_place}
-use Rattle.dspec_table.specs.Flights.{AreOf, flight_after}
-use Rattle.dspec_table.specs.Steps.{acted, Entered}
 use Rattle.dspec_table.proofs.Places.{slot_within}
 use Rattle.dspec_table.proofs.Adding.{Adds}
 use Rattle.dspec_table.proofs.Keeps.{Owes, LeavesAsks, acts, acts_owed, enters, enters_owed}

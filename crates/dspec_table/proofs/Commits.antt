@@ -1,29 +1,17 @@
 -- A commit that waits for no other CPU stands, and is its seat's own.
 use Rattle.std.proofs.Common.{◌≡◌, ℕ, Bool, true, false, ◌==◌, if◌then◌else◌, List, [], ◌∷◌, Some, refl, sym, ap, ◌∙◌, subst}
-use Rattle.dspec_word.specs.SpecId.{Speculation}
-use Rattle.dspec_word.specs.Word.{SlotState}
+use Rattle.dspec_table.specs.Words.{Speculation, SlotState, commit_act, commit_at, discard_act, discard_at, is_commit, scan, present, opened, verdict, committed, solo, word_at, IsSound}
+use Rattle.dspec_table.specs.Words.{committed_fate, View, Doing, of_cpu, number_of, at_hit, MayLoad, Attempts, IsDeciding, OwnCommit, IfCommitting, slot_place, acted, Entered}
 use Rattle.dspec_word.specs.declared.code.Code.{Code}
 use Rattle.dspec_word.specs.declared.code.Code.TheVariants.{Inactive, Active, ActiveOne, ActiveMany, Committing, CommittingMany, Discarding}
 use Rattle.dspec_word.specs.declared.act.Act.TheVariants.{Void, Attempt}
-use Rattle.dspec_word.specs.Tables.{commit_act, commit_at, discard_act, discard_at}
 use Rattle.dspec_deeds.specs.declared.config.Config.{Config}
 use Rattle.dspec_deeds.specs.declared.calls.CpuOp.{CpuOp}
 use Rattle.dspec_deeds.specs.declared.calls.CpuOp.TheVariants as op
 use Rattle.dspec_deeds.specs.declared.deed.Deed.{Deed}
 use Rattle.dspec_deeds.specs.declared.deed.Deed.TheVariants.{Commit}
-use Rattle.dspec_deeds.specs.FateKinds.{is_commit}
-use Rattle.dspec_deeds.specs.History.{scan, present, opened, verdict, committed, solo, word_at}
-use Rattle.dspec_deeds.specs.Legal.{IsSound}
 use Rattle.dspec_deeds.proofs.TestLemmas.{same_number, id_is_itself}
 use Rattle.dspec_deeds.proofs.WordCodes.{committing_tells}
-use Rattle.dspec_deeds.specs.Settling.{committed_fate}
-use Rattle.dspec_table.specs.declared.rule.View.{View}
-use Rattle.dspec_table.specs.declared.doing.Doing.{Doing}
-use Rattle.dspec_table.specs.Holders.{of_cpu, number_of}
-use Rattle.dspec_table.specs.Acts.{at_hit}
-use Rattle.dspec_table.specs.Conditions.{MayLoad, Attempts, IsDeciding, OwnCommit, IfCommitting}
-use Rattle.dspec_table.specs.Layout.{slot_place}
-use Rattle.dspec_table.specs.Steps.{acted, Entered}
 use Rattle.dspec_table.proofs.Limits.{issue_below}
 
 attempt_is : (a b : SlotState) → Attempt a ≡ Attempt b → a ≡ b

@@ -1,14 +1,12 @@
 -- The same of the consumer's steps.
 use Rattle.std.proofs.Common.{◌≡◌, ℕ, Bool, true, false, ◌==◌, ◌+◌, List, [], ◌∷◌, ◌++◌, if◌then◌else◌, refl, sym, ap, ◌∙◌, subst}
 use Rattle.std.specs.Prelude.{nat_lt}
-use Rattle.dspec_word.specs.Code.{awaits}
-use Rattle.dspec_word.specs.Word.{SlotState}
+use Rattle.dspec_table.specs.Words.{awaits, SlotState, halted, word_at, ack, bare, progress_of, same_word, consumer_step, next_slot, loads_slot, loads_ack, reaps, takes_at, gives_at, View, at_stop}
+use Rattle.dspec_table.specs.Words.{slot_place, Found, Entered, LookedWord, slot_there, consumer_deeds, ConsumerSeatStep, IsStepOfPlay}
 use Rattle.dspec_deeds.specs.declared.config.Config.{Config}
 use Rattle.dspec_deeds.specs.declared.calls.ConsumerOp.TheVariants as consumer_op
 use Rattle.dspec_deeds.specs.declared.deed.Deed.{Deed}
 use Rattle.dspec_deeds.specs.declared.deed.Deed.TheVariants.{Release}
-use Rattle.dspec_deeds.specs.History.{halted, word_at, ack}
-use Rattle.dspec_deeds.specs.Weaving.{bare}
 use Rattle.dspec_deeds.proofs.BareReads.{shows_bare}
 use Rattle.dspec_interleaving.specs.declared.flight.CpuProgress.{CpuProgress}
 use Rattle.dspec_interleaving.specs.declared.flight.ConsumerFlight.{ConsumerFlight}
@@ -16,14 +14,7 @@ use Rattle.dspec_interleaving.specs.declared.flight.ConsumerFlight.TheVariants a
 use Rattle.dspec_interleaving.specs.declared.flight.ConsumerProgress.{ConsumerProgress}
 use Rattle.dspec_interleaving.specs.declared.flight.Spare.{Spare}
 use Rattle.dspec_interleaving.specs.declared.flight.Spare.TheVariants as spare
-use Rattle.dspec_interleaving.specs.Coherent.{progress_of}
-use Rattle.dspec_interleaving.specs.Play.{same_word, consumer_step, next_slot, loads_slot, loads_ack, reaps, takes_at, gives_at}
-use Rattle.dspec_table.specs.declared.rule.View.{View}
 use Rattle.dspec_interleaving.proofs.StepsWords.{word_is_itself}
-use Rattle.dspec_table.specs.Acts.{at_stop}
-use Rattle.dspec_table.specs.Layout.{slot_place}
-use Rattle.dspec_table.specs.Steps.{Found, Entered, LookedWord}
-use Rattle.dspec_table.specs.SameSteps.{slot_there, consumer_deeds, ConsumerSeatStep, IsStepOfPlay}
 use Rattle.dspec_table.proofs.SeatsDid.{IsBehind, bare_joined, did}
 
 module _ (k : Config) (h : List Deed) (side : ConsumerProgress) (all : List CpuProgress) where

@@ -4,12 +4,7 @@ use Rattle.std.specs.Prelude.{slice_get}
 use Rattle.atomic_table.specs.Table.{Splits}
 use Rattle.atomic_table.specs.Seated.{TableId}
 use Rattle.dspec_deeds.specs.declared.config.Config.{Config}
-use Rattle.dspec_table.specs.Holders.{of_cpu}
-use Rattle.dspec_table.specs.declared.rule.View.{View}
-use Rattle.dspec_table.specs.declared.seats.CpuSeat.{CpuSeat}
-use Rattle.dspec_table.specs.Rule.{WordsRule, cpus_from}
-use Rattle.dspec_table.specs.Notes.{without, dealt, others, first_of_those}
-use Rattle.dspec_table.specs.Seats.{known, fresh_seat, dealing, DealtSeats}
+use Rattle.dspec_table.specs.Words.{of_cpu, View, CpuSeat, WordsRule, cpus_from, without, dealt, others, first_of_those, known, fresh_seat, dealing, DealtSeats}
 use Rattle.dspec_table.proofs.Joining.{deals}
 
 more_cpus : (c n : ℕ) → c < n → cpus_from c (n - c) ≡ (of_cpu c, []) ∷ cpus_from (c + 1) (n - (c + 1))

@@ -3,26 +3,15 @@ use Rattle.std.proofs.Common.{Option, inr, ◌≡◌, ℕ, ◌+◌, ◌≤◌, �
 use Rattle.dspec_word.specs.declared.code.Code.{Code}
 use Rattle.dspec_word.specs.declared.code.Code.TheVariants.{Inactive, Active, ActiveOne, ActiveMany, Committing, CommittingMany, Discarding}
 use Rattle.dspec_word.specs.declared.act.Act.TheVariants.{Void, Attempt}
-use Rattle.dspec_word.specs.Tables.{speculate_act, speculate_at}
+use Rattle.dspec_table.specs.Words.{speculate_act, speculate_at, Speculation, SlotState, is_among, callers, scan, late, in_range, word_at, mark, View, Doing, of_cpu, number_of, Since, at_activity}
+use Rattle.dspec_table.specs.Words.{at_word, speculates, void_commit, void_discard, IsOn, IsInFlight, MayLoad, MayTry, Attempts, more_callers, joined_word, calling, flight_after, activity_place}
+use Rattle.dspec_table.specs.Words.{slot_place, acted, Entered, EnteredIn, LoadedActivity, LoadedWord}
 use Rattle.dspec_deeds.specs.declared.deed.Deed.{Deed}
-use Rattle.dspec_word.specs.SpecId.{Speculation}
-use Rattle.dspec_word.specs.Word.{SlotState}
 use Rattle.dspec_deeds.specs.declared.config.Config.{Config}
 use Rattle.dspec_deeds.specs.declared.calls.CpuOp.{CpuOp}
 use Rattle.dspec_deeds.specs.declared.calls.CpuOp.TheVariants as op
 use Rattle.dspec_deeds.specs.declared.deed.Deed.TheVariants.{Trace, Scan, Opened, Miss, Speculate, Commit, Discard, Settle, Seal, Release, Halt}
-use Rattle.dspec_deeds.specs.History.{is_among, callers, scan, late, in_range, word_at}
-use Rattle.dspec_deeds.specs.Marks.{mark}
 use Rattle.dspec_deeds.proofs.SoundLists.{running_not_late}
-use Rattle.dspec_table.specs.declared.rule.View.{View}
-use Rattle.dspec_table.specs.declared.doing.Doing.{Doing}
-use Rattle.dspec_table.specs.Holders.{of_cpu, number_of}
-use Rattle.dspec_table.specs.Since.{Since}
-use Rattle.dspec_table.specs.Acts.{at_activity, at_word, speculates, void_commit, void_discard}
-use Rattle.dspec_table.specs.Conditions.{IsOn, IsInFlight, MayLoad, MayTry, Attempts, more_callers, joined_word}
-use Rattle.dspec_table.specs.Flights.{calling, flight_after}
-use Rattle.dspec_table.specs.Layout.{activity_place, slot_place}
-use Rattle.dspec_table.specs.Steps.{acted, Entered, EnteredIn, LoadedActivity, LoadedWord}
 use Rattle.dspec_table.proofs.Keeps.{late_since}
 
 -- what is in flight behind a deed doesn't ask what was before

@@ -1,16 +1,10 @@
 -- A slot's word only grows, so an exchange that fails shows a greater one.
 use Rattle.std.proofs.Common.{◌≡◌, ◌≢◌, ℕ, ◌≤◌, ◌<◌, List, ◌∷◌, ap, arith}
-use Rattle.dspec_word.specs.Word.{SlotState, word_number}
+use Rattle.dspec_table.specs.Words.{SlotState, word_number, Holder, word_at, IsSound, View, Since, here, more, Found}
 use Rattle.dspec_word.proofs.Numbers.{one_word}
 use Rattle.dspec_deeds.specs.declared.config.Config.{Config}
 use Rattle.dspec_deeds.specs.declared.deed.Deed.{Deed}
-use Rattle.dspec_table.specs.Holders.{Holder}
-use Rattle.dspec_deeds.specs.History.{word_at}
-use Rattle.dspec_deeds.specs.Legal.{IsSound}
 use Rattle.dspec_deeds.proofs.WordsRise.{words_rise}
-use Rattle.dspec_table.specs.declared.rule.View.{View}
-use Rattle.dspec_table.specs.Since.{Since, here, more}
-use Rattle.dspec_table.specs.Steps.{Found}
 
 pub word_rises : (k : Config) (w : Holder) (seen log : List Deed) (s : ℕ) → IsSound k log → Since w seen log → word_number (word_at s seen) ≤ word_number (word_at s log)
 word_rises k w seen _ s sound here = omega arith

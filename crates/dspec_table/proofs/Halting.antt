@@ -6,17 +6,9 @@ use Rattle.std.proofs.Math.ListN.{length-set}
 use Rattle.atomic_table.specs.Table.{keeps, Allows, Me}
 use Rattle.dspec_deeds.specs.declared.config.Config.{Config}
 use Rattle.dspec_deeds.specs.declared.deed.Deed.{Deed}
-use Rattle.dspec_table.specs.Holders.{of_consumer, same_holder}
-use Rattle.dspec_deeds.specs.History.{halted, owed}
-use Rattle.dspec_table.specs.declared.rule.View.{View}
-use Rattle.dspec_table.specs.Rule.{WordsRule}
-use Rattle.dspec_table.specs.Showing.{Shows}
-use Rattle.dspec_table.specs.Layout.{slot_place, activity_place, ack_place}
+use Rattle.dspec_table.specs.Words.{of_consumer, same_holder, halted, owed, View, WordsRule, Shows, slot_place, activity_place, ack_place, acted, StoredActivity, at_stop, AreOf}
 use Rattle.dspec_table.proofs.Places.{before_groups}
-use Rattle.dspec_table.specs.Steps.{acted, StoredActivity}
 use Rattle.dspec_deeds.specs.declared.calls.CpuOp.{CpuOp}
-use Rattle.dspec_table.specs.Acts.{at_stop}
-use Rattle.dspec_table.specs.Flights.{AreOf}
 use Rattle.dspec_table.proofs.Adding.{Adds}
 use Rattle.dspec_table.proofs.Keeps.{acts, enters, finds}
 use Rattle.dspec_table.proofs.Changes.{leaves_asks}

@@ -1,24 +1,15 @@
 -- The deeds of a step are of the call in flight.
 use Rattle.std.proofs.Common.{◌≡◌, ℕ, ◌∙◌, Bool, true, false, if◌then◌else◌, [], ◌∷◌, Option, Some, refl, sym, ap, subst}
-use Rattle.dspec_word.specs.SpecId.{Speculation}
-use Rattle.dspec_word.specs.Word.{SlotState}
-use Rattle.dspec_word.specs.Code.{is_inactive}
+use Rattle.dspec_table.specs.Words.{Speculation, SlotState, is_inactive, open_at, speculate_at, commit_at, discard_at, Record, in_range, View, Doing, at_activity, miss_at, speculates, void_commit}
+use Rattle.dspec_table.specs.Words.{void_discard, at_word, at_open, discard_hits, at_hit, at_exchange, MayLoad, AreOf}
 use Rattle.dspec_word.specs.declared.act.Act.{Act}
 use Rattle.dspec_word.specs.declared.act.Act.TheVariants.{Void, Granted, Attempt, Idle}
-use Rattle.dspec_word.specs.Tables.{open_at, speculate_at, commit_at, discard_at}
-use Rattle.dspec_record.specs.Record.{Record}
 use Rattle.dspec_deeds.specs.declared.config.Config.{Config}
 use Rattle.dspec_deeds.specs.declared.calls.CpuOp.{CpuOp}
 use Rattle.dspec_deeds.specs.declared.calls.CpuOp.TheVariants as op
 use Rattle.dspec_deeds.specs.declared.deed.SpeculateFate.TheVariants as spoken
 use Rattle.dspec_deeds.specs.declared.deed.DecideFate.TheVariants as decided
 use Rattle.dspec_deeds.specs.declared.deed.Deed.TheVariants.{Speculate, Commit, Discard, Release}
-use Rattle.dspec_deeds.specs.History.{in_range}
-use Rattle.dspec_table.specs.declared.rule.View.{View}
-use Rattle.dspec_table.specs.declared.doing.Doing.{Doing}
-use Rattle.dspec_table.specs.Acts.{at_activity, miss_at, speculates, void_commit, void_discard, at_word, at_open, discard_hits, at_hit, at_exchange}
-use Rattle.dspec_table.specs.Conditions.{MayLoad}
-use Rattle.dspec_table.specs.Flights.{AreOf}
 
 pub activity_of : (k : Config) (c : ℕ) (doing : Doing) (o : CpuOp) (b : Bool) → AreOf (Some o) (at_activity k c doing o b)
 activity_of k c doing (op.Trace r) b = (refl, tt)

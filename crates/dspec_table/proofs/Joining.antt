@@ -7,16 +7,12 @@ use Rattle.atomic_table.specs.Table.{State, Splits, Joins}
 use Rattle.atomic_table.proofs.Lists.{at_set, at_snoc}
 use Rattle.dspec_deeds.specs.declared.config.Config.{Config}
 use Rattle.dspec_deeds.specs.declared.deed.Deed.{Deed}
-use Rattle.dspec_table.specs.Holders.{Holder, of_cpu, of_consumer, of_nobody, doer, part_of, same_holder}
+use Rattle.dspec_table.specs.Words.{Holder, of_cpu, of_consumer, of_nobody, doer, part_of, same_holder, View, Since, here, more, holdings, times_among, held_in_all, Parts, Each, Remembers, Least}
+use Rattle.dspec_table.specs.Words.{Knows, KnowsAsks, WordsRule, ask_place, nobody, without, dealt, greater, note, heard, answered, past_of, gathered}
 use Rattle.dspec_deeds.proofs.TestLemmas.{either_way}
 use Rattle.std.specs.Prelude.{Some, None}
 use Rattle.dspec_deeds.specs.declared.calls.Actor.TheVariants.{Cpu, Consumer}
 use Rattle.dspec_table.proofs.HolderTests.{part_next}
-use Rattle.dspec_table.specs.declared.rule.View.{View}
-use Rattle.dspec_table.specs.Since.{Since, here, more}
-use Rattle.dspec_table.specs.Rule.{holdings, times_among, held_in_all, Parts, Each, Remembers, Least, Knows, KnowsAsks, WordsRule}
-use Rattle.dspec_table.specs.Layout.{ask_place}
-use Rattle.dspec_table.specs.Notes.{nobody, without, dealt, greater, note, heard, answered, past_of, gathered}
 use Rattle.dspec_table.proofs.Totals.{total_set, total_snoc, same_seats}
 use Rattle.dspec_table.proofs.Adding.{since_nothing}
 use Rattle.dspec_table.proofs.Keeps.{its_config}

@@ -8,19 +8,10 @@ use Rattle.atomic_table.specs.Table.{State, keeps, Allows, Me, stepped}
 use Rattle.dspec_deeds.specs.declared.config.Config.{Config}
 use Rattle.dspec_deeds.specs.declared.calls.CpuOp.{CpuOp}
 use Rattle.dspec_deeds.specs.declared.deed.Deed.{Deed}
-use Rattle.dspec_table.specs.Holders.{Holder, of_cpu, of_nobody, part_of, same_holder}
-use Rattle.dspec_deeds.specs.History.{owed, scan, late, halted, is_halt}
-use Rattle.dspec_deeds.specs.Legal.{IsSound}
+use Rattle.dspec_table.specs.Words.{Holder, of_cpu, of_nobody, part_of, same_holder, owed, scan, late, halted, is_halt, IsSound, View, Shows, Since, here, more, Past, Each, Least, Knows, KnowsAsks}
+use Rattle.dspec_table.specs.Words.{WordsRule, ask_place, AreOf, flight_after, acted, Found, Entered}
 use Rattle.dspec_table.proofs.OwnReading.{scan_part}
 use Rattle.dspec_deeds.proofs.TestLemmas.{number_is_itself}
-use Rattle.dspec_table.specs.declared.rule.View.{View}
-use Rattle.dspec_table.specs.Showing.{Shows}
-use Rattle.dspec_table.specs.Since.{Since, here, more}
-use Rattle.dspec_table.specs.declared.rule.Past.{Past}
-use Rattle.dspec_table.specs.Rule.{Each, Least, Knows, KnowsAsks, WordsRule}
-use Rattle.dspec_table.specs.Layout.{ask_place}
-use Rattle.dspec_table.specs.Flights.{AreOf, flight_after}
-use Rattle.dspec_table.specs.Steps.{acted, Found, Entered}
 use Rattle.dspec_table.proofs.Quiet.{IsQuiet, quiet_shows, same_words}
 use Rattle.dspec_table.proofs.Pasts.{each_map}
 use Rattle.dspec_table.proofs.Adding.{Adds, acts_asking, flying, part_adds, sound_adds}

@@ -2,21 +2,15 @@
 use Rattle.std.proofs.Common.{◌≡◌, ℕ, suc, ◌+◌, ◌*◌, ◌<◌, ◌≤◌, ◌^◌, true, false, not, true≢false, List, [], ◌∷◌, if◌then◌else◌, refl, ap, ◌∙◌, sym, subst, ⊎_elim, inl, inr, arith}
 use Rattle.std.specs.Prelude.{nat_lt}
 use Rattle.std.proofs.lemmas.Bool.Decides.{nat_tests}
-use Rattle.dspec_word.specs.SpecId.{Speculation}
-use Rattle.dspec_word.specs.Word.{SlotState, word_number, CanBeReleased}
+use Rattle.dspec_table.specs.Words.{Speculation, SlotState, word_number, CanBeReleased, opens, opened, issue, present, releases, verdict, is_undecided, callers, standing, word_at, IsSound, Follows}
+use Rattle.dspec_table.specs.Words.{View, Found, IsWordNumber, code_number}
 use Rattle.dspec_word.specs.declared.code.Code.{Code}
 use Rattle.dspec_word.specs.declared.code.Code.TheVariants.{Inactive, Active, ActiveOne, ActiveMany, Committing, CommittingMany, Discarding}
 use Rattle.dspec_deeds.specs.declared.config.Config.{Config}
 use Rattle.dspec_deeds.specs.declared.deed.Deed.{Deed}
 use Rattle.dspec_deeds.specs.declared.deed.Deed.TheVariants.{Opened, Release}
-use Rattle.dspec_deeds.specs.History.{opens, opened, issue, present, releases, verdict, is_undecided, callers, standing, word_at}
-use Rattle.dspec_deeds.specs.Legal.{IsSound, Follows}
 use Rattle.dspec_deeds.proofs.TestLemmas.{either_way, or_tells, and_tells, same_id_tells, same_number}
 use Rattle.dspec_deeds.proofs.PresentIds.{decided_given}
-use Rattle.dspec_table.specs.declared.rule.View.{View}
-use Rattle.dspec_table.specs.Steps.{Found}
-use Rattle.dspec_table.specs.Showing.{IsWordNumber}
-use Rattle.dspec_word.specs.Code.{code_number}
 use Rattle.dspec_word.proofs.Numbers.{code_below}
 
 -- what was given out has an issue below the most

@@ -3,37 +3,22 @@ use Rattle.std.proofs.Common.{◌≡◌, ℕ, ◌≤◌, ◌+◌, ◌==◌, Bool
 use mathlib.Core.Option.{some}
 use lib.ListN.{get_elem?}
 use Rattle.atomic_table.specs.Table.{State, Allows, Me}
-use Rattle.dspec_word.specs.SpecId.{Speculation}
+use Rattle.dspec_table.specs.Words.{Speculation, word_number, speculate_at, speculate_act, commit_at, commit_act, discard_at, discard_act, open_at, spoken_granted, Record, slot_place, Holder}
+use Rattle.dspec_table.specs.Words.{of_cpu, part_of, same_id, issue, scan, owed, late, present, code_at, word_at, is_among, callers, joined, verdict, opened, standing, is_open, IsSound, mark, View}
+use Rattle.dspec_table.specs.Words.{Doing, WordsRule, Since, number_of, miss_at, speculates, void_commit, void_discard, at_word, IsInFlight, MayLoad, LoadedNumber}
 use Rattle.dspec_word.specs.declared.act.Act.{Act}
 use Rattle.dspec_word.specs.declared.act.Act.TheVariants.{Void, Granted, Attempt, Idle}
 use Rattle.dspec_word.specs.declared.code.Code.TheVariants.{Inactive}
-use Rattle.dspec_word.specs.Word.{word_number}
-use Rattle.dspec_word.specs.Tables.{speculate_at, speculate_act, commit_at, commit_act, discard_at, discard_act, open_at}
 use Rattle.dspec_deeds.specs.declared.config.Config.{Config}
 use Rattle.dspec_deeds.specs.declared.deed.SpeculateFate.{SpeculateFate}
-use Rattle.dspec_deeds.specs.FateKinds.{spoken_granted}
-use Rattle.dspec_record.specs.Record.{Record}
 use Rattle.dspec_deeds.specs.declared.deed.Deed.{Deed}
 use Rattle.dspec_deeds.specs.declared.deed.Deed.TheVariants.{Speculate}
-use Rattle.dspec_table.specs.Layout.{slot_place}
-use Rattle.dspec_table.specs.Holders.{Holder, of_cpu, part_of}
-use Rattle.dspec_deeds.specs.History.{same_id, issue, scan, owed, late, present, code_at, word_at, is_among, callers, joined, verdict, opened, standing, is_open}
-use Rattle.dspec_deeds.specs.Legal.{IsSound}
-use Rattle.dspec_deeds.specs.Marks.{mark}
 use Rattle.dspec_deeds.proofs.TestLemmas.{either_way, same_id_tells, same_number}
 use Rattle.dspec_deeds.proofs.Marks.{mark_tells, mark_part}
 use Rattle.dspec_table.proofs.OwnReading.{has_part}
 use Rattle.dspec_deeds.proofs.WordActs.{speculate_void, speculate_granted, commit_void, discard_void}
 use Rattle.dspec_deeds.proofs.WordCodes.{busy_is, open_void}
-use Rattle.dspec_table.specs.declared.rule.View.{View}
 use Rattle.dspec_deeds.specs.declared.calls.CpuOp.{CpuOp}
-use Rattle.dspec_table.specs.declared.doing.Doing.{Doing}
-use Rattle.dspec_table.specs.Rule.{WordsRule}
-use Rattle.dspec_table.specs.Since.{Since}
-use Rattle.dspec_table.specs.Holders.{number_of}
-use Rattle.dspec_table.specs.Acts.{miss_at, speculates, void_commit, void_discard, at_word}
-use Rattle.dspec_table.specs.Conditions.{IsInFlight, MayLoad}
-use Rattle.dspec_table.specs.Steps.{LoadedNumber}
 use Rattle.dspec_table.proofs.InFlight.{word_of}
 use Rattle.dspec_table.proofs.Keeps.{Owes, none_owed, loads, finds, idle_log, late_since, enters_owed, is_cpu, its_config}
 use Rattle.dspec_deeds.specs.declared.deed.SpeculateFate.TheVariants as spoken

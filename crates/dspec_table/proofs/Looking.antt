@@ -5,12 +5,7 @@ use mathlib.Core.Option.{some}
 use lib.ListN.{get_elem?}
 use Rattle.atomic_table.specs.Table.{State, keeps, Allows, Me}
 use Rattle.dspec_deeds.specs.declared.config.Config.{Config}
-use Rattle.dspec_table.specs.Holders.{same_holder}
-use Rattle.dspec_deeds.specs.History.{word_at}
-use Rattle.dspec_table.specs.declared.rule.View.{View}
-use Rattle.dspec_table.specs.Rule.{WordsRule}
-use Rattle.dspec_table.specs.Layout.{slot_place, activity_place, ack_place}
-use Rattle.dspec_table.specs.Steps.{acted, Looked, LookedNumber, LoadedAckAt}
+use Rattle.dspec_table.specs.Words.{same_holder, word_at, View, WordsRule, slot_place, activity_place, ack_place, acted, Looked, LookedNumber, LoadedAckAt}
 use Rattle.dspec_table.proofs.Keeps.{none_owed, acts_owed, finds, its_config}
 
 -- a load that enters nothing keeps the rule

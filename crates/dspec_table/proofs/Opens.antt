@@ -2,30 +2,18 @@
 use Rattle.std.proofs.Common.{◌≡◌, ◌≢◌, ◌⊎◌, ℕ, ◌≤◌, true, false, ◌||◌, ◌==◌, List, [], ◌∷◌, refl, sym, ap, ◌∙◌, subst, ⊎_elim, inl, inr, true≢false}
 use prog.Atomic.{either}
 use Rattle.atomic_table.specs.Table.{Allows, Me}
-use Rattle.dspec_word.specs.Word.{SlotState, word_number}
+use Rattle.dspec_table.specs.Words.{SlotState, word_number, open_at, is_inactive, is_decided, slot_place, Holder, of_cpu, same_id, issue, scan, owed, present, opened, opened_since, code_at, word_at}
+use Rattle.dspec_table.specs.Words.{IsSound, View, WordsRule, Since, here, more, number_of, at_open, MayOpen, OpenedNumber}
 use Rattle.dspec_word.specs.declared.act.Act.TheVariants.{Attempt}
 use Rattle.dspec_word.specs.declared.code.Code.TheVariants.{Active}
-use Rattle.dspec_word.specs.Tables.{open_at}
-use Rattle.dspec_word.specs.Code.{is_inactive, is_decided}
 use Rattle.dspec_word.proofs.Numbers.{one_word}
 use Rattle.dspec_deeds.specs.declared.config.Config.{Config}
 use Rattle.dspec_deeds.specs.declared.deed.Deed.{Deed}
 use Rattle.dspec_deeds.specs.declared.deed.Deed.TheVariants.{Opened, Miss}
-use Rattle.dspec_table.specs.Layout.{slot_place}
-use Rattle.dspec_table.specs.Holders.{Holder, of_cpu}
-use Rattle.dspec_deeds.specs.History.{same_id, issue, scan, owed, present, opened, opened_since, code_at, word_at}
-use Rattle.dspec_deeds.specs.Legal.{IsSound}
 use Rattle.dspec_deeds.proofs.TestLemmas.{id_is_itself, other_slot, not_false}
 use Rattle.dspec_deeds.proofs.SoundLists.{unseen}
 use Rattle.dspec_deeds.proofs.WordCodes.{open_attempt, open_inactive, busy_is}
 use Rattle.dspec_deeds.proofs.StayingFree.{free_or_taken}
-use Rattle.dspec_table.specs.declared.rule.View.{View}
-use Rattle.dspec_table.specs.Rule.{WordsRule}
-use Rattle.dspec_table.specs.Since.{Since, here, more}
-use Rattle.dspec_table.specs.Holders.{number_of}
-use Rattle.dspec_table.specs.Acts.{at_open}
-use Rattle.dspec_table.specs.Conditions.{MayOpen}
-use Rattle.dspec_table.specs.Steps.{OpenedNumber}
 use Rattle.dspec_table.proofs.InFlight.{open_of}
 use Rattle.dspec_table.proofs.Keeps.{Owes, finds, idle_log, is_cpu}
 use Rattle.dspec_table.proofs.Changes.{Changes, exchanges}

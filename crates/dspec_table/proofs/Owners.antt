@@ -7,14 +7,8 @@ use Rattle.dspec_deeds.specs.declared.config.Config.{Config}
 use Rattle.dspec_deeds.specs.declared.calls.Actor.{Actor}
 use Rattle.dspec_deeds.specs.declared.calls.Actor.TheVariants.{Cpu, Consumer}
 use Rattle.dspec_deeds.specs.declared.deed.Deed.{Deed}
-use Rattle.dspec_deeds.specs.History.{author}
-use Rattle.dspec_deeds.specs.Legal.{HasAuthors}
+use Rattle.dspec_table.specs.Words.{author, HasAuthors, View, Holder, doer, part_of, same_holder, In, HasOneSeat, holdings, times_among, held_in_all, HaveSeats, WordsRule}
 use Rattle.dspec_deeds.proofs.TestLemmas.{either_way}
-use Rattle.dspec_table.specs.declared.rule.View.{View}
-use Rattle.dspec_table.specs.Holders.{Holder, doer, part_of, same_holder}
-use Rattle.dspec_table.specs.Last.{In}
-use Rattle.dspec_table.specs.Owners.{HasOneSeat}
-use Rattle.dspec_table.specs.Rule.{holdings, times_among, held_in_all, HaveSeats, WordsRule}
 use Rattle.dspec_table.proofs.AtEnd.{part_in}
 use Rattle.dspec_table.proofs.HolderTests.{same_holder_tells, part_next}
 use Rattle.dspec_table.proofs.Adding.{same_turned}

@@ -2,11 +2,7 @@
 use Rattle.std.proofs.Common.{◌≡◌, ◌≤◌, arith, true, false, List, [], ◌∷◌, ◌++◌, length, refl, sym, ap, ◌∙◌, subst, ⊎_elim}
 use Rattle.dspec_deeds.specs.declared.deed.Deed.{Deed}
 use Rattle.dspec_deeds.proofs.TestLemmas.{either_way}
-use Rattle.dspec_table.specs.declared.rule.Past.{Past}
-use Rattle.dspec_table.specs.Holders.{Holder, of_nobody, doer, part_of, same_holder}
-use Rattle.dspec_table.specs.Since.{Since, here, more}
-use Rattle.dspec_table.specs.Rule.{Each}
-use Rattle.dspec_table.specs.Last.{In}
+use Rattle.dspec_table.specs.Words.{Past, Holder, of_nobody, doer, part_of, same_holder, Since, here, more, Each, In}
 use Rattle.dspec_table.proofs.HolderTests.{part_next}
 
 pub each_map : (P Q : Past → Type 0) → ((p : Past) → P p → Q p) → (ps : List Past) → Each P ps → Each Q ps

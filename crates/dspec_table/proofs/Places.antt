@@ -3,7 +3,7 @@ use Rattle.std.proofs.Common.{◌≡◌, ◌≢◌, ℕ, suc, ◌+◌, ◌*◌, 
 use Rattle.std.proofs.Math.Nat.{mul-div_cancel}
 use native.Mathlib.Decide.{dec_lt}
 use Rattle.dspec_deeds.specs.declared.config.Config.{Config}
-use Rattle.dspec_table.specs.Layout.{slot_place, slot_at, group_width, group_place, ask_place, ack_place, word_count}
+use Rattle.dspec_table.specs.Words.{slot_place, slot_at, group_width, group_place, ask_place, ack_place, word_count}
 
 -- a group ends before the next begins
 groups_follow : (c d w : ℕ) → c < d → c * w + w ≤ d * w

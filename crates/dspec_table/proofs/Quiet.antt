@@ -4,8 +4,7 @@ use Rattle.std.specs.Prelude.{slice_index, slice_set}
 use Rattle.std.proofs.lemmas.List.{set-get_or}
 use Rattle.dspec_deeds.specs.declared.config.Config.{Config}
 use Rattle.dspec_deeds.specs.declared.deed.Deed.{Deed}
-use Rattle.dspec_table.specs.Showing.{Shows, activity, word}
-use Rattle.dspec_deeds.specs.History.{ack}
+use Rattle.dspec_table.specs.Words.{Shows, activity, word, ack}
 
 -- the longer list shows in the same words
 pub record IsQuiet (log new : List Deed) : Type 0 where

@@ -2,28 +2,18 @@
 use Rattle.std.proofs.Common.{◌≡◌, ℕ, ◌≤◌, ◌<◌, true, ◌==◌, List, [], ◌∷◌, refl, sym, ap, ◌∙◌, subst, inl, inr, arith}
 use prog.Atomic.{either}
 use Rattle.atomic_table.specs.Table.{Allows, Me}
-use Rattle.dspec_word.specs.Word.{SlotState, word_number, released}
+use Rattle.dspec_table.specs.Words.{SlotState, word_number, released, slot_place, Holder, of_consumer, same_holder, issue, ack, present, settled, releaser, word_at, View, WordsRule, Since, here}
+use Rattle.dspec_table.specs.Words.{more, MayReap, ReapedNumber, IsSound, CanBeReleased, awaits}
 use Rattle.dspec_word.specs.declared.code.Code.TheVariants.{Inactive}
 use Rattle.dspec_word.proofs.Numbers.{one_word}
 use Rattle.dspec_deeds.specs.declared.config.Config.{Config}
 use Rattle.dspec_deeds.specs.declared.deed.Deed.{Deed}
 use Rattle.dspec_deeds.specs.declared.deed.Deed.TheVariants.{Release}
-use Rattle.dspec_table.specs.Layout.{slot_place}
-use Rattle.dspec_table.specs.Holders.{Holder, of_consumer, same_holder}
-use Rattle.dspec_deeds.specs.History.{issue, ack, present, settled, releaser, word_at}
 use Rattle.dspec_deeds.proofs.Awaiting.{awaiting}
-use Rattle.dspec_table.specs.declared.rule.View.{View}
-use Rattle.dspec_table.specs.Rule.{WordsRule}
-use Rattle.dspec_table.specs.Since.{Since, here, more}
-use Rattle.dspec_table.specs.Conditions.{MayReap}
-use Rattle.dspec_table.specs.Steps.{ReapedNumber}
 use Rattle.dspec_table.proofs.Keeps.{finds, none_owed}
 use Rattle.dspec_table.proofs.Changes.{Changes, exchanges}
 use Rattle.dspec_deeds.proofs.WordChanges.{released_word, elsewhere}
-use Rattle.dspec_deeds.specs.Legal.{IsSound}
 use Rattle.std.proofs.Common.{◌^◌, ⊎_elim, true≢false}
-use Rattle.dspec_word.specs.Word.{CanBeReleased}
-use Rattle.dspec_word.specs.Code.{awaits}
 use Rattle.dspec_deeds.proofs.Acked.{acked, acks_rise}
 use Rattle.std.specs.Prelude.{Some}
 

@@ -4,26 +4,16 @@ use mathlib.Core.Option.{some}
 use lib.ListN.{get_elem?}
 use prog.Atomic.{either}
 use Rattle.atomic_table.specs.Table.{State, Allows, Me}
-use Rattle.dspec_word.specs.SpecId.{Speculation}
-use Rattle.dspec_word.specs.Word.{SlotState, word_number}
+use Rattle.dspec_table.specs.Words.{Speculation, SlotState, word_number, slot_place, of_cpu, issue, scan, present, opened, releaser, verdict, is_undecided, callers, solo, solo_of, Verdict}
+use Rattle.dspec_table.specs.Words.{undecided, committed, discarded, IsSound, View, WordsRule, Since, here, more, ReleasedWord, OwnCommit, released}
 use Rattle.dspec_word.specs.declared.code.Code.TheVariants.{Inactive, Committing}
 use Rattle.dspec_deeds.specs.declared.config.Config.{Config}
 use Rattle.dspec_deeds.specs.declared.deed.Deed.{Deed}
 use Rattle.dspec_deeds.specs.declared.deed.Deed.TheVariants.{Release}
-use Rattle.dspec_table.specs.Layout.{slot_place}
-use Rattle.dspec_table.specs.Holders.{of_cpu}
-use Rattle.dspec_deeds.specs.History.{issue, scan, present, opened, releaser, verdict, is_undecided, callers, solo, solo_of, Verdict, undecided, committed, discarded}
-use Rattle.dspec_deeds.specs.Legal.{IsSound}
 use Rattle.dspec_deeds.proofs.StayingDecided.{WaitsFor, StandsAsBefore, waits_stays}
-use Rattle.dspec_table.specs.declared.rule.View.{View}
-use Rattle.dspec_table.specs.Rule.{WordsRule}
-use Rattle.dspec_table.specs.Since.{Since, here, more}
-use Rattle.dspec_table.specs.Steps.{ReleasedWord}
-use Rattle.dspec_table.specs.Conditions.{OwnCommit}
 use Rattle.dspec_table.proofs.Keeps.{finds, is_cpu, idle_log}
 use Rattle.dspec_table.proofs.Tries.{same_cpu}
 use Rattle.dspec_deeds.proofs.WordChanges.{released_word, elsewhere}
-use Rattle.dspec_word.specs.Word.{released}
 use Rattle.dspec_table.proofs.Changes.{Changes, exchanges}
 
 pub held_since : (k : Config) (c s : ℕ) (seen log : List Deed) → c < k.cpus → IsSound k log → Since (of_cpu c) seen log → WaitsFor k c s seen → WaitsFor k c s log × StandsAsBefore s seen log

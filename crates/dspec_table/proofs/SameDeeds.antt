@@ -1,16 +1,15 @@
 -- Case by case, the deeds of a step of a play are those of the seat's step.
 use Rattle.std.proofs.Common.{◌≡◌, ◌≤◌, ◌+◌, ◌==◌, ℕ, Bool, true, false, List, [], ◌∷◌, Option, if◌then◌else◌, ◌&&◌, length, refl, sym, ap, ◌∙◌, subst, ⊎_elim, arith}
 use Rattle.dspec_record.specs.declared.field.Shape.{Shape}
-use Rattle.dspec_record.specs.Record.{Record}
-use Rattle.dspec_buffer.specs.Extent.{one, piece_fits}
+use Rattle.dspec_table.specs.Words.{Record, one, piece_fits, is_inactive, is_decided, Speculation, SlotState, speculate_at, speculate_act, commit_at, commit_act, discard_at, discard_act, open_at}
+use Rattle.dspec_table.specs.Words.{settle_at, halted, in_range, is_among, callers, word_at, ack, part, IsSound, fits_principal, fits_speculative, bare, is_fill, contents, held, seals, ReadsAlike}
+use Rattle.dspec_table.specs.Words.{committed_fate, settled_fate, is_told_worn, same_word, cpu_step, shown_speculate, shown_commit, shown_discard, shown_scan, shown_service, missed, served, asked}
+use Rattle.dspec_table.specs.Words.{popped, committed_by, discarded_by, is_alone, spoken_at, is_worn, begun, Doing, at_activity, at_word, at_open, at_exchange, miss_at, speculates, void_commit}
+use Rattle.dspec_table.specs.Words.{void_discard, discard_hits, IsMine, Measures, MeasuresBlock, IsSameCall, slot_of, seat_deeds}
 use Rattle.dspec_word.specs.declared.act.Act.{Act}
 use Rattle.dspec_word.specs.declared.act.Act.TheVariants.{Void, Granted, Attempt, Idle}
 use Rattle.dspec_word.specs.declared.code.Code.{Code}
 use Rattle.dspec_word.specs.declared.code.Code.TheVariants.{Inactive, Active, ActiveOne, ActiveMany, Committing, CommittingMany, Discarding}
-use Rattle.dspec_word.specs.Code.{is_inactive, is_decided}
-use Rattle.dspec_word.specs.SpecId.{Speculation}
-use Rattle.dspec_word.specs.Word.{SlotState}
-use Rattle.dspec_word.specs.Tables.{speculate_at, speculate_act, commit_at, commit_act, discard_at, discard_act, open_at, settle_at}
 use Rattle.dspec_deeds.specs.declared.config.Config.{Config}
 use Rattle.dspec_deeds.specs.declared.calls.CpuOp.{CpuOp}
 use Rattle.dspec_deeds.specs.declared.calls.CpuOp.TheVariants as cpu_op
@@ -18,14 +17,8 @@ use Rattle.dspec_deeds.specs.declared.deed.Deed.{Deed}
 use Rattle.dspec_deeds.specs.declared.deed.Deed.TheVariants.{Opened, Miss, Speculate, Commit, Settle}
 use Rattle.dspec_deeds.specs.declared.deed.SpeculateFate.TheVariants as spoken
 use Rattle.std.specs.Prelude.{nat_lt, map}
-use Rattle.dspec_deeds.specs.History.{halted, in_range, is_among, callers, word_at, ack, part}
-use Rattle.dspec_deeds.specs.Legal.{IsSound, fits_principal, fits_speculative}
-use Rattle.dspec_deeds.specs.Weaving.{bare}
 use Rattle.dspec_deeds.proofs.BareReads.{shows_bare}
 use Rattle.dspec_deeds.proofs.Marks.{mark_tells}
-use Rattle.dspec_deeds.specs.Ranges.{is_fill}
-use Rattle.dspec_deeds.specs.Own.{contents, held, seals}
-use Rattle.dspec_deeds.specs.Owning.{ReadsAlike}
 use Rattle.dspec_deeds.specs.declared.calls.Actor.TheVariants.{Cpu}
 use Rattle.dspec_deeds.proofs.OwnReads.{reads, fits_alike, block_alike}
 use Rattle.dspec_deeds.specs.Settling as settling
@@ -36,15 +29,8 @@ use Rattle.dspec_interleaving.specs.declared.flight.CallPlace.TheVariants as cpu
 use Rattle.dspec_interleaving.specs.declared.flight.Spare.{Spare}
 use Rattle.dspec_interleaving.specs.declared.flight.Spare.TheVariants as spare
 use Rattle.dspec_deeds.specs.declared.calls.Served.{Served}
-use Rattle.dspec_deeds.specs.Settling.{committed_fate, settled_fate}
-use Rattle.dspec_interleaving.specs.Wearing.{is_told_worn}
-use Rattle.dspec_interleaving.specs.Play.{same_word, cpu_step, shown_speculate, shown_commit, shown_discard, shown_scan, shown_service, missed, served}
-use Rattle.dspec_interleaving.specs.Play.{asked, popped, committed_by, discarded_by, is_alone, spoken_at, is_worn, begun}
 use Rattle.dspec_interleaving.proofs.StepsWords.{is_plain, speculate_not_idle, commit_plain, discard_plain, open_plain, not_plain, same_word_tells}
-use Rattle.dspec_table.specs.declared.doing.Doing.{Doing}
 use Rattle.dspec_table.specs.Acts as acts
-use Rattle.dspec_table.specs.Acts.{at_activity, at_word, at_open, at_exchange, miss_at, speculates, void_commit, void_discard, discard_hits}
-use Rattle.dspec_table.specs.SameSteps.{IsMine, Measures, MeasuresBlock, IsSameCall, slot_of, seat_deeds}
 
 -- whether the CPU is a caller is asked at a word of the identifier's issue alone, and there the seat knows it
 mine_alike : (k : Config) (c : ℕ) (h : List Deed) (id : Speculation) (doing : Doing) (table : Bool → Act) → IsSound k h → IsMine c h id doing

@@ -1,34 +1,20 @@
 -- What the relations of the steps at the words say, place by place, is the list of deeds that the places name.
 use Rattle.std.proofs.Common.{◌≡◌, ◌≤◌, ◌+◌, ◌==◌, arith, ℕ, Bool, true, false, List, [], ◌∷◌, ◌++◌, Option, inl, inr, refl, sym, ap, ◌∙◌, subst, ⊎_elim}
 use Rattle.dspec_record.specs.declared.field.Shape.{Shape}
-use Rattle.dspec_word.specs.Word.{SlotState, word_number}
+use Rattle.dspec_table.specs.Words.{SlotState, word_number, is_seal, halted, word_at, is_among, callers, mark, Speculation, IsInFlight, bare, op_of, same_word, cpu_step, Doing, View, at_activity}
+use Rattle.dspec_table.specs.Words.{at_word, at_open, at_exchange, settled_fate, number_of, calling, Found, Entered, LoadedWord, OpenedWord, TriedWord, IsSameCall, slot_of, seat_deeds, IsMine}
+use Rattle.dspec_table.specs.Words.{SeatStep, Exchanges, IsStepOfPlay}
 use Rattle.dspec_deeds.specs.declared.config.Config.{Config}
 use Rattle.dspec_deeds.specs.declared.calls.CpuOp.TheVariants as cpu_op
 use Rattle.dspec_deeds.specs.declared.deed.Deed.{Deed}
-use Rattle.dspec_deeds.specs.Legal.{is_seal}
-use Rattle.dspec_deeds.specs.History.{halted, word_at, is_among, callers}
-use Rattle.dspec_deeds.specs.Marks.{mark}
 use Rattle.dspec_deeds.proofs.OwnReads.{apart_bare}
-use Rattle.dspec_word.specs.SpecId.{Speculation}
-use Rattle.dspec_table.specs.Conditions.{IsInFlight}
-use Rattle.dspec_deeds.specs.Weaving.{bare}
 use Rattle.std.proofs.lemmas.Bool.Decides.{nat_tests}
 use Rattle.dspec_deeds.proofs.TestLemmas.{either_way}
 use Rattle.dspec_interleaving.specs.declared.flight.CpuProgress.{CpuProgress}
 use Rattle.dspec_interleaving.specs.declared.flight.CallPlace.{CallPlace}
 use Rattle.dspec_interleaving.specs.declared.flight.CallPlace.TheVariants as cpu
-use Rattle.dspec_interleaving.specs.Calls.{op_of}
-use Rattle.dspec_interleaving.specs.Play.{same_word, cpu_step}
 use Rattle.dspec_interleaving.proofs.StepsWords.{word_is_itself, words_test}
-use Rattle.dspec_table.specs.declared.doing.Doing.{Doing}
-use Rattle.dspec_table.specs.declared.rule.View.{View}
-use Rattle.dspec_table.specs.Acts.{at_activity, at_word, at_open, at_exchange}
 use Rattle.dspec_deeds.specs.declared.deed.Deed.TheVariants.{Settle}
-use Rattle.dspec_deeds.specs.Settling.{settled_fate}
-use Rattle.dspec_table.specs.Holders.{number_of}
-use Rattle.dspec_table.specs.Flights.{calling}
-use Rattle.dspec_table.specs.Steps.{Found, Entered, LoadedWord, OpenedWord, TriedWord}
-use Rattle.dspec_table.specs.SameSteps.{IsSameCall, slot_of, seat_deeds, IsMine, SeatStep, Exchanges, IsStepOfPlay}
 use Rattle.dspec_table.proofs.SameDeeds.{same_deeds}
 
 -- the deeds ds behind the seat's own list p, and behind the list that the step found

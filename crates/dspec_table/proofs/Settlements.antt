@@ -5,38 +5,24 @@ use Rattle.std.proofs.lemmas.List.{get_or-set_same, get_or-set_other}
 use Rattle.std.proofs.Math.ListN.{length-set}
 use Rattle.std.proofs.lemmas.Bool.Decides.{nat_tests}
 use Rattle.atomic_table.specs.Table.{keeps, Allows, Me}
-use Rattle.dspec_word.specs.SpecId.{Speculation}
-use Rattle.dspec_word.specs.Word.{SlotState}
+use Rattle.dspec_table.specs.Words.{Speculation, SlotState, awaits, Holder, of_cpu, part_of, issue, part, present, settled, solo, verdict, ack, word_at, IsSound, SettlesAs, settle_at, settled_fate}
+use Rattle.dspec_table.specs.Words.{View, Doing, WordsRule, Shows, Since, here, more, slot_place, activity_place, group_place, ack_place, ask_place, acted, Found, Entered, StoredAck, number_of}
+use Rattle.dspec_table.specs.Words.{MaySettle}
 use Rattle.dspec_word.specs.declared.code.Code.{Code}
 use Rattle.dspec_word.specs.declared.code.Code.TheVariants.{Inactive, Active, ActiveOne, ActiveMany, Committing, CommittingMany, Discarding}
-use Rattle.dspec_word.specs.Code.{awaits}
 use Rattle.dspec_deeds.specs.declared.config.Config.{Config}
 use Rattle.dspec_deeds.specs.declared.deed.DecideFate.{DecideFate}
 use Rattle.dspec_deeds.specs.declared.deed.Deed.{Deed}
 use Rattle.dspec_deeds.specs.declared.deed.Deed.TheVariants.{Settle}
-use Rattle.dspec_table.specs.Holders.{Holder, of_cpu, part_of}
-use Rattle.dspec_deeds.specs.History.{issue, part, present, settled, solo, verdict, ack, word_at}
-use Rattle.dspec_deeds.specs.Legal.{IsSound, SettlesAs}
 use Rattle.dspec_deeds.proofs.TestLemmas.{either_way, and_tells, same_number, number_is_itself}
 use Rattle.dspec_deeds.proofs.Acked.{ack_tells}
 use Rattle.dspec_deeds.proofs.StayingOwn.{settled_other, ack_other}
 use Rattle.dspec_table.proofs.Places.{before_groups, ack_within, one_group, no_ask}
 use Rattle.dspec_deeds.specs.declared.calls.Actor.TheVariants.{Cpu}
-use Rattle.dspec_word.specs.Tables.{settle_at}
 use Rattle.dspec_word.specs.declared.act.Act.TheVariants.{Granted, Idle}
 use Rattle.std.specs.Prelude.{nat_le, not}
 use Rattle.dspec_deeds.proofs.Awaiting.{awaiting, goes_with}
-use Rattle.dspec_deeds.specs.Settling.{settled_fate}
 use Rattle.dspec_table.proofs.OwnReading.{ack_part}
-use Rattle.dspec_table.specs.declared.rule.View.{View}
-use Rattle.dspec_table.specs.declared.doing.Doing.{Doing}
-use Rattle.dspec_table.specs.Rule.{WordsRule}
-use Rattle.dspec_table.specs.Showing.{Shows}
-use Rattle.dspec_table.specs.Since.{Since, here, more}
-use Rattle.dspec_table.specs.Layout.{slot_place, activity_place, group_place, ack_place, ask_place}
-use Rattle.dspec_table.specs.Steps.{acted, Found, Entered, StoredAck}
-use Rattle.dspec_table.specs.Holders.{number_of}
-use Rattle.dspec_table.specs.Conditions.{MaySettle}
 use Rattle.dspec_table.proofs.Adding.{Adds}
 use Rattle.dspec_table.proofs.Keeps.{LeavesAsks, acts, enters, finds, is_cpu, idle_log}
 use Rattle.dspec_table.proofs.Releases.{held_since}

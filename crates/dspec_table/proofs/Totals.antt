@@ -5,9 +5,7 @@ use lib.ListN.{get_elem?}
 use native.Mathlib.Decide.{dec_lt}
 use Rattle.dspec_deeds.specs.declared.calls.Actor.TheVariants.{Cpu, Consumer}
 use Rattle.dspec_deeds.specs.declared.config.Config.{Config}
-use Rattle.dspec_table.specs.Holders.{Holder, of_cpu, same_holder}
-use Rattle.dspec_table.specs.declared.rule.View.{View}
-use Rattle.dspec_table.specs.Rule.{holdings, times_among, held_in_all, HaveSeats}
+use Rattle.dspec_table.specs.Words.{Holder, of_cpu, same_holder, View, holdings, times_among, held_in_all, HaveSeats}
 
 pub total_at : (w : Holder) (views : List View) (a : ℕ) (v : View) → get_elem? views a ≡ some v → times_among w (holdings v) ≤ held_in_all w views
 total_at w [] a v e = absurd (some-ne-none v (sym e))

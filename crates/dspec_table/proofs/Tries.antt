@@ -2,37 +2,22 @@
 use Rattle.std.proofs.Common.{◌≡◌, ℕ, ◌+◌, ◌≤◌, Bool, true, false, ◌==◌, if◌then◌else◌, List, [], ◌∷◌, Some, refl, sym, ap, ◌∙◌, subst, ⊎_elim, inl, inr, true≢false}
 use prog.Atomic.{either}
 use Rattle.atomic_table.specs.Table.{Allows, Me}
-use Rattle.dspec_word.specs.SpecId.{Speculation}
-use Rattle.dspec_word.specs.Word.{SlotState, word_number}
+use Rattle.dspec_table.specs.Words.{Speculation, SlotState, word_number, is_inactive, speculate_at, commit_at, discard_at, Record, slot_place, Holder, of_cpu, issue, scan, owed, present, releaser}
+use Rattle.dspec_table.specs.Words.{verdict, is_undecided, is_open, committed, discarded, callers, joined, is_among, standing, active_code, is_sole, code_at, word_at, solo, IsSound, View, Doing}
+use Rattle.dspec_table.specs.Words.{WordsRule, word, number_of, discard_hits, at_hit, at_exchange, Attempts, MayTry, TriedNumber, committed_fate}
 use Rattle.dspec_word.specs.declared.act.Act.TheVariants.{Attempt}
 use Rattle.dspec_word.specs.declared.code.Code.{Code}
 use Rattle.dspec_word.specs.declared.code.Code.TheVariants.{Inactive, Discarding}
-use Rattle.dspec_word.specs.Code.{is_inactive}
-use Rattle.dspec_word.specs.Tables.{speculate_at, commit_at, discard_at}
 use Rattle.dspec_word.proofs.Numbers.{one_word}
 use Rattle.dspec_deeds.specs.declared.config.Config.{Config}
-use Rattle.dspec_record.specs.Record.{Record}
 use Rattle.dspec_deeds.specs.declared.deed.Deed.{Deed}
 use Rattle.dspec_deeds.specs.declared.deed.Deed.TheVariants.{Speculate, Commit, Discard, Release}
-use Rattle.dspec_table.specs.Layout.{slot_place}
-use Rattle.dspec_table.specs.Holders.{Holder, of_cpu}
-use Rattle.dspec_deeds.specs.History.{issue, scan, owed, present, releaser, verdict, is_undecided, is_open, committed, discarded}
-use Rattle.dspec_deeds.specs.History.{callers, joined, is_among, standing, active_code, is_sole, code_at, word_at, solo}
-use Rattle.dspec_deeds.specs.Legal.{IsSound}
 use Rattle.dspec_deeds.proofs.TestLemmas.{either_way, id_is_itself, other_slot}
 use Rattle.dspec_deeds.proofs.WordActs.{speculate_attempt, commit_attempt, discard_attempt}
 use Rattle.dspec_deeds.proofs.PresentIds.{IsPresent, open_present}
 use Rattle.dspec_deeds.proofs.WordChanges.{released_word, elsewhere}
 use Rattle.dspec_deeds.specs.declared.calls.Actor.TheVariants.{Cpu}
-use Rattle.dspec_table.specs.declared.rule.View.{View}
 use Rattle.dspec_deeds.specs.declared.calls.CpuOp.{CpuOp}
-use Rattle.dspec_table.specs.declared.doing.Doing.{Doing}
-use Rattle.dspec_table.specs.Rule.{WordsRule}
-use Rattle.dspec_table.specs.Showing.{word}
-use Rattle.dspec_table.specs.Holders.{number_of}
-use Rattle.dspec_table.specs.Acts.{discard_hits, at_hit, at_exchange}
-use Rattle.dspec_table.specs.Conditions.{Attempts, MayTry}
-use Rattle.dspec_table.specs.Steps.{TriedNumber}
 use Rattle.dspec_table.proofs.InFlight.{exchange_of}
 use Rattle.dspec_table.proofs.Keeps.{Owes, finds, is_cpu, its_config}
 use Rattle.dspec_table.proofs.Changes.{Changes, exchanges}
@@ -40,7 +25,6 @@ use Rattle.dspec_table.proofs.Loads.{Flies, IsReady, ready, owes, speculate_like
 use Rattle.dspec_deeds.specs.declared.deed.SpeculateFate.TheVariants as spoken
 use Rattle.dspec_deeds.specs.declared.deed.DecideFate.TheVariants as decided
 use Rattle.dspec_deeds.specs.declared.calls.CpuOp.TheVariants as op
-use Rattle.dspec_deeds.specs.Settling.{committed_fate}
 
 -- a word with the present issue, whose code is what a list shows for the speculation
 shows_code : (id : Speculation) (log new : List Deed) (w : Code) → present id.slot log ≡ id → issue id.slot new ≡ issue id.slot log → code_at id new ≡ w

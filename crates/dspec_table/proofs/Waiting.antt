@@ -1,20 +1,14 @@
 -- A word that waits for every CPU stands until the consumer releases it.
 use Rattle.std.proofs.Common.{◌≡◌, ◌⊎◌, ℕ, true, false, ◌==◌, ◌||◌, List, ◌∷◌, None, refl, sym, ap, ◌∙◌, subst, ⊎_elim, true≢false}
-use Rattle.dspec_word.specs.Word.{word_number}
-use Rattle.dspec_word.specs.Code.{awaits}
+use Rattle.dspec_table.specs.Words.{word_number, awaits, opens, opened, present, verdict, is_undecided, releases, releaser, solo, same_actor, author, word_at, IsSound, View, Holder, of_consumer}
+use Rattle.dspec_table.specs.Words.{Since, here, more, Found, ReapedNumber}
 use Rattle.dspec_deeds.specs.declared.config.Config.{Config}
 use Rattle.dspec_deeds.specs.declared.calls.Actor.TheVariants.{Consumer}
 use Rattle.dspec_deeds.specs.declared.deed.Deed.{Deed}
 use Rattle.dspec_deeds.specs.declared.deed.Deed.TheVariants.{Release}
-use Rattle.dspec_deeds.specs.History.{opens, opened, present, verdict, is_undecided, releases, releaser, solo, same_actor, author, word_at}
-use Rattle.dspec_deeds.specs.Legal.{IsSound}
 use Rattle.dspec_deeds.proofs.TestLemmas.{either_way, same_number, or_true}
 use Rattle.dspec_deeds.proofs.StayingDecided.{decided_stands}
 use Rattle.dspec_deeds.proofs.Awaiting.{awaiting}
-use Rattle.dspec_table.specs.declared.rule.View.{View}
-use Rattle.dspec_table.specs.Holders.{Holder, of_consumer}
-use Rattle.dspec_table.specs.Since.{Since, here, more}
-use Rattle.dspec_table.specs.Steps.{Found, ReapedNumber}
 
 record Waits (s : ℕ) (h : List Deed) : Type 0 where
   given : opened (present s h) h ≡ true

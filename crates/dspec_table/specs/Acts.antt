@@ -1,12 +1,8 @@
 -- Cited by calls. The deeds that a step enters, by the call in flight and by what the step showed; the latest first.
 use Rattle.std.specs.Prelude.{ℕ, Bool, true, false, List, [], ◌∷◌, if◌then◌else◌}
-use Rattle.dspec_word.specs.SpecId.{Speculation}
-use Rattle.dspec_word.specs.Word.{SlotState}
+use Rattle.dspec_table.specs.Words.Outside.{Speculation, SlotState, is_inactive, is_decided, open_at, speculate_at, commit_at, discard_at, Record, in_range, committed_fate}
 use Rattle.dspec_word.specs.declared.act.Act.{Act}
 use Rattle.dspec_word.specs.declared.act.Act.TheVariants.{Void, Granted, Attempt}
-use Rattle.dspec_word.specs.Code.{is_inactive, is_decided}
-use Rattle.dspec_word.specs.Tables.{open_at, speculate_at, commit_at, discard_at}
-use Rattle.dspec_record.specs.Record.{Record}
 use Rattle.dspec_deeds.specs.declared.config.Config.{Config}
 use Rattle.dspec_deeds.specs.declared.calls.CpuOp.{CpuOp}
 use Rattle.dspec_deeds.specs.declared.calls.CpuOp.TheVariants as op
@@ -15,8 +11,6 @@ use Rattle.dspec_deeds.specs.declared.deed.SpeculateFate.TheVariants as spoken
 use Rattle.dspec_deeds.specs.declared.deed.DecideFate.TheVariants as decided
 use Rattle.dspec_deeds.specs.declared.deed.Deed.{Deed}
 use Rattle.dspec_deeds.specs.declared.deed.Deed.TheVariants.{Trace, Scan, Opened, Miss, Speculate, Commit, Discard, Release, Halt}
-use Rattle.dspec_deeds.specs.History.{in_range}
-use Rattle.dspec_deeds.specs.Settling.{committed_fate}
 use Rattle.dspec_table.specs.declared.doing.Doing.{Doing}
 
 abbrev pub nothing : Doing

@@ -1,17 +1,12 @@
 -- Serves proofs. What a call asks of its seat, by the seat's own list and by what it was shown.
 use Rattle.std.specs.Prelude.{ℕ, ◌≡◌, ◌<◌, ◌≤◌, ◌+◌, true, false, Some, IsTrue}
-use Rattle.dspec_word.specs.SpecId.{Speculation}
-use Rattle.dspec_word.specs.Word.{SlotState}
+use Rattle.dspec_table.specs.Words.Outside.{Speculation, SlotState, awaits, open_at, speculate_at, commit_at, discard_at, settle_at, is_among, callers, late, scan, word_at, opened, solo, ack, mark}
 use Rattle.dspec_word.specs.declared.code.Code.{Code}
 use Rattle.dspec_word.specs.declared.code.Code.TheVariants.{Active, ActiveOne, ActiveMany, Committing}
 use Rattle.dspec_word.specs.declared.act.Act.TheVariants.{Granted, Attempt}
-use Rattle.dspec_word.specs.Code.{awaits}
-use Rattle.dspec_word.specs.Tables.{open_at, speculate_at, commit_at, discard_at, settle_at}
 use Rattle.dspec_deeds.specs.declared.config.Config.{Config}
 use Rattle.dspec_deeds.specs.declared.calls.CpuOp.{CpuOp}
 use Rattle.dspec_deeds.specs.declared.calls.CpuOp.TheVariants as op
-use Rattle.dspec_deeds.specs.History.{is_among, callers, late, scan, word_at, opened, solo, ack}
-use Rattle.dspec_deeds.specs.Marks.{mark}
 use Rattle.dspec_table.specs.declared.rule.View.{View}
 use Rattle.dspec_table.specs.declared.doing.Doing.{Doing}
 

@@ -5,8 +5,7 @@ use Rattle.atomic_table.specs.Seated.{TableId}
 use Rattle.dspec_deeds.specs.declared.config.Config.{Config}
 use Rattle.dspec_deeds.specs.declared.calls.Actor.TheVariants.{Cpu, Consumer}
 use Rattle.dspec_deeds.specs.declared.deed.Deed.{Deed}
-use Rattle.dspec_deeds.specs.History.{owed, part}
-use Rattle.dspec_deeds.specs.Legal.{IsSound, HasAuthors}
+use Rattle.dspec_table.specs.Words.Outside.{owed, part, IsSound, HasAuthors}
 use Rattle.dspec_table.specs.declared.rule.View.{View}
 use Rattle.dspec_table.specs.declared.seats.CpuSeat.{CpuSeat}
 use Rattle.dspec_table.specs.declared.seats.Words.{Words}

@@ -15,3 +15,4 @@ pub mod Last
 pub mod Owners
 pub mod SameSteps
 pub mod OneList
+pub mod Words

@@ -1,8 +1,7 @@
 -- Cited by calls. What a meeting of a CPU and the consumer leaves.
 use Rattle.std.specs.Prelude.{◌≡◌, List, []}
 use Rattle.dspec_deeds.specs.declared.deed.Deed.{Deed}
-use Rattle.dspec_deeds.specs.History.{owed}
-use Rattle.dspec_deeds.specs.Legal.{IsSound}
+use Rattle.dspec_table.specs.Words.Outside.{owed, IsSound}
 use Rattle.dspec_table.specs.declared.rule.View.{View}
 use Rattle.dspec_table.specs.Holders.{part_of, of_nobody}
 use Rattle.dspec_table.specs.Since.{Since}

@@ -5,8 +5,7 @@ use lib.ListN.{get_elem?}
 use Rattle.atomic_table.specs.Table.{State}
 use Rattle.dspec_deeds.specs.declared.config.Config.{Config}
 use Rattle.dspec_deeds.specs.declared.deed.Deed.{Deed}
-use Rattle.dspec_deeds.specs.History.{owed}
-use Rattle.dspec_deeds.specs.Legal.{IsSound, HasAuthors}
+use Rattle.dspec_table.specs.Words.Outside.{owed, IsSound, HasAuthors}
 use Rattle.dspec_table.specs.declared.rule.View.{View}
 use Rattle.dspec_table.specs.Holders.{part_of}
 use Rattle.dspec_table.specs.Showing.{Shows}

@@ -9,8 +9,7 @@ use Rattle.dspec_table.specs.Holders.{Holder, of_cpu, of_consumer, of_nobody, pa
 use Rattle.dspec_table.specs.Layout.{ask_place}
 use Rattle.dspec_table.specs.Since.{Since}
 use Rattle.dspec_table.specs.Showing.{Shows}
-use Rattle.dspec_deeds.specs.History.{owed}
-use Rattle.dspec_deeds.specs.Legal.{IsSound, HasAuthors}
+use Rattle.dspec_table.specs.Words.Outside.{owed, IsSound, HasAuthors}
 use Rattle.dspec_table.specs.declared.rule.View.{View}
 use Rattle.dspec_table.specs.declared.rule.Past.{Past}
 

@@ -1,19 +1,13 @@
 -- Serves proofs. The deeds of a step of a play, and those of the same step of a seat at the words.
 use Rattle.std.specs.Prelude.{ℕ, ◌≡◌, ◌≤◌, ◌<◌, ◌+◌, Bool, true, false, List, [], ◌∷◌, ◌++◌, length, Option, ◌⊎◌, if◌then◌else◌}
 use Rattle.dspec_record.specs.declared.field.Shape.{Shape}
-use Rattle.dspec_buffer.specs.Extent.{one, block}
-use Rattle.dspec_word.specs.SpecId.{Speculation}
-use Rattle.dspec_word.specs.Word.{SlotState, word_number}
+use Rattle.dspec_table.specs.Words.Outside.{one, block, Speculation, SlotState, word_number, halted, is_among, callers, part, word_at, contents, held, IsSound, fits_principal, fits_speculative}
+use Rattle.dspec_table.specs.Words.Outside.{mark, bare, settled_fate, op_of, StandsCpu, same_word, cpu_step, consumer_step, is_told_worn}
 use Rattle.dspec_deeds.specs.declared.config.Config.{Config}
 use Rattle.dspec_deeds.specs.declared.calls.Actor.TheVariants.{Cpu}
 use Rattle.dspec_deeds.specs.declared.calls.CpuOp.TheVariants as cpu_op
 use Rattle.dspec_deeds.specs.declared.deed.Deed.{Deed}
 use Rattle.dspec_deeds.specs.declared.deed.Deed.TheVariants.{Settle, Release}
-use Rattle.dspec_deeds.specs.History.{halted, is_among, callers, part, word_at}
-use Rattle.dspec_deeds.specs.Own.{contents, held}
-use Rattle.dspec_deeds.specs.Legal.{IsSound, fits_principal, fits_speculative}
-use Rattle.dspec_deeds.specs.Marks.{mark}
-use Rattle.dspec_deeds.specs.Weaving.{bare}
 use Rattle.dspec_interleaving.specs.declared.flight.CpuProgress.{CpuProgress}
 use Rattle.dspec_interleaving.specs.declared.flight.ConsumerFlight.{ConsumerFlight}
 use Rattle.dspec_interleaving.specs.declared.flight.ConsumerFlight.TheVariants as consumer
@@ -21,11 +15,6 @@ use Rattle.dspec_interleaving.specs.declared.flight.ConsumerProgress.{ConsumerPr
 use Rattle.dspec_interleaving.specs.declared.flight.CallPlace.{CallPlace}
 use Rattle.dspec_interleaving.specs.declared.flight.CallPlace.TheVariants as cpu
 use Rattle.dspec_deeds.specs.declared.calls.ConsumerOp.TheVariants as consumer_op
-use Rattle.dspec_deeds.specs.Settling.{settled_fate}
-use Rattle.dspec_interleaving.specs.Calls.{op_of}
-use Rattle.dspec_interleaving.specs.Coherent.{StandsCpu}
-use Rattle.dspec_interleaving.specs.Play.{same_word, cpu_step, consumer_step}
-use Rattle.dspec_interleaving.specs.Wearing.{is_told_worn}
 use Rattle.dspec_table.specs.declared.doing.Doing.{Doing}
 use Rattle.dspec_table.specs.declared.rule.View.{View}
 use Rattle.dspec_table.specs.Asks.{LoadedAsk, StoredAsk}

@@ -1,9 +1,8 @@
 -- Cited by calls. Which words show a list of deeds.
 use Rattle.std.specs.Prelude.{ℕ, ◌≡◌, ◌<◌, ◌≤◌, ◌^◌, ◌%◌, List, length, slice_index, if◌then◌else◌}
-use Rattle.dspec_word.specs.Word.{word_number}
+use Rattle.dspec_table.specs.Words.Outside.{word_number, halted, word_at, ack}
 use Rattle.dspec_deeds.specs.declared.config.Config.{Config}
 use Rattle.dspec_deeds.specs.declared.deed.Deed.{Deed}
-use Rattle.dspec_deeds.specs.History.{halted, word_at, ack}
 use Rattle.dspec_table.specs.Layout.{slot_place, activity_place, ack_place, word_count}
 
 abbrev pub activity : List Deed → ℕ

@@ -1,13 +1,9 @@
 -- Cited by calls. What a step does to its seat's view: by what it showed, and the deeds that it entered.
 use Rattle.std.specs.Prelude.{ℕ, ◌≡◌, ◌⊎◌, ◌<◌, ◌≤◌, ◌+◌, Bool, true, false, List, [], ◌∷◌, ◌++◌, if◌then◌else◌, Result, MatchResult, IfOk, IfErr}
-use Rattle.dspec_word.specs.SpecId.{Speculation}
-use Rattle.dspec_word.specs.Word.{SlotState, word_number, CanBeReleased}
+use Rattle.dspec_table.specs.Words.Outside.{Speculation, SlotState, word_number, CanBeReleased, owed, halted, word_at, ack, IsSound, settled_fate}
 use Rattle.dspec_word.specs.declared.code.Code.{Code}
 use Rattle.dspec_deeds.specs.declared.deed.Deed.{Deed}
 use Rattle.dspec_deeds.specs.declared.deed.Deed.TheVariants.{Settle, Release}
-use Rattle.dspec_deeds.specs.History.{owed, halted, word_at, ack}
-use Rattle.dspec_deeds.specs.Legal.{IsSound}
-use Rattle.dspec_deeds.specs.Settling.{settled_fate}
 use Rattle.dspec_table.specs.declared.rule.View.{View}
 use Rattle.dspec_table.specs.declared.doing.Doing.{Doing}
 use Rattle.dspec_table.specs.declared.seats.CpuSeat.{CpuSeat}

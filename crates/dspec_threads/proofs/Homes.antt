@@ -1,14 +1,10 @@
 -- How CPUs go out, and come home.
 use Rattle.std.proofs.Common.{◌≡◌, ℕ, ◌<◌, List, [], ◌∷◌, ◌++◌, length, sym, ap, ◌∙◌, subst, arith}
 use Rattle.std.specs.Prelude.{remove, slice_get, slice_index_or}
-use Rattle.dspec_record.specs.EnablingRows.{EnabledRows}
+use Rattle.dspec_threads.specs.Words.{EnabledRows, CallsMade, called, number_in, words_of, Belongs, Identity, IsCallable, identity, IsCpuOf, ComesHome, HasDone, WentHome, IsOfRank, IsHomeOf}
+use Rattle.dspec_threads.specs.Words.{IsLentOut, Rank}
 use Rattle.dspec_cpu.specs.declared.cpu.Cpu.{Cpu}
 use Rattle.dspec_cpu.specs.declared.shared.Shared.{Shared}
-use Rattle.dspec_cpu.specs.Called.{CallsMade, called}
-use Rattle.dspec_cpu.specs.Lists.{number_in, words_of}
-use Rattle.dspec_cpu.specs.Standing.{Belongs, Identity, IsCallable, identity}
-use Rattle.dspec_session_core.specs.Sessions.{IsCpuOf}
-use Rattle.dspec_threads.specs.Homes.{ComesHome, HasDone, WentHome, IsOfRank, IsHomeOf, IsLentOut, Rank}
 
 -- the first element, and what is left when it is removed
 pub first_and_rest : {A : Type 0} (xs : List A) (x : A) → 0 < length xs → x ≡ slice_index_or xs 0 x → x ∷ remove xs 0 ≡ xs

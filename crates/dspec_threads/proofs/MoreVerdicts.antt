@@ -6,14 +6,10 @@ use Rattle.std.proofs.lemmas.Option.{slice_get-map, slice_get_read, slice_get_wi
 use Rattle.std.proofs.Math.Seq.{map-set_same}
 use mathlib.Core.List.{IsPrefix}
 use Rattle.dspec_record.specs.declared.schema.Schema.{Ghosts}
-use Rattle.dspec_word.specs.SpecId.{Speculation}
+use Rattle.dspec_threads.specs.Words.{Speculation, SaysTo, SaysWithin, room_of_lane, rooms_of_lanes, said_by, said_to_each, DoesVerdict, DoesVerdicts, SettlesNext, Sayer, Verdict}
 use Rattle.dspec_deeds.specs.declared.deed.Deed.{Deed}
 use Rattle.dspec_cpu.specs.declared.cpu.Cpu.{Cpu}
 use Rattle.dspec.specs.declared.lane.Lane.{Lane}
-use Rattle.dspec_threads.specs.Said.{SaysTo, SaysWithin, room_of_lane, rooms_of_lanes, said_by, said_to_each}
-use Rattle.dspec_threads.specs.Settled.{DoesVerdict, DoesVerdicts, SettlesNext}
-use Rattle.dspec_threads.specs.declared.saying.Sayer.{Sayer}
-use Rattle.dspec_threads.specs.declared.verdict.Verdict.{Verdict}
 
 module _ {S : Type 0} {g : Ghosts S} (has : Cpu S → List Deed → Type 0) (may : Speculation → Bool → Type 0) where
   does_snoc : (vs : List Verdict) (v : Verdict) (old mid new : Lane S g) → DoesVerdicts has may vs old mid → may v.path.id v.keep → DoesVerdict has v mid new

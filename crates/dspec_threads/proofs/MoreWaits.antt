@@ -5,14 +5,9 @@ use Rattle.dspec_record.specs.declared.schema.Schema.{Ghosts}
 use Rattle.dspec_deeds.specs.declared.deed.Deed.{Deed}
 use Rattle.dspec_cpu.specs.declared.cpu.Cpu.{Cpu}
 use Rattle.dspec.specs.declared.lane.Lane.{Lane}
-use Rattle.dspec_word.specs.SpecId.{Speculation}
-use Rattle.dspec_threads.specs.Attends.{AsksAndAttends, AsksTimes, AttendsOnce, AttendsTimes, AttendsWithin, OpensAttending}
-use Rattle.dspec_threads.specs.Settled.{settled_by}
-use Rattle.dspec_threads.specs.declared.settling.Settler.{Settler}
+use Rattle.dspec_threads.specs.Words.{Speculation, AsksAndAttends, AsksTimes, AttendsOnce, AttendsTimes, AttendsWithin, OpensAttending, settled_by, Settler, OpeningOn, Verdict, AsksAndServes}
+use Rattle.dspec_threads.specs.Words.{AsksInVain, ServesAgain, ServesTimes, ServesWithin}
 use Rattle.dspec_deeds.specs.declared.calls.Opening.{Opening}
-use Rattle.dspec.specs.LaneCalls.{OpeningOn}
-use Rattle.dspec_threads.specs.declared.verdict.Verdict.{Verdict}
-use Rattle.dspec_threads.specs.Waits.{AsksAndServes, AsksInVain, ServesAgain, ServesTimes, ServesWithin}
 
 next_is : (n : ℕ) → suc n ≡ n + 1
 next_is n = omega arith

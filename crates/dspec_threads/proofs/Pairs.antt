@@ -1,7 +1,7 @@
 -- What holds of each element with the one at its place, one after another.
 use Rattle.std.proofs.Common.{◌≡◌, ℕ, zero, suc, ◌+◌, ◌≤◌, ◌⊎◌, inl, inr, List, [], ◌∷◌, length, map, Some, refl, sym, ap, subst, arith}
 use Rattle.std.specs.Prelude.{slice_get, slice_set}
-use Rattle.dspec_threads.specs.Places.{AtOne, EachPair}
+use Rattle.dspec_threads.specs.Words.{AtOne, EachPair}
 
 module _ {A : Type 0} (R : A → A → Type 0) where
   -- so it is of the first so many, and the others are as they were

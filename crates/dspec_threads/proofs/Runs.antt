@@ -4,23 +4,15 @@ use Rattle.std.specs.Prelude.{All, Bool, IfOk, IfSome, None, Ok, Err, Option, Re
 use Rattle.std.specs.Option.{option_map_or}
 use Rattle.std.proofs.lemmas.Option.{slice_get_past}
 use Rattle.std.proofs.lemmas.List.{length-map}
-use Rattle.dspec_record.specs.EnablingRows.{EnabledRows}
+use Rattle.dspec_threads.specs.Words.{EnabledRows, IsUnusedConsumer, Pair, last_seat, set_up, CallsMade, called, no_calls, number_in, schema_of, words_of, Consuming, view_of, IsSession, PassesOn}
+use Rattle.dspec_threads.specs.Words.{IsOfRank, AreCpusOf, AreAtPlaces, AtOne, EachPair, IsAtPlace, IsAtPlaceSo, KeepsPlace, LooksAndSends, Rests, StaysIn, Whereabouts, waits_inside, who_is_in}
+use Rattle.dspec_threads.specs.Words.{AreNew, HandsLane, IsLaneOf, IsRun, rank_of, RunningSession}
 use Rattle.dspec_deeds.specs.declared.config.Config.{Config}
 use Rattle.dspec_ring.specs.declared.batch.Batch.{Batch}
-use Rattle.dspec_ring.specs.Known.{IsUnusedConsumer, Pair}
-use Rattle.dspec_table.specs.Seats.{last_seat, set_up}
 use Rattle.dspec_cpu.specs.declared.cpu.Cpu.{Cpu}
 use Rattle.dspec_cpu.specs.declared.shared.Shared.{Shared}
-use Rattle.dspec_cpu.specs.Called.{CallsMade, called, no_calls}
-use Rattle.dspec_cpu.specs.Lists.{number_in, schema_of, words_of}
 use Rattle.dspec_session_core.specs.declared.session.Session.{Session}
-use Rattle.dspec_session_core.specs.Consumers.{Consuming, view_of}
-use Rattle.dspec_session_core.specs.Sessions.{IsSession}
-use Rattle.dspec.specs.Passed.{PassesOn}
 use Rattle.dspec.proofs.Passing.{passes_both, passes_nothing}
-use Rattle.dspec_threads.specs.Homes.{IsOfRank}
-use Rattle.dspec_threads.specs.Places.{AreCpusOf, AreAtPlaces, AtOne, EachPair, IsAtPlace, IsAtPlaceSo, KeepsPlace, LooksAndSends, Rests, StaysIn, Whereabouts, waits_inside, who_is_in}
-use Rattle.dspec_threads.specs.Runs.{AreNew, HandsLane, IsLaneOf, IsRun, Run, rank_of}
 use Rattle.dspec_threads.proofs.Pairs.{each_itself, pair_count, set_past}
 use Rattle.dspec_threads.proofs.Whereabouts.{begins, each_placed, inside_there, sent_from, stays_itself}
 
@@ -152,16 +144,16 @@ module _ {K : Type 0} (gets : K → Batch → K → Type 0) (done : ℕ → Call
     lane_sent (Err e) shared schema count c x began k old new is one = tt
 
 -- what is seen but for who is at home stays
-pub later_so : {K : Type 0} (schema : EnabledRows) (config : Config) (home : List (Option (Cpu EnabledRows))) (held : Bool) (consumer : Consuming) (began sink : K) (old : Run K)
+pub later_so : {K : Type 0} (schema : EnabledRows) (config : Config) (home : List (Option (Cpu EnabledRows))) (held : Bool) (consumer : Consuming) (began sink : K) (old : RunningSession K)
     → record { schema = schema; config = config; home = home; held = held; consumer = consumer; began = began; sink = sink } ≡ old
     → record { schema = schema; config = config; home = old.home; held = held; consumer = consumer; began = began; sink = sink } ≡ old
 later_so {K} schema config home held consumer began sink old e =
-    ap (λ (r : Run K). record { schema = schema; config = config; home = r.home; held = held; consumer = consumer; began = began; sink = sink }) (sym e) ∙ e
+    ap (λ (r : RunningSession K). record { schema = schema; config = config; home = r.home; held = held; consumer = consumer; began = began; sink = sink }) (sym e) ∙ e
 
 -- where there is no such CPU nothing is handed out
-pub none_handed : {K E : Type 0} (c : ℕ) (old new : Run K) → new ≡ old → length old.home ≤ c → HandsLane {K = K} {E = E} c (Ok None) old new
+pub none_handed : {K E : Type 0} (c : ℕ) (old new : RunningSession K) → new ≡ old → length old.home ≤ c → HandsLane {K = K} {E = E} c (Ok None) old new
 none_handed {K} {E} c old new e past =
-    subst (λ (r : Run K). HandsLane {K = K} {E = E} c (Ok None) old r) (sym e)
+    subst (λ (r : RunningSession K). HandsLane {K = K} {E = E} c (Ok None) old r) (sym e)
     (record {
       same = refl;
       looked = old.home;

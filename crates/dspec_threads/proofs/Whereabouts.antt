@@ -5,27 +5,21 @@ use Rattle.std.specs.Prelude.{◌&&◌, Result, Ok, Err, MatchBool, MatchResult,
 use Rattle.std.specs.Option.{option_map, option_map_or}
 use Rattle.std.proofs.lemmas.List.{map-set, map_push}
 use Rattle.std.proofs.lemmas.Option.{slice_get_read, slice_get-map}
-use Rattle.dspec_record.specs.EnablingRows.{EnabledRows}
+use Rattle.dspec_threads.specs.Words.{EnabledRows, CallsMade, called, no_calls, words_of, Belongs, IsCallable, identity, ServedOnce, ComesHome, IsHomeOf, IsOfRank, Rank, AllIn, AreCpusOf}
+use Rattle.dspec_threads.specs.Words.{AreAtPlaces, AtOne, ComesIn, EachPair, IsCallableInside, IsOneOut, IsAtPlace, IsAtPlaceSo, KeepsPlace, LooksAndSends, Rests, SendsOut, ServesInside, StaysIn}
+use Rattle.dspec_threads.specs.Words.{TendsPlace, Whereabouts, all_whereabouts, is_in_at, waits_inside, whereabouts, who_is_in, LanePlace}
 use Rattle.dspec_cpu.specs.declared.cpu.Cpu.{Cpu}
 use Rattle.dspec_cpu.specs.declared.shared.Shared.{Shared}
-use Rattle.dspec_cpu.specs.Called.{CallsMade, called, no_calls}
-use Rattle.dspec_cpu.specs.Lists.{words_of}
-use Rattle.dspec_cpu.specs.Standing.{Belongs, IsCallable, identity}
-use Rattle.dspec.specs.Serving.{ServedOnce}
 use Rattle.dspec.proofs.Serving.{not_served, served_again}
-use Rattle.dspec_threads.specs.declared.place.Place.{Place}
-use Rattle.dspec_threads.specs.Homes.{ComesHome, IsHomeOf, IsOfRank, Rank}
-use Rattle.dspec_threads.specs.Places.{AllIn, AreCpusOf, AreAtPlaces, AtOne, ComesIn, EachPair, IsCallableInside, IsOneOut, IsAtPlace, IsAtPlaceSo, KeepsPlace, LooksAndSends, Rests}
-use Rattle.dspec_threads.specs.Places.{SendsOut, ServesInside, StaysIn, TendsPlace, Whereabouts, all_whereabouts, is_in_at, waits_inside, whereabouts, who_is_in}
 use Rattle.dspec_threads.proofs.Homes.{comes_at, still_of_rank}
 use Rattle.dspec_threads.proofs.Pairs.{EachTo, each_seen, each_set, pair_at, set_there, set_twice, so_far_at}
 
 module _ {D : Type 0} (R : Whereabouts → Whereabouts → Type 0) where
   -- of one place, as it was read and written
-  pub at_one : (ps : List (Place D)) (i : ℕ) (p q : Place D) → i < length ps → p ≡ slice_index_or ps i p → R (whereabouts p) (whereabouts q)
+  pub at_one : (ps : List (LanePlace D)) (i : ℕ) (p q : LanePlace D) → i < length ps → p ≡ slice_index_or ps i p → R (whereabouts p) (whereabouts q)
       → AtOne R i (all_whereabouts ps) (all_whereabouts (slice_set ps i q))
   at_one ps i p q lt at does =
-      let f : Place D → Whereabouts = whereabouts in
+      let f : LanePlace D → Whereabouts = whereabouts in
       record {
         was = f p;
         is = f q;
@@ -34,15 +28,15 @@ module _ {D : Type 0} (R : Whereabouts → Whereabouts → Type 0) where
         all = map-set f ps i q;
       }
 
-pub there_read : {D : Type 0} (ps : List (Place D)) (i : ℕ) (p : Place D) → i < length ps → p ≡ slice_index_or ps i p → slice_get (all_whereabouts ps) i ≡ Some (whereabouts p)
+pub there_read : {D : Type 0} (ps : List (LanePlace D)) (i : ℕ) (p : LanePlace D) → i < length ps → p ≡ slice_index_or ps i p → slice_get (all_whereabouts ps) i ≡ Some (whereabouts p)
 there_read {D} ps i p lt at =
-    let f : Place D → Whereabouts = whereabouts in
+    let f : LanePlace D → Whereabouts = whereabouts in
     slice_get-map f ps i ∙ ap (option_map f) (slice_get_read ps (length ps) i p refl lt at)
 
-pub in_at_one : {D : Type 0} (ps : List (Place D)) (i : ℕ) (p q : Place D) → i < length ps → p ≡ slice_index_or ps i p
+pub in_at_one : {D : Type 0} (ps : List (LanePlace D)) (i : ℕ) (p q : LanePlace D) → i < length ps → p ≡ slice_index_or ps i p
     → is_in_at i (all_whereabouts (slice_set ps i q)) ≡ is_some (whereabouts q).inside
 in_at_one {D} ps i p q lt at =
-    let f : Place D → Whereabouts = whereabouts in
+    let f : LanePlace D → Whereabouts = whereabouts in
     let there : slice_get (map f ps) i ≡ Some (f p) = slice_get-map f ps i ∙ ap (option_map f) (slice_get_read ps (length ps) i p refl lt at) in
     ap (λ ws. is_in_at i ws) (map-set f ps i q) ∙ ap (λ o. option_map_or (λ (w : Whereabouts). is_some w.inside) o false) (set_there (map f ps) i (f p) (f q) there)
 

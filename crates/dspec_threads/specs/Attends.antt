@@ -2,13 +2,12 @@
 use Rattle.std.specs.Prelude.{ℕ, ◌≡◌, ◌≤◌, ◌++◌, zero, suc, Bool, List, [], ◌∷◌, Option, MatchOption}
 use mathlib.Core.List.{IsPrefix}
 use Rattle.dspec_record.specs.declared.schema.Schema.{Ghosts}
-use Rattle.dspec_word.specs.SpecId.{Speculation}
+use Rattle.dspec_threads.specs.Words.Outside.{Speculation, OpeningOn}
 use Rattle.dspec_deeds.specs.declared.calls.Opening.{Opening}
 use Rattle.dspec_deeds.specs.declared.deed.Deed.{Deed}
 use Rattle.dspec_cpu.specs.declared.cpu.Cpu.{Cpu}
 use Rattle.dspec.specs.declared.lane.Lane.{Lane}
 use Rattle.dspec.specs.declared.path.Path.{Path}
-use Rattle.dspec.specs.LaneCalls.{OpeningOn}
 use Rattle.dspec_threads.specs.Belts.{handed_of, taken_by}
 use Rattle.dspec_threads.specs.Settled.{SettlesNext, seen_by, settled_by}
 use Rattle.dspec_threads.specs.Waits.{IsAskRefused, ServesAgain}

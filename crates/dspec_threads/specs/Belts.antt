@@ -1,9 +1,7 @@
 -- Cited by calls. What went over a belt, by its ends.
 use Rattle.std.specs.Prelude.{ℕ, List}
 use Rattle.rtrb.specs.Ring.{known_free, known_items, received, sent}
-use Rattle.dspec_deeds.specs.FateAnswers.{id_given}
-use Rattle.dspec_ring.specs.EndFields.{popped_from, pushed_into}
-use Rattle.dspec_ring.specs.Known.{Ring}
+use Rattle.dspec_threads.specs.Words.Outside.{id_given, popped_from, pushed_into, Ring}
 use Rattle.dspec.specs.declared.handing.Handed.{Handed}
 use Rattle.dspec.specs.declared.path.Path.{Path}
 use Rattle.dspec_threads.specs.declared.ends.Giver.{Giver}

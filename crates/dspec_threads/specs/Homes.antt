@@ -1,13 +1,8 @@
 -- Cited by calls. How a CPU comes home: by a ring of its own, through which it went as it went out.
 use Rattle.std.specs.Prelude.{ℕ, ◌≡◌, List, [], ◌∷◌, slice_get}
-use Rattle.dspec_record.specs.EnablingRows.{EnabledRows}
-use Rattle.dspec_ring.specs.Known.{Pair}
+use Rattle.dspec_threads.specs.Words.Outside.{EnabledRows, Pair, CallsMade, called, number_in, words_of, identity, IsCpuOf}
 use Rattle.dspec_cpu.specs.declared.cpu.Cpu.{Cpu}
 use Rattle.dspec_cpu.specs.declared.shared.Shared.{Shared}
-use Rattle.dspec_cpu.specs.Called.{CallsMade, called}
-use Rattle.dspec_cpu.specs.Lists.{number_in, words_of}
-use Rattle.dspec_cpu.specs.Standing.{identity}
-use Rattle.dspec_session_core.specs.Sessions.{IsCpuOf}
 
 -- The CPU is out: what went through its ring when that was made is the same CPU.
 pub record IsLentOut (sent : List (Cpu EnabledRows)) (cpu : Cpu EnabledRows) : Type 0 where

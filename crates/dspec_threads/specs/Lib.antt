@@ -6,3 +6,4 @@ pub mod Runs
 pub mod Said
 pub mod Settled
 pub mod Waits
+pub mod Words

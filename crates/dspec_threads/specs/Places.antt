@@ -2,23 +2,20 @@
 use Rattle.std.specs.Prelude.{ℕ, ◌≡◌, ◌⊎◌, Bool, false, List, [], ◌∷◌, map, slice_get, slice_set, Option, Some, None, IsSome, is_some, Result, MatchResult}
 use Rattle.std.specs.Option.{option_map, option_map_or}
 use Rattle.rtrb.specs.Ring.{received}
-use Rattle.dspec_record.specs.EnablingRows.{EnabledRows}
+use Rattle.dspec_threads.specs.Words.Outside.{EnabledRows, CallsMade, called, no_calls, IsCallable, identity, ServedOnce, ThenServed}
 use Rattle.dspec_cpu.specs.declared.cpu.Cpu.{Cpu}
 use Rattle.dspec_cpu.specs.declared.shared.Shared.{Shared}
-use Rattle.dspec_cpu.specs.Called.{CallsMade, called, no_calls}
-use Rattle.dspec_cpu.specs.Standing.{IsCallable, identity}
-use Rattle.dspec.specs.Serving.{ServedOnce, ThenServed}
-use Rattle.dspec_threads.specs.declared.place.Place.{Place}
+use Rattle.dspec_threads.specs.declared.place.LanePlace.{LanePlace}
 use Rattle.dspec_threads.specs.Homes.{IsHomeOf, IsOfRank, Rank}
 
 pub record Whereabouts : Type 0 where
   pub inside : Option (Cpu EnabledRows)
   pub came : Option (List (Cpu EnabledRows))
 
-abbrev pub whereabouts : {D : Type 0} → Place D → Whereabouts
+abbrev pub whereabouts : {D : Type 0} → LanePlace D → Whereabouts
 whereabouts p = record { inside = p.inside; came = option_map (λ h. received h) p.home }
 
-abbrev pub all_whereabouts : {D : Type 0} → List (Place D) → List Whereabouts
+abbrev pub all_whereabouts : {D : Type 0} → List (LanePlace D) → List Whereabouts
 all_whereabouts ps = map whereabouts ps
 
 -- of a CPU that is inside

@@ -1,25 +1,18 @@
 -- Cited by calls. What contracts see of a session that runs on a program's own threads, and what it keeps.
 use Rattle.std.specs.Prelude.{ℕ, ◌≡◌, Bool, false, List, length, slice_get, slice_set, All, Option, Some, None, Result, MatchResult}
 use Rattle.std.specs.Option.{option_map_or}
-use Rattle.dspec_record.specs.EnablingRows.{EnabledRows}
+use Rattle.dspec_threads.specs.Words.Outside.{EnabledRows, start_fault, IsUnusedConsumer, last_seat, set_up, CallsMade, called, no_calls, number_in, schema_of, words_of, Consuming, pairs_of}
+use Rattle.dspec_threads.specs.Words.Outside.{view_of, PassesOn, MakesRound}
 use Rattle.dspec_deeds.specs.declared.config.Config.{Config}
-use Rattle.dspec_deeds.specs.Ranges.{start_fault}
 use Rattle.dspec_ring.specs.declared.batch.Batch.{Batch}
-use Rattle.dspec_ring.specs.Known.{IsUnusedConsumer}
-use Rattle.dspec_table.specs.Seats.{last_seat, set_up}
 use Rattle.dspec_cpu.specs.declared.cpu.Cpu.{Cpu}
 use Rattle.dspec_cpu.specs.declared.shared.Shared.{Shared}
-use Rattle.dspec_cpu.specs.Called.{CallsMade, called, no_calls}
-use Rattle.dspec_cpu.specs.Lists.{number_in, schema_of, words_of}
-use Rattle.dspec_session_core.specs.Consumers.{Consuming, pairs_of, view_of}
-use Rattle.dspec.specs.Passed.{PassesOn}
-use Rattle.dspec.specs.Visits.{MakesRound}
 use Rattle.dspec_threads.specs.Homes.{Rank}
 use Rattle.dspec_threads.specs.Places.{AreAtPlaces, EachPair, Rests, ServesInside, StaysIn, Whereabouts}
 
 -- its schema and configuration; of each CPU, in order, itself where its lane is back; whether what the lanes share was somebody else's when
 -- it was to end; its consumer, and the sink, as it was at the start and as it is
-pub record Run (K : Type 0) : Type 0 where
+pub record RunningSession (K : Type 0) : Type 0 where
   pub schema : EnabledRows
   pub config : Config
   pub home : List (Option (Cpu EnabledRows))
@@ -44,7 +37,7 @@ pub record IsRun {K : Type 0} (gets : K → Batch → K → Type 0) (done : ℕ 
   pub passes : PassesOn gets (words_of shared) first began consumer sink
 
 -- it was started just now, with this sink
-pub record BeginsRun {K : Type 0} (k : Config) (schema : EnabledRows) (sink : K) (r : Run K) : Type 0 where
+pub record BeginsRun {K : Type 0} (k : Config) (schema : EnabledRows) (sink : K) (r : RunningSession K) : Type 0 where
   pub one : r.schema ≡ schema
   pub config : r.config ≡ k
   pub held : r.held ≡ false
@@ -58,12 +51,12 @@ pub record AreNew (count : ℕ) (schema : EnabledRows) (home : List (Option (Cpu
       → (cpu : Cpu EnabledRows) × (o ≡ Some cpu) × (number_in cpu ≡ c) × (schema_of cpu ≡ schema) × (no_calls ≡ called cpu)
 
 -- a look later lanes may be back, and nothing else changed
-pub record LooksLater {K : Type 0} (old new : Run K) : Type 0 where
+pub record LooksLater {K : Type 0} (old new : RunningSession K) : Type 0 where
   pub same : record new { home = old.home } ≡ old
   pub home : EachPair StaysIn old.home new.home
 
 -- behind a look each CPU that was at home made a service, and nothing else changed
-pub record TendsHome {K : Type 0} (old new : Run K) : Type 0 where
+pub record TendsHome {K : Type 0} (old new : RunningSession K) : Type 0 where
   pub same : record new { home = old.home } ≡ old
   pub looked : List (Option (Cpu EnabledRows))
   pub later : EachPair StaysIn old.home looked
@@ -71,7 +64,7 @@ pub record TendsHome {K : Type 0} (old new : Run K) : Type 0 where
 
 -- Behind a look the CPU with this number, if it was at home, is the answer, and is out; or memory was refused, and it stays. Nothing else
 -- changed.
-pub record HandsLane {K E : Type 0} (c : ℕ) (a : Result (Option (Cpu EnabledRows)) E) (old new : Run K) : Type 0 where
+pub record HandsLane {K E : Type 0} (c : ℕ) (a : Result (Option (Cpu EnabledRows)) E) (old new : RunningSession K) : Type 0 where
   pub same : record new { home = old.home } ≡ old
   pub looked : List (Option (Cpu EnabledRows))
   pub later : EachPair StaysIn old.home looked
@@ -84,6 +77,6 @@ pub record IsLaneOf (done : ℕ → CallsMade → Type 0) (schema : EnabledRows)
   pub rests : Rests done c (called cpu)
 
 -- the consumer made a round, the sink got what came, and nothing else changed
-pub record RoundMade {K : Type 0} (gets : K → Batch → K → Type 0) (old new : Run K) : Type 0 where
+pub record RoundMade {K : Type 0} (gets : K → Batch → K → Type 0) (old new : RunningSession K) : Type 0 where
   pub same : record new { consumer = old.consumer; sink = old.sink } ≡ old
   pub round : MakesRound gets old.config.cpus old.consumer old.sink new.consumer new.sink

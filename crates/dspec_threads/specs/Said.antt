@@ -1,8 +1,7 @@
 -- Cited by calls. What was said, by the ends of rings.
 use Rattle.std.specs.Prelude.{ℕ, ◌≡◌, ◌≤◌, ◌+◌, Bool, List, [], ◌∷◌, ◌++◌, MatchBool, slice_get, slice_set, Some, map}
 use Rattle.rtrb.specs.Ring.{known_free, sent}
-use Rattle.dspec_ring.specs.EndFields.{pushed_into}
-use Rattle.dspec_ring.specs.Known.{Ring}
+use Rattle.dspec_threads.specs.Words.Outside.{pushed_into, Ring}
 use Rattle.dspec_threads.specs.declared.verdict.Verdict.{Verdict}
 use Rattle.dspec_threads.specs.declared.saying.Sayer.{Sayer}
 

@@ -1,17 +1,12 @@
 -- Cited by calls. What was settled on a lane.
 use Rattle.std.specs.Prelude.{ℕ, ◌≡◌, Bool, List, [], ◌∷◌, ◌++◌, length, if◌then◌else◌}
 use Rattle.dspec_record.specs.declared.schema.Schema.{Ghosts}
-use Rattle.dspec_word.specs.SpecId.{Speculation}
+use Rattle.dspec_threads.specs.Words.Outside.{Speculation, commit, discard, popped_from, Ring, DecisionOn, place_of}
 use Rattle.dspec_deeds.specs.declared.calls.Decided.{Decided}
 use Rattle.dspec_deeds.specs.declared.deed.Deed.{Deed}
-use Rattle.dspec_promise.specs.Promise.{commit, discard}
 use Rattle.dspec_cpu.specs.declared.cpu.Cpu.{Cpu}
 use Rattle.rtrb.specs.Ring.{known_items, received}
-use Rattle.dspec_ring.specs.EndFields.{popped_from}
-use Rattle.dspec_ring.specs.Known.{Ring}
 use Rattle.dspec.specs.declared.lane.Lane.{Lane}
-use Rattle.dspec.specs.LaneCalls.{DecisionOn}
-use Rattle.dspec.specs.Lanes.{place_of}
 use Rattle.dspec_threads.specs.declared.settling.Settler.{Settler}
 use Rattle.dspec_threads.specs.declared.verdict.Verdict.{Verdict}
 

@@ -17,7 +17,7 @@ use std::alloc::{AllocError, Global};
 
 /// The place of a CPU at its session: it is inside, or out, and then this is where it comes home. Each way out takes a ring of its own.
 #[derive(Drop)]
-pub(crate) struct Place<D: Duty> {
+pub(crate) struct LanePlace<D: Duty> {
     inside: Option<Cpu<Enablings>>,
     home: Option<Home<D>>,
 }
@@ -32,12 +32,12 @@ fn serve(cpu: &mut Cpu<Enablings>, shared: &Shared)
     lane.service();
 }
 
-impl<D: Duty> Place<D> {
+impl<D: Duty> LanePlace<D> {
     /// Of a CPU that is inside.
-    pub(crate) fn of(cpu: Cpu<Enablings>) -> Place<D>
+    pub(crate) fn of(cpu: Cpu<Enablings>) -> LanePlace<D>
         ensures { whereabouts result ≡ waits_inside cpu }
     {
-        Place {
+        LanePlace {
             inside: Some(cpu),
             home: None,
         }
@@ -104,7 +104,7 @@ impl<D: Duty> Place<D> {
         requires { IsSome (whereabouts self).inside }
         ensures { (whereabouts self).inside ≡ Some result }
     {
-        let Place { inside, home: _ } = self;
+        let LanePlace { inside, home: _ } = self;
         inside.unwrap()
     }
 }

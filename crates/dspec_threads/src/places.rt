@@ -5,7 +5,7 @@ ghost use Rattle.dspec_threads.specs.Places.{AllIn, AreCpusOf, AtOne, ComesIn, E
 use crate::common::Common;
 use crate::duty::Duty;
 use crate::owned_lane::OwnedLane;
-use crate::place::Place;
+use crate::place::LanePlace;
 use dspec_cpu::{Cpu, Shared};
 use dspec_record::Enablings;
 use std::alloc::{AllocError, Global};
@@ -22,12 +22,12 @@ fn first<T>(items: &mut Vec<T>) -> T
 pub(crate) fn places_of<D: Duty>(
     alloc: Global,
     cpus: Vec<Cpu<Enablings>>,
-) -> Result<Vec<Place<D>>, AllocError>
+) -> Result<Vec<LanePlace<D>>, AllocError>
     ensures { IfOk result (λ r. all_whereabouts r.items ≡ map waits_inside cpus.items) }
 {
     let (mut rest, mut places) = (cpus, Vec::new(alloc));
     while !rest.is_empty() {
-        places.push(Place::of(first(&mut rest)))?;
+        places.push(LanePlace::of(first(&mut rest)))?;
     }
     Ok(places)
 }
@@ -40,7 +40,7 @@ fn both(one: bool, other: bool) -> bool
 }
 
 // A look at one place.
-fn look_at<D: Duty>(places: &mut Vec<Place<D>>, index: usize) -> bool
+fn look_at<D: Duty>(places: &mut Vec<LanePlace<D>>, index: usize) -> bool
     requires { index < length places.old.items }
     ensures looked { AtOne (ComesIn D.done) index (all_whereabouts places.old.items) (all_whereabouts places.new.items) }
     ensures inside { result ≡ is_in_at index (all_whereabouts places.new.items) }
@@ -49,7 +49,7 @@ fn look_at<D: Duty>(places: &mut Vec<Place<D>>, index: usize) -> bool
 }
 
 /// Looks at each place: whether all CPUs are inside.
-pub(crate) fn look_at_all<D: Duty>(places: &mut Vec<Place<D>>) -> bool
+pub(crate) fn look_at_all<D: Duty>(places: &mut Vec<LanePlace<D>>) -> bool
     ensures looked { EachPair (ComesIn D.done) (all_whereabouts places.old.items) (all_whereabouts places.new.items) }
     ensures inside { MatchBool result (AllIn (who_is_in (all_whereabouts places.new.items))) (IsOneOut (who_is_in (all_whereabouts places.new.items))) }
 {
@@ -61,7 +61,7 @@ pub(crate) fn look_at_all<D: Duty>(places: &mut Vec<Place<D>>) -> bool
 }
 
 // A service of the CPU at one place, where it is inside.
-fn tend_at<D: Duty>(places: &mut Vec<Place<D>>, index: usize, shared: &Shared)
+fn tend_at<D: Duty>(places: &mut Vec<LanePlace<D>>, index: usize, shared: &Shared)
     requires some { index < length places.old.items }
     requires callable { AreCpusOf D.done shared.now (all_whereabouts places.old.items) }
     ensures { AtOne (TendsPlace D.done) index (all_whereabouts places.old.items) (all_whereabouts places.new.items) }
@@ -70,7 +70,7 @@ fn tend_at<D: Duty>(places: &mut Vec<Place<D>>, index: usize, shared: &Shared)
 }
 
 /// A service of each CPU that is inside.
-pub(crate) fn tend_all<D: Duty>(places: &mut Vec<Place<D>>, shared: &Shared)
+pub(crate) fn tend_all<D: Duty>(places: &mut Vec<LanePlace<D>>, shared: &Shared)
     requires { AreCpusOf D.done shared.now (all_whereabouts places.old.items) }
     ensures { EachPair (TendsPlace D.done) (all_whereabouts places.old.items) (all_whereabouts places.new.items) }
 {
@@ -81,7 +81,7 @@ pub(crate) fn tend_all<D: Duty>(places: &mut Vec<Place<D>>, shared: &Shared)
 
 /// The CPU of one place as a lane, where it is inside, or has come home by now.
 pub(crate) fn send_out_at<D: Duty>(
-    places: &mut Vec<Place<D>>,
+    places: &mut Vec<LanePlace<D>>,
     index: usize,
     alloc: Global,
     common: &Common,
@@ -97,7 +97,7 @@ pub(crate) fn send_out_at<D: Duty>(
 
 /// All CPUs, in order, which are inside.
 pub(crate) fn cpus_of<D: Duty>(
-    places: Vec<Place<D>>,
+    places: Vec<LanePlace<D>>,
     room: Vec<Cpu<Enablings>>,
 ) -> Vec<Cpu<Enablings>>
     requires inside { AllIn (who_is_in (all_whereabouts places.items)) }

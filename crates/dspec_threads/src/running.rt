@@ -10,12 +10,12 @@ ghost use Rattle.dspec_session_core.specs.Sessions.{IsSession};
 ghost use Rattle.dspec.specs.Serving.{ThenServed};
 ghost use Rattle.dspec.specs.Traced.{IsKeptWith, IsOneListWith, IsTracedWith};
 ghost use Rattle.dspec_threads.specs.Places.{AllIn, IsOneOut, NothingOrDone, all_whereabouts, who_is_in, waits_inside};
-ghost use Rattle.dspec_threads.specs.Runs.{AreNew, BeginsRun, HandsLane, IsLaneOf, LooksLater, RoundMade, Run, TendsHome};
+ghost use Rattle.dspec_threads.specs.Runs.{AreNew, BeginsRun, HandsLane, IsLaneOf, LooksLater, RoundMade, RunningSession, TendsHome};
 
 use crate::common::Common;
 use crate::duty::{Anything, Duty};
 use crate::owned_lane::{FreeLane, OwnedLane};
-use crate::place::Place;
+use crate::place::LanePlace;
 use crate::places::{cpus_of, look_at_all, places_of, send_out_at, tend_all};
 use dspec::{Closed, Config, Consumer, Session, Sink, StartFault, pass_rests, visit_all};
 use dspec_cpu::Cpu;
@@ -31,7 +31,7 @@ pub struct Running<D: Duty, K: Sink<Enablings>> {
     common: Common,
     schema: Enablings,
     cpus: u32,
-    places: Vec<Place<D>>,
+    places: Vec<LanePlace<D>>,
     /// Empty, with room for all CPUs.
     room: Vec<Cpu<Enablings>>,
     consumer: Consumer,
@@ -45,9 +45,9 @@ impl<D: Duty, K: Sink<Enablings>> Model for Running<D, K> {
     ghost use Rattle.dspec_table.specs.Seats.{set_up};
     ghost use Rattle.dspec_cpu.specs.Lists.{words_of};
     ghost use Rattle.dspec_threads.specs.Places.{all_whereabouts, who_is_in};
-    ghost use Rattle.dspec_threads.specs.Runs.{IsRun, Run};
+    ghost use Rattle.dspec_threads.specs.Runs.{IsRun, RunningSession};
 
-    ghost Value = { Run K };
+    ghost Value = { RunningSession K };
 
     ghost view = { λ r. record { schema = r.schema; config = set_up (words_of (arc_value r.common.shared)); home = who_is_in (all_whereabouts r.places.items); held = r.common.held; consumer = r.consumer; began = r.began.value; sink = r.sink } };
 

@@ -2,13 +2,8 @@
 use Rattle.std.proofs.Common.{◌≡◌, ◌≢◌, ◌<◌, ◌+◌, ℕ, ◌⊎◌, inl, inr, List, [], ◌∷◌, ◌++◌, Option, Some, None, sym, ap, ◌∙◌, subst, length, length-set, slice_index}
 use Rattle.std.proofs.lemmas.List.{get_or-set_same, get_or-set_other}
 use Rattle.std.proofs.lemmas.Option.{slice_get_within, get_or_from_slice_get}
-use Rattle.dspec_record.specs.EnablingRows.{EnabledRows}
+use Rattle.dspec_trace_reading.specs.Words.{EnabledRows, Passed, GotAll, missed_on, lost_more, FileWrite, Takes, AddsPacket, GetsPacket, IsNothing, LosesPacket, Tracing}
 use Rattle.dspec_ring.specs.declared.batch.Batch.{Batch}
-use Rattle.dspec.specs.Passed.{Passed, GotAll}
-use Rattle.dspec_ctf_sink.specs.Accounts.{missed_on}
-use Rattle.dspec_ctf_sink.specs.Losses.{lost_more}
-use Rattle.dspec_ctf_sink.specs.Writes.{FileWrite, Takes}
-use Rattle.dspec_ctf_sink.specs.Writing.{AddsPacket, GetsPacket, IsNothing, LosesPacket, Tracing}
 use Rattle.dspec_ctf_sink.specs.declared.losing.Loss.{Loss}
 
 -- what a place took stands behind what it was asked for before

@@ -1,16 +1,11 @@
 -- A folder in which the metadata was written, and no packet yet.
 use Rattle.std.proofs.Common.{◌≡◌, ◌∙◌, ℕ, zero, suc, List, [], ◌∷◌, Some, None, refl, sym, ap, codes, replicate, slice_index}
 use Rattle.std.proofs.lemmas.List.{append-nil}
-use Rattle.dspec_record.specs.EnablingRows.{EnabledRows}
-use Rattle.dspec_ctf.specs.Metadata.{origin_text}
+use Rattle.dspec_trace_reading.specs.Words.{EnabledRows, origin_text, missed_on, FileWrite, brought_to, file_of, IsBegun, Tracing, cpu_name, told_on}
 use Rattle.dspec_ctf.specs.declared.form.Form.TheVariants.{AsTaken}
 use Rattle.dspec_ctf.specs.declared.names.Names.{Names}
 use Rattle.dspec_ctf.specs.declared.origin.Origin.{Origin}
-use Rattle.dspec_ctf_sink.specs.Accounts.{missed_on}
-use Rattle.dspec_ctf_sink.specs.Writes.{FileWrite, brought_to, file_of}
-use Rattle.dspec_ctf_sink.specs.Writing.{IsBegun, Tracing, cpu_name}
 use Rattle.dspec_ctf_sink.proofs.Written.{brought_elsewhere, brought_whole}
-use Rattle.dspec_trace_reading.specs.AsTaken.{told_on}
 use Rattle.dspec_trace_reading.proofs.Naming.{not_metadata}
 use Rattle.dspec_trace_reading.proofs.Asking.{took}
 

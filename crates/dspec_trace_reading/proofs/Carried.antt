@@ -1,35 +1,23 @@
 -- What a session promises of a folder that it was traced into, and of the sink beside it.
-use Rattle.std.proofs.Common.{◌≡◌, ◌<◌, ◌+◌, ℕ, Bool, List, [], ◌∷◌, ◌++◌, Option, Some, None, sym, ap, ◌∙◌, subst, arith, append_assoc, slice_get}
+use Rattle.std.proofs.Common.{◌≡◌, ◌<◌, ◌+◌, ℕ, Bool, List, [], ◌∷◌, ◌++◌, Option, Some, None, sym, ap, ◌∙◌, subst, arith, append_assoc, length, slice_get}
 use Rattle.std.proofs.lemmas.Option.{slice_get_within}
-use Rattle.dspec_record.specs.Record.{Record}
+use Rattle.dspec_trace_reading.specs.Words.{Record, EnabledRows, enabled, table_accepts, table_shape, table_text, start_fault, CallsMade, waiting, all_did, IsPromised, GotAll, Passed, passed_from}
+use Rattle.dspec_trace_reading.specs.Words.{IsKept, IsOneListWith, IsTelling, TellsUntold, untold, FileWrite, HaveNumbers, drops_carried, missed_in, BothGet, RanInto, FolderTrace}
 use Rattle.dspec_record.specs.declared.field.Shape.{Shape}
-use Rattle.dspec_record.specs.EnablingRows.{EnabledRows}
-use Rattle.dspec_record.specs.Schemas.{enabled, table_accepts, table_shape, table_text}
-use Rattle.dspec_deeds.specs.Ranges.{start_fault}
 use Rattle.dspec_deeds.specs.declared.config.Config.{Config}
 use Rattle.dspec_deeds.proofs.SetUp.{most_cpus}
 use Rattle.dspec_ring.specs.declared.batch.Batch.{Batch}
-use Rattle.dspec_cpu.specs.Called.{CallsMade}
-use Rattle.dspec_cpu.specs.Sealed.{waiting}
-use Rattle.dspec_promise.specs.Deeds.{all_did}
 use Rattle.dspec_session_core.specs.declared.left.Left.{Left}
-use Rattle.dspec_session_core.specs.Promised.{IsPromised}
-use Rattle.dspec.specs.Passed.{GotAll, Passed, passed_from}
-use Rattle.dspec.specs.Traced.{IsKept, IsOneListWith}
 use Rattle.dspec.proofs.Passing.{from_both, got_both}
-use Rattle.dspec_ctf_sink.specs.Ending.{IsTelling, TellsUntold, untold}
-use Rattle.dspec_ctf_sink.specs.Writes.{FileWrite}
 use Rattle.dspec_ctf_sink.specs.declared.losing.Loss.{Loss}
-use Rattle.dspec_trace_reading.specs.AsTaken.{HaveNumbers, drops_carried}
+use Rattle.dspec_trace_reading.proofs.Counted.{accepted_reported, drops_reported}
 use Rattle.dspec_trace_reading.proofs.Folding.{Holds}
 use Rattle.dspec_trace_reading.proofs.Read.{numbered}
 use Rattle.dspec_trace_reading.proofs.Begun.{first}
 use Rattle.dspec_trace_reading.proofs.Through.{got_through}
 use Rattle.dspec_trace_reading.proofs.Told.{drops_more, got_told, hold_more, numbers_both, told_numbers, told_of, told_there}
-use Rattle.dspec_trace_reading.specs.Ran.{BothGet, RanInto}
 use Rattle.dspec.specs.declared.both.Both.{Both}
 use Rattle.dspec_ctf_sink.specs.declared.telling.Telling.{Telling}
-use Rattle.dspec_trace_reading.specs.declared.folder_trace.FolderTrace.{FolderTrace}
 
 -- What the promise of a session says of a folder into which it was traced and whose end was told, and of the sink beside it.
 pub record Carries {K F : Type 0} (gets : K → Batch → K → Type 0) (sees : F → Batch → F → Type 0) (does : ℕ → CallsMade → CallsMade → Type 0) (e : EnabledRows) (k : Config) (old : K)
@@ -40,7 +28,8 @@ pub record Carries {K F : Type 0} (gets : K → Batch → K → Type 0) (sees : 
   pub own : HaveNumbers all
   pub ends : (c : ℕ) (l : Left) → slice_get left c ≡ Some l → (b : Batch) × IsTelling c (untold l.report) b × (passed_from c all ≡ passed_from c kept.passed ++ b ∷ [])
   pub holds : (c : ℕ) (l : Left) (at : slice_get left c ≡ Some l) → Holds e (passed_from c all) ((kept.page.each c l at).seen)
-  pub missed : (c : ℕ) (l : Left) → slice_get left c ≡ Some l → drops_carried (passed_from c all) ≡ drops_carried (passed_from c kept.passed) + untold l.report
+  pub missed : (c : ℕ) (l : Left) → slice_get left c ≡ Some l → drops_carried (passed_from c all) ≡ missed_in l.report
+  pub accepted : (c : ℕ) (l : Left) (at : slice_get left c ≡ Some l) → length ((kept.page.each c l at).seen) ≡ l.report.accepted
   pub low : start_fault k ≡ None → (c : ℕ) (l : Left) → slice_get left c ≡ Some l → c < 64
 
 -- A session's sink B has both a sink K and a folder F, whose end was told behind the close: what the session's promise says of both.
@@ -102,16 +91,27 @@ module _ {B K F : Type 0} (bgets : B → Batch → B → Type 0) (gets : K → B
       let end = ends c l at in
       subst (λ bs. Holds e bs (seen c l at)) (sym end.2) (hold_more e (passed_from c one.0.passed) end.0 (seen c l at) (kept.page.each c l at).hold end.1.bare)
 
-  missed : (c : ℕ) (l : Left) → slice_get left c ≡ Some l → drops_carried (passed_from c all_passed) ≡ drops_carried (passed_from c one.0.passed) + untold l.report
+  -- what its batches carry as drops is what its report counts, by the list that closes the session
+  dropped : (c : ℕ) (l : Left) → slice_get left c ≡ Some l → drops_carried (passed_from c one.0.passed) ≡ l.report.drops
+  dropped c l at =
+      ap (λ xs. drops_carried (passed_from c xs)) one.3 ∙ ap drops_carried (one.1.whole c l at)
+      ∙ drops_reported shape accepts text k c one.1.deeds (one.1.own c) (one.1.worn c) (one.1.taken c) l one.1.closes.legal (one.1.closes.each c l at)
+
+  missed : (c : ℕ) (l : Left) → slice_get left c ≡ Some l → drops_carried (passed_from c all_passed) ≡ missed_in l.report
   missed c l at =
       let end = ends c l at in
-      ap drops_carried end.2 ∙ (drops_more (passed_from c one.0.passed) end.0 ∙ ap (λ n. drops_carried (passed_from c one.0.passed) + n) end.1.tells)
+      let all = ap drops_carried end.2 ∙ drops_more (passed_from c one.0.passed) end.0 in
+      omega (arith, all, end.1.tells, dropped c l at)
 
   low : start_fault k ≡ None → (c : ℕ) (l : Left) → slice_get left c ≡ Some l → c < 64
   low start c l at = omega (arith, slice_get_within left c l at, one.1.closes.all, most_cpus k start)
 
+  reported : (c : ℕ) (l : Left) (at : slice_get left c ≡ Some l) → length (seen c l at) ≡ l.report.accepted
+  reported c l at =
+      accepted_reported shape accepts text k.cpus kept.page.all c (kept.calls c) (kept.page.closed c) (passed_from c one.0.passed) l.report (kept.page.each c l at)
+
   pub carried : Carries gets sees does e k (other old) left (other new) (folder old) ended
-  carried = record { kept = kept; all = all_passed; got = got_all; own = own; ends = ends; holds = holds; missed = missed; low = low }
+  carried = record { kept = kept; all = all_passed; got = got_all; own = own; ends = ends; holds = holds; missed = missed; accepted = reported; low = low }
 
 -- where it ran into a folder and to a sink
 pub in_both : {K F : Type 0} (sees : F → Batch → F → Type 0) (gets : K → Batch → K → Type 0) (does : ℕ → CallsMade → CallsMade → Type 0) (e : EnabledRows) (k : Config) (old new : K)

@@ -6,19 +6,11 @@ use Rattle.std.specs.List.{flat_map}
 use Rattle.std.proofs.lemmas.Bool.{eqb-true, eqb-false, ne_eqb}
 use Rattle.std.proofs.lemmas.List.{append-nil, map-append}
 use Rattle.std.proofs.lemmas.List.Elements.{All-append, All-cons, All-nil}
-use Rattle.dspec_record.specs.Record.{Record}
-use Rattle.dspec_record.specs.EnablingRows.{EnabledRows}
+use Rattle.dspec_trace_reading.specs.Words.{Record, EnabledRows, missed_packets, of_file, run_files, run_packets, told_by, Accepts, FileTells, PartTells, file_bytes, MissedReadsBack, RunsReadBack}
+use Rattle.dspec_trace_reading.specs.Words.{event_of, layout_of, EventRead, AddsAll, TellsMissed, row_name, FileWrite, file_of}
 use Rattle.dspec_record.specs.declared.header.Header.TheVariants as header
-use Rattle.dspec_ctf.specs.Rows.{missed_packets, of_file, run_files, run_packets, told_by}
-use Rattle.dspec_ctf.specs.Streams.{Accepts}
 use Rattle.dspec_ctf.specs.declared.form.Form.TheVariants.{ByTime}
 use Rattle.dspec_ctf.specs.declared.names.Names.{Names}
-use Rattle.dspec_ctf_reading.specs.Files.{FileTells, PartTells, file_bytes}
-use Rattle.dspec_ctf_reading.specs.Laws.{MissedReadsBack, RunsReadBack}
-use Rattle.dspec_ctf_reading.specs.Layouts.{event_of, layout_of}
-use Rattle.dspec_ctf_reading.specs.Reading.{EventRead}
-use Rattle.dspec_ctf_sink.specs.Timed.{AddsAll, TellsMissed, row_name}
-use Rattle.dspec_ctf_sink.specs.Writes.{FileWrite, file_of}
 use Rattle.dspec_trace_reading.proofs.Growing.{FilesJoin, grown, told_more}
 use Rattle.dspec_trace_reading.proofs.Sharing.{FilesHaveAll, RunsHaveAll, of_more, packets_few, shared, stamps_low}
 use Rattle.dspec_trace_reading.proofs.Taking.{grows_here, row_writes, took_all}

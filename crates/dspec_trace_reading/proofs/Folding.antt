@@ -5,26 +5,14 @@ use Rattle.std.specs.List.{flat_map}
 use Rattle.std.proofs.lemmas.List.{append-nil}
 use Rattle.std.proofs.lemmas.List.Elements.{All-cons, All-nil}
 use Rattle.std.proofs.lemmas.Bool.{eqb-true, eqb-false}
-use Rattle.dspec_record.specs.Record.{Record}
-use Rattle.dspec_record.specs.EnablingRows.{EnabledRows}
-use Rattle.dspec_record.specs.Schemas.{enabled, table_shape, table_accepts, table_text}
-use Rattle.dspec_record.specs.Laws.Tables.{enabled-IsLimited, table-shapes_fit, table-texts_fit, table-texts_differ}
-use Rattle.dspec_buffer.specs.Extent.{Piece, records}
-use Rattle.dspec_buffer.specs.Stored.{HasPieces}
-use Rattle.dspec_buffer.specs.BufferText.{BufferText}
+use Rattle.dspec_trace_reading.specs.Words.{Record, EnabledRows, enabled, table_shape, table_accepts, table_text, enabled-IsLimited, table-shapes_fit, table-texts_fit, table-texts_differ, Piece}
+use Rattle.dspec_trace_reading.specs.Words.{records, HasPieces, BufferText, HoldInOrder, Passed, GotAll, passed_from, filled_packets, Accepts, IsText, missed_on, FileWrite, brought_to, file_of}
+use Rattle.dspec_trace_reading.specs.Words.{AddsPacket, AreNextOf, GetsPacket, IsNothing, Tracing, cpu_name, HaveNumbers, drops_carried}
 use Rattle.dspec_buffer.proofs.SchemaLaws.{SchemaLaws}
 use Rattle.dspec_buffer.proofs.OneReading.{one_reading}
 use Rattle.dspec_buffer.proofs.Walks.{reads_back}
 use Rattle.dspec_ring.specs.declared.batch.Batch.{Batch}
-use Rattle.dspec_session_core.specs.Closing.{HoldInOrder}
-use Rattle.dspec.specs.Passed.{Passed, GotAll, passed_from}
-use Rattle.dspec_ctf.specs.Filled.{filled_packets}
-use Rattle.dspec_ctf.specs.Streams.{Accepts, IsText}
-use Rattle.dspec_ctf_sink.specs.Accounts.{missed_on}
-use Rattle.dspec_ctf_sink.specs.Writes.{FileWrite, brought_to, file_of}
-use Rattle.dspec_ctf_sink.specs.Writing.{AddsPacket, AreNextOf, GetsPacket, IsNothing, Tracing, cpu_name}
 use Rattle.dspec_ctf_sink.proofs.Written.{brought_elsewhere, brought_whole, file_of_more}
-use Rattle.dspec_trace_reading.specs.AsTaken.{HaveNumbers, drops_carried}
 use Rattle.dspec_trace_reading.proofs.Naming.{names_differ, not_metadata}
 use Rattle.dspec_trace_reading.proofs.Asking.{came_whole, few, missed_before, missed_elsewhere, missed_here, stays_wide, took, unlost}
 

@@ -3,8 +3,7 @@ use Rattle.std.proofs.Common.{◌≡◌, ◌<◌, ◌++◌, ℕ, List, [], ◌�
 use Rattle.std.proofs.lemmas.Grind.{flat_map-append}
 use Rattle.std.proofs.lemmas.List.{append-nil}
 use Rattle.std.proofs.lemmas.List.Elements.{All-append, All-head, All-tail, All-weaker}
-use Rattle.dspec_ctf_reading.specs.Files.{FileTells, PartTells}
-use Rattle.dspec_ctf_reading.specs.Reading.{Layout, EventRead, PacketRead, events_of, loss_of, read_file}
+use Rattle.dspec_trace_reading.specs.Words.{FileTells, PartTells, Layout, EventRead, PacketRead, events_of, loss_of, read_file}
 
 -- that it is read so
 abbrev pub FilesJoin : Type 0

@@ -1,83 +1,105 @@
 -- What is read of a folder into which a session was traced by one call.
-use Rattle.std.proofs.Common.{◌≡◌, ◌+◌, ℕ, List, [], ◌∷◌, Option, Some, None, sym, ◌∙◌, subst, map}
-use Rattle.dspec_record.specs.EnablingRows.{EnabledRows}
-use Rattle.dspec_deeds.specs.Ranges.{start_fault}
+use Rattle.std.proofs.Common.{◌≡◌, ◌<◌, ◌≤◌, ◌+◌, ◌-◌, ◌^◌, ℕ, List, [], ◌∷◌, ◌++◌, ◌⊎◌, inl, inr, Option, Some, None, sym, ap, ◌∙◌, subst, arith, length, map, slice_get}
+use Rattle.std.specs.Option.{option_map_or}
+use Rattle.dspec_trace_reading.specs.Words.{Record, EnabledRows, enabled, table_accepts, table_shape, table_text, start_fault, CallsMade, passed_from, IsBare, FileTells, event_of, layout_of}
+use Rattle.dspec_trace_reading.specs.Words.{HasNumbers, FileWrite, file_of, GetsPacket, Tracing, cpu_name, missed_on, AreKept, ReadsPart, drops_carried, told_on, IsBegunTrace, IsInFolder, missed_in}
+use Rattle.dspec_trace_reading.specs.Words.{IsTracedInto, IsOfTrace, RanBegun, written_in, FolderTrace, ToFolderFault, Begun, Ran, HasOriginNumbers, AreCountable, AreNamesOf, labels_at, ticks_of}
+use Rattle.dspec_ctf.specs.declared.form.Form.{Form}
+use Rattle.dspec_ctf.specs.declared.names.Names.{Names}
+use Rattle.dspec_ctf.specs.declared.names.Names.TheVariants.{Numbered, Given}
+use Rattle.dspec_ctf.specs.declared.origin.Origin.{Origin}
 use Rattle.dspec_deeds.specs.declared.config.Config.{Config}
 use Rattle.dspec_probe.specs.declared.probes.ProbeNames.{ProbeNames}
 use Rattle.dspec_ring.specs.declared.batch.Batch.{Batch}
-use Rattle.dspec_cpu.specs.Called.{CallsMade}
 use Rattle.dspec_session_core.specs.declared.left.Left.{Left}
-use Rattle.dspec.specs.Passed.{passed_from}
 use Rattle.dspec_ctf.specs.declared.form.Form.TheVariants.{AsTaken}
-use Rattle.dspec_ctf_sink.specs.Ending.{untold}
-use Rattle.dspec_ctf_reading.specs.Files.{FileTells}
-use Rattle.dspec_ctf_reading.specs.Layouts.{event_of, layout_of}
-use Rattle.dspec_ctf_sink.specs.Writes.{FileWrite, file_of}
-use Rattle.dspec_ctf_sink.specs.Writing.{GetsPacket, Tracing, cpu_name}
 use Rattle.dspec_ctf_sink.specs.declared.losing.Loss.{Loss}
-use Rattle.dspec_trace_reading.specs.AsTaken.{ReadsAllKept, ReadsBack, drops_carried}
-use Rattle.dspec_trace_reading.specs.Begun.{IsBegunTrace}
-use Rattle.dspec_trace_reading.specs.Folders.{AreOfTheirTypes, IsInFolder, ReadsStreams}
-use Rattle.dspec_trace_reading.proofs.Folding.{Stays}
-use Rattle.dspec_trace_reading.proofs.Partly.{all_writes, reads_kept}
-use Rattle.dspec_trace_reading.proofs.Begun.{first}
-use Rattle.dspec_trace_reading.proofs.Whole.{FilesRead, MetadataReads, reads_back}
+use Rattle.dspec_buffer.proofs.OneReading.{one_reading}
+use Rattle.dspec_trace_reading.proofs.Bounded.{bounded}
+use Rattle.dspec_trace_reading.proofs.Folding.{Stays, laws}
+use Rattle.dspec_trace_reading.proofs.Partly.{all_writes, metadata_read, stream_kept}
+use Rattle.dspec_trace_reading.proofs.Begun.{first, none_missed}
+use Rattle.dspec_trace_reading.proofs.Whole.{FilesRead, MetadataReads, stream_read, all as whole_writes}
 use Rattle.dspec_trace_reading.proofs.Carried.{Carries, in_both}
-use Rattle.dspec_trace_reading.specs.IntoFolders.{IsTracedInto}
-use Rattle.dspec_trace_reading.specs.Ran.{IsOfTrace, RanBegun}
-use Rattle.dspec_ctf_sink.specs.Places.{written_in}
-use Rattle.dspec_trace_reading.specs.declared.folder_trace.FolderTrace.{FolderTrace}
-use Rattle.dspec_trace_reading.specs.declared.fault.ToFolderFault.{ToFolderFault}
-use Rattle.dspec_trace_reading.specs.declared.running.Begun.{Begun}
-use Rattle.dspec_trace_reading.specs.declared.running.Ran.{Ran}
 use Rattle.std.proofs.Common.{Result, Ok, IfOk, IsOk, Err}
+
+-- the batch that tells the end has no records, so none of it are kept or lost
+kept_before : (e : EnabledRows) (bs : List Batch) (b : Batch) (kept : List Record) (lost : ℕ) → IsBare b → AreKept e (bs ++ b ∷ []) kept lost → AreKept e bs kept lost
+kept_before e [] b kept lost bare (rs, more, rest, text, later, which) = go which where
+  none : rs ≡ []
+  none =
+      one_reading (table_shape e.header (enabled e.rows)) (table_accepts e.header (enabled e.rows)) (table_text e.header (enabled e.rows)) (laws e) 0 b.buffer.text rs [] text bare.0
+
+  go : ((kept ≡ rs ++ more) × (lost ≡ rest)) ⊎ ((kept ≡ more) × (lost ≡ length rs + rest)) → (kept ≡ []) × (lost ≡ 0)
+  go (inl (is, so_many)) = (is ∙ ap (λ xs. xs ++ more) none ∙ later.0, so_many ∙ later.1)
+  go (inr (is, so_many)) = let few : length rs ≡ 0 = ap length none in (is ∙ later.0, omega (arith, so_many, few, later.1))
+kept_before e (x ∷ bs) b kept lost bare (rs, more, rest, text, later, which) = (rs, more, rest, text, kept_before e bs b more rest bare later, which)
+
+-- with what is so of the probes
+pub all_numbers : (origin : Origin) (form : Form) (e : EnabledRows) (ps : List ProbeNames) (names : Names) → HasOriginNumbers origin → ticks_of form < 2 ^ 64 → AreNamesOf ps names
+    → AreCountable e ps → HasNumbers origin form e names
+all_numbers origin form e ps Numbered told rate named few = absurd named
+all_numbers origin form e ps (Given ns) told rate named few = record {
+  uuid = told.uuid;
+  pid = told.pid;
+  frequency = rate;
+  clock = told.clock;
+  seconds = told.seconds;
+  ticks = told.ticks;
+  events = few.events;
+  fields = few.fields;
+  labels = λ epid place.
+      subst (λ xs. option_map_or (λ (n : ProbeNames). length (labels_at n place)) (slice_get xs (epid - 1)) 0 ≤ 2 ^ 64) (sym named) (few.labels (epid - 1) place);
+}
 
 module _ (metadata : MetadataReads) (files : FilesRead) {K : Type 0} (gets : K → Batch → K → Type 0) (does : ℕ → CallsMade → CallsMade → Type 0) (e : EnabledRows)
     (ps : List ProbeNames) (k : Config) (old new : K) (left : List Left) (begun ended : Tracing) (uuid : List ℕ) (is : IsBegunTrace e ps uuid begun)
-    (c : Carries gets (GetsPacket e) does e k old left new begun ended) where
-  all : Stays e ended (first is.origin e is.names ∷ [])
+    (c : Carries gets (GetsPacket e) does e k old left new begun ended) (counts : (d : ℕ) → missed_on ended d < 2 ^ 64) (start : start_fault k ≡ None) where
+  abbrev all : Stays e ended (first is.origin e is.names ∷ [])
   all = all_writes metadata files is.origin e is.names begun ended is.is c.all c.got
 
-  reads_all : AreOfTheirTypes is.origin e is.names ended → ended.lost ≡ None
-      → ReadsBack is.origin.uuid e is.names left (λ d l at. (c.kept.page.each d l at).seen) (λ d. passed_from d c.all) ended.written
-  reads_all typed none =
-      reads_back metadata files is.origin e is.names begun ended is.is c.all c.got none left (λ d l at. (c.kept.page.each d l at).seen) typed.long typed.numbers typed.counts c.own c.holds
+  abbrev Tells : ℕ → List Record → ℕ → Type 0
+  Tells d rs missed = FileTells (layout_of e is.names AsTaken) is.origin.uuid d (file_of (cpu_name d) all.0) (map (event_of e is.names AsTaken) rs) missed
 
-  whole : start_fault k ≡ None → (r : ReadsBack is.origin.uuid e is.names left (λ d l at. (c.kept.page.each d l at).seen) (λ d. passed_from d c.all) ended.written)
-      → ReadsStreams is.origin.uuid e is.names left (λ d l at. (c.kept.page.each d l at).seen) (λ d l. drops_carried (passed_from d c.kept.passed) + untold l.report) r.writes
-  whole start r = record {
-    metadata = r.metadata;
-    streams = λ d l at.
-        subst (λ n. FileTells (layout_of e is.names AsTaken) is.origin.uuid d (file_of (cpu_name d) r.writes) (map (event_of e is.names AsTaken) ((c.kept.page.each d l at).seen)) n)
-        (c.missed d l at) (r.streams d l (c.low start d l at) at);
-  }
+  whole : ended.lost ≡ None → (d : ℕ) (l : Left) (at : slice_get left d ≡ Some l) → Tells d ((c.kept.page.each d l at).seen) (missed_in l.report)
+  whole none d l at =
+      let w = whole_writes metadata files is.origin e is.names begun ended is.is c.all c.got none in
+      let both : Some w.0 ≡ Some all.0 = sym w.1.0 ∙ all.1.0 in
+      let same : w.0 ≡ all.0 = cc (both) in
+      let read = stream_read metadata files is.origin e is.names begun ended is.is c.all c.got none d (c.low start d l at) ((c.kept.page.each d l at).seen) is.long (counts d) c.own
+      (c.holds d l at) in
+      subst (λ n. Tells d ((c.kept.page.each d l at).seen) n) (c.missed d l at)
+      (subst (λ ws. FileTells (layout_of e is.names AsTaken) is.origin.uuid d (file_of (cpu_name d) ws) (map (event_of e is.names AsTaken) ((c.kept.page.each d l at).seen))
+      (drops_carried (passed_from d c.all))) same read)
 
-  pub in_folder : (lost : Option Loss) (written : Option (List FileWrite)) → start_fault k ≡ None → ended.lost ≡ lost → ended.written ≡ written
-      → IsInFolder gets does e ps k old left new uuid lost written
-  in_folder lost written start loses puts = record {
+  part : (d : ℕ) (l : Left) → slice_get left d ≡ Some l → l.report.accepted + missed_in l.report + 1 < 2 ^ 64
+      → ReadsPart is.origin.uuid e is.names d (passed_from d c.kept.passed) (missed_in l.report) (file_of (cpu_name d) all.0)
+  part d l at below =
+      let low = c.low start d l at in
+      let few = bounded e d low c.all begun ended ((c.kept.page.each d l at).seen) c.got (ap length is.is.missed) c.own (c.holds d l at) in
+      let small : missed_on ended d + 1 < 2 ^ 64 = omega (arith, few, none_missed is.origin e is.names begun is.is d, c.missed d l at, c.accepted d l at, below) in
+      let r = stream_kept metadata files is.origin e is.names begun ended is.is c.all c.got d low ((c.kept.page.each d l at).seen) is.long small c.own (c.holds d l at) in
+      let end = c.ends d l at in
+      record {
+        kept = r.kept;
+        lost = r.lost;
+        are_kept = kept_before e (passed_from d c.kept.passed) end.0 r.kept r.lost end.1.bare (subst (λ bs. AreKept e bs r.kept r.lost) end.2 r.are_kept);
+        told = told_on ended d;
+        tells = r.tells;
+        no_more = omega (arith, r.no_more, r.counted, c.missed d l at);
+      }
+
+  pub in_folder : (lost : Option Loss) (written : Option (List FileWrite)) → ended.lost ≡ lost → ended.written ≡ written → IsInFolder gets does e ps k old left new uuid lost written
+  in_folder lost written loses puts = subst (λ u. IsInFolder gets does e ps k old left new u lost written) is.whose (record {
     kept = c.kept;
-    origin = is.origin;
-    whose = is.whose;
     names = is.names;
     named = is.named;
     writes = all.0;
     asked = sym puts ∙ all.1.0;
-    whole = λ typed none.
-        let r = reads_all typed (loses ∙ none) in
-        let both : Some r.writes ≡ Some all.0 = sym r.asked ∙ all.1.0 in
-        let same : r.writes ≡ all.0 = cc (both) in
-        subst (λ u. ReadsStreams u e is.names left (λ d l at. (c.kept.page.each d l at).seen) (λ d l. drops_carried (passed_from d c.kept.passed) + untold l.report) all.0) is.whose
-        (subst (λ ws. ReadsStreams is.origin.uuid e is.names left (λ d l at. (c.kept.page.each d l at).seen) (λ d l. drops_carried (passed_from d c.kept.passed) + untold l.report) ws) same
-        (whole start r));
-    ended = ended;
-    loses = loses;
-    puts = puts;
-    batches = λ d. passed_from d c.all;
-    ends = c.ends;
-    part = λ typed below.
-        subst (λ u. ReadsAllKept u e is.names left (λ d. passed_from d c.all) ended) is.whose
-        (reads_kept metadata files is.origin e is.names begun ended is.is c.all c.got left (λ d l at. (c.kept.page.each d l at).seen) typed.long typed.numbers below c.own c.holds);
-  }
+    metadata = λ few. metadata_read metadata files is.origin e is.names begun ended is.is c.all c.got (all_numbers is.origin AsTaken e ps is.names is.numbers (omega arith) is.named few);
+    whole = λ none. whole (loses ∙ none);
+    part = part;
+  })
 
 -- so it is of one that was begun and ran, whatever was answered
 pub read_if : MetadataReads → FilesRead → {K : Type 0} (gets : K → Batch → K → Type 0) (does : ℕ → CallsMade → CallsMade → Type 0) (e : EnabledRows) (ps : List ProbeNames)
@@ -95,4 +117,4 @@ read_if metadata files gets does e ps k old new (Ok c) (Ok r) (Ok t) start is (b
     let carries = in_both (GetsPacket e) gets does e k old new b.sink r.closed r.sink rest.2 in
     subst (λ l. IsInFolder gets does e ps k old l new t.uuid t.lost (written_in t.folder)) (sym ends.closed)
     (subst (λ u. IsInFolder gets does e ps k old r.closed new u t.lost (written_in t.folder)) (sym (ends.uuid ∙ rest.1))
-    (in_folder metadata files gets does e ps k old new r.closed b.sink.sink r.sink b.at_end.uuid begun carries t.lost (written_in t.folder) start ends.loses ends.puts))
+    (in_folder metadata files gets does e ps k old new r.closed b.sink.sink r.sink b.at_end.uuid begun carries ends.counts start t.lost (written_in t.folder) ends.loses ends.puts))

@@ -5,21 +5,12 @@ use Rattle.std.specs.List.{flat_map}
 use Rattle.std.proofs.lemmas.List.{append-nil, get_or-set_same, get_or-set_other}
 use Rattle.std.proofs.lemmas.List.Elements.{All-cons, All-nil}
 use Rattle.std.proofs.lemmas.Bool.{eqb-true, eqb-false}
-use Rattle.dspec_record.specs.Record.{Record}
-use Rattle.dspec_record.specs.EnablingRows.{EnabledRows}
-use Rattle.dspec_record.specs.Schemas.{enabled, table_shape, table_accepts, table_text}
-use Rattle.dspec_buffer.specs.Extent.{Piece, records}
-use Rattle.dspec_buffer.specs.Stored.{HasPieces}
+use Rattle.dspec_trace_reading.specs.Words.{Record, EnabledRows, enabled, table_shape, table_accepts, table_text, Piece, records, HasPieces, Passed, GotAll, passed_from, filled_packets, Accepts}
+use Rattle.dspec_trace_reading.specs.Words.{IsText, missed_on, FileWrite, brought_to, file_of, AddsPacket, AreNextOf, GetsPacket, IsNothing, LosesPacket, Tracing, cpu_name, AreKept, HaveNumbers}
+use Rattle.dspec_trace_reading.specs.Words.{drops_carried, told_on}
 use Rattle.dspec_buffer.proofs.Walks.{reads_back}
 use Rattle.dspec_ring.specs.declared.batch.Batch.{Batch}
-use Rattle.dspec.specs.Passed.{Passed, GotAll, passed_from}
-use Rattle.dspec_ctf.specs.Filled.{filled_packets}
-use Rattle.dspec_ctf.specs.Streams.{Accepts, IsText}
-use Rattle.dspec_ctf_sink.specs.Accounts.{missed_on}
-use Rattle.dspec_ctf_sink.specs.Writes.{FileWrite, brought_to, file_of}
-use Rattle.dspec_ctf_sink.specs.Writing.{AddsPacket, AreNextOf, GetsPacket, IsNothing, LosesPacket, Tracing, cpu_name}
 use Rattle.dspec_ctf_sink.proofs.Written.{brought_elsewhere, brought_whole, file_of_more}
-use Rattle.dspec_trace_reading.specs.AsTaken.{AreKept, HaveNumbers, drops_carried, told_on}
 use Rattle.dspec_trace_reading.proofs.Naming.{names_differ, not_metadata}
 use Rattle.dspec_trace_reading.proofs.Asking.{few, missed_before, missed_elsewhere, missed_here, stays_wide, took}
 use Rattle.dspec_trace_reading.proofs.Losing.{files_stay, others_missed, own_missed, still_wide}
@@ -31,7 +22,7 @@ Came e old b new = (IsNothing old b × (new ≡ record old { last = None })) ⊎
 
 module _ (e : EnabledRows) where
   -- the text that a buffer has
-  has_text : (b : Batch) (ps : List Piece) → HasPieces (table_shape e.header (enabled e.rows)) (table_accepts e.header (enabled e.rows)) (table_text e.header (enabled e.rows)) b.buffer ps
+  pub has_text : (b : Batch) (ps : List Piece) → HasPieces (table_shape e.header (enabled e.rows)) (table_accepts e.header (enabled e.rows)) (table_text e.header (enabled e.rows)) b.buffer ps
       → IsText e b.buffer.text (reverse (records ps))
   has_text b ps has = reads_back (table_shape e.header (enabled e.rows)) (table_accepts e.header (enabled e.rows)) (table_text e.header (enabled e.rows)) (laws e) b.buffer ps has
 

@@ -1,6 +1,8 @@
 mod Asking
 mod Begun
+mod Bounded
 mod Carried
+mod Counted
 mod Filing
 mod Folding
 mod Growing

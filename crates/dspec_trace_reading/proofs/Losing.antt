@@ -1,14 +1,8 @@
 -- What one batch asks of the folder, where some may be lost.
-use Rattle.std.proofs.Common.{◌≡◌, ◌≢◌, ◌<◌, ◌+◌, ◌^◌, ℕ, inl, inr, List, [], ◌∷◌, ◌++◌, Option, Some, None, refl, sym, ap, ◌∙◌, subst, arith, length, length-set, slice_index}
+use Rattle.std.proofs.Common.{◌≡◌, ◌≢◌, ◌<◌, ◌≤◌, ◌+◌, ◌^◌, ℕ, inl, inr, List, [], ◌∷◌, ◌++◌, Option, Some, None, refl, sym, ap, ◌∙◌, subst, arith, length, length-set, slice_index}
 use Rattle.std.proofs.lemmas.List.{append-nil, get_or-set_same, get_or-set_other}
-use Rattle.dspec_record.specs.Record.{Record}
-use Rattle.dspec_record.specs.EnablingRows.{EnabledRows}
+use Rattle.dspec_trace_reading.specs.Words.{Record, EnabledRows, IsText, missed_on, HasSoManyRecords, capped, FileWrite, Refuses, file_of, IsBatchFault, LosesPacket, Tracing, cpu_name}
 use Rattle.dspec_ring.specs.declared.batch.Batch.{Batch}
-use Rattle.dspec_ctf.specs.Streams.{IsText}
-use Rattle.dspec_ctf_sink.specs.Accounts.{missed_on}
-use Rattle.dspec_ctf_sink.specs.Losses.{HasSoManyRecords, capped}
-use Rattle.dspec_ctf_sink.specs.Writes.{FileWrite, Refuses, file_of}
-use Rattle.dspec_ctf_sink.specs.Writing.{IsBatchFault, LosesPacket, Tracing, cpu_name}
 use Rattle.dspec_ctf_sink.specs.declared.fault.FolderFault.{FolderFault}
 use Rattle.dspec_ctf_sink.proofs.Written.{file_of_more}
 
@@ -51,14 +45,27 @@ module _ (e : EnabledRows) where
     pub told_stays : new.told ≡ old.told
     told_stays = loses.counted.told
 
+    -- what its CPU missed is counted as far as 64 bits go
+    counted_here : (c : ℕ) → c < 64 → b.cpu ≡ c → missed_on new c ≡ capped (missed_on old c + (b.drops + loses.counted.records))
+    counted_here c low same =
+        let there : b.cpu < length old.missed = omega (arith, low, same, wide) in
+        subst (λ n. slice_index new.missed n ≡ capped (slice_index old.missed n + (b.drops + loses.counted.records))) same
+        (ap (λ (xs : List ℕ). slice_index xs b.cpu) loses.counted.missed ∙ get_or-set_same old.missed b.cpu _ 0 there)
+
+    -- no more is counted than the batch's records, and its drops
+    pub own_at_most : (c : ℕ) → c < 64 → b.cpu ≡ c → (rs : List Record) → IsText e b.buffer.text rs → ((qs : List Record) → IsText e b.buffer.text qs → qs ≡ rs)
+        → missed_on new c ≤ missed_on old c + b.drops + length rs
+    own_at_most c low same rs is_text unique = omega (arith, counted_here c low same, few loses.counted.has)
+      where
+        few : HasSoManyRecords e b loses.counted.records → loses.counted.records ≤ length rs
+        few (inl (qs, (text, n))) = let one : length qs ≡ length rs = ap length (unique qs text) in omega (arith, n, one)
+        few (inr (none, n)) = absurd (none rs is_text)
+
     -- all records of the batch are counted, and its drops
     pub own_missed : (c : ℕ) → c < 64 → b.cpu ≡ c → missed_on new c + 1 < 2 ^ 64 → (rs : List Record) → IsText e b.buffer.text rs
         → ((qs : List Record) → IsText e b.buffer.text qs → qs ≡ rs) → missed_on new c ≡ missed_on old c + b.drops + length rs
     own_missed c low same below rs is_text unique =
-        let there : b.cpu < length old.missed = omega (arith, low, same, wide) in
-        let read : missed_on new c ≡ capped (missed_on old c + (b.drops + loses.counted.records)) =
-        subst (λ n. slice_index new.missed n ≡ capped (slice_index old.missed n + (b.drops + loses.counted.records))) same
-        (ap (λ (xs : List ℕ). slice_index xs b.cpu) loses.counted.missed ∙ get_or-set_same old.missed b.cpu _ 0 there) in
+        let read = counted_here c low same in
         let sum : missed_on new c ≡ missed_on old c + (b.drops + loses.counted.records) = read ∙ uncapped _ (subst (λ n. n + 1 < 2 ^ 64) read below) in
         let small : loses.counted.records + 1 < 2 ^ 64 = omega (arith, sum, below) in
         let so_many : loses.counted.records ≡ length rs = count loses.counted.has small in

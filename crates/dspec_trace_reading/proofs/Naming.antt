@@ -1,7 +1,7 @@
 -- Each CPU has a file of its own, and none is the metadata.
 use Rattle.std.proofs.Common.{◌≡◌, ◌≢◌, ◌<◌, ℕ, List, ap, arith, drop, slice_index, codes}
 use Rattle.std.proofs.lemmas.Fmt.{decimal_injective}
-use Rattle.dspec_ctf_sink.specs.Writing.{cpu_name}
+use Rattle.dspec_trace_reading.specs.Words.{cpu_name}
 
 pub names_differ : (a b : ℕ) → a < 64 → b < 64 → a ≢ b → cpu_name a ≢ cpu_name b
 names_differ a b few other apart e = apart (decimal_injective a b (omega (arith, few)) (omega (arith, other)) (ap (λ (xs : List ℕ). drop 4 xs) e))

@@ -5,17 +5,13 @@ use Rattle.std.specs.List.{AllByRecursion}
 use Rattle.std.proofs.lemmas.Bool.{eq-eqb}
 use Rattle.std.proofs.lemmas.List.{reverse-append, reverse-reverse}
 use Rattle.std.proofs.lemmas.List.Elements.{All-head, All-tail}
-use Rattle.dspec_record.specs.Record.{Record}
+use Rattle.dspec_trace_reading.specs.Words.{Record, waiting, IsWithSeals, AreFrom, Passed, left_batches, passed_from, HaveNumbers}
 use Rattle.dspec_record.specs.declared.field.Shape.{Shape}
 use Rattle.dspec_deeds.specs.declared.config.Config.{Config}
 use Rattle.dspec_deeds.specs.declared.deed.Deed.{Deed}
 use Rattle.dspec_deeds.specs.declared.deed.Deed.TheVariants as deed
 use Rattle.dspec_ring.specs.declared.batch.Batch.{Batch}
-use Rattle.dspec_cpu.specs.Sealed.{waiting}
 use Rattle.dspec_session_core.specs.declared.left.Left.{Left}
-use Rattle.dspec_session_core.specs.Promised.{IsWithSeals}
-use Rattle.dspec.specs.Passed.{AreFrom, Passed, left_batches, passed_from}
-use Rattle.dspec_trace_reading.specs.AsTaken.{HaveNumbers}
 
 -- these batches have that number
 abbrev pub Numbered : ℕ → List Batch → Type 0

@@ -1,28 +1,23 @@
 -- A folder that was written as batches were taken, of which some may be lost, and what is read of it.
-use Rattle.std.proofs.Common.{◌≡◌, ◌<◌, ◌+◌, ◌^◌, ℕ, List, [], ◌∷◌, ◌++◌, false, Some, sym, ap, ◌∙◌, subst, arith, length, map, slice_get, All}
+use Rattle.std.proofs.Common.{◌≡◌, ◌<◌, ◌≤◌, ◌+◌, ◌^◌, ℕ, List, [], ◌∷◌, ◌++◌, false, Some, sym, ap, ◌∙◌, subst, arith, length, map, slice_get, All, codes}
 use Rattle.std.specs.List.{flat_map}
-use Rattle.std.proofs.lemmas.List.Elements.{All-weaker}
-use Rattle.dspec_record.specs.Record.{Record}
-use Rattle.dspec_record.specs.EnablingRows.{EnabledRows}
+use Rattle.std.proofs.lemmas.List.Elements.{All-head, All-tail, All-weaker}
+use Rattle.dspec_trace_reading.specs.Words.{Record, EnabledRows, Passed, GotAll, passed_from, filled_packets, Accepts, FileTells, last_missed, event_of, layout_of, read_metadata, HasNumbers}
+use Rattle.dspec_trace_reading.specs.Words.{missed_on, file_of, GetsPacket, IsBegun, Tracing, cpu_name, HaveNumbers, ReadsAllKept, ReadsKept, told_on}
 use Rattle.dspec_session_core.specs.declared.left.Left.{Left}
-use Rattle.dspec.specs.Passed.{Passed, GotAll, passed_from}
-use Rattle.dspec_ctf.specs.Filled.{filled_packets}
-use Rattle.dspec_ctf.specs.Streams.{Accepts}
 use Rattle.dspec_ctf.specs.declared.form.Form.TheVariants.{AsTaken}
 use Rattle.dspec_ctf.specs.declared.names.Names.{Names}
 use Rattle.dspec_ctf.specs.declared.origin.Origin.{Origin}
-use Rattle.dspec_ctf_reading.specs.Files.{FileTells, last_missed}
-use Rattle.dspec_ctf_reading.specs.Layouts.{event_of, layout_of}
-use Rattle.dspec_ctf_reading.specs.ReadingMetadata.{read_metadata}
-use Rattle.dspec_ctf_reading.specs.ToldNumbers.{HasNumbers}
-use Rattle.dspec_ctf_sink.specs.Accounts.{missed_on}
-use Rattle.dspec_ctf_sink.specs.Writes.{file_of}
-use Rattle.dspec_ctf_sink.specs.Writing.{GetsPacket, IsBegun, Tracing, cpu_name}
-use Rattle.dspec_trace_reading.specs.AsTaken.{HaveNumbers, ReadsAllKept, ReadsKept, told_on}
 use Rattle.dspec_trace_reading.proofs.Begun.{asked, first, metadata_is, none_missed, none_told, nothing_yet}
 use Rattle.dspec_trace_reading.proofs.Folding.{Holds, Stays, last_from}
 use Rattle.dspec_trace_reading.proofs.Keeping.{Kept, Told, all_kept, metadata_kept}
 use Rattle.dspec_trace_reading.proofs.Whole.{FilesRead, MetadataReads, last_same}
+
+-- the last packet tells no more than what no packet tells more than
+last_at_most : (n m : ℕ) (ps : List (ℕ × List Record)) → n ≤ m → All (λ (p : ℕ × List Record). p.0 ≤ m) ps → last_from n ps ≤ m
+last_at_most n m [] few all = few
+last_at_most n m (p ∷ ps) few all =
+    last_at_most p.0 m ps (All-head (λ (q : ℕ × List Record). q.0 ≤ m) p ps all) (All-tail (λ (q : ℕ × List Record). q.0 ≤ m) p ps all)
 
 module _ (metadata_law : MetadataReads) (files_law : FilesRead) (origin : Origin) (e : EnabledRows) (names : Names) (begun ended : Tracing)
     (is : IsBegun origin e names (Some []) begun) (passed : List Passed) (got : GotAll (GetsPacket e) begun passed ended) where
@@ -63,15 +58,20 @@ module _ (metadata_law : MetadataReads) (files_law : FilesRead) (origin : Origin
               (subst (λ xs. FileTells (layout_of e names AsTaken) origin.uuid c xs (map (event_of e names AsTaken) (flat_map (λ p. p.1) kept.packets)) (last_missed kept.packets))
               (sym bytes) tells_kept);
           counted = omega (arith, kept.counted, none_missed origin e names begun is c);
+          no_more = subst (λ n. n ≤ missed_on ended c) kept.told (last_at_most (told_on begun c) (missed_on ended c) kept.packets (omega (arith, none_told origin e names begun is c))
+              (All-weaker (Told e origin.uuid c low ended) (λ (p : ℕ × List Record). p.0 ≤ missed_on ended c) (λ p h. h.0) kept.packets kept.each));
         }
 
+  pub metadata_read : HasNumbers origin AsTaken e names → read_metadata (file_of (codes "metadata") all_writes.0) ≡ Some (layout_of e names AsTaken)
+  metadata_read numbers = ap read_metadata (all_writes.1.1 ∙ metadata_is origin e names) ∙ metadata_law origin AsTaken e names is.allowed numbers
+
   pub reads_kept : (left : List Left) (seen : (c : ℕ) (l : Left) → slice_get left c ≡ Some l → List Record) → length origin.uuid ≡ 16 → HasNumbers origin AsTaken e names
-      → ((c : ℕ) → missed_on ended c + 1 < 2 ^ 64) → HaveNumbers passed
+      → ((c : ℕ) (l : Left) → slice_get left c ≡ Some l → missed_on ended c + 1 < 2 ^ 64) → HaveNumbers passed
       → ((c : ℕ) (l : Left) (there : slice_get left c ≡ Some l) → Holds e (passed_from c passed) (seen c l there))
       → ReadsAllKept origin.uuid e names left (λ c. passed_from c passed) ended
   reads_kept left seen long numbers small own holds = record {
     writes = all_writes.0;
     asked = all_writes.1.0;
-    metadata = ap read_metadata (all_writes.1.1 ∙ metadata_is origin e names) ∙ metadata_law origin AsTaken e names is.allowed numbers;
-    streams = λ c l low there. stream_kept c low (seen c l there) long (small c) own (holds c l there);
+    metadata = metadata_read numbers;
+    streams = λ c l low there. stream_kept c low (seen c l there) long (small c l there) own (holds c l there);
   }

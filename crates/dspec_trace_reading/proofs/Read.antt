@@ -1,15 +1,10 @@
 -- What is read of a session that was traced, by what it promises of the batches that its sink got.
 use Rattle.std.proofs.Common.{◌≡◌, ◌<◌, ℕ, List, [], ◌∷◌, ◌∙◌, append_assoc, slice_get, Some, subst, sym}
-use Rattle.dspec_record.specs.EnablingRows.{EnabledRows}
-use Rattle.dspec_record.specs.Schemas.{enabled, table_accepts, table_shape, table_text}
+use Rattle.dspec_trace_reading.specs.Words.{EnabledRows, enabled, table_accepts, table_shape, table_text, CallsMade, waiting, passed_from, HaveNumbers, KeptIsRead, ListedBy, TakenIsRead}
+use Rattle.dspec_trace_reading.specs.Words.{TimedIsRead, TracedBy}
 use Rattle.dspec_deeds.specs.declared.config.Config.{Config}
 use Rattle.dspec_ring.specs.declared.batch.Batch.{Batch}
-use Rattle.dspec_cpu.specs.Called.{CallsMade}
-use Rattle.dspec_cpu.specs.Sealed.{waiting}
 use Rattle.dspec_session_core.specs.declared.left.Left.{Left}
-use Rattle.dspec.specs.Passed.{passed_from}
-use Rattle.dspec_trace_reading.specs.AsTaken.{HaveNumbers}
-use Rattle.dspec_trace_reading.specs.Laws.{KeptIsRead, ListedBy, TakenIsRead, TimedIsRead, TracedBy}
 use Rattle.dspec_trace_reading.proofs.Filing.{FilesLaws}
 use Rattle.dspec_trace_reading.proofs.Folding.{Holds}
 use Rattle.dspec_trace_reading.proofs.OwnNumbers.{Numbered, have_numbers, is_there, taken_numbered}
@@ -38,7 +33,7 @@ module _ (e : EnabledRows) (does : ℕ → CallsMade → CallsMade → Type 0) w
 
   pub kept_read : MetadataReads → FilesRead → KeptIsRead e does
   kept_read metadata files origin names k begun ended left is t h long numbers small =
-      reads_kept metadata files origin e names begun ended is t.passed t.got left (λ c l there. (t.promised.each c l there).seen) long numbers small
+      reads_kept metadata files origin e names begun ended is t.passed t.got left (λ c l there. (t.promised.each c l there).seen) long numbers (λ c l there. small c)
       (numbered _ k begun left ended t h) (held _ k begun left ended t)
 
   pub timed_read : MetadataReads → FilesLaws → TimedIsRead e does

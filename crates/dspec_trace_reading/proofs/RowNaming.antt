@@ -3,9 +3,8 @@ use Rattle.std.proofs.Common.{◌≡◌, ◌≢◌, ◌<◌, ◌++◌, ℕ, true
 use Rattle.std.specs.List.{list_all}
 use Rattle.std.proofs.lemmas.Bool.{and_parts}
 use Rattle.std.proofs.lemmas.Fmt.{decimal_injective}
-use Rattle.dspec_ctf_reading.specs.ReadingMetadata.{is_digit}
+use Rattle.dspec_trace_reading.specs.Words.{is_digit, row_name}
 use Rattle.dspec_ctf_reading.proofs.Scanning.{decimal-digits}
-use Rattle.dspec_ctf_sink.specs.Timed.{row_name}
 
 -- the underscore is no digit
 no_digit : is_digit 95 ≡ true → ⊥

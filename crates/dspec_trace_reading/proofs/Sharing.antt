@@ -5,16 +5,10 @@ use Rattle.std.specs.Prelude.{slice_index, slice_range, slice_set, filter, zip}
 use Rattle.std.proofs.lemmas.Bool.{ltb-true, eqb-true}
 use Rattle.std.proofs.lemmas.List.{take_all}
 use Rattle.std.proofs.lemmas.List.Elements.{All-head, All-tail, All-nil, All-cons, All-weaker}
-use Rattle.dspec_record.specs.Record.{Record}
-use Rattle.dspec_record.specs.RecordText.{stamp_fits}
-use Rattle.dspec_record.specs.Schemas.{enabled}
-use Rattle.dspec_record.specs.EnablingRows.{EnabledRows}
-use Rattle.dspec_record.specs.Laws.Tables.{accepted-parts}
+use Rattle.dspec_trace_reading.specs.Words.{Record, stamp_fits, enabled, EnabledRows, accepted-parts, AreFiled, HaveAllBetween, Accepts, AreRuns, GoesToFile, IsFileRun, Spreads, of_file, run_files}
+use Rattle.dspec_trace_reading.specs.Words.{run_packets, run_records}
 use Rattle.dspec_record.specs.declared.header.Header.{Header}
 use Rattle.dspec_record.specs.declared.header.Header.TheVariants as header
-use Rattle.dspec_ctf.specs.Laws.{AreFiled, HaveAllBetween}
-use Rattle.dspec_ctf.specs.Streams.{Accepts}
-use Rattle.dspec_ctf.specs.Rows.{AreRuns, GoesToFile, IsFileRun, Spreads, of_file, run_files, run_packets, run_records}
 use Rattle.dspec_ctf.specs.declared.rows.Run.{Run}
 
 -- stamps of accepted records have 64 bits

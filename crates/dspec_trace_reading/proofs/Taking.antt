@@ -6,10 +6,7 @@ use Rattle.std.proofs.lemmas.Bool.{eqb-true, eqb-false}
 use Rattle.std.proofs.lemmas.Grind.{flat_map-append}
 use Rattle.std.proofs.lemmas.List.{append-nil}
 use Rattle.std.proofs.lemmas.List.Elements.{All-head, All-tail}
-use Rattle.dspec_ctf.specs.Rows.{missed_packets}
-use Rattle.dspec_ctf_reading.specs.Files.{file_bytes}
-use Rattle.dspec_ctf_sink.specs.Timed.{TakesAll, TellsMissed, row_name}
-use Rattle.dspec_ctf_sink.specs.Writes.{FileWrite, brought_to, file_of}
+use Rattle.dspec_trace_reading.specs.Words.{missed_packets, file_bytes, TakesAll, TellsMissed, row_name, FileWrite, brought_to, file_of}
 use Rattle.dspec_ctf_sink.proofs.Written.{brought_elsewhere, brought_whole}
 use Rattle.dspec_trace_reading.proofs.Asking.{took}
 use Rattle.dspec_trace_reading.proofs.RowNaming.{files_differ}

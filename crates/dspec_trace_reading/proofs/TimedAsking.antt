@@ -2,13 +2,8 @@
 use Rattle.std.proofs.Common.{◌≡◌, ◌≢◌, ◌<◌, ◌+◌, ℕ, ◌⊎◌, inl, inr, List, [], ◌∷◌, ◌++◌, Some, None, get_or, sym, ap, ◌∙◌, subst, length, length-set, slice_index}
 use Rattle.std.proofs.lemmas.List.{get_or-set_same, get_or-set_other}
 use Rattle.std.proofs.lemmas.Option.{slice_get_within, get_or_from_slice_get}
-use Rattle.dspec_record.specs.EnablingRows.{EnabledRows}
+use Rattle.dspec_trace_reading.specs.Words.{EnabledRows, Passed, GotAll, run_packets, AddsBatch, GetsRuns, LosesBatch, TimedTracing, row_name, FileWrite, file_of, missed_by_time}
 use Rattle.dspec_ring.specs.declared.batch.Batch.{Batch}
-use Rattle.dspec.specs.Passed.{Passed, GotAll}
-use Rattle.dspec_ctf.specs.Rows.{run_packets}
-use Rattle.dspec_ctf_sink.specs.Timed.{AddsBatch, GetsRuns, LosesBatch, TimedTracing, row_name}
-use Rattle.dspec_ctf_sink.specs.Writes.{FileWrite, file_of}
-use Rattle.dspec_trace_reading.specs.ByTime.{missed_by_time}
 use Rattle.dspec_trace_reading.proofs.Asking.{some_lost}
 use Rattle.dspec_trace_reading.proofs.Taking.{Telling, row_writes, stays_elsewhere, telling, took_all}
 

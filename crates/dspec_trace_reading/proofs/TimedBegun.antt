@@ -3,22 +3,14 @@ use Rattle.std.proofs.Common.{◌≡◌, ◌<◌, ◌≤◌, ◌^◌, ◌==◌, 
 use Rattle.std.proofs.Common.{length, codes, replicate, slice_index}
 use Rattle.std.proofs.lemmas.List.{append-nil}
 use Rattle.std.proofs.lemmas.List.Elements.{All-nil}
-use Rattle.dspec_record.specs.EnablingRows.{EnabledRows}
+use Rattle.dspec_trace_reading.specs.Words.{EnabledRows, origin_text, earlier, form_fault, metadata_fault, origin_fault, told_by, FileTells, layout_of, PacketRead, IsTimedBegun, TimedTracing}
+use Rattle.dspec_trace_reading.specs.Words.{row_name, FileWrite, brought_to, file_of, missed_by_time}
 use Rattle.dspec_record.specs.declared.header.Header.{Header}
 use Rattle.dspec_record.specs.declared.header.Header.TheVariants as header
-use Rattle.dspec_ctf.specs.Metadata.{origin_text}
-use Rattle.dspec_ctf.specs.Names.{earlier, form_fault, metadata_fault, origin_fault}
-use Rattle.dspec_ctf.specs.Rows.{told_by}
 use Rattle.dspec_ctf.specs.declared.form.Form.TheVariants.{ByTime}
 use Rattle.dspec_ctf.specs.declared.names.Names.{Names}
 use Rattle.dspec_ctf.specs.declared.origin.Origin.{Origin}
-use Rattle.dspec_ctf_reading.specs.Files.{FileTells}
-use Rattle.dspec_ctf_reading.specs.Layouts.{layout_of}
-use Rattle.dspec_ctf_reading.specs.Reading.{PacketRead}
-use Rattle.dspec_ctf_sink.specs.Timed.{IsTimedBegun, TimedTracing, row_name}
-use Rattle.dspec_ctf_sink.specs.Writes.{FileWrite, brought_to, file_of}
 use Rattle.dspec_ctf_sink.proofs.Written.{brought_elsewhere, brought_whole}
-use Rattle.dspec_trace_reading.specs.ByTime.{missed_by_time}
 use Rattle.dspec_trace_reading.proofs.Asking.{took}
 use Rattle.dspec_trace_reading.proofs.Begun.{all_zero}
 use Rattle.dspec_trace_reading.proofs.RowNaming.{row_not_metadata}

@@ -3,20 +3,12 @@ use Rattle.std.proofs.Common.{◌≡◌, ◌≢◌, ◌<◌, ◌≤◌, ◌+◌,
 use Rattle.std.proofs.Common.{length, map, codes, append_assoc, slice_index}
 use Rattle.std.proofs.lemmas.List.{append-nil}
 use Rattle.std.proofs.lemmas.Bool.{eqb-true, eqb-false}
-use Rattle.dspec_record.specs.Record.{Record}
-use Rattle.dspec_record.specs.EnablingRows.{EnabledRows}
+use Rattle.dspec_trace_reading.specs.Words.{Record, EnabledRows, Passed, GotAll, passed_from, of_file, told_by, FileTells, event_of, layout_of, AddsAll, AddsBatch, GetsRuns, TellsMissed}
+use Rattle.dspec_trace_reading.specs.Words.{TimedTracing, row_name, FileWrite, file_of, HaveNumbers, drops_carried, missed_by_time}
 use Rattle.dspec_record.specs.declared.header.Header.TheVariants as header
 use Rattle.dspec_ring.specs.declared.batch.Batch.{Batch}
-use Rattle.dspec.specs.Passed.{Passed, GotAll, passed_from}
-use Rattle.dspec_ctf.specs.Rows.{of_file, told_by}
 use Rattle.dspec_ctf.specs.declared.form.Form.TheVariants.{ByTime}
 use Rattle.dspec_ctf.specs.declared.names.Names.{Names}
-use Rattle.dspec_ctf_reading.specs.Files.{FileTells}
-use Rattle.dspec_ctf_reading.specs.Layouts.{event_of, layout_of}
-use Rattle.dspec_ctf_sink.specs.Timed.{AddsAll, AddsBatch, GetsRuns, TellsMissed, TimedTracing, row_name}
-use Rattle.dspec_ctf_sink.specs.Writes.{FileWrite, file_of}
-use Rattle.dspec_trace_reading.specs.AsTaken.{HaveNumbers, drops_carried}
-use Rattle.dspec_trace_reading.specs.ByTime.{missed_by_time}
 use Rattle.dspec_trace_reading.proofs.Filing.{Filed, FilesLaws, add, tell}
 use Rattle.dspec_trace_reading.proofs.Folding.{Holds, all_accepted, one_text}
 use Rattle.dspec_trace_reading.proofs.RowNaming.{cpus_differ, row_not_metadata}

@@ -1,21 +1,11 @@
 -- A folder that was written by time, and what is read of it.
 use Rattle.std.proofs.Common.{◌≡◌, ◌<◌, ◌^◌, ℕ, List, [], ◌∷◌, Some, None, sym, ap, ◌∙◌, subst, arith, length, map, slice_get}
-use Rattle.dspec_record.specs.Record.{Record}
-use Rattle.dspec_record.specs.EnablingRows.{EnabledRows}
+use Rattle.dspec_trace_reading.specs.Words.{Record, EnabledRows, Passed, GotAll, passed_from, of_file, told_by, FileTells, event_of, layout_of, read_metadata, HasNumbers, GetsRuns, IsTimedBegun}
+use Rattle.dspec_trace_reading.specs.Words.{TimedTracing, row_name, file_of, HaveNumbers, drops_carried, ReadsByTime, ReadsFiles, missed_by_time}
 use Rattle.dspec_session_core.specs.declared.left.Left.{Left}
-use Rattle.dspec.specs.Passed.{Passed, GotAll, passed_from}
-use Rattle.dspec_ctf.specs.Rows.{of_file, told_by}
 use Rattle.dspec_ctf.specs.declared.form.Form.TheVariants.{ByTime}
 use Rattle.dspec_ctf.specs.declared.names.Names.{Names}
 use Rattle.dspec_ctf.specs.declared.origin.Origin.{Origin}
-use Rattle.dspec_ctf_reading.specs.Files.{FileTells}
-use Rattle.dspec_ctf_reading.specs.Layouts.{event_of, layout_of}
-use Rattle.dspec_ctf_reading.specs.ReadingMetadata.{read_metadata}
-use Rattle.dspec_ctf_reading.specs.ToldNumbers.{HasNumbers}
-use Rattle.dspec_ctf_sink.specs.Timed.{GetsRuns, IsTimedBegun, TimedTracing, row_name}
-use Rattle.dspec_ctf_sink.specs.Writes.{file_of}
-use Rattle.dspec_trace_reading.specs.AsTaken.{HaveNumbers, drops_carried}
-use Rattle.dspec_trace_reading.specs.ByTime.{ReadsByTime, ReadsFiles, missed_by_time}
 use Rattle.dspec_trace_reading.proofs.Filing.{FilesLaws}
 use Rattle.dspec_trace_reading.proofs.Folding.{Holds}
 use Rattle.dspec_trace_reading.proofs.TimedBegun.{asked, begins, metadata_is, none_missed, stamped, timed_first}

@@ -3,14 +3,9 @@ use Rattle.std.proofs.Common.{◌≡◌, ◌<◌, ◌+◌, ◌==◌, ℕ, zero, 
 use Rattle.std.proofs.lemmas.Bool.Decides.{nat_tests}
 use Rattle.std.proofs.lemmas.List.Elements.{All-nil}
 use Rattle.std.specs.Prelude.{IsTrue}
-use Rattle.dspec_record.specs.Record.{Record}
-use Rattle.dspec_record.specs.EnablingRows.{EnabledRows}
-use Rattle.dspec_record.specs.Schemas.{enabled, table_accepts}
+use Rattle.dspec_trace_reading.specs.Words.{Record, EnabledRows, enabled, table_accepts, GotAll, Passed, passed_from, GetsTellings, IsBare, IsTelling, untold, HaveNumbers, drops_carried}
 use Rattle.dspec_ring.specs.declared.batch.Batch.{Batch}
 use Rattle.dspec_session_core.specs.declared.left.Left.{Left}
-use Rattle.dspec.specs.Passed.{GotAll, Passed, passed_from}
-use Rattle.dspec_ctf_sink.specs.Ending.{GetsTellings, IsBare, IsTelling, untold}
-use Rattle.dspec_trace_reading.specs.AsTaken.{HaveNumbers, drops_carried}
 use Rattle.dspec_trace_reading.proofs.Folding.{Holds}
 
 module _ {K : Type 0} (gets : K → Batch → K → Type 0) where

@@ -2,26 +2,13 @@
 use Rattle.std.proofs.Common.{◌≡◌, ◌<◌, ◌^◌, ℕ, List, [], ◌∷◌, ◌++◌, false, Some, None, refl, sym, ap, ◌∙◌, subst, arith, length, map, slice_get, codes, All}
 use Rattle.std.specs.List.{flat_map}
 use Rattle.std.proofs.lemmas.List.Elements.{All-weaker}
-use Rattle.dspec_record.specs.Record.{Record}
-use Rattle.dspec_record.specs.EnablingRows.{EnabledRows}
+use Rattle.dspec_trace_reading.specs.Words.{Record, EnabledRows, Passed, GotAll, passed_from, filled_packets, Accepts, origin_fault, FileTells, last_missed, MetadataTells, FilledFilesReadBack}
+use Rattle.dspec_trace_reading.specs.Words.{event_of, layout_of, read_metadata, HasNumbers, missed_on, file_of, GetsPacket, IsBegun, Tracing, cpu_name, HaveNumbers, ReadsBack, drops_carried}
 use Rattle.dspec_session_core.specs.declared.left.Left.{Left}
-use Rattle.dspec.specs.Passed.{Passed, GotAll, passed_from}
-use Rattle.dspec_ctf.specs.Filled.{filled_packets}
-use Rattle.dspec_ctf.specs.Streams.{Accepts}
-use Rattle.dspec_ctf.specs.Names.{origin_fault}
 use Rattle.dspec_ctf.specs.declared.form.Form.{Form}
 use Rattle.dspec_ctf.specs.declared.form.Form.TheVariants.{AsTaken}
 use Rattle.dspec_ctf.specs.declared.names.Names.{Names}
 use Rattle.dspec_ctf.specs.declared.origin.Origin.{Origin}
-use Rattle.dspec_ctf_reading.specs.Files.{FileTells, last_missed}
-use Rattle.dspec_ctf_reading.specs.Laws.{MetadataTells, FilledFilesReadBack}
-use Rattle.dspec_ctf_reading.specs.Layouts.{event_of, layout_of}
-use Rattle.dspec_ctf_reading.specs.ReadingMetadata.{read_metadata}
-use Rattle.dspec_ctf_reading.specs.ToldNumbers.{HasNumbers}
-use Rattle.dspec_ctf_sink.specs.Accounts.{missed_on}
-use Rattle.dspec_ctf_sink.specs.Writes.{file_of}
-use Rattle.dspec_ctf_sink.specs.Writing.{GetsPacket, IsBegun, Tracing, cpu_name}
-use Rattle.dspec_trace_reading.specs.AsTaken.{HaveNumbers, ReadsBack, drops_carried}
 use Rattle.dspec_trace_reading.proofs.Begun.{asked, first, metadata_is, none_missed, nothing_yet}
 use Rattle.dspec_trace_reading.proofs.Folding.{Brought, Fits, Holds, Stays, brought, last_from, metadata_stays}
 

@@ -1,20 +1,11 @@
 -- Cited by calls. What is read of a folder that was written as a session's batches were taken.
-use Rattle.std.specs.Prelude.{ℕ, ◌≡◌, ◌<◌, ◌+◌, ◌⊎◌, slice_index, List, [], ◌∷◌, ◌++◌, length, map, slice_get, codes, Option, Some}
+use Rattle.std.specs.Prelude.{ℕ, ◌≡◌, ◌<◌, ◌≤◌, ◌+◌, ◌⊎◌, slice_index, List, [], ◌∷◌, ◌++◌, length, map, slice_get, codes, Option, Some}
 use Rattle.std.specs.List.{AllByRecursion}
-use Rattle.dspec_record.specs.Record.{Record}
-use Rattle.dspec_record.specs.EnablingRows.{EnabledRows}
+use Rattle.dspec_trace_reading.specs.Words.Outside.{Record, EnabledRows, Passed, IsText, FileTells, event_of, layout_of, read_metadata, FileWrite, file_of, missed_on, Tracing, cpu_name}
 use Rattle.dspec_ring.specs.declared.batch.Batch.{Batch}
 use Rattle.dspec_session_core.specs.declared.left.Left.{Left}
-use Rattle.dspec.specs.Passed.{Passed}
-use Rattle.dspec_ctf.specs.Streams.{IsText}
 use Rattle.dspec_ctf.specs.declared.form.Form.TheVariants.{AsTaken}
 use Rattle.dspec_ctf.specs.declared.names.Names.{Names}
-use Rattle.dspec_ctf_reading.specs.Files.{FileTells}
-use Rattle.dspec_ctf_reading.specs.Layouts.{event_of, layout_of}
-use Rattle.dspec_ctf_reading.specs.ReadingMetadata.{read_metadata}
-use Rattle.dspec_ctf_sink.specs.Writes.{FileWrite, file_of}
-use Rattle.dspec_ctf_sink.specs.Accounts.{missed_on}
-use Rattle.dspec_ctf_sink.specs.Writing.{Tracing, cpu_name}
 
 -- the drops that these batches carry, together
 abbrev pub drops_carried : List Batch → ℕ
@@ -57,6 +48,7 @@ pub record ReadsKept (uuid : List ℕ) (e : EnabledRows) (names : Names) (c : �
   pub are_kept : AreKept e batches kept lost
   pub tells : FileTells (layout_of e names AsTaken) uuid c bytes (map (event_of e names AsTaken) kept) (told_on ended c)
   pub counted : missed_on ended c ≡ drops_carried batches + lost
+  pub no_more : told_on ended c ≤ missed_on ended c
 
 -- so it is of each CPU, and the metadata tells the layout
 pub record ReadsAllKept (uuid : List ℕ) (e : EnabledRows) (names : Names) (left : List Left) (batches : ℕ → List Batch) (ended : Tracing) : Type 0 where
@@ -64,3 +56,12 @@ pub record ReadsAllKept (uuid : List ℕ) (e : EnabledRows) (names : Names) (lef
   pub asked : ended.written ≡ Some writes
   pub metadata : read_metadata (file_of (codes "metadata") writes) ≡ Some (layout_of e names AsTaken)
   pub streams : (c : ℕ) (l : Left) → c < 64 → slice_get left c ≡ Some l → ReadsKept uuid e names c (batches c) (file_of (cpu_name c) writes) ended
+
+-- The same of a CPU that has a report, by which it missed so many: its file tells as missed no more than these and the records that are lost.
+pub record ReadsPart (uuid : List ℕ) (e : EnabledRows) (names : Names) (c : ℕ) (batches : List Batch) (missed : ℕ) (bytes : List ℕ) : Type 0 where
+  pub kept : List Record
+  pub lost : ℕ
+  pub are_kept : AreKept e batches kept lost
+  pub told : ℕ
+  pub tells : FileTells (layout_of e names AsTaken) uuid c bytes (map (event_of e names AsTaken) kept) told
+  pub no_more : told ≤ missed + lost

@@ -1,18 +1,24 @@
 -- Serves proofs. A trace that is begun in a folder, and why none is.
-use Rattle.std.specs.Prelude.{ℕ, ◌≡◌, ◌≢◌, List, [], Some, None}
-use Rattle.dspec_record.specs.EnablingRows.{EnabledRows}
-use Rattle.dspec_deeds.specs.Ranges.{start_fault}
+use Rattle.std.specs.Prelude.{ℕ, ◌≡◌, ◌≢◌, ◌<◌, ◌^◌, List, [], All, length, unwrap_or, Some, None}
+use Rattle.std.specs.Option.{option_map_or}
+use Rattle.dspec_trace_reading.specs.Words.Outside.{EnabledRows, start_fault, IsTimedBegun, TimedTracing, IsBegun, Tracing}
 use Rattle.dspec_deeds.specs.declared.config.Config.{Config}
 use Rattle.dspec_deeds.specs.declared.config.StartFault.{StartFault}
 use Rattle.dspec_deeds.specs.declared.config.StartFault.TheVariants as start
 use Rattle.dspec_probe.specs.declared.probes.ProbeNames.{ProbeNames}
 use Rattle.dspec_ctf.specs.declared.names.Names.{Names}
 use Rattle.dspec_ctf.specs.declared.origin.Origin.{Origin}
-use Rattle.dspec_ctf_sink.specs.Timed.{IsTimedBegun, TimedTracing}
-use Rattle.dspec_ctf_sink.specs.Writing.{IsBegun, Tracing}
 use Rattle.dspec_trace_reading.specs.Folders.{AreNamesOf}
 use Rattle.dspec_trace_reading.specs.declared.fault.ToFolderFault.{ToFolderFault}
 use Rattle.dspec_trace_reading.specs.declared.fault.ToFolderFault.TheVariants.{Start, Folder}
+
+-- the numbers that an origin tells have 64 bits, and its uuids are made of bytes
+pub record HasOriginNumbers (origin : Origin) : Type 0 where
+  pub uuid : All (λ b. b < 256) origin.uuid
+  pub pid : option_map_or (λ p. p.pid) origin.process 0 < 2 ^ 64
+  pub clock : All (λ b. b < 256) (option_map_or (λ s. unwrap_or s.clock []) origin.start [])
+  pub seconds : option_map_or (λ s. s.seconds) origin.start 0 < 2 ^ 64
+  pub ticks : option_map_or (λ s. s.ticks) origin.start 0 < 2 ^ 64
 
 -- the metadata of these probes was written into a folder that was asked for nothing before, and no packet yet
 pub record IsBegunTrace (e : EnabledRows) (ps : List ProbeNames) (uuid : List ℕ) (begun : Tracing) : Type 0 where
@@ -21,6 +27,8 @@ pub record IsBegunTrace (e : EnabledRows) (ps : List ProbeNames) (uuid : List �
   pub named : AreNamesOf ps names
   pub whose : origin.uuid ≡ uuid
   pub is : IsBegun origin e names (Some []) begun
+  pub long : length origin.uuid ≡ 16
+  pub numbers : HasOriginNumbers origin
 
 -- the same of a folder by time
 pub record IsBegunByTime (e : EnabledRows) (ps : List ProbeNames) (hertz : ℕ) (uuid : List ℕ) (begun : TimedTracing) : Type 0 where
@@ -29,6 +37,9 @@ pub record IsBegunByTime (e : EnabledRows) (ps : List ProbeNames) (hertz : ℕ) 
   pub named : AreNamesOf ps names
   pub whose : origin.uuid ≡ uuid
   pub is : IsTimedBegun origin hertz e names (Some []) begun
+  pub long : length origin.uuid ≡ 16
+  pub numbers : HasOriginNumbers origin
+  pub frequency : hertz < 2 ^ 64
 
 -- no session starts: by the first number of the configuration that is out of range, or else for want of memory
 pub record CantStart (k : Config) (fault : StartFault) : Type 0 where

@@ -1,17 +1,10 @@
 -- Cited by calls. What is read of a folder that was written by time while a session ran.
 use Rattle.std.specs.Prelude.{ℕ, ◌≡◌, ◌<◌, slice_index, All, List, length, map, slice_get, codes, Option, Some}
-use Rattle.dspec_record.specs.Record.{Record}
-use Rattle.dspec_record.specs.EnablingRows.{EnabledRows}
+use Rattle.dspec_trace_reading.specs.Words.Outside.{Record, EnabledRows, of_file, told_by, FileTells, event_of, layout_of, read_metadata, TimedTracing, row_name, FileWrite, file_of}
 use Rattle.dspec_ring.specs.declared.batch.Batch.{Batch}
 use Rattle.dspec_session_core.specs.declared.left.Left.{Left}
-use Rattle.dspec_ctf.specs.Rows.{of_file, told_by}
 use Rattle.dspec_ctf.specs.declared.form.Form.TheVariants.{ByTime}
 use Rattle.dspec_ctf.specs.declared.names.Names.{Names}
-use Rattle.dspec_ctf_reading.specs.Files.{FileTells}
-use Rattle.dspec_ctf_reading.specs.Layouts.{event_of, layout_of}
-use Rattle.dspec_ctf_reading.specs.ReadingMetadata.{read_metadata}
-use Rattle.dspec_ctf_sink.specs.Timed.{TimedTracing, row_name}
-use Rattle.dspec_ctf_sink.specs.Writes.{FileWrite, file_of}
 use Rattle.dspec_trace_reading.specs.AsTaken.{drops_carried}
 
 -- how many events a CPU missed so far

@@ -1,13 +1,9 @@
 -- Cited by calls. A session that was traced into a folder, and what is read of that.
 use Rattle.std.specs.Prelude.{ℕ, List}
-use Rattle.dspec_record.specs.EnablingRows.{EnabledRows}
+use Rattle.dspec_trace_reading.specs.Words.Outside.{EnabledRows, Declared, CallsMade, WorkedOn, one_for, written_in}
 use Rattle.dspec_deeds.specs.declared.config.Config.{Config}
 use Rattle.dspec_probe.specs.declared.probes.ProbeNames.{ProbeNames}
-use Rattle.dspec_probe.specs.Declarations.{Declared}
 use Rattle.dspec_ring.specs.declared.batch.Batch.{Batch}
-use Rattle.dspec_cpu.specs.Called.{CallsMade}
-use Rattle.dspec.specs.Workers.{WorkedOn, one_for}
-use Rattle.dspec_ctf_sink.specs.Places.{written_in}
 use Rattle.dspec_trace_reading.specs.Folders.{IsInFolder}
 use Rattle.dspec_trace_reading.specs.TimedFolders.{IsInTimedFolder}
 use Rattle.dspec_trace_reading.specs.declared.folder_trace.FolderTrace.{FolderTrace}

@@ -1,20 +1,13 @@
 -- Cited by calls. What is read of a folder in which a session was traced, whatever its work did.
 use Rattle.std.specs.Prelude.{ℕ, ◌≡◌, ◌<◌, ◌+◌, ◌^◌, List, [], Some, None, length}
-use Rattle.dspec_record.specs.EnablingRows.{EnabledRows}
-use Rattle.dspec_record.specs.Schemas.{enabled, table_accepts, table_shape, table_text}
+use Rattle.dspec_trace_reading.specs.Words.Outside.{EnabledRows, enabled, table_accepts, table_shape, table_text, CallsMade, HasLists, passed_from, IsTraced, HasNumbers, missed_on, GetsRuns}
+use Rattle.dspec_trace_reading.specs.Words.Outside.{IsTimedBegun, TimedTracing, GetsPacket, IsBegun, Tracing}
 use Rattle.dspec_deeds.specs.declared.config.Config.{Config}
 use Rattle.dspec_ring.specs.declared.batch.Batch.{Batch}
-use Rattle.dspec_cpu.specs.Called.{CallsMade}
 use Rattle.dspec_session_core.specs.declared.left.Left.{Left}
-use Rattle.dspec.specs.Passed.{HasLists, passed_from}
-use Rattle.dspec.specs.Traced.{IsTraced}
 use Rattle.dspec_ctf.specs.declared.form.Form.TheVariants.{AsTaken, ByTime}
 use Rattle.dspec_ctf.specs.declared.names.Names.{Names}
 use Rattle.dspec_ctf.specs.declared.origin.Origin.{Origin}
-use Rattle.dspec_ctf_reading.specs.ToldNumbers.{HasNumbers}
-use Rattle.dspec_ctf_sink.specs.Accounts.{missed_on}
-use Rattle.dspec_ctf_sink.specs.Timed.{GetsRuns, IsTimedBegun, TimedTracing}
-use Rattle.dspec_ctf_sink.specs.Writing.{GetsPacket, IsBegun, Tracing}
 use Rattle.dspec_trace_reading.specs.AsTaken.{ReadsAllKept, ReadsBack}
 use Rattle.dspec_trace_reading.specs.ByTime.{ReadsByTime, missed_by_time}
 

@@ -6,3 +6,4 @@ pub mod IntoFolders
 pub mod Laws
 pub mod Ran
 pub mod TimedFolders
+pub mod Words

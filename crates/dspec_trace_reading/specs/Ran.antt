@@ -1,17 +1,10 @@
 -- Serves proofs. A session that ran into a folder which was begun, and to a sink beside it.
-use Rattle.std.specs.Prelude.{ℕ, ◌≡◌, List, Ok, Result}
-use Rattle.dspec_record.specs.EnablingRows.{EnabledRows}
+use Rattle.std.specs.Prelude.{ℕ, ◌≡◌, ◌<◌, ◌^◌, List, Ok, Result, slice_index}
+use Rattle.dspec_trace_reading.specs.Words.Outside.{EnabledRows, CallsMade, IsOneListWith, WorkedOn, one_for, missed_on, TellsUntold, written_in, TimedTracing, Tracing}
 use Rattle.dspec_deeds.specs.declared.config.Config.{Config}
 use Rattle.dspec_ring.specs.declared.batch.Batch.{Batch}
-use Rattle.dspec_cpu.specs.Called.{CallsMade}
 use Rattle.dspec_session_core.specs.declared.left.Left.{Left}
-use Rattle.dspec.specs.Traced.{IsOneListWith}
-use Rattle.dspec.specs.Workers.{WorkedOn, one_for}
 use Rattle.dspec.specs.declared.both.Both.{Both}
-use Rattle.dspec_ctf_sink.specs.Ending.{TellsUntold}
-use Rattle.dspec_ctf_sink.specs.Places.{written_in}
-use Rattle.dspec_ctf_sink.specs.Timed.{TimedTracing}
-use Rattle.dspec_ctf_sink.specs.Writing.{Tracing}
 use Rattle.dspec_ctf_sink.specs.declared.telling.Telling.{Telling}
 use Rattle.dspec_trace_reading.specs.declared.fault.ToFolderFault.{ToFolderFault}
 use Rattle.dspec_trace_reading.specs.declared.folder_trace.FolderTrace.{FolderTrace}
@@ -40,15 +33,17 @@ module _ {T : Type 0} (sees : T → Batch → T → Type 0) where
       → Result (Begun T) ToFolderFault → Ran T → K → Type 0
   RanWorkers gets does e k workers back old begun r new = RanBegun gets (WorkedOn does workers back) e (one_for workers k) old begun r new
 
--- what came back of a folder is what its sink had
+-- what came back of a folder is what its sink had, which counts with 64 bits
 pub record IsOfTrace (r : Ran Tracing) (t : FolderTrace) : Type 0 where
   pub closed : t.closed ≡ r.closed
   pub uuid : t.uuid ≡ r.uuid
   pub loses : r.sink.lost ≡ t.lost
   pub puts : r.sink.written ≡ written_in t.folder
+  pub counts : (c : ℕ) → missed_on r.sink c < 2 ^ 64
 
 pub record IsOfTimedTrace (r : Ran TimedTracing) (t : FolderTrace) : Type 0 where
   pub closed : t.closed ≡ r.closed
   pub uuid : t.uuid ≡ r.uuid
   pub loses : r.sink.lost ≡ t.lost
   pub puts : r.sink.written ≡ written_in t.folder
+  pub counts : (c : ℕ) → slice_index r.sink.missed c < 2 ^ 64

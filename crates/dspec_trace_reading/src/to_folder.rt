@@ -10,6 +10,7 @@ ghost use Rattle.dspec_trace_reading.specs.IntoFolders.{AreTracedInto, IsTracedI
 
 use crate::fault::ToFolderFault;
 use crate::folder_trace::{FolderTrace, Place};
+use crate::numbers::origin_told;
 use crate::running::{Begun, Ran, config_for, prepare, run_in, run_workers_in};
 use dspec::{Config, Enablings, Probes, Sink, Work, Worker};
 use dspec_ctf_reading::laws::{live_file_reads_back, metadata_reads_back};
@@ -27,6 +28,7 @@ fn make<'a>(
 {
     let (folder, identity, at_end) = prepare(rt, cpus, place.path)?;
     let origin = identity.origin(place.name);
+    origin_told(&origin);
     let names = Names::Given(probes.names());
     let sink = TraceFolder::of(rt.alloc(), folder, &origin, &probes.enablings(), &names)?;
     let sink = Telling::new(rt, place.path, sink);

@@ -10,6 +10,7 @@ ghost use Rattle.dspec_trace_reading.specs.IntoFolders.{AreTimedInto, IsTimedInt
 
 use crate::fault::ToFolderFault;
 use crate::folder_trace::{FolderTrace, Place, StampClock};
+use crate::numbers::{number_told, origin_told};
 use crate::running::{Begun, Ran, config_for, prepare, run_in, run_workers_in};
 use dspec::{Config, Enablings, Probes, Sink, Work, Worker};
 use dspec_ctf::laws::{files_have_all, runs_have_all};
@@ -33,6 +34,8 @@ fn make<'a>(
         start,
         ..identity.origin(place.name)
     };
+    origin_told(&origin);
+    number_told(clock.hertz);
     let names = Names::Given(probes.names());
     let alloc = rt.alloc();
     let schema = probes.enablings();

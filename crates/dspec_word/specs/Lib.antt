@@ -4,3 +4,4 @@ pub mod WordFields
 pub mod Laws
 pub mod SpecId
 pub mod Tables
+pub mod Words

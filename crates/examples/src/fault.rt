@@ -1,5 +1,5 @@
 use dspec::{Closed, ProbeFault, RecordSinkFault, StartFault};
-use dspec_command::{CommandFault, Ending};
+use dspec_command::{CommandFault, ExitFault};
 use dspec_ctf_sink::{FolderFault, Loss};
 use dspec_trace_reading::{FolderTrace, ToFolderFault};
 use std::alloc::AllocError;
@@ -27,7 +27,7 @@ pub enum ExampleFault<'a> {
     Differs(#[from] anyhow::Error),
 }
 
-impl<'a> Ending for ExampleFault<'a> {
+impl<'a> ExitFault for ExampleFault<'a> {
     /// The exit status that tells of the fault: 1 where what was recorded differs, 2 for memory, 3 for input and output, 4 for words.
     fn exit_status(&self) -> u8 {
         match self {

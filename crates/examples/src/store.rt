@@ -26,7 +26,7 @@ use crate::store::probes::StoreProbes;
 use crate::store::serving::Server;
 use crate::store::telling::{tell_paths, tell_report};
 use dspec::{Closed, Probes, Rec, closed_cpus};
-use dspec_command::{Asked, ended, output_fault, print_text};
+use dspec_command::{ParsedCommand, ended, output_fault, print_text};
 use std::io;
 use std::process::ExitCode;
 use std::thread::Threads;
@@ -74,8 +74,8 @@ fn run<'a, R: Threads + Sync>(
     words: &'a [String],
 ) -> Result<bool, ExampleFault<'a>> {
     match asked(rt.alloc(), words)? {
-        Asked::Found(found) => transfers(rt, threads, found.get_str("ctf"))?,
-        Asked::Text(text) => print_text(rt, text.as_str())?,
+        ParsedCommand::Found(found) => transfers(rt, threads, found.get_str("ctf"))?,
+        ParsedCommand::Text(text) => print_text(rt, text.as_str())?,
     }
     Ok(true)
 }

@@ -18,7 +18,7 @@ mod requests;
 mod serving;
 
 use crate::fault::{ExampleFault, in_folder};
-use crate::watch::arguments::{Ask, WatchAsk, ask_of};
+use crate::watch::arguments::{WatchAsk, WatchTask, ask_of};
 use crate::watch::paths::{compare, tell};
 use crate::watch::probes::ServerProbes;
 use crate::watch::requests::WORKERS;
@@ -78,8 +78,8 @@ fn run<'a, R: Threads + Sync>(
     words: &'a [String],
 ) -> Result<bool, ExampleFault<'a>> {
     match ask_of(rt.alloc(), words)? {
-        Ask::Watch(ask) => watch(rt, threads, ask)?,
-        Ask::Text(text) => print_text(rt, text.as_str())?,
+        WatchTask::Watch(ask) => watch(rt, threads, ask)?,
+        WatchTask::Text(text) => print_text(rt, text.as_str())?,
     }
     Ok(true)
 }

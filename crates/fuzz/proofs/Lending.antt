@@ -3,15 +3,10 @@ use Rattle.std.proofs.Common.{◌≡◌, ℕ, ◌<◌, ◌++◌, List, length, t
 use Rattle.std.specs.Prelude.{slice_get}
 use Rattle.std.proofs.lemmas.Option.{slice_get_read}
 use Rattle.std.proofs.Math.Seq.{take-append_seam}
-use Rattle.dspec_record.specs.EnablingRows.{EnabledRows}
+use Rattle.fuzz.specs.Words.{EnabledRows, words_of, identity, Stays, pairs_of, IsCpuOf, IsSession, AllCanBeCalled, AllWereCalled, CanBeCalled}
 use Rattle.dspec_cpu.specs.declared.cpu.Cpu.{Cpu}
 use Rattle.dspec_cpu.specs.declared.shared.Shared.{Shared}
-use Rattle.dspec_cpu.specs.Lists.{words_of}
-use Rattle.dspec_cpu.specs.Standing.{identity}
 use Rattle.dspec_session_core.specs.declared.session.Session.{Session}
-use Rattle.dspec_session_core.specs.Consumers.{Stays, pairs_of}
-use Rattle.dspec_session_core.specs.Sessions.{IsCpuOf, IsSession}
-use Rattle.fuzz.specs.Lent.{AllCanBeCalled, AllWereCalled, CanBeCalled}
 
 -- each CPU of a session can be lent
 pub all_can : (schema : EnabledRows) (session : Session EnabledRows) → IsSession schema session → AllCanBeCalled session.shared schema session.cpus.items

@@ -1,7 +1,7 @@
 //! What the command line asks for.
 
 use clap::{Arg, ArgMatches, Command};
-use dspec_command::{Asked, CommandFault, asked_of};
+use dspec_command::{CommandFault, ParsedCommand, asked_of};
 use std::alloc::{AllocError, Global};
 
 /// How the program is called.
@@ -9,7 +9,7 @@ const USAGE: &str = "fuzz threads made, fuzz threads FIRST COUNT";
 
 /// What there is to do.
 #[derive(Debug, Drop)]
-pub enum Ask {
+pub enum ThreadsTask {
     /// To compare the made-up sessions.
     Made,
     /// To run so many seeds, from the first on.
@@ -37,22 +37,22 @@ fn command<'a>(alloc: Global) -> Result<Command<'a>, AllocError> {
 }
 
 /// What is asked for by what was found in the words, if it is anything.
-fn ask_found(found: &ArgMatches<'_>) -> Option<Ask> {
+fn ask_found(found: &ArgMatches<'_>) -> Option<ThreadsTask> {
     let first = found.get_str("first")?;
     match found.get_one::<u64>("count") {
-        Some(count) => Some(Ask::Seeds {
+        Some(count) => Some(ThreadsTask::Seeds {
             first: first.parse::<u64>().ok()?,
             count,
         }),
-        None if first == "made" => Some(Ask::Made),
+        None if first == "made" => Some(ThreadsTask::Made),
         None => None,
     }
 }
 
 /// What these words ask for, the first of which is `threads`.
-pub fn ask_of<'a>(alloc: Global, words: &'a [String]) -> Result<Ask, CommandFault<'a>> {
+pub fn ask_of<'a>(alloc: Global, words: &'a [String]) -> Result<ThreadsTask, CommandFault<'a>> {
     match asked_of(alloc, command(alloc)?, USAGE, words)? {
-        Asked::Found(found) => ask_found(&found).ok_or(CommandFault::Usage(USAGE)),
-        Asked::Text(text) => Ok(Ask::Text(text)),
+        ParsedCommand::Found(found) => ask_found(&found).ok_or(CommandFault::Usage(USAGE)),
+        ParsedCommand::Text(text) => Ok(ThreadsTask::Text(text)),
     }
 }

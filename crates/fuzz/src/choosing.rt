@@ -1,8 +1,8 @@
-use crate::planning::{Plan, dice_of};
-use crate::sharing::Board;
+use crate::planning::{SeedPlan, dice_of};
+use crate::sharing::SharedState;
 use dspec_deeds::{Answer, CpuOp, Decided, Opening, Spoken, Traced};
 use dspec_record::Rec;
-use dspec_samples::{Called, Dice, KINDS, Log, identifier_in, record_of};
+use dspec_samples::{Dice, KINDS, Log, LoggedCall, identifier_in, record_of};
 use dspec_word::SpecId;
 use std::alloc::Global;
 
@@ -10,7 +10,7 @@ use std::alloc::Global;
 #[derive(Drop)]
 pub struct Player {
     cpu: u32,
-    plan: Plan,
+    plan: SeedPlan,
     dice: Dice,
     log: Log,
     /// The call that comes next, where the one before left one to make.
@@ -25,7 +25,7 @@ pub struct Player {
 
 impl Player {
     /// The player of a CPU, before its first call.
-    pub fn new(alloc: Global, plan: &Plan, cpu: u32) -> Player {
+    pub fn new(alloc: Global, plan: &SeedPlan, cpu: u32) -> Player {
         Player {
             cpu,
             plan: *plan,
@@ -73,7 +73,7 @@ impl Player {
 
     /// Something said to a speculation of the board: to the one that was offered to last, as a rule. A trace, where the board has
     /// none.
-    fn speculate(&mut self, board: &Board) -> CpuOp {
+    fn speculate(&mut self, board: &SharedState) -> CpuOp {
         if self.dice.chance(self.plan.stale) {
             let id = self.closed();
             return CpuOp::Speculate(id, self.record());
@@ -91,7 +91,7 @@ impl Player {
     }
 
     /// A decision of a speculation of the board. Most take it off the board before, so that only one of them decides.
-    fn decide(&mut self, board: &Board) -> CpuOp {
+    fn decide(&mut self, board: &SharedState) -> CpuOp {
         if self.dice.chance(self.plan.stale) {
             let id = self.closed();
             return self.decision(id);
@@ -108,7 +108,7 @@ impl Player {
     }
 
     /// The next call.
-    pub fn next(&mut self, board: &Board) -> CpuOp {
+    pub fn next(&mut self, board: &SharedState) -> CpuOp {
         if let Some(op) = self.owed.take() {
             return op;
         }
@@ -140,7 +140,7 @@ impl Player {
 
     /// What a call of speculation answered: what was given out goes to the board, and what it drives off is decided, as a rule.
     /// Where there was none, another may be decided.
-    fn opened(&mut self, board: &Board, opening: Opening) {
+    fn opened(&mut self, board: &SharedState, opening: Opening) {
         let place = self.place();
         let other = match opening {
             Opening::Id(id) => board.put(place, id),
@@ -159,7 +159,7 @@ impl Player {
     }
 
     /// A speculation is decided: it leaves the board, and isn't offered to any more.
-    fn leave(&mut self, board: &Board, id: SpecId) {
+    fn leave(&mut self, board: &SharedState, id: SpecId) {
         board.clear(id);
         if self.speculates_to == id {
             self.speculates_to = SpecId::NONE;
@@ -167,7 +167,7 @@ impl Player {
     }
 
     /// What a call answered.
-    pub fn heard(&mut self, board: &Board, called: &Called) {
+    pub fn heard(&mut self, board: &SharedState, called: &LoggedCall) {
         self.log.note(called.op, called.answer);
         board.count();
         let id = identifier_in(called.op).unwrap_or(SpecId::NONE);

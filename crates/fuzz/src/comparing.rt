@@ -15,7 +15,7 @@ use std::alloc::{AllocError, Global};
 
 /// What one of the two made of a schedule.
 #[derive(Debug, PartialEq, Drop)]
-pub enum Told {
+pub enum ScheduleOutcome {
     /// It played it, and this is printed.
     Printed(String),
     /// It refused it.
@@ -26,7 +26,7 @@ pub enum Told {
 
 /// How both compare.
 #[derive(Debug, Clone, Copy, PartialEq, Eq)]
-pub enum Verdict {
+pub enum Comparison {
     /// Both print the same.
     Alike,
     /// Both refuse it, and tell the same.
@@ -46,36 +46,39 @@ fn play_schedule(alloc: Global, schedule: &Schedule) -> Result<Outcome, PlayFaul
 }
 
 /// What the player makes of a schedule, with the bytes that are due.
-fn player_told(alloc: Global, sample: &Sample) -> Result<Told, AllocError> {
+fn player_told(alloc: Global, sample: &Sample) -> Result<ScheduleOutcome, AllocError> {
     let schedule = &sample.schedule;
     match play_schedule(alloc, schedule) {
         Ok(outcome) => {
             let due = encoded(alloc, sample, outcome)?;
             let text = printed_with_bytes(alloc, schedule.header(), &due)?;
-            Ok(Told::Printed(text))
+            Ok(ScheduleOutcome::Printed(text))
         }
         Err(PlayFault::Memory) => Err(AllocError),
-        Err(fault) => Ok(Told::Refused(fault)),
+        Err(fault) => Ok(ScheduleOutcome::Refused(fault)),
     }
 }
 
 /// What a session makes of a schedule, with the bytes of its batches.
-fn session_told(alloc: Global, schedule: &Schedule) -> Result<Told, AllocError>
+fn session_told(alloc: Global, schedule: &Schedule) -> Result<ScheduleOutcome, AllocError>
     ensures { IfOk result (λ told. IsToldBySession (session_refusal schedule.now) told) }
 {
     match replay_schedule(alloc, schedule) {
         Ok(replayed) => {
             let text = printed_with_bytes(alloc, schedule.header(), &replayed)?;
-            Ok(Told::Printed(text))
+            Ok(ScheduleOutcome::Printed(text))
         }
         Err(SessionFault::Play(PlayFault::Memory)) => Err(AllocError),
-        Err(SessionFault::Play(fault)) => Ok(Told::Refused(fault)),
-        Err(fault) => Ok(Told::CantGoOn(fault)),
+        Err(SessionFault::Play(fault)) => Ok(ScheduleOutcome::Refused(fault)),
+        Err(fault) => Ok(ScheduleOutcome::CantGoOn(fault)),
     }
 }
 
 /// What each of the two makes of a schedule, the player's in front.
-pub fn both_told(alloc: Global, sample: &Sample) -> Result<(Told, Told), AllocError>
+pub fn both_told(
+    alloc: Global,
+    sample: &Sample,
+) -> Result<(ScheduleOutcome, ScheduleOutcome), AllocError>
     ensures { IfOk result (λ told. IsToldBySession (session_refusal sample.now.schedule) told.1) }
 {
     let player = player_told(alloc, sample)?;
@@ -84,15 +87,17 @@ pub fn both_told(alloc: Global, sample: &Sample) -> Result<(Told, Told), AllocEr
 }
 
 /// How both compare.
-pub fn verdict_of(player: &Told, session: &Told) -> Verdict
-    ensures alike { result ≡ Verdict.Alike → IsAlike player.now session.now }
-    ensures refused { result ≡ Verdict.RefusedAlike → IsRefusedAlike player.now session.now }
-    ensures same_text { IsAlike player.now session.now → result ≡ Verdict.Alike }
-    ensures same_fault { IsRefusedAlike player.now session.now → result ≡ Verdict.RefusedAlike }
+pub fn verdict_of(player: &ScheduleOutcome, session: &ScheduleOutcome) -> Comparison
+    ensures alike { result ≡ Comparison.Alike → IsAlike player.now session.now }
+    ensures refused { result ≡ Comparison.RefusedAlike → IsRefusedAlike player.now session.now }
+    ensures same_text { IsAlike player.now session.now → result ≡ Comparison.Alike }
+    ensures same_fault { IsRefusedAlike player.now session.now → result ≡ Comparison.RefusedAlike }
 {
     match (player, session) {
-        (Told::Printed(one), Told::Printed(other)) if one == other => Verdict::Alike,
-        (Told::Refused(one), Told::Refused(other)) if one == other => Verdict::RefusedAlike,
-        _ => Verdict::Differ,
+        (ScheduleOutcome::Printed(one), ScheduleOutcome::Printed(other)) if one == other =>
+            Comparison::Alike,
+        (ScheduleOutcome::Refused(one), ScheduleOutcome::Refused(other)) if one == other =>
+            Comparison::RefusedAlike,
+        _ => Comparison::Differ,
     }
 }

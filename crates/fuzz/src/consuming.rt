@@ -2,9 +2,9 @@ ghost use Rattle.std.specs.Prelude.{IfOk};
 ghost use Rattle.dspec_cpu.specs.Lists.{words_of};
 ghost use Rattle.dspec_session_core.specs.Consumers.{IsConsumerOf, Stays};
 
-use crate::planning::{CONSUMER_DICE, Plan, dice_of};
-use crate::sharing::Board;
-use crate::taken::Basket;
+use crate::planning::{CONSUMER_DICE, SeedPlan, dice_of};
+use crate::sharing::SharedState;
+use crate::taken::CollectedBatches;
 use dspec_cpu::Shared;
 use dspec_deeds::ConsumerOp;
 use dspec_samples::Dice;
@@ -13,7 +13,7 @@ use std::alloc::{AllocError, Global};
 use std::thread;
 
 /// Gives the batch that is out longest back, if there is one.
-fn give_back(consumer: &mut Consumer, shared: &Shared, basket: &mut Basket)
+fn give_back(consumer: &mut Consumer, shared: &Shared, basket: &mut CollectedBatches)
     requires { IsConsumerOf (words_of shared.now) consumer.old }
     ensures { Stays (words_of shared.now) consumer.old consumer.new }
 {
@@ -29,8 +29,8 @@ fn give_back(consumer: &mut Consumer, shared: &Shared, basket: &mut Basket)
 fn take(
     consumer: &mut Consumer,
     shared: &Shared,
-    board: &Board,
-    basket: &mut Basket,
+    board: &SharedState,
+    basket: &mut CollectedBatches,
     alloc: Global,
     cpu: u32,
 ) -> Result<(), AllocError>
@@ -48,8 +48,8 @@ fn take(
 fn call(
     consumer: &mut Consumer,
     shared: &Shared,
-    board: &Board,
-    basket: &mut Basket,
+    board: &SharedState,
+    basket: &mut CollectedBatches,
     alloc: Global,
     op: ConsumerOp,
 ) -> Result<(), AllocError>
@@ -73,7 +73,7 @@ fn call(
 /// Who chooses the consumer's calls.
 #[derive(Drop)]
 struct Chooser {
-    plan: Plan,
+    plan: SeedPlan,
     dice: Dice,
     /// The CPU whose batch was asked for last.
     asked: u32,
@@ -110,11 +110,11 @@ impl Chooser {
 pub fn consume(
     consumer: Consumer,
     shared: &Shared,
-    board: &Board,
-    plan: &Plan,
+    board: &SharedState,
+    plan: &SeedPlan,
     alloc: Global,
-    basket: Basket,
-) -> Result<(Consumer, Basket), AllocError>
+    basket: CollectedBatches,
+) -> Result<(Consumer, CollectedBatches), AllocError>
     requires { IsConsumerOf (words_of shared.now) consumer }
     ensures { IfOk result (λ r. Stays (words_of shared.now) consumer r.0) }
 {

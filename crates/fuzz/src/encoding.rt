@@ -7,7 +7,7 @@ use crate::sample::Sample;
 use dspec_deeds::{Actor, Answer, ConsumerOp, DecideFate, Deed, Op, SpeculateFate, TraceFate};
 use dspec_interleaving::{Outcome, Series};
 use dspec_record::{Field, Header, Rec};
-use dspec_replay::{Origin, Replayed, Text};
+use dspec_replay::{BufferOrigin, ReadBuffer, Replayed};
 use dspec_word::SpecId;
 use std::alloc::{AllocError, Global};
 
@@ -92,7 +92,7 @@ fn record_bytes(
 fn add_record(
     alloc: Global,
     sample: &Sample,
-    text: &mut Text,
+    text: &mut ReadBuffer,
     rec: &Rec,
 ) -> Result<(), AllocError> {
     let fields = fields_of(sample, rec);
@@ -106,7 +106,7 @@ fn add_record(
 fn add_block(
     alloc: Global,
     sample: &Sample,
-    text: &mut Text,
+    text: &mut ReadBuffer,
     deeds: &[Deed],
     cpu: u32,
     id: SpecId,
@@ -127,7 +127,7 @@ fn add_block(
 fn add_decision(
     alloc: Global,
     sample: &Sample,
-    text: &mut Text,
+    text: &mut ReadBuffer,
     deeds: &[Deed],
     cpu: u32,
     id: SpecId,
@@ -149,7 +149,7 @@ fn add_decision(
 fn add_traced(
     alloc: Global,
     sample: &Sample,
-    text: &mut Text,
+    text: &mut ReadBuffer,
     rec: &Rec,
     fate: TraceFate,
 ) -> Result<(), AllocError> {
@@ -165,7 +165,7 @@ fn add_traced(
 fn add_deed(
     alloc: Global,
     sample: &Sample,
-    text: &mut Text,
+    text: &mut ReadBuffer,
     deeds: &[Deed],
     cpu: u32,
     deed: Deed,
@@ -205,12 +205,12 @@ fn taken_of(outcome: &Outcome, cpu: u32) -> usize {
 }
 
 /// A buffer without records, behind so many others of which so many were taken.
-fn empty(alloc: Global, before: usize, taken: usize) -> Text {
-    Text {
+fn empty(alloc: Global, before: usize, taken: usize) -> ReadBuffer {
+    ReadBuffer {
         origin: if before < taken {
-            Origin::Batch
+            BufferOrigin::Batch
         } else {
-            Origin::Rest
+            BufferOrigin::Rest
         },
         drops: 0,
         records: Series::new(alloc),
@@ -224,7 +224,7 @@ fn texts_of(
     sample: &Sample,
     outcome: &Outcome,
     cpu: u32,
-) -> Result<Series<Text>, AllocError> {
+) -> Result<Series<ReadBuffer>, AllocError> {
     let deeds = outcome.close.deeds.as_slice();
     let taken = taken_of(outcome, cpu);
     let mut texts = Series::new(alloc);

@@ -4,7 +4,7 @@ ghost use Rattle.std.specs.Prelude.{◌<◌, ◌≡◌, [], All, IfOk, IsSome};
 ghost use Rattle.dspec_replay.specs.Replayed.{whole_call_of};
 
 use crate::records::record;
-use crate::sample::{MOST_FIELDS, Probe, Sample};
+use crate::sample::{MOST_FIELDS, Sample, SampleFields};
 use dspec_deeds::{Config, ConsumerOp, CpuOp, Policy, Turn};
 use dspec_record::{Enablings, Field, Header};
 use dspec_samples::Dice;
@@ -79,7 +79,7 @@ fn field(dice: &mut Dice) -> Field {
 }
 
 /// The fields of up to four enablings; none, for the default action, in one of three.
-fn probes(alloc: Global, dice: &mut Dice) -> Result<Vec<Probe>, AllocError> {
+fn probes(alloc: Global, dice: &mut Dice) -> Result<Vec<SampleFields>, AllocError> {
     let mut probes = Vec::new(alloc);
     if dice.once_in(3) {
         return Ok(probes);
@@ -89,13 +89,13 @@ fn probes(alloc: Global, dice: &mut Dice) -> Result<Vec<Probe>, AllocError> {
         for place in 0..MOST_FIELDS {
             fields[place] = field(dice);
         }
-        probes.push(Probe::new(fields, dice.roll(4) as usize))?;
+        probes.push(SampleFields::new(fields, dice.roll(4) as usize))?;
     }
     Ok(probes)
 }
 
 /// The enablings of these fields; None, for the default action, where there is none.
-fn enabled(header: Header, probes: &[Probe]) -> Option<Enablings> {
+fn enabled(header: Header, probes: &[SampleFields]) -> Option<Enablings> {
     if probes.is_empty() {
         return None;
     }

@@ -1,7 +1,7 @@
 //! What the command line asks for.
 
 use clap::{Arg, ArgMatches, Command};
-use dspec_command::{Asked, CommandFault, asked_of};
+use dspec_command::{CommandFault, ParsedCommand, asked_of};
 use std::alloc::{AllocError, Global};
 
 /// How the program is called.
@@ -18,7 +18,7 @@ pub struct Options {
 
 /// What there is to do.
 #[derive(Debug, Drop)]
-pub enum Ask {
+pub enum ScheduleTask {
     /// To play random schedules.
     Play(Options),
     /// To play the schedule that is made up.
@@ -46,25 +46,25 @@ fn command<'a>(alloc: Global) -> Result<Command<'a>, AllocError> {
 }
 
 /// What is asked for by what was found in the words, if it is anything.
-fn ask_found(found: &ArgMatches<'_>) -> Option<Ask> {
+fn ask_found(found: &ArgMatches<'_>) -> Option<ScheduleTask> {
     let first = found.get_str("seed")?;
     match found.get_one::<u32>("count") {
-        Some(count) => Some(Ask::Play(Options {
+        Some(count) => Some(ScheduleTask::Play(Options {
             seed: first.parse::<u64>().ok()?,
             count,
         })),
-        None if first == "made" => Some(Ask::Made),
+        None if first == "made" => Some(ScheduleTask::Made),
         None => None,
     }
 }
 
 /// What these words ask for, the first of which is the program's name.
-pub fn ask_of<'a>(alloc: Global, words: &'a [String]) -> Result<Ask, CommandFault<'a>> {
+pub fn ask_of<'a>(alloc: Global, words: &'a [String]) -> Result<ScheduleTask, CommandFault<'a>> {
     match asked_of(alloc, command(alloc)?, USAGE, words)? {
-        Asked::Found(found) => match ask_found(&found) {
+        ParsedCommand::Found(found) => match ask_found(&found) {
             Some(ask) => Ok(ask),
             None => Err(CommandFault::Usage(USAGE)),
         },
-        Asked::Text(text) => Ok(Ask::Text(text)),
+        ParsedCommand::Text(text) => Ok(ScheduleTask::Text(text)),
     }
 }

@@ -12,7 +12,7 @@ pub struct Mix {
 
 /// What a seed chooses.
 #[derive(Clone, Copy, Debug, PartialEq, Eq)]
-pub struct Plan {
+pub struct SeedPlan {
     pub seed: u64,
     pub config: Config,
     pub mix: Mix,
@@ -75,9 +75,9 @@ pub fn dice_of(seed: u64, number: u64) -> Dice {
     Dice::new(seed.wrapping_mul(128).wrapping_add(number))
 }
 
-impl Plan {
+impl SeedPlan {
     /// The plan of a seed.
-    pub fn new(seed: u64) -> Plan {
+    pub fn new(seed: u64) -> SeedPlan {
         let mut dice = dice_of(seed, PLAN_DICE);
         let config = config_of(&mut dice);
         let mix = mix_of(&mut dice);
@@ -87,7 +87,7 @@ impl Plan {
             dice.between(500, 2000)
         };
         let all = u64::from(calls).saturating_mul(u64::from(config.cpus));
-        Plan {
+        SeedPlan {
             seed,
             config,
             mix,

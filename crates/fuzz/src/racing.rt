@@ -6,9 +6,9 @@ ghost use Rattle.dspec_session_core.specs.Sessions.{IsSession};
 ghost use Rattle.fuzz.specs.Lent.{AllCanBeCalled, AllWereCalled, CanBeCalled};
 
 use crate::consuming::consume;
-use crate::planning::Plan;
-use crate::sharing::Board;
-use crate::taken::Basket;
+use crate::planning::SeedPlan;
+use crate::sharing::SharedState;
+use crate::taken::CollectedBatches;
 use crate::working::work;
 use dspec_cpu::{Cpu, Shared};
 use dspec_record::Enablings;
@@ -22,8 +22,8 @@ fn work_all<R: Threads + Sync>(
     rt: &R,
     cpus: Vec<Cpu<Enablings>>,
     shared: &Shared,
-    board: &Board,
-    plan: &Plan,
+    board: &SharedState,
+    plan: &SeedPlan,
     alloc: Global,
 ) -> Vec<Cpu<Enablings>>
     requires { AllCanBeCalled shared.now board.now.schema cpus.items }
@@ -43,11 +43,11 @@ fn work_all<R: Threads + Sync>(
 pub fn race<R: Threads + Sync>(
     rt: &R,
     session: Session<Enablings>,
-    board: &Board,
-    plan: &Plan,
+    board: &SharedState,
+    plan: &SeedPlan,
     alloc: Global,
-    basket: Basket,
-) -> Result<(Session<Enablings>, Basket), AllocError>
+    basket: CollectedBatches,
+) -> Result<(Session<Enablings>, CollectedBatches), AllocError>
     requires { IsSession board.now.schema session }
     ensures { IfOk result (λ r. IsSession board.now.schema r.0) }
 {

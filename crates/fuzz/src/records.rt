@@ -1,6 +1,6 @@
 //! Random records.
 
-use crate::sample::{MOST_FIELDS, Probe};
+use crate::sample::{MOST_FIELDS, SampleFields};
 use dspec_record::{Field, Header, Rec};
 use dspec_samples::Dice;
 
@@ -12,7 +12,7 @@ const PLAIN_EPIDS: u32 = 9;
 
 /// The parts of a record.
 #[derive(Debug, Clone, Copy, PartialEq, Eq)]
-struct Parts {
+struct RecordParts {
     epid: u32,
     values: [u64; MOST_FIELDS + 1],
     count: usize,
@@ -34,10 +34,10 @@ fn value(dice: &mut Dice, field: Field) -> u64 {
 }
 
 /// The parts of a record of the schema: of an enabling, or of the default action where there is none.
-fn plain(dice: &mut Dice, probes: &[Probe]) -> Parts {
+fn plain(dice: &mut Dice, probes: &[SampleFields]) -> RecordParts {
     let mut values = [0; MOST_FIELDS + 1];
     if probes.is_empty() {
-        return Parts {
+        return RecordParts {
             epid: 1 + dice.roll(PLAIN_EPIDS),
             values,
             count: 0,
@@ -50,7 +50,7 @@ fn plain(dice: &mut Dice, probes: &[Probe]) -> Parts {
             *slot = value(dice, *field);
         }
     }
-    Parts {
+    RecordParts {
         epid: u32::try_from(index).unwrap_or(0).saturating_add(1),
         values,
         count: fields.len(),
@@ -58,19 +58,19 @@ fn plain(dice: &mut Dice, probes: &[Probe]) -> Parts {
 }
 
 /// The same with an identifier or values that no schema has, or that this one may not have.
-fn strange(dice: &mut Dice, parts: Parts) -> Parts {
+fn strange(dice: &mut Dice, parts: RecordParts) -> RecordParts {
     match dice.roll(4) {
-        0 => Parts { epid: 0, ..parts },
-        1 => Parts {
+        0 => RecordParts { epid: 0, ..parts },
+        1 => RecordParts {
             epid: 99 + dice.roll(9),
             values: [dice.word(); MOST_FIELDS + 1],
             count: 1,
         },
-        2 => Parts {
+        2 => RecordParts {
             count: MOST_FIELDS + 1,
             ..parts
         },
-        _ => Parts {
+        _ => RecordParts {
             values: [u64::MAX; MOST_FIELDS + 1],
             ..parts
         },
@@ -87,7 +87,7 @@ fn stamp(dice: &mut Dice, header: Header) -> u64 {
 }
 
 /// A record, most often of the schema.
-pub fn record(dice: &mut Dice, header: Header, probes: &[Probe]) -> Rec {
+pub fn record(dice: &mut Dice, header: Header, probes: &[SampleFields]) -> Rec {
     let plain = plain(dice, probes);
     let parts = if dice.once_in(STRANGE_IN) {
         strange(dice, plain)

@@ -1,11 +1,11 @@
 ghost use Rattle.std.specs.Prelude.{◌≡◌, ◌<◌, IfOk, length};
 ghost use Rattle.dspec_session_core.specs.Sessions.{IsSession};
 
-use crate::fault::ThreadsFault;
-use crate::planning::Plan;
+use crate::fault::ThreadFuzzFault;
+use crate::planning::SeedPlan;
 use crate::racing::race;
-use crate::sharing::Board;
-use crate::taken::Basket;
+use crate::sharing::SharedState;
+use crate::taken::CollectedBatches;
 use dspec_record::Enablings;
 use dspec_samples::{Log, Story, enable};
 use dspec_session_core::Session;
@@ -16,9 +16,9 @@ use std::thread::Threads;
 fn read_left(
     alloc: Global,
     session: Session<Enablings>,
-    board: Board,
-    plan: &Plan,
-    basket: Basket,
+    board: SharedState,
+    plan: &SeedPlan,
+    basket: CollectedBatches,
 ) -> Result<Story, AllocError>
     requires { IsSession board.schema session }
 {
@@ -51,17 +51,17 @@ fn read_left(
 pub fn run<'a, R: Threads + Sync>(
     rt: &R,
     alloc: Global,
-    plan: &Plan,
-) -> Result<Story, ThreadsFault<'a>> {
+    plan: &SeedPlan,
+) -> Result<Story, ThreadFuzzFault<'a>> {
     let schema = enable()?;
     let schema = if plan.stamped {
         schema.stamped()
     } else {
         schema
     };
-    let board = Board::new(alloc, &plan.config, schema, plan.places)?;
+    let board = SharedState::new(alloc, &plan.config, schema, plan.places)?;
     let session = Session::start(alloc, &plan.config, board.schema)?;
-    let basket = Basket::new(alloc, plan.config.cpus)?;
+    let basket = CollectedBatches::new(alloc, plan.config.cpus)?;
     let (session, basket) = race(rt, session, &board, plan, alloc, basket)?;
     Ok(read_left(alloc, session, board, plan, basket)?)
 }

@@ -6,15 +6,15 @@ pub const MOST_FIELDS: usize = 3;
 
 /// The fields of one enabling.
 #[derive(Debug, Clone, Copy, PartialEq, Eq)]
-pub struct Probe {
+pub struct SampleFields {
     fields: [Field; MOST_FIELDS],
     count: usize,
 }
 
-impl Probe {
+impl SampleFields {
     /// The first of these fields, so many of them at the most.
-    pub fn new(fields: [Field; MOST_FIELDS], count: usize) -> Probe {
-        Probe { fields, count }
+    pub fn new(fields: [Field; MOST_FIELDS], count: usize) -> SampleFields {
+        SampleFields { fields, count }
     }
 
     pub fn fields(&self) -> &[Field] {
@@ -25,6 +25,6 @@ impl Probe {
 /// A random schedule, with the fields of its enablings.
 #[derive(Drop)]
 pub struct Sample {
-    pub probes: Vec<Probe>,
+    pub probes: Vec<SampleFields>,
     pub schedule: Schedule,
 }

@@ -1,9 +1,9 @@
 //! Random schedules of whole calls, played by the player and on a session.
 
-use crate::comparing::{Verdict, both_told, verdict_of};
+use crate::comparing::{Comparison, both_told, verdict_of};
 use crate::made::made;
 use crate::making::sample;
-use crate::options::{Ask, Options, ask_of};
+use crate::options::{Options, ScheduleTask, ask_of};
 use crate::sample::Sample;
 use crate::shortening::shorten;
 use crate::tally::Tally;
@@ -21,7 +21,7 @@ fn play_both(
     let (player, session) = both_told(alloc, &sample)?;
     let verdict = verdict_of(&player, &session);
     tally.count(verdict, sample.schedule.turns.len() as u64);
-    if verdict != Verdict::Differ {
+    if verdict != Comparison::Differ {
         return Ok(None);
     }
     let mut sample = sample;
@@ -69,9 +69,9 @@ pub fn compare_schedules<'a>(
     words: &'a [String],
 ) -> Result<bool, CommandFault<'a>> {
     let played = match ask_of(rt.alloc(), words)? {
-        Ask::Play(options) => play_all(rt.alloc(), options)?,
-        Ask::Made => play_made(rt.alloc())?,
-        Ask::Text(text) => {
+        ScheduleTask::Play(options) => play_all(rt.alloc(), options)?,
+        ScheduleTask::Made => play_made(rt.alloc())?,
+        ScheduleTask::Text(text) => {
             print_text(rt, text.as_str())?;
             return Ok(true);
         }

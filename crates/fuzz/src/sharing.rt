@@ -9,7 +9,7 @@ use std::sync::atomic::{AtomicU64, Ordering};
 /// What the threads share beside the session: the identifiers that anybody may speculate to or decide, how far they are, and what
 /// they leave.
 #[derive(Drop)]
-pub struct Board {
+pub struct SharedState {
     pub schema: Enablings,
     /// An identifier at each place, or 0.
     places: Vec<AtomicU64>,
@@ -23,14 +23,14 @@ pub struct Board {
     pub logs: Vec<Mutex<Log>>,
 }
 
-impl Board {
+impl SharedState {
     /// A board with so many places, none of them taken.
     pub fn new(
         alloc: Global,
         config: &Config,
         schema: Enablings,
         count: u32,
-    ) -> Result<Board, AllocError> {
+    ) -> Result<SharedState, AllocError> {
         let mut places = Vec::new(alloc);
         for _ in 0..count {
             places.push(AtomicU64::new(0))?;
@@ -41,7 +41,7 @@ impl Board {
             missing.torn = true;
             logs.push(Mutex::new(missing))?;
         }
-        Ok(Board {
+        Ok(SharedState {
             schema,
             places,
             come: AtomicU64::new(0),

@@ -1,6 +1,6 @@
 //! Fewer turns with the same end: a difference.
 
-use crate::comparing::{Verdict, both_told, verdict_of};
+use crate::comparing::{Comparison, both_told, verdict_of};
 use crate::sample::Sample;
 use dspec_deeds::CpuOp;
 use std::alloc::{AllocError, Global};
@@ -8,7 +8,7 @@ use std::alloc::{AllocError, Global};
 /// Whether the player and a session still differ.
 fn differs(alloc: Global, sample: &Sample) -> Result<bool, AllocError> {
     let (player, session) = both_told(alloc, sample)?;
-    Ok(verdict_of(&player, &session) == Verdict::Differ)
+    Ok(verdict_of(&player, &session) == Comparison::Differ)
 }
 
 /// Takes out each turn without which both still differ, the last first. Says whether one was.

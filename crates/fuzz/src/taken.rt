@@ -1,13 +1,13 @@
 use dspec_buffer::read_all;
 use dspec_record::Enablings;
 use dspec_ring::Batch;
-use dspec_samples::{Part, Stream};
+use dspec_samples::{BatchContents, CpuBatches};
 use std::alloc::{AllocError, Global};
 
 /// What the consumer has of all CPUs.
 #[derive(Drop)]
-pub struct Basket {
-    pub streams: Vec<Stream>,
+pub struct CollectedBatches {
+    pub streams: Vec<CpuBatches>,
     /// The batches that aren't given back yet, the oldest first.
     out: Vec<Batch>,
     /// How many batches were refused when they were given back.
@@ -15,7 +15,7 @@ pub struct Basket {
 }
 
 /// What a batch says.
-fn read(alloc: Global, schema: &Enablings, batch: &Batch) -> Result<Part, AllocError> {
+fn read(alloc: Global, schema: &Enablings, batch: &Batch) -> Result<BatchContents, AllocError> {
     let mut records = Vec::new(alloc);
     let mut fault = None;
     match read_all(schema, batch.buffer.bytes()) {
@@ -26,7 +26,7 @@ fn read(alloc: Global, schema: &Enablings, batch: &Batch) -> Result<Part, AllocE
         }
         Err(why) => fault = Some(why),
     }
-    Ok(Part {
+    Ok(BatchContents {
         cpu: batch.cpu,
         drops: batch.drops,
         records,
@@ -34,15 +34,15 @@ fn read(alloc: Global, schema: &Enablings, batch: &Batch) -> Result<Part, AllocE
     })
 }
 
-impl Basket {
+impl CollectedBatches {
     /// Nothing came of so many CPUs yet.
-    pub fn new(alloc: Global, cpus: u32) -> Result<Basket, AllocError> {
+    pub fn new(alloc: Global, cpus: u32) -> Result<CollectedBatches, AllocError> {
         let mut streams = Vec::new(alloc);
         for _ in 0..cpus {
             let parts = Vec::new(alloc);
-            streams.push(Stream { parts })?;
+            streams.push(CpuBatches { parts })?;
         }
-        Ok(Basket {
+        Ok(CollectedBatches {
             streams,
             out: Vec::new(alloc),
             refused: 0,

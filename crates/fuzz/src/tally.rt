@@ -1,4 +1,4 @@
-use crate::comparing::Verdict;
+use crate::comparing::Comparison;
 use std::fmt;
 
 /// How many schedules both made the same of, how many turns they had, how many of them both refused, and how many differed.
@@ -12,17 +12,17 @@ pub struct Tally {
 
 impl Tally {
     /// Counts a schedule of so many calls. Of one that was refused the calls don't count.
-    pub fn count(&mut self, verdict: Verdict, calls: u64) {
+    pub fn count(&mut self, verdict: Comparison, calls: u64) {
         match verdict {
-            Verdict::Alike => {
+            Comparison::Alike => {
                 self.passed = self.passed.saturating_add(1);
                 self.calls = self.calls.saturating_add(calls);
             }
-            Verdict::RefusedAlike => {
+            Comparison::RefusedAlike => {
                 self.passed = self.passed.saturating_add(1);
                 self.refused = self.refused.saturating_add(1);
             }
-            Verdict::Differ => self.failed = self.failed.saturating_add(1),
+            Comparison::Differ => self.failed = self.failed.saturating_add(1),
         }
     }
 }

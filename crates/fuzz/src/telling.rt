@@ -1,5 +1,5 @@
 use dspec_deeds::{Answer, Opening};
-use dspec_samples::{Called, Flaw, Story, Sums, identifier_in};
+use dspec_samples::{Flaw, LoggedCall, Story, Sums, identifier_in};
 use dspec_word::SpecId;
 use std::io;
 
@@ -7,7 +7,7 @@ use std::io;
 const MOST: u32 = 24;
 
 /// Whether the contradiction is about this call: the one that it names, or one that gives out, speculates to or decides its identifier.
-fn concerns(flaw: &Flaw, cpu: u32, number: usize, called: &Called) -> bool {
+fn concerns(flaw: &Flaw, cpu: u32, number: usize, called: &LoggedCall) -> bool {
     if flaw.cpu == cpu && flaw.call == Some(number) {
         return true;
     }

@@ -1,8 +1,8 @@
 //! Random calls on running threads, for one seed after the other.
 
-use crate::arguments::{Ask, ask_of};
-use crate::fault::ThreadsFault;
-use crate::planning::Plan;
+use crate::arguments::{ThreadsTask, ask_of};
+use crate::fault::ThreadFuzzFault;
+use crate::planning::SeedPlan;
 use crate::running::run;
 use crate::telling::{tell, tell_sums};
 use dspec_command::print_text;
@@ -25,8 +25,8 @@ fn try_seed<'a, R: Threads + Print + Sync>(
     alloc: Global,
     seed: u64,
     sums: &mut Sums,
-) -> Result<bool, ThreadsFault<'a>> {
-    let plan = Plan::new(seed);
+) -> Result<bool, ThreadFuzzFault<'a>> {
+    let plan = SeedPlan::new(seed);
     let story = run(rt, alloc, &plan)?;
     match check(alloc, &story, sums) {
         Ok(()) => Ok(true),
@@ -34,7 +34,7 @@ fn try_seed<'a, R: Threads + Print + Sync>(
             tell(rt, seed, &story, &flaw)?;
             Ok(false)
         }
-        Err(CheckFault::Memory) => Err(ThreadsFault::Memory(AllocError)),
+        Err(CheckFault::Memory) => Err(ThreadFuzzFault::Memory(AllocError)),
     }
 }
 
@@ -45,7 +45,7 @@ fn try_seeds<'a, R: Threads + Print + Eprint + Sync>(
     shows: bool,
     first: u64,
     count: u64,
-) -> Result<u64, ThreadsFault<'a>> {
+) -> Result<u64, ThreadFuzzFault<'a>> {
     let mut sums = Sums::default();
     let mut passed = 0u64;
     for round in 0..count {
@@ -66,7 +66,7 @@ fn try_seeds<'a, R: Threads + Print + Eprint + Sync>(
 }
 
 /// Compares the made-up session, whole and with each damage.
-fn try_made<'a, R: Print>(rt: &R, alloc: Global) -> Result<(), ThreadsFault<'a>> {
+fn try_made<'a, R: Print>(rt: &R, alloc: Global) -> Result<(), ThreadFuzzFault<'a>> {
     for damage in DAMAGES {
         match found(alloc, damage)? {
             Some(flaw) => println!(rt; "{damage:?}: {flaw}")?,
@@ -90,17 +90,17 @@ pub fn try_threads<'a, R: Threads + Print + Eprint + Sync>(
     alloc: Global,
     shows: bool,
     words: &'a [String],
-) -> Result<bool, ThreadsFault<'a>> {
+) -> Result<bool, ThreadFuzzFault<'a>> {
     match ask_of(alloc, words)? {
-        Ask::Made => {
+        ThreadsTask::Made => {
             try_made(rt, alloc)?;
             Ok(true)
         }
-        Ask::Seeds { first, count } => {
+        ThreadsTask::Seeds { first, count } => {
             let passed = try_seeds(rt, alloc, shows, first, count)?;
             Ok(passed == count)
         }
-        Ask::Text(text) => {
+        ThreadsTask::Text(text) => {
             print_text(rt, text.as_str())?;
             Ok(true)
         }

@@ -3,12 +3,12 @@ ghost use Rattle.dspec_cpu.specs.Standing.{identity};
 ghost use Rattle.fuzz.specs.Lent.{CanBeCalled};
 
 use crate::choosing::Player;
-use crate::planning::Plan;
-use crate::sharing::Board;
+use crate::planning::SeedPlan;
+use crate::sharing::SharedState;
 use dspec_cpu::{Cpu, Shared};
 use dspec_record::Enablings;
 use dspec_replay::{call_cpu, is_accepted};
-use dspec_samples::Called;
+use dspec_samples::LoggedCall;
 use std::alloc::Global;
 use std::hint::spin_loop;
 use std::thread;
@@ -18,7 +18,7 @@ const LOOKS: u32 = 100_000;
 
 /// Waits until all workers have come, so that their calls meet. Where they don't, since threads are refused and workers run one after
 /// another, the first alone waits in vain.
-fn gather(board: &Board, workers: u64) {
+fn gather(board: &SharedState, workers: u64) {
     board.come();
     for _ in 0..LOOKS {
         if board.is_complete(workers) {
@@ -43,8 +43,8 @@ fn rest(player: &mut Player) {
 fn make_calls(
     cpu: &mut Cpu<Enablings>,
     shared: &Shared,
-    board: &Board,
-    plan: &Plan,
+    board: &SharedState,
+    plan: &SeedPlan,
     player: &mut Player,
 )
     requires { CanBeCalled shared.now board.now.schema cpu.old }
@@ -54,7 +54,7 @@ fn make_calls(
         let op = player.next(board);
         if is_accepted(&board.schema, &op) {
             let answer = call_cpu(shared, &board.schema, cpu, &op);
-            player.heard(board, &Called { op, answer });
+            player.heard(board, &LoggedCall { op, answer });
         }
         rest(player);
     }
@@ -64,8 +64,8 @@ fn make_calls(
 pub fn work(
     cpu: &mut Cpu<Enablings>,
     shared: &Shared,
-    board: &Board,
-    plan: &Plan,
+    board: &SharedState,
+    plan: &SeedPlan,
     alloc: Global,
     worker: u32,
 )

@@ -1,7 +1,7 @@
 //! A schedule as text, as the programs `specplay` and `specview` read it, and a difference.
 
-use crate::comparing::Told;
-use crate::sample::{Probe, Sample};
+use crate::comparing::ScheduleOutcome;
+use crate::sample::{Sample, SampleFields};
 use dspec_deeds::{Config, ConsumerOp, CpuOp, Policy, Turn};
 use dspec_record::{Field, Header, Rec};
 use dspec_replay::SessionFault;
@@ -25,7 +25,7 @@ fn write_config(text: &mut String, config: &Config) -> Result<(), AllocError> {
     }
 }
 
-fn write_probe(text: &mut String, probe: &Probe) -> Result<(), AllocError> {
+fn write_probe(text: &mut String, probe: &SampleFields) -> Result<(), AllocError> {
     text.push_str("enable")?;
     for field in probe.fields() {
         text.push_str(match field {
@@ -118,11 +118,11 @@ fn write_halt(text: &mut String, fault: &SessionFault) -> Result<(), AllocError>
     }
 }
 
-fn write_told(text: &mut String, who: &str, told: &Told) -> Result<(), AllocError> {
+fn write_told(text: &mut String, who: &str, told: &ScheduleOutcome) -> Result<(), AllocError> {
     match told {
-        Told::Printed(lines) => write!(text, "-- {who} prints:\n{lines}"),
-        Told::Refused(fault) => writeln!(text, "-- {who} refuses it: {fault}"),
-        Told::CantGoOn(fault) => {
+        ScheduleOutcome::Printed(lines) => write!(text, "-- {who} prints:\n{lines}"),
+        ScheduleOutcome::Refused(fault) => writeln!(text, "-- {who} refuses it: {fault}"),
+        ScheduleOutcome::CantGoOn(fault) => {
             write!(text, "-- {who} can't go on: ")?;
             write_halt(text, fault)
         }
@@ -133,8 +133,8 @@ fn write_told(text: &mut String, who: &str, told: &Told) -> Result<(), AllocErro
 pub fn difference(
     alloc: Global,
     sample: &Sample,
-    player: &Told,
-    session: &Told,
+    player: &ScheduleOutcome,
+    session: &ScheduleOutcome,
 ) -> Result<String, AllocError> {
     let mut text = String::new(alloc);
     write_schedule(&mut text, sample)?;

@@ -3,3 +3,4 @@ pub mod Schedules
 pub mod Written
 pub mod Threads
 pub mod Lines
+pub mod Words

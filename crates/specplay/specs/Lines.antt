@@ -3,8 +3,7 @@ use Rattle.std.specs.Prelude.{ℕ, ◌≡◌, List, ◌++◌, length, Option, co
 use Rattle.std.specs.List.{flat_map}
 use Rattle.std.specs.Io.KnownBytes.{Appends}
 use Rattle.dspec_session.specs.declared.demonstration.lines.DemoLine.{DemoLine}
-use Rattle.dspec_session.specs.Races.{AllBalanced}
-use Rattle.dspec_schedule.specs.Printed.{yes_no}
+use Rattle.specplay.specs.Words.Outside.{AllBalanced, yes_no}
 use Rattle.specplay.specs.Written.{AppendsBeginning}
 
 -- the line of a CPU
@@ -16,14 +15,14 @@ abbrev pub lines_text : List DemoLine → List ℕ
 lines_text lines = flat_map line_text lines
 
 -- four lines, each of which tells of 200 offered records that are balanced
-pub record Told (lines : List DemoLine) : Type 0 where
+pub record AreBalancedLines (lines : List DemoLine) : Type 0 where
   pub four : length lines ≡ 4
   pub balanced : AllBalanced 200 lines
 
 -- the lines that the demonstration answered were written, one behind the other
 abbrev pub Printed : Option (List ℕ) → Option (List ℕ) → Type 0
-Printed old new = (lines : List DemoLine) × Told lines × Appends old new (lines_text lines)
+Printed old new = (lines : List DemoLine) × AreBalancedLines lines × Appends old new (lines_text lines)
 
 -- they were written as far as to some place
 abbrev pub CutOff : Option (List ℕ) → Option (List ℕ) → Type 0
-CutOff old new = (lines : List DemoLine) × Told lines × AppendsBeginning old new (lines_text lines)
+CutOff old new = (lines : List DemoLine) × AreBalancedLines lines × AppendsBeginning old new (lines_text lines)

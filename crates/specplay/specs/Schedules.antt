@@ -1,10 +1,8 @@
 -- Cited by calls. What the play of a schedule is, and what a run prints or tells of a text.
 use Rattle.std.specs.Prelude.{◌≡◌, ℕ, List, Option, None, Ok}
 use Rattle.dspec_interleaving.specs.declared.outcome.Outcome.{Outcome}
-use Rattle.dspec_replay.specs.PlayedTexts.{IsPlayOf, IsTextFault, fault_of}
+use Rattle.specplay.specs.Words.Outside.{IsPlayOf, IsTextFault, fault_of, printed_text, Plan, header_of, schedule_of}
 use Rattle.dspec_schedule.specs.declared.fault.ScheduleFault.TheVariants as schedule
-use Rattle.dspec_schedule.specs.Printed.{printed_text}
-use Rattle.dspec_schedule.specs.Reading.{Plan, header_of, schedule_of}
 use Rattle.specplay.specs.declared.fault.RunFault.{RunFault}
 use Rattle.specplay.specs.declared.fault.RunFault.TheVariants.{Line, Memory, TooLong, Read, Write}
 use Rattle.specplay.specs.Written.{AppendsBeginning}

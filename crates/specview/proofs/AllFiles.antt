@@ -4,30 +4,19 @@ use Rattle.std.proofs.Common.{reverse, get_or, refl, sym, ap, ◌∙◌, subst, 
 use Rattle.std.proofs.Common.{None, ◌==◌, slice_get}
 use Rattle.std.proofs.lemmas.Option.{get_or_from_slice_get, slice_get_within}
 use Rattle.std.proofs.lemmas.List.{length-append, length-map, get_or_append_left, get_or_at, get_or_default, get_or-map}
-use Rattle.dspec_record.specs.Record.{Record}
-use Rattle.dspec_record.specs.EnablingRows.{EnabledRows}
+use Rattle.specview.specs.Words.{Record, EnabledRows, numbers_below, reports, stream, Offer, accepts, held, accepts_now, report, IsLegal, is_taken, ViewFault, Line, NoStamp, LateStamp, NoFrequency}
+use Rattle.specview.specs.Words.{GreatestFrequency, NoEvent, Memory, Read, Write, TooLong, NotEmpty, TellsCounts, IsClockFault, AreFiles, AreStreams, IsFile, HasUnknown, IsFileFault, IsFormFault}
+use Rattle.specview.specs.Words.{IsOfNumbered, IsPlayTraceFault, fault_of_metadata, earlier, form_fault, names_fault}
 use Rattle.dspec_record.specs.declared.header.Header.{Header}
 use Rattle.dspec_record.specs.declared.header.Header.TheVariants as header
 use Rattle.dspec_deeds.specs.declared.deed.Deed.{Deed}
 use Rattle.dspec_deeds.specs.declared.report.Report.{Report}
-use Rattle.dspec_deeds.specs.Closes.{numbers_below, reports}
-use Rattle.dspec_deeds.specs.Own.{stream}
 use Rattle.dspec_ctf.specs.declared.form.Form.{Form}
 use Rattle.dspec_record.specs.declared.field.Shape.{Shape}
 use Rattle.dspec_deeds.specs.declared.config.Config.{Config}
-use Rattle.dspec_deeds.specs.Own.{Offer, accepts, held}
-use Rattle.dspec_deeds.specs.Reports.{accepts_now, report}
-use Rattle.dspec_deeds.specs.Legal.{IsLegal}
-use Rattle.dspec_deeds.specs.Fates.{is_taken}
 use Rattle.dspec_deeds.proofs.DeedOffers.{next_offer, Effect, idle, offering, emptying}
 use Rattle.dspec_deeds.proofs.DeedEffects.{Accounts, legal_accounts}
-use Rattle.specview.specs.declared.fault.ViewFault.{ViewFault}
-use Rattle.specview.specs.declared.fault.ViewFault.TheVariants.{Line, NoStamp, LateStamp, NoFrequency, GreatestFrequency, NoEvent, Memory, Read, Write, TooLong, NotEmpty}
-use Rattle.specview.specs.Batches.{TellsCounts}
-use Rattle.specview.specs.Clocks.{IsClockFault}
 use Rattle.dspec_ctf.specs.declared.form.Form.TheVariants.{AsTaken, ByTime}
-use Rattle.specview.specs.Traces.{AreFiles, AreStreams, IsFile, HasUnknown, IsFileFault, IsFormFault, IsOfNumbered, IsPlayTraceFault}
-use Rattle.dspec_ctf.specs.Names.{metadata_fault as fault_of_metadata, earlier, form_fault, names_fault}
 use Rattle.dspec_ctf.specs.declared.names.Names.TheVariants.{Numbered}
 use Rattle.dspec_ctf.specs.declared.fault.MetadataFault.{MetadataFault}
 use Rattle.dspec_ctf.specs.declared.fault.MetadataFault.TheVariants as metadata_fault

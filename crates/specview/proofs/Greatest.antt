@@ -1,8 +1,7 @@
 -- The events of a play.
 use Rattle.std.proofs.Common.{◌≡◌, ℕ, ◌+◌, ◌<◌, List, [], ◌∷◌, ◌++◌, max, take, get_or, length, sym, ap, ◌∙◌, arith}
 use Rattle.std.proofs.lemmas.List.{take_more}
-use Rattle.dspec_record.specs.Record.{Record}
-use Rattle.specview.specs.Traces.{greatest_of, greatest_epid}
+use Rattle.specview.specs.Words.{Record, greatest_of, greatest_epid}
 
 greatest_more : (rs : List Record) (r : Record) → greatest_of (rs ++ r ∷ []) ≡ max (greatest_of rs) r.epid
 greatest_more [] r = omega arith

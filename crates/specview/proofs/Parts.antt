@@ -4,10 +4,9 @@ use Rattle.std.proofs.Common.{get_or, refl, sym, ap, ◌∙◌, subst, append_as
 use Rattle.std.proofs.Common.{◌^◌, suc, add-one, drop-cons}
 use Rattle.std.proofs.lemmas.List.{take_at, drop_at, get_or-map, length-map}
 use Rattle.std.proofs.lemmas.List.Elements.{All-nil, All-cons, All-append, All-take, All-drop, All-get_or}
-use Rattle.dspec_record.specs.Record.{Record}
-use Rattle.dspec_record.specs.EnablingRows.{EnabledRows}
+use Rattle.specview.specs.Words.{Record, EnabledRows, contents, stream, Batch, growing, batches, batch_records, events, packet_of, HasNoRecordPacket, metadata_fault, form_fault, Share, ShareOf}
+use Rattle.specview.specs.Words.{share_of, shares, last_share, shown_share, HaveShortEvents, packets_behind, refused_in}
 use Rattle.dspec_deeds.specs.declared.deed.Deed.{Deed}
-use Rattle.dspec_deeds.specs.Own.{contents, stream, Batch, growing, batches, batch_records}
 use Rattle.dspec_deeds.proofs.Prefixes.{stream_in_batches}
 use Rattle.dspec_record.specs.declared.header.Header.TheVariants as header
 use Rattle.dspec_ctf.specs.declared.form.Form.{Form}
@@ -16,12 +15,6 @@ use Rattle.dspec_ctf.specs.declared.fault.MetadataFault.TheVariants.{NoStamp}
 use Rattle.dspec_ctf.specs.declared.names.Names.TheVariants.{Numbered}
 use Rattle.dspec_ctf.specs.declared.stream.PacketFault.{PacketFault}
 use Rattle.dspec_ctf.specs.declared.stream.PacketFault.TheVariants as packet
-use Rattle.dspec_ctf.specs.Packets.{events, packet as packet_of}
-use Rattle.dspec_ctf.specs.Streams.{HasNoRecordPacket}
-use Rattle.dspec_ctf.specs.Names.{metadata_fault, form_fault}
-use Rattle.specview.specs.declared.batches.Share.{Share}
-use Rattle.specview.specs.Batches.{ShareOf, share_of, shares, last_share, shown_share}
-use Rattle.specview.specs.Traces.{HaveShortEvents, packets_behind, refused_in}
 
 module _ (P : Record → Type 0) where
   pub front_all : (xs ys : List Record) → All P (xs ++ ys) → All P xs

@@ -6,40 +6,26 @@ use Rattle.std.specs.Option.{option_map_or}
 use Rattle.std.proofs.lemmas.Bool.{leb-true}
 use Rattle.std.proofs.lemmas.List.{reverse-append, reverse-reverse}
 use Rattle.std.proofs.lemmas.List.Elements.{All-nil, All-cons, All-head, All-tail, All-push, All-weaker}
-use Rattle.dspec_record.specs.Record.{Record}
-use Rattle.dspec_record.specs.EnablingRows.{EnabledRows}
-use Rattle.dspec_record.specs.RecordText.{fits, little_endian}
-use Rattle.dspec_record.specs.Layout.{layout, width}
-use Rattle.dspec_record.specs.Laws.Layouts.{layout-IsShape}
-use Rattle.dspec_record.specs.Laws.Tables.{accepted-parts}
-use Rattle.dspec_record.specs.Laws.Texts.{both, length-little_endian}
+use Rattle.specview.specs.Words.{Record, EnabledRows, fits, little_endian, layout, width, layout-IsShape, accepted-parts, both, length-little_endian, default_fields, enabled, enabling_of}
+use Rattle.specview.specs.Words.{table_shape, within_limit, one, records, event, event_fields, events, stamp_bytes, values_bytes, Accepts, contents, accepted, batches, stream, is_between, is_size}
+use Rattle.specview.specs.Words.{start_fault, or_else, setup_fault, worn_count, Plan, header_of, IsPlayOf, shapes_of, table_of, ShareOf, HaveShortEvents, TellsSmall, event_rows, greatest_epid}
+use Rattle.specview.specs.Words.{written_shares}
 use Rattle.std.specs.Prelude.{option_and_then, unwrap_or, min, replicate, slice_get, ◌%◌, not}
 use Rattle.std.specs.Option.{option_map}
-use Rattle.dspec_record.specs.Schemas.{default_fields, enabled, enabling_of, table_shape, within_limit}
 use Rattle.dspec_record.specs.declared.field.Field.{Field}
 use Rattle.dspec_record.specs.declared.field.Field.TheVariants.{One, Two, Four, Eight}
 use Rattle.dspec_record.specs.declared.field.Shape.{Shape}
 use Rattle.dspec_record.specs.declared.header.Header.{Header}
 use Rattle.dspec_record.specs.declared.header.Header.TheVariants as header
-use Rattle.dspec_buffer.specs.Extent.{one, records}
 use Rattle.dspec_buffer.proofs.Keeping.{shape_says}
-use Rattle.dspec_ctf.specs.Packets.{event, event_fields, events, stamp_bytes, values_bytes}
-use Rattle.dspec_ctf.specs.Streams.{Accepts}
 use Rattle.dspec_deeds.specs.declared.config.Config.{Config}
-use Rattle.dspec_deeds.specs.Own.{contents, accepted, batches, stream}
-use Rattle.dspec_deeds.specs.Ranges.{is_between, is_size, start_fault}
 use Rattle.dspec_deeds.specs.declared.config.StartFault.{StartFault}
 use Rattle.dspec_deeds.specs.declared.config.StartFault.TheVariants.{Cpus, Specs, BufSize}
 use Rattle.dspec_deeds.specs.declared.report.Report.{Report}
 use Rattle.dspec_interleaving.specs.declared.outcome.Outcome.{Outcome}
 use Rattle.dspec_interleaving.specs.declared.outcome.PlayFault.{PlayFault}
-use Rattle.dspec_interleaving.specs.Plays.{or_else, setup_fault, worn_count}
-use Rattle.dspec_schedule.specs.Reading.{Plan, header_of}
-use Rattle.dspec_replay.specs.PlayedTexts.{IsPlayOf, shapes_of, table_of}
 use Rattle.dspec_deeds.proofs.TestLemmas.{and_tells}
 use Rattle.dspec_deeds.proofs.ReportBounds.{fitting_fitted}
-use Rattle.specview.specs.Batches.{ShareOf}
-use Rattle.specview.specs.Traces.{HaveShortEvents, TellsSmall, event_rows, greatest_epid, written_shares}
 use Rattle.specview.proofs.AllFiles.{report_at}
 use Rattle.specview.proofs.Parts.{Within, written_all}
 use Rattle.specview.proofs.SmallShares.{TakesRoom, drops, missed_few, written_drop, written_few}

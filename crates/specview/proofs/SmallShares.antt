@@ -5,20 +5,16 @@ use Rattle.std.proofs.lemmas.Bool.{leb-true}
 use Rattle.std.proofs.lemmas.Bool.Decides.{eqb_tells}
 use Rattle.std.proofs.lemmas.List.{map-append, reverse-append, length-reverse}
 use Rattle.std.proofs.lemmas.List.Elements.{All-nil, All-cons, All-head, All-tail, All-append, All-push, All-map, All-weaker}
-use Rattle.dspec_record.specs.Record.{Record}
+use Rattle.specview.specs.Words.{Record, Piece, one, block, records, reserved, size_of, align_of, extent, extent_of_records, IsAllowed, Offer, contents, accepted, accepts, active, Batch}
+use Rattle.specview.specs.Words.{empty_batch, growing, batches, is_drop, offers, seals_now, stream, one_if, report, total, ShareOf, last_share, share_of, shares, missed_by, refused_in}
+use Rattle.specview.specs.Words.{written_shares}
 use Rattle.dspec_record.specs.declared.field.Shape.{Shape}
-use Rattle.dspec_buffer.specs.Extent.{Piece, one, block, records, reserved, size_of, align_of, extent, extent_of_records}
 use Rattle.dspec_deeds.specs.declared.config.Config.{Config}
 use Rattle.dspec_deeds.specs.declared.deed.Deed.{Deed}
-use Rattle.dspec_deeds.specs.Legal.{IsAllowed}
-use Rattle.dspec_deeds.specs.Own.{Offer, contents, accepted, accepts, active, Batch, empty_batch, growing, batches, is_drop, offers, seals_now, stream}
-use Rattle.dspec_deeds.specs.Reports.{one_if, report, total}
 use Rattle.dspec_deeds.proofs.Balance.{balance}
 use Rattle.dspec_deeds.proofs.DeedEffects.{legal_accounts}
 use Rattle.dspec_deeds.proofs.ReportBounds.{AreFitted, active_within}
 use Rattle.dspec_core.proofs.Batches.{active_grows}
-use Rattle.specview.specs.Batches.{ShareOf, last_share, share_of, shares}
-use Rattle.specview.specs.Traces.{missed_by, refused_in, written_shares}
 use Rattle.specview.proofs.Parts.{back_all, front_all}
 
 -- ---- what is refused

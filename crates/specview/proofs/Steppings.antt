@@ -2,9 +2,7 @@
 use Rattle.std.proofs.Common.{ℕ, List}
 use Rattle.dspec_schedule.specs.declared.fault.ScheduleFault.{ScheduleFault}
 use Rattle.dspec_schedule.specs.declared.fault.ScheduleFault.TheVariants as schedule
-use Rattle.dspec_replay.specs.PlayedTexts.{IsTextFault}
-use Rattle.specview.specs.Faults.{view_of_schedule}
-use Rattle.specview.specs.Stepping.{IsStepsFault}
+use Rattle.specview.specs.Words.{IsTextFault, view_of_schedule, IsStepsFault}
 
 -- what the player tells of a text
 pub steps_fault : (text : List ℕ) (f : ScheduleFault) → IsTextFault text f → IsStepsFault text (view_of_schedule f)

@@ -1,15 +1,10 @@
 -- What isn't refused, and why there is no picture.
 use Rattle.std.proofs.Common.{◌↔◌, ◌≤◌, ℕ, ◌<◌, List, length, arith}
 use Rattle.dspec_interleaving.specs.declared.outcome.Outcome.{Outcome}
-use Rattle.dspec_schedule.specs.Reading.{Plan}
+use Rattle.specview.specs.Words.{Plan, IsPlayedText, IsTextFault, View, TooManyDeeds, Line, NoStamp, LateStamp, NoFrequency, GreatestFrequency, NoEvent, Memory, Read, Write, TooLong, NotEmpty}
+use Rattle.specview.specs.Words.{view_of_schedule, IsPictureFault, IsPlayPictureFault, DrawingFault}
 use Rattle.dspec_schedule.specs.declared.fault.ScheduleFault.{ScheduleFault}
 use Rattle.dspec_schedule.specs.declared.fault.ScheduleFault.TheVariants as schedule
-use Rattle.dspec_replay.specs.PlayedTexts.{IsPlayedText, IsTextFault}
-use Rattle.specview.specs.declared.ending.RunFault.{RunFault}
-use Rattle.specview.specs.declared.ending.RunFault.TheVariants.{View, TooManyDeeds}
-use Rattle.specview.specs.declared.fault.ViewFault.TheVariants.{Line, NoStamp, LateStamp, NoFrequency, GreatestFrequency, NoEvent, Memory, Read, Write, TooLong, NotEmpty}
-use Rattle.specview.specs.Faults.{view_of_schedule}
-use Rattle.specview.specs.Pictures.{IsPictureFault, IsPlayPictureFault}
 
 -- what isn't refused has few deeds
 pub few_enough : (n : ℕ) (X : Type 0) → (X ↔ (2000 < n)) → (X → ⊥) → n ≤ 2000
@@ -21,7 +16,7 @@ text_fault text (schedule.Line line kind) why = why
 text_fault text schedule.Memory why = tt
 
 -- and what is told of its play
-pub play_fault_told : (text : List ℕ) (p : Plan) (outcome : Outcome) (fault : RunFault) → IsPlayedText text p outcome
+pub play_fault_told : (text : List ℕ) (p : Plan) (outcome : Outcome) (fault : DrawingFault) → IsPlayedText text p outcome
     → IsPlayPictureFault (length outcome.close.deeds) fault → IsPictureFault text fault
 play_fault_told text p outcome TooManyDeeds played why = record { plan = p; outcome = outcome; played = played; many = why }
 play_fault_told text p outcome (View (Line line kind)) played why = absurd why

@@ -1,9 +1,7 @@
 -- Cited by calls. The batches of a CPU, read off the deeds of a play: what was sealed, and what its buffer has at the end.
 use Rattle.std.specs.Prelude.{ℕ, ◌≡◌, ◌==◌, ◌&&◌, List, [], ◌∷◌, ◌++◌, length, map, reverse, if◌then◌else◌}
-use Rattle.dspec_record.specs.Record.{Record}
+use Rattle.specview.specs.Words.Outside.{Record, contents, accepts, Batch, growing, batches, accepts_now}
 use Rattle.dspec_deeds.specs.declared.deed.Deed.{Deed}
-use Rattle.dspec_deeds.specs.Own.{contents, accepts, Batch, growing, batches}
-use Rattle.dspec_deeds.specs.Reports.{accepts_now}
 use Rattle.specview.specs.declared.batches.Share.{Share}
 
 -- the records of a batch in order of time, and how often the buffer had no room

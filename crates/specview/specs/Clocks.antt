@@ -1,7 +1,7 @@
 -- Cited by calls. What readers of a trace by time take: of a clock the frequency, and of a stamp the time that it tells.
 use Rattle.std.specs.Prelude.{◌≡◌, ℕ, ◌*◌, ◌<◌, Bool, true, false, nat_le, List}
 use Rattle.std.specs.List.{list_any}
-use Rattle.dspec_record.specs.Record.{Record}
+use Rattle.specview.specs.Words.Outside.{Record}
 use Rattle.dspec_ctf.specs.declared.form.Form.{Form}
 use Rattle.dspec_ctf.specs.declared.form.Form.TheVariants.{AsTaken, ByTime}
 use Rattle.specview.specs.declared.fault.ViewFault.{ViewFault}

@@ -3,15 +3,13 @@ use Rattle.std.specs.Prelude.{◌≡◌, ◌≢◌, ◌<◌, ℕ, List, ◌++◌
 use Rattle.std.specs.declared.io.Error.{Error}
 use Rattle.std.specs.declared.io.ErrorKind.{ErrorKind}
 use Rattle.std.specs.declared.io.ErrorKind.TheVariants as kind
-use Rattle.dspec_ctf_reading.specs.Reading.{Layout}
-use Rattle.dspec_ctf_reading.specs.Fronts.{split_packet}
+use Rattle.specview.specs.Words.Outside.{Layout, split_packet, IsSoundFrom}
 use Rattle.dspec_ctf_reading.specs.declared.fault.MetadataReadFault.{MetadataReadFault}
 use Rattle.dspec_ctf_reading.specs.declared.fault.MetadataReadFault.TheVariants.{Line, TooLarge, Memory as no_memory}
-use Rattle.dspec_ctf_reading.specs.Folders.Checks.{IsSoundFrom}
 use Rattle.dspec_ctf_reading.specs.declared.folder.check.Whose.{Whose}
 use Rattle.dspec_ctf_reading.specs.declared.folder.fault.FileFault.{FileFault}
-use Rattle.specview.specs.declared.folder_fault.FolderFault.{FolderFault}
-use Rattle.specview.specs.declared.folder_fault.FolderFault.TheVariants as folder
+use Rattle.specview.specs.declared.folder_fault.TraceFolderFault.{TraceFolderFault}
+use Rattle.specview.specs.declared.folder_fault.TraceFolderFault.TheVariants as folder
 use Rattle.specview.specs.declared.judging.Mend.{Mend}
 use Rattle.specview.specs.declared.judging.Mend.TheVariants.{Nothing, CutAt, Leave}
 use Rattle.specview.specs.declared.naming.FileName.{FileName}
@@ -26,7 +24,7 @@ file_name cpu (Some number) = codes "cpu_" ++ (decimal cpu ++ (codes "_" ++ deci
 -- ---- statuses
 
 -- the exit status that tells of a fault: 1 for what a folder has, 2 for memory, 3 for what the system refuses
-abbrev pub status_of_folder : FolderFault → ℕ
+abbrev pub status_of_folder : TraceFolderFault → ℕ
 status_of_folder (folder.Text path reason) = 3
 status_of_folder (folder.File path file reason) = 3
 status_of_folder (folder.NoMetadata path) = 1
@@ -37,19 +35,19 @@ status_of_folder (folder.NoField name) = 1
 status_of_folder folder.Memory = 2
 
 -- what is told of a folder whose metadata can't be read
-abbrev pub IsMetadataTold : List ℕ → MetadataReadFault → FolderFault → Type 0
+abbrev pub IsMetadataTold : List ℕ → MetadataReadFault → TraceFolderFault → Type 0
 IsMetadataTold path no_memory told = told ≡ folder.Memory
 IsMetadataTold path fault (folder.Metadata named why) = (named.now ≡ path) × (why ≡ fault)
 IsMetadataTold path fault told = ⊥
 
 -- what is told of a folder whose metadata the system refuses, by the kind of its reason
-abbrev pub IsTextRefused : List ℕ → Error → ErrorKind → FolderFault → Type 0
+abbrev pub IsTextRefused : List ℕ → Error → ErrorKind → TraceFolderFault → Type 0
 IsTextRefused path reason kind.OutOfMemory told = told ≡ folder.Memory
 IsTextRefused path reason kind (folder.Text named why) = (named.now ≡ path) × (why ≡ reason)
 IsTextRefused path reason kind told = ⊥
 
 -- the same of a file of a CPU
-abbrev pub IsFileRefused : List ℕ → FileName → Error → ErrorKind → FolderFault → Type 0
+abbrev pub IsFileRefused : List ℕ → FileName → Error → ErrorKind → TraceFolderFault → Type 0
 IsFileRefused path file reason kind.OutOfMemory told = told ≡ folder.Memory
 IsFileRefused path file reason kind (folder.File named one why) = (named.now ≡ path) × ((one ≡ file) × (why ≡ reason))
 IsFileRefused path file reason kind told = ⊥

@@ -7,3 +7,4 @@ pub mod Pictures
 pub mod Stepping
 pub mod Examined
 pub mod Replays
+pub mod Words

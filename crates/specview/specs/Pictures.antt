@@ -1,16 +1,15 @@
 -- Cited by calls. Which text has a picture of its play, and why another has none.
 use Rattle.std.specs.Prelude.{ℕ, ◌<◌, ◌≤◌, List, length}
 use Rattle.dspec_interleaving.specs.declared.outcome.Outcome.{Outcome}
-use Rattle.dspec_schedule.specs.Reading.{Plan}
+use Rattle.specview.specs.Words.Outside.{Plan, IsPlayedText, IsTextFault}
 use Rattle.dspec_schedule.specs.declared.fault.ScheduleFault.TheVariants as schedule
-use Rattle.dspec_replay.specs.PlayedTexts.{IsPlayedText, IsTextFault}
-use Rattle.specview.specs.declared.ending.RunFault.{RunFault}
-use Rattle.specview.specs.declared.ending.RunFault.TheVariants.{View, TooManyDeeds}
+use Rattle.specview.specs.declared.ending.DrawingFault.{DrawingFault}
+use Rattle.specview.specs.declared.ending.DrawingFault.TheVariants.{View, TooManyDeeds}
 use Rattle.specview.specs.declared.fault.ViewFault.TheVariants.{Line, Memory}
 use Rattle.specview.specs.Faults.{status_of_view}
 
 -- the exit status that tells of a fault
-abbrev pub status_of_run : RunFault → ℕ
+abbrev pub status_of_run : DrawingFault → ℕ
 status_of_run (View fault) = status_of_view fault
 status_of_run TooManyDeeds = 1
 
@@ -29,13 +28,13 @@ pub record HasTooManyDeeds (text : List ℕ) : Type 0 where
   pub many : 2000 < length outcome.close.deeds
 
 -- why a play of so many deeds has no picture
-abbrev pub IsPlayPictureFault : ℕ → RunFault → Type 0
+abbrev pub IsPlayPictureFault : ℕ → DrawingFault → Type 0
 IsPlayPictureFault n TooManyDeeds = 2000 < n
 IsPlayPictureFault n (View Memory) = Unit {0}
 IsPlayPictureFault n (View fault) = ⊥
 
 -- why a text has no picture: it says no schedule, or the play of its schedule is refused or has too many deeds
-abbrev pub IsPictureFault : List ℕ → RunFault → Type 0
+abbrev pub IsPictureFault : List ℕ → DrawingFault → Type 0
 IsPictureFault text TooManyDeeds = HasTooManyDeeds text
 IsPictureFault text (View (Line line kind)) = IsTextFault text (schedule.Line line kind)
 IsPictureFault text (View Memory) = Unit {0}

@@ -1,8 +1,7 @@
 -- Cited by calls. Which text has a play whose steps are told, and why another has none.
 use Rattle.std.specs.Prelude.{◌≡◌, ℕ, List, None, Ok}
-use Rattle.dspec_schedule.specs.Reading.{Plan, schedule_of}
+use Rattle.specview.specs.Words.Outside.{Plan, schedule_of, IsTextFault, fault_of}
 use Rattle.dspec_schedule.specs.declared.fault.ScheduleFault.TheVariants as schedule
-use Rattle.dspec_replay.specs.PlayedTexts.{IsTextFault, fault_of}
 use Rattle.specview.specs.declared.fault.ViewFault.{ViewFault}
 use Rattle.specview.specs.declared.fault.ViewFault.TheVariants.{Line, Memory}
 

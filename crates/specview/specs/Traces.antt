@@ -1,26 +1,16 @@
 -- Cited by calls. The trace of a play: its metadata, and the bytes of each CPU's file.
 use Rattle.std.specs.Prelude.{◌≡◌, ℕ, ◌+◌, ◌^◌, ◌<◌, ◌≤◌, ◌==◌, ◌++◌, List, [], ◌∷◌, length, map, reverse}
 use Rattle.std.specs.Prelude.{replicate, min, max, take, slice_get, slice_index_or, Some, unwrap_or, false, if◌then◌else◌, string_bytes, All}
-use Rattle.dspec_record.specs.Record.{Record}
-use Rattle.dspec_record.specs.EnablingRows.{EnabledRows}
-use Rattle.dspec_record.specs.Schemas.{enabled, table_accepts}
+use Rattle.specview.specs.Words.Outside.{Record, EnabledRows, enabled, table_accepts, numbers_below, stream, Plan, header_of, IsPlayedText, IsTextFault, ArePacketsOfRecords, metadata_text}
+use Rattle.specview.specs.Words.Outside.{fault_of_metadata, events, packet, Accepts}
 use Rattle.dspec_deeds.specs.declared.deed.Deed.{Deed}
 use Rattle.dspec_deeds.specs.declared.report.Report.{Report}
-use Rattle.dspec_deeds.specs.Closes.{numbers_below}
-use Rattle.dspec_deeds.specs.Own.{stream}
 use Rattle.dspec_interleaving.specs.declared.outcome.Outcome.{Outcome}
-use Rattle.dspec_schedule.specs.Reading.{Plan, header_of}
-use Rattle.dspec_replay.specs.PlayedTexts.{IsPlayedText, IsTextFault}
 use Rattle.dspec_schedule.specs.declared.fault.ScheduleFault.TheVariants as schedule
 use Rattle.dspec_ctf.specs.declared.form.Form.{Form}
 use Rattle.dspec_ctf.specs.declared.form.Form.TheVariants.{AsTaken, ByTime}
 use Rattle.dspec_ctf.specs.declared.fault.MetadataFault.TheVariants as metadata_fault
 use Rattle.dspec_ctf.specs.declared.names.Names.TheVariants.{Numbered}
-use Rattle.dspec_ctf.specs.ByTime.{ArePacketsOfRecords}
-use Rattle.dspec_ctf.specs.Metadata.{metadata_text}
-use Rattle.dspec_ctf.specs.Names.{metadata_fault as fault_of_metadata}
-use Rattle.dspec_ctf.specs.Packets.{events, packet}
-use Rattle.dspec_ctf.specs.Streams.{Accepts}
 use Rattle.dspec_ctf.specs.declared.fault.MetadataFault.{MetadataFault}
 use Rattle.sha1.specs.Sha1.{sha1}
 use Rattle.uuid.specs.declared.Variant.TheVariants.{RFC4122}

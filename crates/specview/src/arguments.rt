@@ -3,7 +3,7 @@
 use crate::folder_asking::{FolderAsk, folder_ask, folder_command};
 use crate::replay_asking::{ReplayAsk, replay_ask, replay_command};
 use clap::{Arg, ArgMatches, Command};
-use dspec_command::{Asked, CommandFault, asked_of};
+use dspec_command::{CommandFault, ParsedCommand, asked_of};
 use dspec_ctf::Form;
 use std::alloc::{AllocError, Global};
 
@@ -36,7 +36,7 @@ pub struct PictureAsk<'a> {
 
 /// What there is to do.
 #[derive(Debug, Drop)]
-pub enum Ask<'a> {
+pub enum ViewTask<'a> {
     /// To write a trace.
     Trace(TraceAsk<'a>),
     /// To draw a picture.
@@ -133,32 +133,35 @@ fn picture_ask<'a>(found: &ArgMatches<'a>) -> PictureAsk<'a> {
 }
 
 /// What is asked for by what was found in the words, if it is anything.
-fn ask_found<'a>(alloc: Global, found: &ArgMatches<'a>) -> Result<Option<Ask<'a>>, AllocError> {
+fn ask_found<'a>(
+    alloc: Global,
+    found: &ArgMatches<'a>,
+) -> Result<Option<ViewTask<'a>>, AllocError> {
     if let Some(found) = found.subcommand_matches("folder") {
-        return Ok(Some(Ask::Folder(folder_ask(alloc, found)?)));
+        return Ok(Some(ViewTask::Folder(folder_ask(alloc, found)?)));
     }
     if let Some(found) = found.subcommand_matches("picture") {
-        return Ok(Some(Ask::Picture(picture_ask(found))));
+        return Ok(Some(ViewTask::Picture(picture_ask(found))));
     }
     if let Some(found) = found.subcommand_matches("steps") {
-        return Ok(Some(Ask::Steps(found.get_str("schedule"))));
+        return Ok(Some(ViewTask::Steps(found.get_str("schedule"))));
     }
     if let Some(found) = found.subcommand_matches("replay") {
-        return Ok(Some(Ask::Replay(replay_ask(found))));
+        return Ok(Some(ViewTask::Replay(replay_ask(found))));
     }
     let Some(found) = found.subcommand_matches("ctf") else {
         return Ok(None);
     };
     match trace_ask(found) {
-        Some(ask) => Ok(Some(Ask::Trace(ask))),
+        Some(ask) => Ok(Some(ViewTask::Trace(ask))),
         None => Ok(None),
     }
 }
 
 /// What these words ask for, the first of which is the program's name.
-pub fn ask_of<'a>(alloc: Global, words: &'a [String]) -> Result<Ask<'a>, CommandFault<'a>> {
+pub fn ask_of<'a>(alloc: Global, words: &'a [String]) -> Result<ViewTask<'a>, CommandFault<'a>> {
     match asked_of(alloc, command(alloc)?, USAGE, words)? {
-        Asked::Found(found) => ask_found(alloc, &found)?.ok_or(CommandFault::Usage(USAGE)),
-        Asked::Text(text) => Ok(Ask::Text(text)),
+        ParsedCommand::Found(found) => ask_found(alloc, &found)?.ok_or(CommandFault::Usage(USAGE)),
+        ParsedCommand::Text(text) => Ok(ViewTask::Text(text)),
     }
 }

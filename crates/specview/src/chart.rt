@@ -2,7 +2,7 @@
 //! it a row for each CPU.
 
 use crate::merging::{Merged, Source};
-use crate::showing::Traces;
+use crate::showing::OpenedTraces;
 use dspec_ctf_reading::Metadata;
 use dspec_ctf_reading::folder::{Mark, Track, What, chrome_event, chrome_missed, chrome_name};
 use std::alloc::{AllocError, Global};
@@ -40,7 +40,7 @@ fn name_of(alloc: Global, path: &str, metadata: &Metadata<'_>) -> Result<String,
 /// The event that names a trace.
 pub fn process_name(
     alloc: Global,
-    traces: &Traces<'_, '_, '_>,
+    traces: &OpenedTraces<'_, '_, '_>,
     source: &Source,
 ) -> Result<String, AllocError> {
     let (Some(opened), Some(metadata)) = (
@@ -70,7 +70,7 @@ fn row_name(alloc: Global, merged: &Merged, source: &Source) -> Result<String, A
 /// What happened so many nanoseconds behind the picture's beginning, as an event in the row of its CPU.
 pub fn event_of(
     alloc: Global,
-    traces: &Traces<'_, '_, '_>,
+    traces: &OpenedTraces<'_, '_, '_>,
     source: &Source,
     what: &What,
     nanoseconds: u64,
@@ -129,7 +129,7 @@ pub fn put_event<W: Write>(out: &mut W, first: bool, event: &str) -> io::Result<
 fn put_names<W: Write>(
     alloc: Global,
     out: &mut W,
-    traces: &Traces<'_, '_, '_>,
+    traces: &OpenedTraces<'_, '_, '_>,
     merged: &Merged,
 ) -> io::Result<()> {
     let mut before: Option<Source> = None;
@@ -151,7 +151,7 @@ fn put_names<W: Write>(
 pub fn write_chart<W: Write>(
     alloc: Global,
     out: &mut W,
-    traces: &Traces<'_, '_, '_>,
+    traces: &OpenedTraces<'_, '_, '_>,
     merged: &Merged,
 ) -> io::Result<()> {
     out.write_all(FRONT)?;

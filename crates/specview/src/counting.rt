@@ -1,7 +1,7 @@
 //! `specview folder`: what trace folders have, in tables.
 
 use crate::merging::{put_moment, tell_wrong};
-use crate::opening::Opened;
+use crate::opening::OpenedTrace;
 use crate::program::ProgramFault;
 use dspec_command::print_text;
 use dspec_ctf_reading::folder::{Base, CpuCounts, count_file, nanoseconds};
@@ -18,7 +18,7 @@ struct Counted {
 /// Counts the files of a folder, one after another.
 fn count_files<'a>(
     rt: &HostRuntime,
-    opened: &Opened<'a>,
+    opened: &OpenedTrace<'a>,
     metadata: &Metadata<'_>,
 ) -> Result<Counted, ProgramFault<'a>> {
     let mut counted = Counted {
@@ -191,7 +191,7 @@ fn table_of(
 
 /// Prints the table of a folder, and says whether all of its files could be read to their ends.
 fn count_folder<'a>(rt: &HostRuntime, path: &'a str) -> Result<bool, ProgramFault<'a>> {
-    let opened = Opened::of(rt, path)?;
+    let opened = OpenedTrace::of(rt, path)?;
     let metadata = opened.metadata(rt.alloc())?;
     let counted = count_files(rt, &opened, &metadata)?;
     let table = table_of(rt.alloc(), path, &metadata, counted.cpus.as_slice())?;

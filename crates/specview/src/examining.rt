@@ -3,7 +3,7 @@
 use crate::folder_fault::file_fault;
 use crate::judging::{Mend, mend_of, place_of, wrong_with};
 use crate::naming::FileName;
-use crate::opening::{Opened, path_of};
+use crate::opening::{OpenedTrace, path_of};
 use crate::program::ProgramFault;
 use dspec_command::{CommandFault, output_fault};
 use dspec_ctf_reading::Metadata;
@@ -13,7 +13,7 @@ use std::io;
 
 /// How many files of a folder there are, how many of them were mended, and what is wrong.
 #[derive(Debug, Clone, Copy, Default)]
-pub struct Tally {
+pub struct FolderTally {
     /// All of them.
     pub files: u64,
     /// Those whose end was cut off.
@@ -25,7 +25,7 @@ pub struct Tally {
 /// A folder that is examined.
 #[derive(Drop)]
 struct Examined<'o, 'a> {
-    opened: &'o Opened<'a>,
+    opened: &'o OpenedTrace<'a>,
     metadata: Metadata<'o>,
     uuid: [u8; 16],
     /// Whether files are mended.
@@ -49,7 +49,7 @@ fn mend<'a>(
     file: FileName,
     was: usize,
     at: usize,
-    tally: &mut Tally,
+    tally: &mut FolderTally,
 ) -> Result<(), ProgramFault<'a>> {
     let path = path_of(rt.alloc(), folder, file)?;
     match cut_off(rt, path.as_str(), was as u64, at as u64) {
@@ -83,7 +83,7 @@ impl<'o, 'a> Examined<'o, 'a> {
         &self,
         rt: &HostRuntime,
         file: FileName,
-        tally: &mut Tally,
+        tally: &mut FolderTally,
     ) -> Result<(), ProgramFault<'a>> {
         let folder = self.opened.path;
         let bytes = self.opened.bytes(rt, file)?;
@@ -109,7 +109,11 @@ impl<'o, 'a> Examined<'o, 'a> {
     }
 
     /// Tells of what is none of a trace's files.
-    fn tell_others(&self, rt: &HostRuntime, tally: &mut Tally) -> Result<(), ProgramFault<'a>> {
+    fn tell_others(
+        &self,
+        rt: &HostRuntime,
+        tally: &mut FolderTally,
+    ) -> Result<(), ProgramFault<'a>> {
         let folder = self.opened.path;
         for name in &self.opened.others {
             tally.wrong = tally.wrong.saturating_add(1);
@@ -119,8 +123,8 @@ impl<'o, 'a> Examined<'o, 'a> {
     }
 
     /// Examines all files.
-    fn examine_all(&self, rt: &HostRuntime) -> Result<Tally, ProgramFault<'a>> {
-        let mut tally = Tally::default();
+    fn examine_all(&self, rt: &HostRuntime) -> Result<FolderTally, ProgramFault<'a>> {
+        let mut tally = FolderTally::default();
         self.tell_others(rt, &mut tally)?;
         for file in &self.opened.files {
             self.examine(rt, *file, &mut tally)?;
@@ -143,7 +147,7 @@ impl<'a> Known<'a> {
         rt: &HostRuntime,
         path: &'a str,
         uuid: [u8; 16],
-        tally: &mut Tally,
+        tally: &mut FolderTally,
     ) -> Result<(), ProgramFault<'a>> {
         if let Some(place) = place_of(self.uuids.as_slice(), &uuid) {
             let other = self.paths.get(place).copied().unwrap_or(path);
@@ -157,8 +161,12 @@ impl<'a> Known<'a> {
 }
 
 /// Tells how many files a folder has, and what became of them.
-fn tell_tally<'a>(rt: &HostRuntime, path: &str, tally: &Tally) -> Result<(), CommandFault<'a>> {
-    let Tally {
+fn tell_tally<'a>(
+    rt: &HostRuntime,
+    path: &str,
+    tally: &FolderTally,
+) -> Result<(), CommandFault<'a>> {
+    let FolderTally {
         files,
         mended,
         wrong,
@@ -177,10 +185,10 @@ fn tell_tally<'a>(rt: &HostRuntime, path: &str, tally: &Tally) -> Result<(), Com
 /// Examines a folder that was opened.
 fn examine_opened<'a>(
     rt: &HostRuntime,
-    opened: &Opened<'a>,
+    opened: &OpenedTrace<'a>,
     mends: bool,
     known: &mut Known<'a>,
-) -> Result<Tally, ProgramFault<'a>> {
+) -> Result<FolderTally, ProgramFault<'a>> {
     let metadata = opened.metadata(rt.alloc())?;
     let uuid = opened.uuid(&metadata)?;
     let examined = Examined {
@@ -200,8 +208,8 @@ fn examine_folder<'a>(
     path: &'a str,
     mends: bool,
     known: &mut Known<'a>,
-) -> Result<Tally, ProgramFault<'a>> {
-    let opened = Opened::of(rt, path)?;
+) -> Result<FolderTally, ProgramFault<'a>> {
+    let opened = OpenedTrace::of(rt, path)?;
     let tally = examine_opened(rt, &opened, mends, known)?;
     tell_tally(rt, path, &tally)?;
     Ok(tally)

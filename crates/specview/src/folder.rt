@@ -14,7 +14,7 @@ use std::io::Write;
 use std::{fs, io};
 
 /// A place that takes the files of a trace. What it has, where its type says so, is a list of names with bytes.
-pub trait Folder {
+pub trait TraceFiles {
     ghost files: { Self → Option (List NamedFile) };
 
     /// Adds a file, which there isn't yet. Where that fails, a beginning of it may be there.
@@ -29,7 +29,7 @@ pub trait Folder {
 
 /// A folder of the system, by its path.
 #[derive(Drop)]
-pub struct SystemFolder<'a> {
+pub struct OutputFolder<'a> {
     rt: &'a HostRuntime,
     path: &'a str,
     /// Whether the folder was made for the trace.
@@ -40,9 +40,9 @@ pub struct SystemFolder<'a> {
     reason: Option<io::Error>,
 }
 
-impl<'a> SystemFolder<'a> {
+impl<'a> OutputFolder<'a> {
     /// Makes the folder, or sees that it is empty.
-    pub fn new(rt: &'a HostRuntime, path: &'a str) -> Result<SystemFolder<'a>, ProgramFault<'a>> {
+    pub fn new(rt: &'a HostRuntime, path: &'a str) -> Result<OutputFolder<'a>, ProgramFault<'a>> {
         let made = match fs::create_dir(rt, path) {
             Ok(()) => true,
             Err(fault) if fault.kind() == io::ErrorKind::AlreadyExists => {
@@ -51,7 +51,7 @@ impl<'a> SystemFolder<'a> {
             }
             Err(reason) => return Err(ProgramFault::Command(device_fault(path, reason))),
         };
-        Ok(SystemFolder {
+        Ok(OutputFolder {
             rt,
             path,
             made,
@@ -96,7 +96,7 @@ fn empty_by<T: Drop>(first: Option<io::Result<T>>) -> Result<(), ViewFault>
     }
 }
 
-impl<'a> Folder for SystemFolder<'a> {
+impl<'a> TraceFiles for OutputFolder<'a> {
     ghost files = { λ _. None };
 
     fn put(&mut self, alloc: Global, name: &str, bytes: &[u8]) -> Result<(), ViewFault> {
@@ -122,7 +122,7 @@ impl<'a> Folder for SystemFolder<'a> {
 }
 
 /// Writes the file of a CPU, where it has one.
-fn put_file<F: Folder>(
+fn put_file<F: TraceFiles>(
     alloc: Global,
     folder: &mut F,
     cpu: usize,
@@ -139,7 +139,7 @@ fn put_file<F: Folder>(
 }
 
 /// Writes the file of each CPU that has one, upwards, then the metadata.
-fn put_trace<F: Folder>(alloc: Global, folder: &mut F, trace: &Trace) -> Result<(), ViewFault>
+fn put_trace<F: TraceFiles>(alloc: Global, folder: &mut F, trace: &Trace) -> Result<(), ViewFault>
     ensures written { OnOk result (AddsFiles (F.files folder.old) (F.files folder.new) (trace_files trace.now)) }
     ensures fault { IfErr result IsWritingFault }
 {
@@ -150,7 +150,11 @@ fn put_trace<F: Folder>(alloc: Global, folder: &mut F, trace: &Trace) -> Result<
 }
 
 /// Writes a trace, the metadata last, since a folder without it is no trace; behind a fault nothing is left of it.
-pub fn write_trace<F: Folder>(alloc: Global, folder: &mut F, trace: &Trace) -> Result<(), ViewFault>
+pub fn write_trace<F: TraceFiles>(
+    alloc: Global,
+    folder: &mut F,
+    trace: &Trace,
+) -> Result<(), ViewFault>
     ensures written { OnOk result (AddsFiles (F.files folder.old) (F.files folder.new) (trace_files trace.now)) }
     ensures nothing { OnErr result (IsEmpty (F.files folder.new)) }
     ensures fault { IfErr result IsWritingFault }

@@ -11,7 +11,7 @@ use thiserror::Error;
 
 /// Why a trace folder can't be shown.
 #[derive(Clone, Copy, Debug, Error)]
-pub enum FolderFault<'a> {
+pub enum TraceFolderFault<'a> {
     /// The system refuses its metadata.
     #[error("{folder}/metadata: {reason}")]
     Text {
@@ -48,7 +48,7 @@ pub enum FolderFault<'a> {
     Memory,
 }
 
-impl<'a> FolderFault<'a> {
+impl<'a> TraceFolderFault<'a> {
     ghost use Rattle.specview.specs.Examined.{status_of_folder};
 
     /// The exit status that tells of the fault: 1 for what a folder has, 2 for memory, 3 for what the system refuses.
@@ -56,46 +56,46 @@ impl<'a> FolderFault<'a> {
         ensures { result ≡ status_of_folder self.now }
     {
         match self {
-            FolderFault::NoMetadata(_)
-            | FolderFault::Metadata { .. }
-            | FolderFault::Uuid(_)
-            | FolderFault::Clocks
-            | FolderFault::NoField(_) => 1,
-            FolderFault::Memory => 2,
-            FolderFault::Text { .. } | FolderFault::File { .. } => 3,
+            TraceFolderFault::NoMetadata(_)
+            | TraceFolderFault::Metadata { .. }
+            | TraceFolderFault::Uuid(_)
+            | TraceFolderFault::Clocks
+            | TraceFolderFault::NoField(_) => 1,
+            TraceFolderFault::Memory => 2,
+            TraceFolderFault::Text { .. } | TraceFolderFault::File { .. } => 3,
         }
     }
 }
 
 /// What is told of a folder whose metadata can't be read.
-pub fn metadata_fault<'a>(folder: &'a str, fault: MetadataReadFault) -> FolderFault<'a>
+pub fn metadata_fault<'a>(folder: &'a str, fault: MetadataReadFault) -> TraceFolderFault<'a>
     ensures { IsMetadataTold folder.entry.now fault result }
 {
     match fault {
-        MetadataReadFault::Memory => FolderFault::Memory,
+        MetadataReadFault::Memory => TraceFolderFault::Memory,
         MetadataReadFault::Line { .. } | MetadataReadFault::TooLarge { .. } => {
-            FolderFault::Metadata { folder, fault }
+            TraceFolderFault::Metadata { folder, fault }
         }
     }
 }
 
 /// What is told of a folder whose metadata the system refuses.
-pub fn text_fault<'a>(folder: &'a str, reason: io::Error) -> FolderFault<'a>
+pub fn text_fault<'a>(folder: &'a str, reason: io::Error) -> TraceFolderFault<'a>
     ensures { IsTextRefused folder.entry.now reason (error_kind reason) result }
 {
     match reason.kind() {
-        io::ErrorKind::OutOfMemory => FolderFault::Memory,
-        _ => FolderFault::Text { folder, reason },
+        io::ErrorKind::OutOfMemory => TraceFolderFault::Memory,
+        _ => TraceFolderFault::Text { folder, reason },
     }
 }
 
 /// The same of a file of a CPU.
-pub fn file_fault<'a>(folder: &'a str, file: FileName, reason: io::Error) -> FolderFault<'a>
+pub fn file_fault<'a>(folder: &'a str, file: FileName, reason: io::Error) -> TraceFolderFault<'a>
     ensures { IsFileRefused folder.entry.now file reason (error_kind reason) result }
 {
     match reason.kind() {
-        io::ErrorKind::OutOfMemory => FolderFault::Memory,
-        _ => FolderFault::File {
+        io::ErrorKind::OutOfMemory => TraceFolderFault::Memory,
+        _ => TraceFolderFault::File {
             folder,
             file,
             reason,

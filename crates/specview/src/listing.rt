@@ -1,7 +1,7 @@
 //! Traces as lines of text.
 
 use crate::merging::{Merged, put_moment};
-use crate::showing::Traces;
+use crate::showing::OpenedTraces;
 use dspec_ctf_reading::Metadata;
 use dspec_ctf_reading::folder::{Mark, What, event_text, missed_text};
 use std::alloc::{AllocError, Global};
@@ -33,7 +33,7 @@ fn words_of(alloc: Global, metadata: &Metadata<'_>, what: &What) -> Result<Strin
 /// The line of a mark.
 fn line_of(
     alloc: Global,
-    traces: &Traces<'_, '_, '_>,
+    traces: &OpenedTraces<'_, '_, '_>,
     merged: &Merged,
     mark: &Mark,
 ) -> Result<String, AllocError> {
@@ -62,7 +62,7 @@ fn line_of(
 pub fn write_list<W: Write>(
     alloc: Global,
     out: &mut W,
-    traces: &Traces<'_, '_, '_>,
+    traces: &OpenedTraces<'_, '_, '_>,
     merged: &Merged,
 ) -> io::Result<()> {
     for mark in &merged.marks {

@@ -22,11 +22,11 @@
 //!
 //! | File | What is in it |
 //! |---|---|
-//! | `arguments.rt`, `main.rt`, `fault.rt`, `program.rt`, `replacing.rt` | what the words ask (a subcommand more is one function and one arm of `Ask`); statuses; how a picture takes the place of an old one |
+//! | `arguments.rt`, `main.rt`, `fault.rt`, `program.rt`, `replacing.rt` | what the words ask (a subcommand more is one function and one arm of `ViewTask`); statuses; how a picture takes the place of an old one |
 //! | `clock.rt` | `see_clock`: what readers of a trace by time take (`specs/Clocks`) |
 //! | `pictured.rt`, `stepped.rt`, `ending.rt` | `picture_of`: the picture of a text's play; `steps_of_text`: its steps; which text has them, and why another has none (`specs/Pictures`, `specs/Stepping`); how a run ends |
 //! | `replay_asking.rt`, `replaying.rt` | what is asked of a replay; `replay_text`: what is printed of a schedule that a session makes (`specs/Replays`), and why it isn't |
-//! | `trace.rt`, `batches.rt`, `events.rt`, `folder.rt` | `trace_of`: a file as taken and by time; `shares_of`: a stream cut at the seals; the events; `Folder` and `write_trace` |
+//! | `trace.rt`, `batches.rt`, `events.rt`, `folder.rt` | `trace_of`: a file as taken and by time; `shares_of`: a stream cut at the seals; the events; `TraceFiles` and `write_trace` |
 //! | `folder_asking.rt`, `folder_fault.rt`, `naming.rt`, `opening.rt` | what is asked of folders; statuses; which file is which CPU's; a folder's metadata and files |
 //! | `judging.rt`, `examining.rt` | `wrong_with`, `mend_of`: what is wrong with a file, and where it is cut (`specs/Examined`); the files of folders, one by one |
 //! | `counting.rt`, `merging.rt`, `showing.rt`, `listing.rt`, `chart.rt`, `tracks.rt` | the tables; what files tell, in order of time; as lines; as Chrome's Trace Event form, a row for each CPU, or for each value of a field |
@@ -60,20 +60,20 @@ mod stepped;
 mod trace;
 mod tracks;
 
-use arguments::{Ask, PictureAsk, TraceAsk, ask_of};
+use arguments::{PictureAsk, TraceAsk, ViewTask, ask_of};
 use counting::count_folders;
 use dspec_command::{Input, ended, open, print_text, words_of};
 use dspec_replay::read_whole;
 use examining::examine_folders;
 use fault::ViewFault;
-use folder::{SystemFolder, write_trace};
+use folder::{OutputFolder, write_trace};
 use folder_asking::{FolderAsk, FolderTask};
 use pictured::picture_of;
 use program::ProgramFault;
 use replacing::{see_other, write_file};
 use replay_asking::ReplayAsk;
 use replaying::replay_text;
-use showing::{Shape, show_folders};
+use showing::{OutputFormat, show_folders};
 use std::alloc::Global;
 use std::io::Read;
 use std::process::ExitCode;
@@ -106,7 +106,7 @@ fn schedule_text<'a>(rt: &HostRuntime, name: Option<&'a str>) -> Result<Vec<u8>,
 fn run_ctf<'a>(rt: &'a HostRuntime, ask: &TraceAsk<'a>) -> Result<(), ProgramFault<'a>> {
     let text = schedule_text(rt, ask.schedule)?;
     let trace = trace_of(rt.alloc(), text.as_slice(), ask.form)?;
-    let mut folder = SystemFolder::new(rt, ask.output)?;
+    let mut folder = OutputFolder::new(rt, ask.output)?;
     match write_trace(rt.alloc(), &mut folder, &trace) {
         Ok(()) => Ok(()),
         Err(fault) => match folder.fault() {
@@ -150,21 +150,21 @@ fn run_folder<'a>(rt: &HostRuntime, ask: &FolderAsk<'a>) -> Result<bool, Program
         FolderTask::Count => count_folders(rt, paths),
         FolderTask::Check => examine_folders(rt, paths, false),
         FolderTask::Repair => examine_folders(rt, paths, true),
-        FolderTask::Text => show_folders(rt, paths, Shape::Text),
-        FolderTask::Json => show_folders(rt, paths, Shape::Json),
-        FolderTask::Tracks(ask) => show_folders(rt, paths, Shape::Tracks(ask)),
+        FolderTask::Text => show_folders(rt, paths, OutputFormat::Text),
+        FolderTask::Json => show_folders(rt, paths, OutputFormat::Json),
+        FolderTask::Tracks(ask) => show_folders(rt, paths, OutputFormat::Tracks(ask)),
     }
 }
 
 /// Does what the words ask for, and says whether all is well.
 fn run<'a>(rt: &'a HostRuntime, words: &'a [String]) -> Result<bool, ProgramFault<'a>> {
     match ask_of(rt.alloc(), words)? {
-        Ask::Trace(ask) => run_ctf(rt, &ask)?,
-        Ask::Picture(ask) => run_picture(rt, &ask)?,
-        Ask::Steps(schedule) => run_steps(rt, schedule)?,
-        Ask::Replay(ask) => run_replay(rt, &ask)?,
-        Ask::Folder(ask) => return run_folder(rt, &ask),
-        Ask::Text(text) => print_text(rt, text.as_str())?,
+        ViewTask::Trace(ask) => run_ctf(rt, &ask)?,
+        ViewTask::Picture(ask) => run_picture(rt, &ask)?,
+        ViewTask::Steps(schedule) => run_steps(rt, schedule)?,
+        ViewTask::Replay(ask) => run_replay(rt, &ask)?,
+        ViewTask::Folder(ask) => return run_folder(rt, &ask),
+        ViewTask::Text(text) => print_text(rt, text.as_str())?,
     }
     Ok(true)
 }

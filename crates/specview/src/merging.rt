@@ -1,10 +1,10 @@
 //! What several trace folders tell, merged by time.
 
-use crate::folder_fault::FolderFault;
+use crate::folder_fault::TraceFolderFault;
 use crate::naming::FileName;
-use crate::opening::Opened;
+use crate::opening::OpenedTrace;
 use crate::program::ProgramFault;
-use crate::showing::Traces;
+use crate::showing::OpenedTraces;
 use dspec_ctf_reading::Metadata;
 use dspec_ctf_reading::folder::{Base, FileFault, Mark, Moment, base_of, marks_of, sort_by_time};
 use std::alloc::{AllocError, Global};
@@ -56,12 +56,12 @@ pub fn put_moment(out: &mut String, base: Base, time: u128) -> Result<(), AllocE
 fn common_base<'a>(
     alloc: Global,
     metadatas: &[Metadata<'_>],
-) -> Result<Option<Base>, FolderFault<'a>> {
+) -> Result<Option<Base>, TraceFolderFault<'a>> {
     let mut clocks = Vec::new(alloc);
     for metadata in metadatas {
         if let Some(clock) = metadata.clock {
             if clocks.push(clock).is_err() {
-                return Err(FolderFault::Memory);
+                return Err(TraceFolderFault::Memory);
             }
         }
     }
@@ -70,7 +70,7 @@ fn common_base<'a>(
     }
     match base_of(clocks.as_slice()) {
         Some(base) if clocks.len() == metadatas.len() => Ok(Some(base)),
-        _ => Err(FolderFault::Clocks),
+        _ => Err(TraceFolderFault::Clocks),
     }
 }
 
@@ -79,7 +79,7 @@ impl Merged {
     fn add<'a>(
         &mut self,
         rt: &HostRuntime,
-        opened: &Opened<'a>,
+        opened: &OpenedTrace<'a>,
         metadata: &Metadata<'_>,
         folder: usize,
         file: FileName,
@@ -107,7 +107,7 @@ impl Merged {
     fn add_folder<'a>(
         &mut self,
         rt: &HostRuntime,
-        opened: &Opened<'a>,
+        opened: &OpenedTrace<'a>,
         metadata: &Metadata<'_>,
         folder: usize,
     ) -> Result<(), ProgramFault<'a>> {
@@ -121,7 +121,7 @@ impl Merged {
 /// What these folders tell, in order of time.
 pub fn merge_all<'a>(
     rt: &HostRuntime,
-    traces: &Traces<'_, '_, 'a>,
+    traces: &OpenedTraces<'_, '_, 'a>,
 ) -> Result<Merged, ProgramFault<'a>> {
     let mut merged = Merged {
         marks: Vec::new(rt.alloc()),

@@ -1,6 +1,6 @@
 //! A trace folder of the system: its metadata's text, and its files.
 
-use crate::folder_fault::{FolderFault, file_fault, metadata_fault, text_fault};
+use crate::folder_fault::{TraceFolderFault, file_fault, metadata_fault, text_fault};
 use crate::naming::{FileName, file_of_name};
 use crate::program::ProgramFault;
 use dspec_command::{CommandFault, device_fault};
@@ -11,7 +11,7 @@ use uuid::Uuid;
 
 /// A trace folder.
 #[derive(Debug, Drop)]
-pub struct Opened<'a> {
+pub struct OpenedTrace<'a> {
     /// Its path.
     pub path: &'a str,
     /// The text of its metadata.
@@ -57,29 +57,29 @@ pub fn path_of(alloc: Global, folder: &str, file: FileName) -> Result<String, Al
 }
 
 /// The bytes of a folder's metadata.
-fn text_of<'a>(rt: &HostRuntime, folder: &'a str) -> Result<Vec<u8>, FolderFault<'a>> {
+fn text_of<'a>(rt: &HostRuntime, folder: &'a str) -> Result<Vec<u8>, TraceFolderFault<'a>> {
     let Ok(path) = format!(in rt.alloc(); "{folder}/metadata") else {
-        return Err(FolderFault::Memory);
+        return Err(TraceFolderFault::Memory);
     };
     match fs::read(rt, path.as_str()) {
         Ok(text) => Ok(text),
         Err(reason) if reason.kind() == io::ErrorKind::NotFound => {
-            Err(FolderFault::NoMetadata(folder))
+            Err(TraceFolderFault::NoMetadata(folder))
         }
         Err(reason) => Err(text_fault(folder, reason)),
     }
 }
 
-impl<'a> Opened<'a> {
+impl<'a> OpenedTrace<'a> {
     /// Opens the folder of this path.
-    pub fn of(rt: &HostRuntime, path: &'a str) -> Result<Opened<'a>, ProgramFault<'a>> {
+    pub fn of(rt: &HostRuntime, path: &'a str) -> Result<OpenedTrace<'a>, ProgramFault<'a>> {
         let names = match names_in(rt, path) {
             Ok(names) => names,
             Err(reason) => return Err(ProgramFault::Command(device_fault(path, reason))),
         };
         let text = text_of(rt, path)?;
         let (files, others) = sorted_out(rt.alloc(), names)?;
-        Ok(Opened {
+        Ok(OpenedTrace {
             path,
             text,
             files,
@@ -88,7 +88,7 @@ impl<'a> Opened<'a> {
     }
 
     /// What its metadata tells.
-    pub fn metadata(&self, alloc: Global) -> Result<Metadata<'_>, FolderFault<'a>> {
+    pub fn metadata(&self, alloc: Global) -> Result<Metadata<'_>, TraceFolderFault<'a>> {
         match read_metadata(alloc, self.text.as_slice()) {
             Ok(metadata) => Ok(metadata),
             Err(fault) => Err(metadata_fault(self.path, fault)),
@@ -96,17 +96,17 @@ impl<'a> Opened<'a> {
     }
 
     /// The bytes of its trace's uuid.
-    pub fn uuid(&self, metadata: &Metadata<'_>) -> Result<[u8; 16], FolderFault<'a>> {
+    pub fn uuid(&self, metadata: &Metadata<'_>) -> Result<[u8; 16], TraceFolderFault<'a>> {
         match Uuid::parse_str(metadata.uuid) {
             Ok(uuid) => Ok(uuid.into_bytes()),
-            Err(_) => Err(FolderFault::Uuid(self.path)),
+            Err(_) => Err(TraceFolderFault::Uuid(self.path)),
         }
     }
 
     /// The bytes of a file of it.
-    pub fn bytes(&self, rt: &HostRuntime, file: FileName) -> Result<Vec<u8>, FolderFault<'a>> {
+    pub fn bytes(&self, rt: &HostRuntime, file: FileName) -> Result<Vec<u8>, TraceFolderFault<'a>> {
         let Ok(path) = path_of(rt.alloc(), self.path, file) else {
-            return Err(FolderFault::Memory);
+            return Err(TraceFolderFault::Memory);
         };
         match fs::read(rt, path.as_str()) {
             Ok(bytes) => Ok(bytes),

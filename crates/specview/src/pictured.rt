@@ -3,7 +3,7 @@
 ghost use Rattle.std.specs.Prelude.{◌≤◌, IfErr, IfOk, length};
 ghost use Rattle.specview.specs.Pictures.{IsPictureFault, IsPictured, IsPlayPictureFault};
 
-use crate::ending::RunFault;
+use crate::ending::DrawingFault;
 use crate::fault::ViewFault;
 use dspec_core::{Actor, Answer, ConsumerOp, Op, Outcome};
 use dspec_picture::{PictureFault, picture};
@@ -50,7 +50,7 @@ fn picture_of_play(
     alloc: Global,
     schedule: &Schedule,
     outcome: &Outcome,
-) -> Result<String, RunFault>
+) -> Result<String, DrawingFault>
     ensures few { IfOk result (λ _. length outcome.now.close.deeds ≤ 2000) }
     ensures fault { IfErr result (IsPlayPictureFault (length outcome.now.close.deeds)) }
 {
@@ -59,20 +59,20 @@ fn picture_of_play(
     let header = schedule.header();
     match picture(alloc, &schedule.config, header, batches.as_slice(), deeds) {
         Ok(svg) => Ok(svg),
-        Err(PictureFault::TooManyDeeds) => Err(RunFault::TooManyDeeds),
-        Err(PictureFault::Memory) => Err(RunFault::View(ViewFault::Memory)),
+        Err(PictureFault::TooManyDeeds) => Err(DrawingFault::TooManyDeeds),
+        Err(PictureFault::Memory) => Err(DrawingFault::View(ViewFault::Memory)),
     }
 }
 
 /// Plays the schedule of a text, and gives the picture of its play.
 #[tactic(auto, using(crate::proofs::Taking::text_fault, crate::proofs::Taking::play_fault_told))]
-pub fn picture_of(alloc: Global, text: &[u8]) -> Result<String, RunFault>
+pub fn picture_of(alloc: Global, text: &[u8]) -> Result<String, DrawingFault>
     ensures played { IfOk result (λ _. IsPictured text.now) }
     ensures fault { IfErr result (IsPictureFault text.now) }
 {
     let played = match play_text(alloc, text) {
         Ok(played) => played,
-        Err(fault) => return Err(RunFault::View(ViewFault::from(fault))),
+        Err(fault) => return Err(DrawingFault::View(ViewFault::from(fault))),
     };
     picture_of_play(alloc, &played.schedule, &played.outcome)
 }

@@ -1,8 +1,8 @@
-use crate::ending::RunFault;
+use crate::ending::DrawingFault;
 use crate::fault::ViewFault;
-use crate::folder_fault::FolderFault;
+use crate::folder_fault::TraceFolderFault;
 use crate::replaying::ReplayFault;
-use dspec_command::{CommandFault, Ending};
+use dspec_command::{CommandFault, ExitFault};
 use std::alloc::{AllocError, AllocFailed};
 use thiserror::Error;
 
@@ -10,11 +10,11 @@ use thiserror::Error;
 #[derive(Clone, Copy, Debug, Error)]
 pub enum ProgramFault<'a> {
     #[error("{0}")]
-    Run(#[from] RunFault),
+    Run(#[from] DrawingFault),
     #[error("{0}")]
     Command(#[from] CommandFault<'a>),
     #[error("{0}")]
-    Folder(#[from] FolderFault<'a>),
+    Folder(#[from] TraceFolderFault<'a>),
     #[error("{0}")]
     Replay(#[from] ReplayFault),
     /// The picture would take the place of its own schedule.
@@ -22,7 +22,7 @@ pub enum ProgramFault<'a> {
     OwnSchedule(&'a str),
 }
 
-impl<'a> Ending for ProgramFault<'a> {
+impl<'a> ExitFault for ProgramFault<'a> {
     /// The exit status that tells of the fault.
     fn exit_status(&self) -> u8 {
         match self {
@@ -37,7 +37,7 @@ impl<'a> Ending for ProgramFault<'a> {
 
 impl<'a> From<ViewFault> for ProgramFault<'a> {
     fn from(fault: ViewFault) -> Self {
-        ProgramFault::Run(RunFault::View(fault))
+        ProgramFault::Run(DrawingFault::View(fault))
     }
 }
 

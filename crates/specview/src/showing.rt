@@ -2,10 +2,10 @@
 
 use crate::chart::write_chart;
 use crate::folder_asking::TracksAsk;
-use crate::folder_fault::FolderFault;
+use crate::folder_fault::TraceFolderFault;
 use crate::listing::write_list;
 use crate::merging::merge_all;
-use crate::opening::Opened;
+use crate::opening::OpenedTrace;
 use crate::program::ProgramFault;
 use crate::tracks::write_tracks;
 use dspec_command::output_fault;
@@ -16,7 +16,7 @@ use std::io::{BufWriter, Write};
 
 /// How folders are shown.
 #[derive(Debug, Clone, Copy, PartialEq, Eq)]
-pub enum Shape<'a> {
+pub enum OutputFormat<'a> {
     /// A line for each event.
     Text,
     /// A document of Chrome's Trace Event form.
@@ -27,18 +27,21 @@ pub enum Shape<'a> {
 
 /// Traces with their folders.
 #[derive(Clone, Copy)]
-pub struct Traces<'s, 'o, 'a> {
+pub struct OpenedTraces<'s, 'o, 'a> {
     /// The folders.
-    pub opened: &'s [Opened<'a>],
+    pub opened: &'s [OpenedTrace<'a>],
     /// What the metadata of each tells.
     pub metadatas: &'s [Metadata<'o>],
 }
 
 /// Opens the folders of these paths.
-fn open_all<'a>(rt: &HostRuntime, paths: &[&'a str]) -> Result<Vec<Opened<'a>>, ProgramFault<'a>> {
+fn open_all<'a>(
+    rt: &HostRuntime,
+    paths: &[&'a str],
+) -> Result<Vec<OpenedTrace<'a>>, ProgramFault<'a>> {
     let mut opened = Vec::new(rt.alloc());
     for path in paths {
-        opened.push(Opened::of(rt, path)?)?;
+        opened.push(OpenedTrace::of(rt, path)?)?;
     }
     Ok(opened)
 }
@@ -46,7 +49,7 @@ fn open_all<'a>(rt: &HostRuntime, paths: &[&'a str]) -> Result<Vec<Opened<'a>>, 
 /// What the metadata of each of these folders tells.
 fn read_all<'o, 'a>(
     alloc: Global,
-    opened: &'o [Opened<'a>],
+    opened: &'o [OpenedTrace<'a>],
 ) -> Result<Vec<Metadata<'o>>, ProgramFault<'a>> {
     let mut metadatas = Vec::new(alloc);
     for folder in opened {
@@ -66,13 +69,16 @@ fn has_field(metadata: &Metadata<'_>, name: &str) -> bool {
 }
 
 /// Sees that an event of these traces has a field of that name.
-fn see_field<'a>(traces: &Traces<'_, '_, 'a>, name: &'a str) -> Result<(), FolderFault<'a>> {
+fn see_field<'a>(
+    traces: &OpenedTraces<'_, '_, 'a>,
+    name: &'a str,
+) -> Result<(), TraceFolderFault<'a>> {
     for metadata in traces.metadatas {
         if has_field(metadata, name) {
             return Ok(());
         }
     }
-    Err(FolderFault::NoField(name))
+    Err(TraceFolderFault::NoField(name))
 }
 
 /// What was written to standard output, or wasn't.
@@ -87,15 +93,15 @@ fn written<'a>(outcome: io::Result<()>) -> Result<(), ProgramFault<'a>> {
 pub fn show_folders<'a>(
     rt: &HostRuntime,
     paths: &[&'a str],
-    shape: Shape<'a>,
+    shape: OutputFormat<'a>,
 ) -> Result<bool, ProgramFault<'a>> {
     let opened = open_all(rt, paths)?;
     let metadatas = read_all(rt.alloc(), opened.as_slice())?;
-    let traces = Traces {
+    let traces = OpenedTraces {
         opened: opened.as_slice(),
         metadatas: metadatas.as_slice(),
     };
-    if let Shape::Tracks(ask) = shape {
+    if let OutputFormat::Tracks(ask) = shape {
         see_field(&traces, ask.field)?;
     }
     let merged = merge_all(rt, &traces)?;
@@ -104,9 +110,9 @@ pub fn show_folders<'a>(
         Err(reason) => return Err(ProgramFault::Command(output_fault(reason))),
     };
     written(match shape {
-        Shape::Text => write_list(rt.alloc(), &mut out, &traces, &merged),
-        Shape::Json => write_chart(rt.alloc(), &mut out, &traces, &merged),
-        Shape::Tracks(ask) => write_tracks(rt.alloc(), &mut out, &traces, &merged, ask),
+        OutputFormat::Text => write_list(rt.alloc(), &mut out, &traces, &merged),
+        OutputFormat::Json => write_chart(rt.alloc(), &mut out, &traces, &merged),
+        OutputFormat::Tracks(ask) => write_tracks(rt.alloc(), &mut out, &traces, &merged, ask),
     })?;
     written(out.flush())?;
     Ok(merged.sound)

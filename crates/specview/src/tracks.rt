@@ -6,7 +6,7 @@ use crate::chart::{
 };
 use crate::folder_asking::TracksAsk;
 use crate::merging::{Merged, Source};
-use crate::showing::Traces;
+use crate::showing::OpenedTraces;
 use dspec_ctf_reading::EventText;
 use dspec_ctf_reading::folder::{
     Mark, RowPart, RowRecord, Track, What, chrome_name, chrome_record, chrome_slice, field_text,
@@ -38,7 +38,7 @@ struct Placed {
 
 /// A row, by the places of its marks in the list of all.
 #[derive(Debug, Clone, Copy)]
-struct Row {
+struct TrackRow {
     start: usize,
     end: usize,
     /// Rows of CPUs come first, then those of values by their first marks.
@@ -48,7 +48,7 @@ struct Row {
 /// What a row is drawn with.
 #[derive(Clone, Copy)]
 struct Page<'p, 's, 'o, 'a, 'f> {
-    traces: &'p Traces<'s, 'o, 'a>,
+    traces: &'p OpenedTraces<'s, 'o, 'a>,
     merged: &'s Merged,
     ask: TracksAsk<'f>,
 }
@@ -56,7 +56,7 @@ struct Page<'p, 's, 'o, 'a, 'f> {
 /// Whose row a mark of this file stands in.
 fn owner_of(
     alloc: Global,
-    traces: &Traces<'_, '_, '_>,
+    traces: &OpenedTraces<'_, '_, '_>,
     source: &Source,
     mark: &Mark,
     field: &str,
@@ -77,7 +77,7 @@ fn owner_of(
 /// All marks, row by row; those of one row in order of time.
 fn placed_marks(
     alloc: Global,
-    traces: &Traces<'_, '_, '_>,
+    traces: &OpenedTraces<'_, '_, '_>,
     merged: &Merged,
     field: &str,
 ) -> Result<Vec<Placed>, AllocError> {
@@ -102,8 +102,8 @@ fn is_one_row(one: &Placed, other: &Placed) -> bool {
 }
 
 /// The rows of these marks.
-fn rows_of(alloc: Global, all: &[Placed]) -> Result<Vec<Row>, AllocError> {
-    let mut rows: Vec<Row> = Vec::new(alloc);
+fn rows_of(alloc: Global, all: &[Placed]) -> Result<Vec<TrackRow>, AllocError> {
+    let mut rows: Vec<TrackRow> = Vec::new(alloc);
     for (place, placed) in all.iter().enumerate() {
         let end = place.saturating_add(1);
         if let Some(row) = rows.last_mut() {
@@ -119,7 +119,7 @@ fn rows_of(alloc: Global, all: &[Placed]) -> Result<Vec<Row>, AllocError> {
             Owner::Cpu(_) => 0,
             Owner::Value(_) => placed.mark.saturating_add(1),
         };
-        rows.push(Row {
+        rows.push(TrackRow {
             start: place,
             end,
             order,
@@ -314,7 +314,7 @@ fn put_processes<W: Write>(
 pub fn write_tracks<'s, W: Write>(
     alloc: Global,
     out: &mut W,
-    traces: &Traces<'s, '_, '_>,
+    traces: &OpenedTraces<'s, '_, '_>,
     merged: &'s Merged,
     ask: TracksAsk<'_>,
 ) -> io::Result<()> {

@@ -4,8 +4,7 @@ use Rattle.std.proofs.lemmas.Bool.{ltb-true}
 use Rattle.dspec_deeds.specs.declared.config.Config.{Config}
 use Rattle.dspec_deeds.specs.declared.calls.Actor.{Actor}
 use Rattle.dspec_deeds.specs.declared.calls.Actor.TheVariants.{Cpu, Consumer}
-use Rattle.dspec_interleaving.specs.Calls.{is_actor, is_idle}
-use Rattle.dspec_interleaving.specs.Coherent.{PlayState}
+use Rattle.test_plays.specs.Words.{is_actor, is_idle, PlayState}
 
 -- where both are idle, all are
 pub all_idle : (k : Config) (st : PlayState) → k.cpus ≡ 1 → is_idle (Cpu 0) st ≡ true → is_idle Consumer st ≡ true

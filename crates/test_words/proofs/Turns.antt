@@ -1,29 +1,19 @@
 -- What a CPU may do next on the first slot, and what its own list tells then.
 use Rattle.std.proofs.Common.{◌≡◌, ℕ, zero, suc, ◌<◌, ◌&&◌, ◌≤◌, Bool, true, false, if◌then◌else◌, List, [], ◌∷◌, ◌++◌, sym, ap, ◌∙◌, subst, arith, refl}
 use Rattle.std.proofs.lemmas.Bool.Decides.{nat_tests}
-use Rattle.dspec_record.specs.Record.{Record}
-use Rattle.dspec_word.specs.SpecId.{Speculation}
-use Rattle.dspec_word.specs.Word.{SlotState, released}
-use Rattle.dspec_word.specs.Code.{is_inactive, awaits}
+use Rattle.test_words.specs.Words.{Record, Speculation, SlotState, released, is_inactive, awaits, speculate_at, commit_at, discard_at, reap_at, in_range, is_among, callers, ack, number_of}
+use Rattle.test_words.specs.Words.{at_activity, at_word, at_hit, void_commit, void_discard, discard_hits, IsOn, IsInFlight, MayLoad, MayTry, Attempts, IsDeciding, joined_word, calling}
+use Rattle.test_words.specs.Words.{activity_place, acted, LoadedActivity, TriedWord, LoadedAck, Unused, Next}
 use Rattle.dspec_word.specs.declared.act.Act.{Act}
 use Rattle.dspec_word.specs.declared.act.Act.TheVariants.{Void, Granted, Attempt, Idle}
-use Rattle.dspec_word.specs.Tables.{speculate_at, commit_at, discard_at, reap_at}
 use Rattle.dspec_deeds.specs.declared.config.Config.{Config}
 use Rattle.dspec_deeds.specs.declared.calls.CpuOp.{CpuOp}
 use Rattle.dspec_deeds.specs.declared.calls.CpuOp.TheVariants as op
 use Rattle.dspec_deeds.specs.declared.deed.Deed.{Deed}
-use Rattle.dspec_deeds.specs.History.{in_range, is_among, callers, ack}
 use Rattle.dspec_table.specs.declared.rule.View.{View}
 use Rattle.dspec_table.specs.declared.doing.Doing.{Doing}
-use Rattle.dspec_table.specs.Holders.{number_of}
-use Rattle.dspec_table.specs.Acts.{at_activity, at_word, at_hit, void_commit, void_discard, discard_hits}
-use Rattle.dspec_table.specs.Conditions.{IsOn, IsInFlight, MayLoad, MayTry, Attempts, IsDeciding, joined_word}
-use Rattle.dspec_table.specs.Flights.{calling}
-use Rattle.dspec_table.specs.Layout.{activity_place}
-use Rattle.dspec_table.specs.Steps.{acted, LoadedActivity, TriedWord, LoadedAck}
 use Rattle.dspec_table.proofs.Flights.{quiet_activity, loads_next, in_flight, speculate_joins}
 use Rattle.dspec_table.proofs.Reaping.{acked_since}
-use Rattle.test_words.specs.Calls.{Unused, Next}
 
 first_in_range : (k : Config) (id : Speculation) → 1 ≤ k.nspec → id.slot ≡ 1 → in_range k id ≡ true
 first_in_range k id low is = grind (arith, nat_tests)

@@ -1,14 +1,10 @@
 -- Cited by calls. What a CPU's own list tells before a call on the first slot.
 use Rattle.std.specs.Prelude.{ℕ, ◌≡◌, List, []}
-use Rattle.dspec_word.specs.SpecId.{Speculation}
+use Rattle.test_words.specs.Words.Outside.{Speculation, scan, callers, ack, SlotState, MayLoad, MayTry, Attempts, IsAt, cpu_of, known, set_up}
 use Rattle.dspec_deeds.specs.declared.config.Config.{Config}
 use Rattle.dspec_deeds.specs.declared.deed.Deed.{Deed}
-use Rattle.dspec_deeds.specs.History.{scan, callers, ack}
-use Rattle.dspec_word.specs.Word.{SlotState}
 use Rattle.dspec_table.specs.declared.rule.View.{View}
 use Rattle.dspec_table.specs.declared.doing.Doing.{Doing}
-use Rattle.dspec_table.specs.Conditions.{MayLoad, MayTry, Attempts}
-use Rattle.dspec_table.specs.Seats.{IsAt, cpu_of, known, set_up}
 use Rattle.dspec_table.specs.declared.seats.CpuSeat.{CpuSeat}
 use Rattle.dspec_table.specs.declared.seats.Words.{Words}
 

@@ -8,7 +8,7 @@ const MOST_RECORDS: u32 = 20_000;
 
 /// One way, which so many records take in buffers of a size.
 #[derive(Debug, Clone, Copy, PartialEq, Eq)]
-pub struct Run {
+pub struct WayRun {
     pub way: Way,
     pub subject: Subject,
     pub size: Size,
@@ -16,8 +16,8 @@ pub struct Run {
 }
 
 /// The run that four words ask for; None where they ask for nothing that the program does.
-pub fn run_of(way: &str, subject: &str, size: &str, number: &str) -> Option<Run> {
-    Some(Run {
+pub fn run_of(way: &str, subject: &str, size: &str, number: &str) -> Option<WayRun> {
+    Some(WayRun {
         way: WAYS.iter().find(|known| known.name() == way).copied()?,
         subject: UNSTAMPED
             .iter()

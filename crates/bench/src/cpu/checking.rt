@@ -1,5 +1,5 @@
 //! How many records come out of each way as they should, the same on every machine.
-use crate::cpu::asking::Run;
+use crate::cpu::asking::WayRun;
 use crate::cpu::taking::{Size, take};
 use crate::cpu::way::WAYS;
 use dspec_samples::{Subject, UNSTAMPED};
@@ -20,7 +20,7 @@ pub fn check_all(rt: &HostRuntime) -> io::Result<()> {
             if way.is_typed() && !has_fields(subject) {
                 continue;
             }
-            let run = Run {
+            let run = WayRun {
                 way,
                 subject,
                 size: Size::Small,

@@ -1,7 +1,7 @@
 //! The ways of a record by its schema, and the buffers that it goes into.
 ghost use Rattle.std.specs.Prelude.{◌≡◌};
 
-use crate::cpu::asking::Run;
+use crate::cpu::asking::WayRun;
 use crate::cpu::lane::{record_over, step_over, trace_over};
 use crate::cpu::probed::{fire_over, walk_over};
 use crate::cpu::starting::begin;
@@ -30,7 +30,7 @@ impl Size {
 }
 
 /// Takes the way by so many records, or services so often: how many came out of it so; None for want of memory.
-pub fn take(alloc: Global, run: Run) -> Option<u32> {
+pub fn take(alloc: Global, run: WayRun) -> Option<u32> {
     if run.way.is_typed() {
         return take_typed(alloc, run);
     }
@@ -58,7 +58,7 @@ fn config_of(size: Size) -> Config
 }
 
 /// By a typed probe, of a subject that has fields.
-fn take_typed(alloc: Global, run: Run) -> Option<u32> {
+fn take_typed(alloc: Global, run: WayRun) -> Option<u32> {
     let mut probes = Probes::unstamped(alloc);
     let narrow: Probe<(u32,)> = probes.probe("narrow", &["value"]).ok()?;
     let wide: Probe<(u8, u16, u32, u64)> = probes.probe("wide", &["a", "b", "c", "d"]).ok()?;
@@ -78,7 +78,7 @@ fn take_by_probe<F: Fields>(
     schema: Enablings,
     probe: Probe<F>,
     values: F,
-    run: Run,
+    run: WayRun,
 ) -> Option<u32> {
     let config = config_of(run.size);
     let (mut cpu, shared) = begin(alloc, &config, schema)?;
@@ -90,7 +90,7 @@ fn take_by_probe<F: Fields>(
     }
 }
 
-fn take_by<S: Schema>(alloc: Global, schema: S, rec: Rec, run: Run) -> Option<u32> {
+fn take_by<S: Schema>(alloc: Global, schema: S, rec: Rec, run: WayRun) -> Option<u32> {
     if !schema.accepts(&rec) {
         return None;
     }

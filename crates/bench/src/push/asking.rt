@@ -10,7 +10,7 @@ pub const MOST_RECORDS: u32 = 40_000;
 const MOST_ROUNDS: u32 = 10_000;
 
 #[derive(Debug, Clone, Copy, PartialEq, Eq)]
-pub enum Ask {
+pub enum PushTask {
     /// To time each way in so many rounds.
     Times(u32),
     /// To take one way by so many records.
@@ -22,12 +22,12 @@ pub enum Ask {
 }
 
 /// What the words behind `push` ask; None where it is nothing that is done here.
-pub fn ask_of(words: &[String]) -> Option<Ask> {
+pub fn ask_of(words: &[String]) -> Option<PushTask> {
     match words {
         [word, rounds] if word.as_str() == "times" => {
-            Some(Ask::Times(number_of(rounds.as_str(), MOST_ROUNDS)?))
+            Some(PushTask::Times(number_of(rounds.as_str(), MOST_ROUNDS)?))
         }
-        [word, way, subject, number] if word.as_str() == "count" => Some(Ask::Count {
+        [word, way, subject, number] if word.as_str() == "count" => Some(PushTask::Count {
             way: way_of(way.as_str())?,
             subject: subject_of(subject.as_str())?,
             number: number_of(number.as_str(), MOST_RECORDS)?,

@@ -1,6 +1,6 @@
 //! A subject's setup, whichever schema it has.
 
-use crate::push::setup::{Setup, Taken};
+use crate::push::setup::{Setup, WayResult};
 use crate::push::way::Way;
 use dspec_record::{DefaultAction, Enablings, Rec, Schema, StampedAction};
 use dspec_samples::{Subject, timed_enablings};
@@ -37,7 +37,7 @@ impl Ready {
     }
 
     /// Takes the way by so many records.
-    pub fn take(&mut self, way: Way, number: u32) -> Taken {
+    pub fn take(&mut self, way: Way, number: u32) -> WayResult {
         match self {
             Ready::Default(setup) => setup.take(way, number),
             Ready::Enabled(setup) => setup.take(way, number),

@@ -30,7 +30,7 @@ pub struct Setup<S: Schema> {
 /// What taking a way came to: the records that the buffer has then, how far they reach in bytes, and what reading
 /// them added up to.
 #[derive(Debug, Clone, Copy, PartialEq, Eq)]
-pub struct Taken {
+pub struct WayResult {
     pub count: u32,
     pub offset: u32,
     pub sum: u64,
@@ -65,7 +65,7 @@ impl<S: Schema> Setup<S> {
     }
 
     /// Takes the way by so many records, or by as many whole blocks as they make.
-    pub fn take(&mut self, way: Way, number: u32) -> Taken {
+    pub fn take(&mut self, way: Way, number: u32) -> WayResult {
         let mut sum = 0;
         match way {
             Way::Kept => push_often(&mut self.principal, &self.schema, &self.rec, number),
@@ -82,7 +82,7 @@ impl<S: Schema> Setup<S> {
             Way::Refused => &self.full,
             _ => &self.principal,
         };
-        Taken {
+        WayResult {
             count: <ByteBuffer as TraceBuffer<S>>::count(buffer),
             offset: <ByteBuffer as TraceBuffer<S>>::offset(buffer),
             sum,

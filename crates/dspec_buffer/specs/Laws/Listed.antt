@@ -2,7 +2,7 @@
 use Rattle.std.specs.Prelude.{ℕ, Bool, IsTrue, List, reverse, Option}
 use Rattle.std.proofs.Common.{arith}
 use Rattle.std.proofs.lemmas.List.Sorted.{All-permutation, IsPermutation-reverse}
-use Rattle.dspec_record.specs.Record.{Record}
+use Rattle.dspec_buffer.specs.Words.Outside.{Record}
 use Rattle.dspec_record.specs.declared.field.Shape.{Shape}
 use Rattle.dspec_buffer.specs.Extent.{Piece, records}
 use Rattle.dspec_buffer.specs.Listed.{Listed, HasListed, HasTexts}

@@ -7,9 +7,7 @@ use Rattle.std.proofs.Math.ListN.{get_or-map}
 use Rattle.std.proofs.lemmas.List.Elements.{All-drop, All-get_or, All-push}
 use Rattle.std.proofs.Math.Seq.{take-add}
 use Rattle.dspec_probe.specs.declared.probes.ProbeNames.{ProbeNames}
-use Rattle.dspec_ctf.specs.InMemory.Naming.{AreEvents, HasNoEvents, kinds_in, texts_in}
-use Rattle.dspec_ctf.specs.declared.in_memory.fault.TextFault.{TextFault}
-use Rattle.dspec_ctf.specs.declared.in_memory.fault.TextFault.TheVariants.{TooSmall, NotText, BadKind, Count, Metadata}
+use Rattle.dspec_ctf.specs.Words.{AreEvents, HasNoEvents, kinds_in, texts_in, TextFault, TooSmall, NotText, BadKind, Count, Metadata}
 
 -- the first of some things, and so many behind it
 pub first_and_some : {X A : Type 0} (f : X → A) (d : X) (n : ℕ) (xs : List X) → n < length xs → f (get_or xs 0 d) ∷ map f (slice_range xs 1 (1 + n)) ≡ take (1 + n) (map f xs)

@@ -1,12 +1,7 @@
 -- All packets of a batch have all its records.
 use Rattle.std.proofs.Common.{◌≡◌, ◌-◌, ◌<◌, ◌≤◌, ◌==◌, ◌∷◌, ◌∙◌, ℕ, List, [], inl, inr, length, ap, refl, subst, arith}
 use Rattle.std.specs.Prelude.{None, if◌then◌else◌}
-use Rattle.dspec_ctf.specs.Rows.{IsFileRun}
-use Rattle.dspec_ctf.specs.declared.rows.Run.{Run}
-use Rattle.dspec_ctf.specs.InMemory.Filing.{CpuFiling}
-use Rattle.dspec_ctf.specs.InMemory.Calls.{FindsAndHands, HandsMissed, IsAllHanded, IsFoundRun, as_written}
-use Rattle.dspec_ctf.specs.InMemory.Batches.{HaveAllLeft, PutsPackets, parts_of}
-use Rattle.dspec_ctf.specs.declared.in_memory.packet.Packet.{Packet}
+use Rattle.dspec_ctf.specs.Words.{IsFileRun, Run, CpuFiling, FindsAndHands, HandsMissed, IsAllHanded, IsFoundRun, as_written, HaveAllLeft, PutsPackets, parts_of, Packet}
 
 -- a packet without records is none of the parts
 none_of : (p : Packet) (ps : List Packet) → p.records ≡ 0 → parts_of (p ∷ ps) ≡ parts_of ps

@@ -1,6 +1,6 @@
 -- Cited by calls. What each call makes of a CPU's files.
 use Rattle.std.specs.Prelude.{◌≡◌, ◌≢◌, ℕ, ◌+◌, ◌-◌, ◌^◌, ◌<◌, ◌≤◌, ◌++◌, ◌⊎◌, List, length, drop, slice_range, Option, Some, None}
-use Rattle.dspec_record.specs.Record.{Record}
+use Rattle.dspec_ctf.specs.Words.Outside.{Record}
 use Rattle.dspec_ctf.specs.Packets.{events}
 use Rattle.dspec_ctf.specs.Streams.{HasNoRecords, IsText, IsTooLong}
 use Rattle.dspec_ctf.specs.Rows.{HasNoRoomFor, HasNoRun, IsFileRun, most_records, missed_packets, run_packet}

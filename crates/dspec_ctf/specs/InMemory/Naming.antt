@@ -2,10 +2,9 @@
 use Rattle.std.specs.Prelude.{◌≡◌, ◌+◌, ◌<◌, ◌⊎◌, ℕ, All, Bool, true, false, List, [], ◌∷◌, length, map, take, Option, Some, None}
 use Rattle.std.specs.List.{flat_map}
 use Rattle.std.specs.Str.{IsUtf8}
-use Rattle.dspec_record.specs.EnablingRows.{EnabledRows}
+use Rattle.dspec_ctf.specs.Words.Outside.{EnabledRows, next_words}
 use Rattle.dspec_probe.specs.declared.kind.Kind.{Kind}
 use Rattle.dspec_probe.specs.declared.kind.Kind.TheVariants.{Unsigned, Signed, Float, Text, TextNext}
-use Rattle.dspec_probe.specs.Kinds.{next_words}
 use Rattle.dspec_probe.specs.declared.probes.ProbeNames.{ProbeNames}
 use Rattle.dspec_ctf.specs.Metadata.{origin_text}
 use Rattle.dspec_ctf.specs.Names.{origin_fault}

@@ -4,12 +4,8 @@ use Rattle.std.specs.Prelude.{All, option_and_then, unwrap_or}
 use Rattle.std.specs.Option.{option_map_or}
 use Rattle.std.specs.List.{flat_map}
 use Rattle.std.proofs.lemmas.List.Elements.{All-head, All-tail, All-nil, All-cons}
-use Rattle.dspec_ctf_reading.specs.Reading.{Layout, PacketRead, Part, read_packet, read_file}
+use Rattle.dspec_ctf_reading.specs.Words.{Layout, PacketRead, Part, read_packet, read_file, Event, as_read, ReadPacket, RisesFrom, last_of, stamps_of, times_of, packet_as_read, IsSoundFrom}
 use Rattle.dspec_ctf_reading.proofs.Bounds.{packets-on-bytes}
-use Rattle.dspec_ctf_reading.specs.declared.events.Event.{Event}
-use Rattle.dspec_ctf_reading.specs.Told.{as_read}
-use Rattle.dspec_ctf_reading.specs.declared.folder.packet.ReadPacket.{ReadPacket}
-use Rattle.dspec_ctf_reading.specs.Folders.Checks.{RisesFrom, last_of, stamps_of, times_of, packet_as_read, IsSoundFrom}
 
 -- a list that rises, in two parts
 pub rises-append : (before : ℕ) (xs ys : List ℕ) → RisesFrom before xs → RisesFrom (last_of before xs) ys → RisesFrom before (xs ++ ys)

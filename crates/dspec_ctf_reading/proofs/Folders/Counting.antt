@@ -7,13 +7,8 @@ use Rattle.std.proofs.lemmas.Grind.{flat_map-append}
 use Rattle.std.proofs.lemmas.List.{append-nil, take_more}
 use Rattle.std.proofs.lemmas.List.Sums.{fold-append, sum_by-append, sum_by-cons}
 use Rattle.std.proofs.lemmas.List.Elements.{All-head, All-tail, filter_map-append}
-use Rattle.dspec_ctf_reading.specs.Reading.{Layout, EventRead, PacketRead, read_packet, read_file, events_of, loss_of}
-use Rattle.dspec_ctf_reading.specs.Told.{Fits, as_read, first_place}
-use Rattle.dspec_ctf_reading.specs.declared.events.Event.{Event}
-use Rattle.dspec_ctf_reading.specs.declared.folder.packet.ReadPacket.{ReadPacket}
-use Rattle.dspec_ctf_reading.specs.declared.folder.counts.CpuCounts.{CpuCounts}
-use Rattle.dspec_ctf_reading.specs.Folders.Checks.{packet_as_read}
-use Rattle.dspec_ctf_reading.specs.Folders.Counts.{CountsPacket, CountsPackets, BeginsFile, span_from, up_to_64}
+use Rattle.dspec_ctf_reading.specs.Words.{Layout, EventRead, PacketRead, read_packet, read_file, events_of, loss_of, Fits, as_read, first_place, Event, ReadPacket, CpuCounts, packet_as_read}
+use Rattle.dspec_ctf_reading.specs.Words.{CountsPacket, CountsPackets, BeginsFile, span_from, up_to_64}
 use Rattle.dspec_ctf_reading.proofs.Bounds.{packets-on-bytes}
 
 -- events in memory have the stamps that are read, and stand at the places of the texts that their numbers have

@@ -1,9 +1,7 @@
 -- The parts of a row tell each of its records once.
 use Rattle.std.proofs.Common.{◌≡◌, ◌==◌, ◌+◌, ◌++◌, ◌∙◌, ℕ, suc, Bool, true, false, if◌then◌else◌, List, [], ◌∷◌, length, refl, sym, ap, arith}
 use Rattle.std.proofs.lemmas.List.{append-nil}
-use Rattle.dspec_ctf_reading.specs.declared.folder.track.RowPart.{RowPart}
-use Rattle.dspec_ctf_reading.specs.declared.folder.track.RowPart.TheVariants.{Mark, Slice}
-use Rattle.dspec_ctf_reading.specs.Folders.Tracks.{row_parts, records_told}
+use Rattle.dspec_ctf_reading.specs.Words.{RowPart, Mark, Slice, row_parts, records_told}
 
 by_kind : (q : Bool) (b : ℕ) (rest : List ℕ) → records_told (row_parts rest) ≡ length rest → records_told (row_parts (b ∷ rest)) ≡ suc (length rest)
     → records_told (if q then Slice ∷ row_parts rest else Mark ∷ row_parts (b ∷ rest)) ≡ suc (suc (length rest))

@@ -3,11 +3,9 @@ use Rattle.std.proofs.Common.{◌≡◌, ◌≤◌, ◌<◌, ◌+◌, ◌-◌, �
 use Rattle.std.proofs.Common.{refl, ap, sym, ◌∙◌, arith, length-drop}
 use Rattle.std.specs.Prelude.{option_and_then}
 use Rattle.std.proofs.lemmas.List.{drop-drop}
-use Rattle.dspec_ctf_reading.specs.Reading.{FrontRead, Part, read_front, sizes_agree}
-use Rattle.dspec_ctf_reading.specs.Fronts.{PacketSplit, split_behind, split_packet}
+use Rattle.dspec_ctf_reading.specs.Words.{FrontRead, Part, read_front, sizes_agree, PacketSplit, split_behind, split_packet, SplitsInto, AreWholeBefore}
 use Rattle.dspec_ctf_reading.proofs.Agreeing.{Agrees, agrees}
 use Rattle.dspec_ctf_reading.proofs.Bounds.{Leaves, front-leaves}
-use Rattle.dspec_ctf_reading.specs.Folders.Whole.{SplitsInto, AreWholeBefore}
 
 -- what a packet leaves
 pub record Left (bytes behind : List ℕ) : Type 0 where

@@ -7,7 +7,7 @@ use Rattle.dspec_record.specs.declared.field.Field.{Field}
 use Rattle.dspec_record.specs.declared.field.Field.TheVariants.{One, Two, Four, Eight}
 use Rattle.dspec_probe.specs.declared.kind.Kind.{Kind}
 use Rattle.dspec_probe.specs.declared.kind.Kind.TheVariants as kind
-use Rattle.dspec_probe.specs.Values.{signed, float}
+use Rattle.dspec_ctf_reading.specs.Words.Outside.{signed, float}
 use Rattle.dspec_ctf_reading.specs.declared.folder.value.Shown.{Shown}
 use Rattle.dspec_ctf_reading.specs.declared.folder.value.Shown.TheVariants as shown
 

@@ -1,7 +1,7 @@
 //! What the command line asks for.
 
 use clap::Command;
-use dspec_command::{Asked, CommandFault, asked_of, folder_arg};
+use dspec_command::{CommandFault, ParsedCommand, asked_of, folder_arg};
 use std::alloc::{AllocError, Global};
 
 /// How the program is called.
@@ -16,6 +16,9 @@ fn command<'a>(alloc: Global) -> Result<Command<'a>, AllocError> {
 }
 
 /// What these words ask for, the first of which is the program's name: the transfers, with a trace where `ctf` is found in them, or a text.
-pub fn asked<'a>(alloc: Global, words: &'a [String]) -> Result<Asked<'a>, CommandFault<'a>> {
+pub fn asked<'a>(
+    alloc: Global,
+    words: &'a [String],
+) -> Result<ParsedCommand<'a>, CommandFault<'a>> {
     asked_of(alloc, command(alloc)?, USAGE, words)
 }

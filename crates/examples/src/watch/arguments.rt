@@ -1,7 +1,7 @@
 //! What the command line asks for.
 
 use clap::{Arg, ArgMatches, Command};
-use dspec_command::{Asked, CommandFault, asked_of, folder_arg};
+use dspec_command::{CommandFault, ParsedCommand, asked_of, folder_arg};
 use std::alloc::{AllocError, Global};
 
 /// How the program is called.
@@ -20,7 +20,7 @@ pub struct WatchAsk<'a> {
 
 /// What there is to do.
 #[derive(Debug, Drop)]
-pub enum Ask<'a> {
+pub enum WatchTask<'a> {
     /// To watch requests.
     Watch(WatchAsk<'a>),
     /// To print this text, which was asked for by `--help`.
@@ -49,9 +49,9 @@ fn watch_ask<'a>(found: &ArgMatches<'a>) -> WatchAsk<'a> {
 }
 
 /// What these words ask for, the first of which is the program's name.
-pub fn ask_of<'a>(alloc: Global, words: &'a [String]) -> Result<Ask<'a>, CommandFault<'a>> {
+pub fn ask_of<'a>(alloc: Global, words: &'a [String]) -> Result<WatchTask<'a>, CommandFault<'a>> {
     match asked_of(alloc, command(alloc)?, USAGE, words)? {
-        Asked::Found(found) => Ok(Ask::Watch(watch_ask(&found))),
-        Asked::Text(text) => Ok(Ask::Text(text)),
+        ParsedCommand::Found(found) => Ok(WatchTask::Watch(watch_ask(&found))),
+        ParsedCommand::Text(text) => Ok(WatchTask::Text(text)),
     }
 }

@@ -1,7 +1,7 @@
 //! What words ask of a program.
 use crate::same::same;
 use clap::{Arg, Command};
-use dspec_command::{Asked, asked_of};
+use dspec_command::{ParsedCommand, asked_of};
 use std::alloc::{AllocError, Global};
 use std::test::Fail;
 
@@ -23,11 +23,11 @@ fn words(alloc: Global, texts: &[&str]) -> Result<Vec<String>, AllocError> {
 fn told(alloc: Global, texts: &[&str]) -> Result<String, AllocError> {
     let words = words(alloc, texts)?;
     match asked_of(alloc, command(alloc)?, "greet [NAME]", words.as_slice()) {
-        Ok(Asked::Found(found)) => {
+        Ok(ParsedCommand::Found(found)) => {
             let name = found.get_str("name").unwrap_or("nobody");
             format!(in alloc; "found {name}")
         }
-        Ok(Asked::Text(_)) => format!(in alloc; "text"),
+        Ok(ParsedCommand::Text(_)) => format!(in alloc; "text"),
         Err(fault) => {
             let status = fault.status();
             format!(in alloc; "{status} {fault}")

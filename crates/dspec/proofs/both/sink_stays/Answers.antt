@@ -2,7 +2,7 @@
 use Rattle.std.proofs.Common.{◌≡◌, List, [], ◌∷◌, refl, sym}
 use Rattle.std.specs.Prelude.{None, Option, Some}
 use Rattle.dspec_ring.specs.declared.batch.Batch.{Batch}
-use Rattle.dspec.specs.Passed.{GetsIfThere, GotAll, GotThere, Passed}
+use Rattle.dspec.specs.Words.{GetsIfThere, GotAll, GotThere, Passed}
 use Rattle.dspec.proofs.both.sink_stays.Goals as goal
 
 module _ {K : Type 0} (gets : K → Batch → K → Type 0) where

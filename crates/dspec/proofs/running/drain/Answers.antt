@@ -1,5 +1,4 @@
-use Rattle.dspec_cpu.specs.Lists.{words_of}
-use Rattle.dspec.specs.Visits.{no_rounds, rounds_more}
+use Rattle.dspec.specs.Words.{words_of, no_rounds, rounds_more}
 use Rattle.dspec.proofs.Passing.{passes_both, passes_nothing}
 use Rattle.dspec.proofs.running.drain.Goals as goal
 

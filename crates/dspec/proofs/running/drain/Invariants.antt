@@ -1,7 +1,5 @@
 -- The sink got what was taken, in rounds.
-use Rattle.dspec_cpu.specs.Lists.{words_of}
-use Rattle.dspec.specs.Passed.{PassesOn}
-use Rattle.dspec.specs.Visits.{MakesRounds}
+use Rattle.dspec.specs.Words.{words_of, PassesOn, MakesRounds}
 use Rattle.dspec.proofs.running.drain.Given as goal
 
 abbrev pub invariant-loop : goal.invariant-loop

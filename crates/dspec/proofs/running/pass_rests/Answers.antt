@@ -1,6 +1,6 @@
 use Rattle.std.proofs.Common.{refl, subst, arith}
 use Rattle.std.proofs.lemmas.List.{take_all}
-use Rattle.dspec.specs.Passed.{GotAll, rests_passed}
+use Rattle.dspec.specs.Words.{GotAll, rests_passed}
 use Rattle.dspec.proofs.Passing.{got_more}
 use Rattle.dspec.proofs.running.pass_rests.Goals as goal
 

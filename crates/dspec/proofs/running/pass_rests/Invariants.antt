@@ -1,6 +1,6 @@
 -- The sink got what was left of the CPUs below.
 use Rattle.std.proofs.Common.{take}
-use Rattle.dspec.specs.Passed.{GotAll, rests_passed}
+use Rattle.dspec.specs.Words.{GotAll, rests_passed}
 use Rattle.dspec.proofs.running.pass_rests.Given as goal
 
 abbrev pub invariant-loop-cpu : goal.invariant-loop-cpu

@@ -1,9 +1,5 @@
 use Rattle.std.proofs.Common.{rules}
-use Rattle.dspec_record.specs.EnablingRows.{EnabledRows}
-use Rattle.dspec_cpu.specs.Lists.{words_of}
-use Rattle.dspec.specs.Lent.{AllReturned}
-use Rattle.dspec.specs.Passed.{PassesOn}
-use Rattle.dspec.specs.Serving.{ThenServed}
+use Rattle.dspec.specs.Words.{EnabledRows, words_of, AllReturned, PassesOn, ThenServed}
 use Rattle.dspec.proofs.Returning.{all_callable, session_again}
 use Rattle.dspec.proofs.running.run.Goals as goal
 

@@ -1,18 +1,10 @@
 use Rattle.std.proofs.Common.{◌≡◌, ◌<◌, ℕ, List, ap, sym, ◌∙◌, subst}
-use Rattle.dspec_record.specs.EnablingRows.{EnabledRows}
-use Rattle.dspec_record.specs.Schemas.{enabled, table_shape, table_accepts, table_text}
+use Rattle.dspec.specs.Words.{EnabledRows, enabled, table_shape, table_accepts, table_text, set_up, words_of, ClosesAs, IsClosedBy, view_of, Has, IsPromisedBy, called_at, entered_at, HasAt}
+use Rattle.dspec.specs.Words.{taken_at, worn_at, ThenServed}
 use Rattle.dspec_deeds.specs.declared.config.Config.{Config}
 use Rattle.dspec_deeds.specs.declared.deed.Deed.{Deed}
 use Rattle.dspec_cpu.specs.declared.shared.Shared.{Shared}
 use Rattle.dspec_table.specs.declared.rule.View.{View}
-use Rattle.dspec_table.specs.Seats.{set_up}
-use Rattle.dspec_cpu.specs.Lists.{words_of}
-use Rattle.dspec_session_core.specs.Closing.{ClosesAs, IsClosedBy}
-use Rattle.dspec_session_core.specs.Consumers.{view_of}
-use Rattle.dspec_session_core.specs.Leaving.{Has}
-use Rattle.dspec_session_core.specs.Promised.{IsPromisedBy, called_at, entered_at}
-use Rattle.dspec_session_core.specs.Sessions.{HasAt, taken_at, worn_at}
-use Rattle.dspec.specs.Serving.{ThenServed}
 use Rattle.dspec.proofs.Returning.{worked}
 use Rattle.dspec.proofs.Tracing.{by_one_list, fresh_none, kept_alone, listed, traced}
 use Rattle.dspec.proofs.running.trace.Goals as goal

@@ -1,7 +1,5 @@
 use Rattle.std.proofs.Common.{◌≡◌, ◌<◌, ◌≤◌, inl, inr, refl}
-use Rattle.dspec_cpu.specs.Lists.{words_of}
-use Rattle.dspec_session_core.specs.Asking.{Asked}
-use Rattle.dspec_session_core.specs.Consumers.{set_up_of}
+use Rattle.dspec.specs.Words.{words_of, Asked, set_up_of}
 use Rattle.dspec.proofs.Passing.{ask_ends, ask_own, back_own, back_taken, ends_taken, none_own, none_taken, passes_both, passes_none, passes_one}
 use Rattle.dspec.proofs.Visiting.{was_asked, went_back}
 use Rattle.dspec.proofs.running.visit.Goals as goal

@@ -1,6 +1,5 @@
 use Rattle.std.proofs.Common.{◌≡◌, ◌+◌, ℕ, refl, subst, arith}
-use Rattle.dspec_cpu.specs.Lists.{words_of}
-use Rattle.dspec.specs.Visits.{VisitsFirst, none_visited, one_more}
+use Rattle.dspec.specs.Words.{words_of, VisitsFirst, none_visited, one_more}
 use Rattle.dspec.proofs.Passing.{ends_taken, passes_both, passes_nothing, passes_released}
 use Rattle.dspec.proofs.running.visit_all.Goals as goal
 

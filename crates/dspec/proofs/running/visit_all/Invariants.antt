@@ -1,7 +1,5 @@
 -- The sink got what was taken, of the CPUs that were visited.
-use Rattle.dspec_cpu.specs.Lists.{words_of}
-use Rattle.dspec.specs.Passed.{PassesOn}
-use Rattle.dspec.specs.Visits.{VisitsFirst}
+use Rattle.dspec.specs.Words.{words_of, PassesOn, VisitsFirst}
 use Rattle.dspec.proofs.running.visit_all.Given as goal
 
 abbrev pub invariant-loop-cpu : goal.invariant-loop-cpu

@@ -1,6 +1,6 @@
 -- Whoever tells the records that are ahead has told all.
 use Rattle.std.specs.Fmt.{WritesText}
-use Rattle.dspec.specs.TextSinks.{ToldInTurn, told_line}
+use Rattle.dspec.specs.Words.{ToldInTurn, told_line}
 use Rattle.dspec.proofs.text_sink.tell_all.Given as goal
 
 abbrev pub invariant-loop-rec : goal.invariant-loop-rec

@@ -1,7 +1,7 @@
 -- The CPUs, and the workers, that are in pairs, and those that are still to come.
 use Rattle.std.proofs.Common.{◌≡◌, ◌≤◌, ◌+◌, ◌++◌, length}
 use Rattle.std.specs.Prelude.{vec_capacity}
-use Rattle.dspec.specs.Workers.{cpus_of, workers_of}
+use Rattle.dspec.specs.Words.{cpus_of, workers_of}
 use Rattle.dspec.proofs.workers.pair_up.Given as goal
 
 abbrev pub invariant-loop-cpus : goal.invariant-loop-cpus

@@ -1,6 +1,5 @@
 use Rattle.std.proofs.Common.{◌++◌, length, ap, refl, arith}
-use Rattle.dspec.specs.Workers.{cpus_of, workers_of}
-use Rattle.dspec.specs.declared.workers.Working.{Working}
+use Rattle.dspec.specs.Words.{cpus_of, workers_of, Working}
 use Rattle.dspec.proofs.Working.{moved_out}
 use Rattle.dspec.proofs.workers.part_again.Goals as goal
 

@@ -1,7 +1,7 @@
 -- Those that are out of their pairs, and those that are still in one.
 use Rattle.std.proofs.Common.{◌≡◌, ◌≤◌, ◌+◌, ◌++◌, length}
 use Rattle.std.specs.Prelude.{vec_capacity}
-use Rattle.dspec.specs.Workers.{cpus_of, workers_of}
+use Rattle.dspec.specs.Words.{cpus_of, workers_of}
 use Rattle.dspec.proofs.workers.part_again.Given as goal
 
 abbrev pub invariant-loop-pairs : goal.invariant-loop-pairs

@@ -1,9 +1,6 @@
 use Rattle.std.proofs.Common.{List, length, sym, ap, ◌∙◌, subst}
 use Rattle.dspec_cpu.specs.declared.cpu.Cpu.{Cpu}
-use Rattle.dspec_record.specs.EnablingRows.{EnabledRows}
-use Rattle.dspec.specs.Lent.{AllCallable, AllReturned}
-use Rattle.dspec.specs.Serving.{ThenServed}
-use Rattle.dspec.specs.Workers.{AllNumbered, WorkedBy, cpus_of, workers_of}
+use Rattle.dspec.specs.Words.{EnabledRows, AllCallable, AllReturned, ThenServed, AllNumbered, WorkedBy, cpus_of, workers_of}
 use Rattle.dspec.proofs.Returning.{all_callable, session_again}
 use Rattle.dspec.proofs.Working.{all_numbered, pairs_returned, workers_all}
 use Rattle.dspec.proofs.workers.run_workers.Goals as goal

@@ -1,7 +1,5 @@
 use Rattle.std.proofs.Common.{subst, sym, reverse, IfErr}
-use Rattle.dspec_buffer.specs.Extent.{records}
-use Rattle.dspec_buffer.specs.BufferText.{BufferText}
-use Rattle.dspec_buffer.specs.Faults.{StopsAt}
+use Rattle.dspec_buffer.specs.Words.{records, BufferText, StopsAt}
 use Rattle.dspec_buffer.proofs.SchemaLaws.{SchemaLaws}
 use Rattle.dspec_buffer.proofs.Walks.{reads_back, read_all_reads}
 use Rattle.dspec_buffer.proofs.laws.read_back.Goals as goal

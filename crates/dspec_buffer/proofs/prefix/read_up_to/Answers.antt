@@ -1,5 +1,5 @@
 use Rattle.std.proofs.Common.{Ok, subst}
-use Rattle.dspec_buffer.specs.ReadingOn.{ReadsNext}
+use Rattle.dspec_buffer.specs.Words.{ReadsNext}
 use Rattle.dspec_buffer.proofs.SchemaLaws.{SchemaLaws}
 use Rattle.dspec_buffer.proofs.Coming.{reads_one}
 use Rattle.dspec_buffer.proofs.prefix.read_up_to.Goals as goal

@@ -1,6 +1,6 @@
 use Rattle.std.proofs.Common.{Ok, subst, arith}
 use Rattle.std.proofs.lemmas.Result.{err_from_is_err_and}
-use Rattle.dspec_buffer.specs.ReadingOn.{ReadsNext}
+use Rattle.dspec_buffer.specs.Words.{ReadsNext}
 use Rattle.dspec_buffer.proofs.SchemaLaws.{SchemaLaws}
 use Rattle.dspec_buffer.proofs.Coming.{reads_one, reads_all, stops}
 use Rattle.dspec_buffer.proofs.Faulty.{stops_unreadable}

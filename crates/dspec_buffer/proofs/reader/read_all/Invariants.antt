@@ -1,5 +1,5 @@
 use Rattle.std.proofs.Common.{◌-◌, length}
-use Rattle.dspec_buffer.specs.ReadingOn.{HasRead}
+use Rattle.dspec_buffer.specs.Words.{HasRead}
 use Rattle.dspec_buffer.proofs.reader.read_all.Given as goal
 
 abbrev pub invariant-loop-found : goal.invariant-loop-found

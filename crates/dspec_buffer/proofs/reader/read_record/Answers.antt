@@ -1,8 +1,7 @@
 use Rattle.std.proofs.Common.{Err, subst, refl, drop, arith, length-drop}
 use Rattle.std.proofs.lemmas.List.{take_rest}
-use Rattle.dspec_record.specs.Reading.{Answers}
+use Rattle.dspec_buffer.specs.Words.{Answers, FaultHere}
 use Rattle.dspec_record.specs.declared.reading.ReadKind.TheVariants.{Misaligned}
-use Rattle.dspec_buffer.specs.Faults.{FaultHere}
 use Rattle.dspec_buffer.proofs.SchemaLaws.{SchemaLaws}
 use Rattle.dspec_buffer.proofs.Got.{got_record, got_fault}
 use Rattle.dspec_buffer.proofs.reader.read_record.Goals as goal

@@ -1,5 +1,5 @@
 use Rattle.std.proofs.Common.{◌≡◌, ◌+◌, ◌<◌, arith}
-use Rattle.dspec_record.specs.Layout.{rounded_up}
+use Rattle.dspec_buffer.specs.Words.{rounded_up}
 use Rattle.dspec_buffer.proofs.reserving.place_for.Goals as goal
 
 pub returns-then-from : goal.returns-then-from

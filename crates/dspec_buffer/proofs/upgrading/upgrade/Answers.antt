@@ -1,7 +1,6 @@
 -- Each record that is read is accepted with the stamp; the first that is refused tells why not all of them fit.
 use Rattle.std.proofs.Common.{◌≡◌, ◌∷◌, [], List, sym, ◌∙◌, ap, subst}
-use Rattle.dspec_record.specs.Record.{Record}
-use Rattle.dspec_buffer.specs.Upgrading.{IsUpgraded, stamped, FillsUp}
+use Rattle.dspec_buffer.specs.Words.{Record, IsUpgraded, stamped, FillsUp}
 use Rattle.dspec_buffer.proofs.Upgrades.{IsUpgrading, upgrading-next-accepted, upgrading-refused, upgrading-pushed, upgrading-end, fills-not-upgradable}
 use Rattle.dspec_buffer.proofs.upgrading.upgrade.Goals as goal
 

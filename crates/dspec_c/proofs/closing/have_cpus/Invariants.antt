@@ -1,7 +1,6 @@
 use Rattle.std.proofs.Common.{◌≡◌, true, take}
 use Rattle.std.specs.List.{list_all}
-use Rattle.dspec_c.specs.Closing.{KeepAll, held_in_each}
-use Rattle.dspec_c.specs.SessionCalls.{is_cpu_in}
+use Rattle.dspec_c.specs.Words.{KeepAll, held_in_each, is_cpu_in}
 use Rattle.dspec_c.proofs.closing.have_cpus.Given as goal
 
 -- each so far has a CPU, and all have what they had

@@ -1,7 +1,6 @@
 use Rattle.std.proofs.Common.{ℕ, ◌≡◌, ◌≤◌, false, replicate, take}
 use Rattle.std.specs.Prelude.{slice_index_or}
-use Rattle.dspec_c.specs.Closing.{held_in_each, fulls, names}
-use Rattle.dspec_c.specs.declared.held.Held.TheVariants.{Nothing}
+use Rattle.dspec_c.specs.Words.{held_in_each, fulls, names, Nothing}
 use Rattle.dspec_c.proofs.closing.send_all.Given as goal
 
 -- those so far are empty, and the others have what they had

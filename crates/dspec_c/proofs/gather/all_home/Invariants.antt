@@ -1,5 +1,5 @@
 use Rattle.std.proofs.Common.{ℕ, ◌<◌}
-use Rattle.dspec_c.specs.Whole.{AreCame, IsInsideAt}
+use Rattle.dspec_c.specs.Words.{AreCame, IsInsideAt}
 use Rattle.dspec_c.proofs.gather.all_home.Given as goal
 
 -- each so far was looked at, and is inside

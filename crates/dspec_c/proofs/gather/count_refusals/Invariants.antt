@@ -1,6 +1,6 @@
 use Rattle.std.proofs.Common.{◌≡◌, ◌+◌, ◌≤◌, length, take}
 use Rattle.std.specs.Prelude.{vec_capacity, vec_len}
-use Rattle.dspec_c.specs.Whole.{refusals}
+use Rattle.dspec_c.specs.Words.{refusals}
 use Rattle.dspec_c.proofs.gather.count_refusals.Given as goal
 
 -- those of the places so far, with room for the others

@@ -1,9 +1,7 @@
 use Rattle.std.proofs.Common.{◌≡◌, ◌+◌, ◌++◌, ◌≤◌, List, length, Some}
 use Rattle.std.specs.Prelude.{map, vec_capacity, vec_len}
-use Rattle.dspec_record.specs.EnablingRows.{EnabledRows}
-use Rattle.dspec_ring.specs.Known.{Pair}
+use Rattle.dspec_c.specs.Words.{EnabledRows, Pair, AllInside, EachFrom, IsCpuAt, IsPlaceOf, firsts, insides}
 use Rattle.dspec_cpu.specs.declared.shared.Shared.{Shared}
-use Rattle.dspec_c.specs.Whole.{AllInside, EachFrom, IsCpuAt, IsPlaceOf, firsts, insides}
 use Rattle.dspec_c.proofs.gather.gather.Given as goal
 
 abbrev pub invariant-loop-places : goal.invariant-loop-places

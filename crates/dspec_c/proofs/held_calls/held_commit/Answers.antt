@@ -1,14 +1,10 @@
 use Rattle.std.proofs.Common.{false, refl, ◌≡◌}
-use Rattle.dspec_word.specs.SpecId.{Speculation}
-use Rattle.dspec_promise.specs.Promise.{commit}
-use Rattle.dspec_c.specs.Answered.{AnsweredWith}
-use Rattle.dspec_c.specs.CpuCalls.{DecidedAs, Names, OnSide}
-use Rattle.dspec_c.specs.Statuses.{decided_number, decided_status}
+use Rattle.dspec_c.specs.Words.{Speculation, commit, AnsweredWith, DecidedAs, OnSide, decided_number, decided_status, IsNumberOf}
 use Rattle.dspec_c.proofs.Calls.{on_cpu}
 use Rattle.dspec_c.proofs.held_calls.held_commit.Goals as goal
 
 pub returns-in-Cpu : goal.returns-in-Cpu
-returns-in-Cpu c = on_cpu (λ old new. (id : Speculation) × Names c.args.id id
+returns-in-Cpu c = on_cpu (λ old new. (id : Speculation) × IsNumberOf c.args.id id
     × AnsweredWith decided_status decided_number (λ a. OnSide false (DecidedAs commit id a) old new) c.of_decided.result c.args.count.now c.of_decided.new.count)
     (c.of_decided.new.count ≡ c.args.count.now) _ _ _ _ _ c.in-Cpu.is refl (
       c.from_raw.result,

@@ -1,13 +1,10 @@
 use Rattle.std.proofs.Common.{false, refl, ◌≡◌}
-use Rattle.dspec_word.specs.SpecId.{Speculation}
-use Rattle.dspec_c.specs.Answered.{AnsweredWith}
-use Rattle.dspec_c.specs.CpuCalls.{CommittedIfRoom, Names, OnSide}
-use Rattle.dspec_c.specs.Statuses.{committed_number, committed_status}
+use Rattle.dspec_c.specs.Words.{Speculation, AnsweredWith, CommittedIfRoom, OnSide, committed_number, committed_status, IsNumberOf}
 use Rattle.dspec_c.proofs.Calls.{on_cpu}
 use Rattle.dspec_c.proofs.held_calls.held_commit_if_room.Goals as goal
 
 pub returns-in-Cpu : goal.returns-in-Cpu
-returns-in-Cpu c = on_cpu (λ old new. (id : Speculation) × Names c.args.id id
+returns-in-Cpu c = on_cpu (λ old new. (id : Speculation) × IsNumberOf c.args.id id
     × AnsweredWith committed_status committed_number (λ a. OnSide false (CommittedIfRoom id a) old new) c.of_committed.result c.args.count.now c.of_committed.new.count)
     (c.of_committed.new.count ≡ c.args.count.now) _ _ _ _ _ c.in-Cpu.is refl (
       c.from_raw.result,

@@ -1,11 +1,10 @@
 use Rattle.std.proofs.Common.{refl, ◌≡◌}
-use Rattle.dspec_word.specs.SpecId.{Speculation}
-use Rattle.dspec_c.specs.CpuCalls.{Drops, Names}
+use Rattle.dspec_c.specs.Words.{Speculation, Drops, IsNumberOf}
 use Rattle.dspec_c.proofs.Calls.{on_cpu}
 use Rattle.dspec_c.proofs.held_calls.held_dropped_in.Goals as goal
 
 pub returns-in-Cpu : goal.returns-in-Cpu
-returns-in-Cpu c = on_cpu (λ old new. (0 ≡ 0) × (new ≡ old) × ((id : Speculation) × Names c.args.id id × Drops id old.cpu c.dropped_in.result)) (c.dropped_in.result ≡ c.args.count.now) _ _ _
+returns-in-Cpu c = on_cpu (λ old new. (0 ≡ 0) × (new ≡ old) × ((id : Speculation) × IsNumberOf c.args.id id × Drops id old.cpu c.dropped_in.result)) (c.dropped_in.result ≡ c.args.count.now) _ _ _
     c.in-Cpu.side c.in-Cpu.side c.in-Cpu.is refl (
       refl,
       refl,

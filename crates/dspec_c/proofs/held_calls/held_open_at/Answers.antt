@@ -1,7 +1,5 @@
 use Rattle.std.proofs.Common.{refl, ◌≡◌, Option}
-use Rattle.dspec_word.specs.SpecId.{Speculation}
-use Rattle.dspec_c.specs.CpuCalls.{OpensAt}
-use Rattle.dspec_c.specs.Statuses.{id_or_zero}
+use Rattle.dspec_c.specs.Words.{Speculation, OpensAt, id_or_zero}
 use Rattle.dspec_c.proofs.Calls.{on_cpu}
 use Rattle.dspec_c.proofs.held_calls.held_open_at.Goals as goal
 

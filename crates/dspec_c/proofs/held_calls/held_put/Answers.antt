@@ -1,8 +1,6 @@
 use Rattle.std.proofs.Common.{refl}
 use Rattle.std.specs.Prelude.{is_none, ⊤}
-use Rattle.dspec_c.specs.Answered.{Answered}
-use Rattle.dspec_c.specs.CpuCalls.{Put, OnSide}
-use Rattle.dspec_c.specs.Statuses.{traced_status}
+use Rattle.dspec_c.specs.Words.{Answered, Put, OnSide, traced_status}
 use Rattle.dspec_c.proofs.Calls.{on_cpu}
 use Rattle.dspec_c.proofs.held_calls.held_put.Goals as goal
 

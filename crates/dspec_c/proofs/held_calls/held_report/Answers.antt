@@ -1,7 +1,6 @@
 use Rattle.std.proofs.Common.{refl, ◌≡◌, subst}
 use Rattle.dspec_deeds.specs.declared.report.Report.{Report}
-use Rattle.dspec_c.specs.CpuCalls.{Reports}
-use Rattle.dspec_c.specs.Shows.{TellsReport}
+use Rattle.dspec_c.specs.Words.{Reports, TellsReport}
 use Rattle.dspec_c.proofs.Calls.{on_cpu}
 use Rattle.dspec_c.proofs.held_calls.held_report.Goals as goal
 

@@ -1,6 +1,6 @@
 use Rattle.std.proofs.Common.{false, refl, ◌≡◌}
 use Rattle.dspec_deeds.specs.declared.calls.Served.{Served}
-use Rattle.dspec_c.specs.CpuCalls.{OnSide, ServicedSo}
+use Rattle.dspec_c.specs.Words.{OnSide, ServicedSo}
 use Rattle.dspec_c.proofs.Calls.{on_cpu}
 use Rattle.dspec_c.proofs.held_calls.held_service.Goals as goal
 

@@ -1,11 +1,9 @@
 use Rattle.std.proofs.Common.{false, refl, ◌≡◌}
-use Rattle.dspec_c.specs.Answered.{AnsweredWith}
-use Rattle.dspec_c.specs.CpuCalls.{OnSide, Opened}
-use Rattle.dspec_c.specs.Statuses.{opened_number, opening_status}
+use Rattle.dspec_c.specs.Words.{AnsweredWith, OnSide, opened_number, opening_status, CpuOpened}
 use Rattle.dspec_c.proofs.Calls.{on_cpu}
 use Rattle.dspec_c.proofs.held_calls.held_speculation.Goals as goal
 
 pub returns-in-Cpu : goal.returns-in-Cpu
-returns-in-Cpu c = on_cpu (λ old new. AnsweredWith opening_status opened_number (λ a. OnSide false (Opened a) old new) c.of_opening.result c.args.id.now c.of_opening.new.id)
+returns-in-Cpu c = on_cpu (λ old new. AnsweredWith opening_status opened_number (λ a. OnSide false (CpuOpened a) old new) c.of_opening.result c.args.id.now c.of_opening.new.id)
     (c.of_opening.new.id ≡ c.args.id.now) _ _ _ _ _ c.in-Cpu.is refl
     (record { answer = c.speculation.result; numbered = c.of_opening.ensures.status; tells = c.of_opening.ensures.id; done = c.speculation.ensures.did })

@@ -1,8 +1,6 @@
 use Rattle.std.proofs.Common.{refl}
 use Rattle.std.specs.Prelude.{⊤}
-use Rattle.dspec_c.specs.Answered.{Answered}
-use Rattle.dspec_c.specs.ConsumerCalls.{Asks, OnOut}
-use Rattle.dspec_c.specs.Statuses.{asked_status}
+use Rattle.dspec_c.specs.Words.{Answered, Asks, OnOut, asked_status}
 use Rattle.dspec_c.proofs.Calls.{on_consumer}
 use Rattle.dspec_c.proofs.held_consumer_calls.held_ask.Goals as goal
 

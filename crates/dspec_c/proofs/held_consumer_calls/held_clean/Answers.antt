@@ -1,5 +1,5 @@
 use Rattle.std.proofs.Common.{refl, ◌≡◌}
-use Rattle.dspec_c.specs.ConsumerCalls.{CleansSo, OnOut}
+use Rattle.dspec_c.specs.Words.{CleansSo, OnOut}
 use Rattle.dspec_c.proofs.Calls.{on_consumer}
 use Rattle.dspec_c.proofs.held_consumer_calls.held_clean.Goals as goal
 

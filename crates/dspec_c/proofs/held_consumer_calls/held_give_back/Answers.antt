@@ -1,8 +1,6 @@
 use Rattle.std.proofs.Common.{refl}
 use Rattle.std.specs.Prelude.{⊤}
-use Rattle.dspec_c.specs.Answered.{Answered}
-use Rattle.dspec_c.specs.ConsumerCalls.{Returns}
-use Rattle.dspec_c.specs.Statuses.{returned_status}
+use Rattle.dspec_c.specs.Words.{Answered, Returns, returned_status}
 use Rattle.dspec_c.proofs.Calls.{on_consumer}
 use Rattle.dspec_c.proofs.held_consumer_calls.held_give_back.Goals as goal
 

@@ -1,7 +1,6 @@
 use Rattle.std.proofs.Common.{refl, ◌≡◌}
 use Rattle.std.specs.Prelude.{⊤}
-use Rattle.dspec_session_core.specs.Stopping.{Stopped}
-use Rattle.dspec_c.specs.ConsumerCalls.{OnOut}
+use Rattle.dspec_c.specs.Words.{Stopped, OnOut}
 use Rattle.dspec_c.proofs.Calls.{on_consumer}
 use Rattle.dspec_c.proofs.held_consumer_calls.held_stop.Goals as goal
 

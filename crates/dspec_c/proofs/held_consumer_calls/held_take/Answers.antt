@@ -1,7 +1,5 @@
 use Rattle.std.proofs.Common.{refl, ◌≡◌}
-use Rattle.dspec_c.specs.Answered.{Answered}
-use Rattle.dspec_c.specs.ConsumerCalls.{Finds}
-use Rattle.dspec_c.specs.Statuses.{found_status}
+use Rattle.dspec_c.specs.Words.{Answered, Finds, found_status}
 use Rattle.dspec_c.proofs.Calls.{on_consumer}
 use Rattle.dspec_c.proofs.held_consumer_calls.held_take.Goals as goal
 

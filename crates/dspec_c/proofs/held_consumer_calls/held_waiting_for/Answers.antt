@@ -1,6 +1,6 @@
 use Rattle.std.proofs.Common.{refl, sym, subst, ◌≡◌}
 use Rattle.std.specs.Prelude.{ℕ, Option}
-use Rattle.dspec_c.specs.ConsumerCalls.{OnOut, ToldSo, WaitsSo}
+use Rattle.dspec_c.specs.Words.{OnOut, ToldSo, WaitsSo}
 use Rattle.dspec_c.proofs.Calls.{on_consumer}
 use Rattle.dspec_c.proofs.held_consumer_calls.held_waiting_for.Goals as goal
 

@@ -1,7 +1,7 @@
 use Rattle.std.proofs.Common.{◌≡◌, ◌++◌, length}
 use Rattle.std.specs.Prelude.{map}
 use Rattle.std.specs.Arc.{arc_value}
-use Rattle.dspec_c.specs.Whole.{AllCalled, waiting_so}
+use Rattle.dspec_c.specs.Words.{AllCalled, waiting_so}
 use Rattle.dspec_c.proofs.places.places.Given as goal
 
 abbrev pub invariant-loop-alloc : goal.invariant-loop-alloc

@@ -1,10 +1,5 @@
 use Rattle.std.proofs.Common.{◌≡◌, true, is_some, IfSome, refl, subst}
-use Rattle.dspec_record.specs.EnablingRows.{EnabledRows}
-use Rattle.dspec_record.specs.PackedFields.{packed_of}
-use Rattle.dspec_record.specs.Record.{Record}
-use Rattle.dspec_cpu.specs.OneCall.{SpeculatesOne}
-use Rattle.dspec_session_core.specs.Sessions.{Has}
-use Rattle.dspec_c.specs.Puts.{record_as}
+use Rattle.dspec_c.specs.Words.{EnabledRows, packed_of, Record, SpeculatesOne, Has, record_as}
 use Rattle.dspec_c.proofs.Putting.{some_put}
 use Rattle.dspec_c.proofs.recording.put_in_as.Goals as goal
 

@@ -1,5 +1,5 @@
 use Rattle.std.proofs.Common.{◌≡◌, length, take, Some}
-use Rattle.dspec_c.specs.Widths.{fields_of_widths}
+use Rattle.dspec_c.specs.Words.{fields_of_widths}
 use Rattle.dspec_c.proofs.schema_calls.fields_of.Given as goal
 
 -- the fields so far are those of the widths so far

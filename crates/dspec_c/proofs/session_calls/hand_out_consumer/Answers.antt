@@ -1,8 +1,6 @@
 use Rattle.std.proofs.Common.{None, refl, sym, ap, ◌∙◌, rules, arith, subst}
 use Rattle.std.specs.Prelude.{replicate}
-use Rattle.dspec_c.specs.ConsumerHomes.{Theirs}
-use Rattle.dspec_c.specs.SessionCalls.{GivesConsumer, consumer_due}
-use Rattle.dspec_c.specs.Whole.{TheyGoOut}
+use Rattle.dspec_c.specs.Words.{Theirs, GivesConsumer, consumer_due, TheyGoOut}
 use Rattle.dspec_c.proofs.Handing.{given, theirs_none}
 use Rattle.dspec_c.proofs.session_calls.hand_out_consumer.Goals as goal
 

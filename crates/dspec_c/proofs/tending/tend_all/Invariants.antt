@@ -1,5 +1,5 @@
 use Rattle.std.proofs.Common.{◌≤◌, ◌*◌}
-use Rattle.dspec_c.specs.Tending.{AreTended}
+use Rattle.dspec_c.specs.Words.{AreTended}
 use Rattle.dspec_c.proofs.tending.tend_all.Given as goal
 
 -- each so far was tended, and a service settles no more than a number of four bytes

@@ -1,5 +1,5 @@
 use Rattle.std.proofs.Common.{sym, subst}
-use Rattle.dspec_c.specs.Tending.{IsTended}
+use Rattle.dspec_c.specs.Words.{IsTended}
 use Rattle.dspec_c.proofs.Tends.{place_here, tends_one}
 use Rattle.dspec_c.proofs.tending.tend_one.Goals as goal
 

@@ -1,9 +1,6 @@
 use Rattle.std.proofs.Common.{◌≡◌, ◌≤◌, length, reverse, sym, ap, ◌∙◌, subst, arith}
-use Rattle.dspec_deeds.specs.Closes.{reports}
-use Rattle.dspec_interleaving.specs.Coherent.{IsCoherent, progress_of}
+use Rattle.dspec_core.specs.Words.{reports, IsCoherent, progress_of, Headline, IsPlayingAt, all_ran, all_turned, playing_at_start, worn_count}
 use Rattle.dspec_deeds.specs.declared.config.Config.{Config}
-use Rattle.dspec_deeds.specs.Headline.{Headline}
-use Rattle.dspec_interleaving.specs.Plays.{IsPlayingAt, all_ran, all_turned, playing_at_start, worn_count}
 use Rattle.dspec_interleaving.proofs.PlayerRuns.{IsSoFar, all_idle, same_reports, so_far_first, so_far_last, so_far_unrefused, worn_as_told}
 use Rattle.dspec_core.proofs.player.play.Goals as goal
 

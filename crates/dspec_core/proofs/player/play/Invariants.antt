@@ -1,6 +1,6 @@
 -- The turns that are played.
 use Rattle.std.proofs.Common.{◌≡◌}
-use Rattle.dspec_interleaving.specs.Promised.{HasHeadline}
+use Rattle.dspec_core.specs.Words.{HasHeadline}
 use Rattle.dspec_interleaving.proofs.PlayerRuns.{IsSoFar}
 use Rattle.dspec_core.proofs.player.play.Given as goal
 

@@ -1,7 +1,5 @@
 use Rattle.std.proofs.Common.{◌<◌, ap, sym, ◌∙◌, subst}
-use Rattle.dspec_interleaving.specs.Bounds.{most_steps}
-use Rattle.dspec_interleaving.specs.Coherent.{PlayState}
-use Rattle.dspec_interleaving.specs.Plays.{Playing, IsPlayingAt, stepped, to_end}
+use Rattle.dspec_core.specs.Words.{most_steps, PlayState, Playing, IsPlayingAt, stepped, to_end}
 use Rattle.dspec_interleaving.proofs.PlayerMoves.{runs_on, runs_idle}
 use Rattle.dspec_core.proofs.player.run_actor.Goals as goal
 

@@ -1,7 +1,6 @@
 -- The run so far, and what its steps keep.
 use Rattle.std.proofs.Common.{◌≡◌}
-use Rattle.dspec_interleaving.specs.Bounds.{most_steps}
-use Rattle.dspec_interleaving.specs.Promised.{HasHeadline}
+use Rattle.dspec_core.specs.Words.{most_steps, HasHeadline}
 use Rattle.dspec_interleaving.proofs.PlayerMoves.{RunsOn}
 use Rattle.dspec_core.proofs.player.run_actor.Given as goal
 

@@ -1,6 +1,6 @@
 -- The CPUs that have run to their ends.
 use Rattle.std.proofs.Common.{◌≡◌}
-use Rattle.dspec_interleaving.specs.Promised.{HasHeadline}
+use Rattle.dspec_core.specs.Words.{HasHeadline}
 use Rattle.dspec_interleaving.proofs.PlayerRuns.{RanCpus}
 use Rattle.dspec_core.proofs.player.run_all.Given as goal
 

@@ -1,7 +1,7 @@
 use Rattle.std.proofs.Common.{subst, sym}
 use Rattle.dspec_deeds.specs.declared.calls.Actor.TheVariants as actor
 use Rattle.dspec_deeds.specs.declared.calls.Turn.{Turn}
-use Rattle.dspec_interleaving.specs.Plays.{IsPlayingAt, begun_cpu, begun_consumer, ran, turned}
+use Rattle.dspec_core.specs.Words.{IsPlayingAt, begun_cpu, begun_consumer, ran, turned}
 use Rattle.dspec_core.proofs.player.take_turn.Goals as goal
 
 pub returns-in_ok-run_actor-in-RunCpu-clause-turned : goal.returns-in_ok-run_actor-in-RunCpu-clause-turned

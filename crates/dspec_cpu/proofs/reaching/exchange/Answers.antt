@@ -1,7 +1,5 @@
 use Rattle.std.proofs.Common.{sym, subst}
-use Rattle.dspec_word.specs.Word.{SlotState}
-use Rattle.dspec_table.specs.Conditions.{Attempts}
-use Rattle.dspec_table.specs.Steps.{TriedExchange}
+use Rattle.dspec_cpu.specs.Words.{SlotState, Attempts, TriedExchange}
 use Rattle.dspec_table.proofs.Flights.{speculate_joins}
 use Rattle.dspec_cpu.proofs.reaching.exchange.Goals as goal
 

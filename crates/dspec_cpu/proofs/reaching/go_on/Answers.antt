@@ -1,8 +1,6 @@
 use Rattle.std.proofs.Common.{◌∙◌, ℕ, not, refl, sym, subst}
 use Rattle.dspec_word.specs.declared.act.Act.TheVariants.{Void, Granted, Attempt}
-use Rattle.dspec_table.specs.Conditions.{IsInFlight}
-use Rattle.dspec_table.specs.Seats.{known, set_up, cpu_of}
-use Rattle.dspec_table.specs.Steps.{LoadedActivity}
+use Rattle.dspec_cpu.specs.Words.{IsInFlight, known, set_up, cpu_of, LoadedActivity}
 use Rattle.dspec_cpu.specs.declared.reaching.Reach.TheVariants as reach
 use Rattle.dspec_cpu.proofs.ReachDeeds.{never_idle}
 use Rattle.dspec_cpu.proofs.Reaches.{at_stop, outside, flight, behind, is_running, void_running, at_seat}

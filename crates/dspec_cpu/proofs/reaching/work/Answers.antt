@@ -1,7 +1,5 @@
 use Rattle.std.proofs.Common.{◌∙◌, ℕ, true, false, sym, subst, arith}
-use Rattle.dspec_table.specs.Conditions.{MayTry}
-use Rattle.dspec_table.specs.Seats.{known, set_up, cpu_of}
-use Rattle.dspec_cpu.specs.Reaching.{Shown}
+use Rattle.dspec_cpu.specs.Words.{MayTry, known, set_up, cpu_of, Shown}
 use Rattle.dspec_cpu.proofs.Retries.{loaded, loaded_steps, may_try, tried, fewer_left, hit_steps, loads, step_made, no_attempt, no_release, none_owned}
 use Rattle.dspec_cpu.proofs.reaching.work.Goals as goal
 

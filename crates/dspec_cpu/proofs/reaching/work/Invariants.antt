@@ -1,7 +1,5 @@
 use Rattle.std.proofs.Common.{◌≡◌, ◌+◌, ◌≤◌, false}
-use Rattle.dspec_word.specs.Word.{CanBeReleased}
-use Rattle.dspec_table.specs.Seats.{known, IsAt, set_up, cpu_of}
-use Rattle.dspec_cpu.specs.Reaching.{turns, Shown}
+use Rattle.dspec_cpu.specs.Words.{CanBeReleased, known, IsAt, set_up, cpu_of, turns, Shown}
 use Rattle.dspec_cpu.proofs.Retries.{left}
 use Rattle.dspec_cpu.proofs.reaching.work.Given as goal
 

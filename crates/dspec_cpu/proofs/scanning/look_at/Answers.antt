@@ -1,9 +1,6 @@
 use Rattle.std.proofs.Common.{◌≡◌, ◌∙◌, ◌∷◌, [], true, false, sym, ap, subst}
 use Rattle.dspec_deeds.specs.declared.deed.Deed.TheVariants.{Opened, Miss}
-use Rattle.dspec_table.specs.Seats.{known, set_up, cpu_of}
-use Rattle.dspec_table.specs.Steps.{LoadedWord}
-use Rattle.dspec_word.specs.SpecId.{Speculation}
-use Rattle.dspec_word.specs.Tables.{open_at}
+use Rattle.dspec_cpu.specs.Words.{known, set_up, cpu_of, LoadedWord, Speculation, open_at}
 use Rattle.dspec_cpu.specs.declared.scanning.Look.TheVariants as look
 use Rattle.dspec_cpu.proofs.Slots.{passes, passed, tried}
 use Rattle.dspec_cpu.proofs.scanning.look_at.Goals as goal

@@ -1,9 +1,6 @@
 use Rattle.std.proofs.Common.{◌≡◌, ◌∙◌, ◌+◌, ◌<◌, ◌||◌, ℕ, not, sym, ap, subst, arith}
 use Rattle.dspec_deeds.specs.declared.config.Config.{Config}
-use Rattle.dspec_deeds.specs.History.{scan}
-use Rattle.dspec_table.specs.Seats.{known, set_up, cpu_of}
-use Rattle.dspec_table.specs.Steps.{LoadedActivity}
-use Rattle.dspec_cpu.specs.Scans.{LookedAtSlot}
+use Rattle.dspec_cpu.specs.Words.{scan, known, set_up, cpu_of, LoadedActivity, LookedAtSlot}
 use Rattle.dspec_cpu.specs.declared.scanning.Look.TheVariants as look
 use Rattle.dspec_cpu.proofs.Scans.{Came, runs, stops, goes_by, gives, ends, next_slot, next_flight}
 use Rattle.dspec_cpu.proofs.scanning.scan_slots.Goals as goal

@@ -1,6 +1,6 @@
 -- The slots so far were missed.
 use Rattle.std.proofs.Common.{◌≡◌}
-use Rattle.dspec_table.specs.Seats.{known, IsAt, set_up, cpu_of}
+use Rattle.dspec_cpu.specs.Words.{known, IsAt, set_up, cpu_of}
 use Rattle.dspec_cpu.proofs.Scans.{Came}
 use Rattle.dspec_cpu.proofs.scanning.scan_slots.Given as goal
 

@@ -1,7 +1,6 @@
 use Rattle.std.proofs.Common.{◌≡◌, ◌∙◌, ap}
 use Rattle.dspec_word.specs.declared.code.Code.{Code}
-use Rattle.dspec_deeds.specs.Settling.{settled_fate}
-use Rattle.dspec_cpu.specs.Settled.{shown_at}
+use Rattle.dspec_cpu.specs.Words.{settled_fate, shown_at}
 use Rattle.dspec_cpu.proofs.OwnBlocks.{block_settled, drops, room, there}
 use Rattle.dspec_cpu.proofs.settling.settle_block.Goals as goal
 

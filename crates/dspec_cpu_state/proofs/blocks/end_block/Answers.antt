@@ -1,7 +1,7 @@
 use Rattle.std.proofs.Common.{◌≡◌, ◌∙◌, Bool, true, false, List, [], ◌∷◌, map, refl, if◌then◌else◌, sym, ap, subst}
 use Rattle.std.proofs.lemmas.Bool.{OnTrue_at}
 use Rattle.std.proofs.lemmas.Option.{get_or_from_slice_get}
-use Rattle.dspec_buffer.specs.Extent.{Piece, one, block, piece_fits}
+use Rattle.dspec_cpu_state.specs.Words.{Piece, one, block, piece_fits}
 use Rattle.dspec_cpu_state.proofs.Ones.{set_same}
 use Rattle.dspec_cpu_state.proofs.blocks.end_block.Goals as goal
 use Rattle.dspec_cpu_state.proofs.blocks.end_block.Goals.{then-fit, else-fit}

@@ -1,6 +1,6 @@
 use Rattle.std.proofs.Common.{◌∙◌, [], length, map, if◌then◌else◌, sym, ap}
 use Rattle.std.specs.Prelude.{nat_le}
-use Rattle.dspec_buffer.specs.Extent.{one, reserved, extent, extent_of_records}
+use Rattle.dspec_cpu_state.specs.Words.{one, reserved, extent, extent_of_records}
 use Rattle.dspec_cpu_state.proofs.Ones.{extent_ones, records_ones}
 use Rattle.dspec_cpu_state.proofs.blocks.measure.Goals as goal
 

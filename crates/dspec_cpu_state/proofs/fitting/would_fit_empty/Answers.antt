@@ -1,9 +1,7 @@
 use Rattle.std.proofs.Common.{◌≡◌, ◌⊎◌, ◌∙◌, ℕ, ◌==◌, true, false, [], Option, Some, if◌then◌else◌, sym, ap, subst, ⊎_elim, arith}
 use Rattle.std.specs.Prelude.{nat_le}
-use Rattle.dspec_record.specs.Record.{Record}
+use Rattle.dspec_cpu_state.specs.Words.{Record, after, reserved, one, piece_fits}
 use Rattle.dspec_record.specs.declared.field.Shape.{Shape}
-use Rattle.dspec_record.specs.Layout.{after}
-use Rattle.dspec_buffer.specs.Extent.{reserved, one, piece_fits}
 use Rattle.dspec_deeds.proofs.TestLemmas.{either_way, same_number}
 use Rattle.dspec_cpu_state.proofs.fitting.would_fit_empty.Goals as goal
 

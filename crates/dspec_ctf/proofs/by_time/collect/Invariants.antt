@@ -1,5 +1,5 @@
 use Rattle.std.proofs.Common.{take, map}
-use Rattle.dspec_ctf.specs.ByTime.{AreTexts}
+use Rattle.dspec_ctf.specs.Words.{AreTexts}
 use Rattle.dspec_ctf.proofs.by_time.collect.Given as goal
 
 abbrev pub invariant-loop-number : goal.invariant-loop-number

@@ -1,6 +1,6 @@
 use Rattle.std.proofs.Common.{◌≡◌, ◌++◌, ◌-◌}
 use Rattle.std.specs.List.{flat_map, range_with_len}
-use Rattle.dspec_ctf.specs.ByTime.{packet_at}
+use Rattle.dspec_ctf.specs.Words.{packet_at}
 use Rattle.dspec_ctf.proofs.by_time.put_packets.Given as goal
 
 abbrev pub invariant-loop-place : goal.invariant-loop-place

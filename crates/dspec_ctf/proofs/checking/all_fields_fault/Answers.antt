@@ -1,6 +1,6 @@
 use Rattle.std.proofs.Common.{◌∙◌, length, sym}
 use Rattle.std.specs.List.{range_with_len}
-use Rattle.dspec_ctf.specs.Names.{fault_at, first_found}
+use Rattle.dspec_ctf.specs.Words.{fault_at, first_found}
 use Rattle.dspec_ctf.proofs.Ranges.{first-behind, none_of}
 use Rattle.dspec_ctf.proofs.checking.all_fields_fault.Goals as goal
 

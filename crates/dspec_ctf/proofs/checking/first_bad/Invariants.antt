@@ -1,6 +1,6 @@
 use Rattle.std.proofs.Common.{◌≡◌, ◌-◌, length, map}
 use Rattle.std.specs.List.{range_with_len}
-use Rattle.dspec_ctf.specs.Names.{bad_at, first_found}
+use Rattle.dspec_ctf.specs.Words.{bad_at, first_found}
 use Rattle.dspec_ctf.proofs.checking.first_bad.Given as goal
 
 abbrev pub invariant-loop-place : goal.invariant-loop-place

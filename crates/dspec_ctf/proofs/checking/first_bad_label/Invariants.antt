@@ -1,6 +1,6 @@
 use Rattle.std.proofs.Common.{◌≡◌, ◌-◌, length, map}
 use Rattle.std.specs.List.{range_with_len}
-use Rattle.dspec_ctf.specs.Names.{bad_label_at, first_found}
+use Rattle.dspec_ctf.specs.Words.{bad_label_at, first_found}
 use Rattle.dspec_ctf.proofs.checking.first_bad_label.Given as goal
 
 abbrev pub invariant-loop-number : goal.invariant-loop-number

@@ -1,6 +1,6 @@
 use Rattle.std.proofs.Common.{◌≡◌, ◌-◌, length}
 use Rattle.std.specs.List.{range_with_len}
-use Rattle.dspec_ctf.specs.Names.{label_fault_at, first_found}
+use Rattle.dspec_ctf.specs.Words.{label_fault_at, first_found}
 use Rattle.dspec_ctf.proofs.checking.labels_fault.Given as goal
 
 abbrev pub invariant-loop-place : goal.invariant-loop-place

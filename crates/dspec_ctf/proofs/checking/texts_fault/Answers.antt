@@ -1,6 +1,6 @@
 use Rattle.std.proofs.Common.{◌∙◌, length, sym}
 use Rattle.std.specs.List.{range_with_len}
-use Rattle.dspec_ctf.specs.Names.{text_fault_at, first_found}
+use Rattle.dspec_ctf.specs.Words.{text_fault_at, first_found}
 use Rattle.dspec_ctf.proofs.Ranges.{first-behind, none_of}
 use Rattle.dspec_ctf.proofs.checking.texts_fault.Goals as goal
 

@@ -1,7 +1,6 @@
 use Rattle.std.proofs.Common.{rules, ◌≡◌, ◌+◌, ◌++◌, ◌∙◌, List, ℕ, ap, get_or}
 use Rattle.std.specs.Prelude.{slice_range}
-use Rattle.dspec_ctf.specs.Packets.{event}
-use Rattle.dspec_ctf.specs.Filled.{filled_packet, filled_packets}
+use Rattle.dspec_ctf.specs.Words.{event, filled_packet, filled_packets}
 use Rattle.dspec_ctf.proofs.Filling.{IsFilledTo, filled-anew, filled-on}
 use Rattle.dspec_ctf.proofs.filled.put_filled.Goals as goal
 use Rattle.dspec_ctf.proofs.filled.put_filled.Goals.{then-front-len-gt-PACKET_SIZE+in_ok-put_packet+in_ok-put_event-2, else-front-len-gt-PACKET_SIZE}

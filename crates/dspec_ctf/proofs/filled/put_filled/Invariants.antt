@@ -1,7 +1,6 @@
 use Rattle.std.proofs.Common.{◌≡◌, ◌≤◌, ◌+◌, ◌++◌, drop, length}
 use Rattle.std.specs.Prelude.{slice_range}
-use Rattle.dspec_ctf.specs.Packets.{events}
-use Rattle.dspec_ctf.specs.Filled.{filled_packets, filled_size, front_by}
+use Rattle.dspec_ctf.specs.Words.{events, filled_packets, filled_size, front_by}
 use Rattle.dspec_ctf.proofs.Filling.{written_then}
 use Rattle.dspec_ctf.proofs.filled.put_filled.Given as goal
 

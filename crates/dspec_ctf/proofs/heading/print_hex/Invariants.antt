@@ -1,5 +1,5 @@
 use Rattle.std.proofs.Common.{◌≡◌, ◌++◌, take, string_bytes}
-use Rattle.dspec_ctf.specs.Metadata.{hex}
+use Rattle.dspec_ctf.specs.Words.{hex}
 use Rattle.dspec_ctf.proofs.heading.print_hex.Given as goal
 
 abbrev pub invariant-loop-byte : goal.invariant-loop-byte

@@ -1,5 +1,5 @@
 use Rattle.std.proofs.Common.{◌≡◌, ◌++◌}
-use Rattle.dspec_ctf.specs.Packets.{events}
+use Rattle.dspec_ctf.specs.Words.{events}
 use Rattle.dspec_ctf.proofs.packet.events_of.Given as goal
 
 abbrev pub invariant-loop-rec : goal.invariant-loop-rec

@@ -3,8 +3,7 @@ use Rattle.std.specs.List.{flat_map}
 use Rattle.std.proofs.lemmas.List.Folds.{flat_map-map}
 use Rattle.std.proofs.lemmas.Iterator.{YieldsList-from_slice, YieldsList-from_zip}
 use Rattle.std.proofs.lemmas.Iterator.Consumers.{YieldsList-at, YieldsList-end}
-use Rattle.dspec_record.specs.Layout.{width}
-use Rattle.dspec_record.specs.RecordText.{little_endian}
+use Rattle.dspec_ctf.specs.Words.{width, little_endian}
 use Rattle.dspec_ctf.proofs.packet.put_values.Goals as goal
 
 pub returns : goal.returns

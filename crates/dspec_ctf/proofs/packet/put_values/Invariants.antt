@@ -1,7 +1,6 @@
 use Rattle.std.proofs.Common.{◌≡◌, ◌++◌}
 use Rattle.std.specs.List.{flat_map}
-use Rattle.dspec_record.specs.Layout.{width}
-use Rattle.dspec_record.specs.RecordText.{little_endian}
+use Rattle.dspec_ctf.specs.Words.{width, little_endian}
 use Rattle.dspec_ctf.proofs.packet.put_values.Given as goal
 
 abbrev pub invariant-loop-field : goal.invariant-loop-field

@@ -1,5 +1,5 @@
 use Rattle.std.proofs.Common.{◌≡◌, ◌≤◌, ◌+◌, drop}
-use Rattle.dspec_ctf.specs.Metadata.{next_in_front}
+use Rattle.dspec_ctf.specs.Words.{next_in_front}
 use Rattle.dspec_ctf.proofs.printing.next_in_front.Given as goal
 
 abbrev pub invariant-loop-kind : goal.invariant-loop-kind

@@ -1,6 +1,6 @@
 use Rattle.std.proofs.Common.{◌++◌, length, string_bytes}
 use Rattle.std.specs.List.{flat_map, range_with_len}
-use Rattle.dspec_ctf.specs.Metadata.{event_text}
+use Rattle.dspec_ctf.specs.Words.{event_text}
 use Rattle.dspec_ctf.proofs.Ranges.{range-piece}
 use Rattle.dspec_ctf.proofs.printing.print_events.Goals as goal
 

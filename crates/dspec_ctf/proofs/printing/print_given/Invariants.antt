@@ -1,6 +1,6 @@
 use Rattle.std.proofs.Common.{◌≡◌, ◌++◌, drop, string_bytes}
 use Rattle.std.specs.List.{flat_map, enumerate_from}
-use Rattle.dspec_ctf.specs.Metadata.{given_line, given_lines}
+use Rattle.dspec_ctf.specs.Words.{given_line, given_lines}
 use Rattle.dspec_ctf.proofs.printing.print_given.Given as goal
 
 abbrev pub invariant-loop-place : goal.invariant-loop-place

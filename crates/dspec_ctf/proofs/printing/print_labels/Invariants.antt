@@ -1,6 +1,6 @@
 use Rattle.std.proofs.Common.{◌≡◌, ◌++◌, drop, map, string_bytes}
 use Rattle.std.specs.List.{flat_map, enumerate_from}
-use Rattle.dspec_ctf.specs.Metadata.{label_item}
+use Rattle.dspec_ctf.specs.Words.{label_item}
 use Rattle.dspec_ctf.proofs.printing.print_labels.Given as goal
 
 abbrev pub invariant-loop-number : goal.invariant-loop-number

@@ -1,6 +1,6 @@
 use Rattle.std.proofs.Common.{◌≡◌, ◌++◌, drop, string_bytes, codes, decimal}
 use Rattle.std.specs.List.{flat_map, enumerate_from}
-use Rattle.dspec_ctf.specs.Metadata.{field_line, numbered_lines}
+use Rattle.dspec_ctf.specs.Words.{field_line, numbered_lines}
 use Rattle.dspec_ctf.proofs.printing.print_numbered.Given as goal
 
 abbrev pub invariant-loop-place : goal.invariant-loop-place

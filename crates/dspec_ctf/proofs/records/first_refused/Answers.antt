@@ -1,7 +1,7 @@
 use Rattle.std.proofs.Common.{rules, subst, All}
 use Rattle.std.proofs.lemmas.List.{take_all as take_all_of}
 use Rattle.std.proofs.lemmas.List.Elements.{All-more}
-use Rattle.dspec_ctf.specs.Streams.{Accepts}
+use Rattle.dspec_ctf.specs.Words.{Accepts}
 use Rattle.dspec_ctf.proofs.records.first_refused.Goals as goal
 
 pub loop-place-preserved : goal.loop-place-preserved

@@ -1,5 +1,5 @@
 use Rattle.std.proofs.Common.{All, take}
-use Rattle.dspec_ctf.specs.Streams.{Accepts}
+use Rattle.dspec_ctf.specs.Words.{Accepts}
 use Rattle.dspec_ctf.proofs.records.first_refused.Given as goal
 
 abbrev pub invariant-loop-place : goal.invariant-loop-place

@@ -1,4 +1,4 @@
-use Rattle.dspec_ctf.specs.Rows.{IsFoundOf}
+use Rattle.dspec_ctf.specs.Words.{IsFoundOf}
 use Rattle.dspec_ctf.proofs.rows.latest.Given as goal
 
 abbrev pub invariant-loop-place : goal.invariant-loop-place

@@ -1,5 +1,5 @@
 use Rattle.std.proofs.Common.{◌++◌, ◌∙◌, All, ap, sym, subst}
-use Rattle.dspec_ctf.specs.Streams.{Accepts}
+use Rattle.dspec_ctf.specs.Words.{Accepts}
 use Rattle.dspec_ctf.proofs.Texts.{text-accepted}
 use Rattle.dspec_ctf.proofs.rows.records_of.Goals as goal
 

@@ -1,8 +1,6 @@
 use Rattle.std.proofs.Common.{rules, arith, ◌≡◌, ◌<◌, ◌∙◌, sym, None, length}
 use Rattle.std.specs.Prelude.{IsTrue}
-use Rattle.dspec_ctf_reading.specs.ReadingMetadata.{read_event_texts}
-use Rattle.dspec_ctf_reading.specs.Parts.{is_unread}
-use Rattle.dspec_ctf_reading.specs.Told.{told_event}
+use Rattle.dspec_ctf_reading.specs.Words.{read_event_texts, is_unread, told_event}
 use Rattle.dspec_ctf_reading.proofs.LoopLemmas.{texts-on, texts-stop, some-left}
 use Rattle.dspec_ctf_reading.proofs.entries.events.Goals as goal
 

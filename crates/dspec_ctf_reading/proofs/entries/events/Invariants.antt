@@ -1,6 +1,5 @@
 use Rattle.std.proofs.Common.{◌≡◌, length, map, ◌++◌, ◌-◌, option_map}
-use Rattle.dspec_ctf_reading.specs.ReadingMetadata.{read_event_texts}
-use Rattle.dspec_ctf_reading.specs.Told.{told_event}
+use Rattle.dspec_ctf_reading.specs.Words.{read_event_texts, told_event}
 use Rattle.dspec_ctf_reading.proofs.entries.events.Given as goal
 
 abbrev pub invariant-loop : goal.invariant-loop

@@ -1,8 +1,6 @@
 use Rattle.std.proofs.Common.{rules, arith, ◌≡◌, None, codes, refl, length}
 use Rattle.std.specs.Prelude.{IsTrue}
-use Rattle.dspec_ctf_reading.specs.ReadingMetadata.{read_field, read_fields}
-use Rattle.dspec_ctf_reading.specs.Parts.{is_unread}
-use Rattle.dspec_ctf_reading.specs.Told.{told_field}
+use Rattle.dspec_ctf_reading.specs.Words.{read_field, read_fields, is_unread, told_field}
 use Rattle.dspec_ctf_reading.proofs.LoopLemmas.{lines-on, lines-end, lines-stop}
 use Rattle.dspec_ctf_reading.proofs.entries.fields.Goals as goal
 

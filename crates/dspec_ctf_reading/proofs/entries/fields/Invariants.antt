@@ -1,6 +1,5 @@
 use Rattle.std.proofs.Common.{◌≡◌, length, map, ◌-◌}
-use Rattle.dspec_ctf_reading.specs.ReadingMetadata.{read_fields}
-use Rattle.dspec_ctf_reading.specs.Told.{told_field}
+use Rattle.dspec_ctf_reading.specs.Words.{read_fields, told_field}
 use Rattle.dspec_ctf_reading.proofs.LoopLemmas.{found_before}
 use Rattle.dspec_ctf_reading.proofs.entries.fields.Given as goal
 

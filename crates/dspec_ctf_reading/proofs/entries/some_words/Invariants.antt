@@ -1,5 +1,5 @@
 use Rattle.std.proofs.Common.{◌≡◌, map, replicate}
-use Rattle.dspec_ctf_reading.specs.Told.{told_field}
+use Rattle.dspec_ctf_reading.specs.Words.{told_field}
 use Rattle.dspec_ctf_reading.proofs.entries.some_words.Given as goal
 
 abbrev pub invariant-loop : goal.invariant-loop

@@ -1,6 +1,5 @@
 use Rattle.std.proofs.Common.{◌≡◌, ◌≤◌, map, drop, length, option_map}
-use Rattle.dspec_ctf_reading.specs.Reading.{read_payload}
-use Rattle.dspec_ctf_reading.specs.Told.{told_field}
+use Rattle.dspec_ctf_reading.specs.Words.{read_payload, told_field}
 use Rattle.dspec_ctf_reading.proofs.events.behind_payload.Given as goal
 
 abbrev pub invariant-loop-field : goal.invariant-loop-field

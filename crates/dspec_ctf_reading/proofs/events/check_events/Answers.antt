@@ -1,6 +1,5 @@
 use Rattle.std.proofs.Common.{rules, arith, ◌≡◌, ◌<◌, Some, length, option_map}
-use Rattle.dspec_ctf_reading.specs.Reading.{read_event, read_events}
-use Rattle.dspec_ctf_reading.specs.Told.{told_layout}
+use Rattle.dspec_ctf_reading.specs.Words.{read_event, read_events, told_layout}
 use Rattle.dspec_ctf_reading.proofs.EventLemmas.{behind-one-more, count-more}
 use Rattle.dspec_ctf_reading.proofs.events.check_events.Goals as goal
 

@@ -1,7 +1,5 @@
 use Rattle.std.proofs.Common.{◌≡◌, ◌≤◌, ◌+◌, Some, length, option_map}
-use Rattle.dspec_ctf_reading.specs.Reading.{read_events}
-use Rattle.dspec_ctf_reading.specs.Told.{told_layout}
-use Rattle.dspec_ctf_reading.specs.Faults.{behind_events}
+use Rattle.dspec_ctf_reading.specs.Words.{read_events, told_layout, behind_events}
 use Rattle.dspec_ctf_reading.proofs.events.check_events.Given as goal
 
 abbrev pub invariant-loop-rest : goal.invariant-loop-rest

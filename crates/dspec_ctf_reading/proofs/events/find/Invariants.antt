@@ -1,6 +1,5 @@
 use Rattle.std.proofs.Common.{◌≡◌, ◌+◌, map, drop}
-use Rattle.dspec_ctf_reading.specs.Reading.{find_event}
-use Rattle.dspec_ctf_reading.specs.Told.{first_place, told_event}
+use Rattle.dspec_ctf_reading.specs.Words.{find_event, first_place, told_event}
 use Rattle.dspec_ctf_reading.proofs.events.find.Given as goal
 
 abbrev pub invariant-loop-place : goal.invariant-loop-place

@@ -1,7 +1,6 @@
 use Rattle.std.proofs.Common.{rules, arith, map}
 use Rattle.std.proofs.lemmas.Grind.{common_steps}
-use Rattle.dspec_ctf_reading.specs.Reading.{read_payload}
-use Rattle.dspec_ctf_reading.specs.Told.{told_field}
+use Rattle.dspec_ctf_reading.specs.Words.{read_payload, told_field}
 use Rattle.dspec_ctf_reading.proofs.EventLemmas.{payload-begin, payload-on}
 use Rattle.dspec_ctf_reading.proofs.events.payload.Goals as goal
 

@@ -1,8 +1,6 @@
 use Rattle.std.proofs.Common.{◌≡◌, ◌≤◌, ◌++◌, Some, map, length, option_map}
 use Rattle.std.specs.Prelude.{All}
-use Rattle.dspec_ctf_reading.specs.Reading.{read_events}
-use Rattle.dspec_ctf_reading.specs.Told.{Fits, as_read, told_layout}
-use Rattle.dspec_ctf_reading.specs.Faults.{behind_events}
+use Rattle.dspec_ctf_reading.specs.Words.{read_events, Fits, as_read, told_layout, behind_events}
 use Rattle.dspec_ctf_reading.proofs.events.read_events.Given as goal
 
 abbrev pub invariant-loop-rest : goal.invariant-loop-rest

@@ -1,4 +1,4 @@
-use Rattle.dspec_ctf_reading.specs.Fronts.{front_of}
+use Rattle.dspec_ctf_reading.specs.Words.{front_of}
 use Rattle.dspec_ctf_reading.proofs.Shorter.{front-within}
 use Rattle.dspec_ctf_reading.proofs.fronts.split_packet.Goals as goal
 

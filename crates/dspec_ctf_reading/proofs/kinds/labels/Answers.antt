@@ -1,8 +1,6 @@
 use Rattle.std.proofs.Common.{rules, arith, ◌≡◌, None, codes, refl, length}
 use Rattle.std.specs.Prelude.{IsTrue}
-use Rattle.dspec_ctf_reading.specs.ReadingMetadata.{read_label, read_labels}
-use Rattle.dspec_ctf_reading.specs.Parts.{is_unread}
-use Rattle.dspec_ctf_reading.specs.Told.{told_label}
+use Rattle.dspec_ctf_reading.specs.Words.{read_label, read_labels, is_unread, told_label}
 use Rattle.dspec_ctf_reading.proofs.LoopLemmas.{many-on, many-end, many-stop}
 use Rattle.dspec_ctf_reading.proofs.kinds.labels.Goals as goal
 

@@ -1,6 +1,5 @@
 use Rattle.std.proofs.Common.{◌≡◌, length, map, ◌-◌}
-use Rattle.dspec_ctf_reading.specs.ReadingMetadata.{read_labels}
-use Rattle.dspec_ctf_reading.specs.Told.{told_label}
+use Rattle.dspec_ctf_reading.specs.Words.{read_labels, told_label}
 use Rattle.dspec_ctf_reading.proofs.LoopLemmas.{found_before}
 use Rattle.dspec_ctf_reading.proofs.kinds.labels.Given as goal
 

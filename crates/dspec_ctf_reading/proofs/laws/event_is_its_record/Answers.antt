@@ -1,5 +1,5 @@
 use Rattle.std.proofs.Common.{refl}
-use Rattle.dspec_ctf_reading.specs.Layouts.{names_by, named_values}
+use Rattle.dspec_ctf_reading.specs.Words.{names_by, named_values}
 use Rattle.dspec_ctf_reading.proofs.Named.{values-of, stamped-values, plain-values, event-called, fields-called}
 use Rattle.dspec_ctf_reading.proofs.laws.event_is_its_record.Goals as goal
 

@@ -1,5 +1,5 @@
 use Rattle.std.proofs.Common.{false}
-use Rattle.dspec_ctf_reading.specs.Layouts.{names_by}
+use Rattle.dspec_ctf_reading.specs.Words.{names_by}
 use Rattle.dspec_ctf_reading.proofs.EventsRead.{HasStamps, stamps-with-two}
 use Rattle.dspec_ctf_reading.proofs.FilledRead.{batches-back}
 use Rattle.dspec_ctf_reading.proofs.Live.{runs-back, missed-back}

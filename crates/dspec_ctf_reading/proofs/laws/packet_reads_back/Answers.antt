@@ -1,5 +1,5 @@
 use Rattle.std.proofs.Common.{Some, None, true, false}
-use Rattle.dspec_ctf_reading.specs.Layouts.{names_by}
+use Rattle.dspec_ctf_reading.specs.Words.{names_by}
 use Rattle.dspec_ctf_reading.proofs.EventsRead.{HasStamps, stamps-with-two}
 use Rattle.dspec_ctf_reading.proofs.PacketsRead.{HasSpan, packet-back}
 use Rattle.dspec_ctf_reading.proofs.laws.packet_reads_back.Goals as goal

@@ -1,4 +1,4 @@
-use Rattle.dspec_ctf_reading.specs.Layouts.{names_by}
+use Rattle.dspec_ctf_reading.specs.Words.{names_by}
 use Rattle.dspec_ctf_reading.proofs.Timed.{taken-back}
 use Rattle.dspec_ctf_reading.proofs.laws.taken_file_reads_back.Goals as goal
 

@@ -1,5 +1,5 @@
 use Rattle.std.proofs.Common.{refl}
-use Rattle.dspec_ctf_reading.specs.ReadingMetadata.{is_digit, is_word, is_quoted}
+use Rattle.dspec_ctf_reading.specs.Words.{is_digit, is_word, is_quoted}
 use Rattle.dspec_ctf_reading.proofs.laws.worked_metadata.Goals as goal
 
 pub returns-clause-timed : goal.returns-clause-timed

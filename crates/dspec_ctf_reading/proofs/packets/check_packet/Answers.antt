@@ -1,9 +1,6 @@
 use Rattle.std.proofs.Common.{◌≡◌, None, rules, ap, ◌∙◌}
 use Rattle.std.specs.Prelude.{option_and_then}
-use Rattle.dspec_ctf_reading.specs.Reading.{Layout}
-use Rattle.dspec_ctf_reading.specs.Fronts.{split_packet}
-use Rattle.dspec_ctf_reading.specs.Laws.{with_its_events}
-use Rattle.dspec_ctf_reading.specs.Told.{told_layout}
+use Rattle.dspec_ctf_reading.specs.Words.{Layout, split_packet, with_its_events, told_layout}
 use Rattle.dspec_ctf_reading.proofs.Shorter.{packet-split}
 use Rattle.dspec_ctf_reading.proofs.packets.check_packet.Goals as goal
 

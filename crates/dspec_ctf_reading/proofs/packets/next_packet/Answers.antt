@@ -1,5 +1,5 @@
 use Rattle.std.proofs.Common.{rules}
-use Rattle.dspec_ctf_reading.specs.Fronts.{front_of}
+use Rattle.dspec_ctf_reading.specs.Words.{front_of}
 use Rattle.dspec_ctf_reading.proofs.Shorter.{front-within}
 use Rattle.dspec_ctf_reading.proofs.packets.next_packet.Goals as goal
 

@@ -1,5 +1,5 @@
 use Rattle.std.proofs.Common.{◌≡◌, drop}
-use Rattle.dspec_ctf_reading.specs.ReadingMetadata.{digits_number}
+use Rattle.dspec_ctf_reading.specs.Words.{digits_number}
 use Rattle.dspec_ctf_reading.proofs.scan.number_of.Given as goal
 
 abbrev pub invariant-loop-digit : goal.invariant-loop-digit

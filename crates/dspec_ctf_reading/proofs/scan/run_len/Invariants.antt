@@ -1,6 +1,6 @@
 use Rattle.std.proofs.Common.{◌≡◌, true, take}
 use Rattle.std.specs.List.{list_all}
-use Rattle.dspec_ctf_reading.specs.Parts.{test_of}
+use Rattle.dspec_ctf_reading.specs.Words.{test_of}
 use Rattle.dspec_ctf_reading.proofs.scan.run_len.Given as goal
 
 abbrev pub invariant-loop-place : goal.invariant-loop-place

@@ -1,5 +1,5 @@
 use Rattle.std.proofs.Common.{◌≡◌, ◌≤◌, ◌+◌, ◌-◌, ◌^◌, length}
-use Rattle.dspec_ctf_sink.specs.Losses.{capped}
+use Rattle.dspec_ctf_sink.specs.Words.{capped}
 use Rattle.dspec_ctf_sink.proofs.losing.count_of.Given as goal
 
 abbrev pub invariant-loop-rec : goal.invariant-loop-rec

@@ -1,7 +1,6 @@
 use Rattle.std.proofs.Common.{◌≡◌, [], false}
 use Rattle.std.proofs.lemmas.Result.{IfErr-weaker, IfOk-weaker}
-use Rattle.dspec_ctf.specs.Filled.{AreFilledOf, filled_packets}
-use Rattle.dspec_ctf.specs.Streams.{HasNoPacket}
+use Rattle.dspec_ctf_sink.specs.Words.{AreFilledOf, filled_packets, HasNoPacket}
 use Rattle.dspec_ctf.specs.declared.stream.PacketFault.TheVariants.{Memory}
 use Rattle.dspec_ctf_sink.proofs.Silent.{is_silent, only_memory}
 use Rattle.dspec_ctf_sink.proofs.next.silent_packet.Goals as goal

@@ -1,8 +1,6 @@
 use Rattle.std.proofs.Common.{◌≡◌, ◌≤◌, ◌-◌, arith, length, refl, rules, subst}
 use Rattle.std.specs.Prelude.{slice_range}
-use Rattle.dspec_ctf.specs.Rows.{IsFileRun, run_packet}
-use Rattle.dspec_ctf_sink.specs.Timed.{row_name}
-use Rattle.dspec_ctf_sink.specs.Writes.{IsNotTaken}
+use Rattle.dspec_ctf_sink.specs.Words.{IsFileRun, run_packet, row_name, IsNotTaken}
 use Rattle.dspec_ctf_sink.proofs.Following.{stops-refused}
 use Rattle.dspec_ctf_sink.proofs.timed.add_run.Goals as goal
 

@@ -1,5 +1,5 @@
 use Rattle.std.proofs.Common.{subst}
-use Rattle.dspec_interleaving.specs.Coherent.{StandsProgress, StandsState, progress_of}
+use Rattle.dspec_interleaving.specs.Words.{StandsProgress, StandsState, progress_of}
 use Rattle.dspec_interleaving.proofs.Bounded.{cpu_below, clean_below}
 use Rattle.dspec_deeds.proofs.SetUp.{set_up}
 use Rattle.dspec_interleaving.proofs.laws.bounded_steps.Goals as goal

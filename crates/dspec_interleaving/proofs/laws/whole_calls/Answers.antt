@@ -1,5 +1,5 @@
 use Rattle.std.proofs.Common.{arith}
-use Rattle.dspec_interleaving.specs.Bounds.{op_bound, consumer_bound}
+use Rattle.dspec_interleaving.specs.Words.{op_bound, consumer_bound}
 use Rattle.dspec_interleaving.proofs.WholeCalls.{cpu_whole, consumer_whole}
 use Rattle.dspec_interleaving.proofs.laws.whole_calls.Goals as goal
 

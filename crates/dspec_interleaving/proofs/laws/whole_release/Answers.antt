@@ -1,6 +1,5 @@
 use Rattle.std.proofs.Common.{subst, sym, ◌<◌}
-use Rattle.dspec_interleaving.specs.Turns.{at_start}
-use Rattle.dspec_interleaving.specs.Whole.{AreCalls}
+use Rattle.dspec_interleaving.specs.Words.{at_start, AreCalls}
 use Rattle.dspec_interleaving.proofs.WholeStates.{start_rests, rest_all, config_all}
 use Rattle.dspec_interleaving.proofs.WholeRelease.{whole_release}
 use Rattle.dspec_interleaving.proofs.laws.whole_release.Goals as goal

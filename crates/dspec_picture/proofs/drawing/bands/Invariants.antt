@@ -1,5 +1,5 @@
 use Rattle.std.proofs.Common.{◌≤◌, ◌+◌, ◌*◌, All}
-use Rattle.dspec_picture.specs.Bands.{IsSmall}
+use Rattle.dspec_picture.specs.Words.{IsSmall}
 use Rattle.dspec_picture.proofs.drawing.bands.Given as goal
 
 abbrev pub invariant-loop-cpu : goal.invariant-loop-cpu

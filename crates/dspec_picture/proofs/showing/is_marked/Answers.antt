@@ -1,4 +1,4 @@
-use Rattle.dspec_core.specs.Machines.{history}
+use Rattle.dspec_picture.specs.Words.{history}
 use Rattle.dspec_core.proofs.MachineReads.{cpu_read}
 use Rattle.dspec_core.proofs.OwnSlots.{mark_there}
 use Rattle.dspec_picture.proofs.showing.is_marked.Goals as goal

@@ -1,6 +1,5 @@
 use Rattle.std.proofs.Common.{refl, ap}
-use Rattle.dspec_interleaving.specs.Coherent.{PlayState}
-use Rattle.dspec_core.specs.Machines.{state_of}
+use Rattle.dspec_picture.specs.Words.{PlayState, state_of}
 use Rattle.dspec_picture.proofs.Runs.{played_first}
 use Rattle.dspec_picture.proofs.walking.play_in_words.Goals as goal
 

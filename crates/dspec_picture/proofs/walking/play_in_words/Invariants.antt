@@ -1,7 +1,6 @@
 -- The turns that are told.
 use Rattle.std.proofs.Common.{◌≡◌}
-use Rattle.dspec_core.specs.Machines.{state_of}
-use Rattle.dspec_core.specs.Worlds.{WorldInvariant}
+use Rattle.dspec_picture.specs.Words.{state_of, WorldInvariant}
 use Rattle.dspec_picture.proofs.Runs.{IsPlayedSoFar}
 use Rattle.dspec_picture.proofs.walking.play_in_words.Given as goal
 

@@ -1,9 +1,5 @@
 use Rattle.std.proofs.Common.{◌≡◌, ◌<◌, ◌≤◌, refl, sym, ap, ◌∙◌, subst, arith}
-use Rattle.dspec_interleaving.specs.Bounds.{most_steps}
-use Rattle.dspec_interleaving.specs.Coherent.{PlayState}
-use Rattle.dspec_interleaving.specs.Plays.{to_end}
-use Rattle.dspec_interleaving.specs.Turns.{step}
-use Rattle.dspec_core.specs.Machines.{state_of}
+use Rattle.dspec_picture.specs.Words.{most_steps, PlayState, to_end, step, state_of}
 use Rattle.dspec_picture.proofs.Runs.{run_first, run_more, run_idle, run_out}
 use Rattle.dspec_picture.proofs.walking.run_in_words.Goals as goal
 

@@ -1,8 +1,6 @@
 -- The run so far.
 use Rattle.std.proofs.Common.{◌≡◌}
-use Rattle.dspec_interleaving.specs.Bounds.{most_steps}
-use Rattle.dspec_core.specs.Machines.{state_of}
-use Rattle.dspec_core.specs.Worlds.{WorldInvariant}
+use Rattle.dspec_picture.specs.Words.{most_steps, state_of, WorldInvariant}
 use Rattle.dspec_picture.proofs.Runs.{RunsFrom}
 use Rattle.dspec_picture.proofs.walking.run_in_words.Given as goal
 

@@ -1,5 +1,5 @@
 use Rattle.std.proofs.Common.{◌≡◌}
-use Rattle.dspec_core.specs.Worlds.{WorldInvariant}
+use Rattle.dspec_picture.specs.Words.{WorldInvariant}
 use Rattle.dspec_picture.proofs.walking.run_last.Given as goal
 
 abbrev pub invariant-loop-cpu : goal.invariant-loop-cpu

@@ -1,9 +1,7 @@
 use Rattle.std.proofs.Common.{◌≡◌, subst, sym, ap, ◌∙◌}
 use Rattle.dspec_deeds.specs.declared.calls.Actor.TheVariants as actor
 use Rattle.dspec_deeds.specs.declared.calls.Turn.{Turn}
-use Rattle.dspec_interleaving.specs.Plays.{begun_cpu, begun_consumer, ran, turned}
-use Rattle.dspec_interleaving.specs.Turns.{begin_cpu, begin_consumer}
-use Rattle.dspec_core.specs.Machines.{state_of}
+use Rattle.dspec_picture.specs.Words.{begun_cpu, begun_consumer, ran, turned, begin_cpu, begin_consumer, state_of}
 use Rattle.dspec_picture.proofs.walking.take_turn.Goals as goal
 
 pub returns-in_ok-run_in_words-in-RunCpu-clause-turned : goal.returns-in_ok-run_in_words-in-RunCpu-clause-turned

@@ -1,5 +1,5 @@
 use Rattle.std.proofs.Common.{◌≡◌, ◌≤◌, ◌+◌, drop}
-use Rattle.dspec_probe.specs.Kinds.{next_words}
+use Rattle.dspec_probe.specs.Words.{next_words}
 use Rattle.dspec_probe.proofs.probes.next_words.Given as goal
 
 abbrev pub invariant-loop-kind : goal.invariant-loop-kind

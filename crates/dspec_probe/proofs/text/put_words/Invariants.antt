@@ -1,6 +1,6 @@
 use Rattle.std.proofs.Common.{◌≡◌, ◌-◌, ◌++◌, length, map, take}
 use Rattle.std.specs.List.{range_with_len}
-use Rattle.dspec_probe.specs.Texts.{text_word, filled_words}
+use Rattle.dspec_probe.specs.Words.{text_word, filled_words}
 use Rattle.dspec_probe.proofs.text.put_words.Given as goal
 
 abbrev pub invariant-loop-place : goal.invariant-loop-place

@@ -1,5 +1,5 @@
 use Rattle.std.proofs.Common.{◌≡◌, ◌++◌, drop}
-use Rattle.dspec_probe.specs.Texts.{before_zero}
+use Rattle.dspec_probe.specs.Words.{before_zero}
 use Rattle.dspec_probe.proofs.text.text_bytes.Given as goal
 
 abbrev pub invariant-loop-byte : goal.invariant-loop-byte

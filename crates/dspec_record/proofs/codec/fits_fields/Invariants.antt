@@ -1,5 +1,5 @@
 use Rattle.std.proofs.Common.{◌≡◌, drop}
-use Rattle.dspec_record.specs.RecordText.{fits}
+use Rattle.dspec_record.specs.Words.{fits}
 use Rattle.dspec_record.proofs.codec.fits_fields.Given as goal
 
 -- the answer is that for what is left

@@ -1,6 +1,6 @@
 -- The value is written over what is clear, and leaves what is behind it clear.
 use Rattle.std.proofs.Common.{◌+◌, ℕ, take, sym, subst, ap, ◌∙◌}
-use Rattle.dspec_record.specs.Writing.{IsClearBehind}
+use Rattle.dspec_record.specs.Words.{IsClearBehind}
 use Rattle.dspec_record.proofs.Clearing.{written-put, written-clear}
 use Rattle.dspec_record.proofs.codec.put_field.Goals as goal
 

@@ -1,6 +1,5 @@
 use Rattle.std.proofs.Common.{drop}
-use Rattle.dspec_record.specs.Layout.{layout}
-use Rattle.dspec_record.specs.RecordText.{record_text}
+use Rattle.dspec_record.specs.Words.{layout, record_text}
 use Rattle.dspec_record.proofs.Writing.{IsWriting}
 use Rattle.dspec_record.proofs.Places.{IsPlaced}
 use Rattle.dspec_record.proofs.codec.put_values.Given as goal

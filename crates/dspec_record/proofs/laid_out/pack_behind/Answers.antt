@@ -2,10 +2,8 @@
 use Rattle.std.proofs.Common.{◌≡◌, ◌<◌, ◌+◌, ◌*◌, ◌/◌, ◌%◌, ◌^◌, All, ℕ, List, get_or, set, sym, ◌∙◌, ap, subst, arith}
 use Rattle.std.proofs.Math.Nat.{mod-eq_of_lt}
 use Rattle.std.proofs.lemmas.List.Elements.{All-from_get_or}
-use Rattle.dspec_record.specs.Layout.{width, rounded_up}
-use Rattle.dspec_record.specs.Packing.{number_of_words}
+use Rattle.dspec_record.specs.Words.{width, rounded_up, number_of_words, Field}
 use Rattle.dspec_record.proofs.AddingValues.{word-within, value-room, value-shifted, value-added, sum-below}
-use Rattle.dspec_record.specs.declared.field.Field.{Field}
 use Rattle.dspec_record.proofs.laid_out.pack_behind.Goals as goal
 
 pub bounds-words-place : goal.bounds-words-place

@@ -1,5 +1,5 @@
 use Rattle.std.proofs.Common.{◌≡◌, ◌≤◌, ◌+◌, ◌*◌, drop}
-use Rattle.dspec_record.specs.Layout.{fields_start, fields_end}
+use Rattle.dspec_record.specs.Words.{fields_start, fields_end}
 use Rattle.dspec_record.proofs.layout.layout_of.Given as goal
 
 -- the fields that are left end, laid from `end` on, where all end

@@ -1,7 +1,7 @@
 -- The first word's zeros have room for the number.
 use Rattle.std.proofs.Common.{◌≡◌, ◌<◌, ◌+◌, ◌*◌, ◌^◌, ◌++◌, List, ℕ, length, take, subst, arith}
 use Rattle.std.proofs.lemmas.List.{take_rest}
-use Rattle.dspec_record.specs.Packing.{bytes_of_words}
+use Rattle.dspec_record.specs.Words.{bytes_of_words}
 use Rattle.std.proofs.lemmas.List.Elements.{All-from_get_or}
 use Rattle.dspec_record.proofs.PackedRecords.{all-put}
 use Rattle.dspec_record.proofs.packed.put_from.Goals as goal

@@ -1,6 +1,6 @@
 use Rattle.std.proofs.Common.{◌++◌, ◌-◌, ◌+◌, ℕ, List, length, take, drop, refl, ◌∙◌, ap, arith}
 use Rattle.std.proofs.lemmas.List.{append_assoc}
-use Rattle.dspec_record.specs.RecordText.{little_endian}
+use Rattle.dspec_record.specs.Words.{little_endian}
 use Rattle.dspec_record.proofs.PackedRecords.{word-put}
 use Rattle.dspec_record.proofs.packed.put_word.Goals as goal
 

@@ -1,5 +1,5 @@
 use Rattle.std.proofs.Common.{◌≡◌, ◌+◌, ◌*◌, ◌++◌, take}
-use Rattle.dspec_record.specs.Packing.{bytes_of_words}
+use Rattle.dspec_record.specs.Words.{bytes_of_words}
 use Rattle.dspec_record.proofs.packed.put_words.Given as goal
 
 -- the words so far stand behind what stood there

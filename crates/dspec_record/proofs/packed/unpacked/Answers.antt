@@ -2,10 +2,7 @@
 use Rattle.std.proofs.Common.{◌≡◌, ◌≤◌, ◌<◌, ◌+◌, ◌*◌, ◌/◌, ◌%◌, ◌^◌, ◌++◌, ◌∷◌, [], All, ℕ, List, length, get_or, sym, ◌∙◌, ap, subst, arith}
 use Rattle.std.proofs.lemmas.List.Elements.{All-from_get_or}
 use Rattle.std.specs.Int.RustNames.{bit_and}
-use Rattle.dspec_record.specs.Layout.{width, limit, rounded_up}
-use Rattle.dspec_record.specs.Packing.{number_of_words, words_in}
-use Rattle.dspec_record.specs.declared.field.Field.{Field}
-use Rattle.dspec_record.specs.declared.field.Field.TheVariants.{One, Two, Four, Eight}
+use Rattle.dspec_record.specs.Words.{width, limit, rounded_up, number_of_words, words_in, Field, One, Two, Four, Eight}
 use Rattle.dspec_record.proofs.CutWords.{AreCut, AreCut-place, AreCut-near, AreCut-value, AreCut-next}
 use Rattle.dspec_record.proofs.Places.{place-le}
 use Rattle.dspec_record.proofs.packed.unpacked.Goals as goal

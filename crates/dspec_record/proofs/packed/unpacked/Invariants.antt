@@ -1,5 +1,5 @@
 use Rattle.std.proofs.Common.{◌≡◌}
-use Rattle.dspec_record.specs.Packing.{number_of_words}
+use Rattle.dspec_record.specs.Words.{number_of_words}
 use Rattle.dspec_record.proofs.CutWords.{AreCut}
 use Rattle.dspec_record.proofs.packed.unpacked.Given as goal
 

@@ -1,9 +1,7 @@
 -- The mask of each field is added to its word.
 use Rattle.std.proofs.Common.{◌≡◌, ◌+◌, ◌*◌, ◌/◌, ◌%◌, ◌^◌, ℕ, List, get_or, set, sym, ◌∙◌, ap, subst, arith}
 use Rattle.std.proofs.Math.Nat.{mod-eq_of_lt}
-use Rattle.dspec_record.specs.Layout.{width, limit, rounded_up}
-use Rattle.dspec_record.specs.declared.field.Field.{Field}
-use Rattle.dspec_record.specs.declared.field.Field.TheVariants.{One}
+use Rattle.dspec_record.specs.Words.{width, limit, rounded_up, Field, One}
 use Rattle.dspec_record.proofs.MakingMasks.{AreMasked, AreMasked-shifted, AreMasked-room, AreMasked-next, AreMasked-end}
 use Rattle.dspec_record.proofs.Masking.{masks_for-is}
 use Rattle.dspec_record.proofs.packing.masks_of.Goals as goal

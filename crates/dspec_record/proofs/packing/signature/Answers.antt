@@ -1,9 +1,6 @@
 use Rattle.std.proofs.Common.{◌≡◌, ◌≤◌, ◌<◌, ◌+◌, ◌*◌, ◌-◌, ◌^◌, ℕ, List, length, drop, get_or, ◌∙◌, ap, arith}
 use Rattle.std.proofs.lemmas.List.{length-drop}
-use Rattle.dspec_record.specs.Layout.{width}
-use Rattle.dspec_record.specs.declared.field.Field.{Field}
-use Rattle.dspec_record.specs.declared.field.Field.TheVariants.{One}
-use Rattle.dspec_record.specs.Packing.{signature_of}
+use Rattle.dspec_record.specs.Words.{width, Field, One, signature_of}
 use Rattle.dspec_record.proofs.Claiming.{signature_of-fits}
 use Rattle.dspec_record.proofs.Signing.{signature-more}
 use Rattle.dspec_record.proofs.packing.signature.Goals as goal

@@ -1,5 +1,5 @@
 use Rattle.std.proofs.Common.{◌≡◌, ◌≤◌, length, drop}
-use Rattle.dspec_record.specs.Packing.{signature_of}
+use Rattle.dspec_record.specs.Words.{signature_of}
 use Rattle.dspec_record.proofs.packing.signature.Given as goal
 
 -- the word of the fields from there on

@@ -1,6 +1,6 @@
 -- The session is still one, with all its CPUs, and the turns so far were played.
 use Rattle.std.proofs.Common.{◌≡◌, length}
-use Rattle.dspec_session_core.specs.Sessions.{IsSession}
+use Rattle.dspec_replay.specs.Words.{IsSession}
 use Rattle.dspec_replay.proofs.Refusals.{IsSoFar}
 use Rattle.dspec_replay.proofs.replaying.replay.Given as goal
 

@@ -1,5 +1,5 @@
 use Rattle.std.proofs.Common.{string_bytes}
-use Rattle.dspec_replay.specs.Buffers.{cpu_buffers}
+use Rattle.dspec_replay.specs.Words.{cpu_buffers}
 use Rattle.dspec_replay.proofs.Growing.{one_more_numbered}
 use Rattle.dspec_replay.proofs.showing.print_all.Goals as goal
 

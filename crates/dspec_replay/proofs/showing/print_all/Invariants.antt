@@ -1,5 +1,5 @@
 use Rattle.std.proofs.Common.{◌≡◌, ◌++◌, take, string_bytes}
-use Rattle.dspec_replay.specs.Buffers.{all_buffers}
+use Rattle.dspec_replay.specs.Words.{all_buffers}
 use Rattle.dspec_replay.proofs.showing.print_all.Given as goal
 
 abbrev pub invariant-loop-cpu : goal.invariant-loop-cpu

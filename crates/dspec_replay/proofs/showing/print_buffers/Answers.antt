@@ -1,5 +1,5 @@
 use Rattle.std.proofs.Common.{string_bytes}
-use Rattle.dspec_replay.specs.Buffers.{buffer_lines}
+use Rattle.dspec_replay.specs.Words.{buffer_lines}
 use Rattle.dspec_replay.proofs.Growing.{one_more}
 use Rattle.dspec_replay.proofs.showing.print_buffers.Goals as goal
 

@@ -1,6 +1,6 @@
 use Rattle.std.proofs.Common.{◌≡◌, ◌++◌, take, string_bytes}
 use Rattle.std.specs.List.{flat_map}
-use Rattle.dspec_replay.specs.Buffers.{buffer_lines}
+use Rattle.dspec_replay.specs.Words.{buffer_lines}
 use Rattle.dspec_replay.proofs.showing.print_buffers.Given as goal
 
 abbrev pub invariant-loop-buffer : goal.invariant-loop-buffer

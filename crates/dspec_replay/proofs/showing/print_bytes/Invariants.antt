@@ -1,5 +1,5 @@
 use Rattle.std.proofs.Common.{◌≡◌, ◌++◌, take, string_bytes}
-use Rattle.dspec_replay.specs.Buffers.{bytes_digits}
+use Rattle.dspec_replay.specs.Words.{bytes_digits}
 use Rattle.dspec_replay.proofs.showing.print_bytes.Given as goal
 
 abbrev pub invariant-loop-byte : goal.invariant-loop-byte

@@ -1,6 +1,6 @@
 use Rattle.std.proofs.Common.{◌++◌, append_assoc, ◌∙◌, ap, rules}
 use Rattle.std.proofs.lemmas.Result.{IfOk-equal}
-use Rattle.dspec_schedule.specs.Printed.{records_text}
+use Rattle.dspec_schedule.specs.Words.{records_text}
 use Rattle.dspec_schedule.proofs.printing.print_batch.Goals as goal
 
 pub returns : goal.returns

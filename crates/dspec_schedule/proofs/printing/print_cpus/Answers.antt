@@ -4,7 +4,7 @@ use Rattle.std.proofs.lemmas.List.Folds.{flat_map-map}
 use Rattle.std.proofs.lemmas.Iterator.{YieldsList-from_slice, YieldsList-from_zip}
 use Rattle.std.proofs.lemmas.Iterator.Consumers.{YieldsList-at, YieldsList-from_enumerate, YieldsList-end}
 use Rattle.dspec_schedule.proofs.Growing.{flat_map-two_more}
-use Rattle.dspec_schedule.specs.Printed.{cpu_lines}
+use Rattle.dspec_schedule.specs.Words.{cpu_lines}
 use Rattle.dspec_schedule.proofs.printing.print_cpus.Goals as goal
 
 pub returns : goal.returns

@@ -1,6 +1,6 @@
 use Rattle.std.proofs.Common.{◌≡◌, ◌++◌, string_bytes}
 use Rattle.std.specs.List.{flat_map}
-use Rattle.dspec_schedule.specs.Printed.{cpu_lines}
+use Rattle.dspec_schedule.specs.Words.{cpu_lines}
 use Rattle.dspec_schedule.proofs.printing.print_cpus.Given as goal
 
 abbrev pub invariant-loop-cpu : goal.invariant-loop-cpu

@@ -1,5 +1,5 @@
 use Rattle.std.proofs.Common.{◌≡◌, ◌++◌, take, string_bytes}
-use Rattle.dspec_schedule.specs.Printed.{records_text}
+use Rattle.dspec_schedule.specs.Words.{records_text}
 use Rattle.dspec_schedule.proofs.printing.print_records.Given as goal
 
 abbrev pub invariant-loop-rec : goal.invariant-loop-rec

@@ -1,6 +1,6 @@
 use Rattle.std.proofs.Common.{◌≡◌, take, string_bytes}
 use Rattle.std.specs.List.{flat_map}
-use Rattle.dspec_schedule.specs.Printed.{call_line}
+use Rattle.dspec_schedule.specs.Words.{call_line}
 use Rattle.dspec_schedule.proofs.printing.printed.Given as goal
 
 abbrev pub invariant-loop-actor : goal.invariant-loop-actor

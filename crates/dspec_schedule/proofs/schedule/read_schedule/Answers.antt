@@ -4,7 +4,7 @@ use Rattle.std.proofs.lemmas.List.{map-append, length-map}
 use Rattle.std.proofs.lemmas.Iterator.Consumers.{YieldsList-at, YieldsList-so_far, YieldsList-turn, YieldsList-end}
 use Rattle.std.proofs.lemmas.Iterator.Splits.{YieldsList-from_slice_split}
 use Rattle.std.proofs.lemmas.Result.{err_from_is_err_and}
-use Rattle.dspec_schedule.specs.Schedules.{plan_of}
+use Rattle.dspec_schedule.specs.Words.{plan_of}
 use Rattle.dspec_schedule.proofs.EndLemmas.{behind-more, cut_at}
 use Rattle.dspec_schedule.proofs.HeaderLemmas.{read-one_header}
 use Rattle.dspec_schedule.proofs.LineLemmas.{lines_read-more, schedule_of-fault, schedule_of-end}

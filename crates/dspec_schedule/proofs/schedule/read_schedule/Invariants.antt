@@ -1,6 +1,5 @@
 use Rattle.std.proofs.Common.{◌≡◌, ◌+◌, None, Ok, map, length, option_map, if◌then◌else◌}
-use Rattle.dspec_schedule.specs.Reading.{lines_read, without_empty_end}
-use Rattle.dspec_schedule.specs.Schedules.{plan_of}
+use Rattle.dspec_schedule.specs.Words.{lines_read, without_empty_end, plan_of}
 use Rattle.dspec_schedule.proofs.schedule.read_schedule.Given as goal
 
 abbrev pub invariant-loop-bytes : goal.invariant-loop-bytes

@@ -1,6 +1,5 @@
 use Rattle.std.proofs.Common.{◌≡◌, length, map, take, Ok}
-use Rattle.dspec_schedule.specs.Steps.{each}
-use Rattle.dspec_schedule.specs.SetUp.{field_of_word}
+use Rattle.dspec_schedule.specs.Words.{each, field_of_word}
 use Rattle.dspec_schedule.proofs.setup.enabling.Given as goal
 
 abbrev pub invariant-loop-index : goal.invariant-loop-index

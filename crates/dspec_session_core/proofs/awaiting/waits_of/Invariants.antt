@@ -1,5 +1,4 @@
-use Rattle.dspec_table.specs.Seats.{known_there, IsConsumerAt}
-use Rattle.dspec_session_core.specs.Awaiting.{AwaitedSlots}
+use Rattle.dspec_session_core.specs.Words.{known_there, IsConsumerAt, AwaitedSlots}
 use Rattle.dspec_session_core.proofs.awaiting.waits_of.Given as goal
 
 -- the slots up to this one were looked at, and those that wait counted

@@ -1,9 +1,6 @@
 use Rattle.std.proofs.Common.{◌∙◌, ℕ, ap, sym, subst}
-use Rattle.dspec_word.specs.Code.{awaits}
+use Rattle.dspec_session_core.specs.Words.{awaits, MayReap, known_there, Acknowledged, MissesOne, CleanedSlot, waits_for_none, waits_for_one}
 use Rattle.dspec_deeds.specs.declared.config.Config.{Config}
-use Rattle.dspec_table.specs.Conditions.{MayReap}
-use Rattle.dspec_table.specs.Seats.{known_there}
-use Rattle.dspec_session_core.specs.Cleaning.{Acknowledged, MissesOne, CleanedSlot, waits_for_none, waits_for_one}
 use Rattle.dspec_session_core.proofs.Acknowledging.{may_reap, reaped}
 use Rattle.dspec_session_core.proofs.cleaning.clean_slot.Goals as goal
 

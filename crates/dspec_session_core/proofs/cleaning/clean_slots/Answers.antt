@@ -1,7 +1,6 @@
 use Rattle.std.proofs.Common.{◌≡◌, ◌+◌, ◌∙◌, ℕ, if◌then◌else◌, ap, sym, subst, arith}
 use Rattle.dspec_deeds.specs.declared.config.Config.{Config}
-use Rattle.dspec_table.specs.Seats.{known_there}
-use Rattle.dspec_session_core.specs.Cleaning.{CleanedSlots}
+use Rattle.dspec_session_core.specs.Words.{known_there, CleanedSlots}
 use Rattle.dspec_session_core.proofs.Acknowledging.{slots_done, one_more, all_cleaned}
 use Rattle.dspec_session_core.proofs.cleaning.clean_slots.Goals.{then-clean_slot, else-clean_slot}
 use Rattle.dspec_session_core.proofs.cleaning.clean_slots.Goals as goal

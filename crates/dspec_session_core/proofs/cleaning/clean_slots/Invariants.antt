@@ -1,6 +1,5 @@
 use Rattle.std.proofs.Common.{◌≡◌, ℕ, List, length}
-use Rattle.dspec_table.specs.Seats.{known_there, IsConsumerAt}
-use Rattle.dspec_session_core.specs.Cleaning.{CleanedSlots}
+use Rattle.dspec_session_core.specs.Words.{known_there, IsConsumerAt, CleanedSlots}
 use Rattle.dspec_session_core.proofs.cleaning.clean_slots.Given as goal
 
 -- the slots up to this one were cleaned, and the released ones counted

@@ -1,5 +1,4 @@
-use Rattle.dspec_table.specs.Seats.{known_there, IsConsumerAt}
-use Rattle.dspec_session_core.specs.Cleaning.{Acknowledged}
+use Rattle.dspec_session_core.specs.Words.{known_there, IsConsumerAt, Acknowledged}
 use Rattle.dspec_session_core.proofs.cleaning.is_acknowledged.Given as goal
 
 -- every CPU below this one has acknowledged

@@ -1,6 +1,6 @@
 use Rattle.std.proofs.Common.{◌≡◌, ◌++◌, length}
 use Rattle.std.specs.Prelude.{All}
-use Rattle.dspec_ring.specs.Known.{IsUnusedConsumer}
+use Rattle.dspec_session_core.specs.Words.{IsUnusedConsumer}
 use Rattle.dspec_session_core.proofs.making.counted.Given as goal
 
 -- those counted, then the rest, are the ends that were given

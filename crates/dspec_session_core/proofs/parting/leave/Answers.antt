@@ -1,11 +1,7 @@
 use Rattle.std.proofs.Common.{◌≡◌, ◌++◌, ◌∙◌, reverse, Option, sym, subst}
 use mathlib.Core.List.{IsPrefix}
-use Rattle.dspec_deeds.specs.History.{word_at}
-use Rattle.dspec_interleaving.specs.CpuClose.{own_closed}
+use Rattle.dspec_session_core.specs.Words.{word_at, own_closed, ConsumerKnows, held_back_of_rest, AreSealed, waiting}
 use Rattle.dspec_ring.specs.declared.batch.Batch.{Batch}
-use Rattle.dspec_ring.specs.Known.{ConsumerKnows}
-use Rattle.dspec_cpu.specs.Rests.{held_back_of_rest}
-use Rattle.dspec_cpu.specs.Sealed.{AreSealed, waiting}
 use Rattle.dspec_session_core.proofs.Leavings.{closing_part, legal_now, sealed_left, shows_before}
 use Rattle.dspec_session_core.proofs.parting.leave.Goals as goal
 

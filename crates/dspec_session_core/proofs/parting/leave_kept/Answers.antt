@@ -1,7 +1,5 @@
 use Rattle.std.proofs.Common.{subst}
-use Rattle.dspec_table.specs.Last.{last_words}
-use Rattle.dspec_cpu.specs.Rests.{RestHasList, config_of_rest, number_of_rest, schema_of_rest, worn_of_rest}
-use Rattle.dspec_session_core.specs.Leaving.{Leaves}
+use Rattle.dspec_session_core.specs.Words.{last_words, RestHasList, config_of_rest, number_of_rest, schema_of_rest, worn_of_rest, Leaves}
 use Rattle.dspec_session_core.proofs.parting.leave_kept.Goals as goal
 
 pub returns : goal.returns

@@ -2,12 +2,7 @@ use Rattle.std.proofs.Common.{◌+◌, ◌<◌, ◌++◌, ◌∙◌, List, [], �
 use Rattle.std.specs.Prelude.{option_to_list}
 use Rattle.dspec_deeds.proofs.TestLemmas.{numbers_differ, same_number}
 use Rattle.dspec_table.specs.declared.seats.CpuSeat.{CpuSeat}
-use Rattle.dspec_table.specs.Last.{Ended, last_words}
-use Rattle.dspec_table.specs.Seats.{known_there, set_up}
-use Rattle.dspec_ring.specs.Known.{CpuKnows}
-use Rattle.dspec_cpu.specs.KeptRests.{rest_with}
-use Rattle.dspec_cpu.specs.Lists.{seat_of}
-use Rattle.dspec_session_core.specs.Leaving.{AllParted}
+use Rattle.dspec_session_core.specs.Words.{Ended, last_words, known_there, set_up, CpuKnows, rest_with, seat_of, AllParted}
 use Rattle.dspec_session_core.proofs.AllParted.{all_seats, as_many, first_schema, is_rest, left_more, next_of_left, none_told, one_parts, rest_lists, seats_of_all, told_all}
 use Rattle.dspec_session_core.proofs.Ends.{none_in}
 use Rattle.dspec_session_core.proofs.FirstParted.{next_closing, next_few, next_has, next_pair, next_words, pushed_is}

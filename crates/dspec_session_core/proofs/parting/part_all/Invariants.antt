@@ -1,7 +1,6 @@
 -- First the CPUs that are no longer there have parted; then it is told what is left of those that no longer wait.
 use Rattle.std.proofs.Common.{◌≡◌, ◌≤◌, ◌+◌, vec_len, vec_capacity, length}
-use Rattle.dspec_table.specs.Last.{last_words}
-use Rattle.dspec_table.specs.Seats.{set_up}
+use Rattle.dspec_session_core.specs.Words.{last_words, set_up}
 use Rattle.dspec_session_core.proofs.AllParted.{LeftSoFar, PartedSoFar}
 use Rattle.dspec_session_core.proofs.parting.part_all.Given as goal
 

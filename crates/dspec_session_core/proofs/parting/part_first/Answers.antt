@@ -1,8 +1,5 @@
 use Rattle.std.proofs.Common.{◌<◌, ◌∙◌, ◌∷◌, sym, ap, subst, arith}
-use Rattle.dspec_ring.specs.Known.{CpuKnows}
-use Rattle.dspec_cpu.specs.KeptRests.{rest_with}
-use Rattle.dspec_cpu.specs.Rests.{RestHasList, schema_of_rest}
-use Rattle.dspec_session_core.specs.Leaving.{IsRestOf}
+use Rattle.dspec_session_core.specs.Words.{CpuKnows, rest_with, RestHasList, schema_of_rest, IsRestOf}
 use Rattle.dspec_session_core.proofs.Ends.{first_and_rest}
 use Rattle.dspec_session_core.proofs.parting.part_first.Goals as goal
 

@@ -1,5 +1,5 @@
 use Rattle.std.proofs.Common.{ℕ, ◌+◌, ◌*◌, ◌≤◌, arith}
-use Rattle.dspec_table.specs.Layout.{group_width}
+use Rattle.dspec_table.specs.Words.{group_width}
 use Rattle.dspec_table.proofs.Places.{far_apart}
 use Rattle.dspec_table.proofs.layout.words_lie_apart.Goals as goal
 

@@ -1,5 +1,5 @@
 use Rattle.std.proofs.Common.{◌≡◌, length, []}
-use Rattle.dspec_table.specs.Seats.{dealing, DealtSeats}
+use Rattle.dspec_table.specs.Words.{dealing, DealtSeats}
 use Rattle.dspec_table.proofs.starting.deal.Given as goal
 
 abbrev pub invariant-loop-cpu : goal.invariant-loop-cpu

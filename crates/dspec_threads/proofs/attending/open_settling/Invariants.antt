@@ -1,9 +1,6 @@
 -- As many asks in vain as rounds.
 use Rattle.std.proofs.Common.{◌≡◌}
-use Rattle.dspec_cpu.specs.Lists.{HasList}
-use Rattle.dspec.specs.Lanes.{place_of}
-use Rattle.dspec_threads.specs.Attends.{AsksTimes}
-use Rattle.dspec_threads.specs.Settled.{settled_by, settled_from}
+use Rattle.dspec_threads.specs.Words.{HasList, place_of, AsksTimes, settled_by, settled_from}
 use Rattle.dspec_threads.proofs.attending.open_settling.Given as goal
 
 abbrev pub invariant-loop : goal.invariant-loop

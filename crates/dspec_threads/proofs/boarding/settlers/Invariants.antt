@@ -1,7 +1,6 @@
 -- As many lanes as rounds; nothing was said to any, each has its room, and both ends of each are of one ring.
 use Rattle.std.proofs.Common.{◌≡◌, [], length, map, replicate}
-use Rattle.dspec_threads.specs.Said.{rooms_of_lanes, said_into, said_to_each}
-use Rattle.dspec_threads.specs.Settled.{settled_from}
+use Rattle.dspec_threads.specs.Words.{rooms_of_lanes, said_into, said_to_each, settled_from}
 use Rattle.dspec_threads.proofs.boarding.settlers.Given as goal
 
 abbrev pub invariant-loop : goal.invariant-loop

@@ -1,5 +1,5 @@
 use Rattle.std.proofs.Common.{ap, length, arith}
-use Rattle.dspec_threads.specs.Places.{all_whereabouts}
+use Rattle.dspec_threads.specs.Words.{all_whereabouts}
 use Rattle.dspec_threads.proofs.Whereabouts.{first_in, one_more_out, rest_in}
 use Rattle.dspec_threads.proofs.places.cpus_of.Goals as goal
 

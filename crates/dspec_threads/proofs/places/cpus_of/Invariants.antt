@@ -1,7 +1,7 @@
 -- The CPUs of the places so far, and the places that are left, with a CPU in each.
 use Rattle.std.proofs.Common.{◌≡◌, ◌+◌, ◌++◌, ◌≤◌, length, map, Some}
 use Rattle.std.specs.Prelude.{vec_capacity}
-use Rattle.dspec_threads.specs.Places.{AllIn, all_whereabouts, who_is_in}
+use Rattle.dspec_threads.specs.Words.{AllIn, all_whereabouts, who_is_in}
 use Rattle.dspec_threads.proofs.places.cpus_of.Given as goal
 
 abbrev pub invariant-loop-places : goal.invariant-loop-places

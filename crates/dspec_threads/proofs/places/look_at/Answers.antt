@@ -1,5 +1,5 @@
 use Rattle.std.proofs.Common.{sym, ◌∙◌}
-use Rattle.dspec_threads.specs.Places.{ComesIn}
+use Rattle.dspec_threads.specs.Words.{ComesIn}
 use Rattle.dspec_threads.proofs.Whereabouts.{at_one, in_at_one}
 use Rattle.dspec_threads.proofs.places.look_at.Goals as goal
 

@@ -1,6 +1,6 @@
 -- The places of the CPUs so far, and the CPUs that are to come.
 use Rattle.std.proofs.Common.{◌≡◌, ◌++◌, length, map}
-use Rattle.dspec_threads.specs.Places.{all_whereabouts, waits_inside}
+use Rattle.dspec_threads.specs.Words.{all_whereabouts, waits_inside}
 use Rattle.dspec_threads.proofs.places.places_of.Given as goal
 
 abbrev pub invariant-loop-places : goal.invariant-loop-places

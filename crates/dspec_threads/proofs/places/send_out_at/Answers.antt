@@ -1,5 +1,5 @@
 use Rattle.std.specs.Arc.{arc_value}
-use Rattle.dspec_threads.specs.Places.{LooksAndSends, all_whereabouts, whereabouts}
+use Rattle.dspec_threads.specs.Words.{LooksAndSends, all_whereabouts, whereabouts}
 use Rattle.dspec_threads.proofs.Whereabouts.{at_one, callable_behind, there_read}
 use Rattle.dspec_threads.proofs.places.send_out_at.Goals as goal
 

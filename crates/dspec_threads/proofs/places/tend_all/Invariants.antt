@@ -1,5 +1,5 @@
 -- Each place so far was tended.
-use Rattle.dspec_threads.specs.Places.{TendsPlace, all_whereabouts}
+use Rattle.dspec_threads.specs.Words.{TendsPlace, all_whereabouts}
 use Rattle.dspec_threads.proofs.Pairs.{EachTo}
 use Rattle.dspec_threads.proofs.places.tend_all.Given as goal
 

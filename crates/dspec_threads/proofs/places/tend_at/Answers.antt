@@ -1,4 +1,4 @@
-use Rattle.dspec_threads.specs.Places.{TendsPlace, all_whereabouts}
+use Rattle.dspec_threads.specs.Words.{TendsPlace, all_whereabouts}
 use Rattle.dspec_threads.proofs.Whereabouts.{at_one, callable_there, there_read}
 use Rattle.dspec_threads.proofs.places.tend_at.Goals as goal
 

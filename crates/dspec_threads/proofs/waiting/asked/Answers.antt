@@ -1,6 +1,5 @@
 use Rattle.std.proofs.Common.{◌≡◌, ◌∙◌, ap, sym, arith}
-use Rattle.dspec_word.specs.SpecId.{id_number}
-use Rattle.dspec_deeds.specs.FateAnswers.{id_given}
+use Rattle.dspec_threads.specs.Words.{id_number, id_given}
 use Rattle.dspec_threads.proofs.waiting.asked.Goals as goal
 
 pub returns-clause-asks : goal.returns-clause-asks

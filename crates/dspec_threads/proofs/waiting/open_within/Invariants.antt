@@ -1,8 +1,6 @@
 -- As many asks in vain as rounds.
 use Rattle.std.proofs.Common.{◌≡◌}
-use Rattle.dspec_cpu.specs.Lists.{HasList}
-use Rattle.dspec.specs.Lanes.{place_of}
-use Rattle.dspec_threads.specs.Waits.{AsksAndServes}
+use Rattle.dspec_threads.specs.Words.{HasList, place_of, AsksAndServes}
 use Rattle.dspec_threads.proofs.waiting.open_within.Given as goal
 
 abbrev pub invariant-loop : goal.invariant-loop

@@ -1,4 +1,4 @@
-use Rattle.dspec.specs.Serving.{ThenServed}
+use Rattle.dspec_trace_reading.specs.Words.{ThenServed}
 use Rattle.dspec_trace_reading.proofs.RanInto.{ran_into}
 use Rattle.dspec_trace_reading.proofs.running.run_in.Goals as goal
 

@@ -1,4 +1,4 @@
-use Rattle.dspec.specs.Workers.{WorkedOn, one_for}
+use Rattle.dspec_trace_reading.specs.Words.{WorkedOn, one_for}
 use Rattle.dspec_trace_reading.proofs.RanInto.{ran_into}
 use Rattle.dspec_trace_reading.proofs.running.run_workers_in.Goals as goal
 

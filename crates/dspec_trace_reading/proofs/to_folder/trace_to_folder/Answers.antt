@@ -1,9 +1,5 @@
 use Rattle.std.proofs.Common.{ℕ, IfOk, subst}
-use Rattle.dspec_record.specs.EnablingRows.{EnabledRows}
-use Rattle.dspec_cpu.specs.Called.{CallsMade}
-use Rattle.dspec.specs.Serving.{ThenServed}
-use Rattle.dspec_ctf_sink.specs.Writing.{GetsPacket}
-use Rattle.dspec_trace_reading.specs.Ran.{RanBegun}
+use Rattle.dspec_trace_reading.specs.Words.{EnabledRows, CallsMade, ThenServed, GetsPacket, RanBegun}
 use Rattle.dspec_trace_reading.proofs.InFolder.{read_if}
 use Rattle.dspec_trace_reading.proofs.to_folder.trace_to_folder.Goals as goal
 

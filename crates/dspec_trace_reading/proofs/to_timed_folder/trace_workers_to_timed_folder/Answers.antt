@@ -1,9 +1,5 @@
 use Rattle.std.proofs.Common.{ℕ, IfOk, subst}
-use Rattle.dspec_record.specs.EnablingRows.{EnabledRows}
-use Rattle.dspec_cpu.specs.Called.{CallsMade}
-use Rattle.dspec.specs.Workers.{WorkedOn, one_for}
-use Rattle.dspec_ctf_sink.specs.Timed.{GetsRuns}
-use Rattle.dspec_trace_reading.specs.Ran.{RanBegun}
+use Rattle.dspec_trace_reading.specs.Words.{EnabledRows, CallsMade, WorkedOn, one_for, GetsRuns, RanBegun}
 use Rattle.dspec_trace_reading.proofs.Filing.{FilesLaws}
 use Rattle.dspec_trace_reading.proofs.InTimedFolder.{timed_if}
 use Rattle.dspec_trace_reading.proofs.to_timed_folder.trace_workers_to_timed_folder.Goals as goal

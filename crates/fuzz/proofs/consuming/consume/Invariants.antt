@@ -1,6 +1,5 @@
 -- The consumer is still that of the session.
-use Rattle.dspec_cpu.specs.Lists.{words_of}
-use Rattle.dspec_session_core.specs.Consumers.{Stays}
+use Rattle.fuzz.specs.Words.{words_of, Stays}
 use Rattle.fuzz.proofs.consuming.consume.Given as goal
 
 abbrev pub invariant-loop-round : goal.invariant-loop-round

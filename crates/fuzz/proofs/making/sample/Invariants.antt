@@ -1,6 +1,6 @@
 -- The turns so far are whole calls.
 use Rattle.std.proofs.Common.{All, IsSome}
-use Rattle.dspec_replay.specs.Replayed.{whole_call_of}
+use Rattle.fuzz.specs.Words.{whole_call_of}
 use Rattle.fuzz.proofs.making.sample.Given as goal
 
 abbrev pub invariant-loop : goal.invariant-loop

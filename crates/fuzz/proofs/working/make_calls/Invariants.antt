@@ -1,6 +1,6 @@
 -- It is the same CPU.
 use Rattle.std.proofs.Common.{◌≡◌}
-use Rattle.dspec_cpu.specs.Standing.{identity}
+use Rattle.fuzz.specs.Words.{identity}
 use Rattle.fuzz.proofs.working.make_calls.Given as goal
 
 abbrev pub invariant-loop-round : goal.invariant-loop-round

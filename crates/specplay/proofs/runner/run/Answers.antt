@@ -1,6 +1,6 @@
 -- A write fault comes after the play.
 use Rattle.std.proofs.Common.{◌∙◌, sym, subst}
-use Rattle.specplay.specs.Schedules.{Prints}
+use Rattle.specplay.specs.Words.{Prints}
 use Rattle.specplay.proofs.WritingLemmas.{cut_off_of}
 use Rattle.specplay.proofs.runner.run.Goals as goal
 

@@ -1,5 +1,5 @@
 -- What was written so far stands before the rest.
-use Rattle.specplay.specs.Written.{AppendsBefore}
+use Rattle.specplay.specs.Words.{AppendsBefore}
 use Rattle.specplay.proofs.runner.write_bytes.Given as goal
 
 abbrev pub invariant-loop : goal.invariant-loop

@@ -1,5 +1,5 @@
 use Rattle.std.proofs.Common.{◌≡◌, take, string_bytes}
-use Rattle.specplay.specs.Lines.{lines_text}
+use Rattle.specplay.specs.Words.{lines_text}
 use Rattle.specplay.proofs.threads.text_of.Given as goal
 
 abbrev pub invariant-loop-line : goal.invariant-loop-line

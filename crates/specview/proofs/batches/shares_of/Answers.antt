@@ -1,7 +1,6 @@
 use Rattle.std.proofs.Common.{◌≡◌, ◌∷◌, ◌∙◌, ◌++◌, IfOk, Ok, Err, [], map, reverse, take, refl, ap, sym, arith}
 use Rattle.std.proofs.lemmas.List.{map-append, length-reverse, length-take-le}
-use Rattle.dspec_deeds.specs.Own.{is_drop}
-use Rattle.specview.specs.Batches.{shown_share, last_share, shares}
+use Rattle.specview.specs.Words.{is_drop, shown_share, last_share, shares}
 use Rattle.specview.proofs.Cutting.{begins_at, enough, sealed_at, grown_at, grown_within, ended_at, drops_few, at_most_one}
 use Rattle.specview.proofs.batches.shares_of.Goals as goal
 

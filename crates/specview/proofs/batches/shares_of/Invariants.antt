@@ -1,5 +1,5 @@
 use Rattle.std.proofs.Common.{map, reverse, take}
-use Rattle.specview.specs.Batches.{shown_share}
+use Rattle.specview.specs.Words.{shown_share}
 use Rattle.specview.proofs.Cutting.{IsCut}
 use Rattle.specview.proofs.batches.shares_of.Given as goal
 

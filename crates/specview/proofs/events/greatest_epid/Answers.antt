@@ -1,5 +1,5 @@
 use Rattle.std.proofs.Common.{ap, max, ◌∙◌}
-use Rattle.specview.specs.Traces.{greatest_of}
+use Rattle.specview.specs.Words.{greatest_of}
 use Rattle.specview.proofs.Greatest.{greatest_all_next}
 use Rattle.specview.proofs.events.greatest_epid.Goals as goal
 

@@ -1,5 +1,5 @@
 use Rattle.std.proofs.Common.{◌≡◌, take}
-use Rattle.specview.specs.Traces.{greatest_of}
+use Rattle.specview.specs.Words.{greatest_of}
 use Rattle.specview.proofs.events.greatest_of.Given as goal
 
 abbrev pub invariant-loop-rec : goal.invariant-loop-rec

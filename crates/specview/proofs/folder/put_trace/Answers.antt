@@ -1,9 +1,9 @@
 use Rattle.std.proofs.Common.{subst, sym, map, codes, string_bytes}
-use Rattle.specview.specs.Folders.{AddsFiles, cpu_files, named_file}
+use Rattle.specview.specs.Words.{AddsFiles, cpu_files, named_file}
 use Rattle.specview.proofs.Files.{adds_more, adds_none, next_file, all_files}
 use Rattle.specview.proofs.folder.put_trace.Goals as goal
 
 pub loop-cpu-preserved : goal.loop-cpu-preserved
 loop-cpu-preserved g c =
-    next_file (λ f. f.items) (g.F.Folder.files c.args.folder.now) (g.F.Folder.files c.loop-cpu.folder) (g.F.Folder.files c.put_file.new.folder)
+    next_file (λ f. f.items) (g.F.TraceFiles.files c.args.folder.now) (g.F.TraceFiles.files c.loop-cpu.folder) (g.F.TraceFiles.files c.put_file.new.folder)
     c.deref-file-items.result.now c.loop-cpu.cpu c.file-item.result c.as_slice.result.now c.loop-cpu.invariant c.in_ok-put_file.ensures.put c.loop-cpu-test.true c.file-item.is c.as_slice.ensures.value

@@ -1,8 +1,5 @@
 use Rattle.std.proofs.Common.{◌∙◌, ◌+◌, ◌==◌, ◌<◌, ◌^◌, ap, sym, subst, All, arith, map, length, reverse}
-use Rattle.dspec_ctf.specs.Streams.{Accepts}
-use Rattle.dspec_deeds.specs.Own.{stream}
-use Rattle.specview.specs.Batches.{shown_share}
-use Rattle.specview.specs.Traces.{HaveShortEvents, refused_in}
+use Rattle.specview.specs.Words.{Accepts, stream, shown_share, HaveShortEvents, refused_in}
 use Rattle.specview.proofs.Parts.{Within, written_all}
 use Rattle.specview.proofs.trace.file_as_taken.Goals as goal
 

@@ -1,5 +1,5 @@
 use Rattle.std.proofs.Common.{◌≡◌, length, map, reverse}
-use Rattle.specview.specs.Traces.{AreFiles}
+use Rattle.specview.specs.Words.{AreFiles}
 use Rattle.specview.proofs.trace.files_of.Given as goal
 
 abbrev pub invariant-loop-cpu : goal.invariant-loop-cpu

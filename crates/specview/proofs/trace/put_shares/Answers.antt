@@ -1,8 +1,5 @@
 use Rattle.std.proofs.Common.{◌≡◌, ◌+◌, ◌++◌, ◌∙◌, subst, sym, ap, All, arith, drop, map}
-use Rattle.dspec_ctf.specs.Packets.{packet}
-use Rattle.dspec_ctf.specs.Streams.{Accepts, HasNoRecordPacket}
-use Rattle.specview.specs.Batches.{shown_share}
-use Rattle.specview.specs.Traces.{packets_behind, refused_in}
+use Rattle.specview.specs.Words.{packet, Accepts, HasNoRecordPacket, shown_share, packets_behind, refused_in}
 use Rattle.specview.proofs.Parts.{memory_alone, packet_next, refused_next, share_at, short_at}
 use Rattle.specview.proofs.trace.put_shares.Goals as goal
 

@@ -1,6 +1,5 @@
 use Rattle.std.proofs.Common.{◌≡◌, ◌+◌, ◌++◌, map, drop}
-use Rattle.specview.specs.Batches.{shown_share}
-use Rattle.specview.specs.Traces.{packets_behind, refused_in}
+use Rattle.specview.specs.Words.{shown_share, packets_behind, refused_in}
 use Rattle.specview.proofs.trace.put_shares.Given as goal
 
 abbrev pub invariant-loop-share : goal.invariant-loop-share

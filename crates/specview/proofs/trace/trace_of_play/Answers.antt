@@ -1,11 +1,6 @@
 use Rattle.std.proofs.Common.{◌≡◌, ℕ, ◌∙◌, ap, subst, sym, All, Some, length, reverse, slice_get}
-use Rattle.dspec_ctf.specs.Streams.{Accepts}
-use Rattle.dspec_deeds.specs.Own.{stream}
+use Rattle.specview.specs.Words.{Accepts, stream, plan_of, shapes_of, worn_count, TellsSmall, event_rows}
 use Rattle.dspec_deeds.specs.declared.report.Report.{Report}
-use Rattle.dspec_schedule.specs.Schedules.{plan_of}
-use Rattle.dspec_replay.specs.PlayedTexts.{shapes_of}
-use Rattle.dspec_interleaving.specs.Plays.{worn_count}
-use Rattle.specview.specs.Traces.{TellsSmall, event_rows}
 use Rattle.specview.proofs.AllFiles.{reports_long, legal_told, of_numbered}
 use Rattle.specview.proofs.SmallPlays.{play_small}
 use Rattle.specview.proofs.trace.trace_of_play.Goals as goal

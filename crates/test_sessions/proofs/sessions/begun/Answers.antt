@@ -1,7 +1,7 @@
 use Rattle.std.proofs.Common.{◌≡◌, [], ◌++◌, sym, ap, ◌∙◌, subst}
 use Rattle.std.specs.Prelude.{option_to_list}
 use Rattle.dspec_table.specs.declared.seats.Words.{Words}
-use Rattle.dspec_table.specs.Seats.{known, cpu_of, IsAt}
+use Rattle.test_sessions.specs.Words.{known, cpu_of, IsAt}
 use Rattle.test_sessions.proofs.Pairs.{first_is, second_is}
 use Rattle.test_sessions.proofs.sessions.begun.Goals as goal
 

@@ -1,6 +1,5 @@
 use Rattle.std.proofs.Common.{Bool, not, subst}
-use Rattle.dspec_table.specs.Seats.{known}
-use Rattle.dspec_table.specs.Steps.{LoadedActivity}
+use Rattle.test_words.specs.Words.{known, LoadedActivity}
 use Rattle.test_words.proofs.Turns.{begins}
 use Rattle.test_words.proofs.calls.begun.Goals as goal
 

@@ -1,9 +1,7 @@
 use Rattle.std.proofs.Common.{ℕ, true, ◌∙◌, sym, ap, subst}
 use Rattle.dspec_table.specs.declared.rule.View.{View}
-use Rattle.dspec_table.specs.Conditions.{MayTry, IsDeciding}
-use Rattle.dspec_table.specs.Seats.{known}
+use Rattle.test_words.specs.Words.{MayTry, IsDeciding, known, Unused}
 use Rattle.dspec_table.proofs.Flights.{tries_again}
-use Rattle.test_words.specs.Calls.{Unused}
 use Rattle.test_words.proofs.Turns.{commits, tried_rests}
 use Rattle.test_words.proofs.calls.committed.Goals as goal
 

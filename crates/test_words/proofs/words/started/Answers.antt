@@ -1,6 +1,6 @@
 use Rattle.std.proofs.Common.{◌++◌, ap, ◌∙◌}
 use Rattle.std.specs.Prelude.{option_to_list}
-use Rattle.dspec_table.specs.Seats.{known}
+use Rattle.test_words.specs.Words.{known}
 use Rattle.test_words.proofs.Pairs.{first_is, second_is}
 use Rattle.test_words.proofs.Openers.{none_unused}
 use Rattle.test_words.proofs.words.started.Goals as goal

@@ -1,6 +1,6 @@
 -- It is the same lane.
 use Rattle.std.proofs.Common.{◌≡◌}
-use Rattle.dspec.specs.Lanes.{place_of}
+use Rattle.test_works.specs.Words.{place_of}
 use Rattle.test_works.proofs.serving_on.throws_one.Given as goal
 
 abbrev pub invariant-loop : goal.invariant-loop

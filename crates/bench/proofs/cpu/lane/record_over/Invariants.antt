@@ -1,5 +1,5 @@
 use Rattle.std.proofs.Common.{◌≡◌}
-use Rattle.dspec.specs.Lanes.{place_of}
+use Rattle.bench.specs.Words.{place_of}
 use Rattle.bench.proofs.cpu.lane.record_over.Given as goal
 
 abbrev pub invariant-loop : goal.invariant-loop

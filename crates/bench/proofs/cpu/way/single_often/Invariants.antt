@@ -1,5 +1,5 @@
 use Rattle.std.proofs.Common.{◌≡◌}
-use Rattle.dspec_cpu.specs.Standing.{identity}
+use Rattle.bench.specs.Words.{identity}
 use Rattle.bench.proofs.cpu.way.single_often.Given as goal
 
 abbrev pub invariant-loop : goal.invariant-loop

@@ -1,7 +1,6 @@
 use Rattle.std.proofs.Common.{◌≡◌}
 use Rattle.dspec_deeds.specs.declared.calls.CpuOp.TheVariants as op
-use Rattle.dspec_deeds.specs.History.{scan}
-use Rattle.dspec_table.specs.Seats.{known, IsAt, set_up, cpu_of}
+use Rattle.bench.specs.Words.{scan, known, IsAt, set_up, cpu_of}
 use Rattle.bench.proofs.loads.loading.load_all.Given as goal
 
 abbrev pub invariant-loop : goal.invariant-loop

@@ -1,6 +1,5 @@
 use Rattle.std.proofs.Common.{◌≡◌}
-use Rattle.dspec_table.specs.Seats.{known, IsAt, set_up, cpu_of}
-use Rattle.test_words.specs.Calls.{Unused}
+use Rattle.bench.specs.Words.{known, IsAt, set_up, cpu_of, Unused}
 use Rattle.bench.proofs.loads.stirring.stir.Given as goal
 
 abbrev pub invariant-loop : goal.invariant-loop

@@ -1,6 +1,5 @@
 use Rattle.std.proofs.Common.{◌≡◌}
-use Rattle.dspec_deeds.specs.History.{scan}
-use Rattle.dspec_table.specs.Seats.{known, IsAt, set_up, cpu_of}
+use Rattle.bench.specs.Words.{scan, known, IsAt, set_up, cpu_of}
 use Rattle.bench.proofs.loads.timing.least.Given as goal
 
 abbrev pub invariant-loop : goal.invariant-loop

@@ -1,4 +1,4 @@
-use Rattle.dspec_promise.specs.Promise.{commit}
+use Rattle.dspec.specs.Words.{commit}
 use Rattle.dspec.proofs.LastPaths.{ends_so}
 use Rattle.dspec.proofs.last_path.LastPath.commit.Goals as goal
 

@@ -1,4 +1,4 @@
-use Rattle.dspec_promise.specs.Promise.{discard}
+use Rattle.dspec.specs.Words.{discard}
 use Rattle.dspec.proofs.LastPaths.{ends_so}
 use Rattle.dspec.proofs.last_path.LastPath.discard.Goals as goal
 

@@ -1,5 +1,5 @@
 use Rattle.std.proofs.Common.{refl}
-use Rattle.dspec_record.specs.Borrowed.{borrowed_record}
+use Rattle.dspec.specs.Words.{borrowed_record}
 use Rattle.dspec.proofs.LastPaths.{values_so}
 use Rattle.dspec.proofs.last_path.LastPath.record.Goals as goal
 

@@ -1,4 +1,4 @@
-use Rattle.dspec_probe.specs.Probes.{probed_record}
+use Rattle.dspec.specs.Words.{probed_record}
 use Rattle.dspec.proofs.LastPaths.{same_record_so}
 use Rattle.dspec.proofs.recording.ProbeRecording.record_in_last.Goals as goal
 

@@ -1,8 +1,6 @@
 -- It is the same lane, and it served.
 use Rattle.std.proofs.Common.{◌≡◌}
-use Rattle.dspec_cpu.specs.Called.{called}
-use Rattle.dspec.specs.Lanes.{place_of}
-use Rattle.dspec.specs.Serving.{ServedOn}
+use Rattle.dspec.specs.Words.{called, place_of, ServedOn}
 use Rattle.dspec.proofs.serving_on.WorkCounts.serve_on.Given as goal
 
 abbrev pub invariant-loop-early : goal.invariant-loop-early

@@ -1,5 +1,5 @@
 use Rattle.std.proofs.Common.{◌≡◌, ap, refl, ◌∙◌, subst, nat_le, arith}
-use Rattle.dspec_buffer.specs.Extent.{reserved, extent}
+use Rattle.dspec_buffer.specs.Words.{reserved, extent}
 use Rattle.dspec_buffer.proofs.SchemaLaws.{SchemaLaws}
 use Rattle.dspec_buffer.proofs.Fitting.{admits_none, answers}
 use Rattle.dspec_buffer.proofs.Keeping.{offset_is}

@@ -1,6 +1,5 @@
 use Rattle.std.proofs.Common.{subst}
-use Rattle.dspec_buffer.specs.Stored.{HasAhead}
-use Rattle.dspec_buffer.specs.Walking.{Steps}
+use Rattle.dspec_buffer.specs.Words.{HasAhead, Steps}
 use Rattle.dspec_buffer.proofs.SchemaLaws.{SchemaLaws}
 use Rattle.dspec_buffer.proofs.Walks.{walk_from}
 use Rattle.dspec_buffer.proofs.byte_buffer.ByteBufferTraceBuffer.next.Goals as goal

@@ -1,6 +1,6 @@
 use Rattle.std.proofs.Common.{◌≡◌, ◌++◌, ◌-◌, true, false, inr, ap, refl, sym, ◌∙◌, arith, length, take, replicate}
 use Rattle.std.proofs.lemmas.List.{length-take-le}
-use Rattle.dspec_buffer.specs.Extent.{block, extent, padded}
+use Rattle.dspec_buffer.specs.Words.{block, extent, padded}
 use Rattle.dspec_buffer.proofs.SchemaLaws.{SchemaLaws}
 use Rattle.dspec_buffer.proofs.Fitting.{refuses, admits, admits_none, laid_back}
 use Rattle.dspec_buffer.proofs.Keeping.{offset_is, fits_says, kept, block_of, block_offset, kept_empty}

@@ -1,6 +1,6 @@
 use Rattle.std.proofs.Common.{◌≡◌, Some, true, false, ap, sym, ◌∙◌, arith, length, take, replicate, ◌++◌, ◌-◌}
 use Rattle.dspec_record.specs.declared.field.Shape.{Shape}
-use Rattle.dspec_buffer.specs.Extent.{one, extent, padded}
+use Rattle.dspec_buffer.specs.Words.{one, extent, padded}
 use Rattle.dspec_buffer.proofs.SchemaLaws.{SchemaLaws}
 use Rattle.dspec_buffer.proofs.Texts.{text_facts}
 use Rattle.dspec_buffer.proofs.Fitting.{refuses, admits, placed, laid_whole}

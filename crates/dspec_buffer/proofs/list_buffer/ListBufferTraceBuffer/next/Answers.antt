@@ -1,6 +1,6 @@
 use Rattle.std.proofs.Common.{◌≡◌, Ok, Err, ap, drop, subst, ◌∙◌}
 use Rattle.std.proofs.lemmas.List.{take_rest}
-use Rattle.dspec_record.specs.Reading.{Answers}
+use Rattle.dspec_buffer.specs.Words.{Answers}
 use Rattle.dspec_buffer.proofs.SchemaLaws.{SchemaLaws}
 use Rattle.dspec_buffer.proofs.Packed.{steps_over, steps_none}
 use Rattle.dspec_buffer.proofs.list_buffer.ListBufferTraceBuffer.next.Goals as goal

@@ -1,5 +1,5 @@
 use Rattle.std.proofs.Common.{◌++◌, true, false, inr, ap, refl, sym, ◌∙◌, arith}
-use Rattle.dspec_buffer.specs.Extent.{block, extent, reserved}
+use Rattle.dspec_buffer.specs.Words.{block, extent, reserved}
 use Rattle.dspec_buffer.proofs.Fitting.{refuses, admits, admits_none, placed}
 use Rattle.dspec_buffer.proofs.Keeping.{fits_says}
 use Rattle.dspec_buffer.proofs.Listing.{listed, listed_block, listed_empty}

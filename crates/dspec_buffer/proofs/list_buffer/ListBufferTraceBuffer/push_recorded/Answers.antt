@@ -1,6 +1,6 @@
 use Rattle.std.proofs.Common.{◌≡◌, ◌++◌, Some, length, true, false, ap, sym, ◌∙◌, arith}
 use Rattle.std.proofs.lemmas.List.{length-take-le}
-use Rattle.dspec_buffer.specs.Extent.{one, extent, reserved, piece_align}
+use Rattle.dspec_buffer.specs.Words.{one, extent, reserved, piece_align}
 use Rattle.dspec_buffer.proofs.Fitting.{refuses, admits, placed}
 use Rattle.dspec_buffer.proofs.Keeping.{fits_says, shape_says}
 use Rattle.dspec_buffer.proofs.Listing.{listed, one_accepted, one_text}

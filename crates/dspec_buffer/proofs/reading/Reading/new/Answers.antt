@@ -1,5 +1,5 @@
 use Rattle.std.proofs.Common.{[], ap, arith}
-use Rattle.dspec_buffer.specs.Progress.{Progress}
+use Rattle.dspec_buffer.specs.Words.{Progress}
 use Rattle.dspec_buffer.proofs.SchemaLaws.{SchemaLaws}
 use Rattle.dspec_buffer.proofs.Taken.{none_given, given_are}
 use Rattle.dspec_buffer.proofs.reading.Reading.new.Goals as goal

@@ -1,7 +1,6 @@
 use Rattle.std.proofs.Common.{Ok, Err, [], ◌∷◌, ◌++◌, ◌≡◌, ◌<◌, ◌≤◌, length, take, refl, subst, ap}
 use Rattle.std.proofs.lemmas.Result.{err_from_is_err_and}
-use Rattle.dspec_buffer.specs.Progress.{Progress, Advances}
-use Rattle.dspec_buffer.specs.ReadingOn.{ReadsNext}
+use Rattle.dspec_buffer.specs.Words.{Progress, Advances, ReadsNext}
 use Rattle.dspec_buffer.proofs.SchemaLaws.{SchemaLaws}
 use Rattle.dspec_buffer.proofs.Taken.{one_given, given_before, given_are, goes_further}
 use Rattle.dspec_buffer.proofs.reading.Reading.next.Goals as goal

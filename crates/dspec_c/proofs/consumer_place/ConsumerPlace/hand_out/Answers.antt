@@ -2,9 +2,7 @@ use Rattle.std.proofs.Common.{Option, sym, ap, ◌∙◌, subst}
 use Rattle.std.specs.Prelude.{IsSome, is_some}
 use Rattle.std.specs.Arc.{arc_value}
 use Rattle.dspec_cpu.specs.declared.shared.Shared.{Shared}
-use Rattle.dspec_cpu.specs.Lists.{words_of}
-use Rattle.dspec_session_core.specs.Consumers.{Consuming, IsConsumerOf, IsSameConsumer}
-use Rattle.dspec_c.specs.ConsumerHomes.{TheirStay, Theirs}
+use Rattle.dspec_c.specs.Words.{words_of, Consuming, IsConsumerOf, IsSameConsumer, TheirStay, Theirs}
 use Rattle.dspec_c.proofs.ConsumerHomes.{free_on, goes_out, is_unused, leaves_from, left_so, not_waiting, same_there, went_by}
 use Rattle.dspec_c.proofs.consumer_place.ConsumerPlace.hand_out.Goals as goal
 

@@ -1,7 +1,5 @@
 use Rattle.std.proofs.Common.{ap, ◌∙◌, subst}
-use Rattle.dspec_cpu.specs.Lists.{words_of}
-use Rattle.dspec_session_core.specs.Consumers.{IsConsumerOf, IsSameConsumer}
-use Rattle.dspec_c.specs.ConsumerHomes.{TheirStay, Theirs}
+use Rattle.dspec_c.specs.Words.{words_of, IsConsumerOf, IsSameConsumer, TheirStay, Theirs}
 use Rattle.dspec_c.proofs.ConsumerHomes.{one_first, same_there}
 use Rattle.dspec_c.proofs.consumer_place.ConsumerPlace.into_home.Goals as goal
 

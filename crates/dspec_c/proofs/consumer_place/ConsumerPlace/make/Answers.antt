@@ -1,7 +1,5 @@
 use Rattle.std.proofs.Common.{ap, ◌∙◌, subst}
-use Rattle.dspec_cpu.specs.Lists.{words_of}
-use Rattle.dspec_session_core.specs.Consumers.{IsConsumerOf}
-use Rattle.dspec_c.specs.ConsumerHomes.{Theirs}
+use Rattle.dspec_c.specs.Words.{words_of, IsConsumerOf, Theirs}
 use Rattle.dspec_c.proofs.ConsumerHomes.{free_on, opened, went_by}
 use Rattle.dspec_c.proofs.consumer_place.ConsumerPlace.make.Goals as goal
 

@@ -1,6 +1,5 @@
 use Rattle.std.proofs.Common.{ap, ◌∙◌}
-use Rattle.dspec_c.specs.Homes.{CpuStay, CpuSide}
-use Rattle.dspec_cpu.specs.Standing.{identity}
+use Rattle.dspec_c.specs.Words.{CpuStay, CpuSide, identity}
 use Rattle.dspec_c.proofs.Homes.{one_first, same_there}
 use Rattle.dspec_c.proofs.cpu_place.CpuPlace.into_home.Goals as goal
 

@@ -1,5 +1,5 @@
 use Rattle.std.proofs.Common.{ap, ◌∙◌}
-use Rattle.dspec_c.specs.Homes.{CpuSide, at_home}
+use Rattle.dspec_c.specs.Words.{CpuSide, at_home}
 use Rattle.dspec_c.proofs.Homes.{free_on, opened, went_by}
 use Rattle.dspec_c.proofs.cpu_place.CpuPlace.make.Goals as goal
 

@@ -1,6 +1,6 @@
 use Rattle.std.proofs.Common.{Option, refl, sym, ap, ◌∙◌, subst}
 use Rattle.std.specs.Prelude.{IsSome}
-use Rattle.dspec_c.specs.Homes.{AtHome, CpuStay}
+use Rattle.dspec_c.specs.Words.{AtHome, CpuStay}
 use Rattle.dspec_c.proofs.Homes.{callable_so, free_on, same_there, went_by}
 use Rattle.dspec_c.proofs.Tends.{served_in, served_there}
 use Rattle.dspec_c.proofs.cpu_place.CpuPlace.serve.Goals as goal

@@ -1,5 +1,5 @@
 use Rattle.std.proofs.Common.{Option, sym, subst}
-use Rattle.dspec_c.specs.Homes.{IsPlaceWith, CpuSide}
+use Rattle.dspec_c.specs.Words.{IsPlaceWith, CpuSide}
 use Rattle.dspec_c.proofs.Tends.{not_there}
 use Rattle.dspec_c.proofs.cpu_place.CpuPlace.tend.Goals as goal
 

@@ -1,6 +1,5 @@
 use Rattle.std.proofs.Common.{false, refl}
-use Rattle.dspec_promise.specs.Promise.{commit}
-use Rattle.dspec_c.specs.CpuCalls.{DecidedAs}
+use Rattle.dspec_c.specs.Words.{commit, DecidedAs}
 use Rattle.dspec_c.proofs.Calls.{on_boxed}
 use Rattle.dspec_c.proofs.homing.Homing.commit.Goals as goal
 

@@ -1,5 +1,5 @@
 use Rattle.std.proofs.Common.{false, refl}
-use Rattle.dspec_c.specs.CpuCalls.{CommittedIfRoom}
+use Rattle.dspec_c.specs.Words.{CommittedIfRoom}
 use Rattle.dspec_c.proofs.Calls.{on_boxed}
 use Rattle.dspec_c.proofs.homing.Homing.commit_if_room.Goals as goal
 

@@ -1,8 +1,6 @@
 use Rattle.std.proofs.Common.{subst}
-use Rattle.dspec_record.specs.EnablingRows.{EnabledRows}
+use Rattle.dspec_c.specs.Words.{EnabledRows, Drops, CpuSide}
 use Rattle.dspec_cpu.specs.declared.cpu.Cpu.{Cpu}
-use Rattle.dspec_c.specs.CpuCalls.{Drops}
-use Rattle.dspec_c.specs.Homes.{CpuSide}
 use Rattle.dspec_c.proofs.homing.Homing.dropped_in.Goals as goal
 
 pub returns : goal.returns

@@ -1,8 +1,6 @@
 use Rattle.std.proofs.Common.{subst}
-use Rattle.dspec_record.specs.EnablingRows.{EnabledRows}
+use Rattle.dspec_c.specs.Words.{EnabledRows, OpensAt, CpuSide}
 use Rattle.dspec_cpu.specs.declared.cpu.Cpu.{Cpu}
-use Rattle.dspec_c.specs.CpuCalls.{OpensAt}
-use Rattle.dspec_c.specs.Homes.{CpuSide}
 use Rattle.dspec_c.proofs.homing.Homing.open_at.Goals as goal
 
 pub returns : goal.returns

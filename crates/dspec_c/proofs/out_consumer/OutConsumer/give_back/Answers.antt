@@ -1,8 +1,6 @@
 use Rattle.std.proofs.Common.{◌≡◌, subst}
 use Rattle.std.specs.Prelude.{MatchResult}
-use Rattle.dspec_session_core.specs.Batches.{GaveBack, IsNotTakenBack}
-use Rattle.dspec_c.specs.ConsumerCalls.{OnTheirs}
-use Rattle.dspec_c.specs.ConsumerHomes.{Theirs}
+use Rattle.dspec_c.specs.Words.{GaveBack, IsNotTakenBack, OnTheirs, Theirs}
 use Rattle.dspec_c.proofs.ConsumerHomes.{kept}
 use Rattle.dspec_c.proofs.out_consumer.OutConsumer.give_back.Goals as goal
 

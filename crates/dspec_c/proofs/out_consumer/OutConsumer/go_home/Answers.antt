@@ -1,6 +1,6 @@
 use Rattle.std.proofs.Common.{◌∷◌, ◌++◌, [], ap, ◌∙◌, subst}
 use Rattle.rtrb.specs.Ring.{sent}
-use Rattle.dspec_c.specs.ConsumerHomes.{HasGoneTheirs, Theirs}
+use Rattle.dspec_c.specs.Words.{HasGoneTheirs, Theirs}
 use Rattle.dspec_c.proofs.ConsumerHomes.{allowed}
 use Rattle.dspec_c.proofs.out_consumer.OutConsumer.go_home.Goals as goal
 

@@ -1,6 +1,5 @@
 use Rattle.std.proofs.Common.{subst}
-use Rattle.dspec_c.specs.CpuCalls.{Drops}
-use Rattle.dspec_c.specs.Homes.{CpuSide}
+use Rattle.dspec_c.specs.Words.{Drops, CpuSide}
 use Rattle.dspec_c.proofs.out_cpu.OutCpu.dropped_in.Goals as goal
 
 pub returns : goal.returns

@@ -1,6 +1,6 @@
 use Rattle.std.proofs.Common.{◌∷◌, ◌++◌, [], ap, ◌∙◌, subst}
 use Rattle.rtrb.specs.Ring.{sent}
-use Rattle.dspec_c.specs.Homes.{HasGone, CpuSide}
+use Rattle.dspec_c.specs.Words.{HasGone, CpuSide}
 use Rattle.dspec_c.proofs.Homes.{allowed}
 use Rattle.dspec_c.proofs.out_cpu.OutCpu.go_home.Goals as goal
 

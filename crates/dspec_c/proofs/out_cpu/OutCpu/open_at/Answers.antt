@@ -1,6 +1,5 @@
 use Rattle.std.proofs.Common.{subst}
-use Rattle.dspec_c.specs.CpuCalls.{OpensAt}
-use Rattle.dspec_c.specs.Homes.{CpuSide}
+use Rattle.dspec_c.specs.Words.{OpensAt, CpuSide}
 use Rattle.dspec_c.proofs.out_cpu.OutCpu.open_at.Goals as goal
 
 pub returns : goal.returns

@@ -1,6 +1,5 @@
 use Rattle.std.proofs.Common.{subst}
-use Rattle.dspec_c.specs.CpuCalls.{Reports}
-use Rattle.dspec_c.specs.Homes.{CpuSide}
+use Rattle.dspec_c.specs.Words.{Reports, CpuSide}
 use Rattle.dspec_c.proofs.out_cpu.OutCpu.report.Goals as goal
 
 pub returns : goal.returns

@@ -37,9 +37,9 @@ use Rattle.core.proofs.alloc.Calls.{token}
 use Rattle.core.proofs.alloc.Shapes.{after}
 use Rattle.std_alloc.proofs.BoxSteps.Form.{D, R, τ, handle, word}
 use Rattle.std_alloc.proofs.BoxSteps.Steps.{box_out, box_in}
-use Rattle.dspec_c.specs.Lending.{with_inside}
-use Rattle.dspec_c.specs.contracts.handle.Contents as Home
-use Rattle.dspec_c.proofs.handle.Contents.TheLaws as home
+use Rattle.dspec_c.specs.Words.{with_inside}
+use Rattle.dspec_c.specs.contracts.handle.HandleContents as Home
+use Rattle.dspec_c.proofs.handle.HandleContents.TheLaws as home
 use Rattle.dspec_c.proofs.AsBox.{E}
 use Rattle.dspec_c.specs.contracts.seal.Seal as Sealed
 use Rattle.dspec_c.specs.contracts.seal.Seal.lend as F

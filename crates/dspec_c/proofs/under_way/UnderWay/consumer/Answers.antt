@@ -1,6 +1,6 @@
 use Rattle.std.proofs.Common.{refl, sym, ap, ◌∙◌}
 use Rattle.std.specs.Arc.{arc_value}
-use Rattle.dspec_c.specs.Whole.{Going}
+use Rattle.dspec_c.specs.Words.{Going}
 use Rattle.dspec_c.proofs.Ending.{they_go_from, they_share, they_stay}
 use Rattle.dspec_c.proofs.under_way.UnderWay.consumer.Goals as goal
 

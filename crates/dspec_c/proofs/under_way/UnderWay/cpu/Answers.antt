@@ -1,7 +1,7 @@
 use Rattle.std.proofs.Common.{◌≤◌, ◌+◌, sym, ap, ◌∙◌, subst}
 use Rattle.std.specs.Prelude.{vec_capacity, vec_len}
 use Rattle.std.specs.Arc.{arc_value}
-use Rattle.dspec_c.specs.Whole.{Going, inside_at}
+use Rattle.dspec_c.specs.Words.{Going, inside_at}
 use Rattle.dspec_c.proofs.EndingPlaces.{place_with}
 use Rattle.dspec_c.proofs.Ending.{asked_count, asked_for_one, goes_from, stays_from}
 use Rattle.dspec_c.proofs.under_way.UnderWay.cpu.Goals as goal

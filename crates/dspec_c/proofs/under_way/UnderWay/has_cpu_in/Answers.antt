@@ -1,7 +1,7 @@
 use Rattle.std.proofs.Common.{◌≤◌, ◌+◌, refl, sym, ap, ◌∙◌, subst, arith}
 use Rattle.std.specs.Prelude.{nat_lt, vec_capacity, vec_len}
 use Rattle.std.proofs.lemmas.Bool.{ltb-true}
-use Rattle.dspec_c.specs.Whole.{Going}
+use Rattle.dspec_c.specs.Words.{Going}
 use Rattle.dspec_c.proofs.Ending.{looks_from}
 use Rattle.dspec_c.proofs.Looking.{looked_came, same_firsts, same_length}
 use Rattle.dspec_c.proofs.Tends.{places_counted, whole_on}

@@ -1,8 +1,6 @@
 -- Each CPU more leaves a list that can close.
 use Rattle.std.proofs.Common.{◌≡◌, subst, arith}
-use Rattle.dspec_core.specs.Closings.{ClosesTo}
-use Rattle.dspec_core.specs.Machines.{history}
-use Rattle.dspec_deeds.specs.Closes.{closed_slots, closed_cpus}
+use Rattle.dspec_core.specs.Words.{ClosesTo, history, closed_slots, closed_cpus}
 use Rattle.dspec_core.proofs.Settlings.{closes_further, cpus_more}
 use Rattle.dspec_core.proofs.machine.Machine.close.Goals as goal
 

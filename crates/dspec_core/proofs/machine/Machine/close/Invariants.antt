@@ -1,7 +1,5 @@
 -- What the CPUs so far have settled.
-use Rattle.dspec_core.specs.Closings.{ClosesTo}
-use Rattle.dspec_core.specs.Machines.{history}
-use Rattle.dspec_deeds.specs.Closes.{closed_cpus}
+use Rattle.dspec_core.specs.Words.{ClosesTo, history, closed_cpus}
 use Rattle.dspec_core.proofs.machine.Machine.close.Given as goal
 
 abbrev pub invariant-loop-cpu : goal.invariant-loop-cpu

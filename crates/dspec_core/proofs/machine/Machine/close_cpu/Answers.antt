@@ -1,8 +1,6 @@
 -- Each slot more leaves a list that can close.
 use Rattle.std.proofs.Common.{◌≡◌, ◌+◌, subst, arith}
-use Rattle.dspec_core.specs.Closings.{ClosesTo}
-use Rattle.dspec_core.specs.Machines.{history}
-use Rattle.dspec_deeds.specs.Closes.{closed_slot, closed_slots}
+use Rattle.dspec_core.specs.Words.{ClosesTo, history, closed_slot, closed_slots}
 use Rattle.dspec_core.proofs.Settlings.{closes_further, slots_more}
 use Rattle.dspec_core.proofs.machine.Machine.close_cpu.Goals as goal
 

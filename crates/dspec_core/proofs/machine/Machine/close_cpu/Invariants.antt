@@ -1,7 +1,5 @@
 -- What the slots so far have settled.
-use Rattle.dspec_core.specs.Closings.{ClosesTo}
-use Rattle.dspec_core.specs.Machines.{history}
-use Rattle.dspec_deeds.specs.Closes.{closed_slots}
+use Rattle.dspec_core.specs.Words.{ClosesTo, history, closed_slots}
 use Rattle.dspec_core.proofs.machine.Machine.close_cpu.Given as goal
 
 abbrev pub invariant-loop-slot : goal.invariant-loop-slot

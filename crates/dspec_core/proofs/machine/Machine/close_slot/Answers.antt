@@ -1,11 +1,7 @@
 -- What is read, and the settlement that the table grants.
 use Rattle.std.proofs.Common.{◌≡◌, List, refl, sym, subst, arith}
-use Rattle.dspec_word.specs.SpecId.{Speculation}
-use Rattle.dspec_word.specs.Word.{CanBeReleased}
+use Rattle.dspec_core.specs.Words.{Speculation, CanBeReleased, issue, IsAllowed, history}
 use Rattle.dspec_deeds.specs.declared.deed.Deed.{Deed}
-use Rattle.dspec_deeds.specs.History.{issue}
-use Rattle.dspec_deeds.specs.Legal.{IsAllowed}
-use Rattle.dspec_core.specs.Machines.{history}
 use Rattle.dspec_core.proofs.MachineReads.{cpu_read}
 use Rattle.dspec_core.proofs.Settlings.{named_present, none_due, one_due, closes_still, closes_bare, closes_settled}
 use Rattle.dspec_core.proofs.SlotReads.{slot_read}

@@ -1,8 +1,6 @@
 -- The fate of a commit that decides is a commit's.
 use Rattle.std.proofs.Common.{◌≡◌, true, sym, subst}
-use Rattle.dspec_deeds.specs.FateKinds.{is_commit}
-use Rattle.dspec_interleaving.specs.Coherent.{progress_of}
-use Rattle.dspec_core.specs.Machines.{history, state_of}
+use Rattle.dspec_core.specs.Words.{is_commit, progress_of, history, state_of}
 use Rattle.dspec_interleaving.proofs.DecideMoves.{commit_decides}
 use Rattle.dspec_core.proofs.machine.Machine.commit.Goals as goal
 

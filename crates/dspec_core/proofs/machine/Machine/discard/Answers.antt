@@ -4,10 +4,7 @@ use Rattle.dspec_word.specs.contracts.code.Code.{the_type}
 use Rattle.dspec_word.specs.declared.code.Code.TheVariants.{Inactive}
 use Rattle.dspec_deeds.specs.declared.deed.DecideFate.{DecideFate}
 use Rattle.dspec_deeds.specs.declared.deed.Deed.TheVariants.{Discard, Release}
-use Rattle.dspec_deeds.specs.Legal.{IsAllowed}
-use Rattle.dspec_interleaving.specs.Coherent.{progress_of}
-use Rattle.dspec_core.specs.Machines.{history, state_of}
-use Rattle.dspec_interleaving.specs.Play.{CpuStep}
+use Rattle.dspec_core.specs.Words.{IsAllowed, progress_of, history, state_of, CpuStep}
 use Rattle.dspec_interleaving.proofs.DecideMoves.{discards_alone}
 use Rattle.dspec_core.proofs.machine.Machine.discard.Goals as goal
 

@@ -4,11 +4,7 @@ use Rattle.std.specs.Vec.{with_item}
 use Rattle.dspec_deeds.specs.declared.deed.Deed.{Deed}
 use Rattle.dspec_deeds.proofs.Items.{kept_item}
 use Rattle.dspec_cpu_state.specs.declared.cpu_state.CpuState.{CpuState}
-use Rattle.dspec_cpu_state.specs.CpuStates.{ShowsList}
-use Rattle.dspec_core.specs.declared.machine.cpu.Cpu.{Cpu}
-use Rattle.dspec_core.specs.Decisions.{deed_of}
-use Rattle.dspec_core.specs.Machines.{history}
-use Rattle.dspec_core.specs.Shown.{ShowsWords}
+use Rattle.dspec_core.specs.Words.{ShowsList, Cpu, deed_of, history, ShowsWords}
 use Rattle.dspec_core.proofs.DecidedCpus.{decided_either, decided_stream, decided_unsealed, decided_words}
 use Rattle.dspec_core.proofs.DecisionMoves.{by_its_cpu, halted_still}
 use Rattle.dspec_core.proofs.MachineReads.{place_within}

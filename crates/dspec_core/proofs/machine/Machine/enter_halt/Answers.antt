@@ -1,7 +1,7 @@
 -- A stop leaves the words and the sides.
 use Rattle.std.proofs.Common.{◌∷◌, refl}
 use Rattle.dspec_deeds.specs.declared.deed.Deed.TheVariants as deed
-use Rattle.dspec_core.specs.Machines.{history}
+use Rattle.dspec_core.specs.Words.{history}
 use Rattle.dspec_core.proofs.WordsShown.{words_stay}
 use Rattle.dspec_core.proofs.OneMore.{latest_first, shown_as, cpus_halted}
 use Rattle.dspec_core.proofs.machine.Machine.enter_halt.Goals as goal

@@ -2,9 +2,7 @@
 use Rattle.std.proofs.Common.{◌≡◌, ℕ, ◌∷◌, ◌-◌, ◌≤◌, ◌∙◌, slice_set, sym, ap, subst, arith}
 use Rattle.dspec_word.specs.declared.code.Code.TheVariants.{Active}
 use Rattle.dspec_deeds.specs.declared.deed.Deed.TheVariants as deed
-use Rattle.dspec_deeds.specs.History.{issue, word_at}
-use Rattle.dspec_core.specs.Machines.{history}
-use Rattle.dspec_core.specs.Shown.{ShowsWords}
+use Rattle.dspec_core.specs.Words.{issue, word_at, history, ShowsWords}
 use Rattle.dspec_deeds.proofs.WordChanges.{opened_word}
 use Rattle.dspec_core.proofs.WordsShown.{words_set}
 use Rattle.dspec_core.proofs.OneMore.{latest_first, shown_as, cpus_opened, word_there}

@@ -2,8 +2,7 @@
 use Rattle.std.proofs.Common.{◌≡◌, ℕ, ◌∷◌, ◌+◌, ◌∙◌, sym, ap, arith}
 use Rattle.dspec_word.specs.declared.code.Code.TheVariants.{Inactive}
 use Rattle.dspec_deeds.specs.declared.deed.Deed.TheVariants as deed
-use Rattle.dspec_deeds.specs.History.{issue, present, word_at}
-use Rattle.dspec_core.specs.Machines.{history}
+use Rattle.dspec_core.specs.Words.{issue, present, word_at, history}
 use Rattle.dspec_deeds.proofs.SetUp.{set_up}
 use Rattle.dspec_deeds.proofs.SoundLists.{opened_in_range}
 use Rattle.dspec_deeds.proofs.PresentIds.{decided_given}

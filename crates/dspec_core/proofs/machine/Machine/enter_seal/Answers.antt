@@ -1,11 +1,9 @@
 -- A sealed batch is the second buffer; the words stay.
 use Rattle.std.proofs.Common.{◌≤◌, [], refl, ap, ◌∙◌, subst, rules}
 use Rattle.dspec_deeds.specs.declared.deed.Deed.TheVariants as deed
-use Rattle.dspec_deeds.specs.Own.{seals}
+use Rattle.dspec_core.specs.Words.{seals, IsFilledWith, history}
 use Rattle.dspec_interleaving.specs.declared.flight.CpuProgress.{CpuProgress}
 use Rattle.dspec_cpu_state.specs.declared.cpu_state.CpuState.{CpuState}
-use Rattle.dspec_cpu_state.specs.CpuStates.{IsFilledWith}
-use Rattle.dspec_core.specs.Machines.{history}
 use Rattle.dspec_core.proofs.KeptCpus.{sealing}
 use Rattle.dspec_core.proofs.MachineReads.{cpu_got}
 use Rattle.dspec_core.proofs.OneMore.{adds_own, progress_there, enters, latest_first}

@@ -5,8 +5,7 @@ use Rattle.dspec_deeds.specs.declared.deed.Deed.TheVariants.{Settle}
 use Rattle.dspec_deeds.proofs.Items.{kept_item}
 use Rattle.dspec_cpu_state.specs.declared.cpu_state.CpuState.{CpuState}
 use Rattle.dspec_cpu_state.proofs.Tallies.{settle_counts}
-use Rattle.dspec_core.specs.declared.machine.cpu.Cpu.{Cpu}
-use Rattle.dspec_core.specs.Machines.{history}
+use Rattle.dspec_core.specs.Words.{Cpu, history}
 use Rattle.dspec_core.proofs.OneMore.{adds_own, enters, latest_first}
 use Rattle.dspec_core.proofs.OwnBlocks.{block_ended, block_place, block_streamed, settled_block}
 use Rattle.dspec_core.proofs.OwnSlots.{ack_there, caller_is, mark_there, on_err, place_there, settles_as, settles_on, stream_settles}

@@ -5,8 +5,7 @@ use Rattle.dspec_deeds.specs.declared.deed.Deed.TheVariants.{Discard, Release}
 use Rattle.dspec_deeds.proofs.Results.{of_ok}
 use Rattle.dspec_cpu_state.specs.declared.cpu_state.CpuState.{CpuState}
 use Rattle.dspec_core.specs.declared.machine.decision.Decision.TheVariants as decision
-use Rattle.dspec_core.specs.Machines.{history}
-use Rattle.dspec_core.specs.Shown.{ShowsWords}
+use Rattle.dspec_core.specs.Words.{history, ShowsWords}
 use Rattle.dspec_core.proofs.KeptCpus.{own_deed}
 use Rattle.dspec_core.proofs.MachineReads.{place_within}
 use Rattle.dspec_core.proofs.OneMore.{cpus_released, cpus_set, latest_first, map_set, shown_as}

@@ -2,9 +2,7 @@
 use Rattle.std.proofs.Common.{◌-◌, ◌≤◌, ◌∷◌, set, refl, sym, ap, ◌∙◌, subst, rules}
 use Rattle.dspec_deeds.specs.declared.deed.Deed.TheVariants.{Speculate}
 use Rattle.dspec_cpu_state.specs.declared.counts.Counts.{Counts}
-use Rattle.dspec_cpu_state.specs.CpuStates.{ShowsList}
-use Rattle.dspec_core.specs.Machines.{history}
-use Rattle.dspec_core.specs.Shown.{ShowsWords}
+use Rattle.dspec_core.specs.Words.{ShowsList, history, ShowsWords}
 use Rattle.dspec_core.proofs.KeptCpus.{own_deed}
 use Rattle.dspec_core.proofs.MachineReads.{place_within}
 use Rattle.dspec_core.proofs.OneMore.{adds_own, enters, latest_first}

@@ -6,9 +6,7 @@ use Rattle.dspec_deeds.specs.declared.deed.TraceFate.TheVariants as traced
 use Rattle.dspec_deeds.proofs.Items.{kept_item}
 use Rattle.dspec_cpu_state.specs.declared.counts.Counts.{Counts}
 use Rattle.dspec_cpu_state.specs.declared.cpu_state.CpuState.{CpuState}
-use Rattle.dspec_cpu_state.specs.CpuStates.{ShowsList}
-use Rattle.dspec_core.specs.declared.machine.cpu.Cpu.{Cpu}
-use Rattle.dspec_core.specs.Machines.{history}
+use Rattle.dspec_core.specs.Words.{ShowsList, Cpu, history}
 use Rattle.dspec_core.proofs.KeptCpus.{put_deed, put_side}
 use Rattle.dspec_core.proofs.MachineReads.{cpu_got, cpu_read}
 use Rattle.dspec_core.proofs.OneMore.{adds_own, enters, latest_first}

@@ -2,9 +2,7 @@
 use Rattle.std.proofs.Common.{◌≡◌, [], ◌∷◌, ◌++◌, refl, ap, ◌∙◌, rules}
 use Rattle.dspec_deeds.specs.declared.deed.Deed.{Deed}
 use Rattle.dspec_cpu_state.specs.declared.cpu_state.CpuState.{CpuState}
-use Rattle.dspec_cpu_state.specs.CpuStates.{ShowsList}
-use Rattle.dspec_core.specs.Decisions.{deed_of}
-use Rattle.dspec_core.specs.Machines.{history}
+use Rattle.dspec_core.specs.Words.{ShowsList, deed_of, history}
 use Rattle.dspec_core.proofs.DecidedCpus.{decided_unsealed, nothing_decided, undecided_either, undecided_stream}
 use Rattle.dspec_core.proofs.DecisionMoves.{by_its_cpu, halted_still, undecided_words}
 use Rattle.dspec_core.proofs.KeptCpus.{own_deed}

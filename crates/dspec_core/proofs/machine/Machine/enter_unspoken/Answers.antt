@@ -2,7 +2,7 @@
 use Rattle.std.proofs.Common.{refl, ap, rules}
 use Rattle.dspec_cpu_state.specs.declared.cpu_state.CpuState.{CpuState}
 use Rattle.dspec_deeds.specs.declared.deed.Deed.TheVariants as deed
-use Rattle.dspec_core.specs.Machines.{history}
+use Rattle.dspec_core.specs.Words.{history}
 use Rattle.dspec_core.proofs.KeptCpus.{own_deed}
 use Rattle.dspec_core.proofs.MachineReads.{cpu_got}
 use Rattle.dspec_core.proofs.OneMore.{adds_own, enters, latest_first}

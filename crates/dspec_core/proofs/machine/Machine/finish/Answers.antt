@@ -1,10 +1,6 @@
 -- One CPU more is collected, and in the end all of them are.
 use Rattle.std.proofs.Common.{◌≡◌, ◌∙◌, arith}
-use Rattle.dspec_interleaving.specs.Coherent.{progress_of}
-use Rattle.dspec_core.specs.Machines.{history, state_of}
-use Rattle.dspec_deeds.specs.Own.{stream}
-use Rattle.dspec_deeds.specs.Reports.{report}
-use Rattle.dspec_deeds.specs.Closes.{closing}
+use Rattle.dspec_core.specs.Words.{progress_of, history, state_of, stream, report, closing}
 use Rattle.dspec_core.proofs.Collected.{one_more_cpu, streams_there, reports_there}
 use Rattle.dspec_core.proofs.MachineReads.{cpu_read}
 use Rattle.dspec_core.proofs.machine.Machine.finish.Goals as goal

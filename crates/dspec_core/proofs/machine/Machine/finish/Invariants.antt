@@ -1,10 +1,6 @@
 -- The streams and the reports of the CPUs so far.
 use Rattle.std.proofs.Common.{◌≡◌, map}
-use Rattle.dspec_deeds.specs.Closes.{numbers_below}
-use Rattle.dspec_interleaving.specs.Coherent.{progress_of}
-use Rattle.dspec_core.specs.Machines.{history, state_of}
-use Rattle.dspec_deeds.specs.Own.{stream}
-use Rattle.dspec_deeds.specs.Reports.{report}
+use Rattle.dspec_core.specs.Words.{numbers_below, progress_of, history, state_of, stream, report}
 use Rattle.dspec_core.proofs.machine.Machine.finish.Given as goal
 
 abbrev pub invariant-loop-cpu : goal.invariant-loop-cpu

@@ -1,4 +1,4 @@
-use Rattle.dspec_core.specs.Machines.{history}
+use Rattle.dspec_core.specs.Words.{history}
 use Rattle.dspec_core.proofs.MachineReads.{cpu_read}
 use Rattle.dspec_core.proofs.machine.Machine.fits_principal.Goals as goal
 

@@ -1,9 +1,7 @@
 use Rattle.std.proofs.Common.{◌+◌, ◌==◌, sym, ap, ◌∙◌}
-use Rattle.dspec_deeds.specs.History.{callers, is_among}
-use Rattle.dspec_deeds.specs.Marks.{mark}
+use Rattle.dspec_core.specs.Words.{callers, is_among, mark, history}
 use Rattle.dspec_deeds.proofs.Marks.{mark_tells}
 use Rattle.dspec_deeds.proofs.PresentIds.{present_is}
-use Rattle.dspec_core.specs.Machines.{history}
 use Rattle.dspec_core.proofs.MachineReads.{cpu_read, slot_in_range}
 use Rattle.dspec_core.proofs.OwnSlots.{mark_there}
 use Rattle.dspec_core.proofs.machine.Machine.is_mine.Goals as goal

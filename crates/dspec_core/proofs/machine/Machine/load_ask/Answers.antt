@@ -4,9 +4,7 @@ use Rattle.std.specs.Prelude.{nat_lt}
 use Rattle.dspec_interleaving.specs.declared.flight.CpuProgress.{CpuProgress}
 use Rattle.dspec_interleaving.specs.declared.flight.CallPlace.TheVariants as flight
 use Rattle.dspec_interleaving.specs.declared.flight.Spare.TheVariants as spare
-use Rattle.dspec_deeds.specs.Own.{seals}
-use Rattle.dspec_interleaving.specs.Coherent.{progress_of}
-use Rattle.dspec_core.specs.Machines.{history, state_of}
+use Rattle.dspec_core.specs.Words.{seals, progress_of, history, state_of}
 use Rattle.dspec_core.proofs.MachineReads.{cpu_got, cpu_read}
 use Rattle.dspec_core.proofs.Makings.{adds_none, step_made}
 use Rattle.dspec_core.proofs.OneMore.{progress_there}

@@ -1,13 +1,8 @@
 -- The table's act at the word and the acknowledgement that the list shows.
 use Rattle.std.proofs.Common.{◌+◌, [], Some, sym, ap, ◌∙◌, subst, arith}
-use Rattle.dspec_word.specs.Word.{CanBeReleased}
-use Rattle.dspec_word.specs.Tables.{settle_at}
+use Rattle.dspec_core.specs.Words.{CanBeReleased, settle_at, ack, word_at, progress_of, Makes, history, state_of, CpuStep, served}
 use Rattle.dspec_interleaving.specs.declared.flight.CpuProgress.{CpuProgress}
 use Rattle.dspec_interleaving.specs.declared.flight.CallPlace.TheVariants as flight
-use Rattle.dspec_deeds.specs.History.{ack, word_at}
-use Rattle.dspec_interleaving.specs.Coherent.{progress_of}
-use Rattle.dspec_core.specs.Machines.{Makes, history, state_of}
-use Rattle.dspec_interleaving.specs.Play.{CpuStep, served}
 use Rattle.dspec_core.proofs.MachineReads.{cpu_read}
 use Rattle.dspec_core.proofs.Makings.{adds_none, step_made}
 use Rattle.dspec_core.proofs.SlotReads.{row_read, slot_read}

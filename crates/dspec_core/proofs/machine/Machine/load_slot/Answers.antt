@@ -1,10 +1,7 @@
 -- The table attempts the exchange where the word that was read awaits the acknowledgements.
 use Rattle.std.proofs.Common.{◌∙◌, sym, subst, [], if◌then◌else◌}
-use Rattle.dspec_word.specs.Code.{awaits}
-use Rattle.dspec_word.specs.Word.{SlotState, CanBeReleased}
+use Rattle.dspec_core.specs.Words.{awaits, SlotState, CanBeReleased, ConsumerMakes, history, state_of, keeps_on, next_slot}
 use Rattle.dspec_interleaving.specs.declared.flight.ConsumerFlight.TheVariants as flight
-use Rattle.dspec_core.specs.Machines.{ConsumerMakes, history, state_of}
-use Rattle.dspec_interleaving.specs.Play.{keeps_on, next_slot}
 use Rattle.dspec_interleaving.proofs.CleanReads.{tried_awaits, untried_awaits}
 use Rattle.dspec_core.proofs.OneMore.{word_there}
 use Rattle.dspec_interleaving.proofs.StepReads.{can_be_released}

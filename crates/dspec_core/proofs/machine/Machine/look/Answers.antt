@@ -1,13 +1,9 @@
 -- The table's act at the word that the list shows.
 use Rattle.std.proofs.Common.{[], ◌++◌, ◌+◌, Some, sym, ap, ◌∙◌, subst}
 use Rattle.std.specs.Prelude.{IfOk}
-use Rattle.dspec_word.specs.Word.{CanBeReleased}
-use Rattle.dspec_deeds.specs.Legal.{IsAllowed}
+use Rattle.dspec_core.specs.Words.{CanBeReleased, IsAllowed, progress_of, CpuStep, Makes, history, state_of}
 use Rattle.dspec_interleaving.specs.declared.flight.CpuProgress.{CpuProgress}
 use Rattle.dspec_interleaving.specs.declared.flight.CallPlace.{CallPlace}
-use Rattle.dspec_interleaving.specs.Coherent.{progress_of}
-use Rattle.dspec_interleaving.specs.Play.{CpuStep}
-use Rattle.dspec_core.specs.Machines.{Makes, history, state_of}
 use Rattle.dspec_interleaving.proofs.StepReads.{can_be_released}
 use Rattle.dspec_core.proofs.DecisionMoves.{act_reads, shown_next, shown_voids, void_decides_not}
 use Rattle.dspec_core.proofs.Makings.{adds_none, step_made}

@@ -2,8 +2,7 @@
 use Rattle.std.proofs.Common.{◌≡◌, ◌≤◌, ◌<◌, ◌+◌, ◌==◌, ℕ, Bool, true, false, List, [], ◌∷◌, Option, Some, None, if◌then◌else◌, refl, sym, ap, ◌∙◌, subst, arith}
 use Rattle.std.proofs.lemmas.Bool.Decides.{nat_tests}
 use Rattle.dspec_record.specs.declared.field.Shape.{Shape}
-use Rattle.dspec_word.specs.Code.{is_decided}
-use Rattle.dspec_word.specs.Word.{SlotState}
+use Rattle.dspec_core.specs.Words.{is_decided, SlotState, progress_of, PlayState, history, state_of, missed, missed_busy}
 use Rattle.dspec_deeds.specs.declared.calls.Answer.{Answer}
 use Rattle.dspec_deeds.specs.declared.calls.Answer.TheVariants as answer
 use Rattle.dspec_deeds.specs.declared.calls.Opening.{Opening}
@@ -13,10 +12,6 @@ use Rattle.dspec_deeds.specs.declared.deed.Deed.{Deed}
 use Rattle.dspec_deeds.specs.declared.deed.Deed.TheVariants.{Miss}
 use Rattle.dspec_interleaving.specs.declared.flight.CpuProgress.{CpuProgress}
 use Rattle.dspec_interleaving.specs.declared.flight.CallPlace.TheVariants as flight
-use Rattle.dspec_interleaving.specs.Coherent.{progress_of, PlayState}
-use Rattle.dspec_core.specs.Machines.{history, state_of}
-use Rattle.dspec_interleaving.specs.Play.{missed}
-use Rattle.dspec_deeds.specs.Reports.{missed_busy}
 use Rattle.dspec_core.proofs.MachineReads.{cpu_read}
 use Rattle.dspec_core.proofs.Makings.{step_made}
 use Rattle.dspec_core.proofs.machine.Machine.miss.Goals.{then-index, else-index}

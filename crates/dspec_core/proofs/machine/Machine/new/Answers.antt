@@ -1,7 +1,6 @@
 -- The words are free, what is kept of each CPU shows the empty list, and all is idle.
 use Rattle.std.proofs.Common.{◌≡◌, false, None, refl, subst, arith}
-use Rattle.dspec_core.specs.declared.machine.Machine.{Machine}
-use Rattle.dspec_interleaving.specs.Turns.{at_start}
+use Rattle.dspec_core.specs.Words.{Machine, at_start}
 use Rattle.dspec_core.proofs.Keepings.{kept_as}
 use Rattle.dspec_core.proofs.Starts.{Made, IsFree, HasBegun, none_made, one_made, machine_at_start, state_at_start, start_keeps}
 use Rattle.dspec_core.proofs.machine.Machine.new.Goals as goal

@@ -1,5 +1,5 @@
 -- What is read off the list of all for a CPU is read off its own list alike.
-use Rattle.dspec_core.specs.Machines.{history}
+use Rattle.dspec_core.specs.Words.{history}
 use Rattle.dspec_core.proofs.KeptCpus.{own_list}
 use Rattle.dspec_core.proofs.machine.Machine.shows_own.Goals as goal
 

@@ -2,7 +2,7 @@
 use Rattle.std.proofs.Common.{◌+◌, ◌<◌, ◌^◌, refl, subst, arith}
 use Rattle.dspec_deeds.specs.declared.calls.Answer.TheVariants as answer
 use Rattle.dspec_interleaving.specs.declared.flight.CpuProgress.{CpuProgress}
-use Rattle.dspec_core.specs.Machines.{state_of}
+use Rattle.dspec_core.specs.Words.{state_of}
 use Rattle.dspec_core.proofs.CleanMakings.{puts_stops}
 use Rattle.dspec_interleaving.proofs.CleanReads.{takes_fit}
 use Rattle.dspec_core.proofs.MachineReads.{cpu_got}

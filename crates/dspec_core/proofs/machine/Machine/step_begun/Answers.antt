@@ -1,7 +1,7 @@
 use Rattle.std.proofs.Common.{◌≡◌, true, subst}
 use Rattle.dspec_deeds.specs.declared.calls.CpuOp.{CpuOp}
 use Rattle.dspec_interleaving.specs.declared.flight.CallPlace.TheVariants as flight
-use Rattle.dspec_interleaving.specs.Calls.{record_passes}
+use Rattle.dspec_core.specs.Words.{record_passes}
 use Rattle.dspec_core.proofs.machine.Machine.step_begun.Goals as goal
 
 pub step_trace-requires-clause-accepted : goal.step_trace-requires-clause-accepted

@@ -3,8 +3,7 @@ use Rattle.std.proofs.Common.{◌≡◌, ℕ, ◌+◌, ◌<◌, ◌≤◌, ◌�
 use Rattle.std.specs.Prelude.{nat_lt}
 use Rattle.std.proofs.lemmas.Bool.{eq-eqb, le-ltb, lt-ltb}
 use Rattle.dspec_deeds.proofs.TestLemmas.{other_number}
-use Rattle.dspec_deeds.specs.History.{ack}
-use Rattle.dspec_core.specs.Machines.{history, state_of}
+use Rattle.dspec_core.specs.Words.{ack, history, state_of}
 use Rattle.dspec_interleaving.proofs.CleanReads.{clean_stands, clean_steps_fit}
 use Rattle.dspec_core.proofs.MachineReads.{ack_read, cpu_read, place_within}
 use Rattle.dspec_core.proofs.machine.Machine.step_clean_ack.Goals as goal

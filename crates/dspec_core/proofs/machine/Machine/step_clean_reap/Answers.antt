@@ -1,10 +1,8 @@
 -- The exchange succeeds where the word is the one that was shown.
 use Rattle.std.proofs.Common.{◌≡◌, ◌+◌, ◌∙◌, Bool, true, false, not, [], ◌∷◌, if◌then◌else◌, refl, sym, ap, subst}
 use Rattle.dspec_deeds.specs.declared.deed.Deed.TheVariants.{Release}
-use Rattle.dspec_deeds.specs.History.{word_at}
+use Rattle.dspec_core.specs.Words.{word_at, ConsumerMakes, history, state_of, next_slot, same_word}
 use Rattle.dspec_interleaving.specs.declared.flight.ConsumerFlight.TheVariants as flight
-use Rattle.dspec_core.specs.Machines.{ConsumerMakes, history, state_of}
-use Rattle.dspec_interleaving.specs.Play.{next_slot, same_word}
 use Rattle.dspec_interleaving.proofs.CleanReads.{clean_stands, reap_legal}
 use Rattle.dspec_core.proofs.OneMore.{word_there}
 use Rattle.dspec_interleaving.proofs.StepsWords.{words_test}

@@ -3,7 +3,7 @@ use Rattle.std.proofs.lemmas.Bool.Decides.{nat_tests}
 use Rattle.std.specs.Prelude.{nat_lt}
 use Rattle.dspec_deeds.specs.declared.calls.ConsumerOp.{ConsumerOp}
 use Rattle.dspec_interleaving.specs.declared.flight.ConsumerFlight.TheVariants as consumer
-use Rattle.dspec_interleaving.specs.Calls.{is_about}
+use Rattle.dspec_core.specs.Words.{is_about}
 use Rattle.dspec_core.proofs.machine.Machine.step_consumer_begun.Goals as goal
 
 pub step_ask-requires-clause-cpu : goal.step_ask-requires-clause-cpu

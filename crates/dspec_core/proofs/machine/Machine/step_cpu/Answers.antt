@@ -1,8 +1,7 @@
 use Rattle.std.proofs.Common.{Some, ◌≡◌, ap, ◌∙◌}
 use Rattle.std.proofs.lemmas.Result.{IfOk-weaker}
 use Rattle.dspec_interleaving.specs.declared.flight.CpuProgress.{CpuProgress}
-use Rattle.dspec_interleaving.specs.Coherent.{progress_of}
-use Rattle.dspec_core.specs.Machines.{state_of}
+use Rattle.dspec_core.specs.Words.{progress_of, state_of}
 use Rattle.dspec_core.proofs.Keepings.{made_kept}
 use Rattle.dspec_core.proofs.MachineReads.{cpu_got}
 use Rattle.dspec_core.proofs.OneMore.{progress_there}

@@ -2,13 +2,7 @@
 use Rattle.std.proofs.Common.{◌≡◌, [], ◌∷◌, false, sym, ◌∙◌, refl}
 use Rattle.std.specs.Prelude.{nat_le}
 use Rattle.dspec_deeds.specs.declared.deed.DecideFate.TheVariants as decided
-use Rattle.dspec_deeds.specs.History.{halted, in_range}
-use Rattle.dspec_deeds.specs.Own.{calls}
-use Rattle.dspec_deeds.specs.FateAnswers.{answer_of}
-use Rattle.dspec_interleaving.specs.Coherent.{progress_of}
-use Rattle.dspec_interleaving.specs.Play.{cpu_step, ends}
-use Rattle.dspec_core.specs.Decisions.{begun_of, deed_of}
-use Rattle.dspec_core.specs.Machines.{history, state_of}
+use Rattle.dspec_core.specs.Words.{halted, in_range, calls, answer_of, progress_of, cpu_step, ends, begun_of, deed_of, history, state_of}
 use Rattle.dspec_interleaving.proofs.StepReads.{step_legal}
 use Rattle.dspec_core.proofs.DecisionMoves.{begins, stopped_decides_not, void_decides_not}
 use Rattle.dspec_core.proofs.Makings.{may_enter}

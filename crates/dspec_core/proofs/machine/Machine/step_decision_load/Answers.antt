@@ -1,10 +1,7 @@
 -- Where the call stands, and what its step is.
 use Rattle.std.proofs.Common.{sym, subst}
 use Rattle.std.specs.Prelude.{IfOk}
-use Rattle.dspec_interleaving.specs.Coherent.{progress_of}
-use Rattle.dspec_interleaving.specs.Play.{CpuStep}
-use Rattle.dspec_core.specs.Decisions.{load_of}
-use Rattle.dspec_core.specs.Machines.{Makes, history, state_of}
+use Rattle.dspec_core.specs.Words.{progress_of, CpuStep, load_of, Makes, history, state_of}
 use Rattle.dspec_interleaving.proofs.StepReads.{flight_stands, steps_fit, step_legal}
 use Rattle.dspec_core.proofs.DecisionMoves.{load_shows, load_stands}
 use Rattle.dspec_core.proofs.machine.Machine.step_decision_load.Goals as goal

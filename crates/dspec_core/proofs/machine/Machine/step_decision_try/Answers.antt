@@ -1,10 +1,7 @@
 -- Where the call stands, and what its step is, whether the word is the one that was expected or not.
 use Rattle.std.proofs.Common.{sym, ◌∙◌, subst}
 use Rattle.std.specs.Prelude.{IfOk}
-use Rattle.dspec_word.specs.Word.{CanBeReleased}
-use Rattle.dspec_interleaving.specs.Play.{CpuStep}
-use Rattle.dspec_core.specs.Decisions.{try_of}
-use Rattle.dspec_core.specs.Machines.{Makes, history, state_of}
+use Rattle.dspec_core.specs.Words.{CanBeReleased, CpuStep, try_of, Makes, history, state_of}
 use Rattle.dspec_interleaving.proofs.StepReads.{can_be_released, steps_fit, step_legal}
 use Rattle.dspec_core.proofs.DecisionMoves.{attempts, commit_is, commit_legal, commit_present, commit_word, discard_is, discard_legal, discard_present, discard_word, fails, tried_slot}
 use Rattle.dspec_core.proofs.Makings.{may_enter}

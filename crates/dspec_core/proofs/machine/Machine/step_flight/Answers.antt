@@ -1,6 +1,6 @@
 use Rattle.std.proofs.Common.{◌≡◌, true, subst}
 use Rattle.dspec_interleaving.specs.declared.flight.CallPlace.{CallPlace}
-use Rattle.dspec_interleaving.specs.Calls.{op_of, record_passes}
+use Rattle.dspec_core.specs.Words.{op_of, record_passes}
 use Rattle.dspec_core.proofs.machine.Machine.step_flight.Goals as goal
 
 pub step_speculate_load-requires-clause-accepted : goal.step_speculate_load-requires-clause-accepted

@@ -4,9 +4,7 @@ use Rattle.dspec_deeds.specs.declared.calls.Answer.TheVariants as answer
 use Rattle.dspec_interleaving.specs.declared.flight.CpuProgress.{CpuProgress}
 use Rattle.dspec_interleaving.specs.declared.flight.Spare.{Spare}
 use Rattle.dspec_interleaving.specs.declared.flight.Spare.TheVariants as spare
-use Rattle.dspec_interleaving.specs.Coherent.{progress_of}
-use Rattle.dspec_core.specs.Machines.{ConsumerMakes, history, state_of}
-use Rattle.dspec_interleaving.specs.Play.{gives_at}
+use Rattle.dspec_core.specs.Words.{progress_of, ConsumerMakes, history, state_of, gives_at}
 use Rattle.dspec_core.proofs.CleanMakings.{puts_stops}
 use Rattle.dspec_core.proofs.MachineReads.{cpu_got}
 use Rattle.dspec_core.proofs.Makings.{progress_moves, state_moves}

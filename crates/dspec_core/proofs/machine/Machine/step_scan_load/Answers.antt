@@ -1,18 +1,11 @@
 -- The table's act at the word that the list shows.
 use Rattle.std.proofs.Common.{◌≡◌, [], ◌∷◌, ◌++◌, ◌+◌, List, Some, IfOk, sym, ap, ◌∙◌, subst}
 use Rattle.dspec_word.specs.declared.act.Act.TheVariants.{Attempt}
-use Rattle.dspec_word.specs.Code.{is_decided}
-use Rattle.dspec_word.specs.Word.{SlotState, CanBeReleased}
-use Rattle.dspec_word.specs.Tables.{open_at}
+use Rattle.dspec_core.specs.Words.{is_decided, SlotState, CanBeReleased, open_at, word_at, IsAllowed, progress_of, Makes, history, state_of, CpuStep, missed}
 use Rattle.dspec_deeds.specs.declared.deed.Deed.{Deed}
 use Rattle.dspec_deeds.specs.declared.deed.Deed.TheVariants.{Miss}
 use Rattle.dspec_interleaving.specs.declared.flight.CpuProgress.{CpuProgress}
 use Rattle.dspec_interleaving.specs.declared.flight.CallPlace.TheVariants as flight
-use Rattle.dspec_deeds.specs.History.{word_at}
-use Rattle.dspec_deeds.specs.Legal.{IsAllowed}
-use Rattle.dspec_interleaving.specs.Coherent.{progress_of}
-use Rattle.dspec_core.specs.Machines.{Makes, history, state_of}
-use Rattle.dspec_interleaving.specs.Play.{CpuStep, missed}
 use Rattle.dspec_core.proofs.Makings.{adds_none, may_enter, step_made}
 use Rattle.dspec_core.proofs.OneMore.{word_there}
 use Rattle.dspec_interleaving.proofs.ScanMoves.{missed_deeds, shown_misses, scan_tried}

@@ -1,21 +1,14 @@
 -- The word that is expected, or another.
 use Rattle.std.proofs.Common.{◌≡◌, ℕ, ◌-◌, ◌<◌, ◌==◌, [], ◌∷◌, ◌++◌, List, Bool, true, false, not, get_or, Option, Some, None, IfOk, refl, sym, ap, ◌∙◌, subst}
 use Rattle.dspec_record.specs.declared.field.Shape.{Shape}
-use Rattle.dspec_word.specs.Code.{is_decided}
-use Rattle.dspec_word.specs.SpecId.{Speculation}
-use Rattle.dspec_word.specs.Word.{SlotState, word_number}
+use Rattle.dspec_core.specs.Words.{is_decided, Speculation, SlotState, word_number, word_at, IsAllowed, IsCoherent, PlayState, progress_of, Makes, history, state_of, ShowsWords, CpuStep, same_word}
+use Rattle.dspec_core.specs.Words.{ends, missed, cpu_step}
 use Rattle.dspec_deeds.specs.declared.calls.Answer.TheVariants as answer
 use Rattle.dspec_deeds.specs.declared.calls.Opening.TheVariants as opening
 use Rattle.dspec_deeds.specs.declared.deed.Deed.{Deed}
 use Rattle.dspec_deeds.specs.declared.deed.Deed.TheVariants.{Opened, Miss}
 use Rattle.dspec_interleaving.specs.declared.flight.CpuProgress.{CpuProgress}
 use Rattle.dspec_interleaving.specs.declared.flight.CallPlace.TheVariants as flight
-use Rattle.dspec_deeds.specs.History.{word_at}
-use Rattle.dspec_deeds.specs.Legal.{IsAllowed}
-use Rattle.dspec_interleaving.specs.Coherent.{IsCoherent, PlayState, progress_of}
-use Rattle.dspec_core.specs.Machines.{Makes, history, state_of}
-use Rattle.dspec_core.specs.Shown.{ShowsWords}
-use Rattle.dspec_interleaving.specs.Play.{CpuStep, same_word, ends, missed, cpu_step}
 use Rattle.dspec_core.proofs.DecisionMoves.{another, expected}
 use Rattle.dspec_core.proofs.Makings.{may_enter, step_made}
 use Rattle.dspec_core.proofs.OneMore.{word_there}

@@ -1,14 +1,10 @@
 -- The settlement that the store stands behind.
 use Rattle.std.proofs.Common.{◌≡◌, ◌+◌, [], ◌∷◌, ◌++◌, List, refl, sym, ap, ◌∙◌, subst}
-use Rattle.dspec_word.specs.SpecId.{Speculation}
+use Rattle.dspec_core.specs.Words.{Speculation, IsAllowed, progress_of, history, state_of, settle_fate}
 use Rattle.dspec_deeds.specs.declared.deed.Deed.{Deed}
 use Rattle.dspec_deeds.specs.declared.deed.Deed.TheVariants.{Settle}
 use Rattle.dspec_deeds.specs.declared.deed.DecideFate.{DecideFate}
 use Rattle.dspec_interleaving.specs.declared.flight.CallPlace.TheVariants as flight
-use Rattle.dspec_deeds.specs.Legal.{IsAllowed}
-use Rattle.dspec_interleaving.specs.Coherent.{progress_of}
-use Rattle.dspec_core.specs.Machines.{history, state_of}
-use Rattle.dspec_deeds.specs.Settling.{settle_fate}
 use Rattle.dspec_interleaving.proofs.StepReads.{step_legal}
 use Rattle.dspec_interleaving.proofs.ServiceMoves.{served_deeds}
 use Rattle.dspec_core.proofs.Makings.{may_enter}

@@ -6,11 +6,7 @@ use Rattle.dspec_deeds.specs.declared.calls.Spoken.TheVariants as spoken_answer
 use Rattle.dspec_deeds.specs.declared.deed.Deed.TheVariants.{Speculate}
 use Rattle.dspec_deeds.specs.declared.deed.SpeculateFate.TheVariants as spoken
 use Rattle.dspec_interleaving.specs.declared.flight.CallPlace.TheVariants as flight
-use Rattle.dspec_deeds.specs.History.{halted, in_range}
-use Rattle.dspec_deeds.specs.Own.{calls}
-use Rattle.dspec_interleaving.specs.Coherent.{progress_of}
-use Rattle.dspec_core.specs.Machines.{history, state_of}
-use Rattle.dspec_interleaving.specs.Play.{cpu_step, ends}
+use Rattle.dspec_core.specs.Words.{halted, in_range, calls, progress_of, history, state_of, cpu_step, ends}
 use Rattle.dspec_interleaving.proofs.StepReads.{step_legal}
 use Rattle.dspec_core.proofs.Makings.{may_enter}
 use Rattle.dspec_core.proofs.machine.Machine.step_speculate.Goals as goal

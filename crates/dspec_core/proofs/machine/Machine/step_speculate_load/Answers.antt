@@ -1,13 +1,8 @@
 -- The table's act at the word that the list shows.
 use Rattle.std.proofs.Common.{◌≡◌, refl, sym, ◌∙◌, subst}
 use Rattle.dspec_word.specs.declared.act.Act.TheVariants.{Granted}
-use Rattle.dspec_word.specs.Word.{CanBeReleased}
-use Rattle.dspec_word.specs.Tables.{speculate_at}
+use Rattle.dspec_core.specs.Words.{CanBeReleased, speculate_at, is_among, callers, word_at, progress_of, history, state_of, cpu_step, spoken_at}
 use Rattle.dspec_interleaving.specs.declared.flight.CallPlace.TheVariants as flight
-use Rattle.dspec_deeds.specs.History.{is_among, callers, word_at}
-use Rattle.dspec_interleaving.specs.Coherent.{progress_of}
-use Rattle.dspec_core.specs.Machines.{history, state_of}
-use Rattle.dspec_interleaving.specs.Play.{cpu_step, spoken_at}
 use Rattle.dspec_interleaving.proofs.StepReads.{can_be_released, flight_stands, step_legal}
 use Rattle.dspec_interleaving.proofs.TableReads.{speculate_reads}
 use Rattle.dspec_interleaving.proofs.SpeculateMoves.{shown_voids, word_granted}

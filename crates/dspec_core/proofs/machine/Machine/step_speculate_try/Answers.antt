@@ -1,17 +1,12 @@
 -- The table's act at the word that the list shows, expected or not.
 use Rattle.std.proofs.Common.{◌≡◌, [], ◌∷◌, ◌+◌, true, false, Option, Some, None, refl, sym, ap, ◌∙◌, subst}
 use Rattle.dspec_word.specs.declared.act.Act.TheVariants.{Granted, Attempt}
-use Rattle.dspec_word.specs.Word.{CanBeReleased}
-use Rattle.dspec_word.specs.Tables.{speculate_at}
+use Rattle.dspec_core.specs.Words.{CanBeReleased, speculate_at, is_among, callers, word_at, progress_of, history, state_of, CpuStep, cpu_step, same_word, shown_speculate, spoken_at}
 use Rattle.dspec_deeds.specs.declared.calls.Answer.{Answer}
 use Rattle.dspec_deeds.specs.declared.deed.Deed.TheVariants.{Speculate}
 use Rattle.dspec_deeds.specs.declared.deed.SpeculateFate.TheVariants as spoken
 use Rattle.dspec_interleaving.specs.declared.flight.CpuProgress.{CpuProgress}
 use Rattle.dspec_interleaving.specs.declared.flight.CallPlace.TheVariants as flight
-use Rattle.dspec_deeds.specs.History.{is_among, callers, word_at}
-use Rattle.dspec_interleaving.specs.Coherent.{progress_of}
-use Rattle.dspec_core.specs.Machines.{history, state_of}
-use Rattle.dspec_interleaving.specs.Play.{CpuStep, cpu_step, same_word, shown_speculate, spoken_at}
 use Rattle.dspec_core.proofs.Makings.{adds_none, may_enter, step_made}
 use Rattle.dspec_interleaving.proofs.StepReads.{can_be_released, flight_stands, step_legal}
 use Rattle.dspec_interleaving.proofs.TableReads.{speculate_reads}

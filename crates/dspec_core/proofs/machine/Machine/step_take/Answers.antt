@@ -1,5 +1,5 @@
 -- No more batches are taken than can be counted.
-use Rattle.dspec_core.specs.Machines.{state_of}
+use Rattle.dspec_core.specs.Words.{state_of}
 use Rattle.dspec_interleaving.proofs.CleanReads.{takes_fit}
 use Rattle.dspec_core.proofs.machine.Machine.step_take.Goals as goal
 

@@ -1,15 +1,11 @@
 -- The records of the batch sealed last are added to what was taken.
 use Rattle.std.proofs.Common.{◌≡◌, ◌+◌, ◌∙◌, ◌++◌, List, length, reverse, refl, sym, ap, subst}
 use Rattle.std.specs.Vec.{with_item}
-use Rattle.dspec_record.specs.Record.{Record}
+use Rattle.dspec_core.specs.Words.{Record, Batch, contents, seals, taken, ConsumerMakes, history, state_of, batch_at, changes, batch_of_last_seal}
 use Rattle.dspec_deeds.specs.declared.calls.Answer.{Answer}
 use Rattle.dspec_deeds.specs.declared.calls.Answer.TheVariants as answer
 use Rattle.dspec_interleaving.specs.declared.flight.CpuProgress.{CpuProgress}
 use Rattle.dspec_interleaving.specs.declared.flight.Spare.TheVariants as spare
-use Rattle.dspec_deeds.specs.Own.{Batch, contents, seals, taken}
-use Rattle.dspec_core.specs.Machines.{ConsumerMakes, history, state_of}
-use Rattle.dspec_interleaving.specs.Play.{batch_at, changes}
-use Rattle.dspec_core.specs.Shown.{batch_of_last_seal}
 use Rattle.dspec_core.proofs.CleanMakings.{puts_stops}
 use Rattle.dspec_deeds.proofs.Items.{kept_item}
 use Rattle.dspec_core.proofs.MachineReads.{length_contents, cpu_got}

@@ -5,8 +5,7 @@ use Rattle.std.proofs.lemmas.Bool.Decides.{nat_tests}
 use Rattle.dspec_deeds.proofs.TestLemmas.{either_way}
 use Rattle.dspec_interleaving.specs.declared.flight.CpuProgress.{CpuProgress}
 use Rattle.dspec_cpu_state.specs.declared.counts.Counts.{Counts}
-use Rattle.dspec_cpu_state.specs.Counting.{one_more_worn}
-use Rattle.dspec_core.specs.Machines.{history}
+use Rattle.dspec_core.specs.Words.{one_more_worn, history}
 use Rattle.dspec_core.proofs.KeptCpus.{wearing}
 use Rattle.dspec_core.proofs.MachineReads.{cpu_got}
 use Rattle.dspec_core.proofs.Makings.{cpu_puts, state_moves}

@@ -1,6 +1,6 @@
 -- One more record is behind what was taken.
 use Rattle.std.proofs.Common.{List, reverse, sym, ◌∙◌}
-use Rattle.dspec_buffer.specs.Extent.{Piece, records}
+use Rattle.dspec_core.specs.Words.{Piece, records}
 use Rattle.dspec_deeds.proofs.Results.{of_ok}
 use Rattle.dspec_deeds.proofs.Walks.{walk_goes, grew_more}
 use Rattle.dspec_core.proofs.machine.walking.append_records.Goals as goal

@@ -1,6 +1,6 @@
 -- What the loop has appended.
 use Rattle.std.proofs.Common.{List, reverse}
-use Rattle.dspec_buffer.specs.Extent.{Piece, records}
+use Rattle.dspec_core.specs.Words.{Piece, records}
 use Rattle.dspec_deeds.proofs.Walks.{Walked, Grew}
 use Rattle.dspec_core.proofs.machine.walking.append_records.Given as goal
 

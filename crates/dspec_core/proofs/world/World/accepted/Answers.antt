@@ -1,8 +1,6 @@
 -- The accepted records, of the CPU's side.
 use Rattle.std.proofs.Common.{◌≡◌, ◌<◌, sym, ap, ◌∙◌, subst}
-use Rattle.dspec_interleaving.specs.Coherent.{PlayState}
-use Rattle.dspec_core.specs.Machines.{state_of}
-use Rattle.dspec_deeds.specs.Own.{stream}
+use Rattle.dspec_core.specs.Words.{PlayState, state_of, stream}
 use Rattle.dspec_core.proofs.MachineReads.{cpu_read}
 use Rattle.dspec_core.proofs.world.World.accepted.Goals as goal
 

@@ -1,8 +1,7 @@
 -- A step that the machine makes is counted, and keeps what is promised.
 use Rattle.std.proofs.Common.{◌≡◌, refl}
 use Rattle.dspec_deeds.specs.declared.calls.Actor.TheVariants as actor
-use Rattle.dspec_core.specs.Machines.{state_of}
-use Rattle.dspec_core.specs.Worlds.{WorldInvariant, world_view}
+use Rattle.dspec_core.specs.Words.{state_of, WorldInvariant, world_view}
 use Rattle.dspec_core.proofs.PromiseKept.{holds_behind, promise_kept}
 use Rattle.dspec_interleaving.proofs.StepCounts.{made_counted}
 use Rattle.dspec_core.proofs.world.World.advance.Goals as goal

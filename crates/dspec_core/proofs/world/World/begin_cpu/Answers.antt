@@ -1,6 +1,6 @@
 -- What is promised, from coherence.
 use Rattle.std.proofs.Common.{refl}
-use Rattle.dspec_core.specs.Worlds.{world_view}
+use Rattle.dspec_core.specs.Words.{world_view}
 use Rattle.dspec_core.proofs.PromiseKept.{promise_kept}
 use Rattle.dspec_core.proofs.world.World.begin_cpu.Goals as goal
 

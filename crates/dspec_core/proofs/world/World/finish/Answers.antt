@@ -4,12 +4,7 @@ use Rattle.std.specs.Prelude.{reverse}
 use Rattle.std.proofs.lemmas.Result.{IfOk-weaker}
 use Rattle.dspec_deeds.specs.declared.calls.Actor.{Actor}
 use Rattle.dspec_deeds.specs.declared.deed.Deed.{Deed}
-use Rattle.dspec_interleaving.specs.Calls.{is_actor, is_idle}
-use Rattle.dspec_deeds.specs.Closes.{reports, streams, closing}
-use Rattle.dspec_interleaving.specs.Coherent.{PlayState, progress_of}
-use Rattle.dspec_deeds.specs.Headline.{Headline}
-use Rattle.dspec_deeds.specs.Legal.{IsLegal}
-use Rattle.dspec_core.specs.Machines.{history, state_of}
+use Rattle.dspec_core.specs.Words.{is_actor, is_idle, reports, streams, closing, PlayState, progress_of, Headline, IsLegal, history, state_of}
 use Rattle.dspec_deeds.proofs.Headlines.{headline}
 use Rattle.dspec_interleaving.proofs.SessionCloses.{closes_legally, idle_closes, told_in_order}
 use Rattle.dspec_core.proofs.world.World.finish.Goals as goal

@@ -1,8 +1,6 @@
 -- Activity shows the list, by what a world keeps.
 use Rattle.std.proofs.Common.{◌≡◌, ◌∙◌, ap}
-use Rattle.dspec_deeds.specs.History.{halted}
-use Rattle.dspec_interleaving.specs.Coherent.{PlayState}
-use Rattle.dspec_core.specs.Machines.{state_of}
+use Rattle.dspec_core.specs.Words.{halted, PlayState, state_of}
 use Rattle.dspec_core.proofs.world.World.is_stopped.Goals as goal
 
 pub returns : goal.returns

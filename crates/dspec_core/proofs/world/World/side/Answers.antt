@@ -1,9 +1,6 @@
 -- The side of a CPU shows the list, by what a world keeps.
 use Rattle.std.proofs.Common.{◌≡◌, ◌<◌, sym, subst}
-use Rattle.dspec_interleaving.specs.Coherent.{PlayState}
-use Rattle.dspec_core.specs.Machines.{state_of}
-use Rattle.dspec_cpu_state.specs.CpuStates.{ShowsList}
-use Rattle.dspec_core.specs.WorldViews.{WorldView}
+use Rattle.dspec_core.specs.Words.{PlayState, state_of, ShowsList, WorldView}
 use Rattle.dspec_core.proofs.MachineReads.{cpu_read}
 use Rattle.dspec_core.proofs.world.World.side.Goals as goal
 

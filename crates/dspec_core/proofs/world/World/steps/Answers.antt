@@ -3,10 +3,7 @@ use Rattle.std.proofs.Common.{◌≡◌, ◌<◌, true, refl, sym, ap, subst}
 use Rattle.dspec_deeds.specs.declared.calls.Actor.{Actor}
 use Rattle.dspec_deeds.specs.declared.calls.Actor.TheVariants as actor
 use Rattle.dspec_interleaving.specs.declared.flight.CpuProgress.{CpuProgress}
-use Rattle.dspec_interleaving.specs.Bounds.{steps_limit}
-use Rattle.dspec_interleaving.specs.Calls.{is_actor}
-use Rattle.dspec_interleaving.specs.Coherent.{PlayState}
-use Rattle.dspec_core.specs.Machines.{state_of}
+use Rattle.dspec_core.specs.Words.{steps_limit, is_actor, PlayState, state_of}
 use Rattle.dspec_core.proofs.MachineReads.{cpu_got}
 use Rattle.dspec_core.proofs.OneMore.{progress_there}
 use Rattle.dspec_interleaving.proofs.StepCounts.{is_below, steps_below}

@@ -1,10 +1,7 @@
 -- The words show the list, by what a world keeps.
 use Rattle.std.proofs.Common.{◌≡◌, sym, subst}
-use Rattle.dspec_word.specs.Word.{SlotState}
+use Rattle.dspec_core.specs.Words.{SlotState, PlayState, state_of, ShowsWords}
 use Rattle.std.specs.Prelude.{List}
-use Rattle.dspec_interleaving.specs.Coherent.{PlayState}
-use Rattle.dspec_core.specs.Machines.{state_of}
-use Rattle.dspec_core.specs.Shown.{ShowsWords}
 use Rattle.dspec_core.proofs.world.World.words.Goals as goal
 
 pub returns : goal.returns

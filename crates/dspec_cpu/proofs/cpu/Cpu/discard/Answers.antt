@@ -1,9 +1,6 @@
 use Rattle.std.proofs.Common.{List, subst}
 use Rattle.dspec_deeds.specs.declared.deed.Deed.{Deed}
-use Rattle.dspec_promise.specs.Promise.{discard}
-use Rattle.dspec_cpu.specs.declared.parts.CpuParts.{CpuParts as Cpu}
-use Rattle.dspec_cpu.specs.Lists.{HasList}
-use Rattle.dspec_cpu.specs.OneCall.{DecidesOne}
+use Rattle.dspec_cpu.specs.Words.{discard, Cpu, HasList, DecidesOne}
 use Rattle.dspec_cpu.proofs.Telling.{discards_one}
 use Rattle.dspec_cpu.proofs.cpu.Cpu.discard.Goals as goal
 

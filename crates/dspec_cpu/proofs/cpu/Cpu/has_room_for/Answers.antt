@@ -1,11 +1,7 @@
 use Rattle.std.proofs.Common.{◌≡◌, ◌∙◌, true, false, List, sym, subst, ⊎_elim}
 use Rattle.dspec_deeds.specs.declared.deed.Deed.{Deed}
-use Rattle.dspec_deeds.specs.History.{in_range}
+use Rattle.dspec_cpu.specs.Words.{in_range, known, Cpu, cpu_block_fits, HasList}
 use Rattle.dspec_deeds.proofs.TestLemmas.{either_way}
-use Rattle.dspec_table.specs.Seats.{known}
-use Rattle.dspec_cpu.specs.declared.parts.CpuParts.{CpuParts as Cpu}
-use Rattle.dspec_cpu.specs.Between.{cpu_block_fits}
-use Rattle.dspec_cpu.specs.Lists.{HasList}
 use Rattle.dspec_cpu.proofs.Limits.{limits}
 use Rattle.dspec_cpu.proofs.Mine.{unmarked_empty}
 use Rattle.dspec_cpu.proofs.Outside.{outside_holds}

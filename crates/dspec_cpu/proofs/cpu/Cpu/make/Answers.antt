@@ -1,5 +1,5 @@
 use Rattle.std.proofs.Common.{◌≡◌, ◌∙◌, Some, refl, sym, ap}
-use Rattle.dspec_buffer.specs.Stored.{Stored}
+use Rattle.dspec_cpu.specs.Words.{Stored}
 use Rattle.dspec_cpu.proofs.Makes.{unused_list, unused_steady}
 use Rattle.dspec_cpu.proofs.cpu.Cpu.make.Goals as goal
 

@@ -1,13 +1,7 @@
 use Rattle.std.proofs.Common.{◌≡◌, true, false, List, [], Some, sym, subst, ⊎_elim, arith}
-use Rattle.dspec_word.specs.SpecId.{Speculation}
+use Rattle.dspec_cpu.specs.Words.{Speculation, in_range, held, known, Cpu, HasList, IsOpenAt}
 use Rattle.dspec_deeds.specs.declared.deed.Deed.{Deed}
-use Rattle.dspec_deeds.specs.History.{in_range}
-use Rattle.dspec_deeds.specs.Own.{held}
 use Rattle.dspec_deeds.proofs.TestLemmas.{either_way}
-use Rattle.dspec_table.specs.Seats.{known}
-use Rattle.dspec_cpu.specs.declared.parts.CpuParts.{CpuParts as Cpu}
-use Rattle.dspec_cpu.specs.Lists.{HasList}
-use Rattle.dspec_cpu.specs.OpenAt.{IsOpenAt}
 use Rattle.dspec_cpu.proofs.Limits.{limits}
 use Rattle.dspec_cpu.proofs.OpenAts.{FoundAt, found_in, none_in}
 use Rattle.dspec_cpu.proofs.Outside.{outside_holds}

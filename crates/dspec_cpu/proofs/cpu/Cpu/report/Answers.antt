@@ -1,9 +1,6 @@
 use Rattle.std.proofs.Common.{◌≡◌, List, sym, subst}
 use Rattle.dspec_deeds.specs.declared.deed.Deed.{Deed}
-use Rattle.dspec_deeds.specs.Reports.{report}
-use Rattle.dspec_cpu.specs.declared.parts.CpuParts.{CpuParts as Cpu}
-use Rattle.dspec_cpu.specs.Lists.{HasList, words_of}
-use Rattle.dspec_cpu.specs.Standing.{Belongs, identity}
+use Rattle.dspec_cpu.specs.Words.{report, Cpu, HasList, words_of, Belongs, identity}
 use Rattle.dspec_cpu.proofs.Ready.{belonging, fated_within, told}
 use Rattle.dspec_cpu.proofs.cpu.Cpu.report.Goals as goal
 

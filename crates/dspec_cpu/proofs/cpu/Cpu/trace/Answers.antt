@@ -1,8 +1,6 @@
 use Rattle.std.proofs.Common.{List, subst}
 use Rattle.dspec_deeds.specs.declared.deed.Deed.{Deed}
-use Rattle.dspec_cpu.specs.declared.parts.CpuParts.{CpuParts as Cpu}
-use Rattle.dspec_cpu.specs.Lists.{HasList}
-use Rattle.dspec_cpu.specs.OneCall.{TracesOne}
+use Rattle.dspec_cpu.specs.Words.{Cpu, HasList, TracesOne}
 use Rattle.dspec_cpu.proofs.Telling.{traces_one}
 use Rattle.dspec_cpu.proofs.cpu.Cpu.trace.Goals as goal
 

@@ -3,14 +3,8 @@ use Rattle.dspec_word.specs.declared.code.Code.TheVariants.{Committing}
 use Rattle.dspec_deeds.specs.declared.config.Config.{Config}
 use Rattle.dspec_deeds.specs.declared.calls.CpuOp.{CpuOp}
 use Rattle.dspec_deeds.specs.declared.calls.CpuOp.TheVariants as op
-use Rattle.dspec_deeds.specs.FateKinds.{count_of}
-use Rattle.dspec_deeds.specs.History.{in_range}
-use Rattle.dspec_deeds.specs.Marks.{mark}
-use Rattle.dspec_table.specs.Conditions.{CommitsNow}
-use Rattle.dspec_table.specs.Seats.{known, set_up, cpu_of}
-use Rattle.dspec_cpu.specs.Calls.{rests}
+use Rattle.dspec_cpu.specs.Words.{count_of, in_range, mark, CommitsNow, known, set_up, cpu_of, rests, words_of}
 use Rattle.dspec_cpu.specs.declared.reaching.Reach.TheVariants as reach
-use Rattle.dspec_cpu.specs.Lists.{words_of}
 use Rattle.dspec_cpu.proofs.Limits.{has_room, limits}
 use Rattle.dspec_cpu.proofs.Reaches.{slot_inside}
 use Rattle.dspec_cpu.proofs.Ready.{roomy, few_drops}

@@ -1,7 +1,7 @@
 -- A slot that has a mark is one of the session's.
 use Rattle.std.proofs.Common.{◌<◌, ◌-◌, length, arith}
 use Rattle.std.proofs.lemmas.Option.{slice_get_within}
-use Rattle.dspec_deeds.specs.Marks.{mark}
+use Rattle.dspec_cpu.specs.Words.{mark}
 use Rattle.dspec_cpu.proofs.Outside.{inside_of}
 use Rattle.dspec_cpu.proofs.Reaches.{slot_inside}
 use Rattle.dspec_cpu.proofs.parts.CpuParts.is_mine.Goals as goal

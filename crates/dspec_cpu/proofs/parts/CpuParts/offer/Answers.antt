@@ -1,23 +1,16 @@
 use Rattle.std.proofs.Common.{◌≡◌, ◌+◌, ◌==◌, ◌≤◌, ◌∙◌, ℕ, true, false, [], ◌∷◌, arith, refl, sym, ap, subst}
-use Rattle.dspec_record.specs.Record.{Record}
+use Rattle.dspec_cpu.specs.Words.{Record, mark, known, Goes, Stands, Reached, words_of, CallLeaves, of_slot}
 use Rattle.dspec_deeds.specs.declared.deed.SpeculateFate.TheVariants as spoken
 use Rattle.dspec_deeds.specs.declared.deed.Deed.TheVariants.{Speculate}
 use Rattle.dspec_deeds.specs.declared.config.Config.{Config}
-use Rattle.dspec_deeds.specs.Marks.{mark}
-use Rattle.dspec_table.specs.Seats.{known}
-use Rattle.dspec_cpu.specs.Calls.{Goes}
 use Rattle.dspec_cpu.specs.declared.reaching.Reach.TheVariants as reach
-use Rattle.dspec_cpu.specs.Reached.{Stands, Reached}
 use Rattle.dspec_cpu.proofs.ReachDeeds.{unstopped}
 use Rattle.dspec_cpu.proofs.Reaches.{slot_inside, is_running}
 use Rattle.dspec_deeds.proofs.TestLemmas.{number_is_itself}
-use Rattle.dspec_cpu.specs.Lists.{words_of}
 use Rattle.dspec_cpu.proofs.Limits.{limits}
 use Rattle.dspec_cpu.proofs.Ready.{roomy, few, ready_after}
 use Rattle.dspec_cpu.proofs.Shown.{shows, shown_behind}
 use Rattle.dspec_cpu.proofs.Speculates.{asked, grants, grant_deeds, caller_of, own_mark, granted_shown}
-use Rattle.dspec_cpu.specs.Keeping.{CallLeaves}
-use Rattle.dspec_cpu.specs.Touching.{of_slot}
 use Rattle.dspec_cpu.proofs.Leaves.{reached_leaves}
 use Rattle.dspec_cpu_state.specs.declared.counts.Counts.{Counts}
 use Rattle.dspec_cpu.proofs.parts.CpuParts.offer.Goals as goal

@@ -1,11 +1,6 @@
 use Rattle.std.proofs.Common.{ℕ, ◌∙◌, ap, subst, arith}
-use Rattle.dspec_ring.specs.Known.{CpuKnows}
+use Rattle.dspec_cpu.specs.Words.{CpuKnows, known, Cpu, SettledSlots, words_of, buffers_of}
 use Rattle.dspec_deeds.specs.declared.config.Config.{Config}
-use Rattle.dspec_table.specs.Seats.{known}
-use Rattle.dspec_cpu.specs.declared.parts.CpuParts.{CpuParts as Cpu}
-use Rattle.dspec_cpu.specs.Settled.{SettledSlots}
-use Rattle.dspec_cpu.specs.Lists.{words_of}
-use Rattle.dspec_cpu.specs.Switching.{buffers_of}
 use Rattle.dspec_cpu.proofs.Ready.{holder, set_up_is}
 use Rattle.dspec_cpu.proofs.Touching.{service_touches}
 use Rattle.dspec_cpu.proofs.parts.CpuParts.service.Goals as goal

@@ -1,6 +1,5 @@
 use Rattle.std.proofs.Common.{◌<◌, ◌^◌, arith}
-use Rattle.dspec_table.specs.Seats.{cpu_of, set_up}
-use Rattle.dspec_cpu.specs.Lists.{batches_of}
+use Rattle.dspec_cpu.specs.Words.{cpu_of, set_up, batches_of}
 use Rattle.dspec_cpu.proofs.Limits.{limits}
 use Rattle.dspec_cpu.proofs.DueSettlements.{can, due_settled, may_settle, ready_now}
 use Rattle.dspec_cpu.proofs.parts.CpuParts.settle_due.Goals as goal

@@ -1,7 +1,5 @@
 use Rattle.std.proofs.Common.{◌∙◌, refl, sym, ap}
-use Rattle.dspec_deeds.specs.Closes.{is_granted}
-use Rattle.dspec_table.specs.Seats.{known}
-use Rattle.dspec_cpu.specs.Lists.{HasList}
+use Rattle.dspec_cpu.specs.Words.{is_granted, known, HasList}
 use Rattle.dspec_cpu.proofs.Services.{due, loaded_ready, not_awaiting, not_granted, passed, passed_early, slot_done}
 use Rattle.dspec_cpu.proofs.parts.CpuParts.settle_slot.Goals as goal
 

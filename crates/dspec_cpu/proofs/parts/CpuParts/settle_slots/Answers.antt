@@ -1,8 +1,6 @@
 use Rattle.std.proofs.Common.{◌≡◌, ◌+◌, ◌-◌, ◌∙◌, ℕ, List, if◌then◌else◌, refl, sym, ap, subst, arith}
 use Rattle.dspec_deeds.specs.declared.deed.Deed.{Deed}
-use Rattle.dspec_table.specs.Seats.{known}
-use Rattle.dspec_cpu.specs.Settled.{Settled, SlotDone}
-use Rattle.dspec_cpu.specs.Lists.{HasList}
+use Rattle.dspec_cpu.specs.Words.{known, Settled, SlotDone, HasList}
 use Rattle.dspec_cpu.proofs.ServedSlots.{few_settles, none_settled, slot_more}
 use Rattle.dspec_cpu.proofs.parts.CpuParts.settle_slots.Goals as goal
 use Rattle.dspec_cpu.proofs.parts.CpuParts.settle_slots.Goals.{then-settle_slot, else-settle_slot}

@@ -1,7 +1,5 @@
 use Rattle.std.proofs.Common.{◌≡◌, ◌≤◌, ◌-◌}
-use Rattle.dspec_table.specs.Seats.{known}
-use Rattle.dspec_cpu.specs.Lists.{HasList, IsReady, IsSameCpu}
-use Rattle.dspec_cpu.specs.Settled.{KeepsBatches, Settled}
+use Rattle.dspec_cpu.specs.Words.{known, HasList, IsReady, IsSameCpu, KeepsBatches, Settled}
 use Rattle.dspec_cpu.proofs.parts.CpuParts.settle_slots.Given as goal
 
 -- the slots below this one were served, and the settled ones counted

@@ -1,4 +1,4 @@
-use Rattle.dspec_cpu.specs.Calls.{rests}
+use Rattle.dspec_cpu.specs.Words.{rests}
 use Rattle.dspec_cpu.proofs.Leaves.{worn_leaves}
 use Rattle.dspec_cpu.proofs.parts.CpuParts.speculate.Goals as goal
 

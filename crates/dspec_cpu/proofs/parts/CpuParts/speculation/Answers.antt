@@ -1,9 +1,6 @@
 use Rattle.std.proofs.Common.{◌+◌, ◌++◌, ◌∙◌, ℕ, [], refl, sym, ap, subst}
 use Rattle.dspec_deeds.specs.declared.config.Config.{Config}
-use Rattle.dspec_table.specs.Seats.{known}
-use Rattle.dspec_cpu.specs.Calls.{rests}
-use Rattle.dspec_cpu.specs.Lists.{words_of}
-use Rattle.dspec_cpu.specs.Scans.{Scanned, opening_deeds}
+use Rattle.dspec_cpu.specs.Words.{known, rests, words_of, Scanned, opening_deeds}
 use Rattle.dspec_cpu.proofs.Decisions.{worn_shown}
 use Rattle.dspec_cpu.proofs.Limits.{limits}
 use Rattle.dspec_cpu.proofs.Openings.{bare_opening, opening_shown}

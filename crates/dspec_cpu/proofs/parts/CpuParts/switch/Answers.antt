@@ -1,8 +1,6 @@
 use Rattle.std.proofs.Common.{List, length, sym, ap, ◌∙◌, subst}
 use Rattle.dspec_deeds.specs.declared.deed.Deed.{Deed}
-use Rattle.dspec_cpu.specs.declared.parts.CpuParts.{CpuParts as Cpu}
-use Rattle.dspec_cpu.specs.Lists.{HasList, IsReady}
-use Rattle.dspec_cpu.specs.Switching.{buffers_of, never, with_seal}
+use Rattle.dspec_cpu.specs.Words.{Cpu, HasList, IsReady, buffers_of, never, with_seal}
 use Rattle.dspec_cpu.proofs.RingMoves.{switched_moves}
 use Rattle.dspec_cpu.proofs.Seals.{batch_count, few_batches}
 use Rattle.dspec_cpu.proofs.Switches.{passed, switched_by, switched_is, switched_list, switched_ready, switched_same}

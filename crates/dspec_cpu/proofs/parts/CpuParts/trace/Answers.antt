@@ -1,15 +1,9 @@
 use Rattle.std.proofs.Common.{◌≡◌, ◌∙◌, Bool, true, false, not, [], ◌∷◌, if◌then◌else◌, arith, refl, sym, ap, subst}
 use Rattle.dspec_deeds.specs.declared.deed.TraceFate.TheVariants as traced
 use Rattle.dspec_deeds.specs.declared.deed.Deed.TheVariants.{Trace}
-use Rattle.dspec_record.specs.Record.{Record}
-use Rattle.dspec_buffer.specs.Stored.{Stored, HasPieces}
+use Rattle.dspec_cpu.specs.Words.{Record, Stored, HasPieces, LoadedActivity, known, ShowsList, rests, words_of, worn_of}
 use Rattle.dspec_deeds.proofs.TestLemmas.{number_is_itself}
-use Rattle.dspec_table.specs.Steps.{LoadedActivity}
-use Rattle.dspec_table.specs.Seats.{known}
 use Rattle.dspec_cpu_state.specs.declared.counts.Counts.{Counts}
-use Rattle.dspec_cpu_state.specs.CpuStates.{ShowsList}
-use Rattle.dspec_cpu.specs.Calls.{rests}
-use Rattle.dspec_cpu.specs.Lists.{words_of, worn_of}
 use Rattle.dspec_cpu.proofs.Limits.{limits}
 use Rattle.dspec_cpu.proofs.Ready.{roomy, few_drops, ready_after, set_up_is, holder}
 use Rattle.dspec_cpu.proofs.Shown.{shows, shown_behind}

@@ -1,9 +1,6 @@
 use Rattle.std.proofs.Common.{◌≡◌, ◌+◌, ◌∙◌, ℕ, sym, subst, arith}
 use Rattle.dspec_deeds.specs.declared.config.Config.{Config}
-use Rattle.dspec_deeds.specs.History.{word_at}
-use Rattle.dspec_interleaving.specs.CpuClose.{own_closed, own_closed_slot}
-use Rattle.dspec_table.specs.Last.{last_words}
-use Rattle.dspec_cpu.specs.Rests.{CanCloseBehind, RestHasList}
+use Rattle.dspec_cpu.specs.Words.{word_at, own_closed, own_closed_slot, last_words, CanCloseBehind, RestHasList}
 use Rattle.dspec_cpu.proofs.Closes.{can_close, next_closed}
 use Rattle.dspec_cpu.proofs.rest.CpuRest.settle.Goals as goal
 

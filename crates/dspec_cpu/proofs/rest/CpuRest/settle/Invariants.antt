@@ -1,12 +1,7 @@
 use Rattle.std.proofs.Common.{List}
 use Rattle.dspec_deeds.specs.declared.deed.Deed.{Deed}
-use Rattle.dspec_deeds.specs.History.{word_at}
-use Rattle.dspec_interleaving.specs.CpuClose.{own_closed}
+use Rattle.dspec_cpu.specs.Words.{word_at, own_closed, last_words, Shows, IsSameRest, RestHasList, IsPartOf}
 use Rattle.dspec_ring.specs.declared.batch.Batch.{Batch}
-use Rattle.dspec_table.specs.Last.{last_words}
-use Rattle.dspec_table.specs.Showing.{Shows}
-use Rattle.dspec_cpu.specs.Rests.{IsSameRest, RestHasList}
-use Rattle.dspec_cpu.specs.Settled.{IsPartOf}
 use Rattle.dspec_cpu.proofs.rest.CpuRest.settle.Given as goal
 
 -- the slots up to this one were settled

@@ -1,7 +1,6 @@
 use Rattle.std.proofs.Common.{◌≡◌, ◌≤◌, ◌-◌, ◌+◌, ◌∙◌, Some, slice_get, get_or, ap, sym, arith}
 use Rattle.std.proofs.lemmas.Option.{get_or_from_slice_get}
-use Rattle.dspec_deeds.specs.Marks.{mark}
-use Rattle.dspec_deeds.specs.Own.{dropped_in}
+use Rattle.dspec_cpu_state.specs.Words.{mark, dropped_in}
 use Rattle.dspec_deeds.proofs.Dropping.{unmarked_drops}
 use Rattle.dspec_deeds.proofs.TestLemmas.{same_number}
 use Rattle.dspec_cpu_state.proofs.Drops.{counted_here}

@@ -1,7 +1,5 @@
 use Rattle.std.proofs.Common.{◌∙◌, ◌&&◌, not, sym, ap}
-use Rattle.dspec_buffer.specs.Extent.{one, piece_fits}
-use Rattle.dspec_deeds.specs.Legal.{is_closed}
-use Rattle.dspec_deeds.specs.Own.{active}
+use Rattle.dspec_cpu_state.specs.Words.{one, piece_fits, is_closed, active}
 use Rattle.dspec_cpu_state.proofs.cpu_state.CpuState.fits.Goals as goal
 
 pub returns-then-would_fit : goal.returns-then-would_fit

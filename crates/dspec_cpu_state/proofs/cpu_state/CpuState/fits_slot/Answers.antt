@@ -1,8 +1,5 @@
 use Rattle.std.proofs.Common.{◌≡◌, ◌∙◌, ◌-◌, List, [], map, get_or, if◌then◌else◌, sym, ap}
-use Rattle.dspec_record.specs.Record.{Record}
-use Rattle.dspec_buffer.specs.Extent.{one, piece_fits}
-use Rattle.dspec_deeds.specs.Own.{contents, held}
-use Rattle.dspec_deeds.specs.CpuShown.{last_called}
+use Rattle.dspec_cpu_state.specs.Words.{Record, one, piece_fits, contents, held, last_called}
 use Rattle.dspec_cpu_state.proofs.EndedBlocks.{block_is, buffer_there}
 use Rattle.dspec_cpu_state.proofs.cpu_state.CpuState.fits_slot.Goals as goal
 

@@ -1,8 +1,5 @@
 use Rattle.std.proofs.Common.{◌≡◌, ◌∙◌, ◌-◌, List, [], length, get_or, if◌then◌else◌, ap}
-use Rattle.dspec_record.specs.Record.{Record}
-use Rattle.dspec_buffer.specs.Extent.{block, piece_fits}
-use Rattle.dspec_deeds.specs.Own.{active, contents, held}
-use Rattle.dspec_deeds.specs.CpuShown.{last_called}
+use Rattle.dspec_cpu_state.specs.Words.{Record, block, piece_fits, active, contents, held, last_called}
 use Rattle.dspec_cpu_state.proofs.EndedBlocks.{block_is, buffer_there, count_held}
 use Rattle.dspec_cpu_state.proofs.cpu_state.CpuState.measure.Goals as goal
 

@@ -1,8 +1,5 @@
 use Rattle.std.proofs.Common.{◌≡◌, ◌≢◌, ◌∙◌, ◌&&◌, ◌||◌, Bool, true, not, List, [], ◌∷◌, length, refl, sym, ap}
-use Rattle.dspec_record.specs.Record.{Record}
-use Rattle.dspec_buffer.specs.Extent.{block, piece_fits}
-use Rattle.dspec_deeds.specs.Legal.{is_closed, is_empty}
-use Rattle.dspec_deeds.specs.Own.{active}
+use Rattle.dspec_cpu_state.specs.Words.{Record, block, piece_fits, is_closed, is_empty, active}
 use Rattle.dspec_cpu_state.proofs.cpu_state.CpuState.takes.Goals as goal
 
 open_to : (rs : List Record) (room closed : Bool) → length rs ≢ 0 → room ≡ true → not closed ≡ (room && (is_empty (block rs) || not closed))

@@ -1,5 +1,5 @@
 use Rattle.std.proofs.Common.{◌≡◌, ◌+◌, ◌++◌, ◌∷◌, ◌∙◌, [], length, map, take, drop, subst, sym, rules}
-use Rattle.dspec_ctf.specs.InMemory.Naming.{AreEvents, kinds_in, texts_in}
+use Rattle.dspec_ctf.specs.Words.{AreEvents, kinds_in, texts_in}
 use Rattle.dspec_ctf.proofs.InMemory.Events.{of_part, one_more, some_behind, some_numbers}
 use Rattle.dspec_ctf.proofs.in_memory.naming.events_of.Goals as goal
 

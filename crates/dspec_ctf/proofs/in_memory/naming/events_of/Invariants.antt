@@ -1,5 +1,5 @@
 use Rattle.std.proofs.Common.{◌≤◌, length, map, take}
-use Rattle.dspec_ctf.specs.InMemory.Naming.{AreEvents}
+use Rattle.dspec_ctf.specs.Words.{AreEvents}
 use Rattle.dspec_ctf.proofs.in_memory.naming.events_of.Given as goal
 
 -- the events so far are those of the names and of the kinds so far

@@ -1,5 +1,5 @@
 use Rattle.std.proofs.Common.{◌≡◌, length, map, take}
-use Rattle.dspec_ctf.specs.InMemory.Naming.{kind_number}
+use Rattle.dspec_ctf.specs.Words.{kind_number}
 use Rattle.dspec_ctf.proofs.in_memory.naming.kinds_of.Given as goal
 
 -- the kinds so far are those of the numbers so far

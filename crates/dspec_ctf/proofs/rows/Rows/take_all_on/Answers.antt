@@ -1,6 +1,6 @@
 use Rattle.std.proofs.Common.{◌≡◌, ◌<◌, ◌∙◌, length, refl, ap, sym, subst, arith}
 use Rattle.std.proofs.lemmas.Option.{get_or_from_slice_get, slice_get_within}
-use Rattle.dspec_ctf.specs.Rows.{GoesToFile}
+use Rattle.dspec_ctf.specs.Words.{GoesToFile}
 use Rattle.dspec_ctf.proofs.Spreading.{run-more}
 use Rattle.dspec_ctf.proofs.rows.Rows.take_all_on.Goals as goal
 

@@ -1,6 +1,6 @@
 use Rattle.std.proofs.Common.{◌≡◌, ◌-◌, length, replicate}
 use Rattle.std.specs.Prelude.{slice_range}
-use Rattle.dspec_ctf.specs.Rows.{Spreads}
+use Rattle.dspec_ctf.specs.Words.{Spreads}
 use Rattle.dspec_ctf.proofs.rows.Rows.take_all_on.Given as goal
 
 abbrev pub invariant-loop-place : goal.invariant-loop-place

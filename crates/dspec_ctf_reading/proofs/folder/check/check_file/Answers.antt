@@ -1,7 +1,5 @@
 use Rattle.std.proofs.Common.{◌<◌, List, ℕ, length, rules, sym, subst}
-use Rattle.dspec_ctf_reading.specs.Reading.{Layout, PacketRead}
-use Rattle.dspec_ctf_reading.specs.Told.{told_layout}
-use Rattle.dspec_ctf_reading.specs.Folders.Checks.{IsSoundFrom, packet_as_read}
+use Rattle.dspec_ctf_reading.specs.Words.{Layout, PacketRead, told_layout, IsSoundFrom, packet_as_read}
 use Rattle.dspec_ctf_reading.proofs.Folders.Checking.{sound-back, sound-step}
 use Rattle.dspec_ctf_reading.proofs.folder.check.check_file.Goals as goal
 

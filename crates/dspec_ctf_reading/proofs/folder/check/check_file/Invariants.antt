@@ -1,7 +1,6 @@
 -- The file is sound where what is left of it is.
 use Rattle.std.proofs.Common.{length}
-use Rattle.dspec_ctf_reading.specs.Told.{told_layout}
-use Rattle.dspec_ctf_reading.specs.Folders.Checks.{IsSoundFrom}
+use Rattle.dspec_ctf_reading.specs.Words.{told_layout, IsSoundFrom}
 use Rattle.dspec_ctf_reading.proofs.folder.check.check_file.Given as goal
 
 abbrev pub invariant-loop-rest : goal.invariant-loop-rest

@@ -1,6 +1,6 @@
 -- The stamps rise where those that are left do.
 use Rattle.std.proofs.Common.{◌≡◌, drop}
-use Rattle.dspec_ctf_reading.specs.Folders.Checks.{RisesFrom, last_of, stamps_of}
+use Rattle.dspec_ctf_reading.specs.Words.{RisesFrom, last_of, stamps_of}
 use Rattle.dspec_ctf_reading.proofs.folder.check.rising.Given as goal
 
 abbrev pub invariant-loop-place : goal.invariant-loop-place

@@ -1,5 +1,5 @@
 use Rattle.std.proofs.Common.{◌≡◌, Some, rules}
-use Rattle.dspec_ctf_reading.specs.Told.{told_layout}
+use Rattle.dspec_ctf_reading.specs.Words.{told_layout}
 use Rattle.dspec_ctf_reading.proofs.Folders.Checking.{falls-end, falls-within, rises-whole}
 use Rattle.dspec_ctf_reading.proofs.folder.check.see_times.Goals as goal
 

@@ -1,6 +1,5 @@
 use Rattle.std.proofs.Common.{◌≡◌, ◌<◌, ◌^◌, true, rules, arith, length, ap, subst}
-use Rattle.dspec_ctf_reading.specs.Told.{told_layout}
-use Rattle.dspec_ctf_reading.specs.Folders.Counts.{CountsPacket}
+use Rattle.dspec_ctf_reading.specs.Words.{told_layout, CountsPacket}
 use Rattle.dspec_ctf_reading.proofs.Folders.Counting.{counted-begin, counted-more}
 use Rattle.dspec_ctf_reading.proofs.folder.counts.count_file.Goals as goal
 

@@ -1,6 +1,6 @@
 -- What was counted is what the packets before the rest add.
 use Rattle.std.proofs.Common.{length}
-use Rattle.dspec_ctf_reading.specs.Told.{told_layout}
+use Rattle.dspec_ctf_reading.specs.Words.{told_layout}
 use Rattle.dspec_ctf_reading.proofs.Folders.Counting.{CountedTo}
 use Rattle.dspec_ctf_reading.proofs.folder.counts.count_file.Given as goal
 

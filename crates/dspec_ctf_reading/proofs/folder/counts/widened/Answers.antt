@@ -1,6 +1,6 @@
 use Rattle.std.proofs.Common.{[], ap, ◌∙◌, arith}
 use Rattle.std.specs.List.{cons_option}
-use Rattle.dspec_ctf_reading.specs.Folders.Counts.{span_from}
+use Rattle.dspec_ctf_reading.specs.Words.{span_from}
 use Rattle.dspec_ctf_reading.proofs.Folders.Counting.{span-more, span-none}
 use Rattle.dspec_ctf_reading.proofs.folder.counts.widened.Goals as goal
 

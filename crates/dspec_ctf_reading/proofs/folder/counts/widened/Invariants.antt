@@ -1,6 +1,6 @@
 use Rattle.std.proofs.Common.{◌≡◌, take}
 use Rattle.std.specs.List.{filter_map}
-use Rattle.dspec_ctf_reading.specs.Folders.Counts.{span_from}
+use Rattle.dspec_ctf_reading.specs.Words.{span_from}
 use Rattle.dspec_ctf_reading.proofs.folder.counts.widened.Given as goal
 
 abbrev pub invariant-loop-event : goal.invariant-loop-event

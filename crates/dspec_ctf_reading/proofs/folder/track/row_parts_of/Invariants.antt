@@ -1,6 +1,6 @@
 -- What was found, and behind that what the rest gives, is what all records give.
 use Rattle.std.proofs.Common.{◌≡◌, ◌++◌, length}
-use Rattle.dspec_ctf_reading.specs.Folders.Tracks.{row_parts}
+use Rattle.dspec_ctf_reading.specs.Words.{row_parts}
 use Rattle.dspec_ctf_reading.proofs.folder.track.row_parts_of.Given as goal
 
 abbrev pub invariant-loop-kind : goal.invariant-loop-kind

@@ -1,6 +1,5 @@
 use Rattle.std.proofs.Common.{ap, sym, subst, ◌∙◌}
-use Rattle.dspec_ctf_reading.specs.Fronts.{split_packet as packet_split}
-use Rattle.dspec_ctf_reading.specs.Folders.Whole.{AreWholeBefore}
+use Rattle.dspec_ctf_reading.specs.Words.{packet_split, AreWholeBefore}
 use Rattle.dspec_ctf_reading.proofs.Folders.Splitting.{left, shorter, tail-on, tail-dropped, whole-more}
 use Rattle.dspec_ctf_reading.proofs.folder.whole.whole_len.Goals as goal
 

@@ -1,6 +1,6 @@
 -- What was split off is whole packets, and the rest is what stands behind them.
 use Rattle.std.proofs.Common.{length}
-use Rattle.dspec_ctf_reading.specs.Folders.Whole.{AreWholeBefore}
+use Rattle.dspec_ctf_reading.specs.Words.{AreWholeBefore}
 use Rattle.dspec_ctf_reading.proofs.Folders.Splitting.{IsTail}
 use Rattle.dspec_ctf_reading.proofs.folder.whole.whole_len.Given as goal
 

@@ -28,7 +28,7 @@ use denote.Triple.Walked.{says, Stays, stay_dropped, walk_of, ends_at, walk_Meet
 use Rattle.dspec_ctf_sink.proofs.Walks.{none, none_made}
 use Rattle.dspec_ctf_sink.specs.contracts.asked.Asked as Asked
 use Rattle.dspec_ctf_sink.specs.contracts.asked.Asking as Asking
-use Rattle.dspec_ctf_sink.specs.Asked.{asked_then}
+use Rattle.dspec_ctf_sink.specs.Words.{asked_then}
 use Rattle.dspec_ctf_sink.specs.contracts.asked.Asked.then as F
 use Rattle.dspec_ctf_sink.specs.contracts.asked.Asked.then.Key.{name as #self}
 use Rattle.dspec_ctf_sink.proofs.asked.Asked.then.Statement as stated

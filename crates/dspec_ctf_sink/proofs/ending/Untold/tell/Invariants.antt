@@ -1,6 +1,6 @@
 -- The sink was told of the CPUs below.
 use Rattle.std.proofs.Common.{take}
-use Rattle.dspec_ctf_sink.specs.Ending.{IsBare, TellsUntold}
+use Rattle.dspec_ctf_sink.specs.Words.{IsBare, TellsUntold}
 use Rattle.dspec_ctf_sink.proofs.ending.Untold.tell.Given as goal
 
 abbrev pub invariant-loop-cpu : goal.invariant-loop-cpu

@@ -28,7 +28,7 @@ use denote.Triple.Walked.{says, Stays, stay_dropped, walk_of, ends_at, walk_Meet
 use Rattle.dspec_ctf_sink.proofs.Walks.{none, none_made}
 use Rattle.dspec_ctf_sink.specs.contracts.told.Told as Told
 use Rattle.dspec_ctf_sink.specs.contracts.told.Answer as Answer
-use Rattle.dspec_ctf_sink.specs.Answered.{answered_by}
+use Rattle.dspec_ctf_sink.specs.Words.{answered_by}
 use Rattle.dspec_ctf_sink.specs.contracts.told.Told.then as F
 use Rattle.dspec_ctf_sink.specs.contracts.told.Told.then.Key.{name as #self}
 use Rattle.dspec_ctf_sink.proofs.told.Told.then.Statement as stated

@@ -1,6 +1,6 @@
 -- The values' words are stored as the text of the header that there is.
 use Rattle.std.proofs.Common.{◌≡◌, ℕ, length, sym, ◌∙◌, arith}
-use Rattle.dspec_record.specs.Record.{Record}
+use Rattle.dspec_probe.specs.Words.{Record}
 use Rattle.dspec_record.proofs.PackedRecords.{text-put}
 use Rattle.dspec_probe.proofs.Firing.{words-of_values, room-for_words, end-near}
 use Rattle.dspec_probe.proofs.fired.FiredRecorded.put_laid.Goals as goal

@@ -1,7 +1,7 @@
 -- The fields in front of this place are written.
 use Rattle.std.proofs.Common.{IfSome}
 use Rattle.std.specs.Fmt.{HasWritten, IsPlainFormatter}
-use Rattle.dspec_probe.specs.Telling.{told_fields}
+use Rattle.dspec_probe.specs.Words.{told_fields}
 use Rattle.dspec_probe.proofs.telling.ToldDisplay.fmt.Given as goal
 
 abbrev pub invariant-loop-place : goal.invariant-loop-place

@@ -1,14 +1,7 @@
 -- The row of the EPID at the front decides what can be read.
 use Rattle.std.proofs.Common.{◌≡◌, ◌≤◌, ◌<◌, ◌^◌, ℕ, List, Some, length, take, get_or, option_map, sym, ◌∙◌, ap, subst, arith}
 use Rattle.std.proofs.lemmas.List.{take-take}
-use Rattle.dspec_record.specs.Layout.{layout}
-use Rattle.dspec_record.specs.RecordText.{little_endian}
-use Rattle.dspec_record.specs.Reading.{front_epid, BeginsWith, NamesShape, HasNoText}
-use Rattle.dspec_record.specs.Schemas.{enabled, table_shape, table_accepts, table_text}
-use Rattle.dspec_record.specs.Laws.Layouts.{layout-IsShape}
-use Rattle.dspec_record.specs.declared.field.Field.{Field}
-use Rattle.dspec_record.specs.declared.field.Shape.{Shape}
-use Rattle.dspec_record.specs.declared.header.Header.{Header}
+use Rattle.dspec_record.specs.Words.{layout, little_endian, front_epid, BeginsWith, NamesShape, HasNoText, enabled, table_shape, table_accepts, table_text, layout-IsShape, Field, Shape, Header}
 use Rattle.dspec_record.proofs.Fronts.{little_endian-front_epid, front_epid-lt}
 use Rattle.dspec_record.proofs.Gets.{enabled-row, BeginsWith-read, no_text-unread}
 use Rattle.dspec_record.proofs.enabled.EnablingsSchema.get.Goals as goal

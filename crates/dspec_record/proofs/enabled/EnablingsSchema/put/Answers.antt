@@ -1,7 +1,6 @@
 -- No text is longer than what a buffer can reserve.
 use Rattle.std.proofs.Common.{arith}
-use Rattle.dspec_record.specs.Schemas.{enabled}
-use Rattle.dspec_record.specs.Laws.Tables.{enabled-IsLimited, table-shapes_fit, table-texts_fit}
+use Rattle.dspec_record.specs.Words.{enabled, enabled-IsLimited, table-shapes_fit, table-texts_fit}
 use Rattle.dspec_record.proofs.enabled.EnablingsSchema.put.Goals as goal
 
 pub put_recorded-requires-clause-room : goal.put_recorded-requires-clause-room

@@ -1,12 +1,6 @@
 -- The text is that of the record's own enabling, whichever the header is.
 use Rattle.std.proofs.Common.{◌≡◌, ◌≤◌, ◌+◌, IsTrue, List, ℕ, Some, length, take, sym, ◌∙◌, ap, arith}
-use Rattle.dspec_record.specs.Record.{Record}
-use Rattle.dspec_record.specs.EnablingRows.{EnabledRows}
-use Rattle.dspec_record.specs.Layout.{layout}
-use Rattle.dspec_record.specs.RecordText.{record_text}
-use Rattle.dspec_record.specs.Schemas.{table_accepts, table_text, enabling_of, enabled}
-use Rattle.dspec_record.specs.declared.field.Field.{Field}
-use Rattle.dspec_record.specs.declared.header.Header.{Header}
+use Rattle.dspec_record.specs.Words.{Record, EnabledRows, layout, record_text, table_accepts, table_text, enabling_of, enabled, Field, Header}
 use Rattle.dspec_record.proofs.Gets.{enabled-row, length-accepted, table_text-is}
 use Rattle.dspec_record.proofs.enabled.EnablingsSchema.put_recorded.Goals as goal
 

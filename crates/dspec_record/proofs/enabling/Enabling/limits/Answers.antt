@@ -1,7 +1,6 @@
 use Rattle.std.proofs.Common.{◌≤◌, List, length, map, take, sym, ◌∙◌, ap, arith}
 use Rattle.std.proofs.lemmas.List.{length-take-le}
-use Rattle.dspec_record.specs.Layout.{limit}
-use Rattle.dspec_record.specs.declared.field.Field.{Field}
+use Rattle.dspec_record.specs.Words.{limit, Field}
 use Rattle.dspec_record.proofs.Limits.{take-padded}
 use Rattle.dspec_record.proofs.enabling.Enabling.limits.Goals as goal
 

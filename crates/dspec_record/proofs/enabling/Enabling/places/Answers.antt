@@ -1,7 +1,6 @@
 use Rattle.std.proofs.Common.{◌≤◌, List, length, take, sym, ◌∙◌, ap, arith}
 use Rattle.std.proofs.lemmas.List.{length-take-le}
-use Rattle.dspec_record.specs.Layout.{field_places}
-use Rattle.dspec_record.specs.declared.field.Field.{Field}
+use Rattle.dspec_record.specs.Words.{field_places, Field}
 use Rattle.dspec_record.proofs.Places.{take-padded}
 use Rattle.dspec_record.proofs.enabling.Enabling.places.Goals as goal
 

@@ -1,10 +1,7 @@
 -- A stamp makes a record longer by its own eight bytes, and moves no alignment.
 use Rattle.std.proofs.Common.{◌≡◌, ◌+◌, ◌≤◌, ℕ, List, length, take, sym, ◌∙◌, ap, arith}
 use Rattle.std.proofs.lemmas.List.{length-take-le}
-use Rattle.dspec_record.specs.Layout.{layout}
-use Rattle.dspec_record.specs.Laws.Layouts.{layout-IsShape, size-moved}
-use Rattle.dspec_record.specs.declared.field.Field.{Field}
-use Rattle.dspec_record.specs.declared.header.Header.{Header}
+use Rattle.dspec_record.specs.Words.{layout, layout-IsShape, size-moved, Field, Header}
 use Rattle.dspec_record.specs.declared.header.Header.TheVariants.{One}
 use Rattle.dspec_record.proofs.enabling.Enabling.shape.Goals as goal
 

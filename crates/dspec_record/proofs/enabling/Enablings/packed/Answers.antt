@@ -1,11 +1,6 @@
 -- The claimed row is the record's, and the header the enablings' own.
 use Rattle.std.proofs.Common.{◌≡◌, IsTrue, List, length, Some, sym, ◌∙◌, ap, subst}
-use Rattle.dspec_record.specs.PackedFields.{packed_fields, packed_of}
-use Rattle.dspec_record.specs.Packing.{claimed}
-use Rattle.dspec_record.specs.Record.{Record}
-use Rattle.dspec_record.specs.RecordText.{stamp_fits}
-use Rattle.dspec_record.specs.Schemas.{enabled, table_accepts}
-use Rattle.dspec_record.specs.declared.field.Field.{Field}
+use Rattle.dspec_record.specs.Words.{packed_fields, packed_of, claimed, Record, stamp_fits, enabled, table_accepts, Field}
 use Rattle.dspec_record.proofs.PackedClaims.{claimed-enabled, claimed-accepted, laid-enabled}
 use Rattle.dspec_record.proofs.enabling.Enablings.packed.Goals as goal
 

@@ -1,6 +1,6 @@
 -- A list of seven values, or of eight, is what is read of it one by one.
 use Rattle.std.proofs.Common.{◌≡◌, ℕ, List, [], ◌∷◌, length, get_or, refl, ◌∙◌, ap, arith}
-use Rattle.dspec_record.specs.Record.{Record}
+use Rattle.dspec_record.specs.Words.{Record}
 use Rattle.dspec_record.proofs.record.Rec.stamped.Goals as goal
 
 seven : (vs : List ℕ) → length vs ≡ 7 → get_or vs 0 0 ∷ get_or vs 1 0 ∷ get_or vs 2 0 ∷ get_or vs 3 0 ∷ get_or vs 4 0 ∷ get_or vs 5 0 ∷ get_or vs 6 0 ∷ [] ≡ vs

@@ -1,11 +1,7 @@
 -- Every EPID but zero has a shape, and no record of twelve bytes has a gap.
 use Rattle.std.proofs.Common.{◌≡◌, ◌≢◌, ◌<◌, ◌^◌, ℕ, zero, suc, List, [], Some, take, option_map, inr, refl, sym, ◌∙◌, ap, arith}
 use Rattle.std.proofs.lemmas.List.{take-take}
-use Rattle.dspec_record.specs.Layout.{layout}
-use Rattle.dspec_record.specs.RecordText.{little_endian}
-use Rattle.dspec_record.specs.Reading.{front_epid}
-use Rattle.dspec_record.specs.Schemas.{default_fields}
-use Rattle.dspec_record.specs.declared.field.Field.{Field}
+use Rattle.dspec_record.specs.Words.{layout, little_endian, front_epid, default_fields, Field}
 use Rattle.dspec_record.specs.declared.header.Header.TheVariants.{Two}
 use Rattle.dspec_record.proofs.Fronts.{little_endian-front_epid, front_epid-lt}
 use Rattle.dspec_record.proofs.Gets.{no_text-unread}

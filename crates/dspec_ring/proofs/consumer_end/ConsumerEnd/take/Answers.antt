@@ -1,7 +1,7 @@
 use Rattle.std.proofs.Common.{◌∷◌, IfSome, subst}
 use mathlib.Core.List.{IsPrefix}
 use Rattle.rtrb.specs.Ring.{known_items}
-use Rattle.dspec_ring.specs.Known.{ConsumerKnows}
+use Rattle.dspec_ring.specs.Words.{ConsumerKnows}
 use Rattle.dspec_ring.proofs.consumer_end.ConsumerEnd.take.Goals as goal
 
 pub returns-clause-next : goal.returns-clause-next

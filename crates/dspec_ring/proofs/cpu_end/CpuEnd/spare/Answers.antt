@@ -1,7 +1,7 @@
 use Rattle.std.proofs.Common.{◌∷◌, IfSome, subst}
 use mathlib.Core.List.{IsPrefix}
 use Rattle.rtrb.specs.Ring.{known_items}
-use Rattle.dspec_ring.specs.Known.{CpuKnows}
+use Rattle.dspec_ring.specs.Words.{CpuKnows}
 use Rattle.dspec_ring.proofs.cpu_end.CpuEnd.spare.Goals as goal
 
 pub returns-clause-next : goal.returns-clause-next

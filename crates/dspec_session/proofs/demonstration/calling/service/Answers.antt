@@ -1,8 +1,5 @@
 use Rattle.std.proofs.Common.{◌++◌, ap, sym, ◌∙◌, rules}
-use Rattle.dspec_deeds.specs.Own.{calls}
-use Rattle.dspec_record.specs.EnablingRows.{EnabledRows}
-use Rattle.dspec_cpu.specs.Standing.{Identity}
-use Rattle.dspec_cpu.specs.Switching.{with_seal}
+use Rattle.dspec_session.specs.Words.{calls, EnabledRows, Identity, with_seal}
 use Rattle.dspec_session.proofs.Servings.{service_reads}
 use Rattle.dspec_session.proofs.demonstration.calling.service.Goals as goal
 

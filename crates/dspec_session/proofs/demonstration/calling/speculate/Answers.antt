@@ -1,8 +1,5 @@
 use Rattle.std.proofs.Common.{subst}
-use Rattle.dspec_record.specs.Record.{Record}
-use Rattle.dspec_cpu.specs.Calls.{spoken_deeds}
-use Rattle.dspec_cpu.specs.Lists.{number_in}
-use Rattle.dspec_session.specs.Demonstrated.{WorkerAdds}
+use Rattle.dspec_session.specs.Words.{Record, spoken_deeds, number_in, WorkerAdds}
 use Rattle.dspec_session.proofs.demonstration.calling.speculate.Goals as goal
 
 pub returns-clause-speculates : goal.returns-clause-speculates

@@ -1,9 +1,5 @@
 use Rattle.std.proofs.Common.{◌++◌, ◌+◌, ap, sym, ◌∙◌, rules, ◌<◌, arith}
-use Rattle.dspec_cpu.specs.Lists.{calls_of, config_of}
-use Rattle.dspec_deeds.specs.Own.{calls}
-use Rattle.dspec_record.specs.EnablingRows.{EnabledRows}
-use Rattle.dspec_cpu.specs.Standing.{Identity}
-use Rattle.dspec_cpu.specs.Scans.{opening_deeds}
+use Rattle.dspec_session.specs.Words.{calls_of, config_of, calls, EnabledRows, Identity, opening_deeds}
 use Rattle.dspec_session.proofs.Scanned.{opening_offers, opening_calls, not_worn}
 use Rattle.dspec_session.proofs.demonstration.calling.speculation.Goals as goal
 

@@ -1,8 +1,5 @@
 use Rattle.std.proofs.Common.{subst}
-use Rattle.dspec_record.specs.Record.{Record}
-use Rattle.dspec_cpu.specs.Calls.{traced_deeds}
-use Rattle.dspec_cpu.specs.Lists.{number_in}
-use Rattle.dspec_session.specs.Demonstrated.{WorkerAdds}
+use Rattle.dspec_session.specs.Words.{Record, traced_deeds, number_in, WorkerAdds}
 use Rattle.dspec_session.proofs.demonstration.calling.trace.Goals as goal
 
 pub returns-clause-traces : goal.returns-clause-traces

@@ -1,5 +1,5 @@
 use Rattle.std.proofs.Common.{sym, ◌∙◌}
-use Rattle.dspec_session.specs.Demonstrated.{demonstrated}
+use Rattle.dspec_session.specs.Words.{demonstrated}
 use Rattle.dspec_session.proofs.Ended.{all_told}
 use Rattle.dspec_session.proofs.demonstration.ending.end.Goals as goal
 

@@ -1,6 +1,5 @@
 use Rattle.std.proofs.Common.{◌≡◌, ℕ, true, arith}
-use Rattle.dspec_session.specs.declared.demonstration.lines.DemoLine.{DemoLine}
-use Rattle.dspec_session.specs.Results.{LineFollows, order_at}
+use Rattle.dspec_session.specs.Words.{DemoLine, LineFollows, order_at}
 use Rattle.dspec_session.proofs.Ended.{line_told}
 use Rattle.dspec_session.proofs.Fours.{at_each}
 use Rattle.dspec_session.proofs.demonstration.ending.tell.Goals as goal

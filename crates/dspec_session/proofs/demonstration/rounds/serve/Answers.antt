@@ -1,5 +1,5 @@
 use Rattle.std.proofs.Common.{◌≡◌, ◌+◌, ◌∙◌, ℕ, refl, subst, arith}
-use Rattle.dspec_session.specs.Visits.{ConsumerRounds, no_round, none_taken, one_round}
+use Rattle.dspec_session.specs.Words.{ConsumerRounds, no_round, none_taken, one_round}
 use Rattle.dspec_session.proofs.demonstration.rounds.serve.Goals as goal
 
 pub loop-round-init : goal.loop-round-init

@@ -1,6 +1,4 @@
-use Rattle.dspec_cpu.specs.Lists.{words_of}
-use Rattle.dspec_session_core.specs.Consumers.{Stays}
-use Rattle.dspec_session.specs.Visits.{ConsumerRounds, none_taken}
+use Rattle.dspec_session.specs.Words.{words_of, Stays, ConsumerRounds, none_taken}
 use Rattle.dspec_session.proofs.demonstration.rounds.serve.Given as goal
 
 abbrev pub invariant-loop-round : goal.invariant-loop-round

@@ -1,8 +1,5 @@
 use Rattle.std.proofs.Common.{◌≡◌, ℕ, List, inl, inr, refl, subst}
-use Rattle.dspec_record.specs.Schemas.{enabled, table_shape, table_accepts, table_text}
-use Rattle.dspec_session_core.specs.Asking.{Asked}
-use Rattle.dspec_session_core.specs.Consumers.{set_up_of}
-use Rattle.dspec_session.specs.Rising.{FollowsText}
+use Rattle.dspec_session.specs.Words.{enabled, table_shape, table_accepts, table_text, Asked, set_up_of, FollowsText}
 use Rattle.dspec_session.proofs.Visited.{asked_there, back_or_refused}
 use Rattle.dspec_session.proofs.demonstration.rounds.visit.Goals as goal
 

@@ -1,5 +1,6 @@
 use Rattle.std.proofs.Common.{◌≡◌, ◌+◌, ℕ, refl, subst, arith}
-use Rattle.dspec_session.specs.Demonstrated.{CpuRounds, no_round, one_round}
+use Rattle.dspec_session.specs.Words.{CpuRounds}
+use Rattle.dspec_session.specs.Demonstrated.{no_round, one_round}
 use Rattle.dspec_session.proofs.Worked.{none_worked, round_worked}
 use Rattle.dspec_session.proofs.demonstration.working.work.Goals as goal
 

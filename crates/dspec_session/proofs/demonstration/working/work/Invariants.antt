@@ -1,5 +1,5 @@
 use Rattle.std.proofs.Common.{◌*◌, true}
-use Rattle.dspec_session.specs.Demonstrated.{CpuRounds, Worked}
+use Rattle.dspec_session.specs.Words.{CpuRounds, Worked}
 use Rattle.dspec_session.proofs.demonstration.working.work.Given as goal
 
 abbrev pub invariant-loop-round : goal.invariant-loop-round

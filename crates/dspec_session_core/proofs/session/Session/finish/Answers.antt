@@ -1,14 +1,9 @@
 use Rattle.std.proofs.Common.{◌<◌, ◌≤◌, ◌∙◌, length, sym, ap, subst}
 use Rattle.std.proofs.lemmas.List.{length-reverse}
 use Rattle.dspec_deeds.proofs.SetUp.{most_cpus}
-use Rattle.dspec_table.specs.Seats.{set_up}
-use Rattle.dspec_cpu.specs.Lists.{words_of}
+use Rattle.dspec_session_core.specs.Words.{set_up, words_of, CallsMade, view_of, called_at, entered_at, taken_at, worn_at}
 use Rattle.dspec_session_core.proofs.Ends.{none_in}
 use Rattle.dspec_session_core.proofs.Ending.{some_lists, begins_parting, finished}
-use Rattle.dspec_cpu.specs.Called.{CallsMade}
-use Rattle.dspec_session_core.specs.Consumers.{view_of}
-use Rattle.dspec_session_core.specs.Promised.{called_at, entered_at}
-use Rattle.dspec_session_core.specs.Sessions.{taken_at, worn_at}
 use Rattle.dspec_session_core.proofs.PromisedBy.{there_is, called_there, entered_there, same_worn, had_tells, page_alone, promised_with}
 use Rattle.dspec_session_core.proofs.session.Session.finish.Goals as goal
 

@@ -1,7 +1,6 @@
 use Rattle.std.proofs.Common.{◌<◌, ◌∙◌, List, length, sym, ap, subst, arith}
 use Rattle.std.specs.Prelude.{Some, All}
-use Rattle.dspec_ring.specs.Known.{CpuKnows, ConsumerKnows, IsUnusedCpu, IsUnusedConsumer}
-use Rattle.dspec_table.specs.Seats.{known_there}
+use Rattle.dspec_session_core.specs.Words.{CpuKnows, ConsumerKnows, IsUnusedCpu, IsUnusedConsumer, known_there}
 use Rattle.dspec_session_core.proofs.Begins.{none_begun, one_begun, next_seat, all_begun, seats_wait}
 use Rattle.dspec_session_core.proofs.session.Session.on_words.Goals as goal
 

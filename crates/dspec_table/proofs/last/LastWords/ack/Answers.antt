@@ -1,6 +1,6 @@
 use Rattle.std.proofs.Common.{◌∙◌, sym, ap}
 use Rattle.std.specs.Prelude.{slice_index}
-use Rattle.dspec_table.specs.Last.{last_words}
+use Rattle.dspec_table.specs.Words.{last_words}
 use Rattle.dspec_table.proofs.AtEnd.{got_is}
 use Rattle.dspec_table.proofs.last.LastWords.ack.Goals as goal
 

@@ -1,8 +1,6 @@
 use Rattle.std.proofs.Common.{◌∙◌, sym, ap, subst}
 use Rattle.std.specs.Prelude.{slice_index}
-use Rattle.dspec_deeds.specs.History.{word_at}
-use Rattle.dspec_table.specs.Last.{last_words}
-use Rattle.dspec_table.specs.Showing.{IsWordNumber}
+use Rattle.dspec_table.specs.Words.{word_at, last_words, IsWordNumber}
 use Rattle.dspec_table.proofs.AtEnd.{got_is}
 use Rattle.dspec_word.proofs.Numbers.{one_word}
 use Rattle.dspec_table.proofs.last.LastWords.word.Goals as goal

@@ -1,7 +1,6 @@
 use Rattle.std.proofs.Common.{◌≡◌, true, subst, sym, refl, ap, ◌∙◌}
-use Rattle.dspec_deeds.specs.History.{word_at}
+use Rattle.dspec_table.specs.Words.{word_at, Holder, same_holder}
 use Rattle.dspec_table.proofs.Waiting.{awaited_stands}
-use Rattle.dspec_table.specs.Holders.{Holder, same_holder}
 use Rattle.dspec_table.proofs.Looking.{looks_ack}
 use Rattle.dspec_table.proofs.Places.{ack_within}
 use Rattle.dspec_table.proofs.seats.ConsumerSeat.load_ack.Goals as goal

@@ -1,10 +1,7 @@
 use Rattle.std.proofs.Common.{ℕ, ◌≡◌, true, ◌≤◌, ◌^◌, subst, sym, refl, ◌∙◌}
-use Rattle.dspec_word.specs.Word.{SlotState}
+use Rattle.dspec_table.specs.Words.{SlotState, Holder, same_holder, LookedWord, LookedNumber, known_there}
 use Rattle.dspec_deeds.specs.declared.config.Config.{Config}
 use Rattle.dspec_table.proofs.Places.{slot_within, slot_there}
-use Rattle.dspec_table.specs.Holders.{Holder, same_holder}
-use Rattle.dspec_table.specs.Steps.{LookedWord, LookedNumber}
-use Rattle.dspec_table.specs.Seats.{known_there}
 use Rattle.dspec_word.proofs.Numbers.{one_word}
 use Rattle.dspec_table.proofs.Limits.{finds_word}
 use Rattle.dspec_table.proofs.Looking.{looks_word}

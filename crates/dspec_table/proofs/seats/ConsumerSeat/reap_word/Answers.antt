@@ -1,12 +1,8 @@
 use Rattle.std.proofs.Common.{ℕ, ◌==◌, ◌≤◌, ◌^◌, ◌≡◌, true, ap, sym, subst, ◌∙◌, arith}
-use Rattle.dspec_word.specs.Code.{awaits}
-use Rattle.dspec_word.specs.Word.{SlotState}
-use Rattle.dspec_table.specs.Steps.{ReapedNumber}
+use Rattle.dspec_table.specs.Words.{awaits, SlotState, ReapedNumber, word_number, released, known_there}
 use Rattle.dspec_table.proofs.Places.{slot_within, slot_there}
 use Rattle.dspec_table.proofs.Waiting.{reaped_found}
-use Rattle.dspec_word.specs.Word.{word_number, released}
 use Rattle.dspec_deeds.specs.declared.config.Config.{Config}
-use Rattle.dspec_table.specs.Seats.{known_there}
 use Rattle.dspec_table.proofs.Limits.{finds_word}
 use Rattle.dspec_table.proofs.Reaping.{reaps, awaited_below}
 use Rattle.dspec_table.proofs.Answered.{reaped_hit}

@@ -1,8 +1,6 @@
 use Rattle.std.proofs.Common.{ℕ, subst, Result, Ok, Err, ap, sym, ◌∙◌}
 use Rattle.std.specs.Prelude.{IfOk, MatchResult}
-use Rattle.dspec_table.specs.Holders.{of_cpu}
-use Rattle.dspec_table.specs.Conditions.{MayLoad}
-use Rattle.dspec_table.specs.Seats.{known}
+use Rattle.dspec_table.specs.Words.{of_cpu, MayLoad, known}
 use Rattle.dspec_table.proofs.Commits.{releases_next}
 use Rattle.dspec_table.proofs.seats.CpuSeat.decide_word.Goals as goal
 

@@ -1,10 +1,7 @@
 use Rattle.std.proofs.Common.{ℕ, ◌≡◌, ◌==◌, true, ◌≤◌, ◌^◌, sym, ap, subst, ◌∙◌}
-use Rattle.dspec_word.specs.Word.{word_number}
+use Rattle.dspec_table.specs.Words.{word_number, OpenedNumber, known, as_active}
 use Rattle.dspec_deeds.specs.declared.config.Config.{Config}
-use Rattle.dspec_table.specs.Steps.{OpenedNumber}
 use Rattle.dspec_table.proofs.Places.{slot_within, slot_there}
-use Rattle.dspec_table.specs.Seats.{known}
-use Rattle.dspec_table.specs.Conditions.{as_active}
 use Rattle.dspec_word.proofs.Numbers.{one_word}
 use Rattle.dspec_table.proofs.Limits.{finds_word}
 use Rattle.dspec_table.proofs.Grows.{shown_greater}

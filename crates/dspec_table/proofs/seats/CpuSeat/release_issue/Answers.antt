@@ -1,5 +1,5 @@
 use Rattle.std.proofs.Common.{◌<◌, ◌∙◌, ap, sym, subst, arith}
-use Rattle.dspec_word.specs.Word.{word_number}
+use Rattle.dspec_table.specs.Words.{word_number}
 use Rattle.dspec_deeds.specs.declared.config.Config.{Config}
 use Rattle.dspec_table.proofs.Places.{slot_within, slot_there}
 use Rattle.dspec_table.proofs.Releases.{gives_back}

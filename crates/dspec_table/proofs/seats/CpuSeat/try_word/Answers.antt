@@ -1,7 +1,6 @@
 use Rattle.std.proofs.Common.{◌≤◌, ◌^◌, sym, ap, subst, ◌∙◌}
-use Rattle.dspec_word.specs.Word.{word_number}
+use Rattle.dspec_table.specs.Words.{word_number, known}
 use Rattle.dspec_deeds.specs.declared.config.Config.{Config}
-use Rattle.dspec_table.specs.Seats.{known}
 use Rattle.dspec_word.proofs.Numbers.{one_word}
 use Rattle.dspec_table.proofs.Limits.{finds_word}
 use Rattle.dspec_table.proofs.Grows.{shown_greater}

@@ -1,8 +1,6 @@
 -- As many services as rounds.
 use Rattle.std.proofs.Common.{◌≡◌}
-use Rattle.dspec_cpu.specs.Lists.{HasList}
-use Rattle.dspec.specs.Lanes.{place_of}
-use Rattle.dspec_threads.specs.Waits.{ServesTimes}
+use Rattle.dspec_threads.specs.Words.{HasList, place_of, ServesTimes}
 use Rattle.dspec_threads.proofs.barrier.Barrier.wait.Given as goal
 
 abbrev pub invariant-loop : goal.invariant-loop

@@ -1,5 +1,5 @@
 use Rattle.std.proofs.Common.{◌≤◌, ◌∙◌, ap, arith}
-use Rattle.dspec_threads.specs.Settled.{settled_by}
+use Rattle.dspec_threads.specs.Words.{settled_by}
 use Rattle.dspec_threads.proofs.MoreWaits.{attends_no_more, attends_once_more, first_of_first, first_of_longer}
 use Rattle.dspec_threads.proofs.ends.Taker.take_settling.Goals as goal
 

@@ -1,11 +1,7 @@
 -- As many looks in vain as rounds, and nothing was taken; what was seen to be said before is settled behind the first.
 use Rattle.std.proofs.Common.{◌≡◌, ◌<◌, ◌++◌}
 use mathlib.Core.List.{IsPrefix}
-use Rattle.dspec_cpu.specs.Lists.{HasList}
-use Rattle.dspec.specs.Lanes.{place_of}
-use Rattle.dspec_threads.specs.Attends.{AttendsTimes}
-use Rattle.dspec_threads.specs.Belts.{taken_by, taken_from_belt}
-use Rattle.dspec_threads.specs.Settled.{seen_by, settled_by, settled_from}
+use Rattle.dspec_threads.specs.Words.{HasList, place_of, AttendsTimes, taken_by, taken_from_belt, seen_by, settled_by, settled_from}
 use Rattle.dspec_threads.proofs.ends.Taker.take_settling.Given as goal
 
 abbrev pub invariant-loop : goal.invariant-loop

@@ -1,9 +1,6 @@
 -- As many services as rounds, and nothing was taken.
 use Rattle.std.proofs.Common.{◌≡◌}
-use Rattle.dspec_cpu.specs.Lists.{HasList}
-use Rattle.dspec.specs.Lanes.{place_of}
-use Rattle.dspec_threads.specs.Belts.{taken_by, taken_from_belt}
-use Rattle.dspec_threads.specs.Waits.{ServesTimes}
+use Rattle.dspec_threads.specs.Words.{HasList, place_of, taken_by, taken_from_belt, ServesTimes}
 use Rattle.dspec_threads.proofs.ends.Taker.take_within.Given as goal
 
 abbrev pub invariant-loop : goal.invariant-loop

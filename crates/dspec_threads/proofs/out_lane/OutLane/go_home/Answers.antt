@@ -1,10 +1,7 @@
 use Rattle.std.proofs.Common.{sym, subst}
 use Rattle.rtrb.specs.Ring.{sent}
-use Rattle.dspec_record.specs.EnablingRows.{EnabledRows}
+use Rattle.dspec_threads.specs.Words.{EnabledRows, called, number_in, WentHome}
 use Rattle.dspec_cpu.specs.declared.cpu.Cpu.{Cpu}
-use Rattle.dspec_cpu.specs.Called.{called}
-use Rattle.dspec_cpu.specs.Lists.{number_in}
-use Rattle.dspec_threads.specs.Homes.{WentHome}
 use Rattle.dspec_threads.proofs.Homes.{has_gone, may_go}
 use Rattle.dspec_threads.proofs.out_lane.OutLane.go_home.Goals as goal
 

@@ -1,29 +1,18 @@
 use Rattle.std.proofs.Common.{◌≡◌, ◌<◌, ℕ, List, sym, ap, ◌∙◌, subst}
 use Rattle.std.specs.Arc.{arc_value}
-use Rattle.dspec_record.specs.EnablingRows.{EnabledRows}
-use Rattle.dspec_record.specs.Schemas.{enabled, table_shape, table_accepts, table_text}
+use Rattle.dspec_threads.specs.Words.{EnabledRows, enabled, table_shape, table_accepts, table_text, set_up, words_of, ClosesAs, view_of, Has, IsPromisedBy, called_at, entered_at, HasAt, IsSession}
+use Rattle.dspec_threads.specs.Words.{taken_at, worn_at, ThenServed, IsOneList, IsTraced, AllIn, NothingOrDone, RunningSession}
 use Rattle.dspec_deeds.specs.declared.config.Config.{Config}
 use Rattle.dspec_deeds.specs.declared.deed.Deed.{Deed}
 use Rattle.dspec_table.specs.declared.rule.View.{View}
-use Rattle.dspec_table.specs.Seats.{set_up}
 use Rattle.dspec_cpu.specs.declared.shared.Shared.{Shared}
-use Rattle.dspec_cpu.specs.Lists.{words_of}
 use Rattle.dspec_session_core.specs.declared.session.Session.{Session}
-use Rattle.dspec_session_core.specs.Closing.{ClosesAs}
-use Rattle.dspec_session_core.specs.Consumers.{view_of}
-use Rattle.dspec_session_core.specs.Leaving.{Has}
-use Rattle.dspec_session_core.specs.Promised.{IsPromisedBy, called_at, entered_at}
-use Rattle.dspec_session_core.specs.Sessions.{HasAt, IsSession, taken_at, worn_at}
-use Rattle.dspec.specs.Serving.{ThenServed}
-use Rattle.dspec.specs.Traced.{IsOneList, IsTraced}
 use Rattle.dspec.proofs.Tracing.{by_one_list, kept_alone, traced}
-use Rattle.dspec_threads.specs.Places.{AllIn, NothingOrDone}
-use Rattle.dspec_threads.specs.Runs.{Run}
 use Rattle.dspec_threads.proofs.Runs.{session_again, stands}
 use Rattle.dspec_threads.proofs.running.Running.close.Goals as goal
 
 pub cpus_of-cpus-requires-clause-inside : goal.cpus_of-cpus-requires-clause-inside
-cpus_of-cpus-requires-clause-inside g c = subst (λ (r : Run g.row.K.Denot). AllIn r.home) (sym c.self.view_is) c.requires
+cpus_of-cpus-requires-clause-inside g c = subst (λ (r : RunningSession g.row.K.Denot). AllIn r.home) (sym c.self.view_is) c.requires
 
 pub finish-closed-requires : goal.finish-closed-requires
 finish-closed-requires g c =
@@ -58,7 +47,7 @@ returns-clause-traced g c =
     (is.all ∙ ap (λ (k : Config). k.cpus) same) (ap (λ (v : View). v.own) run.first_view) (λ n cpu at. (stand n cpu at).0.number) (λ n cpu at. (stand n cpu at).1)
     (subst (λ (k : Config). IsPromisedBy (shape schema) (accepts schema) (text schema) k (entered_at back) (view_of s.consumer).own
     (called_at back) (taken_at s.consumer) c.finish-closed.result) same (c.finish-closed.ensures.promised schema is)) in
-    subst (λ (r : Run g.row.K.Denot). IsTraced (g.K.Sink.gets r.schema) does (shape r.schema) (accepts r.schema) (text r.schema) r.config r.began
+    subst (λ (r : RunningSession g.row.K.Denot). IsTraced (g.K.Sink.gets r.schema) does (shape r.schema) (accepts r.schema) (text r.schema) r.config r.began
     c.finish-closed.result c.pass_rests.new.sink) c.self.view_is here
 
 pub returns-clause-keeps : goal.returns-clause-keeps
@@ -90,5 +79,5 @@ returns-clause-one_list g c =
     × ((promised : IsPromisedBy (shape schema) (accepts schema) (text schema) k (entered_at back) (view_of s.consumer).own (called_at back)
     (taken_at s.consumer) c.finish-closed.result) × (promised.deeds ≡ h))) same
     (c.finish-closed.ensures.one_list schema is)) in
-    subst (λ (r : Run g.row.K.Denot). IsOneList (g.K.Sink.gets r.schema) does (shape r.schema) (accepts r.schema) (text r.schema) r.config r.began
+    subst (λ (r : RunningSession g.row.K.Denot). IsOneList (g.K.Sink.gets r.schema) does (shape r.schema) (accepts r.schema) (text r.schema) r.config r.began
     c.finish-closed.result c.pass_rests.new.sink) c.self.view_is here

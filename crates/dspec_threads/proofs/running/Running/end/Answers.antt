@@ -1,21 +1,18 @@
 use Rattle.std.proofs.Common.{IfOk, subst}
-use Rattle.dspec.specs.Serving.{ThenServed}
-use Rattle.dspec.specs.Traced.{IsKeptWith, IsOneListWith, IsTracedWith}
-use Rattle.dspec_threads.specs.Places.{NothingOrDone}
-use Rattle.dspec_threads.specs.Runs.{Run}
+use Rattle.dspec_threads.specs.Words.{ThenServed, IsKeptWith, IsOneListWith, IsTracedWith, NothingOrDone, RunningSession}
 use Rattle.dspec_threads.proofs.running.Running.end.Goals as goal
 
 pub returns-clause-keeps : goal.returns-clause-keeps
 returns-clause-keeps g c =
-    subst (λ (r : Run g.row.K.Denot). IfOk c.close.result (λ s. IsKeptWith r.schema (g.K.Sink.gets r.schema) (ThenServed (NothingOrDone g.D.Duty.done)) r.config r.began s.0 s.1))
+    subst (λ (r : RunningSession g.row.K.Denot). IfOk c.close.result (λ s. IsKeptWith r.schema (g.K.Sink.gets r.schema) (ThenServed (NothingOrDone g.D.Duty.done)) r.config r.began s.0 s.1))
     c.is_home.ensures.same.same c.close.ensures.keeps
 
 pub returns-clause-traced : goal.returns-clause-traced
 returns-clause-traced g c =
-    subst (λ (r : Run g.row.K.Denot). IfOk c.close.result (λ s. IsTracedWith r.schema (g.K.Sink.gets r.schema) (ThenServed (NothingOrDone g.D.Duty.done)) r.config r.began s.0 s.1))
+    subst (λ (r : RunningSession g.row.K.Denot). IfOk c.close.result (λ s. IsTracedWith r.schema (g.K.Sink.gets r.schema) (ThenServed (NothingOrDone g.D.Duty.done)) r.config r.began s.0 s.1))
     c.is_home.ensures.same.same c.close.ensures.traced
 
 pub returns-clause-one_list : goal.returns-clause-one_list
 returns-clause-one_list g c =
-    subst (λ (r : Run g.row.K.Denot). IfOk c.close.result (λ s. IsOneListWith r.schema (g.K.Sink.gets r.schema) (ThenServed (NothingOrDone g.D.Duty.done)) r.config r.began s.0 s.1))
+    subst (λ (r : RunningSession g.row.K.Denot). IfOk c.close.result (λ s. IsOneListWith r.schema (g.K.Sink.gets r.schema) (ThenServed (NothingOrDone g.D.Duty.done)) r.config r.began s.0 s.1))
     c.is_home.ensures.same.same c.close.ensures.one_list

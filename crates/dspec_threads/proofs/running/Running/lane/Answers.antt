@@ -2,8 +2,7 @@ use Rattle.std.proofs.Common.{◌≤◌, IfOk, Ok, None, refl, length, subst, ar
 use Rattle.std.specs.Arc.{arc_value}
 use Rattle.std.specs.Prelude.{IfSome}
 use Rattle.std.proofs.lemmas.List.{length-map}
-use Rattle.dspec_threads.specs.Places.{EachPair, KeepsPlace, LooksAndSends, StaysIn, Whereabouts, all_whereabouts, whereabouts, who_is_in}
-use Rattle.dspec_threads.specs.Runs.{HandsLane, IsLaneOf, Run}
+use Rattle.dspec_threads.specs.Words.{EachPair, KeepsPlace, LooksAndSends, StaysIn, Whereabouts, all_whereabouts, whereabouts, who_is_in, HandsLane, IsLaneOf, RunningSession}
 use Rattle.dspec_threads.proofs.Pairs.{pair_count}
 use Rattle.dspec_threads.proofs.Whereabouts.{one_placed, seen_behind, seen_handed, seen_later, sends_keeps}
 use Rattle.dspec_threads.proofs.Runs.{lane_sent, later_so, none_handed, of_run, placed_later}
@@ -32,7 +31,7 @@ returns-clause-hands g c =
     record {
       same = later_so _ _ _ _ _ _ _ _ c.self.view_is;
       looked = seen_behind done a c.args.number _ _ c.send_out_at.ensures;
-      later = subst (λ (r : Run g.row.K.Denot). EachPair StaysIn r.home (seen_behind done a c.args.number _ _ c.send_out_at.ensures)) c.self.view_is
+      later = subst (λ (r : RunningSession g.row.K.Denot). EachPair StaysIn r.home (seen_behind done a c.args.number _ _ c.send_out_at.ensures)) c.self.view_is
           (seen_later done a c.args.number _ _ c.send_out_at.ensures);
       hands = seen_handed done a c.args.number _ _ c.send_out_at.ensures;
     }
@@ -46,9 +45,9 @@ returns-then-index-len-clause-hands g c =
       length-map c.self.inside.places.items whereabouts,
       length-map (all_whereabouts c.self.inside.places.items) (λ (w : Whereabouts). w.inside),
     ) in
-    subst (λ (r : Run g.row.K.Denot). HandsLane c.args.number (Ok None) r r) c.self.view_is (none_handed c.args.number _ _ refl past)
+    subst (λ (r : RunningSession g.row.K.Denot). HandsLane c.args.number (Ok None) r r) c.self.view_is (none_handed c.args.number _ _ refl past)
 
 pub returns-clause-lane : goal.returns-clause-lane
 returns-clause-lane g c =
-    subst (λ (r : Run g.row.K.Denot). IfOk c.send_out_at.result (λ o. IfSome o (λ lane. IsLaneOf g.D.Duty.done r.schema c.args.number lane))) c.self.view_is
+    subst (λ (r : RunningSession g.row.K.Denot). IfOk c.send_out_at.result (λ o. IfSome o (λ lane. IsLaneOf g.D.Duty.done r.schema c.args.number lane))) c.self.view_is
     (lane_sent (g.K.Sink.gets c.self.inside.schema) g.D.Duty.done c.send_out_at.result (arc_value c.self.inside.common.shared) _ _ c.args.number _ _ _ _ _ c.self.invariant.0 c.send_out_at.ensures)

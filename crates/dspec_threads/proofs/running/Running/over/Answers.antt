@@ -1,10 +1,8 @@
 use Rattle.std.proofs.Common.{ap, length, refl, arith}
 use Rattle.std.specs.Arc.{arc_value}
 use Rattle.std.proofs.lemmas.List.{length-map}
-use Rattle.dspec_table.specs.Seats.{set_up}
+use Rattle.dspec_threads.specs.Words.{set_up, words_of, all_whereabouts, waits_inside, whereabouts, who_is_in}
 use Rattle.dspec_cpu.specs.declared.shared.Shared.{Shared}
-use Rattle.dspec_cpu.specs.Lists.{words_of}
-use Rattle.dspec_threads.specs.Places.{all_whereabouts, waits_inside, whereabouts, who_is_in}
 use Rattle.dspec_threads.proofs.Runs.{all_at_home}
 use Rattle.dspec_threads.proofs.running.Running.over.Goals as goal
 

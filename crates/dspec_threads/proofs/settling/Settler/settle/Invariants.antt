@@ -2,9 +2,7 @@
 use Rattle.std.proofs.Common.{◌≡◌, ◌+◌, ◌++◌, length}
 use mathlib.Core.List.{IsPrefix}
 use Rattle.rtrb.specs.Ring.{known_items}
-use Rattle.dspec_cpu.specs.Lists.{HasList}
-use Rattle.dspec.specs.Lanes.{place_of}
-use Rattle.dspec_threads.specs.Settled.{SettlesNext, seen_by, settled_by, settled_from}
+use Rattle.dspec_threads.specs.Words.{HasList, place_of, SettlesNext, seen_by, settled_by, settled_from}
 use Rattle.dspec_threads.proofs.settling.Settler.settle.Given as goal
 
 abbrev pub invariant-loop : goal.invariant-loop

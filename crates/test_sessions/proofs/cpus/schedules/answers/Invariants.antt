@@ -1,7 +1,5 @@
 use Rattle.std.proofs.Common.{◌≡◌}
-use Rattle.dspec_table.specs.Seats.{IsConsumerAt}
-use Rattle.dspec_cpu.specs.Lists.{schema_of, words_of}
-use Rattle.dspec_cpu.specs.Standing.{Belongs, identity}
+use Rattle.test_sessions.specs.Words.{IsConsumerAt, schema_of, words_of, Belongs, identity}
 use Rattle.test_sessions.proofs.cpus.schedules.answers.Given as goal
 
 abbrev pub invariant-loop-turn : goal.invariant-loop-turn

@@ -1,7 +1,6 @@
 -- What was demonstrated is a session of its schema.
 use Rattle.std.proofs.Common.{sym, subst}
-use Rattle.dspec_record.specs.EnablingRows.{EnabledRows}
-use Rattle.dspec_session_core.specs.Sessions.{IsSession}
+use Rattle.test_sessions.specs.Words.{EnabledRows, IsSession}
 use Rattle.test_sessions.proofs.sessions.demonstrated.ends.Goals as goal
 
 pub is_stopped-requires : goal.is_stopped-requires

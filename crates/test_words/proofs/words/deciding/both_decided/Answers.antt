@@ -1,7 +1,5 @@
 use Rattle.std.proofs.Common.{ℕ, true, false, ◌∙◌, sym, subst}
-use Rattle.dspec_table.specs.Conditions.{MayTry, IsDeciding}
-use Rattle.dspec_table.specs.Seats.{known}
-use Rattle.test_words.specs.Calls.{Unused}
+use Rattle.test_words.specs.Words.{MayTry, IsDeciding, known, Unused}
 use Rattle.test_words.proofs.Turns.{commits, discards, tried_rests}
 use Rattle.test_words.proofs.words.deciding.both_decided.Goals as goal
 

@@ -1,4 +1,4 @@
-use Rattle.dspec_table.specs.Seats.{known}
+use Rattle.test_words.specs.Words.{known}
 use Rattle.dspec_table.proofs.Flights.{tries_again}
 use Rattle.test_words.proofs.words.deciding.shown.Goals as goal
 

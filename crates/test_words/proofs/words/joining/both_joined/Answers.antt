@@ -1,6 +1,5 @@
 use Rattle.std.proofs.Common.{ℕ, ◌∙◌, sym, subst}
-use Rattle.dspec_table.specs.Conditions.{MayTry, MayLoad, joined_word}
-use Rattle.dspec_table.specs.Seats.{known}
+use Rattle.test_words.specs.Words.{MayTry, MayLoad, joined_word, known}
 use Rattle.dspec_table.proofs.Flights.{tries_again}
 use Rattle.test_words.proofs.Turns.{joins}
 use Rattle.test_words.proofs.words.joining.both_joined.Goals as goal

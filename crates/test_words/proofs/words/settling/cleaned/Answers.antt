@@ -1,5 +1,5 @@
 use Rattle.std.proofs.Common.{◌∙◌, sym, arith}
-use Rattle.dspec_table.specs.Seats.{known_there}
+use Rattle.test_words.specs.Words.{known_there}
 use Rattle.test_words.proofs.Turns.{both_acked, reaps_waits}
 use Rattle.test_words.proofs.words.settling.cleaned.Goals as goal
 

@@ -1,10 +1,6 @@
 use Rattle.std.proofs.Common.{◌≡◌, ◌∙◌, not, sym, subst, arith}
 use Rattle.dspec_deeds.specs.declared.config.Config.{Config}
-use Rattle.dspec_deeds.specs.History.{word_at}
-use Rattle.dspec_table.specs.Last.{last_words}
-use Rattle.dspec_table.specs.Seats.{known_there}
-use Rattle.dspec_table.specs.Showing.{Shows}
-use Rattle.test_words.specs.Opener.{given_out}
+use Rattle.test_words.specs.Words.{word_at, last_words, known_there, Shows, given_out}
 use Rattle.test_words.proofs.OneOpener.{raced}
 use Rattle.test_words.proofs.words.threads.raced.Given.{Over}
 use Rattle.test_words.proofs.words.threads.raced.Goals as goal

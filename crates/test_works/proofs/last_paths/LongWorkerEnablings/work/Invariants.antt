@@ -1,6 +1,6 @@
 -- It is the same lane.
 use Rattle.std.proofs.Common.{◌≡◌}
-use Rattle.dspec.specs.Lanes.{place_of}
+use Rattle.test_works.specs.Words.{place_of}
 use Rattle.test_works.proofs.last_paths.LongWorkerEnablings.work.Given as goal
 
 abbrev pub invariant-loop-number : goal.invariant-loop-number

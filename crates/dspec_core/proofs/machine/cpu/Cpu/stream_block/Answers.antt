@@ -2,9 +2,7 @@
 use Rattle.std.proofs.Common.{◌≡◌, true, List, [], ◌∷◌, ◌++◌, map, reverse, refl, sym, ap, ◌∙◌, subst, true≢false}
 use Rattle.std.specs.Prelude.{if◌then◌else◌, length}
 use Rattle.std.proofs.lemmas.Option.{slice_get_read}
-use Rattle.dspec_record.specs.Record.{Record}
-use Rattle.dspec_buffer.specs.Extent.{one, records}
-use Rattle.dspec_deeds.specs.FateKinds.{is_copied}
+use Rattle.dspec_core.specs.Words.{Record, one, records, is_copied}
 use Rattle.dspec_core.proofs.OwnSlots.{on_ok}
 use Rattle.dspec_core.proofs.machine.cpu.Cpu.stream_block.Goals as goal
 use Rattle.dspec_core.proofs.machine.cpu.Cpu.stream_block.Goals.{in-Copied, in_default}

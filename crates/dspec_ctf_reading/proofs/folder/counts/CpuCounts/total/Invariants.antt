@@ -1,6 +1,6 @@
 use Rattle.std.proofs.Common.{◌≡◌, take}
 use Rattle.std.specs.List.{sum}
-use Rattle.dspec_ctf_reading.specs.Folders.Counts.{up_to_64}
+use Rattle.dspec_ctf_reading.specs.Words.{up_to_64}
 use Rattle.dspec_ctf_reading.proofs.folder.counts.CpuCounts.total.Given as goal
 
 abbrev pub invariant-loop-count : goal.invariant-loop-count

@@ -1,5 +1,5 @@
 use Rattle.std.proofs.Common.{◌≡◌, length}
-use Rattle.dspec_session.specs.Rising.{with_records}
+use Rattle.dspec_session.specs.Words.{with_records}
 use Rattle.dspec_session.proofs.demonstration.order.Order.follow_all.Given as goal
 
 abbrev pub invariant-loop-rec : goal.invariant-loop-rec

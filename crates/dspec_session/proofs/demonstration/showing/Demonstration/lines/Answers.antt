@@ -1,6 +1,5 @@
 use Rattle.std.proofs.Common.{subst}
-use Rattle.dspec_record.specs.EnablingRows.{EnabledRows}
-use Rattle.dspec_session.specs.Results.{AllFollow}
+use Rattle.dspec_session.specs.Words.{EnabledRows, AllFollow}
 use Rattle.dspec_session.proofs.demonstration.showing.Demonstration.lines.Goals as goal
 
 pub returns-clause-ordered : goal.returns-clause-ordered

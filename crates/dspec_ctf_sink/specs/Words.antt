@@ -1,0 +1,19 @@
+-- Serves proofs. The words of this crate for its proofs and for the crates above, in one place. Declares nothing.
+pub mod Outside
+unfoldable pub use Outside.*
+pub use Rattle.dspec_ctf_sink.specs.Accounts.{Accounts, missed_on, TimedAccounts}
+pub use Rattle.dspec_ctf_sink.specs.Answered.{answered_by}
+pub use Rattle.dspec_ctf_sink.specs.Asked.{asked_then}
+pub use Rattle.dspec_ctf_sink.specs.Ending.{GetsTelling, GetsTellings, IsBare, IsTelling, TellsUntold, untold}
+pub use Rattle.dspec_ctf_sink.specs.Held.{FilesHave, HasWritten, HaveBesides, Held, IsCut, IsFileAt, IsLong, IsNotAmong, KeepsInFront, LeavesFile}
+pub use Rattle.dspec_ctf_sink.specs.Losses.{capped, HasSoManyRecords, lost_more, missed_more}
+pub use Rattle.dspec_ctf_sink.specs.Places.{written_in}
+pub use Rattle.dspec_ctf_sink.specs.Timed.{AddsAll, AddsBatch, AddsRun, AddsRuns, CpuFiles, GetsRuns, HasNoRuns, IsBatchLoss, IsTimedBegun, LosesBatch, LosesRuns, row_name, StopsRun, StopsRuns}
+pub use Rattle.dspec_ctf_sink.specs.Timed.{TakesAll, TellsMissed, TellsNone, TimedTracing}
+pub use Rattle.dspec_ctf_sink.specs.Writes.{brought_to, file_of, FileWrite, IsNotTaken, Refuses, Takes}
+pub use Rattle.dspec_ctf_sink.specs.Writing.{AddsPacket, AreNextOf, CountsLost, cpu_name, GetsPacket, IsBatchFault, IsBegun, IsNextPacket, IsNothing, LosesPacket, Tracing, whole_loss}
+pub use Rattle.dspec_ctf_sink.specs.contracts.asked.Asked.{the_row, the_type}
+pub use Rattle.dspec_ctf_sink.specs.contracts.asked.Asked.none.Key.{name as #self}
+pub use Rattle.dspec_ctf_sink.specs.declared.fault.FolderFault.{FolderFault}
+pub use Rattle.dspec_ctf_sink.specs.declared.fault.FolderFault.TheVariants.{Cpu, Cut, Memory, Metadata, NotEmpty, Packet, Read, Write}
+pub use Rattle.dspec_ctf_sink.specs.declared.losing.Loss.{Loss}

@@ -1,0 +1,12 @@
+-- Serves proofs. Words from the crates below, in one place. Declares nothing.
+pub use Rattle.dspec_record.specs.Words.{enabled, EnabledRows, Record, table_accepts, table_shape, table_text}
+pub use Rattle.dspec_buffer.specs.Words.{BufferText}
+pub use Rattle.dspec_word.specs.Words.{settle_at, SlotState, Speculation}
+pub use Rattle.dspec_deeds.specs.Words.{ack, calls, id_given, is_granted, offers, records_of_report, word_at}
+pub use Rattle.dspec_interleaving.specs.Words.{own_closed, own_closed_slot}
+pub use Rattle.dspec_table.specs.Words.{known, set_up}
+pub use Rattle.dspec_ring.specs.Words.{Pair}
+pub use Rattle.dspec_cpu.specs.Words.{buffers_of, calls_of, config_of, decided_deeds, Identity, identity, is_worn_opening, IsCallable, misses, number_in, opening_deeds, schema_of, seat_of, Serves}
+pub use Rattle.dspec_cpu.specs.Words.{SettledBehind, SettledSlots, spoken_deeds, traced_deeds, with_seal, words_of, worn_of}
+pub use Rattle.dspec_session_core.specs.Words.{Asked, Cleaned, Consuming, FoundNone, GaveBack, Has, HasAt, IsClosedBy, IsConsumerOf, IsCpuOf, IsFresh, IsLeftBy, IsNotTakenBack, IsSameConsumer}
+pub use Rattle.dspec_session_core.specs.Words.{IsSession, pairs_of, set_up_of, Stays, Stopped, taken_at, Took, view_of, worn_at}

@@ -1,0 +1,67 @@
+-- What a CPU's batches carry as drops, and how many records came out of it, is what its report counts.
+use Rattle.std.proofs.Common.{◌≡◌, ◌+◌, ◌==◌, ◌&&◌, ℕ, Bool, true, false, if◌then◌else◌, List, [], ◌∷◌, ◌++◌, Option, refl, sym, ap, ◌∙◌, subst, arith, length, reverse, append_assoc}
+use Rattle.std.proofs.lemmas.List.{length-reverse, reverse-append}
+use Rattle.dspec_trace_reading.specs.Words.{Record, CallsMade, waiting, IsPromised, left_batches, drops_carried, Did, Handed, cpu_stream, handed, number, of, taken, Speculation, IsLegal, IsOwn}
+use Rattle.dspec_trace_reading.specs.Words.{batches, drops_of, growing, is_drop, one_if, part, total, AreSealed, IsLeftBy}
+use Rattle.dspec_record.specs.declared.field.Shape.{Shape}
+use Rattle.dspec_deeds.specs.declared.config.Config.{Config}
+use Rattle.dspec_deeds.specs.declared.calls.Actor.TheVariants.{Cpu}
+use Rattle.dspec_deeds.specs.declared.deed.DecideFate.{DecideFate}
+use Rattle.dspec_deeds.specs.declared.deed.Deed.{Deed}
+use Rattle.dspec_deeds.specs.declared.deed.Deed.TheVariants.{Seal}
+use Rattle.dspec_deeds.specs.declared.report.Report.{Report}
+use Rattle.dspec_deeds.proofs.OwnParts.{own_of_fitting}
+use Rattle.dspec_deeds.proofs.OwnReads.{reads}
+use Rattle.dspec_deeds.proofs.WholeLists.{drops_add_up}
+use Rattle.dspec_ring.specs.declared.batch.Batch.{Batch}
+use Rattle.dspec_session_core.specs.declared.left.Left.{Left}
+use Rattle.dspec_trace_reading.proofs.Told.{drops_more}
+
+drops_reversed : (bs : List Batch) → drops_carried (reverse bs) ≡ drops_carried bs
+drops_reversed [] = refl
+drops_reversed (b ∷ bs) =
+    let last : drops_carried (reverse (b ∷ bs)) ≡ drops_carried (reverse bs) + b.drops = ap drops_carried (reverse-append (b ∷ []) bs) ∙ drops_more (reverse bs) b in
+    omega (arith, last, drops_reversed bs)
+
+module _ (shape : ℕ → Option Shape) (accepted : Record → Bool) (text : Record → List ℕ) (k : Config) (c : ℕ) where
+  -- batches that a list seals carry the drops between its Seals
+  sealed_drops : (q : List Deed) (bs : List Batch) → IsOwn shape k c q → AreSealed shape accepted text k c q bs → drops_carried bs ≡ drops_of (batches c q)
+  sealed_drops [] bs own none = ap drops_carried none
+  sealed_drops (Seal a ∷ q) bs own s =
+      let rest = sealed_drops q s.1 own.0 s.4 in
+      subst (λ xs. drops_carried xs ≡ drops_of (if c == a then growing c q ∷ batches c q else batches c q)) (sym s.2)
+      (subst (λ x. s.0.drops + drops_carried s.1 ≡ drops_of (if x then growing c q ∷ batches c q else batches c q)) (sym own.1) (omega (arith, s.3.drops, rest)))
+  sealed_drops (d ∷ q) bs own s = sealed_drops q bs own.0 s
+
+  -- with the last buffer they are all that the report counts
+  pub drops_reported : (g p : List Deed) (worn : ℕ) (came : List Batch) (l : Left) → IsLegal shape k g → IsLeftBy shape accepted text k g c worn came p l
+      → drops_carried (came ++ left_batches l) ≡ l.report.drops
+  drops_reported g p worn came l legal left =
+      let q = part (Cpu c) g in
+      let own : IsOwn shape k c q = own_of_fitting shape k c g legal.0.1 in
+      let sealed = drops_reversed (came ++ waiting l.rest) in
+      let by_list = sealed_drops q (reverse (came ++ waiting l.rest)) own left.sealed in
+      let last = drops_more (came ++ waiting l.rest) l.last in
+      let all : drops_carried (came ++ left_batches l) ≡ drops_carried ((came ++ waiting l.rest) ++ l.last ∷ []) = ap drops_carried (sym (append_assoc came (waiting l.rest) (l.last ∷ []))) in
+      let told : l.report.drops ≡ total (λ d. one_if (is_drop c d)) q = ap (λ (r : Report). r.drops) (left.reported ∙ sym ((reads k c g).apart.reporting worn)) in
+      omega (arith, all, last, sealed, by_list, left.last.drops, drops_add_up c q, told)
+
+every : (xs : List Record) → number (λ r. true) xs ≡ length xs
+every [] = refl
+every (x ∷ xs) = omega (arith, every xs)
+
+and_true : (b : Bool) → (b && true) ≡ b
+and_true true = refl
+and_true false = refl
+
+same_number : (os : List Handed) → number (λ o. of taken o && true) os ≡ number (of taken) os
+same_number [] = refl
+same_number (o ∷ os) =
+    ap (λ b. number (λ o. of taken o && true) os + (if b then 1 else 0)) (and_true (of taken o)) ∙ ap (λ n. n + (if of taken o then 1 else 0)) (same_number os)
+
+-- as many records came out as the report counts as accepted
+pub accepted_reported : (shape : ℕ → Option Shape) (accepted : Record → Bool) (text : Record → List ℕ) (cpus : ℕ) (all : ℕ → List Did) (c : ℕ) (calls : CallsMade)
+    (closed : List (Speculation × DecideFate)) (bs : List Batch) (r : Report) (p : IsPromised shape accepted text cpus all c calls closed bs r) → length p.seen ≡ r.accepted
+accepted_reported shape accepted text cpus all c calls closed bs r p =
+    ap length p.promise.whole ∙ length-reverse (cpu_stream (all c)) ∙ sym (every (cpu_stream (all c))) ∙ p.promise.keeps.once (λ r. true) ∙ same_number (handed (all c))
+    ∙ sym p.promise.accepts

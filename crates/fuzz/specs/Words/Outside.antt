@@ -1,0 +1,6 @@
+-- Serves proofs. Words from the crates below, in one place. Declares nothing.
+pub use Rattle.dspec_record.specs.Words.{EnabledRows}
+pub use Rattle.dspec_cpu.specs.Words.{identity, IsCallable, schema_of, words_of}
+pub use Rattle.dspec_session_core.specs.Words.{IsCpuOf, IsSession, pairs_of, Stays}
+pub use Rattle.dspec_schedule.specs.Words.{header_of, plan_of}
+pub use Rattle.dspec_replay.specs.Words.{accepted_in, IsDue, schedule_refusal, whole_call_of}

@@ -1,0 +1,5 @@
+-- Serves proofs. Words from the crates below, in one place. Declares nothing.
+pub use Rattle.dspec_session.specs.Words.{AllBalanced}
+pub use Rattle.dspec_schedule.specs.Words.{header_of, Plan, printed_text, yes_no}
+unfoldable pub use Rattle.dspec_schedule.specs.Words.{schedule_of}
+pub use Rattle.dspec_replay.specs.Words.{fault_of, IsPlayOf, IsTextFault}

@@ -1,0 +1,16 @@
+-- Serves proofs. The words of this crate for its proofs and for the crates above, in one place. Declares nothing.
+pub mod Outside
+unfoldable pub use Outside.*
+pub use Rattle.specview.specs.Batches.{last_share, share_of, ShareOf, shares, shown_share, TellsCounts}
+pub use Rattle.specview.specs.Clocks.{IsClockFault}
+pub use Rattle.specview.specs.Faults.{view_of_schedule}
+pub use Rattle.specview.specs.Folders.{AddsFiles, cpu_files, named_file, NamedFile, written_files}
+pub use Rattle.specview.specs.Pictures.{IsPictureFault, IsPlayPictureFault}
+pub use Rattle.specview.specs.Stepping.{IsStepsFault}
+pub use Rattle.specview.specs.Traces.{AreFiles, AreStreams, event_rows, greatest_epid, greatest_of, HasUnknown, HaveShortEvents, IsFile, IsFileFault, IsFormFault, IsOfNumbered, IsPlayTraceFault}
+pub use Rattle.specview.specs.Traces.{missed_by, packets_behind, refused_in, TellsSmall, written_shares}
+pub use Rattle.specview.specs.declared.batches.Share.{Share}
+pub use Rattle.specview.specs.declared.ending.DrawingFault.{DrawingFault}
+pub use Rattle.specview.specs.declared.ending.DrawingFault.TheVariants.{TooManyDeeds, View}
+pub use Rattle.specview.specs.declared.fault.ViewFault.{ViewFault}
+pub use Rattle.specview.specs.declared.fault.ViewFault.TheVariants.{GreatestFrequency, LateStamp, Line, Memory, NoEvent, NoFrequency, NoStamp, NotEmpty, Read, TooLong, Write}
