@@ -8,8 +8,8 @@ pub use Rattle.dspec_ctf_sink.specs.Ending.{GetsTelling, GetsTellings, IsBare, I
 pub use Rattle.dspec_ctf_sink.specs.Held.{FilesHave, HasWritten, HaveBesides, Held, IsCut, IsFileAt, IsLong, IsNotAmong, KeepsInFront, LeavesFile}
 pub use Rattle.dspec_ctf_sink.specs.Losses.{capped, HasSoManyRecords, lost_more, missed_more}
 pub use Rattle.dspec_ctf_sink.specs.Places.{written_in}
-pub use Rattle.dspec_ctf_sink.specs.Timed.{AddsAll, AddsBatch, AddsRun, AddsRuns, CpuFiles, GetsRuns, HasNoRuns, IsBatchLoss, IsTimedBegun, LosesBatch, LosesRuns, row_name, StopsRun, StopsRuns}
-pub use Rattle.dspec_ctf_sink.specs.Timed.{TakesAll, TellsMissed, TellsNone, TimedTracing}
+pub use Rattle.dspec_ctf_sink.specs.Timed.{AddsAll, AddsBatch, AddsRun, AddsRuns, ChangesFiles, CpuFiles, GetsRuns, HasFiles, HasNoCpu, HasNoRuns, IsBatchLoss, IsTimedBegun, LosesAll, LosesBatch}
+pub use Rattle.dspec_ctf_sink.specs.Timed.{LosesOfFiles, LosesRest, LosesRuns, RefusesRun, row_name, StopsRun, StopsRuns, TakesAll, TellsMissed, TellsNone, TimedTracing}
 pub use Rattle.dspec_ctf_sink.specs.Writes.{brought_to, file_of, FileWrite, IsNotTaken, Refuses, Takes}
 pub use Rattle.dspec_ctf_sink.specs.Writing.{AddsPacket, AreNextOf, CountsLost, cpu_name, GetsPacket, IsBatchFault, IsBegun, IsNextPacket, IsNothing, LosesPacket, Tracing, whole_loss}
 pub use Rattle.dspec_ctf_sink.specs.contracts.asked.Asked.{the_row, the_type}

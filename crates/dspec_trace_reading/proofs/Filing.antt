@@ -1,16 +1,17 @@
 -- A CPU's files by time: what they tell, and what one batch brings to them.
-use Rattle.std.proofs.Common.{◌≡◌, ◌<◌, ◌≤◌, ◌^◌, ◌==◌, ◌++◌, inl, inr, ℕ, Bool, true, false, cond, List, [], ◌∷◌, Option, Some, refl, ap, sym, subst, ◌∙◌, arith}
+use Rattle.std.proofs.Common.{◌≡◌, ◌<◌, ◌≤◌, ◌-◌, ◌^◌, ◌==◌, ◌++◌, inl, inr, ℕ, Bool, true, false, cond, List, [], ◌∷◌, Option, Some, refl, ap, sym, subst, ◌∙◌, arith}
 use Rattle.std.proofs.Common.{length, length-append, map, All}
-use Rattle.std.specs.Prelude.{slice_index}
+use Rattle.std.specs.Prelude.{slice_index, slice_range}
 use Rattle.std.specs.List.{flat_map}
 use Rattle.std.proofs.lemmas.Bool.{eqb-true, eqb-false, ne_eqb}
-use Rattle.std.proofs.lemmas.List.{append-nil, map-append}
+use Rattle.std.proofs.lemmas.List.{append-nil, map-append, take_all}
 use Rattle.std.proofs.lemmas.List.Elements.{All-append, All-cons, All-nil}
 use Rattle.dspec_trace_reading.specs.Words.{Record, EnabledRows, missed_packets, of_file, run_files, run_packets, told_by, Accepts, FileTells, PartTells, file_bytes, MissedReadsBack, RunsReadBack}
-use Rattle.dspec_trace_reading.specs.Words.{event_of, layout_of, EventRead, AddsAll, TellsMissed, row_name, FileWrite, file_of}
+use Rattle.dspec_trace_reading.specs.Words.{event_of, layout_of, EventRead, AreRuns, AddsAll, TakesAll, TellsMissed, row_name, FileWrite, file_of}
 use Rattle.dspec_record.specs.declared.header.Header.TheVariants as header
 use Rattle.dspec_ctf.specs.declared.form.Form.TheVariants.{ByTime}
 use Rattle.dspec_ctf.specs.declared.names.Names.{Names}
+use Rattle.dspec_ctf.specs.declared.rows.Run.{Run}
 use Rattle.dspec_trace_reading.proofs.Growing.{FilesJoin, grown, told_more}
 use Rattle.dspec_trace_reading.proofs.Sharing.{FilesHaveAll, RunsHaveAll, of_more, packets_few, shared, stamps_low}
 use Rattle.dspec_trace_reading.proofs.Taking.{grows_here, row_writes, took_all}
@@ -89,32 +90,59 @@ module _ (laws : FilesLaws) (uuid : List ℕ) (e : EnabledRows) (names : Names) 
         tells = λ file is. told_to f.writes lasts told missed (map (event_of e names (ByTime hertz)) (of_file file f.files stream)) above small f.first file is (f.tells file is) (file == 0) refl;
       }
 
-  -- the packets of a batch's runs: its records stand behind those of the stream
-  pub add : (mid new : Option (List FileWrite)) (lasts after : List ℕ) (missed : ℕ) (stream read : List Record) → missed < 2 ^ 64 → All (Accepts e) read
-      → Filed uuid e names hertz c mid lasts missed stream → AddsAll uuid e missed c read 0 lasts mid after new → Filed uuid e names hertz c new after missed (stream ++ read)
-  add mid new lasts after missed stream read small accepted f adds =
-      let parts = shared laws.have_all laws.runs_have lasts read adds.runs after f.few f.first (stamps_low e read accepted) adds.are_runs in
-      let ps : List (ℕ × List ℕ) = run_packets uuid e missed c read 0 adds.runs in
-      let more : List ℕ = run_files 0 adds.runs in
+  -- the packets of a batch's runs up to a place: its records up to there stand behind those of the stream
+  pub add_to : (mid new : Option (List FileWrite)) (lasts after : List ℕ) (missed : ℕ) (stream read : List Record) (runs : List Run) (to : ℕ) → missed < 2 ^ 64 → All (Accepts e) read
+      → Filed uuid e names hertz c mid lasts missed stream → AreRuns lasts read 0 runs to after → TakesAll c mid (run_packets uuid e missed c read 0 runs) new
+      → Filed uuid e names hertz c new after missed (stream ++ slice_range read 0 to)
+  add_to mid new lasts after missed stream read runs to small accepted f are_runs taken =
+      let parts = shared laws.have_all laws.runs_have lasts read runs to after f.few f.first (stamps_low e read accepted) are_runs in
+      let ps : List (ℕ × List ℕ) = run_packets uuid e missed c read 0 runs in
+      let more : List ℕ = run_files 0 runs in
+      let front : List Record = slice_range read 0 to in
       record {
         writes = f.writes ++ row_writes c ps;
-        asked = took_all c ps mid new f.writes f.asked adds.taken;
+        asked = took_all c ps mid new f.writes f.asked taken;
         few = parts.still;
         first = parts.low;
         files = f.files ++ more;
-        each = omega (arith, length-append f.files more, length-append stream read, f.each, parts.each);
+        each = omega (arith, length-append f.files more, length-append stream front, f.each, parts.each);
         below = All-append (λ file. file < 64) f.files more f.below parts.below;
         tells = λ file is.
-            let part : PartTells (layout_of e names (ByTime hertz)) uuid c (file_bytes file ps) (map (event_of e names (ByTime hertz)) (of_file file more read)) (told_by file missed) =
+            let part : PartTells (layout_of e names (ByTime hertz)) uuid c (file_bytes file ps) (map (event_of e names (ByTime hertz)) (of_file file more front)) (told_by file missed) =
             subst (λ rs. PartTells (layout_of e names (ByTime hertz)) uuid c (file_bytes file ps) (map (event_of e names (ByTime hertz)) (of_file file more rs)) (told_by file missed)) parts.records
-            (laws.runs e names hertz uuid missed c read file lasts after 0 (length read) adds.runs stamped long small (omega (arith, low)) accepted adds.are_runs) in
-            let split : map (event_of e names (ByTime hertz)) (of_file file f.files stream) ++ map (event_of e names (ByTime hertz)) (of_file file more read)
-            ≡ map (event_of e names (ByTime hertz)) (of_file file (f.files ++ more) (stream ++ read)) =
-            sym (ap (map (event_of e names (ByTime hertz))) (of_more file f.files more stream read f.each)
-            ∙ map-append (event_of e names (ByTime hertz)) (of_file file f.files stream) (of_file file more read)) in
-            subst (λ xs. FileTells (layout_of e names (ByTime hertz)) uuid c xs (map (event_of e names (ByTime hertz)) (of_file file (f.files ++ more) (stream ++ read))) (told_by file missed))
-            (sym (grows_here c file low is f.writes ps (packets_few uuid e missed c read 0 adds.runs parts.few)))
+            (laws.runs e names hertz uuid missed c read file lasts after 0 to runs stamped long small (omega (arith, low)) accepted are_runs) in
+            let split : map (event_of e names (ByTime hertz)) (of_file file f.files stream) ++ map (event_of e names (ByTime hertz)) (of_file file more front)
+            ≡ map (event_of e names (ByTime hertz)) (of_file file (f.files ++ more) (stream ++ front)) =
+            sym (ap (map (event_of e names (ByTime hertz))) (of_more file f.files more stream front f.each)
+            ∙ map-append (event_of e names (ByTime hertz)) (of_file file f.files stream) (of_file file more front)) in
+            subst (λ xs. FileTells (layout_of e names (ByTime hertz)) uuid c xs (map (event_of e names (ByTime hertz)) (of_file file (f.files ++ more) (stream ++ front))) (told_by file missed))
+            (sym (grows_here c file low is f.writes ps (packets_few uuid e missed c read 0 runs parts.few)))
             (subst (λ es. FileTells (layout_of e names (ByTime hertz)) uuid c (file_of (row_name c file) f.writes ++ file_bytes file ps) es (told_by file missed)) split
             (grown laws.join (layout_of e names (ByTime hertz)) uuid c (file_of (row_name c file) f.writes) (file_bytes file ps) (map (event_of e names (ByTime hertz)) (of_file file f.files stream))
-            (map (event_of e names (ByTime hertz)) (of_file file more read)) (told_by file missed) (f.tells file is) part));
+            (map (event_of e names (ByTime hertz)) (of_file file more front)) (told_by file missed) (f.tells file is) part));
       }
+
+  -- the packets of all runs of a batch
+  pub add : (mid new : Option (List FileWrite)) (lasts after : List ℕ) (missed : ℕ) (stream read : List Record) → missed < 2 ^ 64 → All (Accepts e) read
+      → Filed uuid e names hertz c mid lasts missed stream → AddsAll uuid e missed c read 0 lasts mid after new → Filed uuid e names hertz c new after missed (stream ++ read)
+  add mid new lasts after missed stream read small accepted f adds =
+      subst (λ rs. Filed uuid e names hertz c new after missed (stream ++ rs)) (take_all (length read - 0) read (omega arith))
+      (add_to mid new lasts after missed stream read adds.runs (length read) small accepted f adds.are_runs adds.taken)
+
+-- what is known of a CPU's files stays, where nothing was brought to them
+pub still_filed : (uuid : List ℕ) (e : EnabledRows) (names : Names) (hertz c : ℕ) (old new : Option (List FileWrite)) (lasts after : List ℕ) (told : ℕ) (stream : List Record)
+    (f : Filed uuid e names hertz c old lasts told stream) (next : List FileWrite) → new ≡ Some next
+    → ((file : ℕ) → file < 64 → file_of (row_name c file) next ≡ file_of (row_name c file) f.writes) → length after ≤ 64 → slice_index after 0 < 2 ^ 64
+    → Filed uuid e names hertz c new after told stream
+still_filed uuid e names hertz c old new lasts after told stream f next asked same few first = record {
+  writes = next;
+  asked = asked;
+  few = few;
+  first = first;
+  files = f.files;
+  each = f.each;
+  below = f.below;
+  tells = λ file is.
+      subst (λ xs. FileTells (layout_of e names (ByTime hertz)) uuid c xs (map (event_of e names (ByTime hertz)) (of_file file f.files stream)) (told_by file told)) (sym (same file is))
+      (f.tells file is);
+}

@@ -1,37 +1,78 @@
 -- What is read of a folder into which a session was traced by time, by one call.
-use Rattle.std.proofs.Common.{◌≡◌, ◌<◌, ◌^◌, ℕ, List, Option, Some, None, sym, ◌∙◌, subst, slice_index}
-use Rattle.dspec_trace_reading.specs.Words.{EnabledRows, start_fault, CallsMade, passed_from, FileWrite, missed_in, IsTimedInto, IsOfTimedTrace, RanBegun, written_in, GetsRuns, TimedTracing}
-use Rattle.dspec_trace_reading.specs.Words.{FolderTrace, ToFolderFault, Begun, Ran, IsBegunByTime, IsInTimedFolder, ReadsShares, ReadsByTime, ReadsFiles, AreCountable}
+use Rattle.std.proofs.Common.{◌≡◌, ◌<◌, ◌+◌, ◌^◌, ℕ, List, [], ◌∷◌, ◌++◌, Option, Some, None, refl, sym, ap, ◌∙◌, subst, arith, length, slice_get, slice_index}
+use Rattle.dspec_trace_reading.specs.Words.{Record, EnabledRows, enabled, table_accepts, table_shape, table_text, start_fault, CallsMade, passed_from, IsBare, missed_in, IsTimedInto, IsOfTimedTrace}
+use Rattle.dspec_trace_reading.specs.Words.{RanBegun, written_in, GetsRuns, FileWrite, TimedTracing, FolderTrace, ToFolderFault, Begun, Ran, AreKeptInFront, IsBegunByTime, IsInTimedFolder}
+use Rattle.dspec_trace_reading.specs.Words.{ReadsFiles, ReadsPartByTime, drops_carried, missed_by_time, told_by_time}
 use Rattle.dspec_deeds.specs.declared.config.Config.{Config}
 use Rattle.dspec_probe.specs.declared.probes.ProbeNames.{ProbeNames}
 use Rattle.dspec_ring.specs.declared.batch.Batch.{Batch}
 use Rattle.dspec_session_core.specs.declared.left.Left.{Left}
-use Rattle.dspec_ctf_sink.specs.declared.losing.Loss.{Loss}
 use Rattle.dspec_ctf.specs.declared.form.Form.TheVariants.{ByTime}
-use Rattle.dspec_trace_reading.proofs.InFolder.{all_numbers}
+use Rattle.dspec_ctf_sink.specs.declared.losing.Loss.{Loss}
+use Rattle.dspec_buffer.proofs.OneReading.{one_reading}
 use Rattle.dspec_trace_reading.proofs.Whole.{MetadataReads}
 use Rattle.dspec_trace_reading.proofs.Carried.{Carries, in_both}
 use Rattle.dspec_trace_reading.proofs.Filing.{FilesLaws}
-use Rattle.dspec_trace_reading.proofs.TimedWhole.{reads_by_time}
+use Rattle.dspec_trace_reading.proofs.Folding.{laws as schema_laws}
+use Rattle.dspec_trace_reading.proofs.InFolder.{all_numbers}
+use Rattle.dspec_trace_reading.proofs.TimedBegun.{none_missed, timed_first}
+use Rattle.dspec_trace_reading.proofs.TimedBounded.{bounded}
+use Rattle.dspec_trace_reading.proofs.TimedFolding.{TimedStays}
+use Rattle.dspec_trace_reading.proofs.TimedPartly.{all_writes, metadata_read, stream_kept}
+use Rattle.dspec_trace_reading.proofs.TimedWhole.{files_read, all as whole_writes}
 use Rattle.std.proofs.Common.{Result, Ok, IfOk, IsOk, Err}
+
+-- of no records, those in front are none, and those behind too
+both_none : (front back : List Record) → front ++ back ≡ [] → (front ≡ []) × (back ≡ [])
+both_none [] back is = (refl, is)
+both_none (r ∷ rs) back is = absurd (cc (is))
+
+-- the batch that tells the end has no records, so none of it are kept or lost
+kept_before : (e : EnabledRows) (bs : List Batch) (b : Batch) (kept : List Record) (lost : ℕ) → IsBare b → AreKeptInFront e (bs ++ b ∷ []) kept lost → AreKeptInFront e bs kept lost
+kept_before e [] b kept lost bare (front, back, more, rest, text, later, has, so_many) =
+    let empty : front ++ back ≡ [] =
+    one_reading (table_shape e.header (enabled e.rows)) (table_accepts e.header (enabled e.rows)) (table_text e.header (enabled e.rows)) (schema_laws e) 0 b.buffer.text (front ++ back) [] text
+    bare.0 in
+    let none = both_none front back empty in
+    let few : length back ≡ 0 = ap length none.1 in
+    (has ∙ ap (λ xs. xs ++ more) none.0 ∙ later.0, omega (arith, so_many, few, later.1))
+kept_before e (x ∷ bs) b kept lost bare (front, back, more, rest, text, later, has, so_many) = (front, back, more, rest, text, kept_before e bs b more rest bare later, has, so_many)
 
 module _ (metadata : MetadataReads) (laws : FilesLaws) {K : Type 0} (gets : K → Batch → K → Type 0) (does : ℕ → CallsMade → CallsMade → Type 0) (e : EnabledRows)
     (ps : List ProbeNames) (hertz : ℕ) (k : Config) (old new : K) (left : List Left) (begun ended : TimedTracing) (uuid : List ℕ) (is : IsBegunByTime e ps hertz uuid begun)
     (c : Carries gets (GetsRuns e) does e k old left new begun ended) (counts : (d : ℕ) → slice_index ended.missed d < 2 ^ 64) (start : start_fault k ≡ None) where
-  shares : AreCountable e ps → ended.lost ≡ None → (writes : List FileWrite) × (ended.written ≡ Some writes)
-      × ReadsShares is.origin.uuid e is.names hertz left (λ d l at. (c.kept.page.each d l at).seen) writes
-  shares few none =
-      let r : ReadsByTime is.origin.uuid e is.names hertz left (λ d l at. (c.kept.page.each d l at).seen) (λ d. passed_from d c.all) ended.written =
-      reads_by_time metadata laws is.origin hertz e is.names begun ended is.is c.all c.got none left (λ d l at. (c.kept.page.each d l at).seen) is.long
-      (all_numbers is.origin (ByTime hertz) e ps is.names is.numbers is.frequency is.named few) counts c.own c.holds in (
-        r.writes,
-        r.asked,
-        record {
-          metadata = r.metadata;
-          streams = λ d l at.
-              subst (λ n. ReadsFiles is.origin.uuid e is.names hertz d ((c.kept.page.each d l at).seen) n r.writes) (c.missed d l at) (r.streams d l (c.low start d l at) at);
-        },
-      )
+  abbrev all : TimedStays e ended (timed_first is.origin hertz e is.names ∷ [])
+  all = all_writes metadata laws is.origin hertz e is.names begun ended is.is c.all c.got
+
+  whole : ended.lost ≡ None → (d : ℕ) (l : Left) (at : slice_get left d ≡ Some l)
+      → ReadsFiles is.origin.uuid e is.names hertz d ((c.kept.page.each d l at).seen) (missed_in l.report) all.0
+  whole none d l at =
+      let w = whole_writes metadata laws is.origin hertz e is.names begun ended is.is c.all c.got none in
+      let both : Some w.0 ≡ Some all.0 = sym w.1.0 ∙ all.1.0 in
+      let same : w.0 ≡ all.0 = cc (both) in
+      let seen = (c.kept.page.each d l at).seen in
+      let read = files_read metadata laws is.origin hertz e is.names begun ended is.is c.all c.got none d (c.low start d l at) seen is.long (counts d) c.own (c.holds d l at) in
+      subst (λ n. ReadsFiles is.origin.uuid e is.names hertz d seen n all.0) (c.missed d l at)
+      (subst (λ ws. ReadsFiles is.origin.uuid e is.names hertz d seen (drops_carried (passed_from d c.all)) ws) same read)
+
+  part : (d : ℕ) (l : Left) → slice_get left d ≡ Some l → l.report.accepted + missed_in l.report + 1 < 2 ^ 64
+      → ReadsPartByTime is.origin.uuid e is.names hertz d (passed_from d c.kept.passed) (missed_in l.report) all.0
+  part d l at below =
+      let low = c.low start d l at in
+      let none = none_missed is.origin hertz e is.names begun is.is d in
+      let seen = (c.kept.page.each d l at).seen in
+      let few = bounded e d low c.all begun ended seen c.got (ap length is.is.missed) c.own (c.holds d l at) in
+      let small : missed_by_time ended d + 1 < 2 ^ 64 = omega (arith, few, none, c.missed d l at, c.accepted d l at, below) in
+      let one = stream_kept metadata laws is.origin hertz e is.names begun ended is.is c.all c.got d low seen is.long small c.own (c.holds d l at) in
+      let end = c.ends d l at in
+      record {
+        kept = one.kept;
+        lost = one.lost;
+        are_kept = kept_before e (passed_from d c.kept.passed) end.0 one.kept one.lost end.1.bare (subst (λ bs. AreKeptInFront e bs one.kept one.lost) end.2 one.are_kept);
+        told = told_by_time ended d;
+        files = one.files;
+        no_more = omega (arith, one.no_more, one.counted, c.missed d l at);
+      }
 
   pub in_timed_folder : (lost : Option Loss) (written : Option (List FileWrite)) → ended.lost ≡ lost → ended.written ≡ written
       → IsInTimedFolder gets does e ps hertz k old left new uuid lost written
@@ -39,7 +80,12 @@ module _ (metadata : MetadataReads) (laws : FilesLaws) {K : Type 0} (gets : K �
     kept = c.kept;
     names = is.names;
     named = is.named;
-    whole = λ few none. let s = shares few (loses ∙ none) in (s.0, sym puts ∙ s.1, s.2);
+    writes = all.0;
+    asked = sym puts ∙ all.1.0;
+    metadata = λ few.
+        metadata_read metadata laws is.origin hertz e is.names begun ended is.is c.all c.got (all_numbers is.origin (ByTime hertz) e ps is.names is.numbers is.frequency is.named few);
+    whole = λ none. whole (loses ∙ none);
+    part = part;
   })
 
 -- so it is of one that was begun and ran, whatever was answered

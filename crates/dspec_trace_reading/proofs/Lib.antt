@@ -21,7 +21,13 @@ mod Taking
 mod Through
 mod TimedAsking
 mod TimedBegun
+mod TimedBounded
+mod TimedFiles
 mod TimedFolding
+mod TimedFronts
+mod TimedKeeping
+mod TimedLosing
+mod TimedPartly
 mod TimedWhole
 mod Told
 mod Whole

@@ -7,7 +7,7 @@ use Rattle.dspec_ctf_sink.specs.declared.fault.FolderFault.{FolderFault}
 use Rattle.dspec_ctf_sink.proofs.Written.{file_of_more}
 
 -- what a place refused stands behind what it was asked for before, and brings no file anything
-refused_there : (old new : Option (List FileWrite)) (was : List FileWrite) (name bytes : List ℕ) (fault : FolderFault) → old ≡ Some was → Refuses old name bytes new fault
+pub refused_there : (old new : Option (List FileWrite)) (was : List FileWrite) (name bytes : List ℕ) (fault : FolderFault) → old ≡ Some was → Refuses old name bytes new fault
     → new ≡ Some (was ++ record { name = name; bytes = bytes; refused = Some fault } ∷ [])
 refused_there None new was name bytes fault e refuses = absurd (cc (e))
 refused_there (Some xs) None was name bytes fault e refuses = elim refuses.asked [ ]
@@ -16,7 +16,7 @@ refused_there (Some xs) (Some ys) was name bytes fault e refuses =
     ap Some (refuses.asked ∙ ap (λ zs. zs ++ record { name = name; bytes = bytes; refused = Some fault } ∷ []) same)
 
 -- so many are so many, where the cap isn't reached
-uncapped : (n : ℕ) → capped n + 1 < 2 ^ 64 → capped n ≡ n
+pub uncapped : (n : ℕ) → capped n + 1 < 2 ^ 64 → capped n ≡ n
 uncapped n below = omega (arith, below)
 
 module _ (e : EnabledRows) where

@@ -1,7 +1,7 @@
 -- What is read of a session that was traced, by what it promises of the batches that its sink got.
 use Rattle.std.proofs.Common.{◌≡◌, ◌<◌, ℕ, List, [], ◌∷◌, ◌∙◌, append_assoc, slice_get, Some, subst, sym}
 use Rattle.dspec_trace_reading.specs.Words.{EnabledRows, enabled, table_accepts, table_shape, table_text, CallsMade, waiting, passed_from, HaveNumbers, KeptIsRead, ListedBy, TakenIsRead}
-use Rattle.dspec_trace_reading.specs.Words.{TimedIsRead, TracedBy}
+use Rattle.dspec_trace_reading.specs.Words.{TimedIsRead, TimedKeptIsRead, TracedBy}
 use Rattle.dspec_deeds.specs.declared.config.Config.{Config}
 use Rattle.dspec_ring.specs.declared.batch.Batch.{Batch}
 use Rattle.dspec_session_core.specs.declared.left.Left.{Left}
@@ -9,6 +9,7 @@ use Rattle.dspec_trace_reading.proofs.Filing.{FilesLaws}
 use Rattle.dspec_trace_reading.proofs.Folding.{Holds}
 use Rattle.dspec_trace_reading.proofs.OwnNumbers.{Numbered, have_numbers, is_there, taken_numbered}
 use Rattle.dspec_trace_reading.proofs.Partly.{reads_kept}
+use Rattle.dspec_trace_reading.proofs.TimedPartly.{reads_kept as timed_reads_kept}
 use Rattle.dspec_trace_reading.proofs.TimedWhole.{reads_by_time}
 use Rattle.dspec_trace_reading.proofs.Whole.{FilesRead, MetadataReads, reads_back}
 
@@ -39,4 +40,9 @@ module _ (e : EnabledRows) (does : ℕ → CallsMade → CallsMade → Type 0) w
   pub timed_read : MetadataReads → FilesLaws → TimedIsRead e does
   timed_read metadata laws origin hertz names k begun ended left is t h none long numbers small =
       reads_by_time metadata laws origin hertz e names begun ended is t.passed t.got none left (λ c l there. (t.promised.each c l there).seen) long numbers small
+      (numbered _ k begun left ended t h) (held _ k begun left ended t)
+
+  pub timed_kept_read : MetadataReads → FilesLaws → TimedKeptIsRead e does
+  timed_kept_read metadata laws origin hertz names k begun ended left is t h long numbers small =
+      timed_reads_kept metadata laws origin hertz e names begun ended is t.passed t.got left (λ c l there. (t.promised.each c l there).seen) long numbers small
       (numbered _ k begun left ended t h) (held _ k begun left ended t)

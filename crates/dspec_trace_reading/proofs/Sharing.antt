@@ -1,10 +1,9 @@
 -- Records of a batch that are shared out to the files of their CPU.
-use Rattle.std.proofs.Common.{◌≡◌, ◌<◌, ◌≤◌, ◌-◌, ◌^◌, ◌==◌, ◌++◌, inl, inr, ℕ, zero, suc, Bool, true, false, cond, IsTrue, List, [], ◌∷◌, refl, ap, sym, subst, ◌∙◌}
-use Rattle.std.proofs.Common.{arith, length, map, replicate, All}
+use Rattle.std.proofs.Common.{◌≡◌, ◌<◌, ◌≤◌, ◌-◌, ◌^◌, ◌==◌, ◌++◌, inl, inr, ℕ, zero, suc, Bool, true, false, cond, IsTrue, List, [], ◌∷◌, refl, ap, sym, subst}
+use Rattle.std.proofs.Common.{arith, drop, length, map, replicate, All}
 use Rattle.std.specs.Prelude.{slice_index, slice_range, slice_set, filter, zip}
 use Rattle.std.proofs.lemmas.Bool.{ltb-true, eqb-true}
-use Rattle.std.proofs.lemmas.List.{take_all}
-use Rattle.std.proofs.lemmas.List.Elements.{All-head, All-tail, All-nil, All-cons, All-weaker}
+use Rattle.std.proofs.lemmas.List.Elements.{All-head, All-tail, All-nil, All-cons, All-drop, All-take, All-weaker}
 use Rattle.dspec_trace_reading.specs.Words.{Record, stamp_fits, enabled, EnabledRows, accepted-parts, AreFiled, HaveAllBetween, Accepts, AreRuns, GoesToFile, IsFileRun, Spreads, of_file, run_files}
 use Rattle.dspec_trace_reading.specs.Words.{run_packets, run_records}
 use Rattle.dspec_record.specs.declared.header.Header.{Header}
@@ -62,6 +61,9 @@ spread_low lasts (r ∷ rs) (f ∷ fs) new low first (mid, (goes, rest)) =
     spread_low mid rs fs new (All-tail (λ (q : Record). q.stamp < 2 ^ 64) r rs low)
     (goes_low lasts mid r.stamp f (All-head (λ (q : Record). q.stamp < 2 ^ 64) r rs low) first goes) rest
 
+range_low : (rs : List Record) (from to : ℕ) → All (λ r. r.stamp < 2 ^ 64) rs → All (λ r. r.stamp < 2 ^ 64) (slice_range rs from to)
+range_low rs from to low = All-take (λ r. r.stamp < 2 ^ 64) (to - from) (drop from rs) (All-drop (λ r. r.stamp < 2 ^ 64) from rs low)
+
 -- packets of runs have the runs' files
 pub packets_few : (uuid : List ℕ) (e : EnabledRows) (missed cpu : ℕ) (rs : List Record) (from : ℕ) (runs : List Run) → All (λ (run : Run). run.file < 64) runs
     → All (λ (p : ℕ × List ℕ). p.0 < 64) (run_packets uuid e missed cpu rs from runs)
@@ -74,12 +76,12 @@ all_same : (n file most : ℕ) → 0 < n → All (λ f. f < most) (replicate n f
 all_same zero file most some all = absurd (omega (arith, some))
 all_same (suc n) file most some all = All-head (λ f. f < most) file (replicate n file) all
 
--- what the runs of a batch's records are
-pub record Shared (lasts : List ℕ) (rs : List Record) (runs : List Run) (new : List ℕ) : Type 0 where
+-- what the runs of a batch's records up to a place are
+pub record Shared (lasts : List ℕ) (rs : List Record) (runs : List Run) (to : ℕ) (new : List ℕ) : Type 0 where
   pub few : All (λ (run : Run). run.file < 64) runs
   pub still : length new ≤ 64
-  pub records : run_records rs 0 runs ≡ rs
-  pub each : length (run_files 0 runs) ≡ length rs
+  pub records : run_records rs 0 runs ≡ slice_range rs 0 to
+  pub each : length (run_files 0 runs) ≡ length (slice_range rs 0 to)
   pub below : All (λ file. file < 64) (run_files 0 runs)
   pub low : slice_index new 0 < 2 ^ 64
 
@@ -106,18 +108,24 @@ module _ (files_law : FilesHaveAll) (runs_law : RunsHaveAll) where
       let first = run_few lasts rs from run mid few one in
       All-cons (λ (run : Run). run.file < 64) run runs first.0 (runs_few mid rs run.end runs to new first.1 more)
 
-  pub shared : (lasts : List ℕ) (rs : List Record) (runs : List Run) (new : List ℕ) → length lasts ≤ 64 → slice_index lasts 0 < 2 ^ 64 → All (λ r. r.stamp < 2 ^ 64) rs
-      → AreRuns lasts rs 0 runs (length rs) new → Shared lasts rs runs new
-  shared lasts rs runs new few first low are =
-      let covers = runs_law lasts new rs 0 (length rs) runs are in
-      let whole : slice_range rs 0 (length rs) ≡ rs = take_all (length rs - 0) rs (omega arith) in
-      let spreads : Spreads lasts rs (run_files 0 runs) new = subst (λ qs. Spreads lasts qs (run_files 0 runs) new) whole covers.1 in
-      let all = files_law lasts rs (run_files 0 runs) new few spreads in
+  pub shared : (lasts : List ℕ) (rs : List Record) (runs : List Run) (to : ℕ) (new : List ℕ) → length lasts ≤ 64 → slice_index lasts 0 < 2 ^ 64 → All (λ r. r.stamp < 2 ^ 64) rs
+      → AreRuns lasts rs 0 runs to new → Shared lasts rs runs to new
+  shared lasts rs runs to new few first low are =
+      let covers = runs_law lasts new rs 0 to runs are in
+      let all = files_law lasts (slice_range rs 0 to) (run_files 0 runs) new few covers.1 in
       record {
-        few = runs_few lasts rs 0 runs (length rs) new few are;
+        few = runs_few lasts rs 0 runs to new few are;
         still = all.3;
-        records = covers.0 ∙ whole;
-        each = spread_each lasts rs (run_files 0 runs) new spreads;
+        records = covers.0;
+        each = spread_each lasts (slice_range rs 0 to) (run_files 0 runs) new covers.1;
         below = All-weaker (λ file. file < length new) (λ file. file < 64) (λ file is. omega (arith, is, all.3)) (run_files 0 runs) all.2;
-        low = spread_low lasts rs (run_files 0 runs) new low first spreads;
+        low = spread_low lasts (slice_range rs 0 to) (run_files 0 runs) new (range_low rs 0 to low) first covers.1;
       }
+
+  -- the last stamps behind one run, also where it isn't written
+  pub lasts_after : (lasts : List ℕ) (rs : List Record) (place : ℕ) (run : Run) (new : List ℕ) → length lasts ≤ 64 → slice_index lasts 0 < 2 ^ 64 → All (λ r. r.stamp < 2 ^ 64) rs
+      → IsFileRun lasts rs place run new → (length new ≤ 64) × (slice_index new 0 < 2 ^ 64)
+  lasts_after lasts rs place run new few first low is = (
+    (run_few lasts rs place run new few is).1,
+    spread_low lasts (slice_range rs place run.end) (replicate (run.end - place) run.file) new (range_low rs place run.end low) first is.goes,
+  )

@@ -2,7 +2,8 @@
 use Rattle.std.proofs.Common.{◌≡◌, ◌≢◌, ◌<◌, ◌+◌, ℕ, ◌⊎◌, inl, inr, List, [], ◌∷◌, ◌++◌, Some, None, get_or, sym, ap, ◌∙◌, subst, length, length-set, slice_index}
 use Rattle.std.proofs.lemmas.List.{get_or-set_same, get_or-set_other}
 use Rattle.std.proofs.lemmas.Option.{slice_get_within, get_or_from_slice_get}
-use Rattle.dspec_trace_reading.specs.Words.{EnabledRows, Passed, GotAll, run_packets, AddsBatch, GetsRuns, LosesBatch, TimedTracing, row_name, FileWrite, file_of, missed_by_time}
+use Rattle.dspec_trace_reading.specs.Words.{EnabledRows, Passed, GotAll, run_packets, AddsBatch, ChangesFiles, CpuFiles, GetsRuns, HasFiles, LosesBatch, TimedTracing, row_name, FileWrite, file_of}
+use Rattle.dspec_trace_reading.specs.Words.{missed_by_time}
 use Rattle.dspec_ring.specs.declared.batch.Batch.{Batch}
 use Rattle.dspec_trace_reading.proofs.Asking.{some_lost}
 use Rattle.dspec_trace_reading.proofs.Taking.{Telling, row_writes, stays_elsewhere, telling, took_all}
@@ -10,6 +11,33 @@ use Rattle.dspec_trace_reading.proofs.Taking.{Telling, row_writes, stays_elsewhe
 -- the last stamps of a CPU's files
 abbrev pub lasts_of : TimedTracing → ℕ → List ℕ
 lasts_of t c = get_or t.lasts c []
+
+-- what is known of the files of a batch's CPU, before it and behind it
+module _ (old new : TimedTracing) (b : Batch) (before : ℕ) (files after : CpuFiles) (has : HasFiles old b before files) (changes : ChangesFiles old b after new) where
+  pub told_now : slice_index new.told b.cpu ≡ after.told
+  told_now =
+      ap (λ (xs : List ℕ). slice_index xs b.cpu) changes.told
+      ∙ get_or-set_same old.told b.cpu after.told 0 (slice_get_within old.told b.cpu files.told has.told)
+
+  pub told_then : files.told ≡ slice_index old.told b.cpu
+  told_then = sym (get_or_from_slice_get old.told b.cpu files.told 0 has.told)
+
+  pub told_others : (c : ℕ) → b.cpu ≢ c → slice_index new.told c ≡ slice_index old.told c
+  told_others c apart = ap (λ (xs : List ℕ). slice_index xs c) changes.told ∙ get_or-set_other old.told b.cpu c after.told 0 (λ s. apart (sym s))
+
+  pub lasts_now : lasts_of new b.cpu ≡ after.lasts
+  lasts_now =
+      ap (λ (xs : List (List ℕ)). get_or xs b.cpu []) changes.lasts
+      ∙ get_or-set_same old.lasts b.cpu after.lasts [] (slice_get_within old.lasts b.cpu files.lasts has.lasts)
+
+  pub lasts_then : files.lasts ≡ lasts_of old b.cpu
+  lasts_then = sym (get_or_from_slice_get old.lasts b.cpu files.lasts [] has.lasts)
+
+  pub lasts_others : (c : ℕ) → b.cpu ≢ c → lasts_of new c ≡ lasts_of old c
+  lasts_others c apart = ap (λ (xs : List (List ℕ)). get_or xs c []) changes.lasts ∙ get_or-set_other old.lasts b.cpu c after.lasts [] (λ s. apart (sym s))
+
+  pub missed_then : before ≡ missed_by_time old b.cpu
+  missed_then = sym (get_or_from_slice_get old.missed b.cpu before 0 has.missed)
 
 module _ (e : EnabledRows) where
   -- the batch was written whole
@@ -62,29 +90,16 @@ module _ (e : EnabledRows) where
     missed_here = ap (λ (xs : List ℕ). slice_index xs b.cpu) adds.missed ∙ get_or-set_same old.missed b.cpu (adds.before + b.drops) 0 within
 
     pub missed_before : adds.before ≡ missed_by_time old b.cpu
-    missed_before = sym (get_or_from_slice_get old.missed b.cpu adds.before 0 adds.has.missed)
+    missed_before = missed_then old new b adds.before adds.files adds.after adds.has adds.changes
 
     pub missed_elsewhere : (c : ℕ) → b.cpu ≢ c → missed_by_time new c ≡ missed_by_time old c
     missed_elsewhere c apart = ap (λ (xs : List ℕ). slice_index xs c) adds.missed ∙ get_or-set_other old.missed b.cpu c (adds.before + b.drops) 0 (λ s. apart (sym s))
 
     pub told_here : slice_index new.told b.cpu ≡ adds.before + b.drops
-    told_here =
-        ap (λ (xs : List ℕ). slice_index xs b.cpu) adds.changes.told
-        ∙ get_or-set_same old.told b.cpu adds.after.told 0 (slice_get_within old.told b.cpu adds.files.told adds.has.told) ∙ adds.added.told
-
-    pub told_before : adds.files.told ≡ slice_index old.told b.cpu
-    told_before = sym (get_or_from_slice_get old.told b.cpu adds.files.told 0 adds.has.told)
+    told_here = told_now old new b adds.before adds.files adds.after adds.has adds.changes ∙ adds.added.told
 
     pub told_elsewhere : (c : ℕ) → b.cpu ≢ c → slice_index new.told c ≡ slice_index old.told c
-    told_elsewhere c apart = ap (λ (xs : List ℕ). slice_index xs c) adds.changes.told ∙ get_or-set_other old.told b.cpu c adds.after.told 0 (λ s. apart (sym s))
-
-    pub lasts_here : lasts_of new b.cpu ≡ adds.after.lasts
-    lasts_here =
-        ap (λ (xs : List (List ℕ)). get_or xs b.cpu []) adds.changes.lasts
-        ∙ get_or-set_same old.lasts b.cpu adds.after.lasts [] (slice_get_within old.lasts b.cpu adds.files.lasts adds.has.lasts)
-
-    pub lasts_before : adds.files.lasts ≡ lasts_of old b.cpu
-    lasts_before = sym (get_or_from_slice_get old.lasts b.cpu adds.files.lasts [] adds.has.lasts)
+    told_elsewhere c apart = told_others old new b adds.before adds.files adds.after adds.has adds.changes c apart
 
     pub lasts_elsewhere : (c : ℕ) → b.cpu ≢ c → lasts_of new c ≡ lasts_of old c
-    lasts_elsewhere c apart = ap (λ (xs : List (List ℕ)). get_or xs c []) adds.changes.lasts ∙ get_or-set_other old.lasts b.cpu c adds.after.lasts [] (λ s. apart (sym s))
+    lasts_elsewhere c apart = lasts_others old new b adds.before adds.files adds.after adds.has adds.changes c apart

@@ -3,17 +3,18 @@ use Rattle.std.proofs.Common.{◌≡◌, ◌≢◌, ◌<◌, ◌≤◌, ◌+◌,
 use Rattle.std.proofs.Common.{length, map, codes, append_assoc, slice_index}
 use Rattle.std.proofs.lemmas.List.{append-nil}
 use Rattle.std.proofs.lemmas.Bool.{eqb-true, eqb-false}
-use Rattle.dspec_trace_reading.specs.Words.{Record, EnabledRows, Passed, GotAll, passed_from, of_file, told_by, FileTells, event_of, layout_of, AddsAll, AddsBatch, GetsRuns, TellsMissed}
-use Rattle.dspec_trace_reading.specs.Words.{TimedTracing, row_name, FileWrite, file_of, HaveNumbers, drops_carried, missed_by_time}
+use Rattle.dspec_trace_reading.specs.Words.{Record, EnabledRows, Passed, GotAll, passed_from, of_file, told_by, FileTells, event_of, layout_of, AddsBatch, GetsRuns, TimedTracing, row_name}
+use Rattle.dspec_trace_reading.specs.Words.{FileWrite, file_of, HaveNumbers, drops_carried, missed_by_time}
 use Rattle.dspec_record.specs.declared.header.Header.TheVariants as header
 use Rattle.dspec_ring.specs.declared.batch.Batch.{Batch}
 use Rattle.dspec_ctf.specs.declared.form.Form.TheVariants.{ByTime}
 use Rattle.dspec_ctf.specs.declared.names.Names.{Names}
-use Rattle.dspec_trace_reading.proofs.Filing.{Filed, FilesLaws, add, tell}
-use Rattle.dspec_trace_reading.proofs.Folding.{Holds, all_accepted, one_text}
+use Rattle.dspec_trace_reading.proofs.Filing.{Filed, FilesLaws}
+use Rattle.dspec_trace_reading.proofs.Folding.{Holds, one_text}
 use Rattle.dspec_trace_reading.proofs.RowNaming.{cpus_differ, row_not_metadata}
-use Rattle.dspec_trace_reading.proofs.TimedAsking.{asked_then, came, few, lasts_before, lasts_elsewhere, lasts_here, lasts_of, missed_before, missed_elsewhere, missed_here, none_before}
-use Rattle.dspec_trace_reading.proofs.TimedAsking.{stays_then, stays_wide, told_before, told_elsewhere, told_here, writes_then}
+use Rattle.dspec_trace_reading.proofs.TimedAsking.{asked_then, came, few, lasts_elsewhere, lasts_of, missed_before, missed_elsewhere, missed_here, none_before}
+use Rattle.dspec_trace_reading.proofs.TimedAsking.{stays_then, stays_wide, told_elsewhere, told_here, told_then, writes_then}
+use Rattle.dspec_trace_reading.proofs.TimedFiles.{all_added, filed_now, filed_then}
 
 module _ (e : EnabledRows) where
   -- the place took writes, which left the metadata's file as it was
@@ -80,40 +81,30 @@ module _ (laws : FilesLaws) (uuid : List ℕ) (e : EnabledRows) (names : Names) 
       }
 
   -- a batch of the CPU brings its records behind those of the stream
-  goes_on : (old new : TimedTracing) (b : Batch) (adds : AddsBatch e old b new) (stream : List Record) → old.uuid ≡ uuid → b.cpu ≡ c → missed_by_time new c < 2 ^ 64
-      → Stands uuid e names hertz c old stream
-      → Stands uuid e names hertz c new (stream ++ adds.added.read)
-  goes_on old new b adds stream u here small s =
-      let missed : ℕ = adds.before + b.drops in
-      let read : List Record = adds.added.read in
-      let missed_is : missed_by_time new c ≡ missed = subst (λ n. missed_by_time new n ≡ missed) here (missed_here e old new b adds) in
-      let before_is : adds.before ≡ missed_by_time old c = subst (λ n. adds.before ≡ missed_by_time old n) here (missed_before e old new b adds) in
-      let told_was : adds.files.told ≡ slice_index old.told c = subst (λ n. adds.files.told ≡ slice_index old.told n) here (told_before e old new b adds) in
-      let told_is : slice_index new.told c ≡ missed = subst (λ n. slice_index new.told n ≡ missed) here (told_here e old new b adds) in
-      let lasts_was : adds.files.lasts ≡ lasts_of old c = subst (λ n. adds.files.lasts ≡ lasts_of old n) here (lasts_before e old new b adds) in
-      let lasts_is : lasts_of new c ≡ adds.after.lasts = subst (λ n. lasts_of new n ≡ adds.after.lasts) here (lasts_here e old new b adds) in
-      let first : Filed uuid e names hertz c adds.files.written adds.files.lasts adds.files.told stream =
-      subst (λ o. Filed uuid e names hertz c o adds.files.lasts adds.files.told stream) (sym adds.has.written)
-      (subst (λ xs. Filed uuid e names hertz c old.written xs adds.files.told stream) (sym lasts_was)
-      (subst (λ n. Filed uuid e names hertz c old.written (lasts_of old c) n stream) (sym (told_was ∙ s.told)) s.filed)) in
-      let tells : TellsMissed uuid adds.files.told missed c adds.files.lasts adds.files.written adds.added.mid =
-      subst (λ n. TellsMissed uuid adds.files.told missed n adds.files.lasts adds.files.written adds.added.mid) here
-      (subst (λ id. TellsMissed id adds.files.told missed b.cpu adds.files.lasts adds.files.written adds.added.mid) u adds.added.tells) in
-      let all : AddsAll uuid e missed c read 0 adds.files.lasts adds.added.mid adds.after.lasts adds.after.written =
-      subst (λ n. AddsAll uuid e missed n read 0 adds.files.lasts adds.added.mid adds.after.lasts adds.after.written) here
-      (subst (λ id. AddsAll id e missed b.cpu read 0 adds.files.lasts adds.added.mid adds.after.lasts adds.after.written) u adds.added.added) in
-      let told : Filed uuid e names hertz c adds.added.mid adds.files.lasts missed stream =
-      tell laws uuid e names hertz c low long stamped adds.files.written adds.added.mid adds.files.lasts adds.files.told missed stream (omega (arith, told_was, s.told, before_is))
-      (omega (arith, small, missed_is)) first tells in
-      let more : Filed uuid e names hertz c adds.after.written adds.after.lasts missed (stream ++ read) =
-      add laws uuid e names hertz c low long stamped adds.added.mid adds.after.written adds.files.lasts adds.after.lasts missed stream read (omega (arith, small, missed_is))
-      (all_accepted e read 0 b.buffer.text adds.added.is_text) told all in
+  brings : (old new : TimedTracing) (b : Batch) (adds : AddsBatch e old b new) (stream : List Record) → length old.uuid ≡ 16 → b.cpu < 64 → missed_by_time new b.cpu < 2 ^ 64
+      → Stands old.uuid e names hertz b.cpu old stream → Stands old.uuid e names hertz b.cpu new (stream ++ adds.added.read)
+  brings old new b adds stream sized few small s =
+      let missed_is = missed_here e old new b adds in
+      let before_is = missed_before e old new b adds in
+      let told_was = told_then old new b adds.before adds.files adds.after adds.has adds.changes in
+      let told_is : slice_index new.told b.cpu ≡ missed_by_time new b.cpu = told_here e old new b adds ∙ sym missed_is in
+      let first : Filed old.uuid e names hertz b.cpu adds.files.written adds.files.lasts adds.files.told stream =
+      filed_then old.uuid e names hertz old new b adds.before adds.files adds.after adds.has adds.changes stream
+      (subst (λ n. Filed old.uuid e names hertz b.cpu old.written (lasts_of old b.cpu) n stream) (sym s.told) s.filed) in
       record {
-        told = told_is ∙ sym missed_is;
-        filed = subst (λ o. Filed uuid e names hertz c o (lasts_of new c) (missed_by_time new c) (stream ++ read)) (sym adds.changes.written)
-            (subst (λ xs. Filed uuid e names hertz c adds.after.written xs (missed_by_time new c) (stream ++ read)) (sym lasts_is)
-            (subst (λ n. Filed uuid e names hertz c adds.after.written adds.after.lasts n (stream ++ read)) (sym missed_is) more));
+        told = told_is;
+        filed = subst (λ n. Filed old.uuid e names hertz b.cpu new.written (lasts_of new b.cpu) n (stream ++ adds.added.read)) told_is
+            (filed_now old.uuid e names hertz old new b adds.before adds.files adds.after adds.has adds.changes (stream ++ adds.added.read)
+            (all_added laws e names hertz stamped old.uuid sized adds.before b few adds.files adds.after stream (omega (arith, told_was, s.told, before_is))
+            (omega (arith, small, missed_is)) first adds.added));
       }
+
+  goes_on : (old new : TimedTracing) (b : Batch) (adds : AddsBatch e old b new) (stream : List Record) → old.uuid ≡ uuid → b.cpu ≡ c → missed_by_time new c < 2 ^ 64
+      → Stands uuid e names hertz c old stream → Stands uuid e names hertz c new (stream ++ adds.added.read)
+  goes_on old new b adds stream u here =
+      subst (λ n. missed_by_time new n < 2 ^ 64 → Stands uuid e names hertz n old stream → Stands uuid e names hertz n new (stream ++ adds.added.read)) here
+      (subst (λ id. missed_by_time new b.cpu < 2 ^ 64 → Stands id e names hertz b.cpu old stream → Stands id e names hertz b.cpu new (stream ++ adds.added.read)) u
+      (brings old new b adds stream (ap length u ∙ long) (omega (arith, here, low))))
 
   one : (old mid new : TimedTracing) (x : Passed) (xs : List Passed) (adds : AddsBatch e old x.batch mid) (stream rest : List Record) → old.uuid ≡ uuid → length old.missed ≡ 64
       → x.batch.cpu ≡ x.from → missed_by_time mid c < 2 ^ 64

@@ -14,7 +14,7 @@ use Rattle.dspec_trace_reading.proofs.Whole.{MetadataReads}
 
 module _ (metadata_law : MetadataReads) (laws : FilesLaws) (origin : Origin) (hertz : ℕ) (e : EnabledRows) (names : Names) (begun ended : TimedTracing)
     (is : IsTimedBegun origin hertz e names (Some []) begun) (passed : List Passed) (got : GotAll (GetsRuns e) begun passed ended) (none : ended.lost ≡ None) where
-  all : TimedStays e ended (timed_first origin hertz e names ∷ [])
+  pub all : TimedStays e ended (timed_first origin hertz e names ∷ [])
   all = metadata_stays e passed begun ended (timed_first origin hertz e names ∷ []) got none (asked origin hertz e names begun is)
 
   module _ (c : ℕ) (low : c < 64) (rs : List Record) (long : length origin.uuid ≡ 16) (small : missed_by_time ended c < 2 ^ 64) (own : HaveNumbers passed)
@@ -32,7 +32,7 @@ module _ (metadata_law : MetadataReads) (laws : FilesLaws) (origin : Origin) (he
         let both : Some stands.filed.writes ≡ Some all.0 = sym stands.filed.asked ∙ all.1.0 in
         cc (both)
 
-    files_read : ReadsFiles origin.uuid e names hertz c rs (drops_carried (passed_from c passed)) all.0
+    pub files_read : ReadsFiles origin.uuid e names hertz c rs (drops_carried (passed_from c passed)) all.0
     files_read = record {
       files = stands.filed.files;
       each = stands.filed.each;

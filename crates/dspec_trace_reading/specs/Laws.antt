@@ -9,7 +9,7 @@ use Rattle.dspec_ctf.specs.declared.form.Form.TheVariants.{AsTaken, ByTime}
 use Rattle.dspec_ctf.specs.declared.names.Names.{Names}
 use Rattle.dspec_ctf.specs.declared.origin.Origin.{Origin}
 use Rattle.dspec_trace_reading.specs.AsTaken.{ReadsAllKept, ReadsBack}
-use Rattle.dspec_trace_reading.specs.ByTime.{ReadsByTime, missed_by_time}
+use Rattle.dspec_trace_reading.specs.ByTime.{ReadsAllKeptByTime, ReadsByTime, missed_by_time}
 
 module _ (e : EnabledRows) (does : ℕ → CallsMade → CallsMade → Type 0) where
   -- a session of these enablings was traced, in which the work did that, and its sink went from one state to another
@@ -42,3 +42,10 @@ module _ (e : EnabledRows) (does : ℕ → CallsMade → CallsMade → Type 0) w
       → (t : TracedBy (GetsRuns e) k begun left ended) → ListedBy (GetsRuns e) k begun left ended → ended.lost ≡ None
       → length origin.uuid ≡ 16 → HasNumbers origin (ByTime hertz) e names → ((c : ℕ) → missed_by_time ended c < 2 ^ 64)
       → ReadsByTime origin.uuid e names hertz left (λ c l there. (t.promised.each c l there).seen) (λ c. passed_from c t.passed) ended.written
+
+  -- Some of it may have been lost: the folder is read as each CPU's stream without the records of its batches that were.
+  abbrev pub TimedKeptIsRead : Type 0
+  TimedKeptIsRead = (origin : Origin) (hertz : ℕ) (names : Names) (k : Config) (begun ended : TimedTracing) (left : List Left) → IsTimedBegun origin hertz e names (Some []) begun
+      → (t : TracedBy (GetsRuns e) k begun left ended) → ListedBy (GetsRuns e) k begun left ended
+      → length origin.uuid ≡ 16 → HasNumbers origin (ByTime hertz) e names → ((c : ℕ) → missed_by_time ended c + 1 < 2 ^ 64)
+      → ReadsAllKeptByTime origin.uuid e names hertz left (λ c. passed_from c t.passed) ended

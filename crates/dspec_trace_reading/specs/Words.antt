@@ -3,12 +3,12 @@ pub mod Outside
 unfoldable pub use Outside.*
 pub use Rattle.dspec_trace_reading.specs.AsTaken.{AreKept, drops_carried, HaveNumbers, ReadsAllKept, ReadsBack, ReadsKept, ReadsPart, told_on}
 pub use Rattle.dspec_trace_reading.specs.Begun.{HasOriginNumbers, IsBegunByTime, IsBegunTrace}
-pub use Rattle.dspec_trace_reading.specs.ByTime.{missed_by_time, ReadsByTime, ReadsFiles}
+pub use Rattle.dspec_trace_reading.specs.ByTime.{AreKeptInFront, missed_by_time, ReadsAllKeptByTime, ReadsByTime, ReadsFiles, ReadsKeptByTime, ReadsPartByTime, told_by_time}
 pub use Rattle.dspec_trace_reading.specs.Folders.{AreCountable, AreNamesOf, IsInFolder, missed_in}
 pub use Rattle.dspec_trace_reading.specs.IntoFolders.{IsTimedInto, IsTracedInto}
-pub use Rattle.dspec_trace_reading.specs.Laws.{KeptIsRead, ListedBy, TakenIsRead, TimedIsRead, TracedBy}
+pub use Rattle.dspec_trace_reading.specs.Laws.{KeptIsRead, ListedBy, TakenIsRead, TimedIsRead, TimedKeptIsRead, TracedBy}
 pub use Rattle.dspec_trace_reading.specs.Ran.{BothGet, IsOfTimedTrace, IsOfTrace, RanBegun, RanInto}
-pub use Rattle.dspec_trace_reading.specs.TimedFolders.{IsInTimedFolder, ReadsShares}
+pub use Rattle.dspec_trace_reading.specs.TimedFolders.{IsInTimedFolder}
 pub use Rattle.dspec_trace_reading.specs.declared.fault.ToFolderFault.{ToFolderFault}
 pub use Rattle.dspec_trace_reading.specs.declared.folder_trace.FolderTrace.{FolderTrace}
 pub use Rattle.dspec_trace_reading.specs.declared.running.Begun.{Begun}

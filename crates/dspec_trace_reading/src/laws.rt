@@ -3,7 +3,7 @@
 ghost use Rattle.std.specs.Prelude.{List};
 ghost use Rattle.dspec.specs.Serving.{ThenServed};
 ghost use Rattle.dspec.specs.Workers.{WorkedBy};
-ghost use Rattle.dspec_trace_reading.specs.Laws.{KeptIsRead, TakenIsRead, TimedIsRead};
+ghost use Rattle.dspec_trace_reading.specs.Laws.{KeptIsRead, TakenIsRead, TimedIsRead, TimedKeptIsRead};
 
 use dspec::{Enablings, Work, Worker};
 use dspec_ctf::laws::{files_have_all, runs_have_all};
@@ -20,10 +20,11 @@ pub fn trace_reads_back<W: Work<Enablings>>(_schema: &Enablings, _work: &W)
     live_file_reads_back();
 }
 
-/// The same by time, where nothing was lost. Each record of a CPU's stream is in one of its files, in order, and no other is; the first file
-/// tells how many the CPU dropped.
+/// The same by time. Where nothing was lost, each record of a CPU's stream is in one of its files, in order, and no other is; the first file
+/// tells how many the CPU dropped. Where some couldn't be written, it is so of the records that are kept: of each batch those up to some record.
 pub fn timed_trace_reads_back<W: Work<Enablings>>(_schema: &Enablings, _work: &W)
-    ensures { TimedIsRead _schema.now (ThenServed (W.does _schema.now _work.now)) }
+    ensures whole { TimedIsRead _schema.now (ThenServed (W.does _schema.now _work.now)) }
+    ensures kept { TimedKeptIsRead _schema.now (ThenServed (W.does _schema.now _work.now)) }
 {
     metadata_reads_back();
     live_file_reads_back();
@@ -37,6 +38,7 @@ pub fn workers_read_back<W: Worker<Enablings>>(_schema: &Enablings)
     ensures taken { (workers back : List W) → TakenIsRead _schema.now (ThenServed (WorkedBy (W.does _schema.now) workers back)) }
     ensures kept { (workers back : List W) → KeptIsRead _schema.now (ThenServed (WorkedBy (W.does _schema.now) workers back)) }
     ensures timed { (workers back : List W) → TimedIsRead _schema.now (ThenServed (WorkedBy (W.does _schema.now) workers back)) }
+    ensures timed_kept { (workers back : List W) → TimedKeptIsRead _schema.now (ThenServed (WorkedBy (W.does _schema.now) workers back)) }
 {
     metadata_reads_back();
     live_file_reads_back();

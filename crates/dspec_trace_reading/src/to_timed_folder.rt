@@ -105,8 +105,8 @@ fn begin<'a>(
 }
 
 /// As `trace_to_folder`, by time: several files for each CPU, whose records have stamps that don't fall, so that tools merge them. The session has to
-/// have stamps, and this is their clock. What is read of each CPU's files, where nothing was lost, is the stream that the page promises of it,
-/// each record in one file.
+/// have stamps, and this is their clock. What is read of each CPU's files is the stream that the page promises of it, each record in one file,
+/// without the records that were lost: of each batch those from some record on.
 pub fn trace_to_timed_folder<'a, R: Threads + Sync, W: Work<Enablings>, K: Sink<Enablings>>(
     rt: &'a HostRuntime,
     threads: &R,

@@ -15,6 +15,7 @@ unfoldable pub use Rattle.dspec_ctf.specs.Words.{filled_packets, form_fault, met
 pub use Rattle.dspec_ctf_reading.specs.Words.{event_of, EventRead, events_of, file_bytes, FileTells, FilledFilesReadBack, HasNumbers, last_missed, Layout, layout_of, loss_of, MetadataTells}
 pub use Rattle.dspec_ctf_reading.specs.Words.{MissedReadsBack, PacketRead, PartTells, read_file, read_metadata, RunsReadBack, ticks_of}
 unfoldable pub use Rattle.dspec_ctf_reading.specs.Words.{is_digit}
-pub use Rattle.dspec_ctf_sink.specs.Words.{AddsAll, AddsBatch, AddsPacket, AreNextOf, brought_to, capped, cpu_name, file_of, FileWrite, GetsPacket, GetsRuns, GetsTellings, HasSoManyRecords, IsBare}
-pub use Rattle.dspec_ctf_sink.specs.Words.{IsBatchFault, IsBegun, IsNothing, IsTelling, IsTimedBegun, LosesBatch, LosesPacket, lost_more, missed_on, Refuses, row_name, Takes, TakesAll, TellsMissed}
-pub use Rattle.dspec_ctf_sink.specs.Words.{TellsUntold, TimedTracing, Tracing, untold, written_in}
+pub use Rattle.dspec_ctf_sink.specs.Words.{AddsAll, AddsBatch, AddsPacket, AddsRuns, AreNextOf, brought_to, capped, ChangesFiles, cpu_name, CpuFiles, file_of, FileWrite, GetsPacket, GetsRuns}
+pub use Rattle.dspec_ctf_sink.specs.Words.{GetsTellings, HasFiles, HasNoCpu, HasSoManyRecords, IsBare, IsBatchFault, IsBatchLoss, IsBegun, IsNothing, IsNotTaken, IsTelling, IsTimedBegun, LosesAll}
+pub use Rattle.dspec_ctf_sink.specs.Words.{LosesBatch, LosesOfFiles, LosesPacket, LosesRest, lost_more, missed_on, Refuses, RefusesRun, row_name, StopsRun, Takes, TakesAll, TellsMissed, TellsUntold}
+pub use Rattle.dspec_ctf_sink.specs.Words.{TimedTracing, Tracing, untold, written_in}

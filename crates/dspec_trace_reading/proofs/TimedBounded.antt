@@ -1,0 +1,46 @@
+-- What a trace by time counts of a CPU as missed never falls, and is no more than its batches' drops and its records, however many are lost.
+use Rattle.std.proofs.Common.{◌≡◌, ◌≢◌, ◌<◌, ◌≤◌, ◌+◌, ◌^◌, ◌==◌, ℕ, Bool, true, false, if◌then◌else◌, List, [], ◌∷◌, refl, sym, ap, ◌∙◌, subst, arith, length, reverse}
+use Rattle.std.proofs.lemmas.List.{length-append}
+use Rattle.std.proofs.lemmas.Bool.{eqb-true, eqb-false}
+use Rattle.dspec_trace_reading.specs.Words.{Record, EnabledRows, records, Passed, GotAll, passed_from, GetsRuns, TimedTracing, HaveNumbers, drops_carried, missed_by_time}
+use Rattle.dspec_ring.specs.declared.batch.Batch.{Batch}
+use Rattle.dspec_trace_reading.proofs.Folding.{Holds, one_text}
+use Rattle.dspec_trace_reading.proofs.Keeping.{has_text}
+use Rattle.dspec_trace_reading.proofs.TimedLosing.{CameByTime, leaves, own_at_most, own_rises}
+
+module _ (e : EnabledRows) (c : ℕ) (low : c < 64) where
+  one_rises : (old new : TimedTracing) (b : Batch) → CameByTime e old b new → length old.missed ≡ 64 → missed_by_time new c + 1 < 2 ^ 64 → (q : Bool) → (b.cpu == c) ≡ q
+      → missed_by_time old c ≤ missed_by_time new c
+  one_rises old new b came wide small true is =
+      let here : b.cpu ≡ c = eqb-true b.cpu c is in
+      subst (λ n. n < 64 → missed_by_time new n + 1 < 2 ^ 64 → missed_by_time old n ≤ missed_by_time new n) here (λ few fits. own_rises e old new b few wide fits came) low small
+  one_rises old new b came wide small false is = omega (arith, (leaves e old new b came).missed c (eqb-false b.cpu c is))
+
+  pub rises : (bs : List Passed) (old new : TimedTracing) → GotAll (GetsRuns e) old bs new → length old.missed ≡ 64 → missed_by_time new c + 1 < 2 ^ 64
+      → missed_by_time old c ≤ missed_by_time new c
+  rises [] old new got wide small = subst (λ (t : TimedTracing). missed_by_time old c ≤ missed_by_time t c) got (omega arith)
+  rises (x ∷ xs) old new (mid, gets, rest) wide small =
+      let more = rises xs mid new rest ((leaves e old mid x.batch gets.came).wide ∙ wide) small in
+      omega (arith, more, one_rises old mid x.batch gets.came wide (omega (arith, more, small)) (x.batch.cpu == c) refl)
+
+  next_bounded : (old mid new : TimedTracing) (x : Passed) (xs : List Passed) (rs : List Record) → length old.missed ≡ 64 → x.batch.cpu ≡ x.from → CameByTime e old x.batch mid
+      → ((more : List Record) → Holds e (passed_from c xs) more → missed_by_time new c ≤ missed_by_time mid c + drops_carried (passed_from c xs) + length more)
+      → (q : Bool) → (x.from == c) ≡ q → Holds e (if q then x.batch ∷ passed_from c xs else passed_from c xs) rs
+      → missed_by_time new c ≤ missed_by_time old c + drops_carried (if q then x.batch ∷ passed_from c xs else passed_from c xs) + length rs
+  next_bounded old mid new x xs rs wide own came later false is holds =
+      let apart : x.batch.cpu ≢ c = λ s. eqb-false x.from c is (sym own ∙ s) in
+      omega (arith, (leaves e old mid x.batch came).missed c apart, later rs holds)
+  next_bounded old mid new x xs rs wide own came later true is (ps, more, has, sum, holds) =
+      let here : x.batch.cpu ≡ c = own ∙ eqb-true x.from c is in
+      let all : length rs ≡ length (reverse (records ps)) + length more = ap length sum ∙ length-append (reverse (records ps)) more in
+      let few : missed_by_time mid c ≤ missed_by_time old c + x.batch.drops + length (reverse (records ps)) =
+      subst (λ n. n < 64 → missed_by_time mid n ≤ missed_by_time old n + x.batch.drops + length (reverse (records ps))) here
+      (λ few. own_at_most e x.batch (reverse (records ps)) (has_text e x.batch ps has) (λ qs text. one_text e x.batch ps qs has text) old mid few wide came) low in
+      omega (arith, few, all, later more holds)
+
+  pub bounded : (bs : List Passed) (old new : TimedTracing) (rs : List Record) → GotAll (GetsRuns e) old bs new → length old.missed ≡ 64 → HaveNumbers bs → Holds e (passed_from c bs) rs
+      → missed_by_time new c ≤ missed_by_time old c + drops_carried (passed_from c bs) + length rs
+  bounded [] old new rs got wide own hold = subst (λ (t : TimedTracing). missed_by_time t c ≤ missed_by_time old c + 0 + length rs) got (omega arith)
+  bounded (x ∷ xs) old new rs (mid, gets, rest) wide (own, owns) hold =
+      next_bounded old mid new x xs rs wide own gets.came
+      (λ more holds. bounded xs mid new more rest ((leaves e old mid x.batch gets.came).wide ∙ wide) owns holds) (x.from == c) refl hold

@@ -1,0 +1,99 @@
+-- What all batches of a session bring to one CPU's files by time, where some of them may be lost.
+use Rattle.std.proofs.Common.{◌≡◌, ◌≢◌, ◌<◌, ◌≤◌, ◌+◌, ◌^◌, ◌==◌, ℕ, Bool, true, false, if◌then◌else◌, List, [], ◌∷◌, ◌++◌, Some, refl, sym, ap, ◌∙◌, subst, arith}
+use Rattle.std.proofs.Common.{length, reverse, codes, append_assoc, slice_index}
+use Rattle.std.proofs.lemmas.List.{append-nil}
+use Rattle.std.proofs.lemmas.Bool.{eqb-true, eqb-false}
+use Rattle.dspec_trace_reading.specs.Words.{Record, EnabledRows, records, Passed, GotAll, passed_from, GetsRuns, TimedTracing, row_name, FileWrite, HaveNumbers, drops_carried, AreKeptInFront}
+use Rattle.dspec_trace_reading.specs.Words.{missed_by_time}
+use Rattle.dspec_record.specs.declared.header.Header.TheVariants as header
+use Rattle.dspec_ring.specs.declared.batch.Batch.{Batch}
+use Rattle.dspec_ctf.specs.declared.names.Names.{Names}
+use Rattle.dspec_trace_reading.proofs.Filing.{Filed, FilesLaws, still_filed}
+use Rattle.dspec_trace_reading.proofs.Folding.{Holds, one_text}
+use Rattle.dspec_trace_reading.proofs.Keeping.{has_text}
+use Rattle.dspec_trace_reading.proofs.RowNaming.{cpus_differ, row_not_metadata}
+use Rattle.dspec_trace_reading.proofs.TimedAsking.{lasts_of}
+use Rattle.dspec_trace_reading.proofs.TimedBounded.{rises}
+use Rattle.dspec_trace_reading.proofs.TimedFolding.{TimedStays}
+use Rattle.dspec_trace_reading.proofs.TimedFronts.{KeepsFront, StandsInPart, keeps}
+use Rattle.dspec_trace_reading.proofs.TimedLosing.{CameByTime, Leaves, leaves}
+
+-- the metadata's file stays, whatever is lost
+pub metadata_kept : (e : EnabledRows) (bs : List Passed) (old new : TimedTracing) (was : List FileWrite) → GotAll (GetsRuns e) old bs new → old.written ≡ Some was → TimedStays e new was
+metadata_kept e [] old new was got asked = (was, (ap (λ (t : TimedTracing). t.written) (sym got) ∙ asked, refl))
+metadata_kept e (x ∷ xs) old new was (mid, gets, rest) asked =
+    let one = (leaves e old mid x.batch gets.came).files was asked in
+    let all = metadata_kept e xs mid new one.0 rest one.1.0 in
+    (all.0, (all.1.0, all.1.1 ∙ one.1.1 (codes "metadata") (λ there file. row_not_metadata x.batch.cpu file)))
+
+module _ (laws : FilesLaws) (uuid : List ℕ) (e : EnabledRows) (names : Names) (hertz c : ℕ) (low : c < 64) (long : length uuid ≡ 16) (stamped : e.header ≡ header.Two) where
+  -- the records that are kept of a CPU's batches, behind those of before
+  pub record KeptByTime (old new : TimedTracing) (bs : List Batch) (stream : List Record) : Type 0 where
+    pub kept : List Record
+    pub lost : ℕ
+    pub are_kept : AreKeptInFront e bs kept lost
+    pub counted : missed_by_time new c ≡ missed_by_time old c + drops_carried bs + lost
+    pub stands : StandsInPart uuid e names hertz c new (stream ++ kept)
+
+  -- a batch of another CPU changes nothing of it
+  passes : (old new : TimedTracing) (b : Batch) (stream : List Record) → Leaves old b new → length old.missed ≡ 64 → b.cpu ≢ c → StandsInPart uuid e names hertz c old stream
+      → StandsInPart uuid e names hertz c new stream
+  passes old new b stream l wide apart s =
+      let f = s.filed in
+      let told : slice_index old.told c ≡ slice_index new.told c = sym (l.told c apart) in
+      let lasts : lasts_of old c ≡ lasts_of new c = sym (l.lasts c apart) in
+      let next = l.files f.writes f.asked in
+      record {
+        told = omega (arith, told, l.missed c apart, s.told);
+        filed = subst (λ n. Filed uuid e names hertz c new.written (lasts_of new c) n stream) told
+            (still_filed uuid e names hertz c old.written new.written (lasts_of old c) (lasts_of new c) (slice_index old.told c) stream f next.0 next.1.0
+            (λ file is. next.1.1 (row_name c file) (λ there g. cpus_differ b.cpu c g file (omega (arith, there, wide)) low apart))
+            (subst (λ (xs : List ℕ). length xs ≤ 64) lasts f.few) (subst (λ (xs : List ℕ). slice_index xs 0 < 2 ^ 64) lasts f.first));
+      }
+
+  -- one of its own
+  own_kept : (old new : TimedTracing) (b : Batch) (rs stream : List Record) → Holds e (b ∷ []) rs → old.uuid ≡ uuid → b.cpu ≡ c → length old.missed ≡ 64
+      → missed_by_time new c + 1 < 2 ^ 64 → CameByTime e old b new → StandsInPart uuid e names hertz c old stream → KeepsFront uuid e names hertz c old b new stream
+  own_kept old new b rs stream (ps, more, has, sum, holds) u here wide small came s =
+      subst (λ n. n < 64 → missed_by_time new n + 1 < 2 ^ 64 → StandsInPart uuid e names hertz n old stream → KeepsFront uuid e names hertz n old b new stream) here
+      (subst (λ id. b.cpu < 64 → missed_by_time new b.cpu + 1 < 2 ^ 64 → StandsInPart id e names hertz b.cpu old stream → KeepsFront id e names hertz b.cpu old b new stream) u
+      (λ few fits so. keeps laws e names hertz stamped b old new (ap length u ∙ long) few wide fits (reverse (records ps)) (has_text e b ps has) (λ qs text. one_text e b ps qs has text) stream so
+      came))
+      low small s
+
+  next_kept : (old mid new : TimedTracing) (x : Passed) (xs : List Passed) (stream rest : List Record) → CameByTime e old x.batch mid → old.uuid ≡ uuid → length old.missed ≡ 64
+      → x.batch.cpu ≡ x.from → missed_by_time mid c + 1 < 2 ^ 64
+      → ((so_far more : List Record) → Holds e (passed_from c xs) more → StandsInPart uuid e names hertz c mid so_far → KeptByTime mid new (passed_from c xs) so_far)
+      → StandsInPart uuid e names hertz c old stream → (q : Bool) → (x.from == c) ≡ q → Holds e (if q then x.batch ∷ passed_from c xs else passed_from c xs) rest
+      → KeptByTime old new (if q then x.batch ∷ passed_from c xs else passed_from c xs) stream
+  next_kept old mid new x xs stream rest came u wide own small on s false is holds =
+      let apart : x.batch.cpu ≢ c = λ same. eqb-false x.from c is (sym own ∙ same) in
+      let l = leaves e old mid x.batch came in
+      let k = on stream rest holds (passes old mid x.batch stream l wide apart s) in
+      record { kept = k.kept; lost = k.lost; are_kept = k.are_kept; counted = omega (arith, k.counted, l.missed c apart); stands = k.stands }
+  next_kept old mid new x xs stream rest came u wide own small on s true is (ps, more, has, sum, holds) =
+      let o = own_kept old mid x.batch (reverse (records ps)) stream (ps, [], has, sym (append-nil (reverse (records ps))), refl) u (own ∙ eqb-true x.from c is) wide small came s in
+      let k = on (stream ++ o.front) more holds o.stands in
+      record {
+        kept = o.front ++ k.kept;
+        lost = length o.back + k.lost;
+        are_kept = (o.front, o.back, k.kept, k.lost, o.text, k.are_kept, refl, refl);
+        counted = omega (arith, k.counted, o.counted);
+        stands = subst (λ rs. StandsInPart uuid e names hertz c new rs) (append_assoc stream o.front k.kept) k.stands;
+      }
+
+  pub all_kept : (bs : List Passed) (old new : TimedTracing) (stream rest : List Record) → GotAll (GetsRuns e) old bs new → old.uuid ≡ uuid → length old.missed ≡ 64
+      → missed_by_time new c + 1 < 2 ^ 64 → HaveNumbers bs → Holds e (passed_from c bs) rest → StandsInPart uuid e names hertz c old stream
+      → KeptByTime old new (passed_from c bs) stream
+  all_kept [] old new stream rest got u wide small own hold s = subst (λ t. KeptByTime old t [] stream) got (record {
+    kept = [];
+    lost = 0;
+    are_kept = (refl, refl);
+    counted = omega arith;
+    stands = subst (λ rs. StandsInPart uuid e names hertz c old rs) (sym (append-nil stream)) s;
+  })
+  all_kept (x ∷ xs) old new stream rest (mid, gets, after) u wide small (own, owns) hold s =
+      let still = (leaves e old mid x.batch gets.came).wide ∙ wide in
+      let below : missed_by_time mid c + 1 < 2 ^ 64 = omega (arith, rises e c low xs mid new after still small, small) in
+      next_kept old mid new x xs stream rest gets.came u wide own below
+      (λ so_far more holds so. all_kept xs mid new so_far more after (gets.uuid ∙ u) still small owns holds so) s (x.from == c) refl hold

@@ -1,0 +1,64 @@
+-- A folder that was written by time, of which some may be lost, and what is read of it.
+use Rattle.std.proofs.Common.{◌≡◌, ◌<◌, ◌+◌, ◌^◌, ℕ, List, [], ◌∷◌, Some, sym, ap, ◌∙◌, subst, arith, length, map, codes, slice_get}
+use Rattle.dspec_trace_reading.specs.Words.{Record, EnabledRows, Passed, GotAll, passed_from, of_file, told_by, FileTells, event_of, layout_of, read_metadata, HasNumbers, GetsRuns, IsTimedBegun}
+use Rattle.dspec_trace_reading.specs.Words.{TimedTracing, row_name, file_of, HaveNumbers, ReadsAllKeptByTime, ReadsKeptByTime, missed_by_time, told_by_time}
+use Rattle.dspec_session_core.specs.declared.left.Left.{Left}
+use Rattle.dspec_ctf.specs.declared.form.Form.TheVariants.{ByTime}
+use Rattle.dspec_ctf.specs.declared.names.Names.{Names}
+use Rattle.dspec_ctf.specs.declared.origin.Origin.{Origin}
+use Rattle.dspec_trace_reading.proofs.Filing.{Filed, FilesLaws}
+use Rattle.dspec_trace_reading.proofs.Folding.{Holds}
+use Rattle.dspec_trace_reading.proofs.TimedAsking.{lasts_of}
+use Rattle.dspec_trace_reading.proofs.TimedBegun.{asked, begins, metadata_is, none_missed, stamped, timed_first}
+use Rattle.dspec_trace_reading.proofs.TimedFolding.{TimedStays}
+use Rattle.dspec_trace_reading.proofs.TimedKeeping.{KeptByTime, all_kept, metadata_kept}
+use Rattle.dspec_trace_reading.proofs.Whole.{MetadataReads}
+
+module _ (metadata_law : MetadataReads) (laws : FilesLaws) (origin : Origin) (hertz : ℕ) (e : EnabledRows) (names : Names) (begun ended : TimedTracing)
+    (is : IsTimedBegun origin hertz e names (Some []) begun) (passed : List Passed) (got : GotAll (GetsRuns e) begun passed ended) where
+  pub all_writes : TimedStays e ended (timed_first origin hertz e names ∷ [])
+  all_writes = metadata_kept e passed begun ended (timed_first origin hertz e names ∷ []) got (asked origin hertz e names begun is)
+
+  pub metadata_read : HasNumbers origin (ByTime hertz) e names → read_metadata (file_of (codes "metadata") all_writes.0) ≡ Some (layout_of e names (ByTime hertz))
+  metadata_read numbers = ap read_metadata (all_writes.1.1 ∙ metadata_is origin hertz e names) ∙ metadata_law origin (ByTime hertz) e names is.allowed numbers
+
+  module _ (c : ℕ) (low : c < 64) (rs : List Record) (long : length origin.uuid ≡ 16) (small : missed_by_time ended c + 1 < 2 ^ 64) (own : HaveNumbers passed)
+      (hold : Holds e (passed_from c passed) rs) where
+    all : KeptByTime laws origin.uuid e names hertz c low long (stamped origin hertz e names is.allowed) begun ended (passed_from c passed) []
+    all =
+        let start = begins origin hertz e names begun is origin.uuid c in
+        all_kept laws origin.uuid e names hertz c low long (stamped origin hertz e names is.allowed) passed begun ended [] rs got is.uuid_is (ap length is.missed) small own hold (record {
+          told = omega (arith, start.told);
+          filed = subst (λ n. Filed origin.uuid e names hertz c begun.written (lasts_of begun c) n []) (sym start.told) start.filed;
+        })
+
+    pub stream_kept : ReadsKeptByTime origin.uuid e names hertz c (passed_from c passed) all_writes.0 ended
+    stream_kept =
+        let f = all.stands.filed in
+        let both : Some f.writes ≡ Some all_writes.0 = sym f.asked ∙ all_writes.1.0 in
+        let same : f.writes ≡ all_writes.0 = cc (both) in
+        record {
+          kept = all.kept;
+          lost = all.lost;
+          are_kept = all.are_kept;
+          files = record {
+            files = f.files;
+            each = f.each;
+            few = f.below;
+            tells = λ file few.
+                subst (λ ws. FileTells (layout_of e names (ByTime hertz)) origin.uuid c (file_of (row_name c file) ws) (map (event_of e names (ByTime hertz)) (of_file file f.files all.kept))
+                (told_by file (told_by_time ended c))) same (f.tells file few);
+          };
+          counted = omega (arith, all.counted, none_missed origin hertz e names begun is c);
+          no_more = all.stands.told;
+        }
+
+  pub reads_kept : (left : List Left) (seen : (c : ℕ) (l : Left) → slice_get left c ≡ Some l → List Record) → length origin.uuid ≡ 16 → HasNumbers origin (ByTime hertz) e names
+      → ((c : ℕ) → missed_by_time ended c + 1 < 2 ^ 64) → HaveNumbers passed → ((c : ℕ) (l : Left) (there : slice_get left c ≡ Some l) → Holds e (passed_from c passed) (seen c l there))
+      → ReadsAllKeptByTime origin.uuid e names hertz left (λ c. passed_from c passed) ended
+  reads_kept left seen long numbers small own holds = record {
+    writes = all_writes.0;
+    asked = all_writes.1.0;
+    metadata = metadata_read numbers;
+    streams = λ c l low there. stream_kept c low (seen c l there) long (small c) own (holds c l there);
+  }
