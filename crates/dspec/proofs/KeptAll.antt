@@ -1,13 +1,12 @@
 -- What a sink keeps of a session of one CPU is what that CPU's batches hold.
-use Rattle.std.proofs.Common.{◌≡◌, ◌<◌, ◌==◌, true, if◌then◌else◌, List, [], ◌∷◌, ◌++◌, reverse, Option, Some, None, refl, sym, ap, ◌∙◌, subst, arith}
+use Rattle.std.proofs.Common.{◌≡◌, ◌<◌, ◌==◌, true, if◌then◌else◌, List, [], ◌∷◌, ◌++◌, Option, Some, None, refl, sym, ap, ◌∙◌, subst, arith}
 use Rattle.std.proofs.lemmas.Bool.Decides.{nat_tests}
 use Rattle.std.proofs.lemmas.List.{append-nil, append_assoc}
 use Rattle.std.proofs.lemmas.List.Elements.{All-head, All-tail}
-use Rattle.dspec.specs.Words.{Record, EnabledRows, enabled, table_shape, table_accepts, table_text, enabled-IsLimited, table-shapes_fit, table-texts_fit, table-texts_differ, records, HoldInOrder}
+use Rattle.dspec.specs.Words.{Record, EnabledRows, enabled, table_shape, table_accepts, table_text, enabled-IsLimited, table-shapes_fit, table-texts_fit, table-texts_differ, HoldRecords}
 use Rattle.dspec.specs.Words.{RecordSinkFault, SinkRecords, KeepsBatch, Passed, AreFrom, GotAll, passed_from}
 use Rattle.dspec_buffer.proofs.SchemaLaws.{SchemaLaws}
 use Rattle.dspec_buffer.proofs.OneReading.{one_reading}
-use Rattle.dspec_buffer.proofs.Walks.{reads_back}
 
 module _ (e : EnabledRows) where
   laws : SchemaLaws (table_shape e.header (enabled e.rows)) (table_accepts e.header (enabled e.rows)) (table_text e.header (enabled e.rows))
@@ -19,7 +18,7 @@ module _ (e : EnabledRows) where
   }
 
   abbrev pub Hold : List Passed → List Record → Type 0
-  Hold xs seen = HoldInOrder (table_shape e.header (enabled e.rows)) (table_accepts e.header (enabled e.rows)) (table_text e.header (enabled e.rows)) (passed_from 0 xs) seen
+  Hold xs seen = HoldRecords (table_shape e.header (enabled e.rows)) (table_accepts e.header (enabled e.rows)) (table_text e.header (enabled e.rows)) (passed_from 0 xs) seen
 
   -- behind a fault nothing changes
   fault_stays : (xs : List Passed) (k l : SinkRecords) (fault : RecordSinkFault) → k.fault ≡ Some fault → GotAll (KeepsBatch e) k xs l → l ≡ k
@@ -40,12 +39,11 @@ module _ (e : EnabledRows) where
   kept_all (x ∷ xs) old new seen fine none from (m, keeps, rest) hold =
       let first : x.from < 1 = All-head (λ (p : Passed). p.from < 1) x xs from in
       let same : (x.from == 0) ≡ true = grind (arith, nat_tests) in
-      let (ps, more, has, is, holds) = subst (λ q. HoldInOrder (table_shape e.header (enabled e.rows)) (table_accepts e.header (enabled e.rows))
+      let (held, more, has, many, is, holds) = subst (λ q. HoldRecords (table_shape e.header (enabled e.rows)) (table_accepts e.header (enabled e.rows))
       (table_text e.header (enabled e.rows)) (if q then x.batch ∷ passed_from 0 xs else passed_from 0 xs) seen) same hold in
       let went = unfaulted m.fault xs m new refl none rest in
       let added = keeps.kept fine went in
       let one = one_reading (table_shape e.header (enabled e.rows)) (table_accepts e.header (enabled e.rows)) (table_text e.header (enabled e.rows)) laws
-      0 x.batch.buffer.text added.added (reverse (records ps)) added.is_text
-      (reads_back (table_shape e.header (enabled e.rows)) (table_accepts e.header (enabled e.rows)) (table_text e.header (enabled e.rows)) laws x.batch.buffer ps has) in
+      0 x.batch.buffer.text added.added held added.is_text has in
       kept_all xs m new more went none (All-tail (λ (p : Passed). p.from < 1) x xs from) rest holds
       ∙ (ap (λ rs. rs ++ more) added.behind ∙ (append_assoc old.records added.added more ∙ ap (λ rs. old.records ++ rs) (ap (λ a. a ++ more) one ∙ sym is)))

@@ -4,7 +4,7 @@ use Rattle.dspec_record.specs.declared.field.Shape.{Shape}
 use Rattle.dspec_word.specs.declared.act.Act.TheVariants.{Attempt}
 use Rattle.dspec_core.specs.Words.{Speculation, SlotState, word_number, commit_at, discard_at, Decision, Commit, Discard, author, is_among, callers, halted, in_range, issue, word_at, IsAllowed}
 use Rattle.dspec_core.specs.Words.{commit_fate, answer_of, Expects, IsCoherent, OnItsWay, PlayState, StandsCpu, progress_of, cpu_step, call_goes_on, ends, wears, is_worn, same_word, committed_by}
-use Rattle.dspec_core.specs.Words.{discarded_by, act_of_decision, deed_of, decides, begun_of, load_of, try_of, shown_by, ShowsWords}
+use Rattle.dspec_core.specs.Words.{discarded_by, act_of_decision, deed_of, decides, begun_of, load_of, try_of, shown_by, ShowsWords, measured}
 use Rattle.dspec_deeds.specs.declared.calls.Actor.TheVariants.{Cpu}
 use Rattle.dspec_deeds.specs.declared.calls.Answer.{Answer}
 use Rattle.dspec_deeds.specs.declared.calls.Answer.TheVariants as answer
@@ -15,7 +15,8 @@ use Rattle.dspec_deeds.specs.declared.deed.DecideFate.TheVariants as decided
 use Rattle.dspec_deeds.specs.declared.deed.Deed.{Deed}
 use Rattle.dspec_interleaving.specs.declared.flight.CpuProgress.{CpuProgress}
 use Rattle.dspec_deeds.proofs.WordActs.{commit_attempt, discard_attempt}
-use Rattle.dspec_interleaving.proofs.DecideMoves.{commit_leaves, commit_next, commit_voids, committed_deeds, discard_leaves, discard_next, discard_voids}
+use Rattle.dspec_interleaving.proofs.StepDeeds.{committed_deeds}
+use Rattle.dspec_interleaving.proofs.DecideMoves.{commit_leaves, commit_next, commit_voids, discard_leaves, discard_next, discard_voids}
 use Rattle.dspec_interleaving.proofs.StepReads.{flight_stands, step_legal}
 use Rattle.dspec_interleaving.proofs.StepsWords.{same_word_tells}
 use Rattle.dspec_interleaving.proofs.TableReads.{commit_reads, discard_reads}
@@ -65,10 +66,10 @@ act_reads Discard h c id w mine is told = discard_reads h c id w mine is told
 module _ (shape : ℕ → Option Shape) (k : Config) (c : ℕ) (h : List Deed) (me : CpuProgress) (id : Speculation) where
   -- the first step
   pub begins : (d : Decision) → cpu_step shape k c h me (begun_of d id)
-      ≡ (if is_worn k c h then wears shape k c h me (answer.Decided decided_answer.Worn)
-      else if halted h then ends shape k c h me (deed_of d c id decided.Stopped ∷ []) (answer_of decided.Stopped)
-      else if in_range k id then call_goes_on shape k c h me [] (load_of d id)
-      else ends shape k c h me (deed_of d c id decided.Void ∷ []) (answer_of decided.Void))
+      ≡ (if is_worn k c h then wears me (answer.Decided decided_answer.Worn)
+      else if halted h then ends me (deed_of d c id decided.Stopped ∷ []) (answer_of decided.Stopped)
+      else if in_range k id then call_goes_on me [] (load_of d id)
+      else ends me (deed_of d c id decided.Void ∷ []) (answer_of decided.Void))
   begins Commit = refl
   begins Discard = refl
 
@@ -92,7 +93,7 @@ module _ (shape : ℕ → Option Shape) (k : Config) (c : ℕ) (h : List Deed) (
 
   -- the table attempts nothing
   pub shown_voids : (d : Decision) → ((to : SlotState) → act_of_decision d (word_at id.slot h) id (is_among c (callers id h)) ≢ Attempt to)
-      → shown_by shape k c h me d id ≡ ends shape k c h me (deed_of d c id decided.Void ∷ []) (answer_of decided.Void)
+      → shown_by shape k c h me d id ≡ ends me (deed_of d c id decided.Void ∷ []) (answer_of decided.Void)
   shown_voids Commit none = commit_voids shape k c h me id (word_at id.slot h) (commit_at (word_at id.slot h) id (is_among c (callers id h))) none
   shown_voids Discard none = discard_voids shape k c h me id (word_at id.slot h) (discard_at (word_at id.slot h) id (is_among c (callers id h))) none
 
@@ -104,18 +105,18 @@ module _ (shape : ℕ → Option Shape) (k : Config) (c : ℕ) (h : List Deed) (
 
   -- an exchange that succeeds
   try_commits : (from to : SlotState) → same_word (word_at id.slot h) from ≡ true → commit_at (word_at id.slot h) id (is_among c (callers id h)) ≡ Attempt to
-      → cpu_step shape k c h me (try_of Commit id from) ≡ committed_by shape k c h me id (Attempt to)
+      → cpu_step shape k c h me (try_of Commit id from) ≡ committed_by k c (measured shape k c h) me id (Attempt to)
   try_commits from to same act =
       let expected : commit_at from id (is_among c (callers id h)) ≡ Attempt to =
       ap (λ (w : SlotState). commit_at w id (is_among c (callers id h))) (sym (same_word_tells (word_at id.slot h) from same)) ∙ act in
-      rw same (ap (committed_by shape k c h me id) expected)
+      rw same (ap (committed_by k c (measured shape k c h) me id) expected)
 
   try_discards : (from to : SlotState) → same_word (word_at id.slot h) from ≡ true → discard_at (word_at id.slot h) id (is_among c (callers id h)) ≡ Attempt to
-      → cpu_step shape k c h me (try_of Discard id from) ≡ discarded_by shape k c h me id (Attempt to)
+      → cpu_step shape k c h me (try_of Discard id from) ≡ discarded_by k c (measured shape k c h) me id (Attempt to)
   try_discards from to same act =
       let expected : discard_at from id (is_among c (callers id h)) ≡ Attempt to =
       ap (λ (w : SlotState). discard_at w id (is_among c (callers id h))) (sym (same_word_tells (word_at id.slot h) from same)) ∙ act in
-      rw same (ap (discarded_by shape k c h me id) expected)
+      rw same (ap (discarded_by k c (measured shape k c h) me id) expected)
 
 -- an exchange that is tried, in a coherent state, and the word that it is shown
 module _ {shape : ℕ → Option Shape} {st : PlayState} (coherent : IsCoherent shape st) (c : ℕ) (lt : c < st.config.cpus) (d : Decision) (id : Speculation) (from : SlotState)
@@ -144,12 +145,14 @@ module _ {shape : ℕ → Option Shape} {st : PlayState} (coherent : IsCoherent 
 
       -- a commit: its step, that its deed is legal, the word that it leaves, and that the speculation is the present one
       pub commit_is : d ≡ Commit
-          → cpu_step shape st.config c st.deeds (progress_of st.progresses c) (try_of d id from) ≡ committed_by shape st.config c st.deeds (progress_of st.progresses c) id (Attempt to)
+          → cpu_step shape st.config c st.deeds (progress_of st.progresses c) (try_of d id from)
+          ≡ committed_by st.config c (measured shape st.config c st.deeds) (progress_of st.progresses c) id (Attempt to)
       commit_is e = ap (λ x. cpu_step shape st.config c st.deeds (progress_of st.progresses c) (try_of x id from)) e
           ∙ try_commits shape st.config c st.deeds (progress_of st.progresses c) id from to (expected (word_at id.slot st.deeds) w from test is tests same) (acts Commit e)
 
       pub commit_legal : d ≡ Commit → IsAllowed shape st.config (deed_of Commit c id (commit_fate shape st.config c st.deeds id) ∷ st.deeds)
-      commit_legal e = subst (λ (ds : List Deed). IsAllowed shape st.config (ds ++ st.deeds)) (committed_deeds shape st.config c st.deeds (progress_of st.progresses c) id (Attempt to))
+      commit_legal e = subst (λ (ds : List Deed). IsAllowed shape st.config (ds ++ st.deeds))
+          (committed_deeds st.config c (measured shape st.config c st.deeds) (progress_of st.progresses c) id (Attempt to))
           (step_legal shape st coherent c lt (try_of d id from) flies _ (commit_is e))
 
       pub commit_word : d ≡ Commit → to ≡ word_at id.slot (deed_of Commit c id (commit_fate shape st.config c st.deeds id) ∷ st.deeds)
@@ -159,15 +162,15 @@ module _ {shape : ℕ → Option Shape} {st : PlayState} (coherent : IsCoherent 
       commit_present e = sym (commit_attempt st.config st.deeds id c to coherent.legal.0 (acts Commit e)).0
 
       -- and a discard
-      pub discard_is : d ≡ Discard → cpu_step shape st.config c st.deeds (progress_of st.progresses c) (try_of d id from) ≡ discarded_by shape st.config c st.deeds
-          (progress_of st.progresses c) id (Attempt to)
+      pub discard_is : d ≡ Discard → cpu_step shape st.config c st.deeds (progress_of st.progresses c) (try_of d id from)
+          ≡ discarded_by st.config c (measured shape st.config c st.deeds) (progress_of st.progresses c) id (Attempt to)
       discard_is e = ap (λ x. cpu_step shape st.config c st.deeds (progress_of st.progresses c) (try_of x id from)) e
           ∙ try_discards shape st.config c st.deeds (progress_of st.progresses c) id from to (expected (word_at id.slot st.deeds) w from test is tests same) (acts Discard e)
 
-      pub discard_legal : d ≡ Discard → IsAllowed shape st.config ((discarded_by shape st.config c st.deeds (progress_of st.progresses c) id (Attempt to)).deeds ++ st.deeds)
+      pub discard_legal : d ≡ Discard → IsAllowed shape st.config ((discarded_by st.config c (measured shape st.config c st.deeds) (progress_of st.progresses c) id (Attempt to)).deeds ++ st.deeds)
       discard_legal e = step_legal shape st coherent c lt (try_of d id from) flies _ (discard_is e)
 
-      pub discard_word : d ≡ Discard → to ≡ word_at id.slot ((discarded_by shape st.config c st.deeds (progress_of st.progresses c) id (Attempt to)).deeds ++ st.deeds)
+      pub discard_word : d ≡ Discard → to ≡ word_at id.slot ((discarded_by st.config c (measured shape st.config c st.deeds) (progress_of st.progresses c) id (Attempt to)).deeds ++ st.deeds)
       discard_word e = discard_leaves shape st.config c st.deeds (progress_of st.progresses c) id to coherent.legal.0 (acts Discard e) (discard_legal e).0
 
       pub discard_present : d ≡ Discard → id.issue ≡ issue id.slot st.deeds

@@ -24,8 +24,8 @@ use Rattle.dspec_interleaving.proofs.CpuSteps.{cpu_step_stands}
 use Rattle.dspec_interleaving.proofs.FlightsStay.{flights_stay}
 use Rattle.dspec_interleaving.proofs.KeptCalls.{step_passes}
 use Rattle.dspec_interleaving.proofs.OwnAnswersPlay.{put}
-use Rattle.dspec_interleaving.proofs.StepEnds.{HasEnded, HasGoneOn, cpu_advances}
-use Rattle.dspec_interleaving.proofs.WornCpuSteps.{ahead, enters, cpu_step_wears}
+use Rattle.dspec_interleaving.proofs.StepEnds.{HasEnded, HasGoneOn}
+use Rattle.dspec_interleaving.proofs.WornCpuSteps.{ahead, enters, cpu_step_wears, cpu_advances}
 
 -- a deed that counts was entered by the call in flight, or is to come, or neither
 abbrev spent : Option CallPlace → ℕ
@@ -126,7 +126,7 @@ step_within shape k c h me f was =
     let none : ahead m.progress.flight ≡ 0 = ap ahead e.idle in
     let left : calls c (m.deeds ++ h) + 0 ≤ k.max_calls = omega arith in
     subst (λ x. IsWithin k c (m.deeds ++ h) x) (sym e.idle) left)
-    (λ (g : HasGoneOn k me _ m).
+    (λ (g : HasGoneOn k me _ _ m).
     let same : op_of g.next ≡ op_of f = step_passes (λ o. o ≡ op_of f) shape k c h me f refl g.next g.flight in
     let spends = room k c h f m.answer (spent (Some g.next)) was wears.told (spent_once g.next)
     (λ e. spent_never g.next (ap (λ o. is_counted (op.Cpu o)) same ∙ e)) (λ e. absurd (cc (ap is_told_worn g.answers, e))) in

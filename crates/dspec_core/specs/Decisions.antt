@@ -2,7 +2,7 @@
 use Rattle.std.specs.Prelude.{ℕ, Bool, List, Option}
 use Rattle.dspec_record.specs.declared.field.Shape.{Shape}
 use Rattle.dspec_word.specs.declared.act.Act.{Act}
-use Rattle.dspec_core.specs.Words.Outside.{Speculation, SlotState, commit_at, discard_at, is_commit, is_discard, is_among, callers, word_at, CpuStep, shown_commit, shown_discard}
+use Rattle.dspec_core.specs.Words.Outside.{Speculation, SlotState, commit_at, discard_at, is_commit, is_discard, is_among, callers, word_at, CpuStep, shown_commit, shown_discard, measured}
 use Rattle.dspec_deeds.specs.declared.calls.CpuOp.TheVariants as cpu_op
 use Rattle.dspec_deeds.specs.declared.config.Config.{Config}
 use Rattle.dspec_deeds.specs.declared.deed.DecideFate.{DecideFate}
@@ -44,5 +44,5 @@ try_of Discard id from = flight.DiscardTry id from
 
 -- what the word of the slot makes of the call, where it isn't the one that was expected
 abbrev pub shown_by : (ℕ → Option Shape) → Config → ℕ → List Deed → CpuProgress → Decision → Speculation → CpuStep
-shown_by shape k c h me Commit id = shown_commit shape k c h me id (word_at id.slot h) (commit_at (word_at id.slot h) id (is_among c (callers id h)))
-shown_by shape k c h me Discard id = shown_discard shape k c h me id (word_at id.slot h) (discard_at (word_at id.slot h) id (is_among c (callers id h)))
+shown_by shape k c h me Commit id = shown_commit k c (measured shape k c h) me id (word_at id.slot h) (commit_at (word_at id.slot h) id (is_among c (callers id h)))
+shown_by shape k c h me Discard id = shown_discard k c (measured shape k c h) me id (word_at id.slot h) (discard_at (word_at id.slot h) id (is_among c (callers id h)))

@@ -7,6 +7,7 @@ pub use Rattle.dspec_deeds.specs.Settling
 pub use Rattle.dspec_deeds.specs.Reports
 pub use Rattle.dspec_deeds.specs.Fates
 pub use Rattle.dspec_deeds.specs.Headline
+pub use Rattle.dspec_interleaving.specs.Step
 pub use Rattle.dspec_interleaving.specs.Play
 pub use Rattle.dspec_interleaving.specs.Coherent
 pub use Rattle.dspec_interleaving.specs.Turns

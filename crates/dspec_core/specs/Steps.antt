@@ -2,7 +2,7 @@
 use Rattle.std.specs.Prelude.{ℕ, ◌+◌, ◌-◌, ◌^◌, min, List, [], ◌∷◌, slice_set, Option, Some, None}
 use Rattle.dspec_record.specs.declared.field.Shape.{Shape}
 use Rattle.dspec_core.specs.Words.Outside.{Record, Piece, Speculation, SlotState, commit_fate, answer_of, CpuStep, ConsumerStep, ends, cpu_step, consumer_step, spoken_at, committed_by, discarded_by}
-use Rattle.dspec_core.specs.Words.Outside.{missed, loads_service, served, takes_at, PlayState, progress_of}
+use Rattle.dspec_core.specs.Words.Outside.{missed, loads_service, served, takes_at, PlayState, progress_of, measured}
 use Rattle.dspec_word.specs.declared.act.Act.TheVariants.{Attempt}
 use Rattle.dspec_deeds.specs.declared.calls.Answer.{Answer}
 use Rattle.dspec_deeds.specs.declared.calls.Served.{Served}
@@ -51,17 +51,17 @@ module _ {S B : Type 0} (shape_of : S → ℕ → Option Shape) (m : Machine S B
   step_at f = cpu_step (shape_of m.schema) m.config c (history m) (progress_at m c) f
 
   abbrev pub moved_speculate : Speculation → Record → CpuStep
-  moved_speculate id r = spoken_at (shape_of m.schema) m.config c (history m) (progress_at m c) id r
+  moved_speculate id r = spoken_at m.config c (measured (shape_of m.schema) m.config c (history m)) (progress_at m c) id r
 
   -- the deed of the CPU's commit, where it decides
   abbrev pub commit_deed : Speculation → Deed
   commit_deed id = Commit c id (commit_fate (shape_of m.schema) m.config c (history m) id)
 
   abbrev pub moved_commit : Speculation → SlotState → CpuStep
-  moved_commit id to = committed_by (shape_of m.schema) m.config c (history m) (progress_at m c) id (Attempt to)
+  moved_commit id to = committed_by m.config c (measured (shape_of m.schema) m.config c (history m)) (progress_at m c) id (Attempt to)
 
   abbrev pub moved_discard : Speculation → SlotState → CpuStep
-  moved_discard id to = discarded_by (shape_of m.schema) m.config c (history m) (progress_at m c) id (Attempt to)
+  moved_discard id to = discarded_by m.config c (measured (shape_of m.schema) m.config c (history m)) (progress_at m c) id (Attempt to)
 
   -- what the word that is shown makes of a call that decides
   abbrev pub shows : Decision → Speculation → CpuStep
@@ -69,16 +69,16 @@ module _ {S B : Type 0} (shape_of : S → ℕ → Option Shape) (m : Machine S B
 
   -- the call ends with the deed of that fate
   abbrev pub ends_with : Decision → Speculation → DecideFate → CpuStep
-  ends_with d id f = ends (shape_of m.schema) m.config c (history m) (progress_at m c) (deed_of d c id f ∷ []) (answer_of f)
+  ends_with d id f = ends (progress_at m c) (deed_of d c id f ∷ []) (answer_of f)
 
   abbrev pub moved_miss : ℕ → SlotState → CpuStep
-  moved_miss s w = missed (shape_of m.schema) m.config c (history m) (progress_at m c) s w
+  moved_miss s w = missed m.config c (measured (shape_of m.schema) m.config c (history m)) (progress_at m c) s w
 
   abbrev pub loads : ℕ → Served → CpuStep
-  loads s sum = loads_service (shape_of m.schema) m.config c (history m) (progress_at m c) s sum
+  loads s sum = loads_service m.config c (measured (shape_of m.schema) m.config c (history m)) (progress_at m c) s sum
 
   abbrev pub moved_service : ℕ → Served → CpuStep
-  moved_service s sum = served (shape_of m.schema) m.config c (history m) (progress_at m c) s [] sum
+  moved_service s sum = served m.config c (measured (shape_of m.schema) m.config c (history m)) (progress_at m c) s [] sum
 
 -- the step of a CPU whose call is at that place makes this of a machine, with that answer
 abbrev pub StepsAs : {S B : Type 0} → (B → S → List Piece → Type 0) → (B → ℕ) → (S → ℕ → Option Shape) → Machine S B → Machine S B → ℕ → CallPlace → Option Answer → Type 0

@@ -1,8 +1,9 @@
 -- The deeds of a call on a slot, by what it was shown.
 use Rattle.std.proofs.Common.{◌≡◌, ◌≢◌, ℕ, ◌+◌, ◌==◌, Bool, true, false, List, [], ◌∷◌, ◌++◌, if◌then◌else◌, Option, None, refl, sym}
 use Rattle.std.proofs.Common.{ap, ◌∙◌, true≢false, append_assoc}
-use Rattle.dspec_cpu.specs.Words.{Speculation, SlotState, is_inactive, speculate_act, commit_act, discard_act, in_range, at_activity, at_word, at_hit, at_exchange, speculates, void_commit}
-use Rattle.dspec_cpu.specs.Words.{void_discard, discard_hits, IsOn, flight_after, Reach, Goes, rests, steps, act_of, act_reached, is_reached, is_attempt, reached_deeds, is_stopped_reach}
+use Rattle.dspec_cpu.specs.Words.{Speculation, SlotState, is_inactive, speculate_act, commit_act, discard_act, in_range, at_activity, at_exchange, IsOn, flight_after, Reach, Goes, rests, steps}
+use Rattle.dspec_cpu.specs.Words.{act_of, act_reached, is_reached, is_attempt, reached_deeds, is_stopped_reach, commit_at, shown, idle_progress, shown_speculate, shown_commit, shown_discard}
+use Rattle.dspec_cpu.specs.Words.{discarded_by}
 use Rattle.dspec_word.specs.declared.code.Code.{Code}
 use Rattle.dspec_word.specs.declared.code.Code.TheVariants.{Inactive, Active, ActiveOne, ActiveMany, Committing, CommittingMany, Discarding}
 use Rattle.dspec_word.specs.declared.act.Act.{Act}
@@ -10,13 +11,13 @@ use Rattle.dspec_word.specs.declared.act.Act.TheVariants.{Void, Granted, Idle}
 use Rattle.dspec_deeds.specs.declared.config.Config.{Config}
 use Rattle.dspec_deeds.specs.declared.calls.CpuOp.{CpuOp}
 use Rattle.dspec_deeds.specs.declared.calls.CpuOp.TheVariants as op
-use Rattle.dspec_deeds.specs.declared.deed.SpeculateFate.TheVariants as spoken
 use Rattle.dspec_deeds.specs.declared.deed.DecideFate.TheVariants as decided
 use Rattle.dspec_deeds.specs.declared.deed.Deed.{Deed}
-use Rattle.dspec_deeds.specs.declared.deed.Deed.TheVariants.{Speculate, Commit, Discard, Release}
-use Rattle.dspec_deeds.proofs.TestLemmas.{same_number}
+use Rattle.dspec_deeds.specs.declared.deed.Deed.TheVariants.{Discard, Release}
+use Rattle.dspec_deeds.proofs.TestLemmas.{same_number, off}
 use Rattle.dspec_table.specs.declared.rule.View.{View}
 use Rattle.dspec_table.specs.declared.doing.Doing.{Doing}
+use Rattle.dspec_interleaving.proofs.StepDeeds.{by_test, spoken_deeds, committed_deeds, discarded_deeds}
 use Rattle.dspec_cpu.specs.declared.reaching.Reach.TheVariants as reach
 use Rattle.dspec_cpu.proofs.Retries.{here_or_void, attempt_is}
 
@@ -34,9 +35,12 @@ stopped_deeds k c doing id op.Speculation on = absurd on
 stopped_deeds k c doing id op.Service on = absurd on
 
 pub outside_deeds : (k : Config) (c : ℕ) (doing : Doing) (id : Speculation) (o : CpuOp) → IsOn id o → in_range k id ≡ false → at_activity k c doing o false ≡ reached_deeds c doing o reach.Void
-outside_deeds k c doing id (op.Speculate j r) on out = ap (λ b. if b then [] else Speculate c j r spoken.Void ∷ []) (ap (in_range k) on ∙ out)
-outside_deeds k c doing id (op.Commit j) on out = ap (λ b. if b then [] else Commit c j decided.Void ∷ []) (ap (in_range k) on ∙ out)
-outside_deeds k c doing id (op.Discard j) on out = ap (λ b. if b then [] else Discard c j decided.Void ∷ []) (ap (in_range k) on ∙ out)
+outside_deeds k c doing id (op.Speculate j r) on out =
+    by_test (λ ds. ds ≡ reached_deeds c doing (op.Speculate j r) reach.Void) (in_range k j) _ _ (λ t. off (in_range k j) t (ap (in_range k) on ∙ out)) (λ f. refl)
+outside_deeds k c doing id (op.Commit j) on out =
+    by_test (λ ds. ds ≡ reached_deeds c doing (op.Commit j) reach.Void) (in_range k j) _ _ (λ t. off (in_range k j) t (ap (in_range k) on ∙ out)) (λ f. refl)
+outside_deeds k c doing id (op.Discard j) on out =
+    by_test (λ ds. ds ≡ reached_deeds c doing (op.Discard j) reach.Void) (in_range k j) _ _ (λ t. off (in_range k j) t (ap (in_range k) on ∙ out)) (λ f. refl)
 outside_deeds k c doing id (op.Trace r) on out = absurd on
 outside_deeds k c doing id op.Speculation on out = absurd on
 outside_deeds k c doing id op.Service on out = absurd on
@@ -109,25 +113,22 @@ granted_is q = absurd (cc (q))
 
 -- the deeds of the last step
 pub ended_deeds : (k : Config) (c slot : ℕ) (doing : Doing) (id : Speculation) (word : SlotState) (o : CpuOp) (r : Reach) → IsOn id o → act_of o word doing.mine ≡ act_reached r
-    → (r ≡ reach.Stopped → ⊥) → (if is_attempt (act_reached r) then at_hit c doing word o else at_word k c doing slot word o) ≡ reached_deeds c doing o r
+    → (r ≡ reach.Stopped → ⊥) → at_exchange k c doing slot word (is_attempt (act_reached r)) o ≡ reached_deeds c doing o r
 ended_deeds k c slot doing id word o reach.Stopped on e n = absurd (n refl)
-ended_deeds k c slot doing id word (op.Speculate j r) reach.Void on e n = ap (speculates c doing j r) e
-ended_deeds k c slot doing id word (op.Commit j) reach.Void on e n = ap (void_commit c j) e
-ended_deeds k c slot doing id word (op.Discard j) reach.Void on e n = ap (void_discard c j) e
-ended_deeds k c slot doing id word (op.Speculate j r) reach.Granted on e n = ap (speculates c doing j r) e
+ended_deeds k c slot doing id word (op.Speculate j r) reach.Void on e n = ap (λ a. (shown_speculate k c (shown doing word false) idle_progress j r word a).deeds) e
+ended_deeds k c slot doing id word (op.Commit j) reach.Void on e n = ap (λ a. (shown_commit k c (shown doing word false) idle_progress j word a).deeds) e
+ended_deeds k c slot doing id word (op.Discard j) reach.Void on e n = ap (λ a. (shown_discard k c (shown doing word false) idle_progress j word a).deeds) e
+ended_deeds k c slot doing id word (op.Speculate j r) reach.Granted on e n =
+    ap (λ a. (shown_speculate k c (shown doing word false) idle_progress j r word a).deeds) e ∙ spoken_deeds k c (shown doing word false) idle_progress j r
 ended_deeds k c slot doing id word (op.Commit j) reach.Granted on e n = absurd (commit_grants_none word.issue doing.mine word.code (here_or_void (word.issue == j.issue) _ Granted e granted_is).1)
 ended_deeds k c slot doing id word (op.Discard j) reach.Granted on e n = absurd (discard_grants_none word.issue doing.mine word.code (here_or_void (word.issue == j.issue) _ Granted e granted_is).1)
-ended_deeds k c slot doing id word (op.Speculate j r) (reach.Done to) on e n = refl
-ended_deeds k c slot doing id word (op.Commit j) (reach.Done to) on e n = refl
-ended_deeds k c slot doing id word (op.Discard j) (reach.Done to) on e n = ap (discard_hits c doing j) e
+ended_deeds k c slot doing id word (op.Speculate j r) (reach.Done to) on e n = spoken_deeds k c (shown doing word true) idle_progress j r
+ended_deeds k c slot doing id word (op.Commit j) (reach.Done to) on e n = committed_deeds k c (shown doing word true) idle_progress j (commit_at word j doing.mine)
+ended_deeds k c slot doing id word (op.Discard j) (reach.Done to) on e n =
+    ap (λ a. (discarded_by k c (shown doing word true) idle_progress j a).deeds) e ∙ discarded_deeds k c (shown doing word true) idle_progress j to
 ended_deeds k c slot doing id word (op.Trace r) x on e n = absurd on
 ended_deeds k c slot doing id word op.Speculation x on e n = absurd on
 ended_deeds k c slot doing id word op.Service x on e n = absurd on
-
-pub exchange_is : (k : Config) (c : ℕ) (doing : Doing) (slot : ℕ) (word : SlotState) (b : Bool)
-    → at_exchange k c doing slot word b ≡ (if b then at_hit c doing word doing.op else at_word k c doing slot word doing.op)
-exchange_is k c doing slot word true = refl
-exchange_is k c doing slot word false = refl
 
 -- what isn't void was shown in the identifier's issue
 pub reached_now : (o : CpuOp) (id : Speculation) (word : SlotState) (mine : Bool) (a : Act) → IsOn id o → act_of o word mine ≡ a → a ≢ Void → word.issue ≡ id.issue

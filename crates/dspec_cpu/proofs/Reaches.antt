@@ -21,7 +21,7 @@ use Rattle.dspec_cpu.proofs.Stopping.{shown_stop, shown_running}
 use Rattle.dspec_cpu.proofs.Mine.{own_mine_tells}
 use Rattle.dspec_cpu.proofs.Ready.{stands_behind, stands_called}
 use Rattle.dspec_cpu.proofs.Touching.{touched_more, touched_on, touched_one, touched_wider}
-use Rattle.dspec_cpu.proofs.ReachDeeds.{ended_deeds, exchange_is, goes_on, is_no_void, outside_deeds, reached_ends, reached_now, stopped_deeds, unstopped}
+use Rattle.dspec_cpu.proofs.ReachDeeds.{ended_deeds, goes_on, is_no_void, outside_deeds, reached_ends, reached_now, stopped_deeds, unstopped}
 
 module _ (k : Config) (c : ℕ) (doing : Doing) (id : Speculation) (v : View) (config : v.config ≡ k) (who : v.who ≡ of_cpu c) (on : IsOn id doing.op) where
   -- it ended at the load of activity
@@ -78,9 +78,9 @@ module _ (k : Config) (c : ℕ) (doing : Doing) (id : Speculation) (v : View) (c
       let b_who : b.who ≡ of_cpu c = shown.who ∙ (ap (λ (x : View). x.who) first.view ∙ who) in
       let b_own : b.own ≡ v.own = shown.stays ∙ ap (λ (x : View). x.own) first.view in
       let log = shown.last.0 in
-      let deeds : at_exchange b.config (number_of b.who) doing id.slot ended.word (is_attempt (act_reached r)) ≡ reached_deeds c doing doing.op r =
-      ap (λ n. at_exchange b.config n doing id.slot ended.word (is_attempt (act_reached r))) (ap number_of b_who)
-      ∙ (exchange_is b.config c doing id.slot ended.word (is_attempt (act_reached r)) ∙ ended_deeds b.config c id.slot doing id ended.word doing.op r on ended.acts running) in
+      let deeds : at_exchange b.config (number_of b.who) doing id.slot ended.word (is_attempt (act_reached r)) doing.op ≡ reached_deeds c doing doing.op r =
+      ap (λ n. at_exchange b.config n doing id.slot ended.word (is_attempt (act_reached r)) doing.op) (ap number_of b_who)
+      ∙ ended_deeds b.config c id.slot doing id ended.word doing.op r on ended.acts running in
       let entered : Entered (slot_place id.slot) b log (reached_deeds c doing doing.op r) w = subst (λ ds. Entered (slot_place id.slot) b log ds w) deeds shown.last.3 in
       let loaded : Touches (of_slot k id) v u = touched_one (of_slot k id) v u activity_place (ap (λ (x : View). x.touched) first.view) (inl refl) in
       let worked : Touches (of_slot k id) u b = touched_wider (at_slot id.slot) (of_slot k id) u b (λ p e. inr (inside, e)) shown.worked in

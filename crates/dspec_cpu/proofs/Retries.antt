@@ -3,7 +3,7 @@ use Rattle.std.proofs.Common.{◌≡◌, ◌≢◌, ℕ, ◌+◌, ◌-◌, ◌==
 use Rattle.std.specs.Prelude.{nat_le}
 use Rattle.std.proofs.lemmas.Bool.Decides.{nat_tests}
 use Rattle.dspec_cpu.specs.Words.{Speculation, SlotState, word_number, code_number, speculate_act, commit_act, discard_act, of_cpu, number_of, IsOn, IsInFlight, MayLoad, MayTry, Attempts}
-use Rattle.dspec_cpu.specs.Words.{slot_place, Entered, LoadedWord, TriedWord, rests, steps, act_of, turns, is_attempt, releases_next, OwnsCommit, Shown, at_slot}
+use Rattle.dspec_cpu.specs.Words.{slot_place, Entered, LoadedWord, TriedWord, rests, steps, act_of, turns, is_attempt, releases_next, OwnsCommit, Shown, at_slot, at_word, at_exchange}
 use Rattle.dspec_word.specs.declared.code.Code.{Code}
 use Rattle.dspec_word.specs.declared.code.Code.TheVariants.{Inactive, Active, ActiveOne, ActiveMany, Committing, CommittingMany, Discarding}
 use Rattle.dspec_word.specs.declared.act.Act.{Act}
@@ -149,10 +149,29 @@ flies k v c slot doing id (op.Trace r) e f = absurd e
 flies k v c slot doing id op.Speculation e f = absurd e
 flies k v c slot doing id op.Service e f = absurd e
 
+-- a word enters the same, loaded or shown by an exchange that failed
+missed_as_loaded : (k : Config) (c slot : ℕ) (doing : Doing) (w : SlotState) (id : Speculation) (o : CpuOp) → IsOn id o → at_exchange k c doing slot w false o ≡ at_word k c doing slot w o
+missed_as_loaded k c slot doing w id (op.Speculate j r) on = refl
+missed_as_loaded k c slot doing w id (op.Commit j) on = refl
+missed_as_loaded k c slot doing w id (op.Discard j) on = refl
+missed_as_loaded k c slot doing w id (op.Trace r) on = absurd on
+missed_as_loaded k c slot doing w id op.Speculation on = absurd on
+missed_as_loaded k c slot doing w id op.Service on = absurd on
+
 module _ (k : Config) (c : ℕ) (doing : Doing) (id : Speculation) (slot : ℕ) (v : View) (config : v.config ≡ k) (who : v.who ≡ of_cpu c) where
   -- the first load
-  pub loaded : (shown : SlotState) (w : View) → IsInFlight k v c doing id slot → LoadedWord doing slot v shown w → Shown k c doing id slot v shown false w
-  loaded shown w flight step = record { before = v; waited = rests; stays = refl; who = refl; config = refl; flight = flight; last = step; worked = none_touched (at_slot slot) v }
+  pub loaded : (shown : SlotState) (w : View) → IsOn id doing.op → IsInFlight k v c doing id slot → LoadedWord doing slot v shown w → Shown k c doing id slot v shown false w
+  loaded shown w on flight step = record {
+    before = v;
+    waited = rests;
+    stays = refl;
+    who = refl;
+    config = refl;
+    flight = flight;
+    last =
+        (step.0, step.1, step.2, subst (λ ds. Entered (slot_place slot) v step.0 ds w) (sym (missed_as_loaded v.config (number_of v.who) slot doing shown id doing.op on)) step.3);
+    worked = none_touched (at_slot slot) v;
+  }
 
   pub loaded_steps : (shown : SlotState) (w : View) → LoadedWord doing slot v shown w → w.steps + left (turns doing.op) id shown ≤ v.steps + turns doing.op
   loaded_steps shown w step =
@@ -161,12 +180,21 @@ module _ (k : Config) (c : ℕ) (doing : Doing) (id : Speculation) (slot : ℕ) 
       omega arith
 
   module _ (word to : SlotState) (w : View) (on : IsOn id doing.op) (shows : Shown k c doing id slot v word false w) (e : act_of doing.op word doing.mine ≡ Attempt to) where
+    shows_word : LoadedWord doing slot shows.before word w
+    shows_word = (
+      shows.last.0,
+      shows.last.1,
+      shows.last.2,
+      subst (λ ds. Entered (slot_place slot) shows.before shows.last.0 ds w) (missed_as_loaded shows.before.config (number_of shows.before.who) slot doing word id doing.op on) shows.last.3,
+    )
+
     pub may_try : MayTry k w c doing slot word to
-    may_try = tries_next k shows.before w c slot doing id word to (shows.who ∙ who) on shows.flight shows.last (attempts doing id doing.op word to on e)
+    may_try = tries_next k shows.before w c slot doing id word to (shows.who ∙ who) on shows.flight shows_word (attempts doing id doing.op word to on e)
 
     none_yet : Entered (slot_place slot) shows.before shows.last.0 [] w
     none_yet = subst (λ ds. Entered (slot_place slot) shows.before shows.last.0 ds w)
-        (quiet_word shows.before.config (number_of shows.before.who) slot doing word to doing.op (attempts doing id doing.op word to on e)) shows.last.3
+        (missed_as_loaded shows.before.config (number_of shows.before.who) slot doing word id doing.op on
+        ∙ quiet_word shows.before.config (number_of shows.before.who) slot doing word to doing.op (attempts doing id doing.op word to on e)) shows.last.3
 
     -- an exchange
     pub tried : (shown : SlotState) (hit : Bool) (new : View) → TriedWord doing slot w shown hit new → Shown k c doing id slot v shown hit new

@@ -1,7 +1,7 @@
 -- The steps of a call of speculation.
 use Rattle.std.proofs.Common.{◌≡◌, ℕ, ◌+◌, ◌*◌, ◌<◌, ◌≤◌, ◌==◌, Bool, true, false, ◌||◌, List, [], ◌∷◌, ◌++◌, length, if◌then◌else◌, Option, Some, None, refl, sym, ap, ◌∙◌, subst, ⊎_elim, inl, arith}
 use Rattle.dspec_cpu.specs.Words.{Speculation, scan, of_cpu, number_of, calling, flight_after, activity_place, Entered, LoadedActivity, Goes, rests, steps, Stands, StopsWhereMet, any_busy}
-use Rattle.dspec_cpu.specs.Words.{LookedAtSlot, Scanned, misses, opening_deeds, IsOpening, is_worn_opening, Touches, of_slots}
+use Rattle.dspec_cpu.specs.Words.{LookedAtSlot, Scanned, misses, opening_deeds, IsOpening, is_worn_opening, Touches, of_slots, at_activity}
 use Rattle.dspec_deeds.specs.declared.config.Config.{Config}
 use Rattle.dspec_deeds.specs.declared.calls.CpuOp.{CpuOp}
 use Rattle.dspec_deeds.specs.declared.calls.CpuOp.TheVariants as op
@@ -30,12 +30,17 @@ pub record Came (k : Config) (c : ℕ) (v : View) (n : ℕ) (busy : Bool) (w : V
   pub bounded : w.steps ≤ v.steps + 1 + 2 * n
   pub touches : Touches (of_slots n) v w
 
+once : (k : Config) (c : ℕ) (b : Bool) → at_activity k c asked op.Speculation b ≡ Scan c (if b then false else true) ∷ []
+once k c true = refl
+once k c false = refl
+
 module _ (k : Config) (c : ℕ) (v : View) where
   -- the load of activity
   pub first : (b : Bool) (w : View) → v.config ≡ k → v.who ≡ of_cpu c → LoadedActivity asked v b w → (r : Bool) → (if b then false else true) ≡ r
       → (ds : List Deed) → ds ≡ Scan c r ∷ [] → Goes v ds w × Stands k c v ds w × (w.steps ≡ v.steps + 1) × (w.touched ≡ activity_place ∷ v.touched)
   first b w config who step r is ds e =
-      let deeds : Scan (number_of v.who) (if b then false else true) ∷ [] ≡ ds = ap (λ n. Scan n (if b then false else true) ∷ []) (ap number_of who) ∙ (ap (λ x. Scan c x ∷ []) is ∙ sym e) in
+      let deeds : at_activity v.config (number_of v.who) asked op.Speculation b ≡ ds = once v.config (number_of v.who) b ∙ ap (λ n. Scan n (if b then false else true) ∷ []) (ap number_of who)
+      ∙ (ap (λ x. Scan c x ∷ []) is ∙ sym e) in
       let entered : Entered activity_place (calling op.Speculation v) step.0 ds w = subst (λ x. Entered activity_place (calling op.Speculation v) step.0 x w) deeds step.3 in
       let same : flight_after k (Some op.Speculation) ds ≡ flight_after k v.flight ds =
       ap (flight_after k (Some op.Speculation)) e ∙ (flight_by_last k (Some op.Speculation) v.flight (Scan c r) [] [] ∙ ap (flight_after k v.flight) (sym e)) in (

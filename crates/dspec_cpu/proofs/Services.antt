@@ -3,7 +3,7 @@ use Rattle.std.proofs.Common.{◌≡◌, ℕ, ◌+◌, ◌-◌, ◌^◌, ◌≤�
 use Rattle.std.proofs.lemmas.List.{append-nil}
 use Rattle.std.proofs.lemmas.Option.{get_or_from_slice_get}
 use Rattle.dspec_cpu.specs.Words.{Record, SlotState, CanBeReleased, awaits, is_decided, settle_at, is_granted, ack, word_at, known, IsAt, cpu_of, LoadedWord, Cpu, Goes, rests, steps, HasList}
-use Rattle.dspec_cpu.specs.Words.{IsReady, Stands, DueSettled, IsDueAt, SlotDone, serving}
+use Rattle.dspec_cpu.specs.Words.{IsReady, Stands, DueSettled, IsDueAt, SlotDone, serving, Entered, slot_place, number_of, shown, idle_progress}
 use Rattle.dspec_record.specs.declared.field.Shape.{Shape}
 use Rattle.dspec_word.specs.declared.code.Code.{Code}
 use Rattle.dspec_word.specs.declared.code.Code.TheVariants.{Inactive, Active, ActiveOne, ActiveMany, Committing, CommittingMany, Discarding}
@@ -15,6 +15,7 @@ use Rattle.dspec_table.specs.declared.doing.Doing.{Doing}
 use Rattle.dspec_table.specs.declared.rule.View.{View}
 use Rattle.dspec_table.specs.declared.seats.CpuSeat.{CpuSeat}
 use Rattle.dspec_table.specs.declared.seats.Words.{Words}
+use Rattle.dspec_table.proofs.InFlight.{looks}
 use Rattle.dspec_cpu.proofs.ReachDeeds.{goes_on}
 use Rattle.dspec_cpu.proofs.Settlements.{grant_tells}
 use Rattle.dspec_cpu.proofs.Ready.{holder, ready_after, set_up_is, stands_behind}
@@ -56,14 +57,19 @@ module _ (shape : ℕ → Option Shape) (accepted : Record → Bool) (text : Rec
   step : LoadedWord (serving false 0 false) slot v word u
   step = subst (λ (d : Doing). LoadedWord d slot v word u) asked loaded
 
+  -- it enters nothing
+  entered : Entered (slot_place slot) v step.0 [] u
+  entered = subst (λ ds. Entered (slot_place slot) v step.0 ds u)
+      (looks v.config (number_of v.who) (shown (serving false 0 false) word false) idle_progress slot record { sealed = false; settled = 0 } word (settle_at word 0)) step.3
+
   load_stands : Stands cpu.config cpu.cpu v [] u
-  load_stands = stands_behind cpu.config cpu.cpu v u step.0 [] (set_up_is shape accepted text words cpu ready) (holder shape accepted text words cpu ready) step.3
+  load_stands = stands_behind cpu.config cpu.cpu v u step.0 [] (set_up_is shape accepted text words cpu ready) (holder shape accepted text words cpu ready) entered
 
   load_goes : Goes v [] u
-  load_goes = steps u [] [] step.0 rests step.1 (inl step.3) refl
+  load_goes = steps u [] [] step.0 rests step.1 (inl entered) refl
 
   one_step : u.steps ≡ v.steps + 1
-  one_step = ap (λ (x : View). x.steps) step.3.view
+  one_step = ap (λ (x : View). x.steps) entered.view
 
   loaded_list : (p : List Deed) → HasList shape accepted text cpu p → HasList shape accepted text looking p
   loaded_list p had = record { own = had.own ∙ sym load_stands.own; shown = had.shown }
@@ -103,7 +109,7 @@ module _ (shape : ℕ → Option Shape) (accepted : Record → Bool) (text : Rec
   pub due : (a : ℕ) → a ≡ get_or cpu.side.acks.items (slot - 1) a → CanBeReleased word → settle_at word a ≡ Granted → IsDueAt cpu.cpu slot word u
   due a is limit grants = record {
     rests = load_stands.rests;
-    here = ap (λ (x : View). word_at slot x.seen) step.3.view ∙ sym step.2;
+    here = ap (λ (x : View). word_at slot x.seen) entered.view ∙ sym step.2;
     limit = limited word a limit grants;
     granted = ap (λ l. settle_at word (ack cpu.cpu slot l)) load_stands.own ∙ (ap (settle_at word) (sym (ack_kept a is)) ∙ grants);
   }

@@ -2,7 +2,7 @@
 use Rattle.std.proofs.Common.{◌≡◌, ◌≢◌, ℕ, ◌+◌, Bool, true, false, ◌&&◌, List, [], ◌∷◌, if◌then◌else◌, refl, sym, ap, ◌∙◌, subst, inl, arith}
 use Rattle.std.specs.Prelude.{nat_lt}
 use Rattle.dspec_cpu.specs.Words.{SlotState, is_inactive, is_decided, attempt, open_at, of_cpu, number_of, slot_place, Entered, LoadedWord, OpenedWord, Look, rests, steps, Stands, LookedAtSlot}
-use Rattle.dspec_cpu.specs.Words.{IsGivenAt, look_deed, at_slot}
+use Rattle.dspec_cpu.specs.Words.{IsGivenAt, look_deed, at_slot, at_word, at_exchange, nothing}
 use Rattle.dspec_word.specs.declared.act.Act.TheVariants.{Void, Attempt}
 use Rattle.dspec_word.specs.declared.code.Code.TheVariants.{Active}
 use Rattle.dspec_deeds.specs.declared.config.Config.{Config}
@@ -11,8 +11,7 @@ use Rattle.dspec_deeds.specs.declared.deed.Deed.{Deed}
 use Rattle.dspec_deeds.specs.declared.deed.Deed.TheVariants.{Miss}
 use Rattle.dspec_table.specs.declared.rule.View.{View}
 use Rattle.dspec_table.specs.declared.doing.Doing.{Doing}
-use Rattle.dspec_table.specs.Acts as acts
-use Rattle.dspec_table.proofs.Flights.{flight_by_last}
+use Rattle.dspec_table.proofs.Flights.{flight_by_last, misses_slot, tries_slot}
 use Rattle.dspec_cpu.specs.declared.scanning.Look.TheVariants as look
 use Rattle.dspec_cpu.proofs.Ready.{stands_behind}
 use Rattle.dspec_cpu.proofs.Touching.{touched_more, touched_one}
@@ -44,10 +43,9 @@ module _ (k : Config) (c slot : ℕ) (v : View) (config : v.config ≡ k) (who :
   -- the load showed a word that isn't free
   pub passed : (shown : SlotState) (b : Bool) (w : View) → LoadedWord asked slot v shown w → open_at shown k.max_issues ≡ Void → b ≡ is_decided shown.code → LookedAtSlot k c slot v (look.Missed b) w
   passed shown b w step void is =
-      let deeds : acts.miss_at (number_of v.who) slot shown (open_at shown v.config.max_issues) ≡ Miss c slot b ∷ [] =
-      ap (λ (x : Config). acts.miss_at (number_of v.who) slot shown (open_at shown x.max_issues)) config
-      ∙ (ap (acts.miss_at (number_of v.who) slot shown) void
-      ∙ (ap (λ n. Miss n slot (is_decided shown.code) ∷ []) (ap number_of who) ∙ ap (λ x. Miss c slot x ∷ []) (sym is))) in
+      let deeds : at_word v.config (number_of v.who) asked slot shown op.Speculation ≡ Miss c slot b ∷ [] =
+      misses_slot v.config (number_of v.who) asked slot shown (ap (λ (x : Config). open_at shown x.max_issues) config ∙ void)
+      ∙ (ap (λ n. Miss n slot (is_decided shown.code) ∷ []) (ap number_of who) ∙ ap (λ x. Miss c slot x ∷ []) (sym is)) in
       let entered : Entered (slot_place slot) v step.0 (Miss c slot b ∷ []) w = subst (λ ds. Entered (slot_place slot) v step.0 ds w) deeds step.3 in
       let one : w.steps ≡ v.steps + 1 = ap (λ (x : View). x.steps) entered.view in
       record {
@@ -60,15 +58,15 @@ module _ (k : Config) (c slot : ℕ) (v : View) (config : v.config ≡ k) (who :
 
   -- the exchange from a free word
   pub tried : (from to shown : SlotState) (hit : Bool) (u w : View) → LoadedWord asked slot v from u → open_at from k.max_issues ≡ Attempt to → OpenedWord slot u shown hit w
-      → (x : Look) → acts.at_open c slot shown hit ≡ look_deed c slot x ∷ [] → IsGivenAt slot x → LookedAtSlot k c slot v x w
+      → (x : Look) → at_exchange k c nothing slot shown hit op.Speculation ≡ look_deed c slot x ∷ [] → IsGivenAt slot x → LookedAtSlot k c slot v x w
   tried from to shown hit u w load free step x deed at =
-      let none : acts.miss_at (number_of v.who) slot from (open_at from v.config.max_issues) ≡ [] =
-      ap (λ (y : Config). acts.miss_at (number_of v.who) slot from (open_at from y.max_issues)) config ∙ ap (acts.miss_at (number_of v.who) slot from) free in
+      let none : at_word v.config (number_of v.who) asked slot from op.Speculation ≡ [] =
+      tries_slot v.config (number_of v.who) asked slot from to (ap (λ (y : Config). open_at from y.max_issues) config ∙ free) in
       let first : Entered (slot_place slot) v load.0 [] u = subst (λ ds. Entered (slot_place slot) v load.0 ds u) none load.3 in
       let u_config : u.config ≡ k = ap (λ (y : View). y.config) first.view ∙ config in
       let u_who : u.who ≡ of_cpu c = ap (λ (y : View). y.who) first.view ∙ who in
       let entered : Entered (slot_place slot) u step.0 (look_deed c slot x ∷ []) w = subst (λ ds. Entered (slot_place slot) u step.0 ds w)
-      (ap (λ n. acts.at_open n slot shown hit) (ap number_of u_who) ∙ deed) step.3 in
+      ((λ i. at_exchange (u_config i) (number_of (u_who i)) nothing slot shown hit op.Speculation) ∙ deed) step.3 in
       let last = stands_behind k c u w step.0 (look_deed c slot x ∷ []) u_config u_who entered in
       let one : u.steps ≡ v.steps + 1 = ap (λ (y : View). y.steps) first.view in
       let two : w.steps ≡ u.steps + 1 = ap (λ (y : View). y.steps) entered.view in

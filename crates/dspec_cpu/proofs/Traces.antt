@@ -1,6 +1,6 @@
 -- A call of trace.
-use Rattle.std.proofs.Common.{◌≡◌, ℕ, ◌+◌, Bool, false, [], ◌∷◌, if◌then◌else◌, refl, ap, subst}
-use Rattle.dspec_cpu.specs.Words.{Record, of_cpu, number_of, calling, activity_place, LoadedActivity, Entered, Goes, rests, steps, Stands}
+use Rattle.std.proofs.Common.{◌≡◌, ℕ, ◌+◌, Bool, true, false, [], ◌∷◌, if◌then◌else◌, refl, ap, ◌∙◌, subst}
+use Rattle.dspec_cpu.specs.Words.{Record, of_cpu, number_of, calling, activity_place, LoadedActivity, Entered, Goes, rests, steps, Stands, at_activity}
 use Rattle.dspec_deeds.specs.declared.config.Config.{Config}
 use Rattle.dspec_deeds.specs.declared.calls.CpuOp.TheVariants as op
 use Rattle.dspec_deeds.specs.declared.deed.TraceFate.{TraceFate}
@@ -23,10 +23,15 @@ pub record Traces (k : Config) (c : ℕ) (v w : View) (r : Record) (f : TraceFat
   pub stands : Stands k c v (Trace c r f ∷ []) w
   pub one_step : w.steps ≡ v.steps + 1
 
+once : (k : Config) (c : ℕ) (r : Record) (fit b : Bool) → at_activity k c (asked r fit) (op.Trace r) b ≡ Trace c r (fate fit b) ∷ []
+once k c r fit true = refl
+once k c r true false = refl
+once k c r false false = refl
+
 pub traces : (k : Config) (c : ℕ) (v w : View) (r : Record) (fit b : Bool) (f : TraceFate) → v.config ≡ k → v.who ≡ of_cpu c → LoadedActivity (asked r fit) v b w → fate fit b ≡ f → Traces k c v w r f
 traces k c v w r fit b f config who step is =
     let named : number_of v.who ≡ c = ap number_of who in
-    let deeds : Trace (number_of v.who) r (fate fit b) ∷ [] ≡ Trace c r f ∷ [] = λ i. Trace (named i) r (is i) ∷ [] in
+    let deeds : at_activity v.config (number_of v.who) (asked r fit) (op.Trace r) b ≡ Trace c r f ∷ [] = once v.config (number_of v.who) r fit b ∙ (λ i. Trace (named i) r (is i) ∷ []) in
     let entered : Entered activity_place (calling (op.Trace r) v) step.0 (Trace c r f ∷ []) w = subst (λ ds. Entered activity_place (calling (op.Trace r) v) step.0 ds w) deeds step.3 in
     record {
       goes = steps w (Trace c r f ∷ []) (Trace c r f ∷ []) step.0 rests step.1 (activity_enters (asked r fit) v b w (Trace c r f ∷ []) step deeds) refl;

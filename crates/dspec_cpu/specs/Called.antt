@@ -1,6 +1,6 @@
 -- Believed. What a CPU's calls did, in the words of the page, and what one call more adds to it by its answer.
-use Rattle.std.specs.Prelude.{ℕ, ◌≡◌, List, [], ◌∷◌, ◌++◌, length, map}
-use Rattle.dspec_cpu.specs.Words.Outside.{Record, Speculation, did, By, service, Did, traced, speculated, emptied, worn_after, known}
+use Rattle.std.specs.Prelude.{ℕ, ◌≡◌, List, [], ◌∷◌, ◌++◌, length, map, if◌then◌else◌}
+use Rattle.dspec_cpu.specs.Words.Outside.{Record, Speculation, did, By, service, Did, traced, speculated, emptied, known, one_more_worn}
 use Rattle.dspec_deeds.specs.declared.calls.Decided.{Decided}
 use Rattle.dspec_deeds.specs.declared.calls.Decided.TheVariants as decided
 use Rattle.dspec_deeds.specs.declared.calls.Opening.{Opening}
@@ -61,17 +61,17 @@ settled_did ss = map (λ (s : Speculation × DecideFate). emptied service s.0 s.
 
 -- one call more, with its answer
 abbrev pub with_trace : Record → Traced → CallsMade → CallsMade
-with_trace r a x = record { done = trace_did r a ++ x.done; worn = worn_after (is_worn_trace a) x.worn }
+with_trace r a x = record { done = trace_did r a ++ x.done; worn = if is_worn_trace a then one_more_worn x.worn else x.worn }
 
 abbrev pub with_speculate : Speculation → Record → Spoken → CallsMade → CallsMade
-with_speculate id r a x = record { done = speculate_did id r a ++ x.done; worn = worn_after (is_worn_spoken a) x.worn }
+with_speculate id r a x = record { done = speculate_did id r a ++ x.done; worn = if is_worn_spoken a then one_more_worn x.worn else x.worn }
 
 abbrev pub with_decision : By → Speculation → Decided → CallsMade → CallsMade
-with_decision b id a x = record { done = decision_did b id a ++ x.done; worn = worn_after (is_worn_decided a) x.worn }
+with_decision b id a x = record { done = decision_did b id a ++ x.done; worn = if is_worn_decided a then one_more_worn x.worn else x.worn }
 
 -- a call of speculation touches no record
 abbrev pub with_speculation : Opening → CallsMade → CallsMade
-with_speculation a x = record { done = x.done; worn = worn_after (is_worn_opening a) x.worn }
+with_speculation a x = record { done = x.done; worn = if is_worn_opening a then one_more_worn x.worn else x.worn }
 
 -- a service settles as many decisions of others as it answers, and is never Worn
 pub record WithService (a : Served) (x y : CallsMade) : Type 0 where

@@ -1,6 +1,6 @@
 -- Cited by calls. What stays of a CPU: what each of its calls keeps, all of it but its count of worn calls, or all of it but its seat.
-use Rattle.std.specs.Prelude.{ℕ, ◌≡◌, ◌≤◌, ◌+◌, ◌↔◌, Bool, true}
-use Rattle.dspec_cpu.specs.Words.Outside.{known, one_more_worn, worn_after}
+use Rattle.std.specs.Prelude.{ℕ, ◌≡◌, ◌≤◌, ◌+◌, ◌↔◌, Bool, true, if◌then◌else◌}
+use Rattle.dspec_cpu.specs.Words.Outside.{known, one_more_worn}
 use Rattle.dspec_cpu.specs.declared.parts.CpuParts.{CpuParts as Cpu}
 use Rattle.dspec_cpu.specs.Lists.{calls_of, config_of, seat_of, worn_of}
 use Rattle.dspec_cpu.specs.Settled.{KeepsBatches}
@@ -18,7 +18,7 @@ pub record CallLeaves {S : Type 0} (is_worn is_stopped : Bool) (most : ℕ) (wit
   pub batches : KeepsBatches old new
   pub worn : (is_worn ≡ true) ↔ ((config_of old).max_calls ≤ calls_of old)
   pub untouched : is_worn ≡ true → WearsAlone old new
-  pub wears : worn_of new ≡ worn_after is_worn (worn_of old)
+  pub wears : worn_of new ≡ (if is_worn then one_more_worn (worn_of old) else worn_of old)
   pub bounded : (known (seat_of new)).steps ≤ (known (seat_of old)).steps + most
   pub touches : Touches within (known (seat_of old)) (known (seat_of new))
   pub stops : StopsWhereMet (known (seat_of old)) is_worn is_stopped (known (seat_of new))

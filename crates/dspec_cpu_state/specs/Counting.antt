@@ -34,9 +34,6 @@ counts_of k c worn p = record {
 abbrev pub one_more_worn : ℕ → ℕ
 one_more_worn n = if nat_lt (n + 1) (2 ^ 64) then n + 1 else n
 
-abbrev pub worn_after : Bool → ℕ → ℕ
-worn_after worn n = if worn then one_more_worn n else n
-
 -- the counts with one record more that was traced
 abbrev pub with_traced : TraceFate → Counts → Counts
 with_traced f n = record n {

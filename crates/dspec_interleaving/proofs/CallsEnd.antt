@@ -10,9 +10,10 @@ use Rattle.dspec_interleaving.specs.Words.{CpuProgress, ConsumerFlight, CallPlac
 use Rattle.dspec_interleaving.specs.Words.{idle_progress, begin_cpu, Stepped, moved_to, cleaned_to, step_cpu, step_consumer, on_to_end, op_bound, flight_bound, clean_bound}
 use Rattle.dspec_interleaving.specs.declared.flight.CallPlace.TheVariants as cpu
 use Rattle.dspec_deeds.proofs.SetUp.{set_up}
+use Rattle.dspec_interleaving.proofs.WornCpuSteps.{cpu_advances}
 use Rattle.dspec_interleaving.proofs.Coherence.{begin_cpu_coherent, step_cpu_coherent, step_consumer_coherent}
 use Rattle.dspec_interleaving.proofs.Bounded.{cpu_below, clean_below}
-use Rattle.dspec_interleaving.proofs.StepEnds.{HasEnded, HasGoneOn, HasClosed, HasKeptOn, cpu_advances, clean_advances}
+use Rattle.dspec_interleaving.proofs.StepEnds.{HasEnded, HasGoneOn, HasClosed, HasKeptOn, clean_advances}
 
 -- no call of the actor is in flight
 abbrev pub IsIdle : Actor → PlayState → Type 0
@@ -43,7 +44,7 @@ module _ (shape : ℕ → Option Shape) where
       (⊎_elim
       (λ (e : HasEnded m). subst (λ r. HasAnswered (actor.Cpu c) (on_to_end shape n (actor.Cpu c) new r)) (sym e.answers)
       (finished n (actor.Cpu c) new e.told (ap (λ (x : CpuProgress). x.flight) here ∙ e.idle)))
-      (λ (g : HasGoneOn st.config (progress_of st.progresses c) (flight_bound st.config f) m).
+      (λ (g : HasGoneOn st.config (progress_of st.progresses c) (flight_bound st.config f) _ m).
       let steps : (progress_of new.progresses c).steps ≡ (progress_of st.progresses c).steps + 1 = ap (λ (x : CpuProgress). x.steps) here ∙ g.counted in
       let bound = g.bound in
       subst (λ r. HasAnswered (actor.Cpu c) (on_to_end shape n (actor.Cpu c) new r)) (sym g.answers)
@@ -69,7 +70,7 @@ module _ (shape : ℕ → Option Shape) where
       subst (λ x. HasAnswered actor.Consumer (on_to_end shape n actor.Consumer (step_consumer shape st x).state (step_consumer shape st x).answer)) (sym is)
       (⊎_elim
       (λ (e : HasClosed m). subst (λ r. HasAnswered actor.Consumer (on_to_end shape n actor.Consumer new r)) (sym e.answers) (finished n actor.Consumer new e.told e.idle))
-      (λ (g : HasKeptOn st.config st.side (clean_bound st.config f) m).
+      (λ (g : HasKeptOn st.config st.side (clean_bound st.config f) _ m).
       let steps = g.counted in
       let bound = g.bound in
       subst (λ r. HasAnswered actor.Consumer (on_to_end shape n actor.Consumer new r)) (sym g.answers)

@@ -1,14 +1,13 @@
 -- The settlements of the close are legal, and leave nothing decided in a buffer: what waits then is undecided.
-use Rattle.std.proofs.Common.{◌≡◌, ℕ, zero, suc, ◌+◌, ◌<◌, ◌≤◌, Bool, true, false, not, ◌==◌, ◌&&◌, List, [], ◌∷◌, Option, Some, None, if◌then◌else◌, refl, sym, ap, ◌∙◌, subst, ⊎_elim, arith}
+use Rattle.std.proofs.Common.{◌≡◌, ℕ, zero, suc, ◌<◌, ◌≤◌, Bool, true, false, not, ◌==◌, ◌&&◌, List, [], ◌∷◌, Option, Some, None, if◌then◌else◌, refl, sym, ap, ◌∙◌, subst, ⊎_elim, arith}
 use Rattle.std.specs.Prelude.{nat_le}
 use Rattle.dspec_record.specs.declared.field.Shape.{Shape}
 use Rattle.dspec_word.specs.declared.act.Act.TheVariants.{Granted, Idle}
-use Rattle.dspec_interleaving.specs.Words.{awaits, Speculation, SlotState, CpuProgress, issue, present, opened, verdict, is_undecided, solo, settled, word_at, ack, seals, held, IsAllowed, served}
-use Rattle.dspec_interleaving.specs.Words.{ends, call_goes_on, settle_fate, start_fault, IsSlot, StandsProgress, ProgressStands, progress_of, PlayState, IsCoherent, CanClose, is_granted}
-use Rattle.dspec_interleaving.specs.Words.{closed_slot, closed_slots, closed_cpus, closing, WaitsUndecided, waiting, fate, times}
+use Rattle.dspec_interleaving.specs.Words.{awaits, Speculation, SlotState, CpuProgress, issue, present, opened, verdict, is_undecided, solo, settled, word_at, ack, seals, held, IsAllowed}
+use Rattle.dspec_interleaving.specs.Words.{settle_fate, start_fault, IsSlot, StandsProgress, ProgressStands, progress_of, PlayState, IsCoherent, CanClose, is_granted, closed_slot, closed_slots}
+use Rattle.dspec_interleaving.specs.Words.{closed_cpus, closing, WaitsUndecided, waiting, fate, times, measured}
 use Rattle.dspec_deeds.specs.declared.config.Config.{Config}
 use Rattle.dspec_deeds.specs.declared.calls.Actor.TheVariants.{Cpu}
-use Rattle.dspec_deeds.specs.declared.calls.Answer.TheVariants as answer
 use Rattle.dspec_deeds.specs.declared.calls.Served.{Served}
 use Rattle.dspec_deeds.specs.declared.deed.Deed.{Deed}
 use Rattle.dspec_deeds.specs.declared.deed.Deed.TheVariants.{Settle}
@@ -25,6 +24,7 @@ use Rattle.dspec_deeds.proofs.DeedEffects.{legal_accounts}
 use Rattle.dspec_deeds.proofs.HeldOffers.{tally, times_held}
 use Rattle.dspec_deeds.proofs.Emptied.{settled_empty, solo_empty, past_empty}
 use Rattle.dspec_deeds.proofs.Going.{GoesOn}
+use Rattle.dspec_interleaving.proofs.StepDeeds.{served_deeds}
 use Rattle.dspec_interleaving.proofs.CpuSteps.{cpu_step_stands}
 
 -- a play with no call of a CPU in flight can close
@@ -45,14 +45,6 @@ pub record HasSettled (shape : ℕ → Option Shape) (k : Config) (h g : List De
 -- the CPU has settled what waits for it in the slot
 abbrev pub IsSettledAt : ℕ → ℕ → List Deed → Type 0
 IsSettledAt c s h = awaits (word_at s h).code ≡ true → settled c (present s h) h ≡ true
-
--- the deeds that a service enters at a slot, whichever step comes next
-served_deeds : (shape : ℕ → Option Shape) (k : Config) (c : ℕ) (h : List Deed) (me : CpuProgress) (s : ℕ) (ds : List Deed) (sum : Served) → (served shape k c h me s ds sum).deeds ≡ ds
-served_deeds shape k c h me s ds sum = go (s == k.nspec)
-  where
-    go : (b : Bool) → (if b then ends shape k c h me ds (answer.Served sum) else call_goes_on shape k c h me ds (cpu.ServiceLoad (s + 1) sum)).deeds ≡ ds
-    go true = refl
-    go false = refl
 
 granted_is : (b : Bool) → is_granted (if b then Granted else Idle) ≡ b
 granted_is true = refl
@@ -75,7 +67,8 @@ module _ (shape : ℕ → Option Shape) (k : Config) (fine : start_fault k ≡ N
   settles_legally : (c s : ℕ) (h : List Deed) → CanClose shape k h → c < k.cpus → IsSlot k s → awaits (word_at s h).code ≡ true → settled c (present s h) h ≡ false
       → GoesOn shape k (Cpu c) (Settle c (present s h) (settle_fate shape k c h (present s h) (word_at s h).code) ∷ []) h
   settles_legally c s h rest lt slot waits not_yet =
-      subst (λ ds. GoesOn shape k (Cpu c) ds h) (served_deeds shape k c h me s _ _) (cpu_step_stands shape k c h me fine rest.legal rest.rests stands (cpu.ServiceStore s (word_at s h) none) refl).goes
+      subst (λ ds. GoesOn shape k (Cpu c) ds h) (served_deeds k c (measured shape k c h) me s _ _)
+      (cpu_step_stands shape k c h me fine rest.legal rest.rests stands (cpu.ServiceStore s (word_at s h) none) refl).goes
     where
       none : Served
       none = record { sealed = false; settled = 0 }

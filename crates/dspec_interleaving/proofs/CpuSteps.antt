@@ -5,7 +5,7 @@ use Rattle.dspec_deeds.specs.declared.config.Config.{Config}
 use Rattle.dspec_deeds.specs.declared.calls.CpuOp.{CpuOp}
 use Rattle.dspec_deeds.specs.declared.calls.CpuOp.TheVariants as cpu_op
 use Rattle.dspec_deeds.specs.declared.deed.Deed.{Deed}
-use Rattle.dspec_interleaving.specs.Words.{CpuProgress, CallPlace, start_fault, owed, scan, IsAllowed, begun, cpu_step, StandsCpu, StandsProgress, ProgressStands}
+use Rattle.dspec_interleaving.specs.Words.{CpuProgress, CallPlace, start_fault, owed, scan, IsAllowed, begun, cpu_step, StandsCpu, StandsProgress, ProgressStands, measured}
 use Rattle.dspec_interleaving.specs.declared.flight.CallPlace.TheVariants as cpu
 use Rattle.dspec_interleaving.proofs.StepsParts.{IsUnderWay, StepStands, pushes_not}
 use Rattle.dspec_interleaving.proofs.StepsTrace.{trace_begins}
@@ -16,7 +16,7 @@ use Rattle.dspec_interleaving.proofs.StepsDiscard.{discard_begins, discard_loads
 use Rattle.dspec_interleaving.proofs.StepsService.{service_begins, service_pops, service_pushes, service_loads, service_stores}
 
 begins_stand : (shape : ℕ → Option Shape) (k : Config) (c : ℕ) (h : List Deed) (me : CpuProgress) → IsUnderWay shape k c h me → (o : CpuOp) → scan k c h ≡ 0 → me.steps ≡ 0
-    → StepStands shape k c h (begun shape k c h me o)
+    → StepStands shape k c h (begun k c (measured shape k c h) me o)
 begins_stand shape k c h me play (cpu_op.Trace r) idle first = trace_begins shape k c h me play r idle
 begins_stand shape k c h me play cpu_op.Speculation idle first = scan_begins shape k c h me play idle first
 begins_stand shape k c h me play (cpu_op.Speculate id r) idle first = speculate_begins shape k c h me play id r idle first

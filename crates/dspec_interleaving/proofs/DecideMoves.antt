@@ -3,7 +3,7 @@ use Rattle.std.proofs.Common.{◌≡◌, ◌≢◌, ℕ, ◌+◌, Bool, true, fa
 use denote.Enum.Bare.{sameb}
 use Rattle.dspec_record.specs.declared.field.Shape.{Shape}
 use Rattle.dspec_interleaving.specs.Words.{block, is_inactive, Speculation, SlotState, released, commit_at, discard_at, CpuProgress, is_commit, is_among, callers, issue, is_sole, word_at, contents}
-use Rattle.dspec_interleaving.specs.Words.{held, IsSound, fits_principal, ends, shown_commit, shown_discard, is_alone, committed_by, discarded_by, commit_fate, discard_fate, answer_of}
+use Rattle.dspec_interleaving.specs.Words.{held, IsSound, fits_principal, ends, shown_commit, shown_discard, discarded_by, commit_fate, discard_fate, answer_of, measured}
 use Rattle.dspec_word.specs.contracts.code.Code.{the_type}
 use Rattle.dspec_word.specs.declared.act.Act.{Act}
 use Rattle.dspec_word.specs.declared.act.Act.TheVariants.{Void, Granted, Attempt, Idle}
@@ -34,14 +34,14 @@ inactive_test Discarding = refl
 module _ (shape : ℕ → Option Shape) (k : Config) (c : ℕ) (h : List Deed) (me : CpuProgress) (id : Speculation) (w : SlotState) where
   -- the table attempts nothing
   pub commit_voids : (act : Act) → ((to : SlotState) → act ≢ Attempt to)
-      → shown_commit shape k c h me id w act ≡ ends shape k c h me (Commit c id decided.Void ∷ []) (answer.Decided decided_answer.Void)
+      → shown_commit k c (measured shape k c h) me id w act ≡ ends me (Commit c id decided.Void ∷ []) (answer.Decided decided_answer.Void)
   commit_voids Void none = refl
   commit_voids Granted none = refl
   commit_voids (Attempt to) none = absurd (none to refl)
   commit_voids Idle none = refl
 
   pub discard_voids : (act : Act) → ((to : SlotState) → act ≢ Attempt to)
-      → shown_discard shape k c h me id w act ≡ ends shape k c h me (Discard c id decided.Void ∷ []) (answer.Decided decided_answer.Void)
+      → shown_discard k c (measured shape k c h) me id w act ≡ ends me (Discard c id decided.Void ∷ []) (answer.Decided decided_answer.Void)
   discard_voids Void none = refl
   discard_voids Granted none = refl
   discard_voids (Attempt to) none = absurd (none to refl)
@@ -49,18 +49,14 @@ module _ (shape : ℕ → Option Shape) (k : Config) (c : ℕ) (h : List Deed) (
 
   -- the table attempts an exchange, which is next
   pub commit_next : (v to : SlotState) (act : Act) (a : Option Answer) → v ≡ w → act ≡ Attempt to → a ≡ None
-      → record { progress = record me { flight = Some (cpu.CommitTry id v); steps = me.steps + 1 }; deeds = []; answer = a } ≡ shown_commit shape k c h me id w act
+      → record { progress = record me { flight = Some (cpu.CommitTry id v); steps = me.steps + 1 }; deeds = []; answer = a } ≡ shown_commit k c (measured shape k c h) me id w act
   commit_next v to act a is attempts none = rw (is, attempts, none) refl
 
   pub discard_next : (v to : SlotState) (act : Act) (a : Option Answer) → v ≡ w → act ≡ Attempt to → a ≡ None
-      → record { progress = record me { flight = Some (cpu.DiscardTry id v); steps = me.steps + 1 }; deeds = []; answer = a } ≡ shown_discard shape k c h me id w act
+      → record { progress = record me { flight = Some (cpu.DiscardTry id v); steps = me.steps + 1 }; deeds = []; answer = a } ≡ shown_discard k c (measured shape k c h) me id w act
   discard_next v to act a is attempts none = rw (is, attempts, none) refl
 
 module _ (shape : ℕ → Option Shape) (k : Config) (c : ℕ) (h : List Deed) (me : CpuProgress) (id : Speculation) where
-  -- the one deed of a commit that decides
-  pub committed_deeds : (act : Act) → (committed_by shape k c h me id act).deeds ≡ Commit c id (commit_fate shape k c h id) ∷ []
-  committed_deeds act = ⊎_elim (λ (t : is_alone act ≡ true). rw t refl) (λ (f : is_alone act ≡ false). rw f refl) (either_way (is_alone act))
-
   -- the fate of a commit that decides
   pub commit_decides : is_commit (commit_fate shape k c h id) ≡ true
   commit_decides = go (fits_principal shape k c (block (contents (held c id h))) h)
@@ -76,16 +72,17 @@ module _ (shape : ℕ → Option Shape) (k : Config) (c : ℕ) (h : List Deed) (
 
   -- a discard by the one caller, which releases the slot
   pub discards_alone : (to : SlotState) → sameb the_type to.code Inactive ≡ true
-      → discarded_by shape k c h me id (Attempt to) ≡ ends shape k c h me (Release id.slot ∷ Discard c id (discard_fate shape k c h id) ∷ []) (answer_of (discard_fate shape k c h id))
+      → discarded_by k c (measured shape k c h) me id (Attempt to) ≡ ends me (Release id.slot ∷ Discard c id (discard_fate shape k c h id) ∷ []) (answer_of (discard_fate shape k c h id))
   discards_alone to e = let alone : is_inactive to.code ≡ true = sym (inactive_test to.code) ∙ e in rw alone refl
 
   -- the word that a discard leaves
   pub discard_leaves : (to : SlotState) → IsSound k h → discard_at (word_at id.slot h) id (is_among c (callers id h)) ≡ Attempt to
-      → IsSound k ((discarded_by shape k c h me id (Attempt to)).deeds ++ h)
-      → to ≡ word_at id.slot ((discarded_by shape k c h me id (Attempt to)).deeds ++ h)
+      → IsSound k ((discarded_by k c (measured shape k c h) me id (Attempt to)).deeds ++ h)
+      → to ≡ word_at id.slot ((discarded_by k c (measured shape k c h) me id (Attempt to)).deeds ++ h)
   discard_leaves to sound e =
       let did = discard_attempt k h id c to sound e in
-      let Leaves : SlotState → Type 0 = λ w. IsSound k ((discarded_by shape k c h me id (Attempt w)).deeds ++ h) → w ≡ word_at id.slot ((discarded_by shape k c h me id (Attempt w)).deeds ++ h) in
+      let Leaves : SlotState → Type 0 = λ w. IsSound k ((discarded_by k c (measured shape k c h) me id (Attempt w)).deeds ++ h) → w
+      ≡ word_at id.slot ((discarded_by k c (measured shape k c h) me id (Attempt w)).deeds ++ h) in
       ⊎_elim
       (λ (sole : is_sole c (callers id h) ≡ true).
       let is : to ≡ released (issue id.slot h) = did.2 ∙ rw sole refl in

@@ -20,6 +20,7 @@ pub mod Coherence
 pub mod CpuSteps
 pub mod FlightsStay
 pub mod SoloRelease
+pub mod StepDeeds
 pub mod StepEnds
 pub mod StepsAlone
 pub mod StepsCommit

@@ -1,7 +1,7 @@
 -- What a call holds of its own deeds, and that other actors' deeds leave it.
 use Rattle.std.proofs.Common.{◌≡◌, ℕ, ◌+◌, ◌-◌, ◌^◌, Bool, true, false, List, [], ◌∷◌, ◌++◌, Option, Some, None, if◌then◌else◌, refl, sym, ◌∙◌, subst}
 use Rattle.std.specs.Prelude.{min}
-use Rattle.dspec_interleaving.specs.Words.{one, CpuProgress, CallPlace, is_busy_among, has_seal, settle_count, answer_of_cpu, author, same_actor, CpuStep, wears, missed, answer_of, is_worn_answer}
+use Rattle.dspec_interleaving.specs.Words.{one, CpuProgress, CallPlace, is_busy_among, has_seal, settle_count, answer_of_cpu, author, same_actor, CpuStep, wears, answer_of, is_worn_answer}
 use Rattle.dspec_interleaving.specs.Words.{missed_busy}
 use Rattle.dspec_word.specs.declared.act.Act.TheVariants.{Void}
 use Rattle.dspec_deeds.specs.declared.calls.Actor.{Actor}

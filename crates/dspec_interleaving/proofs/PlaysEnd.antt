@@ -17,10 +17,11 @@ use Rattle.dspec_interleaving.specs.declared.flight.ConsumerFlight.TheVariants a
 use Rattle.dspec_interleaving.specs.declared.flight.CallPlace.TheVariants as cpu
 use Rattle.dspec_deeds.proofs.SetUp.{set_up}
 use Rattle.dspec_deeds.proofs.TestLemmas.{either_way, same_number, numbers_differ}
+use Rattle.dspec_interleaving.proofs.WornCpuSteps.{cpu_advances}
 use Rattle.dspec_interleaving.proofs.Coherence.{begin_cpu_coherent, begin_consumer_coherent, step_cpu_coherent, step_consumer_coherent}
 use Rattle.dspec_interleaving.proofs.FlightsStay.{flights_stay}
 use Rattle.dspec_interleaving.proofs.Bounded.{cpu_below, clean_below}
-use Rattle.dspec_interleaving.proofs.StepEnds.{HasEnded, HasGoneOn, HasClosed, HasKeptOn, cpu_advances, clean_advances}
+use Rattle.dspec_interleaving.proofs.StepEnds.{HasEnded, HasGoneOn, HasClosed, HasKeptOn, clean_advances}
 use Rattle.dspec_interleaving.proofs.PlaysCarry.{behind_cpu_step, behind_consumer_step, cpu_stepped_is, consumer_stepped_is, is_nothing, IsCarried, PlayInvariant, ran_carries, cpus_ran_carries}
 
 -- a coherent play of the configuration
@@ -91,7 +92,7 @@ module _ (shape : ℕ → Option Shape) where
       (λ (e : HasEnded m).
       let idle : is_idle (actor.Cpu c) new.state ≡ true = ap (λ (x : Option CallPlace). is_none x) (ap (λ (x : CpuProgress). x.flight) here ∙ e.idle) in
       subst (λ (q : Playing). is_idle (actor.Cpu c) q.state ≡ true) (sym (ended_stays n (actor.Cpu c) new idle)) idle)
-      (λ (g : HasGoneOn p.state.config (progress_of p.state.progresses c) (flight_bound p.state.config f) m).
+      (λ (g : HasGoneOn p.state.config (progress_of p.state.progresses c) (flight_bound p.state.config f) _ m).
       let steps : (progress_of new.state.progresses c).steps ≡ (progress_of p.state.progresses c).steps + 1 = ap (λ (x : CpuProgress). x.steps) here ∙ g.counted in
       let bound = g.bound in
       cpu_idles n c new g.next (step_cpu_coherent shape p.state c (Some f) ok lt is) lt (ap (λ (x : CpuProgress). x.flight) here ∙ g.flight) (omega arith))
@@ -120,7 +121,7 @@ module _ (shape : ℕ → Option Shape) where
       (λ (e : HasClosed m).
       let idle : is_idle actor.Consumer new.state ≡ true = ap (λ (x : Option ConsumerFlight). is_none x) e.idle in
       subst (λ (q : Playing). is_idle actor.Consumer q.state ≡ true) (sym (ended_stays n actor.Consumer new idle)) idle)
-      (λ (g : HasKeptOn p.state.config p.state.side (clean_bound p.state.config f) m).
+      (λ (g : HasKeptOn p.state.config p.state.side (clean_bound p.state.config f) _ m).
       let steps = g.counted in
       let bound = g.bound in
       consumer_idles n new g.next (step_consumer_coherent shape p.state (Some f) ok is) g.flight (omega arith))

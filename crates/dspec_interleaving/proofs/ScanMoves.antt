@@ -1,30 +1,20 @@
 -- What a step of a call of speculation makes at a slot, by the table's act.
-use Rattle.std.proofs.Common.{◌≡◌, ℕ, ◌+◌, ◌==◌, Bool, true, false, List, [], ◌∷◌, Option, Some, None, if◌then◌else◌, refl}
+use Rattle.std.proofs.Common.{◌≡◌, ℕ, ◌+◌, true, List, [], ◌∷◌, Option, Some, None, refl}
 use Rattle.dspec_record.specs.declared.field.Shape.{Shape}
 use Rattle.dspec_word.specs.declared.act.Act.{Act}
 use Rattle.dspec_word.specs.declared.act.Act.TheVariants.{Void, Granted, Attempt, Idle}
-use Rattle.dspec_interleaving.specs.Words.{is_decided, Speculation, SlotState, CpuProgress, word_at, missed_busy, ends, call_goes_on, missed, shown_scan, same_word, cpu_step}
+use Rattle.dspec_interleaving.specs.Words.{Speculation, SlotState, CpuProgress, word_at, missed, shown_scan, same_word, cpu_step, measured}
 use Rattle.dspec_deeds.specs.declared.config.Config.{Config}
 use Rattle.dspec_deeds.specs.declared.calls.Answer.{Answer}
 use Rattle.dspec_deeds.specs.declared.calls.Answer.TheVariants as answer
 use Rattle.dspec_deeds.specs.declared.calls.Opening.TheVariants as opening
 use Rattle.dspec_deeds.specs.declared.deed.Deed.{Deed}
-use Rattle.dspec_deeds.specs.declared.deed.Deed.TheVariants.{Opened, Miss}
+use Rattle.dspec_deeds.specs.declared.deed.Deed.TheVariants.{Opened}
 use Rattle.dspec_interleaving.specs.declared.flight.CallPlace.TheVariants as cpu
 
 module _ (shape : ℕ → Option Shape) (k : Config) (c : ℕ) (h : List Deed) (me : CpuProgress) (s : ℕ) where
-  -- the one deed of a slot that can't be given
-  pub missed_deeds : (w : SlotState) → (missed shape k c h me s w).deeds ≡ Miss c s (is_decided w.code) ∷ []
-  missed_deeds w = go (s == k.nspec)
-    where
-      go : (last : Bool) → (if last then ends shape k c h me (Miss c s (is_decided w.code) ∷ [])
-          (answer.Opening (if missed_busy c (Miss c s (is_decided w.code) ∷ h) then opening.Busy else opening.Unavailable))
-          else call_goes_on shape k c h me (Miss c s (is_decided w.code) ∷ []) (cpu.ScanLoad (s + 1))).deeds ≡ Miss c s (is_decided w.code) ∷ []
-      go true = refl
-      go false = refl
-
   -- the table opens nothing
-  pub shown_misses : (w : SlotState) (act : Act) → ((to : SlotState) → act ≡ Attempt to → ⊥) → shown_scan shape k c h me s w act ≡ missed shape k c h me s w
+  pub shown_misses : (w : SlotState) (act : Act) → ((to : SlotState) → act ≡ Attempt to → ⊥) → shown_scan k c (measured shape k c h) me s w act ≡ missed k c (measured shape k c h) me s w
   shown_misses w Void none = refl
   shown_misses w Granted none = refl
   shown_misses w (Attempt to) none = absurd (none to refl)
@@ -32,7 +22,7 @@ module _ (shape : ℕ → Option Shape) (k : Config) (c : ℕ) (h : List Deed) (
 
   -- the table attempts an exchange, which is next
   pub scan_tried : (w now to : SlotState) (act : Act) (a : Option Answer) → w ≡ now → act ≡ Attempt to → a ≡ None
-      → record { progress = record me { flight = Some (cpu.ScanTry s w); steps = me.steps + 1 }; deeds = []; answer = a } ≡ shown_scan shape k c h me s now act
+      → record { progress = record me { flight = Some (cpu.ScanTry s w); steps = me.steps + 1 }; deeds = []; answer = a } ≡ shown_scan k c (measured shape k c h) me s now act
   scan_tried w now to act a is attempts none = rw (is, attempts, none) refl
 
   -- the exchange succeeds

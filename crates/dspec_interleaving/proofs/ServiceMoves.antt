@@ -1,11 +1,11 @@
 -- What a step of a call of service makes, by the ask, the spare and the table's act.
-use Rattle.std.proofs.Common.{◌≡◌, ◌≢◌, ℕ, ◌+◌, ◌==◌, ◌<◌, ◌≤◌, Bool, true, false, ◌&&◌, List, [], Option, Some, None, refl, ⊎_elim, arith}
+use Rattle.std.proofs.Common.{◌≡◌, ◌≢◌, ℕ, ◌+◌, ◌<◌, ◌≤◌, Bool, true, false, ◌&&◌, List, [], Option, Some, None, refl, ⊎_elim, arith}
 use Rattle.std.specs.Prelude.{nat_lt}
 use Rattle.std.proofs.lemmas.Bool.Decides.{nat_tests}
 use Rattle.dspec_record.specs.declared.field.Shape.{Shape}
 use Rattle.dspec_word.specs.declared.act.Act.{Act}
 use Rattle.dspec_word.specs.declared.act.Act.TheVariants.{Void, Granted, Attempt, Idle}
-use Rattle.dspec_interleaving.specs.Words.{SlotState, CpuProgress, Spare, is_fill, seals, asked, begun, served, shown_service}
+use Rattle.dspec_interleaving.specs.Words.{SlotState, CpuProgress, Spare, is_fill, seals, asked, begun, served, shown_service, measured}
 use Rattle.dspec_deeds.specs.declared.config.Config.{Config}
 use Rattle.dspec_deeds.specs.declared.calls.Answer.{Answer}
 use Rattle.dspec_deeds.specs.declared.calls.Served.{Served}
@@ -32,25 +32,19 @@ wanted n want most e f =
 
 module _ (shape : ℕ → Option Shape) (k : Config) (c : ℕ) (h : List Deed) (me : CpuProgress) where
   -- where full buffers are switched a service begins with the load of the ask
-  pub asks_first : is_fill k.policy ≡ false → asked shape k c h me me.spare (nat_lt (seals c h) me.want && nat_lt (seals c h) k.max_calls) ≡ begun shape k c h me cpu_op.Service
+  pub asks_first : is_fill k.policy ≡ false → asked k c (measured shape k c h) me (nat_lt (seals c h) me.want && nat_lt (seals c h) k.max_calls) me.spare
+      ≡ begun k c (measured shape k c h) me cpu_op.Service
   asks_first switched = rw switched refl
-
-  -- a service goes on, or ends, with these deeds
-  pub served_deeds : (s : ℕ) (ds : List Deed) (sum : Served) → (served shape k c h me s ds sum).deeds ≡ ds
-  served_deeds s ds sum = ⊎_elim (λ (t : (s == k.nspec) ≡ true). rw t refl) (λ (f : (s == k.nspec) ≡ false). rw f refl) (either_way (s == k.nspec))
 
   -- the service seals nothing
   pub asks_none : (place : Spare) (asks : Bool) (a : Option Answer) → asks ≡ false → a ≡ None
-      → record { progress = record me { flight = Some (cpu.ServiceLoad 1 record { sealed = false; settled = 0 }); steps = me.steps + 1 }; deeds = []; answer = a } ≡ asked shape k c h me place asks
-  asks_none spare.InHand asks a e none = rw (e, none) refl
-  asks_none spare.Sealed asks a e none = rw (e, none) refl
-  asks_none spare.Handed asks a e none = rw (e, none) refl
-  asks_none spare.Out asks a e none = rw (e, none) refl
-  asks_none spare.GivenBack asks a e none = rw (e, none) refl
+      → record { progress = record me { flight = Some (cpu.ServiceLoad 1 record { sealed = false; settled = 0 }); steps = me.steps + 1 }; deeds = []; answer = a }
+      ≡ asked k c (measured shape k c h) me asks place
+  asks_none place asks a e none = rw (e, none) refl
 
   -- the service has no spare in hand
   pub asks_spare : (place : Spare) (asks : Bool) (a : Option Answer) → place ≢ spare.InHand → asks ≡ true → a ≡ None
-      → record { progress = record me { flight = Some cpu.ServicePop; steps = me.steps + 1 }; deeds = []; answer = a } ≡ asked shape k c h me place asks
+      → record { progress = record me { flight = Some cpu.ServicePop; steps = me.steps + 1 }; deeds = []; answer = a } ≡ asked k c (measured shape k c h) me asks place
   asks_spare spare.InHand asks a out e none = absurd (out refl)
   asks_spare spare.Sealed asks a out e none = rw (e, none) refl
   asks_spare spare.Handed asks a out e none = rw (e, none) refl
@@ -59,11 +53,11 @@ module _ (shape : ℕ → Option Shape) (k : Config) (c : ℕ) (h : List Deed) (
 
   -- the table grants a settlement, whose store is next
   pub store_next : (s : ℕ) (sum : Served) (w now : SlotState) (act : Act) (a : Option Answer) → w ≡ now → act ≡ Granted → a ≡ None
-      → record { progress = record me { flight = Some (cpu.ServiceStore s w sum); steps = me.steps + 1 }; deeds = []; answer = a } ≡ shown_service shape k c h me s sum now act
+      → record { progress = record me { flight = Some (cpu.ServiceStore s w sum); steps = me.steps + 1 }; deeds = []; answer = a } ≡ shown_service k c (measured shape k c h) me s sum now act
   store_next s sum w now act a is granted none = rw (is, granted, none) refl
 
   -- the table grants nothing
-  pub passed_by : (s : ℕ) (sum : Served) (w : SlotState) (act : Act) → act ≢ Granted → shown_service shape k c h me s sum w act ≡ served shape k c h me s [] sum
+  pub passed_by : (s : ℕ) (sum : Served) (w : SlotState) (act : Act) → act ≢ Granted → shown_service k c (measured shape k c h) me s sum w act ≡ served k c (measured shape k c h) me s [] sum
   passed_by s sum w Void bare = refl
   passed_by s sum w Granted bare = absurd (bare refl)
   passed_by s sum w (Attempt to) bare = refl

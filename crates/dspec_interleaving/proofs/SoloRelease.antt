@@ -11,10 +11,10 @@ use Rattle.dspec_deeds.specs.declared.deed.Deed.{Deed}
 use Rattle.dspec_deeds.specs.declared.deed.Deed.TheVariants.{Trace, Scan, Opened, Miss, Speculate, Commit, Discard, Settle, Seal, Release, Halt}
 use Rattle.dspec_interleaving.specs.declared.flight.CallPlace.TheVariants as cpu
 use Rattle.dspec_deeds.proofs.Going.{AllBy}
+use Rattle.dspec_interleaving.proofs.WornCpuSteps.{goes_untold}
 use Rattle.dspec_interleaving.proofs.ConsumerSteps.{consumer_keeps}
 use Rattle.dspec_interleaving.proofs.CpuSteps.{cpu_step_stands}
 use Rattle.dspec_interleaving.proofs.StepsAlone.{ReleasedNow, ReleasesNext}
-use Rattle.dspec_interleaving.proofs.StepEnds.{goes_untold}
 
 -- the consumer's deeds decide nothing
 pub consumer_decides_not : (id : Speculation) (ds h : List Deed) → AllBy Consumer ds h → solo id (ds ++ h) ≡ solo id h

@@ -2,7 +2,7 @@
 use Rattle.std.proofs.Common.{◌≡◌, ◌≢◌, ℕ, true, List, [], ◌∷◌, Option, Some, if◌then◌else◌, refl, sym, ap, ◌∙◌, false, None, ◌+◌}
 use Rattle.dspec_record.specs.declared.field.Shape.{Shape}
 use Rattle.dspec_interleaving.specs.Words.{Record, Speculation, SlotState, speculate_at, CpuProgress, undecided, standing, joined, is_among, callers, verdict, present, issue, is_open, owed, code_at}
-use Rattle.dspec_interleaving.specs.Words.{word_at, IsSound, cpu_step, same_word, ends, shown_speculate, OnItsWay}
+use Rattle.dspec_interleaving.specs.Words.{word_at, IsSound, cpu_step, same_word, ends, shown_speculate, OnItsWay, measured}
 use Rattle.dspec_word.specs.declared.act.Act.{Act}
 use Rattle.dspec_word.specs.declared.act.Act.TheVariants.{Void, Granted, Attempt, Idle}
 use Rattle.dspec_word.specs.declared.code.Code.{Code}
@@ -22,7 +22,7 @@ use Rattle.dspec_deeds.proofs.WordChanges.{granted_word}
 -- the table grants nothing and attempts nothing
 pub shown_voids : (shape : ℕ → Option Shape) (k : Config) (c : ℕ) (h : List Deed) (me : CpuProgress) (id : Speculation) (r : Record) (w : SlotState) (act : Act) → act ≢ Granted
     → ((to : SlotState) → act ≢ Attempt to)
-    → shown_speculate shape k c h me id r w act ≡ ends shape k c h me (Speculate c id r spoken.Void ∷ []) (answer.Spoken spoken_answer.Void)
+    → shown_speculate k c (measured shape k c h) me id r w act ≡ ends me (Speculate c id r spoken.Void ∷ []) (answer.Spoken spoken_answer.Void)
 shown_voids shape k c h me id r w Void bare none = refl
 shown_voids shape k c h me id r w Granted bare none = absurd (bare refl)
 shown_voids shape k c h me id r w (Attempt to) bare none = absurd (none to refl)

@@ -11,9 +11,10 @@ use Rattle.dspec_deeds.specs.declared.calls.Answer.{Answer}
 use Rattle.dspec_interleaving.specs.Words.{CpuProgress, ConsumerFlight, ConsumerProgress, CallPlace, cpu_limit, consumer_limit, steps_limit, flight_bound, clean_bound, is_actor, is_idle, steps_of}
 use Rattle.dspec_interleaving.specs.Words.{StandsProgress, StandsState, progress_of, PlayState, IsCoherent, idle_progress, cpu_step, consumer_step, step_cpu, step_consumer, step}
 use Rattle.dspec_deeds.specs.declared.deed.Deed.{Deed}
+use Rattle.dspec_interleaving.proofs.WornCpuSteps.{cpu_advances}
 use Rattle.dspec_interleaving.proofs.Bounded.{cpu_below, clean_below}
 use Rattle.dspec_deeds.proofs.SetUp.{set_up}
-use Rattle.dspec_interleaving.proofs.StepEnds.{HasEnded, HasGoneOn, HasClosed, HasKeptOn, cpu_advances, clean_advances}
+use Rattle.dspec_interleaving.proofs.StepEnds.{HasEnded, HasGoneOn, HasClosed, HasKeptOn, clean_advances}
 
 -- a CPU that there is
 pub is_below : (k : Config) (c : ℕ) → is_actor k (actor.Cpu c) ≡ true → c < k.cpus
@@ -48,7 +49,7 @@ step_counted shape st (actor.Cpu c) ok there busy = go (progress_of st.progresse
         let lt = is_below st.config c there in
         let here : progress_of (slice_set st.progresses c m.progress) c ≡ m.progress = get_or-set_same st.progresses c m.progress idle_progress (let count = ok.count in omega arith) in
         ap (λ (x : CpuProgress). x.steps) here
-        ∙ ⊎_elim (λ (e : HasEnded m). no_answer e.told m.answer e.answers n) (λ (g : HasGoneOn st.config (progress_of st.progresses c) (flight_bound st.config f) m). g.counted)
+        ∙ ⊎_elim (λ (e : HasEnded m). no_answer e.told m.answer e.answers n) (λ (g : HasGoneOn st.config (progress_of st.progresses c) (flight_bound st.config f) _ m). g.counted)
         (cpu_advances shape st.config c st.deeds (progress_of st.progresses c) f)
 step_counted shape st actor.Consumer ok there busy = go st.side.flight busy
   where
@@ -56,7 +57,7 @@ step_counted shape st actor.Consumer ok there busy = go st.side.flight busy
     go None b n = absurd (cc (b))
     go (Some f) b n =
         let m = consumer_step st.config st.deeds st.side st.progresses f in
-        ⊎_elim (λ (e : HasClosed m). no_answer e.told m.answer e.answers n) (λ (g : HasKeptOn st.config st.side (clean_bound st.config f) m). g.counted)
+        ⊎_elim (λ (e : HasClosed m). no_answer e.told m.answer e.answers n) (λ (g : HasKeptOn st.config st.side (clean_bound st.config f) _ m). g.counted)
         (clean_advances st.config st.deeds st.side st.progresses f)
 
 -- the same, of a step that a machine makes or a refused growth prevents

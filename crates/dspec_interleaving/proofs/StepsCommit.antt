@@ -3,7 +3,7 @@ use Rattle.std.proofs.Common.{◌≡◌, ◌≤◌, ◌+◌, ◌==◌, ℕ, Bool
 use Rattle.dspec_record.specs.declared.field.Shape.{Shape}
 use Rattle.dspec_interleaving.specs.Words.{block, code_number, Speculation, SlotState, commit_at, CpuProgress, is_commit, halted, scan, is_among, issue, opened, committed, verdict, is_undecided}
 use Rattle.dspec_interleaving.specs.Words.{is_sole_or_none, solo, releaser, part, standing, callers, present, word_at, is_open, in_range, late, contents, held, fits_principal, sealed_last, is_worn}
-use Rattle.dspec_interleaving.specs.Words.{begun, wears, ends, call_goes_on, committed_by, is_alone, shown_commit, same_word, cpu_step, answer_of, OnItsWay, StandsCpu}
+use Rattle.dspec_interleaving.specs.Words.{begun, wears, ends, call_goes_on, committed_by, is_alone, shown_commit, same_word, cpu_step, answer_of, OnItsWay, StandsCpu, measured}
 use Rattle.dspec_word.specs.declared.act.Act.{Act}
 use Rattle.dspec_word.specs.declared.act.Act.TheVariants.{Void, Granted, Attempt, Idle}
 use Rattle.dspec_word.specs.declared.code.Code.TheVariants.{Committing, CommittingMany}
@@ -42,18 +42,18 @@ beside_tells c n cs new is e = go (is_sole_or_none c cs) (subst (λ w. is_alone 
 module _ (shape : ℕ → Option Shape) (k : Config) (c : ℕ) (h : List Deed) (me : CpuProgress) (play : IsUnderWay shape k c h me) where
   -- a commit of an identifier that isn't open
   void_stands : (id : Speculation) → scan k c h ≡ 0 → late c h ≡ false → is_open id h ≡ false
-      → StepStands shape k c h (ends shape k c h me (Commit c id decided.Void ∷ []) (answer.Decided decided_answer.Void))
+      → StepStands shape k c h (ends me (Commit c id decided.Void ∷ []) (answer.Decided decided_answer.Void))
   void_stands id idle early shut = ends_by shape k c h me play (Commit c id decided.Void) (answer.Decided decided_answer.Void) play.rests (idle, refl, (early, sym shut)) tt refl (inl refl) refl idle
 
-  pub commit_begins : (id : Speculation) → scan k c h ≡ 0 → me.steps ≡ 0 → StepStands shape k c h (begun shape k c h me (cpu_op.Commit id))
+  pub commit_begins : (id : Speculation) → scan k c h ≡ 0 → me.steps ≡ 0 → StepStands shape k c h (begun k c (measured shape k c h) me (cpu_op.Commit id))
   commit_begins id idle first = go (is_worn k c h) (halted h) (in_range k id) refl refl
     where
       go : (worn stopped inside : Bool) → halted h ≡ stopped → in_range k id ≡ inside
           → StepStands shape k c h
-          (if worn then wears shape k c h me (answer.Decided decided_answer.Worn)
-          else if stopped then ends shape k c h me (Commit c id decided.Stopped ∷ []) (answer.Decided decided_answer.Stopped)
-          else if inside then call_goes_on shape k c h me [] (cpu.CommitLoad id)
-          else ends shape k c h me (Commit c id decided.Void ∷ []) (answer.Decided decided_answer.Void))
+          (if worn then wears me (answer.Decided decided_answer.Worn)
+          else if stopped then ends me (Commit c id decided.Stopped ∷ []) (answer.Decided decided_answer.Stopped)
+          else if inside then call_goes_on me [] (cpu.CommitLoad id)
+          else ends me (Commit c id decided.Void ∷ []) (answer.Decided decided_answer.Void))
       go true s n es en = wears_stand shape k c h me play (answer.Decided decided_answer.Worn) idle
       go false true n es en = ends_by shape k c h me play (Commit c id decided.Stopped) (answer.Decided decided_answer.Stopped) play.rests (idle, refl, es) tt refl (inl refl) refl idle
       go false false true es en = goes_by_none shape k c h me play (cpu.CommitLoad id) (record { in_range = en; scans_not = idle; early = running_not_late c h es }, omega arith)
@@ -78,16 +78,16 @@ module _ (shape : ℕ → Option Shape) (k : Config) (c : ℕ) (h : List Deed) (
 
   -- an exchange that succeeds
   committed_stands : (id : Speculation) (to : SlotState) → OnItsWay k c h id → commit_at (word_at id.slot h) id (is_among c (callers id h)) ≡ Attempt to → (is_alone (Attempt to) ≡ true → me.steps ≤ 3)
-      → StepStands shape k c h (committed_by shape k c h me id (Attempt to))
+      → StepStands shape k c h (committed_by k c (measured shape k c h) me id (Attempt to))
   committed_stands id to way e early = go (is_alone (Attempt to)) (fits_principal shape k c (block (contents (held c id h))) h) refl refl
     where
       go : (alone fits : Bool) → is_alone (Attempt to) ≡ alone → fits_principal shape k c (block (contents (held c id h))) h ≡ fits
           → StepStands shape k c h
           (if alone then
-          call_goes_on shape k c h me (Commit c id (if fits then decided.Copied (length (held c id h)) else decided.Lost (length (held c id h))) ∷ [])
+          call_goes_on me (Commit c id (if fits then decided.Copied (length (held c id h)) else decided.Lost (length (held c id h))) ∷ [])
           (cpu.CommitRelease id (if fits then decided.Copied (length (held c id h)) else decided.Lost (length (held c id h))))
           else
-          ends shape k c h me (Commit c id (if fits then decided.Copied (length (held c id h)) else decided.Lost (length (held c id h))) ∷ [])
+          ends me (Commit c id (if fits then decided.Copied (length (held c id h)) else decided.Lost (length (held c id h))) ∷ [])
           (answer_of (if fits then decided.Copied (length (held c id h)) else decided.Lost (length (held c id h)))))
       go true true ea ef =
           let did = commit_attempt k h id c to play.legal.0 e in
@@ -112,7 +112,7 @@ module _ (shape : ℕ → Option Shape) (k : Config) (c : ℕ) (h : List Deed) (
   -- behind a word that was shown
   shown_stands : (id : Speculation) → OnItsWay k c h id
       → ((to : SlotState) → commit_at (word_at id.slot h) id (is_among c (callers id h)) ≡ Attempt to → me.steps ≤ code_number (word_at id.slot h).code)
-      → (act : Act) → commit_at (word_at id.slot h) id (is_among c (callers id h)) ≡ act → StepStands shape k c h (shown_commit shape k c h me id (word_at id.slot h) act)
+      → (act : Act) → commit_at (word_at id.slot h) id (is_among c (callers id h)) ≡ act → StepStands shape k c h (shown_commit k c (measured shape k c h) me id (word_at id.slot h) act)
   shown_stands id way tried Void e = void_stands id way.scans_not way.early (commit_void k h id (is_among c (callers id h)) play.legal.0 e)
   shown_stands id way tried Granted e = not_plain (commit_at (word_at id.slot h) id (is_among c (callers id h))) Granted (commit_plain (word_at id.slot h) id (is_among c (callers id h))) e refl
   shown_stands id way tried (Attempt to) e =
@@ -130,13 +130,13 @@ module _ (shape : ℕ → Option Shape) (k : Config) (c : ℕ) (h : List Deed) (
     where
       go : (same : Bool) → same_word (word_at id.slot h) from ≡ same
           → StepStands shape k c h
-          (if same then committed_by shape k c h me id (commit_at from id (is_among c (callers id h)))
-          else shown_commit shape k c h me id (word_at id.slot h) (commit_at (word_at id.slot h) id (is_among c (callers id h))))
+          (if same then committed_by k c (measured shape k c h) me id (commit_at from id (is_among c (callers id h)))
+          else shown_commit k c (measured shape k c h) me id (word_at id.slot h) (commit_at (word_at id.slot h) id (is_among c (callers id h))))
       go true e =
           let was = at.1.attempts in
           let attempts : commit_at (word_at id.slot h) id (is_among c (callers id h)) ≡ Attempt at.1.to =
           subst (λ w. commit_at w id (is_among c (callers id h)) ≡ Attempt at.1.to) (sym (same_word_tells (word_at id.slot h) from e)) was in
-          subst (λ act. StepStands shape k c h (committed_by shape k c h me id act)) (sym was)
+          subst (λ act. StepStands shape k c h (committed_by k c (measured shape k c h) me id act)) (sym was)
           (committed_stands id at.1.to at.0 attempts
           (λ alone.
           let early = alone_early from id (is_among c (callers id h)) (subst (λ act. is_alone act ≡ true) (sym was) alone) in

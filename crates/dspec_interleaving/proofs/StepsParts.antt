@@ -59,7 +59,7 @@ module _ (shape : ℕ → Option Shape) (k : Config) (c : ℕ) (h : List Deed) (
 
   -- the call goes on behind deeds that seal nothing
   goes_stand : (ds : List Deed) (next : CallPlace) → GoesOn shape k (Cpu c) ds h → seals c (ds ++ h) ≡ seals c h
-      → StandsCpu k c (ds ++ h) (record me { flight = Some next; steps = me.steps + 1 }) next → KeepsSoloRule c h ds (Some next) None → StepStands shape k c h (call_goes_on shape k c h me ds next)
+      → StandsCpu k c (ds ++ h) (record me { flight = Some next; steps = me.steps + 1 }) next → KeepsSoloRule c h ds (Some next) None → StepStands shape k c h (call_goes_on me ds next)
   goes_stand ds next goes same at rules = record {
     goes = goes;
     stands = record { flight = at; counts = subst (λ n. SpareCounts n me.takes me.spare) (sym same) play.counts; pushes = play.pushes (Some next); want = play.want };
@@ -68,31 +68,31 @@ module _ (shape : ℕ → Option Shape) (k : Config) (c : ℕ) (h : List Deed) (
 
   -- the call ends behind deeds that seal nothing
   pub ends_stand : (ds : List Deed) (a : Answer) → GoesOn shape k (Cpu c) ds h → seals c (ds ++ h) ≡ seals c h → scan k c (ds ++ h) ≡ 0 → KeepsSoloRule c h ds None (Some a)
-      → StepStands shape k c h (ends shape k c h me ds a)
+      → StepStands shape k c h (ends me ds a)
   ends_stand ds a goes same idle rules = record {
     goes = goes;
     stands = record { flight = (idle, refl); counts = subst (λ n. SpareCounts n me.takes me.spare) (sym same) play.counts; pushes = play.pushes None; want = play.want };
     solo_rule = rules;
   }
 
-  pub goes_by_none : (next : CallPlace) → StandsCpu k c h (record me { flight = Some next; steps = me.steps + 1 }) next → StepStands shape k c h (call_goes_on shape k c h me [] next)
+  pub goes_by_none : (next : CallPlace) → StandsCpu k c h (record me { flight = Some next; steps = me.steps + 1 }) next → StepStands shape k c h (call_goes_on me [] next)
   goes_by_none next at = goes_stand [] next none_comes refl at (none_rules c h (Some next) None)
 
   pub goes_by : (d : Deed) (next : CallPlace) → Pays (owed h) d → MayCome k h d → CpuLegal shape k h d → author d h ≡ Cpu c → DecidesBeside d h (Some next) → seals_now c d ≡ false
-      → StandsCpu k c (d ∷ h) (record me { flight = Some next; steps = me.steps + 1 }) next → StepStands shape k c h (call_goes_on shape k c h me (d ∷ []) next)
+      → StandsCpu k c (d ∷ h) (record me { flight = Some next; steps = me.steps + 1 }) next → StepStands shape k c h (call_goes_on me (d ∷ []) next)
   goes_by d next pays may own is beside seals at =
       goes_stand (d ∷ []) next (one_comes d pays may own is (beside_rests d h (Some next) beside)) (seals_stay c d h seals) at
       (one_rules k c d h (Some next) None (play.legal.0, (pays, may)) is beside)
 
-  pub ends_by_none : (a : Answer) → scan k c h ≡ 0 → StepStands shape k c h (ends shape k c h me [] a)
+  pub ends_by_none : (a : Answer) → scan k c h ≡ 0 → StepStands shape k c h (ends me [] a)
   ends_by_none a idle = ends_stand [] a none_comes refl idle (none_rules c h None (Some a))
 
   pub ends_by : (d : Deed) (a : Answer) → Pays (owed h) d → MayCome k h d → CpuLegal shape k h d → author d h ≡ Cpu c → DecidesBeside d h None → seals_now c d ≡ false
-      → scan k c (d ∷ h) ≡ 0 → StepStands shape k c h (ends shape k c h me (d ∷ []) a)
+      → scan k c (d ∷ h) ≡ 0 → StepStands shape k c h (ends me (d ∷ []) a)
   ends_by d a pays may own is beside seals idle =
       ends_stand (d ∷ []) a (one_comes d pays may own is (beside_rests d h None beside)) (seals_stay c d h seals) idle (one_rules k c d h None (Some a) (play.legal.0, (pays, may)) is beside)
 
-  pub wears_stand : (a : Answer) → scan k c h ≡ 0 → StepStands shape k c h (wears shape k c h me a)
+  pub wears_stand : (a : Answer) → scan k c h ≡ 0 → StepStands shape k c h (wears me a)
   wears_stand a idle = record {
     goes = none_comes;
     stands = record { flight = (idle, refl); counts = play.counts; pushes = play.pushes None; want = play.want };

@@ -4,7 +4,7 @@ use Rattle.dspec_record.specs.declared.field.Shape.{Shape}
 use Rattle.dspec_word.specs.declared.act.Act.{Act}
 use Rattle.dspec_word.specs.declared.act.Act.TheVariants.{Void, Granted, Attempt, Idle}
 use Rattle.dspec_interleaving.specs.Words.{is_decided, Speculation, SlotState, open_at, CpuProgress, halted, scan, word_at, is_free, opened_since, is_worn, begun, wears, ends, call_goes_on, missed}
-use Rattle.dspec_interleaving.specs.Words.{shown_scan, same_word, cpu_step, missed_busy, IsSlot, StandsCpu}
+use Rattle.dspec_interleaving.specs.Words.{shown_scan, same_word, cpu_step, missed_busy, IsSlot, StandsCpu, measured}
 use Rattle.dspec_deeds.specs.declared.config.Config.{Config}
 use Rattle.dspec_deeds.specs.declared.calls.Answer.TheVariants as answer
 use Rattle.dspec_deeds.specs.declared.calls.CpuOp.TheVariants as cpu_op
@@ -35,28 +35,29 @@ scan_next : (k : Config) (c s : ℕ) (busy : Bool) (h : List Deed) → scan k c 
 scan_next k c s busy h at more = let own = number_is_itself c in rw (own, at, more) refl
 
 module _ (shape : ℕ → Option Shape) (k : Config) (c : ℕ) (h : List Deed) (me : CpuProgress) (play : IsUnderWay shape k c h me) where
-  pub scan_begins : scan k c h ≡ 0 → me.steps ≡ 0 → StepStands shape k c h (begun shape k c h me cpu_op.Speculation)
+  pub scan_begins : scan k c h ≡ 0 → me.steps ≡ 0 → StepStands shape k c h (begun k c (measured shape k c h) me cpu_op.Speculation)
   scan_begins idle first = go (is_worn k c h) (halted h) refl
     where
       go : (worn stopped : Bool) → halted h ≡ stopped
           → StepStands shape k c h
-          (if worn then wears shape k c h me (answer.Opening opening.Worn)
-          else if stopped then ends shape k c h me (Scan c false ∷ []) (answer.Opening opening.Stopped)
-          else call_goes_on shape k c h me (Scan c true ∷ []) (cpu.ScanLoad 1))
+          (if worn then wears me (answer.Opening opening.Worn)
+          else if stopped then ends me (Scan c false ∷ []) (answer.Opening opening.Stopped)
+          else call_goes_on me (Scan c true ∷ []) (cpu.ScanLoad 1))
       go true s es = wears_stand shape k c h me play (answer.Opening opening.Worn) idle
       go false true es = ends_by shape k c h me play (Scan c false) _ play.rests (idle, sym (ap not es)) tt refl tt refl (scan_stopped k c h)
       go false false es = goes_by shape k c h me play (Scan c true) (cpu.ScanLoad 1) play.rests (idle, sym (ap not es)) tt refl tt refl
           ((omega arith, (set_up k play.ranges).1), scan_begun k c h, omega arith)
 
   -- the Miss of a slot that can't be opened, or was given out since
-  missed_stands : (s : ℕ) → IsSlot k s → scan k c h ≡ s → me.steps ≤ 2 * s → (is_free k s h ≡ false) ⊎ (opened_since c s h ≡ true) → StepStands shape k c h (missed shape k c h me s (word_at s h))
+  missed_stands : (s : ℕ) → IsSlot k s → scan k c h ≡ s → me.steps ≤ 2 * s → (is_free k s h ≡ false) ⊎ (opened_since c s h ≡ true)
+      → StepStands shape k c h (missed k c (measured shape k c h) me s (word_at s h))
   missed_stands s slot at steps why = go (s == k.nspec) refl
     where
       go : (last : Bool) → (s == k.nspec) ≡ last
           → StepStands shape k c h
-          (if last then ends shape k c h me (Miss c s (is_decided (word_at s h).code) ∷ [])
+          (if last then ends me (Miss c s (is_decided (word_at s h).code) ∷ [])
           (answer.Opening (if missed_busy c (Miss c s (is_decided (word_at s h).code) ∷ h) then opening.Busy else opening.Unavailable))
-          else call_goes_on shape k c h me (Miss c s (is_decided (word_at s h).code) ∷ []) (cpu.ScanLoad (s + 1)))
+          else call_goes_on me (Miss c s (is_decided (word_at s h).code) ∷ []) (cpu.ScanLoad (s + 1)))
       go true e = ends_by shape k c h me play (Miss c s (is_decided (word_at s h).code))
           (answer.Opening (if missed_busy c (Miss c s (is_decided (word_at s h).code) ∷ h) then opening.Busy else opening.Unavailable)) play.rests
           (at, slot.0, why, busy_is k h s play.legal.0) tt refl tt refl (scan_failed k c s (is_decided (word_at s h).code) h at e)
@@ -67,7 +68,7 @@ module _ (shape : ℕ → Option Shape) (k : Config) (c : ℕ) (h : List Deed) (
           ((omega arith, omega arith), scan_next k c s (is_decided (word_at s h).code) h at e, omega arith)
 
   shown_stands : (s : ℕ) → IsSlot k s → scan k c h ≡ s → me.steps ≤ 2 * s - 1 → (act : Act) → open_at (word_at s h) k.max_issues ≡ act
-      → StepStands shape k c h (shown_scan shape k c h me s (word_at s h) act)
+      → StepStands shape k c h (shown_scan k c (measured shape k c h) me s (word_at s h) act)
   shown_stands s slot at steps Void e = missed_stands s slot at (omega arith) (inl (open_void k h s e))
   shown_stands s slot at steps Granted e = not_plain (open_at (word_at s h) k.max_issues) Granted (open_plain (word_at s h) k.max_issues) e refl
   shown_stands s slot at steps (Attempt to) e = let one = slot.0 in goes_by_none shape k c h me play (cpu.ScanTry s (word_at s h)) (slot, at, omega arith, (to, e), inl refl)
@@ -81,8 +82,8 @@ module _ (shape : ℕ → Option Shape) (k : Config) (c : ℕ) (h : List Deed) (
     where
       go : (same : Bool) → same_word (word_at s h) from ≡ same
           → StepStands shape k c h
-          (if same then ends shape k c h me (Opened c record { issue = from.issue; slot = s } ∷ []) (answer.Opening (opening.Id record { issue = from.issue; slot = s }))
-          else missed shape k c h me s (word_at s h))
+          (if same then ends me (Opened c record { issue = from.issue; slot = s } ∷ []) (answer.Opening (opening.Id record { issue = from.issue; slot = s }))
+          else missed k c (measured shape k c h) me s (word_at s h))
       go true e =
           let is = same_word_tells (word_at s h) from e in
           let attempts : open_at (word_at s h) k.max_issues ≡ Attempt at.3.0 = subst (λ w. open_at w k.max_issues ≡ Attempt at.3.0) (sym is) at.3.1 in

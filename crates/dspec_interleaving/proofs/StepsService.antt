@@ -5,7 +5,7 @@ use Rattle.std.proofs.lemmas.Bool.Decides.{nat_tests}
 use Rattle.dspec_record.specs.declared.field.Shape.{Shape}
 use Rattle.dspec_interleaving.specs.Words.{block, awaits, SlotState, settle_at, CpuProgress, Spare, start_fault, is_fill, scan, issue, owed, present, verdict, solo, settled, word_at, ack, contents}
 use Rattle.dspec_interleaving.specs.Words.{held, seals, IsSound, IsAllowed, CpuLegal, SettlesAs, fits_principal, begun, asked, popped, served, shown_service, loads_service, call_goes_on, ends}
-use Rattle.dspec_interleaving.specs.Words.{cpu_step, settle_fate, IsSlot, StandsCpu, SpareCounts}
+use Rattle.dspec_interleaving.specs.Words.{cpu_step, settle_fate, IsSlot, StandsCpu, SpareCounts, measured}
 use Rattle.dspec_word.specs.declared.act.Act.{Act}
 use Rattle.dspec_word.specs.declared.act.Act.TheVariants.{Void, Granted, Attempt, Idle}
 use Rattle.dspec_word.specs.declared.code.Code.{Code}
@@ -42,7 +42,7 @@ not_settled k c s h sound le = let tells = ack_tells k c s h sound in let least 
 
 module _ (shape : ℕ → Option Shape) (k : Config) (c : ℕ) (h : List Deed) (me : CpuProgress) (play : IsUnderWay shape k c h me) where
   -- the first slot of the settlements is next
-  settles_next : scan k c h ≡ 0 → me.steps ≤ 2 → (sealed : Bool) → StepStands shape k c h (call_goes_on shape k c h me [] (cpu.ServiceLoad 1 record { sealed = sealed; settled = 0 }))
+  settles_next : scan k c h ≡ 0 → me.steps ≤ 2 → (sealed : Bool) → StepStands shape k c h (call_goes_on me [] (cpu.ServiceLoad 1 record { sealed = sealed; settled = 0 }))
   settles_next idle steps sealed = goes_by_none shape k c h me play (cpu.ServiceLoad 1 record { sealed = sealed; settled = 0 })
       ((omega arith, (set_up k play.ranges).1), idle, omega arith, omega arith)
 
@@ -56,10 +56,10 @@ module _ (shape : ℕ → Option Shape) (k : Config) (c : ℕ) (h : List Deed) (
   }
 
   -- a slot with nothing to settle
-  passes : (s : ℕ) (sum : Served) → IsSlot k s → scan k c h ≡ 0 → me.steps ≤ 1 + 2 * s → sum.settled < s → StepStands shape k c h (served shape k c h me s [] sum)
+  passes : (s : ℕ) (sum : Served) → IsSlot k s → scan k c h ≡ 0 → me.steps ≤ 1 + 2 * s → sum.settled < s → StepStands shape k c h (served k c (measured shape k c h) me s [] sum)
   passes s sum slot idle steps few = go (s == k.nspec) refl
     where
-      go : (last : Bool) → (s == k.nspec) ≡ last → StepStands shape k c h (if last then ends shape k c h me [] (answer.Served sum) else call_goes_on shape k c h me [] (cpu.ServiceLoad (s + 1) sum))
+      go : (last : Bool) → (s == k.nspec) ≡ last → StepStands shape k c h (if last then ends me [] (answer.Served sum) else call_goes_on me [] (cpu.ServiceLoad (s + 1) sum))
       go true e = ends_by_none shape k c h me play (answer.Served sum) idle
       go false e =
           let apart = numbers_differ s k.nspec e in
@@ -69,7 +69,7 @@ module _ (shape : ℕ → Option Shape) (k : Config) (c : ℕ) (h : List Deed) (
   pub service_loads : (s : ℕ) (sum : Served) → StandsCpu k c h me (cpu.ServiceLoad s sum) → StepStands shape k c h (cpu_step shape k c h me (cpu.ServiceLoad s sum))
   service_loads s sum at = go (settle_at (word_at s h) (ack c s h)) refl
     where
-      go : (act : Act) → settle_at (word_at s h) (ack c s h) ≡ act → StepStands shape k c h (shown_service shape k c h me s sum (word_at s h) act)
+      go : (act : Act) → settle_at (word_at s h) (ack c s h) ≡ act → StepStands shape k c h (shown_service k c (measured shape k c h) me s sum (word_at s h) act)
       go Granted e =
           let tells = settle_tells (word_at s h) (ack c s h) e in
           let steps = at.2 in
@@ -78,41 +78,37 @@ module _ (shape : ℕ → Option Shape) (k : Config) (c : ℕ) (h : List Deed) (
       go (Attempt to) e = passes s sum at.0 at.1 at.2 at.3
       go Idle e = passes s sum at.0 at.1 at.2 at.3
 
-  pub service_begins : scan k c h ≡ 0 → me.steps ≡ 0 → StepStands shape k c h (begun shape k c h me cpu_op.Service)
+  pub service_begins : scan k c h ≡ 0 → me.steps ≡ 0 → StepStands shape k c h (begun k c (measured shape k c h) me cpu_op.Service)
   service_begins idle first = by (is_fill k.policy) refl
     where
       most : (nat_lt (seals c h) me.want && nat_lt (seals c h) k.max_calls) ≡ true → seals c h < k.max_calls
       most e = let less = (and_tells (nat_lt (seals c h) me.want) (nat_lt (seals c h) k.max_calls) e).1 in grind (arith, nat_tests)
 
-      pops : is_fill k.policy ≡ false → (nat_lt (seals c h) me.want && nat_lt (seals c h) k.max_calls) ≡ true → StepStands shape k c h (call_goes_on shape k c h me [] cpu.ServicePop)
+      pops : is_fill k.policy ≡ false → (nat_lt (seals c h) me.want && nat_lt (seals c h) k.max_calls) ≡ true → StepStands shape k c h (call_goes_on me [] cpu.ServicePop)
       pops switched e = goes_by_none shape k c h me play cpu.ServicePop (idle, omega arith, most e, switched)
 
-      go : is_fill k.policy ≡ false → (place : Spare) → SpareCounts (seals c h) me.takes place → (asks : Bool)
-          → (nat_lt (seals c h) me.want && nat_lt (seals c h) k.max_calls) ≡ asks → StepStands shape k c h (asked shape k c h me place asks)
-      go switched spare.InHand counts true e = seals_stand idle (omega arith) (most e) (counts.0 ∙ sym counts.1) switched
-      go switched spare.Sealed counts true e = pops switched e
-      go switched spare.Handed counts true e = pops switched e
-      go switched spare.Out counts true e = pops switched e
-      go switched spare.GivenBack counts true e = pops switched e
-      go switched spare.InHand counts false e = settles_next idle (omega arith) false
-      go switched spare.Sealed counts false e = settles_next idle (omega arith) false
-      go switched spare.Handed counts false e = settles_next idle (omega arith) false
-      go switched spare.Out counts false e = settles_next idle (omega arith) false
-      go switched spare.GivenBack counts false e = settles_next idle (omega arith) false
+      go : is_fill k.policy ≡ false → (asks : Bool) → (nat_lt (seals c h) me.want && nat_lt (seals c h) k.max_calls) ≡ asks → (place : Spare) → SpareCounts (seals c h) me.takes place
+          → StepStands shape k c h (asked k c (measured shape k c h) me asks place)
+      go switched false e place counts = settles_next idle (omega arith) false
+      go switched true e spare.InHand counts = seals_stand idle (omega arith) (most e) (counts.0 ∙ sym counts.1) switched
+      go switched true e spare.Sealed counts = pops switched e
+      go switched true e spare.Handed counts = pops switched e
+      go switched true e spare.Out counts = pops switched e
+      go switched true e spare.GivenBack counts = pops switched e
 
       by : (b : Bool) → is_fill k.policy ≡ b
-          → StepStands shape k c h (if b then loads_service shape k c h me 1 record { sealed = false; settled = 0 } else asked shape k c h me me.spare
-          (nat_lt (seals c h) me.want && nat_lt (seals c h) k.max_calls))
+          → StepStands shape k c h (if b then loads_service k c (measured shape k c h) me 1 record { sealed = false; settled = 0 } else asked k c (measured shape k c h) me
+          (nat_lt (seals c h) me.want && nat_lt (seals c h) k.max_calls) me.spare)
       by true e = service_loads 1 record { sealed = false; settled = 0 } ((omega arith, (set_up k play.ranges).1), idle, omega arith, omega arith)
-      by false e = go e me.spare play.counts (nat_lt (seals c h) me.want && nat_lt (seals c h) k.max_calls) refl
+      by false e = go e (nat_lt (seals c h) me.want && nat_lt (seals c h) k.max_calls) refl me.spare play.counts
 
   pub service_pops : StandsCpu k c h me cpu.ServicePop → StepStands shape k c h (cpu_step shape k c h me cpu.ServicePop)
   service_pops at = go me.spare play.counts
     where
-      on : StepStands shape k c h (call_goes_on shape k c h me [] (cpu.ServiceLoad 1 record { sealed = false; settled = 0 }))
+      on : StepStands shape k c h (call_goes_on me [] (cpu.ServiceLoad 1 record { sealed = false; settled = 0 }))
       on = let first = at.1 in settles_next at.0 (omega arith) false
 
-      go : (place : Spare) → SpareCounts (seals c h) me.takes place → StepStands shape k c h (popped shape k c h me place)
+      go : (place : Spare) → SpareCounts (seals c h) me.takes place → StepStands shape k c h (popped k c (measured shape k c h) me place)
       go spare.InHand counts = on
       go spare.Sealed counts = on
       go spare.Handed counts = on
@@ -122,13 +118,13 @@ module _ (shape : ℕ → Option Shape) (k : Config) (c : ℕ) (h : List Deed) (
   -- a settlement as the decision says
   settles_stand : (s : ℕ) (f : DecideFate) (sum : Served) → IsSlot k s → scan k c h ≡ 0 → me.steps ≤ 2 + 2 * s → sum.settled ≤ s
       → SettlesAs (verdict (present s h) h) f → solo (present s h) h ≡ None → settled c (present s h) h ≡ false → CpuLegal shape k h (Settle c (present s h) f)
-      → StepStands shape k c h (served shape k c h me s (Settle c (present s h) f ∷ []) sum)
+      → StepStands shape k c h (served k c (measured shape k c h) me s (Settle c (present s h) f ∷ []) sum)
   settles_stand s f sum slot idle steps few fate alone not_yet own = go (s == k.nspec) refl
     where
       go : (last : Bool) → (s == k.nspec) ≡ last
           → StepStands shape k c h
-          (if last then ends shape k c h me (Settle c (present s h) f ∷ []) (answer.Served sum)
-          else call_goes_on shape k c h me (Settle c (present s h) f ∷ []) (cpu.ServiceLoad (s + 1) sum))
+          (if last then ends me (Settle c (present s h) f ∷ []) (answer.Served sum)
+          else call_goes_on me (Settle c (present s h) f ∷ []) (cpu.ServiceLoad (s + 1) sum))
       go true e = ends_by shape k c h me play (Settle c (present s h) f) (answer.Served sum) play.rests (idle, (refl, fate, alone, not_yet)) own refl tt refl idle
       go false e =
           let apart = numbers_differ s k.nspec e in
@@ -141,12 +137,12 @@ module _ (shape : ℕ → Option Shape) (k : Config) (c : ℕ) (h : List Deed) (
       (go (word_at s h).code refl (subst (λ (v : SlotState). awaits v.code ≡ true) (sym at.4) at.5))
     where
       store : (f : DecideFate) (code : Code) → IsAwaiting s h code → SettlesAs (verdict (present s h) h) f → CpuLegal shape k h (Settle c (present s h) f)
-          → StepStands shape k c h (served shape k c h me s (Settle c (present s h) f ∷ []) record { sealed = sum.sealed; settled = sum.settled + 1 })
+          → StepStands shape k c h (served k c (measured shape k c h) me s (Settle c (present s h) f ∷ []) record { sealed = sum.sealed; settled = sum.settled + 1 })
       store f code waits fate own = let few = at.3 in settles_stand s f record { sealed = sum.sealed; settled = sum.settled + 1 } at.0 at.1 at.2 (omega arith) fate waits.alone at.6 own
 
       copies : (fits : Bool) → fits_principal shape k c (block (contents (held c (present s h) h))) h ≡ fits → IsAwaiting s h CommittingMany
           → StepStands shape k c h
-          (served shape k c h me s
+          (served k c (measured shape k c h) me s
           (Settle c (present s h) (if fits then decided.Copied (length (held c (present s h) h)) else decided.Lost (length (held c (present s h) h))) ∷ [])
           record { sealed = sum.sealed; settled = sum.settled + 1 })
       copies true e waits = store (decided.Copied (length (held c (present s h) h))) CommittingMany waits (waits.fate (decided.Copied (length (held c (present s h) h))) refl) (refl, sym e)
@@ -154,7 +150,7 @@ module _ (shape : ℕ → Option Shape) (k : Config) (c : ℕ) (h : List Deed) (
 
       go : (code : Code) → (word_at s h).code ≡ code → awaits code ≡ true
           → StepStands shape k c h
-          (served shape k c h me s (Settle c (present s h) (settle_fate shape k c h (present s h) code) ∷ []) record { sealed = sum.sealed; settled = sum.settled + 1 })
+          (served k c (measured shape k c h) me s (Settle c (present s h) (settle_fate shape k c h (present s h) code) ∷ []) record { sealed = sum.sealed; settled = sum.settled + 1 })
       go Inactive is e = absurd (true≢false (sym e))
       go Active is e = absurd (true≢false (sym e))
       go ActiveOne is e = absurd (true≢false (sym e))

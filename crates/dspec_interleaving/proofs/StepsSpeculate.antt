@@ -2,7 +2,7 @@
 use Rattle.std.proofs.Common.{◌≡◌, ◌≤◌, ℕ, Bool, true, false, List, [], ◌∷◌, Option, if◌then◌else◌, refl, sym, subst, arith}
 use Rattle.dspec_record.specs.declared.field.Shape.{Shape}
 use Rattle.dspec_interleaving.specs.Words.{Record, code_number, Speculation, SlotState, speculate_at, CpuProgress, halted, scan, is_among, callers, word_at, is_open, in_range, late}
-use Rattle.dspec_interleaving.specs.Words.{fits_speculative, is_worn, begun, wears, ends, call_goes_on, spoken_at, shown_speculate, same_word, cpu_step, OnItsWay, StandsCpu}
+use Rattle.dspec_interleaving.specs.Words.{fits_speculative, is_worn, begun, wears, ends, call_goes_on, spoken_at, shown_speculate, same_word, cpu_step, OnItsWay, StandsCpu, measured}
 use Rattle.dspec_word.specs.declared.act.Act.{Act}
 use Rattle.dspec_word.specs.declared.act.Act.TheVariants.{Void, Granted, Attempt, Idle}
 use Rattle.dspec_deeds.specs.declared.config.Config.{Config}
@@ -21,38 +21,38 @@ use Rattle.dspec_interleaving.proofs.StepsParts.{IsUnderWay, StepStands, goes_by
 module _ (shape : ℕ → Option Shape) (k : Config) (c : ℕ) (h : List Deed) (me : CpuProgress) (play : IsUnderWay shape k c h me) where
   -- a record of an identifier that isn't open
   void_stands : (id : Speculation) (r : Record) → scan k c h ≡ 0 → late c h ≡ false → is_open id h ≡ false
-      → StepStands shape k c h (ends shape k c h me (Speculate c id r spoken.Void ∷ []) (answer.Spoken spoken_answer.Void))
+      → StepStands shape k c h (ends me (Speculate c id r spoken.Void ∷ []) (answer.Spoken spoken_answer.Void))
   void_stands id r idle early shut = ends_by shape k c h me play (Speculate c id r spoken.Void) _ play.rests (idle, (early, sym shut)) tt refl tt refl idle
 
-  pub speculate_begins : (id : Speculation) (r : Record) → scan k c h ≡ 0 → me.steps ≡ 0 → StepStands shape k c h (begun shape k c h me (cpu_op.Speculate id r))
+  pub speculate_begins : (id : Speculation) (r : Record) → scan k c h ≡ 0 → me.steps ≡ 0 → StepStands shape k c h (begun k c (measured shape k c h) me (cpu_op.Speculate id r))
   speculate_begins id r idle first = go (is_worn k c h) (halted h) (in_range k id) refl refl
     where
       go : (worn stopped inside : Bool) → halted h ≡ stopped → in_range k id ≡ inside
           → StepStands shape k c h
-          (if worn then wears shape k c h me (answer.Spoken spoken_answer.Worn)
-          else if stopped then ends shape k c h me (Speculate c id r spoken.Stopped ∷ []) (answer.Spoken spoken_answer.Stopped)
-          else if inside then call_goes_on shape k c h me [] (cpu.SpeculateLoad id r)
-          else ends shape k c h me (Speculate c id r spoken.Void ∷ []) (answer.Spoken spoken_answer.Void))
+          (if worn then wears me (answer.Spoken spoken_answer.Worn)
+          else if stopped then ends me (Speculate c id r spoken.Stopped ∷ []) (answer.Spoken spoken_answer.Stopped)
+          else if inside then call_goes_on me [] (cpu.SpeculateLoad id r)
+          else ends me (Speculate c id r spoken.Void ∷ []) (answer.Spoken spoken_answer.Void))
       go true s n es en = wears_stand shape k c h me play (answer.Spoken spoken_answer.Worn) idle
       go false true n es en = ends_by shape k c h me play (Speculate c id r spoken.Stopped) _ play.rests (idle, es) tt refl tt refl idle
       go false false true es en = goes_by_none shape k c h me play (cpu.SpeculateLoad id r) (record { in_range = en; scans_not = idle; early = running_not_late c h es }, omega arith)
       go false false false es en = void_stands id r idle (running_not_late c h es) (out_not_open k h id play.ranges play.legal.0 en)
 
   -- a record of an open speculation
-  spoken_stands : (id : Speculation) (r : Record) → OnItsWay k c h id → is_open id h ≡ true → StepStands shape k c h (spoken_at shape k c h me id r)
+  spoken_stands : (id : Speculation) (r : Record) → OnItsWay k c h id → is_open id h ≡ true → StepStands shape k c h (spoken_at k c (measured shape k c h) me id r)
   spoken_stands id r way now = go (fits_speculative shape k c id r h) refl
     where
       go : (fits : Bool) → fits_speculative shape k c id r h ≡ fits
           → StepStands shape k c h
-          (if fits then ends shape k c h me (Speculate c id r spoken.Kept ∷ []) (answer.Spoken spoken_answer.Kept)
-          else ends shape k c h me (Speculate c id r spoken.Dropped ∷ []) (answer.Spoken spoken_answer.Dropped))
+          (if fits then ends me (Speculate c id r spoken.Kept ∷ []) (answer.Spoken spoken_answer.Kept)
+          else ends me (Speculate c id r spoken.Dropped ∷ []) (answer.Spoken spoken_answer.Dropped))
       go true e = ends_by shape k c h me play (Speculate c id r spoken.Kept) _ play.rests (way.scans_not, (way.early, sym now)) (sym e) refl tt refl way.scans_not
       go false e = ends_by shape k c h me play (Speculate c id r spoken.Dropped) _ play.rests (way.scans_not, (way.early, sym now)) (sym e) refl tt refl way.scans_not
 
   -- behind a word that was shown, where an exchange that is attempted is not the call's first too late
   shown_stands : (id : Speculation) (r : Record) → OnItsWay k c h id
       → ((to : SlotState) → speculate_at (word_at id.slot h) id (is_among c (callers id h)) ≡ Attempt to → me.steps ≤ code_number (word_at id.slot h).code)
-      → (act : Act) → speculate_at (word_at id.slot h) id (is_among c (callers id h)) ≡ act → StepStands shape k c h (shown_speculate shape k c h me id r (word_at id.slot h) act)
+      → (act : Act) → speculate_at (word_at id.slot h) id (is_among c (callers id h)) ≡ act → StepStands shape k c h (shown_speculate k c (measured shape k c h) me id r (word_at id.slot h) act)
   shown_stands id r way tried Void e = void_stands id r way.scans_not way.early (speculate_void k h id (is_among c (callers id h)) play.legal.0 e)
   shown_stands id r way tried Granted e = spoken_stands id r way (speculate_granted k h id c play.legal.0 e).0
   shown_stands id r way tried (Attempt to) e =
@@ -71,8 +71,8 @@ module _ (shape : ℕ → Option Shape) (k : Config) (c : ℕ) (h : List Deed) (
     where
       go : (same : Bool) → same_word (word_at id.slot h) from ≡ same
           → StepStands shape k c h
-          (if same then spoken_at shape k c h me id r
-          else shown_speculate shape k c h me id r (word_at id.slot h) (speculate_at (word_at id.slot h) id (is_among c (callers id h))))
+          (if same then spoken_at k c (measured shape k c h) me id r
+          else shown_speculate k c (measured shape k c h) me id r (word_at id.slot h) (speculate_at (word_at id.slot h) id (is_among c (callers id h))))
       go true e =
           let attempts : speculate_at (word_at id.slot h) id (is_among c (callers id h)) ≡ Attempt at.1.to =
           subst (λ w. speculate_at w id (is_among c (callers id h)) ≡ Attempt at.1.to) (sym (same_word_tells (word_at id.slot h) from e)) at.1.attempts in

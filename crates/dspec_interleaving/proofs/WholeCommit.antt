@@ -3,7 +3,7 @@ use Rattle.std.proofs.Common.{◌≡◌, ◌≤◌, ℕ, Bool, true, false, List
 use Rattle.dspec_record.specs.declared.field.Shape.{Shape}
 use Rattle.dspec_interleaving.specs.Words.{Speculation, released, commit_at, commit_act, discard_at, discard_act, CpuProgress, halted, in_range, is_among, callers, is_open, issue, word_at, is_sole}
 use Rattle.dspec_interleaving.specs.Words.{is_sole_or_none, IsSound, is_worn, shown_commit, shown_discard, is_alone, is_release, same_word, call_goes_on, ends, commit_fate, discard_fate, answer_of}
-use Rattle.dspec_interleaving.specs.Words.{WholeCpu, whole_cpu, enters}
+use Rattle.dspec_interleaving.specs.Words.{WholeCpu, whole_cpu, enters, measured}
 use Rattle.dspec_word.specs.declared.act.Act.{Act}
 use Rattle.dspec_word.specs.declared.act.Act.TheVariants.{Void, Granted, Attempt, Idle}
 use Rattle.dspec_word.specs.declared.code.Code.{Code}
@@ -61,7 +61,7 @@ word_releases i false = refl
 
 module _ (shape : ℕ → Option Shape) (k : Config) (c : ℕ) (h : List Deed) (sound : IsSound k h) (some : 1 ≤ k.nspec) (id : Speculation) where
   told_ended : (n : ℕ) (at : List Deed) (me : CpuProgress) (ds : List Deed) (f : DecideFate)
-      → Leads shape k c n at (ends shape k c at me ds (answer_of f)) (enters shape k c (idle me) (ds ++ at) (answer_of f))
+      → Leads shape k c n at (ends me ds (answer_of f)) (enters shape k c (idle me) (ds ++ at) (answer_of f))
   told_ended n at me ds f = ended shape k c n at me ds _
 
   -- commit
@@ -77,11 +77,11 @@ module _ (shape : ℕ → Option Shape) (k : Config) (c : ℕ) (h : List Deed) (
   commits = commit_at (word_at id.slot h) id (is_among c (callers id h))
 
   committed_leads : (me : CpuProgress) (b : Bool) → b ≡ is_sole_or_none c (callers id h)
-      → Leads shape k c 1 h (if b then call_goes_on shape k c h me (Commit c id (commit_fate shape k c h id) ∷ [])
-      (cpu.CommitRelease id (commit_fate shape k c h id)) else ends shape k c h me (Commit c id (commit_fate shape k c h id) ∷ []) (answer_of (commit_fate shape k c h id))) (commit_whole me)
+      → Leads shape k c 1 h (if b then call_goes_on me (Commit c id (commit_fate shape k c h id) ∷ [])
+      (cpu.CommitRelease id (commit_fate shape k c h id)) else ends me (Commit c id (commit_fate shape k c h id) ∷ []) (answer_of (commit_fate shape k c h id))) (commit_whole me)
   committed_leads me b is = subst
-      (λ (t : Bool). Leads shape k c 1 h (if b then call_goes_on shape k c h me (Commit c id (commit_fate shape k c h id) ∷ [])
-      (cpu.CommitRelease id (commit_fate shape k c h id)) else ends shape k c h me (Commit c id (commit_fate shape k c h id) ∷ []) (answer_of (commit_fate shape k c h id)))
+      (λ (t : Bool). Leads shape k c 1 h (if b then call_goes_on me (Commit c id (commit_fate shape k c h id) ∷ [])
+      (cpu.CommitRelease id (commit_fate shape k c h id)) else ends me (Commit c id (commit_fate shape k c h id) ∷ []) (answer_of (commit_fate shape k c h id)))
       (if t then enters shape k c (idle me) (Release id.slot ∷ Commit c id (commit_fate shape k c h id) ∷ h) (answer_of (commit_fate shape k c h id))
       else enters shape k c (idle me) (Commit c id (commit_fate shape k c h id) ∷ h) (answer_of (commit_fate shape k c h id)))) is
       (both shape k c 1 h b _ _ _ _ (λ t. goes shape k c 0 h me _ _ _ (told_ended 0 _ (later me (cpu.CommitRelease id (commit_fate shape k c h id))) _ _)) (λ f. told_ended 1 h me _ _))
@@ -99,13 +99,14 @@ module _ (shape : ℕ → Option Shape) (k : Config) (c : ℕ) (h : List Deed) (
       never : {P : Type 0} (a : Act) → commits ≡ a → (Decides a → ⊥) → P
       never a e n = absurd (n (subst Decides e (commit_decides _ _ (is_among c (callers id h)) _)))
 
-      shut_leads : (me : CpuProgress) → is_open id h ≡ false → (a : Act) → commits ≡ a → Leads shape k c 2 h (shown_commit shape k c h me id (word_at id.slot h) a) (commit_void_whole me)
+      shut_leads : (me : CpuProgress) → is_open id h ≡ false → (a : Act) → commits ≡ a
+          → Leads shape k c 2 h (shown_commit k c (measured shape k c h) me id (word_at id.slot h) a) (commit_void_whole me)
       shut_leads me shut Void e = ended shape k c 2 h me _ _
       shut_leads me shut Granted e = never Granted e (λ n. n)
       shut_leads me shut (Attempt to) e = off (is_open id h) (commit_attempt k h id c to sound e).1 shut
       shut_leads me shut Idle e = never Idle e (λ n. n)
 
-      open_leads : (me : CpuProgress) → is_open id h ≡ true → (a : Act) → commits ≡ a → Leads shape k c 2 h (shown_commit shape k c h me id (word_at id.slot h) a) (commit_whole me)
+      open_leads : (me : CpuProgress) → is_open id h ≡ true → (a : Act) → commits ≡ a → Leads shape k c 2 h (shown_commit k c (measured shape k c h) me id (word_at id.slot h) a) (commit_whole me)
       open_leads me given Void e = off (is_open id h) given (commit_void k h id (is_among c (callers id h)) sound e)
       open_leads me given Granted e = never Granted e (λ n. n)
       open_leads me given (Attempt to) e = goes shape k c 1 h me [] _ _
@@ -127,11 +128,11 @@ module _ (shape : ℕ → Option Shape) (k : Config) (c : ℕ) (h : List Deed) (
   discards = discard_at (word_at id.slot h) id (is_among c (callers id h))
 
   discarded_leads : (me : CpuProgress) (b : Bool) → b ≡ is_sole c (callers id h)
-      → Leads shape k c 0 h (if b then ends shape k c h me (Release id.slot ∷ Discard c id (discard_fate shape k c h id) ∷ [])
-      (answer_of (discard_fate shape k c h id)) else ends shape k c h me (Discard c id (discard_fate shape k c h id) ∷ []) (answer_of (discard_fate shape k c h id))) (discard_whole me)
+      → Leads shape k c 0 h (if b then ends me (Release id.slot ∷ Discard c id (discard_fate shape k c h id) ∷ [])
+      (answer_of (discard_fate shape k c h id)) else ends me (Discard c id (discard_fate shape k c h id) ∷ []) (answer_of (discard_fate shape k c h id))) (discard_whole me)
   discarded_leads me b is = subst
-      (λ (t : Bool). Leads shape k c 0 h (if b then ends shape k c h me (Release id.slot ∷ Discard c id (discard_fate shape k c h id) ∷ [])
-      (answer_of (discard_fate shape k c h id)) else ends shape k c h me (Discard c id (discard_fate shape k c h id) ∷ []) (answer_of (discard_fate shape k c h id)))
+      (λ (t : Bool). Leads shape k c 0 h (if b then ends me (Release id.slot ∷ Discard c id (discard_fate shape k c h id) ∷ [])
+      (answer_of (discard_fate shape k c h id)) else ends me (Discard c id (discard_fate shape k c h id) ∷ []) (answer_of (discard_fate shape k c h id)))
       (if t then enters shape k c (idle me) (Release id.slot ∷ Discard c id (discard_fate shape k c h id) ∷ h) (answer_of (discard_fate shape k c h id))
       else enters shape k c (idle me) (Discard c id (discard_fate shape k c h id) ∷ h) (answer_of (discard_fate shape k c h id)))) is
       (both shape k c 0 h b _ _ _ _ (λ t. ended shape k c 0 h me _ _) (λ f. ended shape k c 0 h me _ _))
@@ -150,13 +151,14 @@ module _ (shape : ℕ → Option Shape) (k : Config) (c : ℕ) (h : List Deed) (
       never : {P : Type 0} (a : Act) → discards ≡ a → (Decides a → ⊥) → P
       never a e n = absurd (n (subst Decides e (discard_decides _ _ (is_among c (callers id h)) _)))
 
-      shut_leads : (me : CpuProgress) → is_open id h ≡ false → (a : Act) → discards ≡ a → Leads shape k c 1 h (shown_discard shape k c h me id (word_at id.slot h) a) (discard_void_whole me)
+      shut_leads : (me : CpuProgress) → is_open id h ≡ false → (a : Act) → discards ≡ a
+          → Leads shape k c 1 h (shown_discard k c (measured shape k c h) me id (word_at id.slot h) a) (discard_void_whole me)
       shut_leads me shut Void e = ended shape k c 1 h me _ _
       shut_leads me shut Granted e = never Granted e (λ n. n)
       shut_leads me shut (Attempt to) e = off (is_open id h) (discard_attempt k h id c to sound e).1 shut
       shut_leads me shut Idle e = never Idle e (λ n. n)
 
-      open_leads : (me : CpuProgress) → is_open id h ≡ true → (a : Act) → discards ≡ a → Leads shape k c 1 h (shown_discard shape k c h me id (word_at id.slot h) a) (discard_whole me)
+      open_leads : (me : CpuProgress) → is_open id h ≡ true → (a : Act) → discards ≡ a → Leads shape k c 1 h (shown_discard k c (measured shape k c h) me id (word_at id.slot h) a) (discard_whole me)
       open_leads me given Void e = off (is_open id h) given (discard_void k h id (is_among c (callers id h)) sound e)
       open_leads me given Granted e = never Granted e (λ n. n)
       open_leads me given (Attempt to) e = goes shape k c 0 h me [] _ _

@@ -14,12 +14,13 @@ use Rattle.dspec_interleaving.specs.Words.{CpuProgress, ConsumerFlight, CallPlac
 use Rattle.dspec_interleaving.specs.Words.{idle_progress, CpuStep, ConsumerStep, cpu_step, consumer_step, Stepped, step_cpu, step_consumer, on_to_end, Noted, Playing, ended, with_note, stepped}
 use Rattle.dspec_interleaving.specs.Words.{to_end}
 use Rattle.dspec_deeds.proofs.SetUp.{set_up}
+use Rattle.dspec_interleaving.proofs.WornCpuSteps.{cpu_advances}
 use Rattle.dspec_interleaving.proofs.Bounded.{cpu_below, clean_below}
 use Rattle.dspec_interleaving.proofs.Coherence.{step_cpu_coherent, step_consumer_coherent}
 use Rattle.dspec_interleaving.proofs.KeptCalls.{step_passes, clean_goes}
 use Rattle.dspec_interleaving.proofs.PlaysCarry.{behind_cpu_step, behind_consumer_step, cpu_stepped_is, consumer_stepped_is}
 use Rattle.dspec_interleaving.proofs.PlaysEnd.{ended_stays}
-use Rattle.dspec_interleaving.proofs.StepEnds.{HasEnded, HasGoneOn, HasClosed, HasKeptOn, cpu_advances, clean_advances}
+use Rattle.dspec_interleaving.proofs.StepEnds.{HasEnded, HasGoneOn, HasClosed, HasKeptOn, clean_advances}
 
 -- behind the run of a call one more is noted, as the steps one by one leave and answer it
 pub record EndsAs (a : Actor) (o : Op) (before : List Noted) (q : Playing) (s : Stepped) : Type 0 where
@@ -63,7 +64,7 @@ module _ (shape : ℕ → Option Shape) where
       ∙ ap (λ (l : List Noted). last ∷ l) was in
       subst (λ r. EndsAs (actor.Cpu c) (op.Cpu o) before (to_end shape n (actor.Cpu c) new) (on_to_end shape n (actor.Cpu c) new.state r)) (sym e.answers)
       (finished n (actor.Cpu c) (op.Cpu o) before new last idle noted (ap (λ (x : CpuOp). (actor.Cpu c, op.Cpu x, e.told)) call)))
-      (λ (g : HasGoneOn p.state.config (progress_of p.state.progresses c) (flight_bound p.state.config f) m).
+      (λ (g : HasGoneOn p.state.config (progress_of p.state.progresses c) (flight_bound p.state.config f) _ m).
       let steps : (progress_of new.state.progresses c).steps ≡ (progress_of p.state.progresses c).steps + 1 = ap (λ (x : CpuProgress). x.steps) here ∙ g.counted in
       let bound = g.bound in
       let noted : new.noted ≡ before = ap (λ (r : Option Answer). with_note (actor.Cpu c) (op.Cpu (op_of f)) (m.deeds ++ p.entered c) p.state r p.noted) g.answers ∙ was in
@@ -103,7 +104,7 @@ module _ (shape : ℕ → Option Shape) where
       e.answers ∙ ap (λ (l : List Noted). last ∷ l) was in
       subst (λ r. EndsAs actor.Consumer (op.Consumer o) before (to_end shape n actor.Consumer new) (on_to_end shape n actor.Consumer new.state r)) (sym e.answers)
       (finished n actor.Consumer (op.Consumer o) before new last idle noted (ap (λ (x : ConsumerOp). (actor.Consumer, op.Consumer x, e.told)) call)))
-      (λ (g : HasKeptOn p.state.config p.state.side (clean_bound p.state.config f) m).
+      (λ (g : HasKeptOn p.state.config p.state.side (clean_bound p.state.config f) _ m).
       let steps = g.counted in
       let bound = g.bound in
       let noted : new.noted ≡ before = ap (λ (r : Option Answer). with_note actor.Consumer (op.Consumer (consumer_op_of f)) (m.deeds ++ p.cleaned) p.state r p.noted) g.answers ∙ was in

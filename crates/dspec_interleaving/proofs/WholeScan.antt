@@ -4,7 +4,7 @@ use Rattle.std.proofs.Common.{◌≡◌, ◌≤◌, ◌+◌, ◌-◌, ◌*◌, �
 use Rattle.std.proofs.lemmas.Bool.Decides.{nat_tests}
 use Rattle.dspec_record.specs.declared.field.Shape.{Shape}
 use Rattle.dspec_interleaving.specs.Words.{SlotState, is_decided, open_at, attempt, CpuProgress, halted, issue, present, is_free, is_busy, owed, scan, word_at, IsSound, is_worn, cpu_step}
-use Rattle.dspec_interleaving.specs.Words.{shown_scan, missed, same_word, ends, call_goes_on, missed_busy, WholeCpu, whole_cpu, enters, least_free, is_any_busy, missed_up, gives, or_slot}
+use Rattle.dspec_interleaving.specs.Words.{shown_scan, missed, same_word, ends, call_goes_on, missed_busy, WholeCpu, whole_cpu, enters, least_free, is_any_busy, missed_up, gives, or_slot, measured}
 use Rattle.dspec_word.specs.declared.act.Act.TheVariants.{Void}
 use Rattle.dspec_word.specs.declared.code.Code.TheVariants.{Active}
 use Rattle.dspec_deeds.specs.declared.config.Config.{Config}
@@ -55,7 +55,8 @@ module _ (shape : ℕ → Option Shape) (k : Config) (c : ℕ) (h : List Deed) (
 
   -- the Miss of the last slot
   missed_last : (f n : ℕ) (me : CpuProgress) → suc n ≡ k.nspec → least_free shape k c (suc n) h ≡ None
-      → Leads shape k c f (missed_up shape k c n h) (missed shape k c (missed_up shape k c n h) me (suc n) (word_at (suc n) h)) (gives shape k c (idle me) h (least_free shape k c k.nspec h))
+      → Leads shape k c f (missed_up shape k c n h) (missed k c (measured shape k c (missed_up shape k c n h)) me (suc n) (word_at (suc n) h))
+      (gives shape k c (idle me) h (least_free shape k c k.nspec h))
   missed_last f n me last none =
       let busy : is_decided (word_at (suc n) h).code ≡ is_busy (suc n) h = busy_is k h (suc n) sound in
       let list : (Miss c (suc n) (is_decided (word_at (suc n) h).code) ∷ missed_up shape k c n h) ≡ missed_up shape k c k.nspec h =
@@ -67,7 +68,7 @@ module _ (shape : ℕ → Option Shape) (k : Config) (c : ℕ) (h : List Deed) (
       ≡ gives shape k c (idle me) h None = λ i. record { list = list i; progress = idle me; answer = answer.Opening (if any i then opening.Busy else opening.Unavailable) } in
       on_true shape k c f _ (suc n == k.nspec) _ _ _ (subst (λ m. (suc n == m) ≡ true) last (number_is_itself (suc n)))
       (subst (λ (w : WholeCpu). Leads shape k c f (missed_up shape k c n h)
-      (ends shape k c (missed_up shape k c n h) me (Miss c (suc n) (is_decided (word_at (suc n) h).code) ∷ [])
+      (ends me (Miss c (suc n) (is_decided (word_at (suc n) h).code) ∷ [])
       (answer.Opening (if missed_busy c (Miss c (suc n) (is_decided (word_at (suc n) h).code) ∷ missed_up shape k c n h) then opening.Busy else opening.Unavailable))) w)
       (left ∙ ap (gives shape k c (idle me) h) (sym none ∙ ap (λ m. least_free shape k c m h) last))
       (ended shape k c f (missed_up shape k c n h) me _ _))
@@ -85,30 +86,31 @@ module _ (shape : ℕ → Option Shape) (k : Config) (c : ℕ) (h : List Deed) (
       on_true shape k c f _ (same_word (word_at (suc n) (missed_up shape k c n h)) (word_at (suc n) h)) _ _ _
       (subst (λ (w : SlotState). same_word w (word_at (suc n) h) ≡ true) (sym (missed_word (suc n) n)) (same_word_is (word_at (suc n) h)))
       (subst (λ (w : WholeCpu). Leads shape k c f (missed_up shape k c n h)
-      (ends shape k c (missed_up shape k c n h) me (Opened c (present (suc n) h) ∷ []) (answer.Opening (opening.Id (present (suc n) h)))) w)
+      (ends me (Opened c (present (suc n) h) ∷ []) (answer.Opening (opening.Id (present (suc n) h)))) w)
       (left ∙ ap (gives shape k c (idle me) h) (sym chosen))
       (ended shape k c f (missed_up shape k c n h) me _ _))
 
   -- the load of a slot's word goes by whether the slot is free
   load_leads : (f n : ℕ) (me : CpuProgress) (w : WholeCpu)
-      → (is_free k (suc n) h ≡ true → Leads shape k c f (missed_up shape k c n h) (call_goes_on shape k c (missed_up shape k c n h) me [] (cpu.ScanTry (suc n) (word_at (suc n) h))) w)
-      → (is_free k (suc n) h ≡ false → Leads shape k c f (missed_up shape k c n h) (missed shape k c (missed_up shape k c n h) me (suc n) (word_at (suc n) h)) w)
+      → (is_free k (suc n) h ≡ true → Leads shape k c f (missed_up shape k c n h) (call_goes_on me [] (cpu.ScanTry (suc n) (word_at (suc n) h))) w)
+      → (is_free k (suc n) h ≡ false → Leads shape k c f (missed_up shape k c n h) (missed k c (measured shape k c (missed_up shape k c n h)) me (suc n) (word_at (suc n) h)) w)
       → Leads shape k c f (missed_up shape k c n h) (cpu_step shape k c (missed_up shape k c n h) me (cpu.ScanLoad (suc n))) w
   load_leads f n me w free taken =
-      subst (λ (x : SlotState). Leads shape k c f (missed_up shape k c n h) (shown_scan shape k c (missed_up shape k c n h) me (suc n) x (open_at x k.max_issues)) w)
+      subst (λ (x : SlotState). Leads shape k c f (missed_up shape k c n h) (shown_scan k c (measured shape k c (missed_up shape k c n h)) me (suc n) x (open_at x k.max_issues)) w)
       (sym (missed_word (suc n) n))
       (subst (λ (b : Bool). Leads shape k c f (missed_up shape k c n h)
-      (shown_scan shape k c (missed_up shape k c n h) me (suc n) (word_at (suc n) h) (if b then attempt (issue (suc n) h) Active else Void)) w)
+      (shown_scan k c (measured shape k c (missed_up shape k c n h)) me (suc n) (word_at (suc n) h) (if b then attempt (issue (suc n) h) Active else Void)) w)
       (sym (free_is k h (suc n)))
       (go (is_free k (suc n) h) refl))
     where
       go : (b : Bool) → is_free k (suc n) h ≡ b
-          → Leads shape k c f (missed_up shape k c n h) (shown_scan shape k c (missed_up shape k c n h) me (suc n) (word_at (suc n) h) (if b then attempt (issue (suc n) h) Active else Void)) w
+          → Leads shape k c f (missed_up shape k c n h)
+          (shown_scan k c (measured shape k c (missed_up shape k c n h)) me (suc n) (word_at (suc n) h) (if b then attempt (issue (suc n) h) Active else Void)) w
       go true e = free e
       go false e = taken e
 
   tries : (f n j : ℕ) (me : CpuProgress) → suc (n + j) ≡ k.nspec → least_free shape k c n h ≡ None → is_free k (suc n) h ≡ true
-      → Leads shape k c (suc f) (missed_up shape k c n h) (call_goes_on shape k c (missed_up shape k c n h) me [] (cpu.ScanTry (suc n) (word_at (suc n) h)))
+      → Leads shape k c (suc f) (missed_up shape k c n h) (call_goes_on me [] (cpu.ScanTry (suc n) (word_at (suc n) h)))
       (gives shape k c (idle me) h (least_free shape k c k.nspec h))
   tries f n j me last none e = goes shape k c f (missed_up shape k c n h) me [] _ _ (opened_here f n j (later me (cpu.ScanTry (suc n) (word_at (suc n) h))) last (least_here n true none e))
 

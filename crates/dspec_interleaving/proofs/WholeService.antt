@@ -9,8 +9,8 @@ use Rattle.dspec_deeds.specs.declared.config.Config.{Config}
 use Rattle.dspec_deeds.specs.declared.calls.CpuOp.TheVariants as cpu_op
 use Rattle.dspec_deeds.specs.declared.deed.Deed.{Deed}
 use Rattle.dspec_deeds.specs.declared.deed.Deed.TheVariants.{Seal}
-use Rattle.dspec_interleaving.specs.Words.{CpuProgress, Spare, is_fill, settled, seals, SpareCounts, CpuStep, cpu_step, loads_service, asked, popped, call_goes_on, WholeCpu, whole_cpu}
-use Rattle.dspec_interleaving.specs.Words.{whole_service, are_all_back, is_out}
+use Rattle.dspec_interleaving.specs.Words.{CpuProgress, Spare, is_fill, settled, seals, SpareCounts, cpu_step, loads_service, asked, popped, call_goes_on, WholeCpu, whole_cpu, whole_service}
+use Rattle.dspec_interleaving.specs.Words.{are_all_back, is_out, measured}
 use Rattle.dspec_interleaving.specs.declared.flight.CallPlace.TheVariants as cpu
 use Rattle.dspec_interleaving.specs.declared.flight.Spare.TheVariants as spare
 use Rattle.dspec_deeds.proofs.TestLemmas.{and_false}
@@ -60,37 +60,28 @@ module _ (shape : ℕ → Option Shape) (k : Config) (c : ℕ) (h : List Deed) (
       go spare.Out n u = and_false (seals c h == me.takes)
       go spare.GivenBack n u = let same : (seals c h == me.takes) ≡ true = grind (arith, nat_tests) in rw same refl
 
-  no_spare : (me : CpuProgress) → Leads shape k c (suc (suc (suc (double j)))) h (call_goes_on shape k c h me [] (cpu.ServiceLoad 1 record { sealed = false; settled = 0 })) (leaves me false)
+  no_spare : (me : CpuProgress) → Leads shape k c (suc (suc (suc (double j)))) h (call_goes_on me [] (cpu.ServiceLoad 1 record { sealed = false; settled = 0 })) (leaves me false)
   no_spare me = let fits : suc (double j) ≤ suc (suc (double j)) = omega arith in
       goes shape k c (suc (suc (double j))) h me [] _ _ (leads_more shape k c (suc (double j)) _ _ _ _ fits (from_first (later me (cpu.ServiceLoad 1 record { sealed = false; settled = 0 }))))
 
   -- the pop of a spare
-  popped_leads : (me : CpuProgress) (place : Spare) → Leads shape k c (suc (suc (suc (double j)))) h (popped shape k c h me place) (leaves me (is_back place))
+  popped_leads : (me : CpuProgress) (place : Spare) → Leads shape k c (suc (suc (suc (double j)))) h (popped k c (measured shape k c h) me place) (leaves me (is_back place))
   popped_leads me spare.InHand = no_spare me
   popped_leads me spare.Sealed = no_spare me
   popped_leads me spare.Handed = no_spare me
   popped_leads me spare.Out = no_spare me
   popped_leads me spare.GivenBack = record { is = (from_push (record me { flight = Some cpu.ServicePush; steps = me.steps + 1; spare = spare.Sealed })).is }
 
-  pops : (me : CpuProgress) (place : Spare) → me.spare ≡ place → Leads shape k c (suc (suc (suc (suc (double j))))) h (call_goes_on shape k c h me [] cpu.ServicePop) (leaves me (is_back place))
+  pops : (me : CpuProgress) (place : Spare) → me.spare ≡ place → Leads shape k c (suc (suc (suc (suc (double j))))) h (call_goes_on me [] cpu.ServicePop) (leaves me (is_back place))
   pops me place is = goes shape k c (suc (suc (suc (double j)))) h me [] _ _
-      (subst (λ (p : Spare). Leads shape k c (suc (suc (suc (double j)))) h (popped shape k c h (later me cpu.ServicePop) p) (leaves me (is_back place))) (sym is)
+      (subst (λ (p : Spare). Leads shape k c (suc (suc (suc (double j)))) h (popped k c (measured shape k c h) (later me cpu.ServicePop) p) (leaves me (is_back place))) (sym is)
       (popped_leads (later me cpu.ServicePop) place))
 
   asked_leads : (me : CpuProgress) (place : Spare) → me.spare ≡ place → (t : Bool)
-      → Leads shape k c (suc (suc (suc (suc (double j))))) h (asked shape k c h me place t) (leaves me (t && has_spare place))
-  asked_leads me place is false = subst (λ (m : CpuStep). Leads shape k c (suc (suc (suc (suc (double j))))) h m (leaves me false)) (sym (not_asked place))
-      (leads_more shape k c _ _ _ _ _ fits (no_spare me))
-    where
-      fits : suc (suc (suc (double j))) ≤ suc (suc (suc (suc (double j))))
-      fits = omega arith
-
-      not_asked : (p : Spare) → asked shape k c h me p false ≡ call_goes_on shape k c h me [] (cpu.ServiceLoad 1 record { sealed = false; settled = 0 })
-      not_asked spare.InHand = refl
-      not_asked spare.Sealed = refl
-      not_asked spare.Handed = refl
-      not_asked spare.Out = refl
-      not_asked spare.GivenBack = refl
+      → Leads shape k c (suc (suc (suc (suc (double j))))) h (asked k c (measured shape k c h) me t place) (leaves me (t && has_spare place))
+  asked_leads me place is false =
+      let fits : suc (suc (suc (double j))) ≤ suc (suc (suc (suc (double j)))) = omega arith in
+      leads_more shape k c (suc (suc (suc (double j)))) _ _ _ _ fits (no_spare me)
   asked_leads me spare.InHand is true =
       let fits : suc (suc (double j)) ≤ suc (suc (suc (double j))) = omega arith in
       record { is = (leads_more shape k c (suc (suc (double j))) _ _ _ _ fits (from_push (record me { flight = Some cpu.ServicePush; steps = me.steps + 1; spare = spare.Sealed }))).is }
@@ -101,9 +92,11 @@ module _ (shape : ℕ → Option Shape) (k : Config) (c : ℕ) (h : List Deed) (
 
   -- the first step of a service, by the policy
   begun_leads : (me : CpuProgress) (sealing : Bool)
-      → Leads shape k c (suc (suc (suc (suc (double j))))) h (asked shape k c h me me.spare (nat_lt (seals c h) me.want && nat_lt (seals c h) k.max_calls)) (leaves me sealing) → (b : Bool)
+      → Leads shape k c (suc (suc (suc (suc (double j))))) h (asked k c (measured shape k c h) me (nat_lt (seals c h) me.want && nat_lt (seals c h) k.max_calls) me.spare) (leaves me sealing)
+      → (b : Bool)
       → Leads shape k c (suc (suc (suc (suc (double j))))) h
-      (if b then loads_service shape k c h me 1 record { sealed = false; settled = 0 } else asked shape k c h me me.spare (nat_lt (seals c h) me.want && nat_lt (seals c h) k.max_calls))
+      (if b then loads_service k c (measured shape k c h) me 1 record { sealed = false; settled = 0 } else asked k c (measured shape k c h) me
+      (nat_lt (seals c h) me.want && nat_lt (seals c h) k.max_calls) me.spare)
       (leaves me (not b && sealing))
   begun_leads me sealing leads true =
       let fits : suc (double j) ≤ suc (suc (suc (suc (double j)))) = omega arith in
@@ -127,5 +120,5 @@ module _ (shape : ℕ → Option Shape) (k : Config) (c : ℕ) (h : List Deed) (
       starts shape k c (suc (suc (suc (suc (double j))))) h me cpu_op.Service _
       (begun_leads (begins me cpu_op.Service) _
       (subst (λ (b : Bool). Leads shape k c (suc (suc (suc (suc (double j))))) h
-      (asked shape k c h (begins me cpu_op.Service) me.spare (nat_lt (seals c h) me.want && nat_lt (seals c h) k.max_calls)) (leaves me b)) sealing
+      (asked k c (measured shape k c h) (begins me cpu_op.Service) (nat_lt (seals c h) me.want && nat_lt (seals c h) k.max_calls) me.spare) (leaves me b)) sealing
       (asked_leads (begins me cpu_op.Service) me.spare refl _)) (is_fill k.policy))

@@ -9,7 +9,7 @@ use Rattle.dspec_word.specs.declared.act.Act.TheVariants.{Granted, Idle}
 use Rattle.dspec_word.specs.declared.code.Code.TheVariants.{Inactive, Committing, CommittingMany}
 use Rattle.dspec_interleaving.specs.Words.{awaits, CpuProgress, is_commit, issue, present, opened, Verdict, undecided, committed, discarded, verdict, is_undecided, callers, active_code, standing}
 use Rattle.dspec_interleaving.specs.Words.{is_sole, is_sole_or_none, solo, solo_of, settled, is_busy, owed, scan, ack, word_at, IsSound, SettlesAs, cpu_step, shown_service, served, call_goes_on}
-use Rattle.dspec_interleaving.specs.Words.{ends, commit_fate, settle_fate, WholeCpu, enters, owes, settles_as, settled_at, settled_up, settlements_up_to, whole_service}
+use Rattle.dspec_interleaving.specs.Words.{ends, commit_fate, settle_fate, WholeCpu, enters, owes, settles_as, settled_at, settled_up, settlements_up_to, whole_service, measured}
 use Rattle.dspec_deeds.specs.declared.config.Config.{Config}
 use Rattle.dspec_deeds.specs.declared.calls.Answer.TheVariants as answer
 use Rattle.dspec_deeds.specs.declared.calls.Served.{Served}
@@ -131,14 +131,14 @@ module _ (shape : ℕ → Option Shape) (k : Config) (c : ℕ) where
   module _ (h : List Deed) (at : IsAtRest k c h) (b : Bool) where
     -- behind the last slot
     serves_last : (f n : ℕ) (me : CpuProgress) (ds : List Deed) (sum : Served) → suc n ≡ k.nspec → (ds ++ settled_up shape k c n h) ≡ settled_up shape k c (suc n) h → sum ≡ sum_at b (suc n) h
-        → Leads shape k c f (settled_up shape k c n h) (served shape k c (settled_up shape k c n h) me (suc n) ds sum) (whole_service shape k c (idle me) h b)
+        → Leads shape k c f (settled_up shape k c n h) (served k c (measured shape k c (settled_up shape k c n h)) me (suc n) ds sum) (whole_service shape k c (idle me) h b)
     serves_last f n me ds sum last list is =
         let list' : (ds ++ settled_up shape k c n h) ≡ settled_up shape k c k.nspec h = list ∙ ap (λ m. settled_up shape k c m h) last in
         let is' : sum ≡ sum_at b k.nspec h = is ∙ ap (λ m. sum_at b m h) last in
         let left : enters shape k c (idle me) (ds ++ settled_up shape k c n h) (answer.Served sum) ≡ whole_service shape k c (idle me) h b =
         λ i. record { list = list' i; progress = idle me; answer = answer.Served (is' i) } in
         on_true shape k c f _ (suc n == k.nspec) _ _ _ (subst (λ m. (suc n == m) ≡ true) last (number_is_itself (suc n)))
-        (subst (λ (w : WholeCpu). Leads shape k c f (settled_up shape k c n h) (ends shape k c (settled_up shape k c n h) me ds (answer.Served sum)) w) left
+        (subst (λ (w : WholeCpu). Leads shape k c f (settled_up shape k c n h) (ends me ds (answer.Served sum)) w) left
         (ended shape k c f (settled_up shape k c n h) me ds _))
 
     -- behind another slot
@@ -146,7 +146,7 @@ module _ (shape : ℕ → Option Shape) (k : Config) (c : ℕ) where
         → Leads shape k c f (settled_up shape k c (suc n) h)
         (cpu_step shape k c (settled_up shape k c (suc n) h) (later me (cpu.ServiceLoad (suc (suc n)) (sum_at b (suc n) h)))
         (cpu.ServiceLoad (suc (suc n)) (sum_at b (suc n) h))) (whole_service shape k c (idle me) h b)
-        → Leads shape k c (suc f) (settled_up shape k c n h) (served shape k c (settled_up shape k c n h) me (suc n) ds sum) (whole_service shape k c (idle me) h b)
+        → Leads shape k c (suc f) (settled_up shape k c n h) (served k c (measured shape k c (settled_up shape k c n h)) me (suc n) ds sum) (whole_service shape k c (idle me) h b)
     serves_next f n me ds sum more list is l =
         let other : (suc n == k.nspec) ≡ false = grind (arith, nat_tests) in
         let next : suc (suc n) ≡ suc n + 1 = omega arith in
@@ -158,18 +158,18 @@ module _ (shape : ℕ → Option Shape) (k : Config) (c : ℕ) where
     -- the load of a slot's word goes by whether the slot waits for the CPU
     load_serves : (f n : ℕ) (me : CpuProgress) (sum : Served) (w : WholeCpu)
         → (owes shape k c (suc n) (settled_up shape k c n h) ≡ true
-        → Leads shape k c f (settled_up shape k c n h) (call_goes_on shape k c (settled_up shape k c n h) me [] (cpu.ServiceStore (suc n) (word_at (suc n) (settled_up shape k c n h)) sum)) w)
-        → (owes shape k c (suc n) (settled_up shape k c n h) ≡ false → Leads shape k c f (settled_up shape k c n h) (served shape k c (settled_up shape k c n h) me (suc n) [] sum) w)
+        → Leads shape k c f (settled_up shape k c n h) (call_goes_on me [] (cpu.ServiceStore (suc n) (word_at (suc n) (settled_up shape k c n h)) sum)) w)
+        → (owes shape k c (suc n) (settled_up shape k c n h) ≡ false → Leads shape k c f (settled_up shape k c n h) (served k c (measured shape k c (settled_up shape k c n h)) me (suc n) [] sum) w)
         → Leads shape k c f (settled_up shape k c n h) (cpu_step shape k c (settled_up shape k c n h) me (cpu.ServiceLoad (suc n) sum)) w
     load_serves f n me sum w waits goes_by =
         subst (λ (t : Bool). Leads shape k c f (settled_up shape k c n h)
-        (shown_service shape k c (settled_up shape k c n h) me (suc n) sum (word_at (suc n) (settled_up shape k c n h)) (if t then Granted else Idle)) w)
+        (shown_service k c (measured shape k c (settled_up shape k c n h)) me (suc n) sum (word_at (suc n) (settled_up shape k c n h)) (if t then Granted else Idle)) w)
         (sym (owes_is (suc n) (settled_up shape k c n h) (settled_up_rests n h at)))
         (go (owes shape k c (suc n) (settled_up shape k c n h)) refl)
       where
         go : (t : Bool) → owes shape k c (suc n) (settled_up shape k c n h) ≡ t
             → Leads shape k c f (settled_up shape k c n h)
-            (shown_service shape k c (settled_up shape k c n h) me (suc n) sum (word_at (suc n) (settled_up shape k c n h)) (if t then Granted else Idle)) w
+            (shown_service k c (measured shape k c (settled_up shape k c n h)) me (suc n) sum (word_at (suc n) (settled_up shape k c n h)) (if t then Granted else Idle)) w
         go true e = waits e
         go false e = goes_by e
 

@@ -2,7 +2,7 @@
 use Rattle.std.proofs.Common.{◌≡◌, ◌≤◌, ℕ, Bool, true, false, List, [], ◌∷◌, Option, None, if◌then◌else◌, refl}
 use Rattle.dspec_record.specs.declared.field.Shape.{Shape}
 use Rattle.dspec_interleaving.specs.Words.{Record, Speculation, speculate_at, speculate_act, CpuProgress, halted, in_range, is_among, callers, is_open, word_at, IsSound, fits_speculative, is_worn}
-use Rattle.dspec_interleaving.specs.Words.{shown_speculate, spoken_at, same_word, WholeCpu, whole_cpu, enters}
+use Rattle.dspec_interleaving.specs.Words.{shown_speculate, spoken_at, same_word, WholeCpu, whole_cpu, enters, measured}
 use Rattle.dspec_word.specs.declared.act.Act.{Act}
 use Rattle.dspec_word.specs.declared.act.Act.TheVariants.{Void, Granted, Attempt, Idle}
 use Rattle.dspec_word.specs.declared.code.Code.{Code}
@@ -41,19 +41,19 @@ module _ (shape : ℕ → Option Shape) (k : Config) (c : ℕ) (h : List Deed) (
       if fits_speculative shape k c id r h then enters shape k c (idle me) (Speculate c id r spoken.Kept ∷ h) (answer.Spoken spoken_answer.Kept)
       else enters shape k c (idle me) (Speculate c id r spoken.Dropped ∷ h) (answer.Spoken spoken_answer.Dropped)
 
-  spoken_leads : (n : ℕ) (me : CpuProgress) → Leads shape k c n h (spoken_at shape k c h me id r) (open_whole me)
+  spoken_leads : (n : ℕ) (me : CpuProgress) → Leads shape k c n h (spoken_at k c (measured shape k c h) me id r) (open_whole me)
   spoken_leads n me = both shape k c n h (fits_speculative shape k c id r h) _ _ _ _ (λ t. ended shape k c n h me _ _) (λ f. ended shape k c n h me _ _)
 
   abbrev act : Act
   act = speculate_at (word_at id.slot h) id (is_among c (callers id h))
 
-  shut_leads : (me : CpuProgress) → is_open id h ≡ false → (a : Act) → act ≡ a → Leads shape k c 1 h (shown_speculate shape k c h me id r (word_at id.slot h) a) (void_whole me)
+  shut_leads : (me : CpuProgress) → is_open id h ≡ false → (a : Act) → act ≡ a → Leads shape k c 1 h (shown_speculate k c (measured shape k c h) me id r (word_at id.slot h) a) (void_whole me)
   shut_leads me shut Void e = ended shape k c 1 h me _ _
   shut_leads me shut Granted e = off (is_open id h) (speculate_granted k h id c sound e).0 shut
   shut_leads me shut (Attempt to) e = off (is_open id h) (speculate_attempt k h id c to sound e).1 shut
   shut_leads me shut Idle e = never_idle _ _ _ _ e
 
-  open_leads : (me : CpuProgress) → is_open id h ≡ true → (a : Act) → act ≡ a → Leads shape k c 1 h (shown_speculate shape k c h me id r (word_at id.slot h) a) (open_whole me)
+  open_leads : (me : CpuProgress) → is_open id h ≡ true → (a : Act) → act ≡ a → Leads shape k c 1 h (shown_speculate k c (measured shape k c h) me id r (word_at id.slot h) a) (open_whole me)
   open_leads me given Void e = off (is_open id h) given (speculate_void k h id (is_among c (callers id h)) sound e)
   open_leads me given Granted e = spoken_leads 1 me
   open_leads me given (Attempt to) e = goes shape k c 0 h me [] _ _

@@ -4,7 +4,7 @@ use Rattle.std.proofs.Common.{◌+◌, ◌≡◌, ◌≤◌, ℕ, Bool, true, fa
 use Rattle.std.proofs.lemmas.Bool.Decides.{nat_tests}
 use Rattle.dspec_record.specs.declared.field.Shape.{Shape}
 use Rattle.dspec_interleaving.specs.Words.{Record, one, Speculation, SlotState, code_number, CpuProgress, CallPlace, halted, in_range, opened, verdict, is_undecided, is_open, IsSound}
-use Rattle.dspec_interleaving.specs.Words.{fits_principal, is_worn, CpuStep, call_goes_on, ends, wears, begun, cpu_step, same_word, WholeCpu, whole_cpu, enters, wears_out}
+use Rattle.dspec_interleaving.specs.Words.{fits_principal, is_worn, CpuStep, call_goes_on, ends, wears, begun, cpu_step, same_word, WholeCpu, whole_cpu, enters, wears_out, measured}
 use Rattle.dspec_deeds.specs.declared.config.Config.{Config}
 use Rattle.dspec_deeds.specs.declared.calls.Answer.{Answer}
 use Rattle.dspec_deeds.specs.declared.calls.CpuOp.{CpuOp}
@@ -40,16 +40,16 @@ module _ (shape : ℕ → Option Shape) (k : Config) (c : ℕ) where
     pub is : runs shape k c n m.progress (m.deeds ++ h) m.answer ≡ whole w
 
   -- the step is the call's last
-  pub ended : (n : ℕ) (h : List Deed) (me : CpuProgress) (ds : List Deed) (a : Answer) → Leads n h (ends shape k c h me ds a) (enters shape k c (idle me) (ds ++ h) a)
+  pub ended : (n : ℕ) (h : List Deed) (me : CpuProgress) (ds : List Deed) (a : Answer) → Leads n h (ends me ds a) (enters shape k c (idle me) (ds ++ h) a)
   ended n h me ds a = record { is = runs_stay shape k c n (idle me) (ds ++ h) a }
 
   -- a worn call's only step
-  pub worn : (n : ℕ) (h : List Deed) (me : CpuProgress) (a : Answer) → Leads n h (wears shape k c h me a) (wears_out shape k c (idle me) h a)
+  pub worn : (n : ℕ) (h : List Deed) (me : CpuProgress) (a : Answer) → Leads n h (wears me a) (wears_out shape k c (idle me) h a)
   worn n h me a = record { is = runs_stay shape k c n _ h a }
 
   -- the call goes on, and its next step leads there
   pub goes : (n : ℕ) (h : List Deed) (me : CpuProgress) (ds : List Deed) (f : CallPlace) (w : WholeCpu)
-      → Leads n (ds ++ h) (cpu_step shape k c (ds ++ h) (later me f) f) w → Leads (suc n) h (call_goes_on shape k c h me ds f) w
+      → Leads n (ds ++ h) (cpu_step shape k c (ds ++ h) (later me f) f) w → Leads (suc n) h (call_goes_on me ds f) w
   goes n h me ds f w l = record { is = l.is }
 
   -- what some steps lead to, more lead to
@@ -79,7 +79,8 @@ module _ (shape : ℕ → Option Shape) (k : Config) (c : ℕ) where
   whole_not n h false m u v f t = f refl
 
   -- the steps of a call that begins
-  pub starts : (n : ℕ) (h : List Deed) (me : CpuProgress) (o : CpuOp) (w : WholeCpu) → Leads n h (begun shape k c h (begins me o) o) w → runs shape k c (suc n) (begins me o) h None ≡ whole w
+  pub starts : (n : ℕ) (h : List Deed) (me : CpuProgress) (o : CpuOp) (w : WholeCpu) → Leads n h (begun k c (measured shape k c h) (begins me o) o) w → runs shape k c (suc n) (begins me o) h None
+      ≡ whole w
   starts n h me o w l = l.is
 
   pub trace_alone : (h : List Deed) (me : CpuProgress) (r : Record) → runs shape k c 1 (begins me (cpu_op.Trace r)) h None ≡ whole (whole_cpu shape k c (idle me) h (cpu_op.Trace r))

@@ -18,8 +18,8 @@ use Rattle.dspec_deeds.proofs.StayingOwn.{calls_other}
 use Rattle.dspec_deeds.proofs.TestLemmas.{number_is_itself, same_actor_tells}
 use Rattle.dspec_interleaving.proofs.KeptCalls.{step_passes}
 use Rattle.dspec_interleaving.proofs.PlaysEnd.{IsCoherentPlay}
-use Rattle.dspec_interleaving.proofs.StepEnds.{HasEnded, HasGoneOn, cpu_advances}
-use Rattle.dspec_interleaving.proofs.WornCpuSteps.{ahead, enters, cpu_step_wears}
+use Rattle.dspec_interleaving.proofs.StepEnds.{HasEnded, HasGoneOn}
+use Rattle.dspec_interleaving.proofs.WornCpuSteps.{ahead, enters, cpu_step_wears, cpu_advances}
 use Rattle.dspec_interleaving.proofs.WornSteps.{consumer_unworn}
 
 -- a step of a CPU answers Worn exactly where it is the first of a call that counts, and the CPU has entered as many as it may
@@ -139,7 +139,7 @@ entered_now shape k c h me f ds st ns was =
       counts = omega arith;
       unworn = λ on. ⊎_elim
           (λ (e : HasEnded m). let idle = e.idle in absurd (cc (idle, on)))
-          (λ (g : HasGoneOn k me _ m).
+          (λ (g : HasGoneOn k me _ _ m).
           let same : op_of g.next ≡ op_of f = step_passes (λ o. o ≡ op_of f) shape k c h me f refl g.next g.flight in
           let counted = is_counted_on (op_of f) g.next same (ap is_on (sym g.flight) ∙ on) in
           let unworn : is_worn_behind k (actor.Cpu c) (op.Cpu (op_of f)) (map ended ns) ≡ false = sym (same_test k c h f (map ended ns) was) ∙ (sym wears.told ∙ ap is_told_worn g.answers) in

@@ -1,3 +1,4 @@
+pub mod Step
 pub mod Play
 pub mod Coherent
 pub mod Turns

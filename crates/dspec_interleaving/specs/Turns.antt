@@ -13,7 +13,8 @@ use Rattle.dspec_interleaving.specs.declared.flight.ConsumerFlight.{ConsumerFlig
 use Rattle.dspec_interleaving.specs.declared.flight.ConsumerFlight.TheVariants as consumer
 use Rattle.dspec_interleaving.specs.declared.flight.CallPlace.{CallPlace}
 use Rattle.dspec_interleaving.specs.declared.flight.CallPlace.TheVariants as cpu
-use Rattle.dspec_interleaving.specs.Play.{CpuStep, ConsumerStep, cpu_step, consumer_step}
+use Rattle.dspec_interleaving.specs.Step.{CpuStep}
+use Rattle.dspec_interleaving.specs.Play.{ConsumerStep, cpu_step, consumer_step}
 use Rattle.dspec_interleaving.specs.Coherent.{PlayState, progress_of, idle_progress}
 
 abbrev pub idle_cpus : ℕ → List CpuProgress

@@ -7,15 +7,16 @@ pub use Rattle.dspec_interleaving.specs.Calls.{steps_of, told_step}
 pub use Rattle.dspec_interleaving.specs.Coherent.{Expects, idle_progress, IsCoherent, IsSlot, OnItsWay, PlayState, progress_of, ProgressStands, PushesNext, SettledBelow, SpareCounts, StandsConsumer}
 pub use Rattle.dspec_interleaving.specs.Coherent.{StandsCpu, StandsProgress, StandsState, TriedBy}
 pub use Rattle.dspec_interleaving.specs.CpuClose.{IsCloseOf, own_closed, own_closed_slot}
-pub use Rattle.dspec_interleaving.specs.Play.{asked, batch_at, begun, call_goes_on, changes, committed_by, consumer_begun, consumer_step, ConsumerStep, cpu_step, CpuStep, discarded_by, ends}
-pub use Rattle.dspec_interleaving.specs.Play.{gives_at, is_alone, is_mine, is_release, is_worn, keeps_on, loads_ack, loads_service, loads_slot, missed, next_slot, popped, reaps, same_word, served}
-pub use Rattle.dspec_interleaving.specs.Play.{shown_commit, shown_discard, shown_scan, shown_service, shown_speculate, spoken_at, stops, takes_at, took, wears}
+pub use Rattle.dspec_interleaving.specs.Play.{batch_at, changes, consumer_begun, consumer_step, ConsumerStep, cpu_step, gives_at, is_worn, keeps_on, loads_ack, loads_slot, measured, next_slot}
+pub use Rattle.dspec_interleaving.specs.Play.{reaps, stops, takes_at, took}
 pub use Rattle.dspec_interleaving.specs.Plays.{all_ran, all_turned, answers_of, begin_refusal, begun_consumer, begun_cpu, consumer_stepped, cpu_stepped, cpus_ran, deeds_of, ended, EndedCall, is_by}
 pub use Rattle.dspec_interleaving.specs.Plays.{is_worn_answer, IsPlayingAt, IsReadOff, Noted, or_else, play_fault, played, Playing, playing_at_start, ran, read_off, refusal, setup_fault}
 pub use Rattle.dspec_interleaving.specs.Plays.{step_refusal, stepped, to_end, turn_fault, turned, with_entered, with_note, worn_answers, worn_count}
 pub use Rattle.dspec_interleaving.specs.Promised.{HasHeadline}
 pub use Rattle.dspec_interleaving.specs.ReadOff.{answer_of_consumer, answer_of_cpu, has_seal, is_busy_among, is_unpushed, release_count, settle_count}
 pub use Rattle.dspec_interleaving.specs.SoloRule.{DecidesNothing, IsLast, IsReleasing, ReleasesLast, ReleasesThen}
+pub use Rattle.dspec_interleaving.specs.Step.{asked, begun, call_goes_on, call_step, committed_by, CpuStep, discarded_by, ends, is_alone, is_release, loads_service, Measured, missed, popped}
+pub use Rattle.dspec_interleaving.specs.Step.{same_word, sealed_by, served, shown_commit, shown_discard, shown_scan, shown_service, shown_speculate, spoken_at, wears}
 pub use Rattle.dspec_interleaving.specs.Turns.{at_start, begin_consumer, begin_cpu, cleaned_to, idle_cpus, moved_to, on_to_end, step, step_consumer, step_cpu, Stepped}
 pub use Rattle.dspec_interleaving.specs.Wearing.{AreWornRightly, entered_calls, enters_call, is_counted, is_first, is_told_worn, is_worn_behind}
 pub use Rattle.dspec_interleaving.specs.Whole.{all_settled, are_all_back, AreCalls, behind_all, behind_call, behind_consumer, behind_cpu, Call, cleaned_at, cleaned_up, consumer_call, cpu_call}

@@ -2,10 +2,14 @@
 use Rattle.std.proofs.Common.{◌≡◌, ℕ, zero, suc, ◌<◌, Bool, List, [], ◌∷◌, ◌++◌, length, Option, Some, refl, sym, ap, ◌∙◌, subst, arith}
 use Rattle.std.specs.Prelude.{reverse, slice_get}
 use Rattle.std.specs.Option.{option_map_or}
+use Rattle.std.proofs.lemmas.List.{length-reverse}
 use Rattle.std.proofs.lemmas.Option.{slice_get_within}
-use Rattle.dspec_session_core.specs.Words.{Record, Speculation, part, word_at, stream, bare, own_closed, did, all_did, Promise, known, CallsMade, called, no_calls, settled_did, number_in, seat_of}
-use Rattle.dspec_session_core.specs.Words.{worn_of, AreSealed, waiting, Left, ClosesAs, IsPromised, IsPromisedBy, KeepsPage, called_at, closed_up, entered_at, settle_deeds, worn_at}
+use Rattle.dspec_session_core.specs.Words.{Record, records, Speculation, part, word_at, stream, bare, own_closed, did, all_did, Promise, known, CallsMade, called, no_calls, settled_did, number_in}
+use Rattle.dspec_session_core.specs.Words.{seat_of, worn_of, AreSealed, waiting, Left, ClosesAs, HoldInOrder, IsPromised, IsPromisedBy, KeepsPage, called_at, closed_up, entered_at, settle_deeds}
+use Rattle.dspec_session_core.specs.Words.{worn_at, HoldRecords}
 use Rattle.dspec_record.specs.declared.field.Shape.{Shape}
+use Rattle.dspec_buffer.proofs.SchemaLaws.{SchemaLaws}
+use Rattle.dspec_buffer.proofs.Walks.{reads_back}
 use Rattle.dspec_deeds.specs.declared.config.Config.{Config}
 use Rattle.dspec_deeds.specs.declared.calls.Actor.TheVariants.{Cpu as CpuActor}
 use Rattle.dspec_deeds.specs.declared.deed.DecideFate.{DecideFate}
@@ -47,8 +51,15 @@ module _ {S : Type 0} (shape_of : S → ℕ → Option Shape) (accepted : S → 
   pub had_tells : (c : ℕ) (cpu : Cpu S) (p : List Deed) → number_in cpu ≡ c → Has shape_of accepted text cpu p → did c p ≡ (called cpu).done
   had_tells c cpu p number has = sym (did_bare c p) ∙ (ap (did c) has.own ∙ ap (λ n. did n (known (seat_of cpu)).own) (sym number))
 
-module _ (shape : ℕ → Option Shape) (accepted : Record → Bool) (text : Record → List ℕ) (k : Config) (worn : ℕ → ℕ) (taken : ℕ → List Batch) (consumer : List Deed)
-    (left : List Left) (p : ℕ → List Deed) (g : List Deed)
+-- what the buffers of batches hold is what their bytes are the texts of
+hold_records : (shape : ℕ → Option Shape) (accepted : Record → Bool) (text : Record → List ℕ) → SchemaLaws shape accepted text → (bs : List Batch) (rs : List Record)
+    → HoldInOrder shape accepted text bs rs → HoldRecords shape accepted text bs rs
+hold_records shape accepted text laws [] rs none = none
+hold_records shape accepted text laws (b ∷ bs) rs (ps, rest, has, is, more) =
+    (reverse (records ps), rest, reads_back shape accepted text laws b.buffer ps has, has.count_is ∙ sym (length-reverse (records ps)), is, hold_records shape accepted text laws bs rest more)
+
+module _ (shape : ℕ → Option Shape) (accepted : Record → Bool) (text : Record → List ℕ) (laws : SchemaLaws shape accepted text) (k : Config) (worn : ℕ → ℕ)
+    (taken : ℕ → List Batch) (consumer : List Deed) (left : List Left) (p : ℕ → List Deed) (g : List Deed)
     (closes : ClosesAs shape accepted text k worn taken consumer left p g) where
   -- what the close settled for each CPU
   abbrev closed : ℕ → List (Speculation × DecideFate)
@@ -80,7 +91,7 @@ module _ (shape : ℕ → Option Shape) (accepted : Record → Bool) (text : Rec
         answered = answered c lt ∙ ap (λ ds. settled_did (closed c) ++ ds) done;
         worn = ap (λ (r : Report). r.worn) each.reported ∙ wears;
         seen = stream c g;
-        hold = each.kept;
+        hold = hold_records shape accepted text laws (taken c ++ waiting l.rest ++ l.last ∷ []) (stream c g) each.kept;
         promise = subst (Promise k.cpus (all_did g) c (stream c g)) (sym each.reported) (promise shape k c (worn c) g closes.legal closes.waits lt);
       }
 

@@ -1,8 +1,8 @@
 -- Believed. What the close of a session promises of each CPU, in the words of the page.
-use Rattle.std.specs.Prelude.{ℕ, zero, suc, ◌≡◌, ◌≢◌, nat_lt, Bool, List, [], ◌∷◌, ◌++◌, map, reverse, slice_get, Option, Some, if◌then◌else◌}
+use Rattle.std.specs.Prelude.{ℕ, zero, suc, ◌≡◌, ◌≢◌, nat_lt, Bool, List, [], ◌∷◌, ◌++◌, length, map, reverse, slice_get, Option, Some, if◌then◌else◌}
 use Rattle.std.specs.Option.{option_map_or}
 use Rattle.dspec_session_core.specs.Words.Outside.{Record, Speculation, AtEachMoment, DecidedSoFar, all_did, Did, Promise, GivenOnce, HaveReasons, known, CallsMade, called, no_calls, settled_did}
-use Rattle.dspec_session_core.specs.Words.Outside.{seat_of, IsSealed, waiting}
+use Rattle.dspec_session_core.specs.Words.Outside.{seat_of, IsSealed, waiting, BufferText}
 use Rattle.dspec_record.specs.declared.field.Shape.{Shape}
 use Rattle.dspec_deeds.specs.declared.config.Config.{Config}
 use Rattle.dspec_deeds.specs.declared.calls.Actor.{Actor}
@@ -14,7 +14,6 @@ use Rattle.dspec_deeds.specs.declared.report.Report.{Report}
 use Rattle.dspec_ring.specs.declared.batch.Batch.{Batch}
 use Rattle.dspec_cpu.specs.declared.cpu.Cpu.{Cpu}
 use Rattle.dspec_session_core.specs.declared.left.Left.{Left}
-use Rattle.dspec_session_core.specs.Closing.{HoldInOrder}
 
 -- what the calls of the CPU with this number did
 abbrev pub called_at : {S : Type 0} → List (Cpu S) → ℕ → CallsMade
@@ -45,6 +44,12 @@ closed_up closed zero h = h
 closed_up closed (suc c) h = settle_deeds c (closed c) ++ closed_up closed c h
 
 module _ (shape : ℕ → Option Shape) (accepted : Record → Bool) (text : Record → List ℕ) where
+  -- the bytes of these batches, the oldest first, are the texts of these records in order, and each counts its own
+  abbrev pub HoldRecords : List Batch → List Record → Type 0
+  HoldRecords [] rs = rs ≡ []
+  HoldRecords (b ∷ bs) rs =
+      (first : List Record) × (rest : List Record) × BufferText shape accepted text 0 b.buffer.text first × (b.buffer.count ≡ length first) × (rs ≡ first ++ rest) × HoldRecords bs rest
+
   -- the list is what the CPU's seat entered, with a Seal for each of its batches that was sealed, the latest first, where it was sealed
   abbrev pub IsWithSeals : Config → ℕ → List Deed → List Batch → List Deed → Type 0
   IsWithSeals k c entered bs [] = (entered ≡ []) × (bs ≡ [])
@@ -58,7 +63,7 @@ module _ (shape : ℕ → Option Shape) (accepted : Record → Bool) (text : Rec
     pub answered : all c ≡ settled_did closed ++ calls.done
     pub worn : report.worn ≡ calls.worn
     pub seen : List Record
-    pub hold : HoldInOrder shape accepted text batches seen
+    pub hold : HoldRecords batches seen
     pub promise : Promise cpus all c seen report
 
   -- In short, for whoever asks whether a record leaks or is lost: what each CPU did is what its calls did and, in front of that, what the

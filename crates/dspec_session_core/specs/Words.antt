@@ -9,7 +9,7 @@ pub use Rattle.dspec_session_core.specs.Closing.{ClosedFrom, ClosesAs, HoldInOrd
 pub use Rattle.dspec_session_core.specs.Consumers.{Consuming, IsConsumerOf, IsSameConsumer, pairs_of, set_up_of, Stays, taken_from, view_of}
 pub use Rattle.dspec_session_core.specs.Leaving.{AllParted, AllSteady, AreLeft, AreParting, HasParted, IsClosing, IsLeft, IsParted, IsRestOf, Leaves, Steady}
 pub use Rattle.dspec_session_core.specs.Owed.{owed_fate, owed_in, owed_more, owed_up, owes_settlement}
-pub use Rattle.dspec_session_core.specs.Promised.{called_at, closed_up, deeds_by, entered_at, IsMixOf, IsPromised, IsPromisedBy, IsWithSeals, KeepsPage, settle_deeds}
+pub use Rattle.dspec_session_core.specs.Promised.{called_at, closed_up, deeds_by, entered_at, HoldRecords, IsMixOf, IsPromised, IsPromisedBy, IsWithSeals, KeepsPage, settle_deeds}
 pub use Rattle.dspec_session_core.specs.Sessions.{Has, HasAt, IsCpuOf, IsFresh, IsSession, taken_at, worn_at}
 pub use Rattle.dspec_session_core.specs.Stopping.{Stopped}
 pub use Rattle.dspec_session_core.specs.declared.left.Left.{Left}

@@ -1,22 +1,20 @@
 -- The load of activity.
-use Rattle.std.proofs.Common.{◌≡◌, ℕ, ◌≤◌, Bool, true, false, ◌==◌, not, if◌then◌else◌, List, [], ◌∷◌, ◌++◌, Some, refl, sym, ap, ◌∙◌, subst, ⊎_elim, arith}
+use Rattle.std.proofs.Common.{◌≡◌, ℕ, ◌≤◌, Bool, true, false, ◌==◌, not, if◌then◌else◌, List, [], ◌++◌, Some, refl, sym, ap, ◌∙◌, subst, ⊎_elim, arith}
 use Rattle.std.specs.Prelude.{slice_index}
 use Rattle.std.proofs.lemmas.Bool.Decides.{nat_tests}
 use Rattle.atomic_table.specs.Table.{keeps, Allows, Me}
-use Rattle.dspec_table.specs.Words.{Speculation, trace_stopped, Record, Holder, of_cpu, halted, scan, owed, is_open, opened, is_undecided, verdict, in_range, IsSound, View, Doing, WordsRule}
-use Rattle.dspec_table.specs.Words.{activity, activity_place, flight_after, calling, acted, Entered, LoadedActivity, at_activity, number_of}
+use Rattle.dspec_table.specs.Words.{Speculation, CpuStep, Holder, of_cpu, halted, late, scan, owed, is_open, opened, is_undecided, verdict, in_range, IsSound, View, Doing, WordsRule, activity}
+use Rattle.dspec_table.specs.Words.{activity_place, flight_after, calling, acted, Entered, LoadedActivity, at_activity, number_of}
 use Rattle.dspec_deeds.specs.declared.config.Config.{Config}
 use Rattle.dspec_deeds.specs.declared.deed.Deed.{Deed}
-use Rattle.dspec_deeds.specs.declared.deed.Deed.TheVariants.{Speculate, Commit, Discard}
+use Rattle.dspec_word.specs.declared.code.Code.TheVariants.{Inactive}
 use Rattle.dspec_deeds.proofs.TestLemmas.{either_way, off, and_tells}
 use Rattle.dspec_deeds.proofs.SoundLists.{opened_in_range, running_not_late}
 use Rattle.dspec_deeds.specs.declared.calls.CpuOp.{CpuOp}
-use Rattle.dspec_table.proofs.InFlight.{activity_of}
+use Rattle.dspec_table.proofs.InFlight.{activity_of, service_begins}
+use Rattle.dspec_interleaving.proofs.StepDeeds.{by_test}
 use Rattle.dspec_table.proofs.Adding.{sound_adds, part_adds}
 use Rattle.dspec_table.proofs.Keeps.{Owes, none_owed, acts_owed, finds, idle_log, is_cpu, its_config}
-use Rattle.dspec_deeds.specs.declared.deed.TraceFate.TheVariants as traced
-use Rattle.dspec_deeds.specs.declared.deed.SpeculateFate.TheVariants as spoken
-use Rattle.dspec_deeds.specs.declared.deed.DecideFate.TheVariants as decided
 use Rattle.dspec_deeds.specs.declared.calls.CpuOp.TheVariants as op
 
 not_open : (k : Config) (log : List Deed) (id : Speculation) → 1 ≤ k.nspec → IsSound k log → in_range k id ≡ false → false ≡ is_open id log
@@ -31,53 +29,40 @@ not_open k log id n s out = ⊎_elim
     sym
     (either_way (is_open id log))
 
-traced_is : (b f : Bool) → trace_stopped (if b then traced.Stopped else (if f then traced.Kept else traced.Dropped)) ≡ b
-traced_is true f = refl
-traced_is false true = refl
-traced_is false false = refl
-
-turned : (b : Bool) → (if b then false else true) ≡ not b
-turned true = refl
-turned false = refl
-
 module _ (k : Config) (c : ℕ) (log : List Deed) (doing : Doing) (n : 1 ≤ k.nspec) (s : IsSound k log) (rests : owed log ≡ 0) (idle : scan k c log ≡ 0) where
-  speculates : (id : Speculation) (r : Record) (b : Bool) → in_range k id ≡ b → halted log ≡ false → Owes k (of_cpu c) log (if b then [] else Speculate c id r spoken.Void ∷ [])
-  speculates id r true e runs = none_owed k (of_cpu c) log rests
-  speculates id r false e runs = record {
-    adds = (tt, (rests, (idle, (running_not_late c log runs, not_open k log id n s e))), refl);
-    rests = refl;
-    quiet = record
-        { active = refl; slots = λ s. refl; acks = λ a s. refl };
-  }
+  abbrev Does : List Deed → Type 0
+  Does ds = Owes k (of_cpu c) log ds
 
-  commits : (id : Speculation) (b : Bool) → in_range k id ≡ b → halted log ≡ false → Owes k (of_cpu c) log (if b then [] else Commit c id decided.Void ∷ [])
-  commits id true e runs = none_owed k (of_cpu c) log rests
-  commits id false e runs = record {
-    adds = (tt, (rests, (idle, refl, (running_not_late c log runs, not_open k log id n s e))), refl);
-    rests = refl;
-    quiet = record
-        { active = refl; slots = λ s. refl; acks = λ a s. refl };
-  }
+  -- an identifier out of range is void, and the call ends
+  void : (id : Speculation) (x y : CpuStep) → x.deeds ≡ [] → (late c log ≡ false → false ≡ is_open id log → Does y.deeds) → halted log ≡ false → Does (if in_range k id then x else y).deeds
+  void id x y none out runs =
+      by_test Does (in_range k id) x y (λ t. subst Does (sym none) (none_owed k (of_cpu c) log rests)) (λ f. out (running_not_late c log runs) (not_open k log id n s f))
 
-  discards : (id : Speculation) (b : Bool) → in_range k id ≡ b → halted log ≡ false → Owes k (of_cpu c) log (if b then [] else Discard c id decided.Void ∷ [])
-  discards id true e runs = none_owed k (of_cpu c) log rests
-  discards id false e runs = record {
-    adds = (tt, (rests, (idle, refl, (running_not_late c log runs, not_open k log id n s e))), refl);
-    rests = refl;
-    quiet = record
-        { active = refl; slots = λ s. refl; acks = λ a s. refl };
-  }
-
-  owes : (o : CpuOp) (b : Bool) → b ≡ halted log → Owes k (of_cpu c) log (at_activity k c doing o b)
-  owes (op.Trace r) b e = record { adds = (tt, (rests, (idle, traced_is b doing.fits ∙ e)), refl); rests = refl; quiet = record { active = refl; slots = λ s. refl; acks = λ a s. refl } }
-  owes op.Speculation b e = record { adds = (tt, (rests, (idle, turned b ∙ ap not e)), refl); rests = refl; quiet = record { active = refl; slots = λ s. refl; acks = λ a s. refl } }
+  owes : (o : CpuOp) (b : Bool) → b ≡ halted log → Does (at_activity k c doing o b)
+  owes (op.Trace r) true e = record { adds = (tt, (rests, (idle, e)), refl); rests = refl; quiet = record { active = refl; slots = λ s. refl; acks = λ a s. refl } }
+  owes (op.Trace r) false e = by_test Does doing.fits _ _
+      (λ t. record { adds = (tt, (rests, (idle, e)), refl); rests = refl; quiet = record { active = refl; slots = λ s. refl; acks = λ a s. refl } })
+      (λ f. record { adds = (tt, (rests, (idle, e)), refl); rests = refl; quiet = record { active = refl; slots = λ s. refl; acks = λ a s. refl } })
+  owes op.Speculation true e = record { adds = (tt, (rests, (idle, ap not e)), refl); rests = refl; quiet = record { active = refl; slots = λ s. refl; acks = λ a s. refl } }
+  owes op.Speculation false e = record { adds = (tt, (rests, (idle, ap not e)), refl); rests = refl; quiet = record { active = refl; slots = λ s. refl; acks = λ a s. refl } }
   owes (op.Speculate id r) true e = record { adds = (tt, (rests, (idle, sym e)), refl); rests = refl; quiet = record { active = refl; slots = λ s. refl; acks = λ a s. refl } }
-  owes (op.Speculate id r) false e = speculates id r (in_range k id) refl (sym e)
+  owes (op.Speculate id r) false e = void id _ _ refl
+      (λ early shut. record { adds = (tt, (rests, (idle, (early, shut))), refl); rests = refl; quiet = record { active = refl; slots = λ s. refl; acks = λ a s. refl } }) (sym e)
   owes (op.Commit id) true e = record { adds = (tt, (rests, (idle, refl, sym e)), refl); rests = refl; quiet = record { active = refl; slots = λ s. refl; acks = λ a s. refl } }
-  owes (op.Commit id) false e = commits id (in_range k id) refl (sym e)
+  owes (op.Commit id) false e = void id _ _ refl (λ early shut. record {
+    adds =
+        (tt, (rests, (idle, refl, (early, shut))), refl);
+    rests = refl;
+    quiet = record { active = refl; slots = λ s. refl; acks = λ a s. refl };
+  }) (sym e)
   owes (op.Discard id) true e = record { adds = (tt, (rests, (idle, refl, sym e)), refl); rests = refl; quiet = record { active = refl; slots = λ s. refl; acks = λ a s. refl } }
-  owes (op.Discard id) false e = discards id (in_range k id) refl (sym e)
-  owes op.Service b e = none_owed k (of_cpu c) log rests
+  owes (op.Discard id) false e = void id _ _ refl (λ early shut. record {
+    adds =
+        (tt, (rests, (idle, refl, (early, shut))), refl);
+    rests = refl;
+    quiet = record { active = refl; slots = λ s. refl; acks = λ a s. refl };
+  }) (sym e)
+  owes op.Service b e = subst Does (sym (service_begins k c doing b (λ s. record { issue = 0; code = Inactive }) (λ s from. false))) (none_owed k (of_cpu c) log rests)
 
 stopped_is : (log : List Deed) (m : ℕ) → m ≡ activity log → (m == 1) ≡ halted log
 stopped_is log m e = ap (λ (x : ℕ). x == 1) e ∙ shown (halted log)

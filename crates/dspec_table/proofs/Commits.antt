@@ -1,7 +1,8 @@
 -- A commit that waits for no other CPU stands, and is its seat's own.
 use Rattle.std.proofs.Common.{◌≡◌, ℕ, Bool, true, false, ◌==◌, if◌then◌else◌, List, [], ◌∷◌, Some, refl, sym, ap, ◌∙◌, subst}
 use Rattle.dspec_table.specs.Words.{Speculation, SlotState, commit_act, commit_at, discard_act, discard_at, is_commit, scan, present, opened, verdict, committed, solo, word_at, IsSound}
-use Rattle.dspec_table.specs.Words.{committed_fate, View, Doing, of_cpu, number_of, at_hit, MayLoad, Attempts, IsDeciding, OwnCommit, IfCommitting, slot_place, acted, Entered}
+use Rattle.dspec_table.specs.Words.{committed_fate, View, Doing, of_cpu, number_of, MayLoad, Attempts, IsDeciding, OwnCommit, IfCommitting, slot_place, acted, Entered, at_exchange, idle_progress}
+use Rattle.dspec_table.specs.Words.{shown}
 use Rattle.dspec_word.specs.declared.code.Code.{Code}
 use Rattle.dspec_word.specs.declared.code.Code.TheVariants.{Inactive, Active, ActiveOne, ActiveMany, Committing, CommittingMany, Discarding}
 use Rattle.dspec_word.specs.declared.act.Act.TheVariants.{Void, Attempt}
@@ -12,6 +13,7 @@ use Rattle.dspec_deeds.specs.declared.deed.Deed.{Deed}
 use Rattle.dspec_deeds.specs.declared.deed.Deed.TheVariants.{Commit}
 use Rattle.dspec_deeds.proofs.TestLemmas.{same_number, id_is_itself}
 use Rattle.dspec_deeds.proofs.WordCodes.{committing_tells}
+use Rattle.dspec_interleaving.proofs.StepDeeds.{committed_deeds}
 use Rattle.dspec_table.proofs.Limits.{issue_below}
 
 attempt_is : (a b : SlotState) → Attempt a ≡ Attempt b → a ≡ b
@@ -64,7 +66,7 @@ fate_commits doing = go doing.fits
     go true = refl
     go false = refl
 
-module _ (k : Config) (c slot : ℕ) (v w : View) (doing : Doing) (from to : SlotState) (log : List Deed) (who : v.who ≡ of_cpu c) (same : v.config ≡ k) (shown : word_at slot w.seen ≡ to) where
+module _ (k : Config) (c slot : ℕ) (v w : View) (doing : Doing) (from to : SlotState) (log : List Deed) (who : v.who ≡ of_cpu c) (same : v.config ≡ k) (now_shown : word_at slot w.seen ≡ to) where
   own_commit : (id : Speculation) → Entered (slot_place slot) v log (Commit (number_of v.who) id (committed_fate doing.fits doing.count) ∷ []) w → id.slot ≡ slot
       → scan k c v.own ≡ 0 → to.issue ≡ id.issue → to.code ≡ Committing → OwnCommit k w c record { issue = to.issue; slot = slot }
   own_commit id entered at idle issues is =
@@ -73,8 +75,8 @@ module _ (k : Config) (c slot : ℕ) (v w : View) (doing : Doing) (from to : Slo
       let me : number_of v.who ≡ c = ap number_of who in
       let view : w ≡ acted (slot_place slot) v log (d ∷ []) = entered.view ∙ ap (λ (n : ℕ). acted (slot_place slot) v log (Commit n id f ∷ [])) me in
       let seen : w.seen ≡ d ∷ log = ap (λ (x : View). x.seen) view in
-      let tells = committing_tells slot w.seen (ap (λ (x : SlotState). x.code) shown ∙ is) in
-      let now : present slot w.seen ≡ record { issue = to.issue; slot = slot } = λ i. record { issue = (shown i).issue; slot = slot } in
+      let tells = committing_tells slot w.seen (ap (λ (x : SlotState). x.code) now_shown ∙ is) in
+      let now : present slot w.seen ≡ record { issue = to.issue; slot = slot } = λ i. record { issue = (now_shown i).issue; slot = slot } in
       let its : present slot w.seen ≡ id = now ∙ (λ i. record { issue = issues i; slot = sym at i }) in
       let sure = fate_commits doing in
       let rules : verdict id (d ∷ log) ≡ committed c = rw (sure, id_is_itself id) refl in
@@ -86,17 +88,22 @@ module _ (k : Config) (c slot : ℕ) (v w : View) (doing : Doing) (from to : Slo
         idle = ap (λ (x : View). scan k c x.own) view ∙ idle;
         below = issue_below k (d ∷ log) record { issue = to.issue; slot = slot } sound (subst (λ h. opened record { issue = to.issue; slot = slot } h ≡ true) seen given);
         given = given;
-        word = shown ∙ (λ i. record { issue = to.issue; code = is i });
+        word = now_shown ∙ (λ i. record { issue = to.issue; code = is i });
         alone = subst (λ j. solo j w.seen ≡ Some c) now (tells.1.alone ∙ ap (λ x. Some x) mine);
       }
 
-  pub releases_next : (o : CpuOp) → Entered (slot_place slot) v log (at_hit (number_of v.who) doing from o) w → MayLoad k v c doing slot o → Attempts doing from to o → IsDeciding o
+  pub releases_next : (o : CpuOp) → Entered (slot_place slot) v log (at_exchange v.config (number_of v.who) doing slot from true o) w → MayLoad k v c doing slot o → Attempts doing from to o
+      → IsDeciding o
       → IfCommitting to.code (OwnCommit k w c record { issue = to.issue; slot = slot })
   releases_next o entered may attempts decides = go o entered may attempts decides to.code refl
     where
-      go : (o : CpuOp) → Entered (slot_place slot) v log (at_hit (number_of v.who) doing from o) w → MayLoad k v c doing slot o → Attempts doing from to o → IsDeciding o → (x : Code)
+      go : (o : CpuOp) → Entered (slot_place slot) v log (at_exchange v.config (number_of v.who) doing slot from true o) w → MayLoad k v c doing slot o → Attempts doing from to o → IsDeciding o
+          → (x : Code)
           → to.code ≡ x → IfCommitting x (OwnCommit k w c record { issue = to.issue; slot = slot })
-      go (op.Commit id) entered may attempts decides Committing e = own_commit id entered may.0 may.1 (committed_issue from to id doing.mine attempts) e
+      go (op.Commit id) entered may attempts decides Committing e =
+          own_commit id (subst (λ ds. Entered (slot_place slot) v log ds w)
+          (committed_deeds v.config (number_of v.who) (shown doing from true) idle_progress id (commit_at from id doing.mine)) entered) may.0 may.1
+          (committed_issue from to id doing.mine attempts) e
       go (op.Discard id) entered may attempts decides Committing e = absurd (discards_apart from to id doing.mine attempts e)
       go (op.Trace r) entered may attempts decides x e = absurd attempts
       go op.Speculation entered may attempts decides x e = absurd attempts

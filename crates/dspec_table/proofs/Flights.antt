@@ -4,14 +4,16 @@ use Rattle.dspec_word.specs.declared.code.Code.{Code}
 use Rattle.dspec_word.specs.declared.code.Code.TheVariants.{Inactive, Active, ActiveOne, ActiveMany, Committing, CommittingMany, Discarding}
 use Rattle.dspec_word.specs.declared.act.Act.TheVariants.{Void, Attempt}
 use Rattle.dspec_table.specs.Words.{speculate_act, speculate_at, Speculation, SlotState, is_among, callers, scan, late, in_range, word_at, mark, View, Doing, of_cpu, number_of, Since, at_activity}
-use Rattle.dspec_table.specs.Words.{at_word, speculates, void_commit, void_discard, IsOn, IsInFlight, MayLoad, MayTry, Attempts, more_callers, joined_word, calling, flight_after, activity_place}
-use Rattle.dspec_table.specs.Words.{slot_place, acted, Entered, EnteredIn, LoadedActivity, LoadedWord}
+use Rattle.dspec_table.specs.Words.{at_word, IsOn, IsInFlight, MayLoad, MayTry, Attempts, more_callers, joined_word, calling, flight_after, activity_place, slot_place, acted, Entered, EnteredIn}
+use Rattle.dspec_table.specs.Words.{LoadedActivity, LoadedWord, idle_progress, shown, shown_commit, shown_discard, shown_speculate, shown_scan, open_at, is_decided}
 use Rattle.dspec_deeds.specs.declared.deed.Deed.{Deed}
 use Rattle.dspec_deeds.specs.declared.config.Config.{Config}
 use Rattle.dspec_deeds.specs.declared.calls.CpuOp.{CpuOp}
 use Rattle.dspec_deeds.specs.declared.calls.CpuOp.TheVariants as op
 use Rattle.dspec_deeds.specs.declared.deed.Deed.TheVariants.{Trace, Scan, Opened, Miss, Speculate, Commit, Discard, Settle, Seal, Release, Halt}
 use Rattle.dspec_deeds.proofs.SoundLists.{running_not_late}
+use Rattle.dspec_deeds.proofs.TestLemmas.{off}
+use Rattle.dspec_interleaving.proofs.StepDeeds.{by_test, missed_deeds}
 use Rattle.dspec_table.proofs.Keeps.{late_since}
 
 -- what is in flight behind a deed doesn't ask what was before
@@ -37,18 +39,25 @@ activity_enters doing v stopped w ds step e =
 
 -- a load of activity that is running enters nothing
 pub quiet_activity : (k : Config) (c : ℕ) (doing : Doing) (id : Speculation) (o : CpuOp) → in_range k id ≡ true → IsOn id o → at_activity k c doing o false ≡ []
-quiet_activity k c doing id (op.Speculate j r) inside e = let here : in_range k j ≡ true = subst (λ (x : Speculation). in_range k x ≡ true) (sym e) inside in rw here refl
-quiet_activity k c doing id (op.Commit j) inside e = let here : in_range k j ≡ true = subst (λ (x : Speculation). in_range k x ≡ true) (sym e) inside in rw here refl
-quiet_activity k c doing id (op.Discard j) inside e = let here : in_range k j ≡ true = subst (λ (x : Speculation). in_range k x ≡ true) (sym e) inside in rw here refl
+quiet_activity k c doing id (op.Speculate j r) inside e = by_test (λ ds. ds ≡ []) (in_range k j) _ _ (λ t. refl) (λ f. off (in_range k j) (ap (in_range k) e ∙ inside) f)
+quiet_activity k c doing id (op.Commit j) inside e = by_test (λ ds. ds ≡ []) (in_range k j) _ _ (λ t. refl) (λ f. off (in_range k j) (ap (in_range k) e ∙ inside) f)
+quiet_activity k c doing id (op.Discard j) inside e = by_test (λ ds. ds ≡ []) (in_range k j) _ _ (λ t. refl) (λ f. off (in_range k j) (ap (in_range k) e ∙ inside) f)
 quiet_activity k c doing id (op.Trace r) inside e = absurd e
 quiet_activity k c doing id op.Speculation inside e = absurd e
 quiet_activity k c doing id op.Service inside e = absurd e
 
+-- a call of speculation at a slot: where the table opens nothing it misses it, and else tries next
+pub misses_slot : (k : Config) (c : ℕ) (doing : Doing) (slot : ℕ) (w : SlotState) → open_at w k.max_issues ≡ Void → at_word k c doing slot w op.Speculation ≡ Miss c slot (is_decided w.code) ∷ []
+misses_slot k c doing slot w void = ap (λ a. (shown_scan k c (shown doing w false) idle_progress slot w a).deeds) void ∙ missed_deeds k c (shown doing w false) idle_progress slot w
+
+pub tries_slot : (k : Config) (c : ℕ) (doing : Doing) (slot : ℕ) (w to : SlotState) → open_at w k.max_issues ≡ Attempt to → at_word k c doing slot w op.Speculation ≡ []
+tries_slot k c doing slot w to free = ap (λ a. (shown_scan k c (shown doing w false) idle_progress slot w a).deeds) free
+
 -- a word that is attempted enters nothing, loaded or shown by an exchange that failed
 pub quiet_word : (k : Config) (c slot : ℕ) (doing : Doing) (w to : SlotState) (o : CpuOp) → Attempts doing w to o → at_word k c doing slot w o ≡ []
-quiet_word k c slot doing w to (op.Speculate j r) a = ap (speculates c doing j r) a
-quiet_word k c slot doing w to (op.Commit j) a = ap (void_commit c j) a
-quiet_word k c slot doing w to (op.Discard j) a = ap (void_discard c j) a
+quiet_word k c slot doing w to (op.Speculate j r) a = ap (λ x. (shown_speculate k c (shown doing w false) idle_progress j r w x).deeds) a
+quiet_word k c slot doing w to (op.Commit j) a = ap (λ x. (shown_commit k c (shown doing w false) idle_progress j w x).deeds) a
+quiet_word k c slot doing w to (op.Discard j) a = ap (λ x. (shown_discard k c (shown doing w false) idle_progress j w x).deeds) a
 quiet_word k c slot doing w to (op.Trace r) a = absurd a
 quiet_word k c slot doing w to op.Speculation a = absurd a
 quiet_word k c slot doing w to op.Service a = absurd a

@@ -5,7 +5,8 @@ use lib.ListN.{get_elem?}
 use Rattle.atomic_table.specs.Table.{State, Allows, Me}
 use Rattle.dspec_table.specs.Words.{Speculation, word_number, speculate_at, speculate_act, commit_at, commit_act, discard_at, discard_act, open_at, spoken_granted, Record, slot_place, Holder}
 use Rattle.dspec_table.specs.Words.{of_cpu, part_of, same_id, issue, scan, owed, late, present, code_at, word_at, is_among, callers, joined, verdict, opened, standing, is_open, IsSound, mark, View}
-use Rattle.dspec_table.specs.Words.{Doing, WordsRule, Since, number_of, miss_at, speculates, void_commit, void_discard, at_word, IsInFlight, MayLoad, LoadedNumber}
+use Rattle.dspec_table.specs.Words.{Doing, WordsRule, Since, number_of, at_word, IsInFlight, MayLoad, LoadedNumber, Measured, idle_progress, settle_at, shown, shown_scan, shown_speculate}
+use Rattle.dspec_table.specs.Words.{shown_commit, shown_discard}
 use Rattle.dspec_word.specs.declared.act.Act.{Act}
 use Rattle.dspec_word.specs.declared.act.Act.TheVariants.{Void, Granted, Attempt, Idle}
 use Rattle.dspec_word.specs.declared.code.Code.TheVariants.{Inactive}
@@ -19,7 +20,9 @@ use Rattle.dspec_table.proofs.OwnReading.{has_part}
 use Rattle.dspec_deeds.proofs.WordActs.{speculate_void, speculate_granted, commit_void, discard_void}
 use Rattle.dspec_deeds.proofs.WordCodes.{busy_is, open_void}
 use Rattle.dspec_deeds.specs.declared.calls.CpuOp.{CpuOp}
-use Rattle.dspec_table.proofs.InFlight.{word_of}
+use Rattle.dspec_table.proofs.InFlight.{word_of, looks}
+use Rattle.dspec_interleaving.proofs.StepDeeds.{by_test, missed_deeds}
+use Rattle.dspec_interleaving.proofs.StepsWords.{speculate_not_idle, commit_plain, discard_plain, open_plain, not_plain}
 use Rattle.dspec_table.proofs.Keeps.{Owes, none_owed, loads, finds, idle_log, late_since, enters_owed, is_cpu, its_config}
 use Rattle.dspec_deeds.specs.declared.deed.SpeculateFate.TheVariants as spoken
 use Rattle.dspec_deeds.specs.declared.calls.CpuOp.TheVariants as op
@@ -42,16 +45,15 @@ pub record Flies (k : Config) (log : List Deed) (c slot : ℕ) (doing : Doing) (
   pub mine : issue id.slot log ≡ id.issue → doing.mine ≡ is_among c (callers id log)
 
 module _ (k : Config) (c : ℕ) (log : List Deed) (doing : Doing) (s : IsSound k log) (rests : owed log ≡ 0) (slot : ℕ) where
-  missed : (one : 1 ≤ slot) → scan k c log ≡ slot → (a : Act) → open_at (word_at slot log) k.max_issues ≡ a → Owes k (of_cpu c) log (miss_at c slot (word_at slot log) a)
-  missed one at Void e = record {
-    adds = (tt, (rests, (at, one, inl (open_void k log slot e), busy_is k log slot s)), refl);
-    rests = refl;
-    quiet = record
-        { active = refl; slots = λ s. refl; acks = λ a s. refl };
-  }
-  missed one at Granted e = none_owed k (of_cpu c) log rests
+  abbrev its : Measured
+  its = shown doing (word_at slot log) false
+
+  missed : (one : 1 ≤ slot) → scan k c log ≡ slot → (a : Act) → open_at (word_at slot log) k.max_issues ≡ a → Owes k (of_cpu c) log (shown_scan k c its idle_progress slot (word_at slot log) a).deeds
+  missed one at Void e = subst (Owes k (of_cpu c) log) (sym (missed_deeds k c its idle_progress slot (word_at slot log)))
+      (record { adds = (tt, (rests, (at, one, inl (open_void k log slot e), busy_is k log slot s)), refl); rests = refl; quiet = record { active = refl; slots = λ s. refl; acks = λ a s. refl } })
+  missed one at Granted e = not_plain (open_at (word_at slot log) k.max_issues) Granted (open_plain (word_at slot log) k.max_issues) e refl
   missed one at (Attempt w) e = none_owed k (of_cpu c) log rests
-  missed one at Idle e = none_owed k (of_cpu c) log rests
+  missed one at Idle e = not_plain (open_at (word_at slot log) k.max_issues) Idle (open_plain (word_at slot log) k.max_issues) e refl
 
   granted : (id : Speculation) (r : Record) (b : Bool) → Flies k log c slot doing id → is_open id log ≡ true
       → standing (verdict id log) (joined (Some c) (callers id log)) ≡ standing (verdict id log) (callers id log)
@@ -70,38 +72,42 @@ module _ (k : Config) (c : ℕ) (log : List Deed) (doing : Doing) (s : IsSound k
   }
 
   spoken_at : (id : Speculation) (r : Record) → Flies k log c slot doing id → (a : Act) → speculate_at (word_at id.slot log) id (is_among c (callers id log)) ≡ a
-      → Owes k (of_cpu c) log (speculates c doing id r a)
+      → Owes k (of_cpu c) log (shown_speculate k c its idle_progress id r (word_at slot log) a).deeds
   spoken_at id r f Void e = record {
     adds = (tt, (rests, (f.idle, (f.early, sym (speculate_void k log id (is_among c (callers id log)) s e)))), refl);
     rests = refl;
     quiet = record { active = refl; slots = λ s. refl; acks = λ a s. refl };
   }
-  spoken_at id r f Granted e = let g = speculate_granted k log id c s e in granted id r doing.fits f g.0 g.1
+  spoken_at id r f Granted e =
+      let g = speculate_granted k log id c s e in
+      by_test (Owes k (of_cpu c) log) doing.fits _ _ (λ t. granted id r true f g.0 g.1) (λ t. granted id r false f g.0 g.1)
   spoken_at id r f (Attempt w) e = none_owed k (of_cpu c) log rests
-  spoken_at id r f Idle e = none_owed k (of_cpu c) log rests
+  spoken_at id r f Idle e = absurd (speculate_not_idle (word_at id.slot log) id (is_among c (callers id log)) e)
 
-  commit_at_word : (id : Speculation) → Flies k log c slot doing id → (a : Act) → commit_at (word_at id.slot log) id (is_among c (callers id log)) ≡ a → Owes k (of_cpu c) log (void_commit c id a)
+  commit_at_word : (id : Speculation) → Flies k log c slot doing id → (a : Act) → commit_at (word_at id.slot log) id (is_among c (callers id log)) ≡ a
+      → Owes k (of_cpu c) log (shown_commit k c its idle_progress id (word_at slot log) a).deeds
   commit_at_word id f Void e = record {
     adds = (tt, (rests, (f.idle, refl, (f.early, sym (commit_void k log id (is_among c (callers id log)) s e)))), refl);
     rests = refl;
     quiet = record { active = refl; slots = λ s. refl; acks = λ a s. refl };
   }
-  commit_at_word id f Granted e = none_owed k (of_cpu c) log rests
+  commit_at_word id f Granted e = not_plain (commit_at (word_at id.slot log) id (is_among c (callers id log))) Granted (commit_plain (word_at id.slot log) id (is_among c (callers id log))) e refl
   commit_at_word id f (Attempt w) e = none_owed k (of_cpu c) log rests
-  commit_at_word id f Idle e = none_owed k (of_cpu c) log rests
+  commit_at_word id f Idle e = not_plain (commit_at (word_at id.slot log) id (is_among c (callers id log))) Idle (commit_plain (word_at id.slot log) id (is_among c (callers id log))) e refl
 
-  discard_at_word : (id : Speculation) → Flies k log c slot doing id → (a : Act) → discard_at (word_at id.slot log) id (is_among c (callers id log)) ≡ a → Owes k (of_cpu c) log (void_discard c id a)
+  discard_at_word : (id : Speculation) → Flies k log c slot doing id → (a : Act) → discard_at (word_at id.slot log) id (is_among c (callers id log)) ≡ a
+      → Owes k (of_cpu c) log (shown_discard k c its idle_progress id (word_at slot log) a).deeds
   discard_at_word id f Void e = record {
     adds = (tt, (rests, (f.idle, refl, (f.early, sym (discard_void k log id (is_among c (callers id log)) s e)))), refl);
     rests = refl;
     quiet = record { active = refl; slots = λ s. refl; acks = λ a s. refl };
   }
-  discard_at_word id f Granted e = none_owed k (of_cpu c) log rests
+  discard_at_word id f Granted e = not_plain (discard_at (word_at id.slot log) id (is_among c (callers id log))) Granted (discard_plain (word_at id.slot log) id (is_among c (callers id log))) e refl
   discard_at_word id f (Attempt w) e = none_owed k (of_cpu c) log rests
-  discard_at_word id f Idle e = none_owed k (of_cpu c) log rests
+  discard_at_word id f Idle e = not_plain (discard_at (word_at id.slot log) id (is_among c (callers id log))) Idle (discard_plain (word_at id.slot log) id (is_among c (callers id log))) e refl
 
 -- at a word of another issue it doesn't matter who the callers are
-like : {A : Type 0} (b : Bool) (f : Bool → A) (v : A) (m n : Bool) → (b ≡ true → m ≡ n) → (if b then f m else v) ≡ (if b then f n else v)
+pub like : {A : Type 0} (b : Bool) (f : Bool → A) (v : A) (m n : Bool) → (b ≡ true → m ≡ n) → (if b then f m else v) ≡ (if b then f n else v)
 like true f v m n e = ap f (e refl)
 like false f v m n e = refl
 
@@ -127,20 +133,25 @@ IsReady k c log doing slot (op.Commit id) = Flies k log c slot doing id
 IsReady k c log doing slot (op.Discard id) = Flies k log c slot doing id
 IsReady k c log doing slot op.Service = Unit {0}
 
+looked : (k : Config) (c : ℕ) (log : List Deed) (doing : Doing) (slot : ℕ) → owed log ≡ 0 → Owes k (of_cpu c) log (at_word k c doing slot (word_at slot log) op.Service)
+looked k c log doing slot rests =
+    subst (Owes k (of_cpu c) log) (sym (looks k c (shown doing (word_at slot log) false) idle_progress slot record { sealed = false; settled = 0 } (word_at slot log) (settle_at (word_at slot log) 0)))
+    (none_owed k (of_cpu c) log rests)
+
 pub owes : (k : Config) (c : ℕ) (log : List Deed) (doing : Doing) (slot : ℕ) → IsSound k log → owed log ≡ 0 → 1 ≤ slot → (o : CpuOp) → IsReady k c log doing slot o
     → Owes k (of_cpu c) log (at_word k c doing slot (word_at slot log) o)
-owes k c log doing slot s rests one (op.Trace r) f = none_owed k (of_cpu c) log rests
+owes k c log doing slot s rests one (op.Trace r) f = looked k c log doing slot rests
 owes k c log doing slot s rests one op.Speculation f = missed k c log doing s rests slot one f (open_at (word_at slot log) k.max_issues) refl
 owes k c log doing slot s rests one (op.Speculate id r) f =
-    subst (λ a. Owes k (of_cpu c) log (speculates c doing id r a)) (sym (speculate_like k log c slot doing id f))
+    subst (λ a. Owes k (of_cpu c) log (shown_speculate k c (shown doing (word_at slot log) false) idle_progress id r (word_at slot log) a).deeds) (sym (speculate_like k log c slot doing id f))
     (spoken_at k c log doing s rests slot id r f (speculate_at (word_at id.slot log) id (is_among c (callers id log))) refl)
 owes k c log doing slot s rests one (op.Commit id) f =
-    subst (λ a. Owes k (of_cpu c) log (void_commit c id a)) (sym (commit_like k log c slot doing id f))
+    subst (λ a. Owes k (of_cpu c) log (shown_commit k c (shown doing (word_at slot log) false) idle_progress id (word_at slot log) a).deeds) (sym (commit_like k log c slot doing id f))
     (commit_at_word k c log doing s rests slot id f (commit_at (word_at id.slot log) id (is_among c (callers id log))) refl)
 owes k c log doing slot s rests one (op.Discard id) f =
-    subst (λ a. Owes k (of_cpu c) log (void_discard c id a)) (sym (discard_like k log c slot doing id f))
+    subst (λ a. Owes k (of_cpu c) log (shown_discard k c (shown doing (word_at slot log) false) idle_progress id (word_at slot log) a).deeds) (sym (discard_like k log c slot doing id f))
     (discard_at_word k c log doing s rests slot id f (discard_at (word_at id.slot log) id (is_among c (callers id log))) refl)
-owes k c log doing slot s rests one op.Service f = none_owed k (of_cpu c) log rests
+owes k c log doing slot s rests one op.Service f = looked k c log doing slot rests
 
 -- what a seat knows of its call holds of the log
 pub flies : (k : Config) (st : State ℕ View) (kept : WordsRule k st) (by : ℕ) (v : View) (c slot : ℕ) (doing : Doing) (id : Speculation) → get_elem? st.views by ≡ some v
@@ -176,21 +187,21 @@ loads_word k slots id c slot me doing one most who alone may = loads k slots id 
     let v = me.0 in
     let log = kept.log in
     let mine = kept.knows id v at in
-    let shown = word_at slot log in
-    let owe : Owes k v.who log (at_word v.config (number_of v.who) doing slot shown doing.op) =
-    subst (λ (p : Config × Holder). Owes k p.1 log (at_word p.0 (number_of p.1) doing slot shown doing.op)) (λ i. (sym (its_config k log v (is_cpu v c who) mine) i, sym who i))
+    let w = word_at slot log in
+    let owe : Owes k v.who log (at_word v.config (number_of v.who) doing slot w doing.op) =
+    subst (λ (p : Config × Holder). Owes k p.1 log (at_word p.0 (number_of p.1) doing slot w doing.op)) (λ i. (sym (its_config k log v (is_cpu v c who) mine) i, sym who i))
     (owes k c log doing slot kept.sound kept.rests one doing.op (ready k st kept id v c slot doing at who doing.op may)) in (
-      at_word v.config (number_of v.who) doing slot shown doing.op,
+      at_word v.config (number_of v.who) doing slot w doing.op,
       owe,
       (
-        shown,
+        w,
         kept.shows.slots slot one most,
         (
           log,
           finds k st kept id v at (is_cpu v c who),
           refl,
           enters_owed k st kept id v at (is_cpu v c who) _ (slot_place slot) owe
-              (word_of k v c doing slot v.config (number_of v.who) shown doing.op refl may),
+              (word_of k v c doing slot v.config (number_of v.who) (word_at slot log) doing.op refl may),
         ),
       ),
     ))

@@ -2,20 +2,22 @@
 use Rattle.std.proofs.Common.{◌≡◌, ◌≢◌, ◌⊎◌, ℕ, ◌≤◌, true, false, ◌||◌, ◌==◌, List, [], ◌∷◌, refl, sym, ap, ◌∙◌, subst, ⊎_elim, inl, inr, true≢false}
 use prog.Atomic.{either}
 use Rattle.atomic_table.specs.Table.{Allows, Me}
-use Rattle.dspec_table.specs.Words.{SlotState, word_number, open_at, is_inactive, is_decided, slot_place, Holder, of_cpu, same_id, issue, scan, owed, present, opened, opened_since, code_at, word_at}
-use Rattle.dspec_table.specs.Words.{IsSound, View, WordsRule, Since, here, more, number_of, at_open, MayOpen, OpenedNumber}
+use Rattle.dspec_table.specs.Words.{SlotState, word_number, open_at, is_inactive, slot_place, Holder, of_cpu, same_id, issue, scan, owed, present, opened, opened_since, code_at, word_at, IsSound}
+use Rattle.dspec_table.specs.Words.{View, WordsRule, Since, here, more, number_of, MayOpen, OpenedNumber, at_exchange, nothing, shown, idle_progress}
 use Rattle.dspec_word.specs.declared.act.Act.TheVariants.{Attempt}
 use Rattle.dspec_word.specs.declared.code.Code.TheVariants.{Active}
 use Rattle.dspec_word.proofs.Numbers.{one_word}
 use Rattle.dspec_deeds.specs.declared.config.Config.{Config}
+use Rattle.dspec_deeds.specs.declared.calls.CpuOp.TheVariants as op
 use Rattle.dspec_deeds.specs.declared.deed.Deed.{Deed}
-use Rattle.dspec_deeds.specs.declared.deed.Deed.TheVariants.{Opened, Miss}
+use Rattle.dspec_deeds.specs.declared.deed.Deed.TheVariants.{Opened}
 use Rattle.dspec_deeds.proofs.TestLemmas.{id_is_itself, other_slot, not_false}
 use Rattle.dspec_deeds.proofs.SoundLists.{unseen}
 use Rattle.dspec_deeds.proofs.WordCodes.{open_attempt, open_inactive, busy_is}
 use Rattle.dspec_deeds.proofs.StayingFree.{free_or_taken}
 use Rattle.dspec_table.proofs.InFlight.{open_of}
-use Rattle.dspec_table.proofs.Keeps.{Owes, finds, idle_log, is_cpu}
+use Rattle.dspec_interleaving.proofs.StepDeeds.{missed_deeds}
+use Rattle.dspec_table.proofs.Keeps.{Owes, finds, idle_log, is_cpu, its_config}
 use Rattle.dspec_table.proofs.Changes.{Changes, exchanges}
 
 -- the word that was seen free stands, or the slot was given out since
@@ -49,12 +51,12 @@ given_out k c s log new sound rests one at e =
 
 missed : (k : Config) (c s : ℕ) (log seen : List Deed) → IsSound k log → owed log ≡ 0 → 1 ≤ s → scan k c log ≡ s → is_inactive (word_at s seen).code ≡ true
     → Since (of_cpu c) seen log → word_at s log ≢ word_at s seen
-    → Owes k (of_cpu c) log (Miss c s (is_decided (word_at s log).code) ∷ [])
-missed k c s log seen sound rests one at inactive since apart = record {
+    → Owes k (of_cpu c) log (at_exchange k c nothing s (word_at s log) false op.Speculation)
+missed k c s log seen sound rests one at inactive since apart = subst (Owes k (of_cpu c) log) (sym (missed_deeds k c (shown nothing (word_at s log) false) idle_progress s (word_at s log))) (record {
   adds = (tt, (rests, (at, one, ⊎_elim (λ same. absurd (apart same)) (λ taken. inr taken) (taken_since k c s seen log sound inactive since), busy_is k log s sound)), refl);
   rests = refl;
   quiet = record { active = refl; slots = λ s. refl; acks = λ a s. refl };
-}
+})
 
 pub opens_word : (k : Config) (slots id c slot : ℕ) (me : Me ℕ View) (from to : SlotState) → 1 ≤ slot → slot ≤ k.nspec → me.0.who ≡ of_cpu c → me.0.also ≡ [] → MayOpen k me.0 c slot from to
     → Allows (WordsRule k) slots id me (slot_place slot) (λ n. either (n == word_number from) (word_number to) n)
@@ -64,27 +66,29 @@ opens_word k slots id c slot me from to one most who alone may =
     (λ st kept at found.
     let v = me.0 in
     let log = kept.log in
-    let shown = word_at slot log in
-    let same : shown ≡ from = one_word shown from (sym (kept.shows.slots slot one most) ∙ found) in
-    let does : Changes k v.who slot (word_number to) log (at_open (number_of v.who) slot shown true) =
-    subst (λ (w : Holder). Changes k w slot (word_number to) log (at_open (number_of w) slot shown true)) (sym who)
+    let mine = kept.knows id v at in
+    let x = word_at slot log in
+    let same : x ≡ from = one_word x from (sym (kept.shows.slots slot one most) ∙ found) in
+    let does : Changes k v.who slot (word_number to) log (at_exchange v.config (number_of v.who) nothing slot x true op.Speculation) =
+    subst (λ (p : Config × Holder). Changes k p.1 slot (word_number to) log (at_exchange p.0 (number_of p.1) nothing slot x true op.Speculation))
+    (λ i. (sym (its_config k log v (is_cpu v c who) mine) i, sym who i))
     (given_out k c slot log to kept.sound kept.rests one (idle_log k st kept id v c at who may.0) (ap (λ w. open_at w k.max_issues) same ∙ may.2)) in (
-      at_open (number_of v.who) slot shown true,
+      at_exchange v.config (number_of v.who) nothing slot x true op.Speculation,
       does,
-      open_of (number_of v.who) slot shown true v.flight may.3,
-      (λ left. (shown, kept.shows.slots slot one most, (log, finds k st kept id v at (is_cpu v c who), refl, left), λ hit. does.now)),
+      open_of k v c nothing slot v.config (number_of v.who) x true may.3,
+      (λ left. (x, kept.shows.slots slot one most, (log, finds k st kept id v at (is_cpu v c who), refl, left), λ hit. does.now)),
     ))
     (λ st kept at other.
     let v = me.0 in
     let log = kept.log in
-    let shown = word_at slot log in
+    let x = word_at slot log in
     let mine = kept.knows id v at in
-    let apart : shown ≢ word_at slot v.seen = (λ e. other (kept.shows.slots slot one most ∙ ap word_number (e ∙ sym may.1))) in (
-      at_open (number_of v.who) slot shown false,
-      subst (λ (w : Holder). Owes k w log (at_open (number_of w) slot shown false)) (sym who)
+    let apart : x ≢ word_at slot v.seen = (λ e. other (kept.shows.slots slot one most ∙ ap word_number (e ∙ sym may.1))) in (
+      at_exchange v.config (number_of v.who) nothing slot x false op.Speculation,
+      subst (λ (p : Config × Holder). Owes k p.1 log (at_exchange p.0 (number_of p.1) nothing slot x false op.Speculation)) (λ i. (sym (its_config k log v (is_cpu v c who) mine) i, sym who i))
           (missed k c slot log v.seen kept.sound kept.rests one (idle_log k st kept id v c at who may.0)
           (ap (λ (w : SlotState). is_inactive w.code) (sym may.1) ∙ open_inactive from to k.max_issues may.2)
           (subst (λ x. Since x v.seen log) who mine.since) apart),
-      open_of (number_of v.who) slot shown false v.flight may.3,
-      (λ left. (shown, kept.shows.slots slot one most, (log, finds k st kept id v at (is_cpu v c who), refl, left), λ hit. absurd (true≢false (sym hit)))),
+      open_of k v c nothing slot v.config (number_of v.who) x false may.3,
+      (λ left. (x, kept.shows.slots slot one most, (log, finds k st kept id v at (is_cpu v c who), refl, left), λ hit. absurd (true≢false (sym hit)))),
     ))

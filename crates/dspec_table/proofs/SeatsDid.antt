@@ -1,10 +1,11 @@
 -- What the relations of the steps at the words say, place by place, is the list of deeds that the places name.
 use Rattle.std.proofs.Common.{◌≡◌, ◌≤◌, ◌+◌, ◌==◌, arith, ℕ, Bool, true, false, List, [], ◌∷◌, ◌++◌, Option, inl, inr, refl, sym, ap, ◌∙◌, subst, ⊎_elim}
 use Rattle.dspec_record.specs.declared.field.Shape.{Shape}
-use Rattle.dspec_table.specs.Words.{SlotState, word_number, is_seal, halted, word_at, is_among, callers, mark, Speculation, IsInFlight, bare, op_of, same_word, cpu_step, Doing, View, at_activity}
-use Rattle.dspec_table.specs.Words.{at_word, at_open, at_exchange, settled_fate, number_of, calling, Found, Entered, LoadedWord, OpenedWord, TriedWord, IsSameCall, slot_of, seat_deeds, IsMine}
-use Rattle.dspec_table.specs.Words.{SeatStep, Exchanges, IsStepOfPlay}
+use Rattle.dspec_table.specs.Words.{SlotState, word_number, is_seal, halted, word_at, settle_at, is_among, callers, mark, Speculation, IsInFlight, bare, op_of, same_word, cpu_step, idle_progress}
+use Rattle.dspec_table.specs.Words.{Doing, View, nothing, shown, deeds_at, trying, at_activity, at_word, at_exchange, settled_fate, number_of, slot_place, calling, Found, Entered, LoadedActivity}
+use Rattle.dspec_table.specs.Words.{LoadedWord, IsSameCall, seat_reads, IsMine, SeatStep, Exchanges, IsStepOfPlay, activity_place}
 use Rattle.dspec_deeds.specs.declared.config.Config.{Config}
+use Rattle.dspec_deeds.specs.declared.calls.CpuOp.{CpuOp}
 use Rattle.dspec_deeds.specs.declared.calls.CpuOp.TheVariants as cpu_op
 use Rattle.dspec_deeds.specs.declared.deed.Deed.{Deed}
 use Rattle.dspec_deeds.proofs.OwnReads.{apart_bare}
@@ -13,8 +14,10 @@ use Rattle.dspec_deeds.proofs.TestLemmas.{either_way}
 use Rattle.dspec_interleaving.specs.declared.flight.CpuProgress.{CpuProgress}
 use Rattle.dspec_interleaving.specs.declared.flight.CallPlace.{CallPlace}
 use Rattle.dspec_interleaving.specs.declared.flight.CallPlace.TheVariants as cpu
-use Rattle.dspec_interleaving.proofs.StepsWords.{word_is_itself, words_test}
+use Rattle.dspec_interleaving.proofs.StepsWords.{word_is_itself, words_test, same_word_tells}
 use Rattle.dspec_deeds.specs.declared.deed.Deed.TheVariants.{Settle}
+use Rattle.dspec_table.proofs.InFlight.{looks, service_begins}
+use Rattle.dspec_interleaving.proofs.StepDeeds.{served_deeds}
 use Rattle.dspec_table.proofs.SameDeeds.{same_deeds}
 
 -- the deeds ds behind the seat's own list p, and behind the list that the step found
@@ -30,18 +33,32 @@ bare_joined (d ∷ ds) h = ⊎_elim
     (λ (f : is_seal d ≡ false). rw f (ap (λ x. d ∷ x) (bare_joined ds h)))
     (either_way (is_seal d))
 
--- a step entered what a table says of the thing shown
+-- a step of that call entered what a table says of the thing shown
 pub did : {A : Type 0} {place : ℕ} (F : A → List Deed) (shown is : A) (v w : View) (log : List Deed) → shown ≡ is → Entered place v log (F shown) w → IsBehind (F is) v.own log w
 did F shown is v w log e entered = record {
   own = ap (λ (x : View). x.own) entered.view ∙ ap (λ x. F x ++ v.own) e;
   seen = ap (λ (x : View). x.seen) entered.view ∙ ap (λ x. F x ++ log) e;
 }
 
-abbrev Did : (List Deed → List Deed) → View → View → Type 0
-Did ds v w = (log : List Deed) × Found v log × IsBehind (ds log) v.own log w
+abbrev Did : Doing → CpuOp → (List Deed → List Deed) → View → View → Type 0
+Did doing o ds v w = (log : List Deed) × Found v log × (doing.op ≡ o → IsBehind (ds log) v.own log w)
 
-loaded : (doing : Doing) (slot : ℕ) (v w : View) → (shown : SlotState) × LoadedWord doing slot v shown w → Did (λ log. at_word v.config (number_of v.who) doing slot (word_at slot log) doing.op) v w
-loaded doing slot v w (shown, (log, found, is, entered)) = (log, found, did (λ x. at_word v.config (number_of v.who) doing slot x doing.op) shown (word_at slot log) v w log is entered)
+begins_as : (doing : Doing) (o : CpuOp) (v w : View) → (stopped : Bool) × LoadedActivity doing v stopped w → Did doing o (λ log. at_activity v.config (number_of v.who) doing o (halted log)) v w
+begins_as doing o v w (stopped, (log, found, is, entered)) = (
+  log,
+  found,
+  λ op. did (λ b. at_activity v.config (number_of v.who) doing o b) stopped (halted log) (calling doing.op v) w log is
+      (subst (λ x. Entered activity_place (calling doing.op v) log (at_activity v.config (number_of v.who) doing x stopped) w) op entered),
+)
+
+loads_as : (doing : Doing) (o : CpuOp) (slot : ℕ) (v w : View) → (x : SlotState) × LoadedWord doing slot v x w
+    → Did doing o (λ log. at_word v.config (number_of v.who) doing slot (word_at slot log) o) v w
+loads_as doing o slot v w (x, (log, found, is, entered)) = (
+  log,
+  found,
+  λ op. did (λ y. at_word v.config (number_of v.who) doing slot y o) x (word_at slot log) v w log is
+      (subst (λ p. Entered (slot_place slot) v log (at_word v.config (number_of v.who) doing slot x p) w) op entered),
+)
 
 -- an exchange hits exactly where plays find the words the same
 exchanged : (P : SlotState → Bool → Type 0) (from : SlotState) → Exchanges P from → (shown : SlotState) × P shown (same_word shown from)
@@ -50,64 +67,74 @@ exchanged P from (inr (shown, greater, missed)) =
     let apart : (word_number shown == word_number from) ≡ false = grind (arith, nat_tests) in
     (shown, subst (P shown) (sym apart ∙ words_test shown from) missed)
 
-tried : (doing : Doing) (slot : ℕ) (from : SlotState) (v w : View) → Exchanges (λ shown hit. TriedWord doing slot v shown hit w) from
-    → Did (λ log. at_exchange v.config (number_of v.who) doing slot (word_at slot log) (same_word (word_at slot log) from)) v w
-tried doing slot from v w step = go (exchanged (λ shown hit. TriedWord doing slot v shown hit w) from step)
-  where
-    go : (shown : SlotState) × TriedWord doing slot v shown (same_word shown from) w
-        → Did (λ log. at_exchange v.config (number_of v.who) doing slot (word_at slot log) (same_word (word_at slot log) from)) v w
-    go (shown, (log, found, is, entered)) = (log, found, did (λ x. at_exchange v.config (number_of v.who) doing slot x (same_word x from)) shown (word_at slot log) v w log is entered)
+-- the word that it expects is read where it hits alone, and is the one shown there
+expected : (k : Config) (c slot : ℕ) (doing : Doing) (w from : SlotState) (o : CpuOp) (b : Bool) → same_word w from ≡ b → at_exchange k c doing slot w b o
+    ≡ deeds_at k c (shown doing w b) (trying slot from o)
+expected k c slot doing w from o true e = ap (λ x. deeds_at k c (shown doing w true) (trying slot x o)) (same_word_tells w from e)
+expected k c slot doing w from (cpu_op.Trace r) false e = refl
+expected k c slot doing w from cpu_op.Speculation false e = refl
+expected k c slot doing w from (cpu_op.Speculate id r) false e = refl
+expected k c slot doing w from (cpu_op.Commit id) false e = refl
+expected k c slot doing w from (cpu_op.Discard id) false e = refl
+expected k c slot doing w from cpu_op.Service false e = refl
 
-opened_at : (slot : ℕ) (from : SlotState) (v w : View) → Exchanges (λ shown hit. OpenedWord slot v shown hit w) from
-    → Did (λ log. at_open (number_of v.who) slot (word_at slot log) (same_word (word_at slot log) from)) v w
-opened_at slot from v w step = go (exchanged (λ shown hit. OpenedWord slot v shown hit w) from step)
-  where
-    go : (shown : SlotState) × OpenedWord slot v shown (same_word shown from) w → Did (λ log. at_open (number_of v.who) slot (word_at slot log) (same_word (word_at slot log) from)) v w
-    go (shown, (log, found, is, entered)) = (log, found, did (λ x. at_open (number_of v.who) slot x (same_word x from)) shown (word_at slot log) v w log is entered)
+abbrev TriedAs : Doing → CpuOp → ℕ → View → View → SlotState → Bool → Type 0
+TriedAs doing o slot v w x hit = (log : List Deed) × Found v log × (x ≡ word_at slot log) × Entered (slot_place slot) v log (at_exchange v.config (number_of v.who) doing slot x hit o) w
 
-seat_did : (doing : Doing) (v w : View) (f : CallPlace) → SeatStep doing v f w
-    → (log : List Deed) × Found v log × (doing.op ≡ op_of f → IsBehind (seat_deeds v.config (number_of v.who) doing (halted log) (word_at (slot_of f) log) f) v.own log w)
-seat_did doing v w (cpu.Begun cpu_op.Service) (inl step) =
-    let d = loaded doing 1 v w step in (
-      d.0,
-      d.1,
-      λ op. record {
-        own = d.2.own ∙ ap (λ o. at_word v.config (number_of v.who) doing 1 (word_at 1 d.0) o ++ v.own) op ∙ sym (ap (λ o. at_activity v.config (number_of v.who) doing o (halted d.0) ++ v.own) op);
-        seen = d.2.seen ∙ ap (λ o. at_word v.config (number_of v.who) doing 1 (word_at 1 d.0) o ++ d.0) op ∙ sym (ap (λ o. at_activity v.config (number_of v.who) doing o (halted d.0) ++ d.0) op);
-      },
+tries_as : (doing known : Doing) (o p : CpuOp) (slot : ℕ) (from : SlotState) (v w : View) → (doing.op ≡ o → p ≡ o) → Exchanges (TriedAs known p slot v w) from
+    → Did doing o (λ log. deeds_at v.config (number_of v.who) (shown known (word_at slot log) (same_word (word_at slot log) from)) (trying slot from o)) v w
+tries_as doing known o p slot from v w of step = go (exchanged (TriedAs known p slot v w) from step)
+  where
+    go : (x : SlotState) × TriedAs known p slot v w x (same_word x from)
+        → Did doing o (λ log. deeds_at v.config (number_of v.who) (shown known (word_at slot log) (same_word (word_at slot log) from)) (trying slot from o)) v w
+    go (x, (log, found, is, entered)) = (
+      log,
+      found,
+      λ op. did (λ y. deeds_at v.config (number_of v.who) (shown known y (same_word y from)) (trying slot from o)) x (word_at slot log) v w log is
+          (subst (λ ds. Entered (slot_place slot) v log ds w)
+          (ap (at_exchange v.config (number_of v.who) known slot x (same_word x from)) (of op) ∙ expected v.config (number_of v.who) slot known x from o (same_word x from) refl)
+          entered),
     )
+
+seat_did : (doing : Doing) (v w : View) (f : CallPlace) → SeatStep doing v f w → Did doing (op_of f) (λ log. deeds_at v.config (number_of v.who) (seat_reads doing log) f) v w
+seat_did doing v w (cpu.Begun cpu_op.Service) (inl step) =
+    let d = loads_as doing cpu_op.Service 1 v w step in
+    let same = looks v.config (number_of v.who) (shown doing (word_at 1 d.0) false) idle_progress 1 record { sealed = false; settled = 0 } (word_at 1 d.0) (settle_at (word_at 1 d.0) 0)
+    ∙ sym (service_begins v.config (number_of v.who) doing (halted d.0) (seat_reads doing d.0).word (seat_reads doing d.0).hits) in
+    (d.0, d.1, λ op. subst (λ ds. IsBehind ds v.own d.0 w) same (d.2 op))
 seat_did doing v w (cpu.Begun cpu_op.Service) (inr (n, (log, found, least, view))) = (
   log,
   found,
-  λ op. record {
-    own = ap (λ (x : View). x.own) view ∙ sym (ap (λ o. at_activity v.config (number_of v.who) doing o (halted log) ++ v.own) op);
-    seen = ap (λ (x : View). x.seen) view ∙ sym (ap (λ o. at_activity v.config (number_of v.who) doing o (halted log) ++ log) op);
-  },
+  λ op. subst (λ ds. IsBehind ds v.own log w) (sym (service_begins v.config (number_of v.who) doing (halted log) (seat_reads doing log).word (seat_reads doing log).hits))
+      (record { own = ap (λ (x : View). x.own) view; seen = ap (λ (x : View). x.seen) view }),
 )
-seat_did doing v w (cpu.Begun (cpu_op.Trace r)) (stopped, (log, found, is, entered)) =
-    (log, found, λ op. did (λ b. at_activity v.config (number_of v.who) doing doing.op b) stopped (halted log) (calling doing.op v) w log is entered)
-seat_did doing v w (cpu.Begun cpu_op.Speculation) (stopped, (log, found, is, entered)) =
-    (log, found, λ op. did (λ b. at_activity v.config (number_of v.who) doing doing.op b) stopped (halted log) (calling doing.op v) w log is entered)
-seat_did doing v w (cpu.Begun (cpu_op.Speculate id r)) (stopped, (log, found, is, entered)) =
-    (log, found, λ op. did (λ b. at_activity v.config (number_of v.who) doing doing.op b) stopped (halted log) (calling doing.op v) w log is entered)
-seat_did doing v w (cpu.Begun (cpu_op.Commit id)) (stopped, (log, found, is, entered)) =
-    (log, found, λ op. did (λ b. at_activity v.config (number_of v.who) doing doing.op b) stopped (halted log) (calling doing.op v) w log is entered)
-seat_did doing v w (cpu.Begun (cpu_op.Discard id)) (stopped, (log, found, is, entered)) =
-    (log, found, λ op. did (λ b. at_activity v.config (number_of v.who) doing doing.op b) stopped (halted log) (calling doing.op v) w log is entered)
-seat_did doing v w (cpu.ScanLoad s) step = let d = loaded doing s v w step in (d.0, d.1, λ op. d.2)
-seat_did doing v w (cpu.ScanTry s from) step = let d = opened_at s from v w step in (d.0, d.1, λ op. d.2)
-seat_did doing v w (cpu.SpeculateLoad id r) step = let d = loaded doing id.slot v w step in (d.0, d.1, λ op. d.2)
-seat_did doing v w (cpu.SpeculateTry id r from) step = let d = tried doing id.slot from v w step in (d.0, d.1, λ op. d.2)
-seat_did doing v w (cpu.CommitLoad id) step = let d = loaded doing id.slot v w step in (d.0, d.1, λ op. d.2)
-seat_did doing v w (cpu.CommitTry id from) step = let d = tried doing id.slot from v w step in (d.0, d.1, λ op. d.2)
+seat_did doing v w (cpu.Begun (cpu_op.Trace r)) step = begins_as doing (cpu_op.Trace r) v w step
+seat_did doing v w (cpu.Begun cpu_op.Speculation) step = begins_as doing cpu_op.Speculation v w step
+seat_did doing v w (cpu.Begun (cpu_op.Speculate id r)) step = begins_as doing (cpu_op.Speculate id r) v w step
+seat_did doing v w (cpu.Begun (cpu_op.Commit id)) step = begins_as doing (cpu_op.Commit id) v w step
+seat_did doing v w (cpu.Begun (cpu_op.Discard id)) step = begins_as doing (cpu_op.Discard id) v w step
+seat_did doing v w (cpu.ScanLoad s) step = loads_as doing cpu_op.Speculation s v w step
+seat_did doing v w (cpu.ScanTry s from) step = tries_as doing nothing cpu_op.Speculation cpu_op.Speculation s from v w (λ op. refl) step
+seat_did doing v w (cpu.SpeculateLoad id r) step = loads_as doing (cpu_op.Speculate id r) id.slot v w step
+seat_did doing v w (cpu.SpeculateTry id r from) step = tries_as doing doing (cpu_op.Speculate id r) doing.op id.slot from v w (λ op. op) step
+seat_did doing v w (cpu.CommitLoad id) step = loads_as doing (cpu_op.Commit id) id.slot v w step
+seat_did doing v w (cpu.CommitTry id from) step = tries_as doing doing (cpu_op.Commit id) doing.op id.slot from v w (λ op. op) step
 seat_did doing v w (cpu.CommitRelease id f) (log, found, entered) = (log, found, λ op. record { own = ap (λ (x : View). x.own) entered.view; seen = ap (λ (x : View). x.seen) entered.view })
-seat_did doing v w (cpu.DiscardLoad id) step = let d = loaded doing id.slot v w step in (d.0, d.1, λ op. d.2)
-seat_did doing v w (cpu.DiscardTry id from) step = let d = tried doing id.slot from v w step in (d.0, d.1, λ op. d.2)
+seat_did doing v w (cpu.DiscardLoad id) step = loads_as doing (cpu_op.Discard id) id.slot v w step
+seat_did doing v w (cpu.DiscardTry id from) step = tries_as doing doing (cpu_op.Discard id) doing.op id.slot from v w (λ op. op) step
 seat_did doing v w cpu.ServicePop step = absurd step
 seat_did doing v w cpu.ServicePush step = absurd step
-seat_did doing v w (cpu.ServiceLoad s sum) step = let d = loaded doing s v w step in (d.0, d.1, λ op. d.2)
-seat_did doing v w (cpu.ServiceStore s from sum) (last, (log, found, entered)) =
-    (log, found, λ op. did (λ x. Settle (number_of v.who) record { issue = from.issue; slot = s } (settled_fate x.code doing.fits doing.count) ∷ []) (word_at s v.seen) from v w log (sym last) entered)
+seat_did doing v w (cpu.ServiceLoad s sum) step =
+    let d = loads_as doing cpu_op.Service s v w step in
+    let same = looks v.config (number_of v.who) (shown doing (word_at s d.0) false) idle_progress s record { sealed = false; settled = 0 } (word_at s d.0) (settle_at (word_at s d.0) 0)
+    ∙ sym (looks v.config (number_of v.who) (seat_reads doing d.0) idle_progress s sum (word_at s d.0) (settle_at (word_at s d.0) 0)) in
+    (d.0, d.1, λ op. subst (λ ds. IsBehind ds v.own d.0 w) same (d.2 op))
+seat_did doing v w (cpu.ServiceStore s from sum) (last, (log, found, entered)) = (
+  log,
+  found,
+  λ op. subst (λ ds. IsBehind ds v.own log w) (sym (served_deeds v.config (number_of v.who) (seat_reads doing log) idle_progress s _ record { sealed = sum.sealed; settled = sum.settled + 1 }))
+      (did (λ x. Settle (number_of v.who) record { issue = from.issue; slot = s } (settled_fate x.code doing.fits doing.count) ∷ []) (word_at s v.seen) from v w log (sym last) entered),
+)
 
 -- so a step of the play leaves what the seat's step leaves
 pub seat_plays : (doing : Doing) (v w : View) (f : CallPlace) → SeatStep doing v f w
@@ -120,8 +147,8 @@ seat_plays doing v w f step =
       λ shape h me is same.
           let got = d.2 same.op in
           let ds = (cpu_step shape v.config (number_of v.who) h me f).deeds in
-          let e : seat_deeds v.config (number_of v.who) doing (halted d.0) (word_at (slot_of f) d.0) f ≡ bare ds =
-          ap (λ l. seat_deeds v.config (number_of v.who) doing (halted l) (word_at (slot_of f) l) f) (sym is) ∙ sym (same_deeds shape v.config (number_of v.who) h me doing f same) in
+          let e : deeds_at v.config (number_of v.who) (seat_reads doing d.0) f ≡ bare ds =
+          ap (λ l. deeds_at v.config (number_of v.who) (seat_reads doing l) f) (sym is) ∙ sym (same_deeds shape v.config (number_of v.who) h me doing f same) in
           record { own = got.own ∙ ap (λ x. x ++ v.own) e; seen = got.seen ∙ ap (λ x. x ++ d.0) e ∙ ap (λ l. bare ds ++ l) (sym is) ∙ sym (bare_joined ds h) },
     )
 

@@ -1,13 +1,13 @@
 -- Serves proofs. The deeds of a step of a play, and those of the same step of a seat at the words.
-use Rattle.std.specs.Prelude.{ℕ, ◌≡◌, ◌≤◌, ◌<◌, ◌+◌, Bool, true, false, List, [], ◌∷◌, ◌++◌, length, Option, ◌⊎◌, if◌then◌else◌}
+use Rattle.std.specs.Prelude.{ℕ, ◌≡◌, ◌≤◌, ◌<◌, ◌+◌, Bool, true, false, List, [], ◌∷◌, ◌++◌, Option, ◌⊎◌, if◌then◌else◌}
 use Rattle.dspec_record.specs.declared.field.Shape.{Shape}
-use Rattle.dspec_table.specs.Words.Outside.{one, block, Speculation, SlotState, word_number, halted, is_among, callers, part, word_at, contents, held, IsSound, fits_principal, fits_speculative}
-use Rattle.dspec_table.specs.Words.Outside.{mark, bare, settled_fate, op_of, StandsCpu, same_word, cpu_step, consumer_step, is_told_worn}
+use Rattle.dspec_table.specs.Words.Outside.{Speculation, SlotState, word_number, halted, is_among, callers, part, word_at, IsSound, mark, bare, Measured, measured, op_of, same_word, cpu_step}
+use Rattle.dspec_table.specs.Words.Outside.{consumer_step, is_told_worn}
 use Rattle.dspec_deeds.specs.declared.config.Config.{Config}
 use Rattle.dspec_deeds.specs.declared.calls.Actor.TheVariants.{Cpu}
 use Rattle.dspec_deeds.specs.declared.calls.CpuOp.TheVariants as cpu_op
 use Rattle.dspec_deeds.specs.declared.deed.Deed.{Deed}
-use Rattle.dspec_deeds.specs.declared.deed.Deed.TheVariants.{Settle, Release}
+use Rattle.dspec_deeds.specs.declared.deed.Deed.TheVariants.{Release}
 use Rattle.dspec_interleaving.specs.declared.flight.CpuProgress.{CpuProgress}
 use Rattle.dspec_interleaving.specs.declared.flight.ConsumerFlight.{ConsumerFlight}
 use Rattle.dspec_interleaving.specs.declared.flight.ConsumerFlight.TheVariants as consumer
@@ -20,69 +20,46 @@ use Rattle.dspec_table.specs.declared.rule.View.{View}
 use Rattle.dspec_table.specs.Asks.{LoadedAsk, StoredAsk}
 use Rattle.dspec_table.specs.Holders.{number_of}
 use Rattle.dspec_table.specs.Steps.{LoadedActivity, LoadedWord, OpenedWord, TriedWord, ReleasedWord, SettledWord, StoredActivity, LookedWord, LoadedAck, ReapedWord}
-use Rattle.dspec_table.specs.Acts.{at_activity, at_word, at_open, at_exchange, at_stop}
+use Rattle.dspec_table.specs.Acts.{seen, deeds_at, at_stop}
 
--- the slot whose word the next step is on
-abbrev pub slot_of : CallPlace → ℕ
-slot_of (cpu.ScanLoad s) = s
-slot_of (cpu.ScanTry s from) = s
-slot_of (cpu.SpeculateLoad id r) = id.slot
-slot_of (cpu.SpeculateTry id r from) = id.slot
-slot_of (cpu.CommitLoad id) = id.slot
-slot_of (cpu.CommitTry id from) = id.slot
-slot_of (cpu.DiscardLoad id) = id.slot
-slot_of (cpu.DiscardTry id from) = id.slot
-slot_of (cpu.ServiceLoad s sum) = s
-slot_of f = 0
+-- what a seat's step measures where its words show that list
+abbrev pub seat_reads : Doing → List Deed → Measured
+seat_reads doing h = seen doing (halted h) (λ s. word_at s h) (λ s from. same_word (word_at s h) from)
 
--- the deeds that a seat enters at each place of a call, by the activity and the word that its step shows
-abbrev pub seat_deeds : Config → ℕ → Doing → Bool → SlotState → CallPlace → List Deed
-seat_deeds k c doing stopped shown (cpu.Begun o) = at_activity k c doing doing.op stopped
-seat_deeds k c doing stopped shown (cpu.ScanLoad s) = at_word k c doing s shown doing.op
-seat_deeds k c doing stopped shown (cpu.ScanTry s from) = at_open c s shown (same_word shown from)
-seat_deeds k c doing stopped shown (cpu.SpeculateLoad id r) = at_word k c doing id.slot shown doing.op
-seat_deeds k c doing stopped shown (cpu.SpeculateTry id r from) = at_exchange k c doing id.slot shown (same_word shown from)
-seat_deeds k c doing stopped shown (cpu.CommitLoad id) = at_word k c doing id.slot shown doing.op
-seat_deeds k c doing stopped shown (cpu.CommitTry id from) = at_exchange k c doing id.slot shown (same_word shown from)
-seat_deeds k c doing stopped shown (cpu.CommitRelease id f) = Release id.slot ∷ []
-seat_deeds k c doing stopped shown (cpu.DiscardLoad id) = at_word k c doing id.slot shown doing.op
-seat_deeds k c doing stopped shown (cpu.DiscardTry id from) = at_exchange k c doing id.slot shown (same_word shown from)
-seat_deeds k c doing stopped shown cpu.ServicePop = []
-seat_deeds k c doing stopped shown cpu.ServicePush = []
-seat_deeds k c doing stopped shown (cpu.ServiceLoad s sum) = at_word k c doing s shown doing.op
-seat_deeds k c doing stopped shown (cpu.ServiceStore s w sum) = Settle c record { issue = w.issue; slot = s } (settled_fate w.code doing.fits doing.count) ∷ []
-
--- a play's step at a place enters, Seals apart, what the seat's step enters there by the activity and the word that the list shows
+-- a play's step at a place enters, Seals apart, what the seat's step enters there by the activity and the words that the list shows
 abbrev pub EntersSame : (ℕ → Option Shape) → Config → ℕ → List Deed → CpuProgress → CallPlace → Doing → Type 0
-EntersSame shape k c h me f doing = bare (cpu_step shape k c h me f).deeds ≡ seat_deeds k c doing (halted (bare h)) (word_at (slot_of f) (bare h)) f
+EntersSame shape k c h me f doing = bare (cpu_step shape k c h me f).deeds ≡ deeds_at k c (seat_reads doing (bare h)) f
 
 -- whether the CPU is a caller, where the identifier isn't older than the last speculation of the slot that was granted to it
 abbrev pub IsMine : ℕ → List Deed → Speculation → Doing → Type 0
 IsMine c h id doing = mark c id.slot h ≤ id.issue + 1 → doing.mine ≡ is_among c (callers id h)
 
-module _ (shape : ℕ → Option Shape) (k : Config) (c : ℕ) (h : List Deed) where
+-- by what was measured off a list, and the marks that it shows
+module _ (m : Measured) (marks : ℕ → ℕ) where
   abbrev pub MeasuresBlock : Speculation → Doing → Type 0
-  MeasuresBlock id doing = (doing.fits ≡ fits_principal shape k c (block (contents (held c id h))) h) × (doing.count ≡ length (held c id h))
+  MeasuresBlock id doing = (doing.fits ≡ m.copies id) × (doing.count ≡ m.count id)
 
-  -- what was measured for the call is what the list has
+  abbrev pub MeasuresMine : Speculation → Doing → Type 0
+  MeasuresMine id doing = marks id.slot ≤ id.issue + 1 → doing.mine ≡ m.mine id
+
+  -- what was measured for the call is what the step measures there
   abbrev pub Measures : Doing → CallPlace → Type 0
-  Measures doing (cpu.Begun (cpu_op.Trace r)) = doing.fits ≡ fits_principal shape k c (one r) h
-  Measures doing (cpu.SpeculateLoad id r) = (doing.fits ≡ fits_speculative shape k c id r h) × IsMine c h id doing
-  Measures doing (cpu.SpeculateTry id r from) = (doing.fits ≡ fits_speculative shape k c id r h) × IsMine c h id doing
-  Measures doing (cpu.CommitLoad id) = IsMine c h id doing
-  Measures doing (cpu.CommitTry id from) = MeasuresBlock id doing × IsMine c h id doing
-  Measures doing (cpu.DiscardLoad id) = IsMine c h id doing
-  Measures doing (cpu.DiscardTry id from) = (doing.count ≡ length (held c id h)) × IsMine c h id doing
+  Measures doing (cpu.Begun (cpu_op.Trace r)) = doing.fits ≡ m.traces r
+  Measures doing (cpu.SpeculateLoad id r) = (doing.fits ≡ m.keeps id r) × MeasuresMine id doing
+  Measures doing (cpu.SpeculateTry id r from) = (doing.fits ≡ m.keeps id r) × MeasuresMine id doing
+  Measures doing (cpu.CommitLoad id) = MeasuresMine id doing
+  Measures doing (cpu.CommitTry id from) = MeasuresBlock id doing × MeasuresMine id doing
+  Measures doing (cpu.DiscardLoad id) = MeasuresMine id doing
+  Measures doing (cpu.DiscardTry id from) = (doing.count ≡ m.count id) × MeasuresMine id doing
   Measures doing (cpu.ServiceStore s w sum) = MeasuresBlock record { issue = w.issue; slot = s } doing
   Measures doing f = Unit {0}
 
 -- a CPU's call in flight, which isn't worn, and what its seat has of it, measured by the CPU's own list
 pub record IsSameCall (shape : ℕ → Option Shape) (k : Config) (c : ℕ) (h : List Deed) (me : CpuProgress) (f : CallPlace) (doing : Doing) : Type 0 where
   pub sound : IsSound k h
-  pub stands : StandsCpu k c h me f
   pub worn : is_told_worn (cpu_step shape k c h me f).answer ≡ false
   pub op : doing.op ≡ op_of f
-  pub measured : Measures shape k c (part (Cpu c) h) doing f
+  pub measured : Measures (measured shape k c (part (Cpu c) h)) (λ s. mark c s (part (Cpu c) h)) doing f
 
 -- the consumer's: the deeds that its seat enters, by the word that its step shows
 abbrev pub slot_there : ConsumerFlight → ℕ

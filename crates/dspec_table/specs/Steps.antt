@@ -2,6 +2,7 @@
 use Rattle.std.specs.Prelude.{ℕ, ◌≡◌, ◌⊎◌, ◌<◌, ◌≤◌, ◌+◌, Bool, true, false, List, [], ◌∷◌, ◌++◌, if◌then◌else◌, Result, MatchResult, IfOk, IfErr}
 use Rattle.dspec_table.specs.Words.Outside.{Speculation, SlotState, word_number, CanBeReleased, owed, halted, word_at, ack, IsSound, settled_fate}
 use Rattle.dspec_word.specs.declared.code.Code.{Code}
+use Rattle.dspec_deeds.specs.declared.calls.CpuOp.TheVariants as op
 use Rattle.dspec_deeds.specs.declared.deed.Deed.{Deed}
 use Rattle.dspec_deeds.specs.declared.deed.Deed.TheVariants.{Settle, Release}
 use Rattle.dspec_table.specs.declared.rule.View.{View}
@@ -12,7 +13,7 @@ use Rattle.dspec_table.specs.Holders.{part_of, of_nobody, number_of}
 use Rattle.dspec_table.specs.Since.{Since}
 use Rattle.dspec_table.specs.Layout.{activity_place, slot_place, ack_place}
 use Rattle.dspec_table.specs.Flights.{AreOf, flight_after, calling}
-use Rattle.dspec_table.specs.Acts.{at_activity, at_word, at_open, at_exchange, at_stop}
+use Rattle.dspec_table.specs.Acts.{at_activity, nothing, at_word, at_exchange, at_stop}
 use Rattle.dspec_table.specs.Seats.{known, IsAt, cpu_of}
 
 -- the view after a step on the word at that place, with deeds of its own behind the list that the step found, where it then knows
@@ -82,7 +83,7 @@ LoadedNumber doing slot v n w = (shown : SlotState) × (n ≡ word_number shown)
 abbrev pub OpenedWord : ℕ → View → SlotState → Bool → View → Type 0
 OpenedWord slot v shown hit w =
     (log : List Deed) × Found v log × (shown ≡ word_at slot log)
-    × Entered (slot_place slot) v log (at_open (number_of v.who) slot shown hit) w
+    × Entered (slot_place slot) v log (at_exchange v.config (number_of v.who) nothing slot shown hit op.Speculation) w
 
 -- the same, of the number that was found; where the exchange for new hit, the list shows new now
 abbrev pub OpenedNumber : ℕ → View → ℕ → ℕ → Bool → View → Type 0
@@ -92,7 +93,7 @@ OpenedNumber slot v new n hit w =
 abbrev pub TriedWord : Doing → ℕ → View → SlotState → Bool → View → Type 0
 TriedWord doing slot v shown hit w =
     (log : List Deed) × Found v log × (shown ≡ word_at slot log)
-    × Entered (slot_place slot) v log (at_exchange v.config (number_of v.who) doing slot shown hit) w
+    × Entered (slot_place slot) v log (at_exchange v.config (number_of v.who) doing slot shown hit doing.op) w
 
 abbrev pub TriedNumber : Doing → ℕ → View → ℕ → ℕ → Bool → View → Type 0
 TriedNumber doing slot v new n hit w =

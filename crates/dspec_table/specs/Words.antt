@@ -1,7 +1,7 @@
 -- Serves proofs. The words of this crate for its proofs and for the crates above, in one place. Declares nothing.
 pub mod Outside
 unfoldable pub use Outside.*
-pub use Rattle.dspec_table.specs.Acts.{at_activity, at_exchange, at_hit, at_open, at_stop, at_word, discard_hits, miss_at, speculates, void_commit, void_discard}
+pub use Rattle.dspec_table.specs.Acts.{at_activity, at_exchange, at_stop, at_word, deeds_at, nothing, seen, shown, trying}
 pub use Rattle.dspec_table.specs.Asks.{LoadedAsk, StoredAsk, StoredAskAt, with_ask}
 pub use Rattle.dspec_table.specs.Conditions.{as_active, Attempts, CommitsNow, IfCommitting, IsDeciding, IsInFlight, IsOn, joined_word, MayLoad, MayOpen, MayReap, MaySettle, MayTry, more_callers}
 pub use Rattle.dspec_table.specs.Conditions.{OwnCommit}
@@ -12,7 +12,7 @@ pub use Rattle.dspec_table.specs.Layout.{ack_place, activity_place, ask_place, g
 pub use Rattle.dspec_table.specs.Notes.{answered, dealt, first_of_those, gathered, greater, heard, nobody, note, others, past_of, without}
 pub use Rattle.dspec_table.specs.Owners.{HasOneSeat}
 pub use Rattle.dspec_table.specs.Rule.{cpus_from, Each, HaveSeats, held_in_all, holdings, Knows, KnowsAsks, Least, newcomer, Parts, Remembers, times_among, WordsRule}
-pub use Rattle.dspec_table.specs.SameSteps.{consumer_deeds, ConsumerSeatStep, Exchanges, IsMine, IsSameCall, IsStepOfPlay, Measures, MeasuresBlock, seat_deeds, SeatStep, slot_of, slot_there}
+pub use Rattle.dspec_table.specs.SameSteps.{consumer_deeds, ConsumerSeatStep, Exchanges, IsMine, IsSameCall, IsStepOfPlay, Measures, seat_reads, SeatStep, slot_there}
 pub use Rattle.dspec_table.specs.Seats.{cpu_of, dealing, DealtSeats, fresh_seat, FreshSeats, IsAt, IsConsumerAt, known, known_there, last_seat, set_up}
 pub use Rattle.dspec_table.specs.Showing.{activity, AreWords, IsWordNumber, Shows, word}
 pub use Rattle.dspec_table.specs.Since.{here, more, Since}

@@ -16,12 +16,12 @@
 //! | `cleaning.rt`, `stopping.rt`, `asking.rt`, `meeting.rt` | the consumer's steps, and the meeting |
 //! | `refinement.rt` | the laws `same_steps` and `words_show_one_list`: what the words do is what a play does |
 //! | `specs/`: Rule, Showing, Owners, Holders, Since | `Kept`; that the words show a list; whose each deed and each seat is; a list that goes on by deeds of others |
-//! | `specs/`: Flights, Acts, Steps, Conditions, Asks | which call of a seat is in flight; the deeds of a step; `Found` and `Entered`, one relation a kind of step, and `TriedExchange`, what an exchange of a call came to; what a call asks of its seat |
+//! | `specs/`: Flights, Acts, Steps, Conditions, Asks | which call of a seat is in flight; what a step at the words measures, and the deeds that the table of steps enters by it; `Found` and `Entered`, one relation a kind of step, and `TriedExchange`, what an exchange of a call came to; what a call asks of its seat |
 //! | `specs/`: Notes, Meeting, Seats, Last, Layout | splits and joins of views; `Met`; seats; `Ended`; places |
-//! | `specs/`: SameSteps, OneList | what a seat enters at each place of a call; when a call of a play and a call at the words are the same, and which step at the words is the play's; `ShowOneList` |
+//! | `specs/`: SameSteps, OneList | what a seat's step measures where its words show a list; when a call of a play and a call at the words are the same, and which step at the words is the play's; `ShowOneList` |
 //! | `proofs/`: Adding, Keeps, Changes | `acts_asking`, the lemma that all deeds go through; its forms for loads and exchanges (`Owes` for deeds that move no word) |
 //! | `proofs/`, one a kind of step | Activity, Loads, Opens, Tries, Releases, Halting, Settlements, Reaping, Looking, AsksKept |
-//! | `proofs/`, the rest | InFlight, Totals, Joining, AtStart, Dealing, AtEnd, Limits, Grows, Commits, Waiting, Pasts; Flights for the crates above: what a call on an identifier may do next |
+//! | `proofs/`, the rest | InFlight, the rows of the table; Totals, Joining, AtStart, Dealing, AtEnd, Limits, Grows, Commits, Waiting, Pasts; Flights for the crates above: what a call on an identifier may do next |
 //! | `proofs/`: SameDeeds, ConsumerMakes, SeatsDid | of `same_steps`: a CPU's places, the consumer's, and what the words' functions promise, over a play's list |
 #![tactic(auto)]
 

@@ -2,10 +2,10 @@
 use Rattle.std.proofs.Common.{◌≡◌, ◌≢◌, ◌<◌, ◌≤◌, ◌+◌, ◌==◌, ℕ, Bool, true, false, if◌then◌else◌, inl, inr, List, [], ◌∷◌, refl, sym, ap, ◌∙◌, subst, arith, length, reverse}
 use Rattle.std.proofs.lemmas.List.{length-append}
 use Rattle.std.proofs.lemmas.Bool.{eqb-true, eqb-false}
-use Rattle.dspec_trace_reading.specs.Words.{Record, EnabledRows, records, Passed, GotAll, passed_from, missed_on, GetsPacket, Tracing, HaveNumbers, drops_carried}
+use Rattle.dspec_trace_reading.specs.Words.{Record, EnabledRows, Passed, GotAll, passed_from, missed_on, GetsPacket, Tracing, HaveNumbers, drops_carried}
 use Rattle.dspec_trace_reading.proofs.Asking.{missed_before, missed_elsewhere, missed_here, stays_wide}
 use Rattle.dspec_trace_reading.proofs.Folding.{Holds, one_text}
-use Rattle.dspec_trace_reading.proofs.Keeping.{Came, has_text}
+use Rattle.dspec_trace_reading.proofs.Keeping.{Came}
 use Rattle.dspec_trace_reading.proofs.Losing.{others_missed, own_at_most, still_wide}
 
 module _ (e : EnabledRows) (c : ℕ) (low : c < 64) where
@@ -16,24 +16,24 @@ module _ (e : EnabledRows) (c : ℕ) (low : c < 64) where
   next_bounded old mid new x xs rs wide own later (inl nothing) false is holds =
       let same : missed_on mid c ≡ missed_on old c = ap (λ (t : Tracing). missed_on t c) nothing.1 in
       omega (arith, same, later rs (ap (λ (t : Tracing). length t.missed) nothing.1 ∙ wide) holds)
-  next_bounded old mid new x xs rs wide own later (inl nothing) true is (ps, more, has, sum, holds) =
+  next_bounded old mid new x xs rs wide own later (inl nothing) true is (ps, more, has, many, sum, holds) =
       let same : missed_on mid c ≡ missed_on old c = ap (λ (t : Tracing). missed_on t c) nothing.1 in
-      let all : length rs ≡ length (reverse (records ps)) + length more = ap length sum ∙ length-append (reverse (records ps)) more in
+      let all : length rs ≡ length ps + length more = ap length sum ∙ length-append ps more in
       omega (arith, same, all, later more (ap (λ (t : Tracing). length t.missed) nothing.1 ∙ wide) holds)
   next_bounded old mid new x xs rs wide own later (inr (some, inl adds)) false is holds =
       let apart : x.batch.cpu ≢ c = λ s. eqb-false x.from c is (sym own ∙ s) in
       omega (arith, missed_elsewhere e old mid x.batch adds wide c apart, later rs (stays_wide e old mid x.batch adds wide) holds)
-  next_bounded old mid new x xs rs wide own later (inr (some, inl adds)) true is (ps, more, has, sum, holds) =
+  next_bounded old mid new x xs rs wide own later (inr (some, inl adds)) true is (ps, more, has, many, sum, holds) =
       let here : x.batch.cpu ≡ c = own ∙ eqb-true x.from c is in
-      let all : length rs ≡ length (reverse (records ps)) + length more = ap length sum ∙ length-append (reverse (records ps)) more in
+      let all : length rs ≡ length ps + length more = ap length sum ∙ length-append ps more in
       omega (arith, missed_here e old mid x.batch adds wide c here, missed_before e old mid x.batch adds wide c here, all, later more (stays_wide e old mid x.batch adds wide) holds)
   next_bounded old mid new x xs rs wide own later (inr (some, inr loses)) false is holds =
       let apart : x.batch.cpu ≢ c = λ s. eqb-false x.from c is (sym own ∙ s) in
       omega (arith, others_missed e old mid x.batch loses wide c apart, later rs (still_wide e old mid x.batch loses wide) holds)
-  next_bounded old mid new x xs rs wide own later (inr (some, inr loses)) true is (ps, more, has, sum, holds) =
+  next_bounded old mid new x xs rs wide own later (inr (some, inr loses)) true is (ps, more, has, many, sum, holds) =
       let here : x.batch.cpu ≡ c = own ∙ eqb-true x.from c is in
-      let all : length rs ≡ length (reverse (records ps)) + length more = ap length sum ∙ length-append (reverse (records ps)) more in
-      let few = own_at_most e old mid x.batch loses wide c low here (reverse (records ps)) (has_text e x.batch ps has) (λ qs text. one_text e x.batch ps qs has text) in
+      let all : length rs ≡ length ps + length more = ap length sum ∙ length-append ps more in
+      let few = own_at_most e old mid x.batch loses wide c low here ps has (λ qs text. one_text e x.batch ps qs has text) in
       omega (arith, few, all, later more (still_wide e old mid x.batch loses wide) holds)
 
   pub bounded : (bs : List Passed) (old new : Tracing) (rs : List Record) → GotAll (GetsPacket e) old bs new → length old.missed ≡ 64 → HaveNumbers bs → Holds e (passed_from c bs) rs

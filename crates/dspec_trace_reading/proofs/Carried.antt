@@ -1,8 +1,9 @@
 -- What a session promises of a folder that it was traced into, and of the sink beside it.
 use Rattle.std.proofs.Common.{◌≡◌, ◌<◌, ◌+◌, ℕ, Bool, List, [], ◌∷◌, ◌++◌, Option, Some, None, sym, ap, ◌∙◌, subst, arith, append_assoc, length, slice_get}
+use Rattle.std.proofs.lemmas.List.Elements.{All-append}
 use Rattle.std.proofs.lemmas.Option.{slice_get_within}
 use Rattle.dspec_trace_reading.specs.Words.{Record, EnabledRows, enabled, table_accepts, table_shape, table_text, start_fault, CallsMade, waiting, all_did, IsPromised, GotAll, Passed, passed_from}
-use Rattle.dspec_trace_reading.specs.Words.{IsKept, IsOneListWith, IsTelling, TellsUntold, untold, FileWrite, HaveNumbers, drops_carried, missed_in, BothGet, RanInto, FolderTrace}
+use Rattle.dspec_trace_reading.specs.Words.{AreFrom, IsKept, IsOneListWith, IsTelling, TellsUntold, untold, FileWrite, HaveNumbers, drops_carried, missed_in, BothGet, RanInto, FolderTrace}
 use Rattle.dspec_record.specs.declared.field.Shape.{Shape}
 use Rattle.dspec_deeds.specs.declared.config.Config.{Config}
 use Rattle.dspec_deeds.proofs.SetUp.{most_cpus}
@@ -10,6 +11,7 @@ use Rattle.dspec_ring.specs.declared.batch.Batch.{Batch}
 use Rattle.dspec_session_core.specs.declared.left.Left.{Left}
 use Rattle.dspec.proofs.Passing.{from_both, got_both}
 use Rattle.dspec_ctf_sink.specs.declared.losing.Loss.{Loss}
+use Rattle.dspec_trace_reading.proofs.Apart.{told_from}
 use Rattle.dspec_trace_reading.proofs.Counted.{accepted_reported, drops_reported}
 use Rattle.dspec_trace_reading.proofs.Folding.{Holds}
 use Rattle.dspec_trace_reading.proofs.Read.{numbered}
@@ -26,6 +28,7 @@ pub record Carries {K F : Type 0} (gets : K → Batch → K → Type 0) (sees : 
   pub all : List Passed
   pub got : GotAll sees begun all ended
   pub own : HaveNumbers all
+  pub from : AreFrom (length left) all
   pub ends : (c : ℕ) (l : Left) → slice_get left c ≡ Some l → (b : Batch) × IsTelling c (untold l.report) b × (passed_from c all ≡ passed_from c kept.passed ++ b ∷ [])
   pub holds : (c : ℕ) (l : Left) (at : slice_get left c ≡ Some l) → Holds e (passed_from c all) ((kept.page.each c l at).seen)
   pub missed : (c : ℕ) (l : Left) → slice_get left c ≡ Some l → drops_carried (passed_from c all) ≡ missed_in l.report
@@ -60,6 +63,11 @@ module _ {B K F : Type 0} (bgets : B → Batch → B → Type 0) (gets : K → B
 
   own : HaveNumbers all_passed
   own = numbers_both one.0.passed extra (numbered e does bgets k old left new one.0 one.1) (told_numbers sees 0 left (folder new) ended tellings)
+
+  from_left : AreFrom (length left) all_passed
+  from_left =
+      All-append (λ (x : Passed). x.from < length left) one.0.passed extra (subst (λ n. AreFrom n one.0.passed) (sym one.1.closes.all) one.0.from)
+      (told_from sees (length left) 0 left (folder new) ended tellings (omega arith))
 
   abbrev kept : IsKept gets does shape accepts text k (other old) left (other new)
   kept = record {
@@ -111,7 +119,7 @@ module _ {B K F : Type 0} (bgets : B → Batch → B → Type 0) (gets : K → B
       accepted_reported shape accepts text k.cpus kept.page.all c (kept.calls c) (kept.page.closed c) (passed_from c one.0.passed) l.report (kept.page.each c l at)
 
   pub carried : Carries gets sees does e k (other old) left (other new) (folder old) ended
-  carried = record { kept = kept; all = all_passed; got = got_all; own = own; ends = ends; holds = holds; missed = missed; accepted = reported; low = low }
+  carried = record { kept = kept; all = all_passed; got = got_all; own = own; from = from_left; ends = ends; holds = holds; missed = missed; accepted = reported; low = low }
 
 -- where it ran into a folder and to a sink
 pub in_both : {K F : Type 0} (sees : F → Batch → F → Type 0) (gets : K → Batch → K → Type 0) (does : ℕ → CallsMade → CallsMade → Type 0) (e : EnabledRows) (k : Config) (old new : K)

@@ -6,30 +6,16 @@ use Rattle.std.specs.List.{flat_map}
 use Rattle.std.proofs.lemmas.Bool.{eqb-true, eqb-false, ne_eqb}
 use Rattle.std.proofs.lemmas.List.{append-nil, map-append, take_all}
 use Rattle.std.proofs.lemmas.List.Elements.{All-append, All-cons, All-nil}
-use Rattle.dspec_trace_reading.specs.Words.{Record, EnabledRows, missed_packets, of_file, run_files, run_packets, told_by, Accepts, FileTells, PartTells, file_bytes, MissedReadsBack, RunsReadBack}
-use Rattle.dspec_trace_reading.specs.Words.{event_of, layout_of, EventRead, AreRuns, AddsAll, TakesAll, TellsMissed, row_name, FileWrite, file_of}
+use Rattle.dspec_trace_reading.specs.Words.{Record, EnabledRows, missed_packets, of_file, run_files, run_packets, told_by, Accepts, FileTells, PartTells, file_bytes, event_of, layout_of, EventRead}
+use Rattle.dspec_trace_reading.specs.Words.{AreRuns, AddsAll, TakesAll, TellsMissed, row_name, FileWrite, file_of}
 use Rattle.dspec_record.specs.declared.header.Header.TheVariants as header
 use Rattle.dspec_ctf.specs.declared.form.Form.TheVariants.{ByTime}
 use Rattle.dspec_ctf.specs.declared.names.Names.{Names}
 use Rattle.dspec_ctf.specs.declared.rows.Run.{Run}
-use Rattle.dspec_trace_reading.proofs.Growing.{FilesJoin, grown, told_more}
-use Rattle.dspec_trace_reading.proofs.Sharing.{FilesHaveAll, RunsHaveAll, of_more, packets_few, shared, stamps_low}
+use Rattle.dspec_filing_reading.proofs.FilesLaws.{FilesLaws, told_other}
+use Rattle.dspec_filing_reading.proofs.Growing.{grown, told_more}
+use Rattle.dspec_filing_reading.proofs.Sharing.{of_more, packets_few, shared, stamps_low}
 use Rattle.dspec_trace_reading.proofs.Taking.{grows_here, row_writes, took_all}
-
--- that the packets of runs are read as their records, and what tells what was missed as that
-abbrev pub RunsRead : Type 0
-RunsRead = (e : EnabledRows) (names : Names) → RunsReadBack e names
-
-abbrev pub MissedRead : Type 0
-MissedRead = (e : EnabledRows) (names : Names) → MissedReadsBack e names
-
--- the laws on which this stands
-pub record FilesLaws : Type 0 where
-  pub join : FilesJoin
-  pub runs : RunsRead
-  pub missed : MissedRead
-  pub have_all : FilesHaveAll
-  pub runs_have : RunsHaveAll
 
 -- what a CPU's files tell of this stream, with so many missed, and that their last stamps can be told
 pub record Filed (uuid : List ℕ) (e : EnabledRows) (names : Names) (hertz c : ℕ) (written : Option (List FileWrite)) (lasts : List ℕ) (missed : ℕ) (stream : List Record) : Type 0 where
@@ -42,9 +28,6 @@ pub record Filed (uuid : List ℕ) (e : EnabledRows) (names : Names) (hertz c : 
   pub below : All (λ file. file < 64) files
   pub tells : (file : ℕ) → file < 64 → FileTells (layout_of e names (ByTime hertz)) uuid c (file_of (row_name c file) writes)
       (map (event_of e names (ByTime hertz)) (of_file file files stream)) (told_by file missed)
-
-told_other : (file n : ℕ) → (file == 0) ≡ false → told_by file n ≡ 0
-told_other file n is = ap (λ b. cond b n 0) is
 
 module _ (laws : FilesLaws) (uuid : List ℕ) (e : EnabledRows) (names : Names) (hertz c : ℕ) (low : c < 64) (long : length uuid ≡ 16) (stamped : e.header ≡ header.Two) where
   -- more was missed: the first file tells it

@@ -1,18 +1,18 @@
 -- What all batches of a session bring to one CPU's file, where nothing is lost.
 use Rattle.std.proofs.Common.{◌≡◌, ◌≢◌, ◌<◌, ◌≤◌, ◌+◌, ◌==◌, ℕ, Bool, true, false, if◌then◌else◌, ◌⊎◌, inl, inr, List}
-use Rattle.std.proofs.Common.{[], ◌∷◌, ◌++◌, Some, None, refl, sym, ap, ◌∙◌, subst, arith, length, reverse, All, codes, append_assoc, slice_index}
+use Rattle.std.proofs.Common.{[], ◌∷◌, ◌++◌, Some, None, refl, sym, ap, ◌∙◌, subst, arith, length, All, codes, append_assoc, slice_index}
 use Rattle.std.specs.List.{flat_map}
 use Rattle.std.proofs.lemmas.List.{append-nil}
 use Rattle.std.proofs.lemmas.List.Elements.{All-cons, All-nil}
 use Rattle.std.proofs.lemmas.Bool.{eqb-true, eqb-false}
-use Rattle.dspec_trace_reading.specs.Words.{Record, EnabledRows, enabled, table_shape, table_accepts, table_text, enabled-IsLimited, table-shapes_fit, table-texts_fit, table-texts_differ, Piece}
-use Rattle.dspec_trace_reading.specs.Words.{records, HasPieces, BufferText, HoldInOrder, Passed, GotAll, passed_from, filled_packets, Accepts, IsText, missed_on, FileWrite, brought_to, file_of}
-use Rattle.dspec_trace_reading.specs.Words.{AddsPacket, AreNextOf, GetsPacket, IsNothing, Tracing, cpu_name, HaveNumbers, drops_carried}
+use Rattle.dspec_trace_reading.specs.Words.{Record, EnabledRows, enabled, table_shape, table_accepts, table_text, enabled-IsLimited, table-shapes_fit, table-texts_fit, table-texts_differ, Passed}
+use Rattle.dspec_trace_reading.specs.Words.{GotAll, passed_from, filled_packets, Accepts, IsText, missed_on, FileWrite, brought_to, file_of, AddsPacket, AreNextOf, GetsPacket, IsNothing, Tracing}
+use Rattle.dspec_trace_reading.specs.Words.{cpu_name, HaveNumbers, drops_carried, HoldRecords}
 use Rattle.dspec_buffer.proofs.SchemaLaws.{SchemaLaws}
 use Rattle.dspec_buffer.proofs.OneReading.{one_reading}
-use Rattle.dspec_buffer.proofs.Walks.{reads_back}
 use Rattle.dspec_ring.specs.declared.batch.Batch.{Batch}
 use Rattle.dspec_ctf_sink.proofs.Written.{brought_elsewhere, brought_whole, file_of_more}
+use Rattle.dspec_filing_reading.proofs.Fronts.{all_accepted}
 use Rattle.dspec_trace_reading.proofs.Naming.{names_differ, not_metadata}
 use Rattle.dspec_trace_reading.proofs.Asking.{came_whole, few, missed_before, missed_elsewhere, missed_here, stays_wide, took, unlost}
 
@@ -23,7 +23,7 @@ last_from n (p ∷ ps) = last_from p.0 ps
 
 module _ (e : EnabledRows) where
   abbrev pub Holds : List Batch → List Record → Type 0
-  Holds bs rs = HoldInOrder (table_shape e.header (enabled e.rows)) (table_accepts e.header (enabled e.rows)) (table_text e.header (enabled e.rows)) bs rs
+  Holds bs rs = HoldRecords (table_shape e.header (enabled e.rows)) (table_accepts e.header (enabled e.rows)) (table_text e.header (enabled e.rows)) bs rs
 
   pub laws : SchemaLaws (table_shape e.header (enabled e.rows)) (table_accepts e.header (enabled e.rows)) (table_text e.header (enabled e.rows))
   laws = record {
@@ -33,19 +33,10 @@ module _ (e : EnabledRows) where
     texts_differ = table-texts_differ e.header (enabled e.rows);
   }
 
-  -- a text is of the records of the buffer's pieces alone
-  pub one_text : (b : Batch) (ps : List Piece) (read : List Record) → HasPieces (table_shape e.header (enabled e.rows)) (table_accepts e.header (enabled e.rows)) (table_text e.header (enabled e.rows))
-      b.buffer ps
-      → IsText e b.buffer.text read → read ≡ reverse (records ps)
-  one_text b ps read has is =
-      one_reading (table_shape e.header (enabled e.rows)) (table_accepts e.header (enabled e.rows)) (table_text e.header (enabled e.rows)) laws 0 b.buffer.text read (reverse (records ps)) is
-      (reads_back (table_shape e.header (enabled e.rows)) (table_accepts e.header (enabled e.rows)) (table_text e.header (enabled e.rows)) laws b.buffer ps has)
-
-  pub all_accepted : (rs : List Record) (o : ℕ) (text : List ℕ)
-      → BufferText (table_shape e.header (enabled e.rows)) (table_accepts e.header (enabled e.rows)) (table_text e.header (enabled e.rows)) o text rs → All (Accepts e) rs
-  all_accepted [] o text is = All-nil (Accepts e)
-  all_accepted (r ∷ rs) o text (gap, (rest, (stands, more))) =
-      All-cons (Accepts e) r rs stands.is_accepted (all_accepted rs (o + length gap + length (table_text e.header (enabled e.rows) r)) rest more)
+  -- a text is of one list of records alone
+  pub one_text : (b : Batch) (rs read : List Record) → IsText e b.buffer.text rs → IsText e b.buffer.text read → read ≡ rs
+  one_text b rs read has is =
+      one_reading (table_shape e.header (enabled e.rows)) (table_accepts e.header (enabled e.rows)) (table_text e.header (enabled e.rows)) laws 0 b.buffer.text read rs is has
 
   -- the place took writes, which left the metadata's file as it was
   abbrev pub Stays : Tracing → List FileWrite → Type 0
@@ -140,10 +131,10 @@ module _ (e : EnabledRows) where
     brings_next old mid new one bs rs rest total told bytes was next file (inl (first, p)) missed sum same b =
         brings_first old mid new one bs rs p.are_packets.read rest total was next
         (file ∙ ap (λ xs. file_of (cpu_name c) was ++ xs) (p.bytes_are ∙ ap (λ xs. filled_packets false e uuid 0 c [] ++ xs) p.are_packets.bytes_are)) missed sum
-        (all_accepted p.are_packets.read 0 one.buffer.text p.are_packets.is_text) (same p.are_packets.read p.are_packets.is_text) b
+        (all_accepted e p.are_packets.read 0 one.buffer.text p.are_packets.is_text) (same p.are_packets.read p.are_packets.is_text) b
     brings_next old mid new one bs rs rest total told bytes was next file (inr (later, p)) missed sum same b =
         brings old mid new one bs rs p.read rest total was next (file ∙ ap (λ xs. file_of (cpu_name c) was ++ xs) p.bytes_are) missed sum
-        (all_accepted p.read 0 one.buffer.text p.is_text) (same p.read p.is_text) b
+        (all_accepted e p.read 0 one.buffer.text p.is_text) (same p.read p.is_text) b
 
     after : (old mid new : Tracing) (x : Passed) (xs : List Passed) (was : List FileWrite) (rs : List Record) → old.uuid ≡ uuid → length old.missed ≡ 64 → old.written ≡ Some was
         → x.batch.cpu ≡ x.from
@@ -153,8 +144,8 @@ module _ (e : EnabledRows) where
     after old mid new x xs was rs u wide asked own more_brought (inl nothing) false is holds =
         skips old mid new (passed_from c xs) (passed_from c xs) rs rs was was refl (ap (λ (t : Tracing). missed_on t c) nothing.1) refl refl
         (more_brought was rs (ap (λ (t : Tracing). length t.missed) nothing.1 ∙ wide) (ap (λ (t : Tracing). t.written) nothing.1 ∙ asked) holds)
-    after old mid new x xs was rs u wide asked own more_brought (inl nothing) true is (ps, more, has, sum, holds) =
-        let empty : [] ≡ reverse (records ps) = one_text x.batch ps [] has nothing.0.0 in
+    after old mid new x xs was rs u wide asked own more_brought (inl nothing) true is (ps, more, has, many, sum, holds) =
+        let empty : [] ≡ ps = one_text x.batch ps [] has nothing.0.0 in
         skips old mid new (passed_from c xs) (x.batch ∷ passed_from c xs) rs more was was refl (ap (λ (t : Tracing). missed_on t c) nothing.1) (omega (arith, nothing.0.1))
         (sum ∙ ap (λ ys. ys ++ more) (sym empty))
         (more_brought was more (ap (λ (t : Tracing). length t.missed) nothing.1 ∙ wide) (ap (λ (t : Tracing). t.written) nothing.1 ∙ asked) holds)
@@ -165,7 +156,7 @@ module _ (e : EnabledRows) where
         skips old mid new (passed_from c xs) (passed_from c xs) rs rs was (was ++ w ∷ [])
         (file_of_more (cpu_name c) was w ∙ ap (λ ys. file_of (cpu_name c) was ++ ys) other ∙ append-nil (file_of (cpu_name c) was)) (missed_elsewhere e old mid x.batch adds wide c apart) refl refl
         (more_brought (was ++ w ∷ []) rs (stays_wide e old mid x.batch adds wide) (took old.written mid.written was (cpu_name x.batch.cpu) adds.bytes asked adds.written) holds)
-    after old mid new x xs was rs u wide asked own more_brought (inr adds) true is (ps, more, has, sum, holds) =
+    after old mid new x xs was rs u wide asked own more_brought (inr adds) true is (ps, more, has, many, sum, holds) =
         let w : FileWrite = record { name = cpu_name x.batch.cpu; bytes = adds.bytes; refused = None } in
         let here : x.batch.cpu ≡ c = own ∙ eqb-true x.from c is in
         let told : ℕ = slice_index old.told x.batch.cpu in

@@ -2,8 +2,9 @@
 use Rattle.std.proofs.Common.{◌≡◌, ◌<◌, ◌≤◌, ◌+◌, ◌-◌, ◌^◌, ℕ, List, [], ◌∷◌, ◌++◌, ◌⊎◌, inl, inr, Option, Some, None, sym, ap, ◌∙◌, subst, arith, length, map, slice_get}
 use Rattle.std.specs.Option.{option_map_or}
 use Rattle.dspec_trace_reading.specs.Words.{Record, EnabledRows, enabled, table_accepts, table_shape, table_text, start_fault, CallsMade, passed_from, IsBare, FileTells, event_of, layout_of}
-use Rattle.dspec_trace_reading.specs.Words.{HasNumbers, FileWrite, file_of, GetsPacket, Tracing, cpu_name, missed_on, AreKept, ReadsPart, drops_carried, told_on, IsBegunTrace, IsInFolder, missed_in}
-use Rattle.dspec_trace_reading.specs.Words.{IsTracedInto, IsOfTrace, RanBegun, written_in, FolderTrace, ToFolderFault, Begun, Ran, HasOriginNumbers, AreCountable, AreNamesOf, labels_at, ticks_of}
+use Rattle.dspec_trace_reading.specs.Words.{HasNumbers, FileWrite, file_of, GetsPacket, Tracing, cpu_name, missed_on, AreKept, ReadsKept, ReadsPart, drops_carried, told_on, IsBegunTrace, IsInFolder}
+use Rattle.dspec_trace_reading.specs.Words.{missed_in, IsOfTrace, RanBegun, written_in, FolderTrace, ToFolderFault, Begun, Ran, HasOriginNumbers, AreCountable, AreNamesOf, labels_at, ticks_of}
+use Rattle.dspec_trace_reading.specs.Words.{TellsProgram, all_counted, lost_of, lost_records}
 use Rattle.dspec_ctf.specs.declared.form.Form.{Form}
 use Rattle.dspec_ctf.specs.declared.names.Names.{Names}
 use Rattle.dspec_ctf.specs.declared.names.Names.TheVariants.{Numbered, Given}
@@ -15,9 +16,11 @@ use Rattle.dspec_session_core.specs.declared.left.Left.{Left}
 use Rattle.dspec_ctf.specs.declared.form.Form.TheVariants.{AsTaken}
 use Rattle.dspec_ctf_sink.specs.declared.losing.Loss.{Loss}
 use Rattle.dspec_buffer.proofs.OneReading.{one_reading}
+use Rattle.dspec_trace_reading.proofs.Answered.{lost_answered}
 use Rattle.dspec_trace_reading.proofs.Bounded.{bounded}
 use Rattle.dspec_trace_reading.proofs.Folding.{Stays, laws}
-use Rattle.dspec_trace_reading.proofs.Partly.{all_writes, metadata_read, stream_kept}
+use Rattle.dspec_trace_reading.proofs.Partly.{all_writes, metadata_read, metadata_text, stream_kept}
+use Rattle.dspec_trace_reading.proofs.Summing.{most, one_within}
 use Rattle.dspec_trace_reading.proofs.Begun.{first, none_missed}
 use Rattle.dspec_trace_reading.proofs.Whole.{FilesRead, MetadataReads, stream_read, all as whole_writes}
 use Rattle.dspec_trace_reading.proofs.Carried.{Carries, in_both}
@@ -53,7 +56,7 @@ all_numbers origin form e ps (Given ns) told rate named few = record {
 }
 
 module _ (metadata : MetadataReads) (files : FilesRead) {K : Type 0} (gets : K → Batch → K → Type 0) (does : ℕ → CallsMade → CallsMade → Type 0) (e : EnabledRows)
-    (ps : List ProbeNames) (k : Config) (old new : K) (left : List Left) (begun ended : Tracing) (uuid : List ℕ) (is : IsBegunTrace e ps uuid begun)
+    (ps : List ProbeNames) (name : List ℕ) (k : Config) (old new : K) (left : List Left) (begun ended : Tracing) (uuid : List ℕ) (is : IsBegunTrace e ps name uuid begun)
     (c : Carries gets (GetsPacket e) does e k old left new begun ended) (counts : (d : ℕ) → missed_on ended d < 2 ^ 64) (start : start_fault k ≡ None) where
   abbrev all : Stays e ended (first is.origin e is.names ∷ [])
   all = all_writes metadata files is.origin e is.names begun ended is.is c.all c.got
@@ -72,49 +75,74 @@ module _ (metadata : MetadataReads) (files : FilesRead) {K : Type 0} (gets : K �
       (subst (λ ws. FileTells (layout_of e is.names AsTaken) is.origin.uuid d (file_of (cpu_name d) ws) (map (event_of e is.names AsTaken) ((c.kept.page.each d l at).seen))
       (drops_carried (passed_from d c.all))) same read)
 
+  -- no more was missed of a CPU than its report counts
+  missed_few : (d : ℕ) (l : Left) → slice_get left d ≡ Some l → missed_on ended d ≤ l.report.accepted + missed_in l.report
+  missed_few d l at =
+      let few = bounded e d (c.low start d l at) c.all begun ended ((c.kept.page.each d l at).seen) c.got (ap length is.is.missed) c.own (c.holds d l at) in
+      omega (arith, few, none_missed is.origin e is.names begun is.is d, c.missed d l at, c.accepted d l at)
+
+  read : (d : ℕ) (l : Left) → slice_get left d ≡ Some l → l.report.accepted + missed_in l.report + 1 < 2 ^ 64
+      → ReadsKept is.origin.uuid e is.names d (passed_from d c.all) (file_of (cpu_name d) all.0) ended
+  read d l at below =
+      stream_kept metadata files is.origin e is.names begun ended is.is c.all c.got d (c.low start d l at) ((c.kept.page.each d l at).seen) is.long
+      (omega (arith, missed_few d l at, below)) c.own (c.holds d l at)
+
+  -- what a CPU missed beyond the drops that its batches carried is lost
+  abbrev lost_on : ℕ → ℕ
+  lost_on d = missed_on ended d - drops_carried (passed_from d c.all)
+
   part : (d : ℕ) (l : Left) → slice_get left d ≡ Some l → l.report.accepted + missed_in l.report + 1 < 2 ^ 64
-      → ReadsPart is.origin.uuid e is.names d (passed_from d c.kept.passed) (missed_in l.report) (file_of (cpu_name d) all.0)
+      → ReadsPart is.origin.uuid e is.names d (passed_from d c.kept.passed) (missed_in l.report) (lost_on d) (file_of (cpu_name d) all.0)
   part d l at below =
-      let low = c.low start d l at in
-      let few = bounded e d low c.all begun ended ((c.kept.page.each d l at).seen) c.got (ap length is.is.missed) c.own (c.holds d l at) in
-      let small : missed_on ended d + 1 < 2 ^ 64 = omega (arith, few, none_missed is.origin e is.names begun is.is d, c.missed d l at, c.accepted d l at, below) in
-      let r = stream_kept metadata files is.origin e is.names begun ended is.is c.all c.got d low ((c.kept.page.each d l at).seen) is.long small c.own (c.holds d l at) in
+      let r = read d l at below in
       let end = c.ends d l at in
+      let so_many : r.lost ≡ lost_on d = omega (arith, r.counted) in
       record {
         kept = r.kept;
-        lost = r.lost;
-        are_kept = kept_before e (passed_from d c.kept.passed) end.0 r.kept r.lost end.1.bare (subst (λ bs. AreKept e bs r.kept r.lost) end.2 r.are_kept);
+        are_kept =
+            subst (λ n. AreKept e (passed_from d c.kept.passed) r.kept n) so_many
+            (kept_before e (passed_from d c.kept.passed) end.0 r.kept r.lost end.1.bare (subst (λ bs. AreKept e bs r.kept r.lost) end.2 r.are_kept));
         told = told_on ended d;
         tells = r.tells;
-        no_more = omega (arith, r.no_more, r.counted, c.missed d l at);
+        no_more = omega (arith, r.no_more, r.counted, c.missed d l at, so_many);
       }
 
-  pub in_folder : (lost : Option Loss) (written : Option (List FileWrite)) → ended.lost ≡ lost → ended.written ≡ written → IsInFolder gets does e ps k old left new uuid lost written
-  in_folder lost written loses puts = subst (λ u. IsInFolder gets does e ps k old left new u lost written) is.whose (record {
+  told : all_counted left + 1 < 2 ^ 64 → lost_records ended.lost ≡ lost_of lost_on (length left)
+  told small =
+      lost_answered e is.origin is.names begun ended is.is c.all c.got left (most left (c.low start)) c.from c.own missed_few lost_on
+      (λ d l at. let r = read d l at (omega (arith, one_within left d l at, small)) in omega (arith, r.counted)) small
+
+  pub in_folder : (lost : Option Loss) (written : Option (List FileWrite)) → ended.lost ≡ lost → ended.written ≡ written → IsInFolder gets does e ps name k old left new uuid lost written
+  in_folder lost written loses puts = subst (λ u. IsInFolder gets does e ps name k old left new u lost written) is.whose.trace (record {
     kept = c.kept;
     names = is.names;
     named = is.named;
     writes = all.0;
     asked = sym puts ∙ all.1.0;
+    origin = is.origin;
+    whose = subst (λ u. TellsProgram is.origin u name None) (sym is.whose.trace) is.whose;
+    text = metadata_text metadata files is.origin e is.names begun ended is.is c.all c.got;
     metadata = λ few. metadata_read metadata files is.origin e is.names begun ended is.is c.all c.got (all_numbers is.origin AsTaken e ps is.names is.numbers (omega arith) is.named few);
     whole = λ none. whole (loses ∙ none);
+    lost_on = lost_on;
     part = part;
+    told = λ small. ap lost_records (sym loses) ∙ told small;
   })
 
 -- so it is of one that was begun and ran, whatever was answered
 pub read_if : MetadataReads → FilesRead → {K : Type 0} (gets : K → Batch → K → Type 0) (does : ℕ → CallsMade → CallsMade → Type 0) (e : EnabledRows) (ps : List ProbeNames)
-    (k : Config) (old new : K) (begun : Result (Begun Tracing) ToFolderFault) (ran : Result (Ran Tracing) ToFolderFault) (answer : Result FolderTrace ToFolderFault)
+    (name : List ℕ) (k : Config) (old new : K) (begun : Result (Begun Tracing) ToFolderFault) (ran : Result (Ran Tracing) ToFolderFault) (answer : Result FolderTrace ToFolderFault)
     → IfOk ran (λ _. start_fault k ≡ None)
-    → IfOk begun (λ b. IsBegunTrace e ps b.at_end.uuid b.sink.sink) → IfOk ran (λ r. RanBegun (GetsPacket e) gets does e k old begun r new)
-    → IfOk answer (λ t. IfOk ran (λ r. IsOfTrace r t)) → IfOk answer (λ _. IsOk ran) → IfOk answer (λ t. IsTracedInto gets does e ps k old t new)
-read_if metadata files gets does e ps k old new begun ran (Err fault) start is has ends well = record {}
-read_if metadata files gets does e ps k old new begun (Err fault) (Ok t) start is has ends well = absurd (cc (well))
-read_if metadata files gets does e ps k old new (Err fault) (Ok r) (Ok t) start is (b, rest) ends well = let same = rest.0 in absurd (cc (same))
-read_if metadata files gets does e ps k old new (Ok c) (Ok r) (Ok t) start is (b, rest) ends well =
+    → IfOk begun (λ b. IsBegunTrace e ps name b.at_end.uuid b.sink.sink) → IfOk ran (λ r. RanBegun (GetsPacket e) gets does e k old begun r new)
+    → IfOk answer (λ t. IfOk ran (λ r. IsOfTrace r t)) → IfOk answer (λ _. IsOk ran) → IfOk answer (λ t. IsInFolder gets does e ps name k old t.closed new t.uuid t.lost (written_in t.folder))
+read_if metadata files gets does e ps name k old new begun ran (Err fault) start is has ends well = record {}
+read_if metadata files gets does e ps name k old new begun (Err fault) (Ok t) start is has ends well = absurd (cc (well))
+read_if metadata files gets does e ps name k old new (Err fault) (Ok r) (Ok t) start is (b, rest) ends well = let same = rest.0 in absurd (cc (same))
+read_if metadata files gets does e ps name k old new (Ok c) (Ok r) (Ok t) start is (b, rest) ends well =
     let same = rest.0 in
     let one : c ≡ b = cc (same) in
-    let begun = subst (λ (x : Begun Tracing). IsBegunTrace e ps x.at_end.uuid x.sink.sink) one is in
+    let begun = subst (λ (x : Begun Tracing). IsBegunTrace e ps name x.at_end.uuid x.sink.sink) one is in
     let carries = in_both (GetsPacket e) gets does e k old new b.sink r.closed r.sink rest.2 in
-    subst (λ l. IsInFolder gets does e ps k old l new t.uuid t.lost (written_in t.folder)) (sym ends.closed)
-    (subst (λ u. IsInFolder gets does e ps k old r.closed new u t.lost (written_in t.folder)) (sym (ends.uuid ∙ rest.1))
-    (in_folder metadata files gets does e ps k old new r.closed b.sink.sink r.sink b.at_end.uuid begun carries ends.counts start t.lost (written_in t.folder) ends.loses ends.puts))
+    subst (λ l. IsInFolder gets does e ps name k old l new t.uuid t.lost (written_in t.folder)) (sym ends.closed)
+    (subst (λ u. IsInFolder gets does e ps name k old r.closed new u t.lost (written_in t.folder)) (sym (ends.uuid ∙ rest.1))
+    (in_folder metadata files gets does e ps name k old new r.closed b.sink.sink r.sink b.at_end.uuid begun carries ends.counts start t.lost (written_in t.folder) ends.loses ends.puts))

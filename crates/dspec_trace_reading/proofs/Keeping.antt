@@ -1,31 +1,25 @@
 -- What all batches of a session bring to one CPU's file, where some may be lost.
 use Rattle.std.proofs.Common.{◌≡◌, ◌≢◌, ◌<◌, ◌≤◌, ◌+◌, ◌^◌, ◌==◌, ℕ, Bool, true, false, if◌then◌else◌, ◌⊎◌, inl, inr, List, [], ◌∷◌, ◌++◌, Some, None}
-use Rattle.std.proofs.Common.{refl, sym, ap, ◌∙◌, subst, arith, length, length-set, reverse, All, codes, append_assoc, slice_index}
+use Rattle.std.proofs.Common.{refl, sym, ap, ◌∙◌, subst, arith, length, length-set, All, codes, append_assoc, slice_index}
 use Rattle.std.specs.List.{flat_map}
 use Rattle.std.proofs.lemmas.List.{append-nil, get_or-set_same, get_or-set_other}
 use Rattle.std.proofs.lemmas.List.Elements.{All-cons, All-nil}
 use Rattle.std.proofs.lemmas.Bool.{eqb-true, eqb-false}
-use Rattle.dspec_trace_reading.specs.Words.{Record, EnabledRows, enabled, table_shape, table_accepts, table_text, Piece, records, HasPieces, Passed, GotAll, passed_from, filled_packets, Accepts}
-use Rattle.dspec_trace_reading.specs.Words.{IsText, missed_on, FileWrite, brought_to, file_of, AddsPacket, AreNextOf, GetsPacket, IsNothing, LosesPacket, Tracing, cpu_name, AreKept, HaveNumbers}
-use Rattle.dspec_trace_reading.specs.Words.{drops_carried, told_on}
-use Rattle.dspec_buffer.proofs.Walks.{reads_back}
+use Rattle.dspec_trace_reading.specs.Words.{Record, EnabledRows, Passed, GotAll, passed_from, filled_packets, Accepts, IsText, missed_on, FileWrite, brought_to, file_of, AddsPacket, AreNextOf}
+use Rattle.dspec_trace_reading.specs.Words.{GetsPacket, IsNothing, LosesPacket, Tracing, cpu_name, AreKept, HaveNumbers, drops_carried, told_on}
 use Rattle.dspec_ring.specs.declared.batch.Batch.{Batch}
 use Rattle.dspec_ctf_sink.proofs.Written.{brought_elsewhere, brought_whole, file_of_more}
 use Rattle.dspec_trace_reading.proofs.Naming.{names_differ, not_metadata}
 use Rattle.dspec_trace_reading.proofs.Asking.{few, missed_before, missed_elsewhere, missed_here, stays_wide, took}
 use Rattle.dspec_trace_reading.proofs.Losing.{files_stay, others_missed, own_missed, still_wide}
-use Rattle.dspec_trace_reading.proofs.Folding.{Holds, Stays, all_accepted, last_from, laws, one_text}
+use Rattle.dspec_trace_reading.proofs.Folding.{Holds, Stays, last_from, one_text}
+use Rattle.dspec_filing_reading.proofs.Fronts.{all_accepted}
 
 -- what may come of a batch
 abbrev pub Came : EnabledRows → Tracing → Batch → Tracing → Type 0
 Came e old b new = (IsNothing old b × (new ≡ record old { last = None })) ⊎ ((IsNothing old b → ⊥) × (AddsPacket e old b new ⊎ LosesPacket e old b new))
 
 module _ (e : EnabledRows) where
-  -- the text that a buffer has
-  pub has_text : (b : Batch) (ps : List Piece) → HasPieces (table_shape e.header (enabled e.rows)) (table_accepts e.header (enabled e.rows)) (table_text e.header (enabled e.rows)) b.buffer ps
-      → IsText e b.buffer.text (reverse (records ps))
-  has_text b ps has = reads_back (table_shape e.header (enabled e.rows)) (table_accepts e.header (enabled e.rows)) (table_text e.header (enabled e.rows)) (laws e) b.buffer ps has
-
   metadata_next : (old mid new : Tracing) (b : Batch) (was : List FileWrite) → old.written ≡ Some was → ((next : List FileWrite) → mid.written ≡ Some next → Stays e new next)
       → Came e old b mid → Stays e new was
   metadata_next old mid new b was asked stays (inl nothing) = stays was (ap (λ (t : Tracing). t.written) nothing.1 ∙ asked)
@@ -148,7 +142,7 @@ module _ (e : EnabledRows) where
     next_kept old mid new x xs was rs u wide broad asked small own more_kept (inl nothing) false is holds =
         passes old mid new (passed_from c xs) was was refl (ap (λ (t : Tracing). missed_on t c) nothing.1) (ap (λ (t : Tracing). told_on t c) nothing.1)
         (more_kept was rs (ap (λ (t : Tracing). length t.missed) nothing.1 ∙ wide) (ap (λ (t : Tracing). length t.told) nothing.1 ∙ broad) (ap (λ (t : Tracing). t.written) nothing.1 ∙ asked) holds)
-    next_kept old mid new x xs was rs u wide broad asked small own more_kept (inl nothing) true is (ps, more, has, sum, holds) =
+    next_kept old mid new x xs was rs u wide broad asked small own more_kept (inl nothing) true is (ps, more, has, many, sum, holds) =
         let same : missed_on mid c ≡ missed_on old c = ap (λ (t : Tracing). missed_on t c) nothing.1 in
         loses_one old mid new x.batch (passed_from c xs) [] was was nothing.0.0 refl (omega (arith, same, nothing.0.1)) (ap (λ (t : Tracing). told_on t c) nothing.1)
         (more_kept was more (ap (λ (t : Tracing). length t.missed) nothing.1 ∙ wide) (ap (λ (t : Tracing). length t.told) nothing.1 ∙ broad) (ap (λ (t : Tracing). t.written) nothing.1 ∙ asked) holds)
@@ -161,7 +155,7 @@ module _ (e : EnabledRows) where
         (ap (λ (ns : List ℕ). slice_index ns c) adds.told ∙ get_or-set_other old.told x.batch.cpu c adds.total 0 (λ s. apart (sym s)))
         (more_kept (was ++ w ∷ []) rs (stays_wide e old mid x.batch adds wide) (ap length adds.told ∙ length-set old.told x.batch.cpu adds.total ∙ broad)
         (took old.written mid.written was (cpu_name x.batch.cpu) adds.bytes asked adds.written) holds)
-    next_kept old mid new x xs was rs u wide broad asked small own more_kept (inr (some, inl adds)) true is (ps, more, has, sum, holds) =
+    next_kept old mid new x xs was rs u wide broad asked small own more_kept (inr (some, inl adds)) true is (ps, more, has, many, sum, holds) =
         let w : FileWrite = record { name = cpu_name x.batch.cpu; bytes = adds.bytes; refused = None } in
         let here : x.batch.cpu ≡ c = own ∙ eqb-true x.from c is in
         let there : x.batch.cpu < length old.told = omega (arith, low, here, broad) in
@@ -181,14 +175,14 @@ module _ (e : EnabledRows) where
         passes old mid new (passed_from c xs) was kept.0 (kept.1.1 (cpu_name c)) (others_missed e old mid x.batch loses wide c apart)
         (ap (λ (ns : List ℕ). slice_index ns c) loses.counted.told)
         (more_kept kept.0 rs (still_wide e old mid x.batch loses wide) (ap length loses.counted.told ∙ broad) kept.1.0 holds)
-    next_kept old mid new x xs was rs u wide broad asked small own more_kept (inr (some, inr loses)) true is (ps, more, has, sum, holds) =
+    next_kept old mid new x xs was rs u wide broad asked small own more_kept (inr (some, inr loses)) true is (ps, more, has, many, sum, holds) =
         let kept = files_stay e old mid x.batch was asked loses in
         let here : x.batch.cpu ≡ c = own ∙ eqb-true x.from c is in
         let later : Kept mid new (passed_from c xs) kept.0 =
         more_kept kept.0 more (still_wide e old mid x.batch loses wide) (ap length loses.counted.told ∙ broad) kept.1.0 holds in
         let below : missed_on mid c + 1 < 2 ^ 64 = omega (arith, small, later.counted) in
-        loses_one old mid new x.batch (passed_from c xs) (reverse (records ps)) was kept.0 (has_text x.batch ps has) (kept.1.1 (cpu_name c))
-        (own_missed e old mid x.batch loses wide c low here below (reverse (records ps)) (has_text x.batch ps has) (λ qs text. one_text e x.batch ps qs has text))
+        loses_one old mid new x.batch (passed_from c xs) ps was kept.0 has (kept.1.1 (cpu_name c))
+        (own_missed e old mid x.batch loses wide c low here below ps has (λ qs text. one_text e x.batch ps qs has text))
         (ap (λ (ns : List ℕ). slice_index ns c) loses.counted.told) later
 
     pub all_kept : (bs : List Passed) (old new : Tracing) (was : List FileWrite) (rs : List Record) → GotAll (GetsPacket e) old bs new → old.uuid ≡ uuid → length old.missed ≡ 64

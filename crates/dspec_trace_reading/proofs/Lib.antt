@@ -1,3 +1,6 @@
+mod Adding
+mod Answered
+mod Apart
 mod Asking
 mod Begun
 mod Bounded
@@ -5,7 +8,6 @@ mod Carried
 mod Counted
 mod Filing
 mod Folding
-mod Growing
 mod InFolder
 mod InTimedFolder
 mod Keeping
@@ -16,9 +18,10 @@ mod Partly
 mod Read
 mod RowNaming
 mod RanInto
-mod Sharing
+mod Summing
 mod Taking
 mod Through
+mod TimedAnswered
 mod TimedAsking
 mod TimedBegun
 mod TimedBounded

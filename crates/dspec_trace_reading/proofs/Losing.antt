@@ -46,7 +46,7 @@ module _ (e : EnabledRows) where
     told_stays = loses.counted.told
 
     -- what its CPU missed is counted as far as 64 bits go
-    counted_here : (c : ℕ) → c < 64 → b.cpu ≡ c → missed_on new c ≡ capped (missed_on old c + (b.drops + loses.counted.records))
+    pub counted_here : (c : ℕ) → c < 64 → b.cpu ≡ c → missed_on new c ≡ capped (missed_on old c + (b.drops + loses.counted.records))
     counted_here c low same =
         let there : b.cpu < length old.missed = omega (arith, low, same, wide) in
         subst (λ n. slice_index new.missed n ≡ capped (slice_index old.missed n + (b.drops + loses.counted.records))) same

@@ -2,8 +2,8 @@
 use Rattle.std.proofs.Common.{◌≡◌, ◌<◌, ◌≤◌, ◌+◌, ◌^◌, ℕ, List, [], ◌∷◌, ◌++◌, false, Some, sym, ap, ◌∙◌, subst, arith, length, map, slice_get, All, codes}
 use Rattle.std.specs.List.{flat_map}
 use Rattle.std.proofs.lemmas.List.Elements.{All-head, All-tail, All-weaker}
-use Rattle.dspec_trace_reading.specs.Words.{Record, EnabledRows, Passed, GotAll, passed_from, filled_packets, Accepts, FileTells, last_missed, event_of, layout_of, read_metadata, HasNumbers}
-use Rattle.dspec_trace_reading.specs.Words.{missed_on, file_of, GetsPacket, IsBegun, Tracing, cpu_name, HaveNumbers, ReadsAllKept, ReadsKept, told_on}
+use Rattle.dspec_trace_reading.specs.Words.{Record, EnabledRows, Passed, GotAll, passed_from, filled_packets, origin_text, Accepts, FileTells, last_missed, event_of, layout_of, read_metadata}
+use Rattle.dspec_trace_reading.specs.Words.{HasNumbers, missed_on, file_of, GetsPacket, IsBegun, Tracing, cpu_name, HaveNumbers, ReadsAllKept, ReadsKept, told_on}
 use Rattle.dspec_session_core.specs.declared.left.Left.{Left}
 use Rattle.dspec_ctf.specs.declared.form.Form.TheVariants.{AsTaken}
 use Rattle.dspec_ctf.specs.declared.names.Names.{Names}
@@ -62,8 +62,11 @@ module _ (metadata_law : MetadataReads) (files_law : FilesRead) (origin : Origin
               (All-weaker (Told e origin.uuid c low ended) (λ (p : ℕ × List Record). p.0 ≤ missed_on ended c) (λ p h. h.0) kept.packets kept.each));
         }
 
+  pub metadata_text : file_of (codes "metadata") all_writes.0 ≡ origin_text origin AsTaken e names
+  metadata_text = all_writes.1.1 ∙ metadata_is origin e names
+
   pub metadata_read : HasNumbers origin AsTaken e names → read_metadata (file_of (codes "metadata") all_writes.0) ≡ Some (layout_of e names AsTaken)
-  metadata_read numbers = ap read_metadata (all_writes.1.1 ∙ metadata_is origin e names) ∙ metadata_law origin AsTaken e names is.allowed numbers
+  metadata_read numbers = ap read_metadata metadata_text ∙ metadata_law origin AsTaken e names is.allowed numbers
 
   pub reads_kept : (left : List Left) (seen : (c : ℕ) (l : Left) → slice_get left c ≡ Some l → List Record) → length origin.uuid ≡ 16 → HasNumbers origin AsTaken e names
       → ((c : ℕ) (l : Left) → slice_get left c ≡ Some l → missed_on ended c + 1 < 2 ^ 64) → HaveNumbers passed

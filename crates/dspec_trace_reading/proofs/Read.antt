@@ -5,7 +5,7 @@ use Rattle.dspec_trace_reading.specs.Words.{TimedIsRead, TimedKeptIsRead, Traced
 use Rattle.dspec_deeds.specs.declared.config.Config.{Config}
 use Rattle.dspec_ring.specs.declared.batch.Batch.{Batch}
 use Rattle.dspec_session_core.specs.declared.left.Left.{Left}
-use Rattle.dspec_trace_reading.proofs.Filing.{FilesLaws}
+use Rattle.dspec_filing_reading.proofs.FilesLaws.{FilesLaws}
 use Rattle.dspec_trace_reading.proofs.Folding.{Holds}
 use Rattle.dspec_trace_reading.proofs.OwnNumbers.{Numbered, have_numbers, is_there, taken_numbered}
 use Rattle.dspec_trace_reading.proofs.Partly.{reads_kept}

@@ -1,5 +1,5 @@
 -- A folder by time in which the metadata was written, and no packet yet.
-use Rattle.std.proofs.Common.{◌≡◌, ◌<◌, ◌≤◌, ◌^◌, ◌==◌, ◌∙◌, ℕ, zero, suc, Bool, true, false, cond, get_or, Option, List, [], ◌∷◌, Some, None, refl, sym, ap, subst, arith}
+use Rattle.std.proofs.Common.{◌≡◌, ◌<◌, ◌≤◌, ◌^◌, ◌==◌, ◌∙◌, ℕ, zero, suc, get_or, Option, List, [], ◌∷◌, Some, None, refl, sym, ap, subst, arith}
 use Rattle.std.proofs.Common.{length, codes, replicate, slice_index}
 use Rattle.std.proofs.lemmas.List.{append-nil}
 use Rattle.std.proofs.lemmas.List.Elements.{All-nil}
@@ -11,6 +11,7 @@ use Rattle.dspec_ctf.specs.declared.form.Form.TheVariants.{ByTime}
 use Rattle.dspec_ctf.specs.declared.names.Names.{Names}
 use Rattle.dspec_ctf.specs.declared.origin.Origin.{Origin}
 use Rattle.dspec_ctf_sink.proofs.Written.{brought_elsewhere, brought_whole}
+use Rattle.dspec_filing_reading.proofs.FilesLaws.{told_same}
 use Rattle.dspec_trace_reading.proofs.Asking.{took}
 use Rattle.dspec_trace_reading.proofs.Begun.{all_zero}
 use Rattle.dspec_trace_reading.proofs.RowNaming.{row_not_metadata}
@@ -21,10 +22,6 @@ all_empty : (n i : ℕ) (d : List ℕ) → get_or (replicate n d) i d ≡ d
 all_empty zero i d = refl
 all_empty (suc n) zero d = refl
 all_empty (suc n) (suc i) d = all_empty n i d
-
-told_same : (b : Bool) (n : ℕ) → cond b n n ≡ n
-told_same true n = refl
-told_same false n = refl
 
 first_none : {A : Type 0} (o later : Option A) → earlier o later ≡ None → o ≡ None
 first_none None later e = refl

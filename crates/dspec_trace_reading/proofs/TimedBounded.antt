@@ -2,10 +2,9 @@
 use Rattle.std.proofs.Common.{◌≡◌, ◌≢◌, ◌<◌, ◌≤◌, ◌+◌, ◌^◌, ◌==◌, ℕ, Bool, true, false, if◌then◌else◌, List, [], ◌∷◌, refl, sym, ap, ◌∙◌, subst, arith, length, reverse}
 use Rattle.std.proofs.lemmas.List.{length-append}
 use Rattle.std.proofs.lemmas.Bool.{eqb-true, eqb-false}
-use Rattle.dspec_trace_reading.specs.Words.{Record, EnabledRows, records, Passed, GotAll, passed_from, GetsRuns, TimedTracing, HaveNumbers, drops_carried, missed_by_time}
+use Rattle.dspec_trace_reading.specs.Words.{Record, EnabledRows, Passed, GotAll, passed_from, GetsRuns, TimedTracing, HaveNumbers, drops_carried, missed_by_time}
 use Rattle.dspec_ring.specs.declared.batch.Batch.{Batch}
 use Rattle.dspec_trace_reading.proofs.Folding.{Holds, one_text}
-use Rattle.dspec_trace_reading.proofs.Keeping.{has_text}
 use Rattle.dspec_trace_reading.proofs.TimedLosing.{CameByTime, leaves, own_at_most, own_rises}
 
 module _ (e : EnabledRows) (c : ℕ) (low : c < 64) where
@@ -30,12 +29,12 @@ module _ (e : EnabledRows) (c : ℕ) (low : c < 64) where
   next_bounded old mid new x xs rs wide own came later false is holds =
       let apart : x.batch.cpu ≢ c = λ s. eqb-false x.from c is (sym own ∙ s) in
       omega (arith, (leaves e old mid x.batch came).missed c apart, later rs holds)
-  next_bounded old mid new x xs rs wide own came later true is (ps, more, has, sum, holds) =
+  next_bounded old mid new x xs rs wide own came later true is (ps, more, has, many, sum, holds) =
       let here : x.batch.cpu ≡ c = own ∙ eqb-true x.from c is in
-      let all : length rs ≡ length (reverse (records ps)) + length more = ap length sum ∙ length-append (reverse (records ps)) more in
-      let few : missed_by_time mid c ≤ missed_by_time old c + x.batch.drops + length (reverse (records ps)) =
-      subst (λ n. n < 64 → missed_by_time mid n ≤ missed_by_time old n + x.batch.drops + length (reverse (records ps))) here
-      (λ few. own_at_most e x.batch (reverse (records ps)) (has_text e x.batch ps has) (λ qs text. one_text e x.batch ps qs has text) old mid few wide came) low in
+      let all : length rs ≡ length ps + length more = ap length sum ∙ length-append ps more in
+      let few : missed_by_time mid c ≤ missed_by_time old c + x.batch.drops + length ps =
+      subst (λ n. n < 64 → missed_by_time mid n ≤ missed_by_time old n + x.batch.drops + length ps) here
+      (λ few. own_at_most e x.batch ps has (λ qs text. one_text e x.batch ps qs has text) old mid few wide came) low in
       omega (arith, few, all, later more holds)
 
   pub bounded : (bs : List Passed) (old new : TimedTracing) (rs : List Record) → GotAll (GetsRuns e) old bs new → length old.missed ≡ 64 → HaveNumbers bs → Holds e (passed_from c bs) rs

@@ -10,10 +10,11 @@ use Rattle.dspec_ctf.specs.declared.names.Names.{Names}
 use Rattle.dspec_ctf_sink.specs.declared.fault.FolderFault.{FolderFault}
 use Rattle.dspec_ctf_sink.specs.declared.losing.Loss.{Loss}
 use Rattle.dspec_ctf_sink.proofs.Written.{file_of_more}
-use Rattle.dspec_trace_reading.proofs.Filing.{Filed, FilesLaws, add, add_to, still_filed, tell}
-use Rattle.dspec_trace_reading.proofs.Folding.{all_accepted}
+use Rattle.dspec_trace_reading.proofs.Filing.{Filed, add, add_to, still_filed, tell}
+use Rattle.dspec_filing_reading.proofs.FilesLaws.{FilesLaws}
+use Rattle.dspec_filing_reading.proofs.Fronts.{all_accepted}
 use Rattle.dspec_trace_reading.proofs.Losing.{refused_there}
-use Rattle.dspec_trace_reading.proofs.Sharing.{FilesHaveAll, RunsHaveAll, lasts_after, stamps_low}
+use Rattle.dspec_filing_reading.proofs.Sharing.{FilesHaveAll, RunsHaveAll, lasts_after, stamps_low}
 use Rattle.dspec_trace_reading.proofs.TimedAsking.{lasts_now, lasts_of, lasts_then, told_now, told_then}
 
 -- a place was asked for nothing that it took: every file stays

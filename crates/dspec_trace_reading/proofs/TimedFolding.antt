@@ -9,7 +9,8 @@ use Rattle.dspec_record.specs.declared.header.Header.TheVariants as header
 use Rattle.dspec_ring.specs.declared.batch.Batch.{Batch}
 use Rattle.dspec_ctf.specs.declared.form.Form.TheVariants.{ByTime}
 use Rattle.dspec_ctf.specs.declared.names.Names.{Names}
-use Rattle.dspec_trace_reading.proofs.Filing.{Filed, FilesLaws}
+use Rattle.dspec_trace_reading.proofs.Filing.{Filed}
+use Rattle.dspec_filing_reading.proofs.FilesLaws.{FilesLaws}
 use Rattle.dspec_trace_reading.proofs.Folding.{Holds, one_text}
 use Rattle.dspec_trace_reading.proofs.RowNaming.{cpus_differ, row_not_metadata}
 use Rattle.dspec_trace_reading.proofs.TimedAsking.{asked_then, came, few, lasts_elsewhere, lasts_of, missed_before, missed_elsewhere, missed_here, none_before}
@@ -113,7 +114,7 @@ module _ (laws : FilesLaws) (uuid : List ℕ) (e : EnabledRows) (names : Names) 
       → Holds e (if q then x.batch ∷ passed_from c xs else passed_from c xs) rest → Stands uuid e names hertz c new (stream ++ rest)
   one old mid new x xs adds stream rest u wide own small on s false is holds =
       on stream rest holds (passes old mid x.batch adds stream wide (λ same. eqb-false x.from c is (sym own ∙ same)) s)
-  one old mid new x xs adds stream rest u wide own small on s true is (ps, more, has, sum, holds) =
+  one old mid new x xs adds stream rest u wide own small on s true is (ps, more, has, many, sum, holds) =
       let read : List Record = adds.added.read in
       let whole : rest ≡ read ++ more = sum ∙ ap (λ ys. ys ++ more) (sym (one_text e x.batch ps read has adds.added.is_text)) in
       subst (λ rs. Stands uuid e names hertz c new (stream ++ rs)) (sym whole)

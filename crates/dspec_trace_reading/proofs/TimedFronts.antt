@@ -6,7 +6,8 @@ use Rattle.dspec_trace_reading.specs.Words.{Record, EnabledRows, IsText, AddsBat
 use Rattle.dspec_record.specs.declared.header.Header.TheVariants as header
 use Rattle.dspec_ring.specs.declared.batch.Batch.{Batch}
 use Rattle.dspec_ctf.specs.declared.names.Names.{Names}
-use Rattle.dspec_trace_reading.proofs.Filing.{Filed, FilesLaws}
+use Rattle.dspec_trace_reading.proofs.Filing.{Filed}
+use Rattle.dspec_filing_reading.proofs.FilesLaws.{FilesLaws}
 use Rattle.dspec_trace_reading.proofs.TimedAsking.{lasts_of, missed_before, missed_here, missed_then, told_here, told_now, told_then}
 use Rattle.dspec_trace_reading.proofs.TimedFiles.{HasFiled, all_added, filed_now, filed_then, front_added, none_added}
 use Rattle.dspec_trace_reading.proofs.TimedLosing.{CameByTime, exact, exactly}

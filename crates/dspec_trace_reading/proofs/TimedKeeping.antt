@@ -1,16 +1,15 @@
 -- What all batches of a session bring to one CPU's files by time, where some of them may be lost.
 use Rattle.std.proofs.Common.{◌≡◌, ◌≢◌, ◌<◌, ◌≤◌, ◌+◌, ◌^◌, ◌==◌, ℕ, Bool, true, false, if◌then◌else◌, List, [], ◌∷◌, ◌++◌, Some, refl, sym, ap, ◌∙◌, subst, arith}
-use Rattle.std.proofs.Common.{length, reverse, codes, append_assoc, slice_index}
+use Rattle.std.proofs.Common.{length, codes, append_assoc, slice_index}
 use Rattle.std.proofs.lemmas.List.{append-nil}
 use Rattle.std.proofs.lemmas.Bool.{eqb-true, eqb-false}
-use Rattle.dspec_trace_reading.specs.Words.{Record, EnabledRows, records, Passed, GotAll, passed_from, GetsRuns, TimedTracing, row_name, FileWrite, HaveNumbers, drops_carried, AreKeptInFront}
-use Rattle.dspec_trace_reading.specs.Words.{missed_by_time}
+use Rattle.dspec_trace_reading.specs.Words.{Record, EnabledRows, Passed, GotAll, passed_from, GetsRuns, TimedTracing, row_name, FileWrite, HaveNumbers, drops_carried, AreKeptInFront, missed_by_time}
 use Rattle.dspec_record.specs.declared.header.Header.TheVariants as header
 use Rattle.dspec_ring.specs.declared.batch.Batch.{Batch}
 use Rattle.dspec_ctf.specs.declared.names.Names.{Names}
-use Rattle.dspec_trace_reading.proofs.Filing.{Filed, FilesLaws, still_filed}
+use Rattle.dspec_trace_reading.proofs.Filing.{Filed, still_filed}
+use Rattle.dspec_filing_reading.proofs.FilesLaws.{FilesLaws}
 use Rattle.dspec_trace_reading.proofs.Folding.{Holds, one_text}
-use Rattle.dspec_trace_reading.proofs.Keeping.{has_text}
 use Rattle.dspec_trace_reading.proofs.RowNaming.{cpus_differ, row_not_metadata}
 use Rattle.dspec_trace_reading.proofs.TimedAsking.{lasts_of}
 use Rattle.dspec_trace_reading.proofs.TimedBounded.{rises}
@@ -54,10 +53,10 @@ module _ (laws : FilesLaws) (uuid : List ℕ) (e : EnabledRows) (names : Names) 
   -- one of its own
   own_kept : (old new : TimedTracing) (b : Batch) (rs stream : List Record) → Holds e (b ∷ []) rs → old.uuid ≡ uuid → b.cpu ≡ c → length old.missed ≡ 64
       → missed_by_time new c + 1 < 2 ^ 64 → CameByTime e old b new → StandsInPart uuid e names hertz c old stream → KeepsFront uuid e names hertz c old b new stream
-  own_kept old new b rs stream (ps, more, has, sum, holds) u here wide small came s =
+  own_kept old new b rs stream (ps, more, has, many, sum, holds) u here wide small came s =
       subst (λ n. n < 64 → missed_by_time new n + 1 < 2 ^ 64 → StandsInPart uuid e names hertz n old stream → KeepsFront uuid e names hertz n old b new stream) here
       (subst (λ id. b.cpu < 64 → missed_by_time new b.cpu + 1 < 2 ^ 64 → StandsInPart id e names hertz b.cpu old stream → KeepsFront id e names hertz b.cpu old b new stream) u
-      (λ few fits so. keeps laws e names hertz stamped b old new (ap length u ∙ long) few wide fits (reverse (records ps)) (has_text e b ps has) (λ qs text. one_text e b ps qs has text) stream so
+      (λ few fits so. keeps laws e names hertz stamped b old new (ap length u ∙ long) few wide fits ps has (λ qs text. one_text e b ps qs has text) stream so
       came))
       low small s
 
@@ -71,8 +70,8 @@ module _ (laws : FilesLaws) (uuid : List ℕ) (e : EnabledRows) (names : Names) 
       let l = leaves e old mid x.batch came in
       let k = on stream rest holds (passes old mid x.batch stream l wide apart s) in
       record { kept = k.kept; lost = k.lost; are_kept = k.are_kept; counted = omega (arith, k.counted, l.missed c apart); stands = k.stands }
-  next_kept old mid new x xs stream rest came u wide own small on s true is (ps, more, has, sum, holds) =
-      let o = own_kept old mid x.batch (reverse (records ps)) stream (ps, [], has, sym (append-nil (reverse (records ps))), refl) u (own ∙ eqb-true x.from c is) wide small came s in
+  next_kept old mid new x xs stream rest came u wide own small on s true is (ps, more, has, many, sum, holds) =
+      let o = own_kept old mid x.batch ps stream (ps, [], has, many, sym (append-nil ps), refl) u (own ∙ eqb-true x.from c is) wide small came s in
       let k = on (stream ++ o.front) more holds o.stands in
       record {
         kept = o.front ++ k.kept;

@@ -1,12 +1,13 @@
 -- A folder that was written by time, of which some may be lost, and what is read of it.
 use Rattle.std.proofs.Common.{◌≡◌, ◌<◌, ◌+◌, ◌^◌, ℕ, List, [], ◌∷◌, Some, sym, ap, ◌∙◌, subst, arith, length, map, codes, slice_get}
-use Rattle.dspec_trace_reading.specs.Words.{Record, EnabledRows, Passed, GotAll, passed_from, of_file, told_by, FileTells, event_of, layout_of, read_metadata, HasNumbers, GetsRuns, IsTimedBegun}
-use Rattle.dspec_trace_reading.specs.Words.{TimedTracing, row_name, file_of, HaveNumbers, ReadsAllKeptByTime, ReadsKeptByTime, missed_by_time, told_by_time}
+use Rattle.dspec_trace_reading.specs.Words.{Record, EnabledRows, Passed, GotAll, passed_from, origin_text, of_file, told_by, FileTells, event_of, layout_of, read_metadata, HasNumbers, GetsRuns}
+use Rattle.dspec_trace_reading.specs.Words.{IsTimedBegun, TimedTracing, row_name, file_of, HaveNumbers, ReadsAllKeptByTime, ReadsKeptByTime, missed_by_time, told_by_time}
 use Rattle.dspec_session_core.specs.declared.left.Left.{Left}
 use Rattle.dspec_ctf.specs.declared.form.Form.TheVariants.{ByTime}
 use Rattle.dspec_ctf.specs.declared.names.Names.{Names}
 use Rattle.dspec_ctf.specs.declared.origin.Origin.{Origin}
-use Rattle.dspec_trace_reading.proofs.Filing.{Filed, FilesLaws}
+use Rattle.dspec_trace_reading.proofs.Filing.{Filed}
+use Rattle.dspec_filing_reading.proofs.FilesLaws.{FilesLaws}
 use Rattle.dspec_trace_reading.proofs.Folding.{Holds}
 use Rattle.dspec_trace_reading.proofs.TimedAsking.{lasts_of}
 use Rattle.dspec_trace_reading.proofs.TimedBegun.{asked, begins, metadata_is, none_missed, stamped, timed_first}
@@ -19,8 +20,11 @@ module _ (metadata_law : MetadataReads) (laws : FilesLaws) (origin : Origin) (he
   pub all_writes : TimedStays e ended (timed_first origin hertz e names ∷ [])
   all_writes = metadata_kept e passed begun ended (timed_first origin hertz e names ∷ []) got (asked origin hertz e names begun is)
 
+  pub metadata_text : file_of (codes "metadata") all_writes.0 ≡ origin_text origin (ByTime hertz) e names
+  metadata_text = all_writes.1.1 ∙ metadata_is origin hertz e names
+
   pub metadata_read : HasNumbers origin (ByTime hertz) e names → read_metadata (file_of (codes "metadata") all_writes.0) ≡ Some (layout_of e names (ByTime hertz))
-  metadata_read numbers = ap read_metadata (all_writes.1.1 ∙ metadata_is origin hertz e names) ∙ metadata_law origin (ByTime hertz) e names is.allowed numbers
+  metadata_read numbers = ap read_metadata metadata_text ∙ metadata_law origin (ByTime hertz) e names is.allowed numbers
 
   module _ (c : ℕ) (low : c < 64) (rs : List Record) (long : length origin.uuid ≡ 16) (small : missed_by_time ended c + 1 < 2 ^ 64) (own : HaveNumbers passed)
       (hold : Holds e (passed_from c passed) rs) where

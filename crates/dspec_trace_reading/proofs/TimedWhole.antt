@@ -6,7 +6,7 @@ use Rattle.dspec_session_core.specs.declared.left.Left.{Left}
 use Rattle.dspec_ctf.specs.declared.form.Form.TheVariants.{ByTime}
 use Rattle.dspec_ctf.specs.declared.names.Names.{Names}
 use Rattle.dspec_ctf.specs.declared.origin.Origin.{Origin}
-use Rattle.dspec_trace_reading.proofs.Filing.{FilesLaws}
+use Rattle.dspec_filing_reading.proofs.FilesLaws.{FilesLaws}
 use Rattle.dspec_trace_reading.proofs.Folding.{Holds}
 use Rattle.dspec_trace_reading.proofs.TimedBegun.{asked, begins, metadata_is, none_missed, stamped, timed_first}
 use Rattle.dspec_trace_reading.proofs.TimedFolding.{Stands, TimedStays, counted, folded, metadata_stays}

@@ -1,9 +1,7 @@
 -- What the end of a trace tells of each CPU comes behind the batches that its session passed on.
 use Rattle.std.proofs.Common.{◌≡◌, ◌<◌, ◌+◌, ◌==◌, ℕ, zero, suc, true, false, List, [], ◌∷◌, ◌++◌, Some, refl, ap, subst, arith, slice_get}
 use Rattle.std.proofs.lemmas.Bool.Decides.{nat_tests}
-use Rattle.std.proofs.lemmas.List.Elements.{All-nil}
-use Rattle.std.specs.Prelude.{IsTrue}
-use Rattle.dspec_trace_reading.specs.Words.{Record, EnabledRows, enabled, table_accepts, GotAll, Passed, passed_from, GetsTellings, IsBare, IsTelling, untold, HaveNumbers, drops_carried}
+use Rattle.dspec_trace_reading.specs.Words.{Record, EnabledRows, GotAll, Passed, passed_from, GetsTellings, IsBare, IsTelling, untold, HaveNumbers, drops_carried}
 use Rattle.dspec_ring.specs.declared.batch.Batch.{Batch}
 use Rattle.dspec_session_core.specs.declared.left.Left.{Left}
 use Rattle.dspec_trace_reading.proofs.Folding.{Holds}
@@ -54,15 +52,5 @@ drops_more (x ∷ bs) b = let more = drops_more bs b in omega arith
 
 -- a batch without records, behind others, leaves the records that they hold
 pub hold_more : (e : EnabledRows) (bs : List Batch) (b : Batch) (rs : List Record) → Holds e bs rs → IsBare b → Holds e (bs ++ b ∷ []) rs
-hold_more e [] b rs none bare = (
-  [],
-  [],
-  record {
-    all_accepted = All-nil (λ r. IsTrue (table_accepts e.header (enabled e.rows) r));
-    text_is = bare.0;
-    count_is = bare.1;
-  },
-  none,
-  refl,
-)
-hold_more e (x ∷ bs) b rs (ps, rest, has, sum, more) bare = (ps, rest, has, sum, hold_more e bs b rest more bare)
+hold_more e [] b rs none bare = ([], [], bare.0, bare.1, none, refl)
+hold_more e (x ∷ bs) b rs (ps, rest, has, many, sum, more) bare = (ps, rest, has, many, sum, hold_more e bs b rest more bare)

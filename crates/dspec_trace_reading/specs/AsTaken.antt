@@ -57,10 +57,9 @@ pub record ReadsAllKept (uuid : List ℕ) (e : EnabledRows) (names : Names) (lef
   pub metadata : read_metadata (file_of (codes "metadata") writes) ≡ Some (layout_of e names AsTaken)
   pub streams : (c : ℕ) (l : Left) → c < 64 → slice_get left c ≡ Some l → ReadsKept uuid e names c (batches c) (file_of (cpu_name c) writes) ended
 
--- The same of a CPU that has a report, by which it missed so many: its file tells as missed no more than these and the records that are lost.
-pub record ReadsPart (uuid : List ℕ) (e : EnabledRows) (names : Names) (c : ℕ) (batches : List Batch) (missed : ℕ) (bytes : List ℕ) : Type 0 where
+-- The same of a CPU that has a report, by which it missed so many, and of which so many are lost: its file tells as missed no more than both.
+pub record ReadsPart (uuid : List ℕ) (e : EnabledRows) (names : Names) (c : ℕ) (batches : List Batch) (missed lost : ℕ) (bytes : List ℕ) : Type 0 where
   pub kept : List Record
-  pub lost : ℕ
   pub are_kept : AreKept e batches kept lost
   pub told : ℕ
   pub tells : FileTells (layout_of e names AsTaken) uuid c bytes (map (event_of e names AsTaken) kept) told

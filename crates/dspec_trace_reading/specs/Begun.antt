@@ -1,5 +1,5 @@
 -- Serves proofs. A trace that is begun in a folder, and why none is.
-use Rattle.std.specs.Prelude.{ℕ, ◌≡◌, ◌≢◌, ◌<◌, ◌^◌, List, [], All, length, unwrap_or, Some, None}
+use Rattle.std.specs.Prelude.{ℕ, ◌≡◌, ◌≢◌, ◌<◌, ◌^◌, List, [], All, length, unwrap_or, Option, Some, None}
 use Rattle.std.specs.Option.{option_map_or}
 use Rattle.dspec_trace_reading.specs.Words.Outside.{EnabledRows, start_fault, IsTimedBegun, TimedTracing, IsBegun, Tracing}
 use Rattle.dspec_deeds.specs.declared.config.Config.{Config}
@@ -7,8 +7,9 @@ use Rattle.dspec_deeds.specs.declared.config.StartFault.{StartFault}
 use Rattle.dspec_deeds.specs.declared.config.StartFault.TheVariants as start
 use Rattle.dspec_probe.specs.declared.probes.ProbeNames.{ProbeNames}
 use Rattle.dspec_ctf.specs.declared.names.Names.{Names}
+use Rattle.dspec_ctf.specs.declared.origin.ClockStart.{ClockStart}
 use Rattle.dspec_ctf.specs.declared.origin.Origin.{Origin}
-use Rattle.dspec_trace_reading.specs.Folders.{AreNamesOf}
+use Rattle.dspec_trace_reading.specs.Folders.{AreNamesOf, TellsProgram}
 use Rattle.dspec_trace_reading.specs.declared.fault.ToFolderFault.{ToFolderFault}
 use Rattle.dspec_trace_reading.specs.declared.fault.ToFolderFault.TheVariants.{Start, Folder}
 
@@ -20,22 +21,22 @@ pub record HasOriginNumbers (origin : Origin) : Type 0 where
   pub seconds : option_map_or (λ s. s.seconds) origin.start 0 < 2 ^ 64
   pub ticks : option_map_or (λ s. s.ticks) origin.start 0 < 2 ^ 64
 
--- the metadata of these probes was written into a folder that was asked for nothing before, and no packet yet
-pub record IsBegunTrace (e : EnabledRows) (ps : List ProbeNames) (uuid : List ℕ) (begun : Tracing) : Type 0 where
+-- the metadata of these probes, and of a program of this name, was written into a folder that was asked for nothing before, and no packet yet
+pub record IsBegunTrace (e : EnabledRows) (ps : List ProbeNames) (name uuid : List ℕ) (begun : Tracing) : Type 0 where
   pub origin : Origin
   pub names : Names
   pub named : AreNamesOf ps names
-  pub whose : origin.uuid ≡ uuid
+  pub whose : TellsProgram origin uuid name None
   pub is : IsBegun origin e names (Some []) begun
   pub long : length origin.uuid ≡ 16
   pub numbers : HasOriginNumbers origin
 
--- the same of a folder by time
-pub record IsBegunByTime (e : EnabledRows) (ps : List ProbeNames) (hertz : ℕ) (uuid : List ℕ) (begun : TimedTracing) : Type 0 where
+-- the same of a folder by time, with a clock that began so
+pub record IsBegunByTime (e : EnabledRows) (ps : List ProbeNames) (name : List ℕ) (hertz : ℕ) (start : Option ClockStart) (uuid : List ℕ) (begun : TimedTracing) : Type 0 where
   pub origin : Origin
   pub names : Names
   pub named : AreNamesOf ps names
-  pub whose : origin.uuid ≡ uuid
+  pub whose : TellsProgram origin uuid name start
   pub is : IsTimedBegun origin hertz e names (Some []) begun
   pub long : length origin.uuid ≡ 16
   pub numbers : HasOriginNumbers origin

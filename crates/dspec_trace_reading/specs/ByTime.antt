@@ -61,12 +61,11 @@ pub record ReadsAllKeptByTime (uuid : List ℕ) (e : EnabledRows) (names : Names
   pub metadata : read_metadata (file_of (codes "metadata") writes) ≡ Some (layout_of e names (ByTime hertz))
   pub streams : (c : ℕ) (l : Left) → c < 64 → slice_get left c ≡ Some l → ReadsKeptByTime uuid e names hertz c (batches c) writes ended
 
--- A CPU's files, of which something may be lost: each record that is kept of its batches went to one of 64 files. What these writes leave of a file is read
--- as the events of exactly those of them that went to it, in order, of this trace and this CPU; and the first file alone tells what was missed: no more than
--- the CPU's report counts and the records that are lost.
-pub record ReadsPartByTime (uuid : List ℕ) (e : EnabledRows) (names : Names) (hertz c : ℕ) (batches : List Batch) (missed : ℕ) (writes : List FileWrite) : Type 0 where
+-- A CPU's files, of which so many records are lost: each that is kept of its batches went to one of 64 files. What these writes leave of a file is read as the
+-- events of exactly those of them that went to it, in order, of this trace and this CPU; and the first file alone tells what was missed: no more than the CPU's
+-- report counts and the records that are lost.
+pub record ReadsPartByTime (uuid : List ℕ) (e : EnabledRows) (names : Names) (hertz c : ℕ) (batches : List Batch) (missed lost : ℕ) (writes : List FileWrite) : Type 0 where
   pub kept : List Record
-  pub lost : ℕ
   pub are_kept : AreKeptInFront e batches kept lost
   pub told : ℕ
   pub files : ReadsFiles uuid e names hertz c kept told writes

@@ -1,8 +1,8 @@
 -- Cited by calls. What is read of a folder into which a whole session was traced by one call.
-use Rattle.std.specs.Prelude.{ℕ, ◌≡◌, ◌<◌, ◌≤◌, ◌+◌, ◌^◌, List, length, map, slice_get, codes, Option, Some, None}
+use Rattle.std.specs.Prelude.{ℕ, zero, suc, ◌≡◌, ◌<◌, ◌≤◌, ◌+◌, ◌^◌, List, [], ◌∷◌, length, map, slice_get, codes, Option, Some, None, IfSome, IsSome}
 use Rattle.std.specs.Option.{option_map_or}
 use Rattle.dspec_trace_reading.specs.Words.Outside.{EnabledRows, enabled, table_accepts, table_shape, table_text, CallsMade, passed_from, IsKept, FileTells, event_of, layout_of, read_metadata}
-use Rattle.dspec_trace_reading.specs.Words.Outside.{untold, FileWrite, file_of, cpu_name, labels_at, event_fields}
+use Rattle.dspec_trace_reading.specs.Words.Outside.{untold, FileWrite, file_of, cpu_name, labels_at, event_fields, origin_text}
 use Rattle.dspec_deeds.specs.declared.config.Config.{Config}
 use Rattle.dspec_deeds.specs.declared.report.Report.{Report}
 use Rattle.dspec_ring.specs.declared.batch.Batch.{Batch}
@@ -11,6 +11,8 @@ use Rattle.dspec_probe.specs.declared.probes.ProbeNames.{ProbeNames}
 use Rattle.dspec_ctf.specs.declared.form.Form.TheVariants.{AsTaken}
 use Rattle.dspec_ctf.specs.declared.names.Names.{Names}
 use Rattle.dspec_ctf.specs.declared.names.Names.TheVariants.{Numbered, Given}
+use Rattle.dspec_ctf.specs.declared.origin.ClockStart.{ClockStart}
+use Rattle.dspec_ctf.specs.declared.origin.Origin.{Origin}
 use Rattle.dspec_ctf_sink.specs.declared.losing.Loss.{Loss}
 use Rattle.dspec_trace_reading.specs.AsTaken.{ReadsPart}
 
@@ -30,20 +32,50 @@ pub record AreCountable (e : EnabledRows) (ps : List ProbeNames) : Type 0 where
 abbrev pub missed_in : Report → ℕ
 missed_in r = r.drops + untold r
 
+-- so many records the CPUs of all these reports accepted and missed
+abbrev pub all_counted : List Left → ℕ
+all_counted [] = 0
+all_counted (l ∷ left) = l.report.accepted + missed_in l.report + all_counted left
+
+-- so many records weren't written, as a trace answers
+abbrev pub lost_records : Option Loss → ℕ
+lost_records None = 0
+lost_records (Some loss) = loss.records
+
+-- so many these CPUs lost together, from CPU 0 on, by how many each lost
+abbrev pub lost_of : (ℕ → ℕ) → ℕ → ℕ
+lost_of lost_on zero = 0
+lost_of lost_on (suc c) = lost_on c + lost_of lost_on c
+
+-- an origin tells of a trace with this uuid, which a process of this name writes, and whose clock began so
+pub record TellsProgram (origin : Origin) (uuid name : List ℕ) (start : Option ClockStart) : Type 0 where
+  pub trace : origin.uuid ≡ uuid
+  pub told : IsSome origin.process
+  pub named : IfSome origin.process (λ p. p.name.now ≡ name)
+  pub began : origin.start ≡ start
+
 module _ {K : Type 0} (gets : K → Batch → K → Type 0) (does : ℕ → CallsMade → CallsMade → Type 0) (e : EnabledRows) where
   -- A session of these enablings was traced, and its batches went to a sink and into a folder, which was asked for these writes. The sink is promised what
-  -- `trace` promises (`kept`). What the writes leave of the file `metadata` is read as the layout of these enablings and names. Where nothing was lost, what they
-  -- leave of each CPU's file is read, by that layout, as the events of exactly the stream that the page promises of it, in order, of this trace and this CPU;
-  -- and the file tells as missed what the CPU's report counts (`whole`). Where something was lost it is read as that stream without the batches that were,
-  -- and tells as missed no more than that and them (`part`): unless so much was counted that 64 bits can't hold it.
-  pub record IsInFolder (ps : List ProbeNames) (k : Config) (old : K) (left : List Left) (new : K) (uuid : List ℕ) (lost : Option Loss) (written : Option (List FileWrite)) : Type 0 where
+  -- `trace` promises (`kept`). What the writes leave of the file `metadata` is the text of these enablings and names (`text`), and of this trace, written by a
+  -- program of this name, without a clock (`whose`); it is read as their layout. Where nothing was lost, what they leave of each CPU's file is read, by that
+  -- layout, as the events of exactly the stream that the page promises of it, in order, of this trace and this CPU; and the file tells as missed what the CPU's
+  -- report counts (`whole`). Where something was lost it is read as that stream without the batches that were, and tells as missed no more than that and them
+  -- (`part`). So many records each CPU lost (`lost_on`), and together as many as the trace answers (`told`). Both are so unless so much was counted that 64
+  -- bits can't hold it.
+  pub record IsInFolder (ps : List ProbeNames) (name : List ℕ) (k : Config) (old : K) (left : List Left) (new : K) (uuid : List ℕ) (lost : Option Loss)
+      (written : Option (List FileWrite)) : Type 0 where
     pub kept : IsKept gets does (table_shape e.header (enabled e.rows)) (table_accepts e.header (enabled e.rows)) (table_text e.header (enabled e.rows)) k old left new
     pub names : Names
     pub named : AreNamesOf ps names
     pub writes : List FileWrite
     pub asked : written ≡ Some writes
+    pub origin : Origin
+    pub whose : TellsProgram origin uuid name None
+    pub text : file_of (codes "metadata") writes ≡ origin_text origin AsTaken e names
     pub metadata : AreCountable e ps → read_metadata (file_of (codes "metadata") writes) ≡ Some (layout_of e names AsTaken)
     pub whole : lost ≡ None → (c : ℕ) (l : Left) (there : slice_get left c ≡ Some l)
         → FileTells (layout_of e names AsTaken) uuid c (file_of (cpu_name c) writes) (map (event_of e names AsTaken) ((kept.page.each c l there).seen)) (missed_in l.report)
+    pub lost_on : ℕ → ℕ
     pub part : (c : ℕ) (l : Left) → slice_get left c ≡ Some l → l.report.accepted + missed_in l.report + 1 < 2 ^ 64
-        → ReadsPart uuid e names c (passed_from c kept.passed) (missed_in l.report) (file_of (cpu_name c) writes)
+        → ReadsPart uuid e names c (passed_from c kept.passed) (missed_in l.report) (lost_on c) (file_of (cpu_name c) writes)
+    pub told : all_counted left + 1 < 2 ^ 64 → lost_records lost ≡ lost_of lost_on (length left)

@@ -1,24 +1,27 @@
 -- Cited by calls. A session that was traced into a folder, and what is read of that.
 use Rattle.std.specs.Prelude.{ℕ, List}
-use Rattle.dspec_trace_reading.specs.Words.Outside.{EnabledRows, Declared, CallsMade, WorkedOn, one_for, written_in}
+use Rattle.dspec_trace_reading.specs.Words.Outside.{Declared, CallsMade, WorkedOn, one_for, written_in}
 use Rattle.dspec_deeds.specs.declared.config.Config.{Config}
-use Rattle.dspec_probe.specs.declared.probes.ProbeNames.{ProbeNames}
 use Rattle.dspec_ring.specs.declared.batch.Batch.{Batch}
 use Rattle.dspec_trace_reading.specs.Folders.{IsInFolder}
 use Rattle.dspec_trace_reading.specs.TimedFolders.{IsInTimedFolder}
 use Rattle.dspec_trace_reading.specs.declared.folder_trace.FolderTrace.{FolderTrace}
+use Rattle.dspec_trace_reading.specs.declared.folder_trace.Place.{Place}
+use Rattle.dspec_trace_reading.specs.declared.folder_trace.StampClock.{StampClock}
 
-abbrev pub IsTracedInto : {K : Type 0} → (K → Batch → K → Type 0) → (ℕ → CallsMade → CallsMade → Type 0) → EnabledRows → List ProbeNames → Config → K → FolderTrace → K → Type 0
-IsTracedInto gets does e ps k old t new = IsInFolder gets does e ps k old t.closed new t.uuid t.lost (written_in t.folder)
+abbrev pub IsTracedInto : {K : Type 0} → (K → Batch → K → Type 0) → (ℕ → CallsMade → CallsMade → Type 0) → Declared → Place → Config → K → FolderTrace → K → Type 0
+IsTracedInto gets does p place k old t new = IsInFolder gets does p.schema p.names place.name.now k old t.closed new t.uuid t.lost (written_in t.folder)
 
 -- the same of workers, which came back so
-abbrev pub AreTracedInto : {K W : Type 0} → (K → Batch → K → Type 0) → (ℕ → W → CallsMade → W → CallsMade → Type 0) → Declared → Config → List W → List W → K → FolderTrace → K → Type 0
-AreTracedInto gets does p k workers back old t new = IsTracedInto gets (WorkedOn does workers back) p.schema p.names (one_for workers k) old t new
+abbrev pub AreTracedInto : {K W : Type 0} → (K → Batch → K → Type 0) → (ℕ → W → CallsMade → W → CallsMade → Type 0) → Declared → Place → Config → List W → List W → K → FolderTrace → K → Type 0
+AreTracedInto gets does p place k workers back old t new = IsTracedInto gets (WorkedOn does workers back) p place (one_for workers k) old t new
 
--- the same of a folder that was written by time, by a clock of so many ticks a second
-abbrev pub IsTimedInto : {K : Type 0} → (K → Batch → K → Type 0) → (ℕ → CallsMade → CallsMade → Type 0) → EnabledRows → List ProbeNames → ℕ → Config → K → FolderTrace → K → Type 0
-IsTimedInto gets does e ps hertz k old t new = IsInTimedFolder gets does e ps hertz k old t.closed new t.uuid t.lost (written_in t.folder)
+-- the same of a folder that was written by time, by this clock
+abbrev pub IsTimedInto : {K : Type 0} → (K → Batch → K → Type 0) → (ℕ → CallsMade → CallsMade → Type 0) → Declared → Place → StampClock → Config → K → FolderTrace → K → Type 0
+IsTimedInto gets does p place clock k old t new =
+    IsInTimedFolder gets does p.schema p.names place.name.now clock.hertz clock.start k old t.closed new t.uuid t.lost (written_in t.folder)
 
 -- and of workers
-abbrev pub AreTimedInto : {K W : Type 0} → (K → Batch → K → Type 0) → (ℕ → W → CallsMade → W → CallsMade → Type 0) → Declared → ℕ → Config → List W → List W → K → FolderTrace → K → Type 0
-AreTimedInto gets does p hertz k workers back old t new = IsTimedInto gets (WorkedOn does workers back) p.schema p.names hertz (one_for workers k) old t new
+abbrev pub AreTimedInto : {K W : Type 0} → (K → Batch → K → Type 0) → (ℕ → W → CallsMade → W → CallsMade → Type 0) → Declared → Place → StampClock → Config → List W → List W → K → FolderTrace → K
+    → Type 0
+AreTimedInto gets does p place clock k workers back old t new = IsTimedInto gets (WorkedOn does workers back) p place clock (one_for workers k) old t new

@@ -4,8 +4,7 @@ unfoldable pub use Outside.*
 pub use Rattle.dspec_trace_reading.specs.AsTaken.{AreKept, drops_carried, HaveNumbers, ReadsAllKept, ReadsBack, ReadsKept, ReadsPart, told_on}
 pub use Rattle.dspec_trace_reading.specs.Begun.{HasOriginNumbers, IsBegunByTime, IsBegunTrace}
 pub use Rattle.dspec_trace_reading.specs.ByTime.{AreKeptInFront, missed_by_time, ReadsAllKeptByTime, ReadsByTime, ReadsFiles, ReadsKeptByTime, ReadsPartByTime, told_by_time}
-pub use Rattle.dspec_trace_reading.specs.Folders.{AreCountable, AreNamesOf, IsInFolder, missed_in}
-pub use Rattle.dspec_trace_reading.specs.IntoFolders.{IsTimedInto, IsTracedInto}
+pub use Rattle.dspec_trace_reading.specs.Folders.{all_counted, AreCountable, AreNamesOf, IsInFolder, lost_of, lost_records, missed_in, TellsProgram}
 pub use Rattle.dspec_trace_reading.specs.Laws.{KeptIsRead, ListedBy, TakenIsRead, TimedIsRead, TimedKeptIsRead, TracedBy}
 pub use Rattle.dspec_trace_reading.specs.Ran.{BothGet, IsOfTimedTrace, IsOfTrace, RanBegun, RanInto}
 pub use Rattle.dspec_trace_reading.specs.TimedFolders.{IsInTimedFolder}

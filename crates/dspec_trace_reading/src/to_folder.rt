@@ -24,7 +24,7 @@ fn make<'a>(
     probes: &Probes<'_>,
     place: Place<'a>,
 ) -> Result<Begun<'a, TraceFolder<SystemFolder<'a>>>, FolderFault>
-    ensures { IfOk result (λ begun. IsBegunTrace probes.now.schema probes.now.names begun.at_end.uuid begun.sink.sink) }
+    ensures { IfOk result (λ begun. IsBegunTrace probes.now.schema probes.now.names place.entry.name.now begun.at_end.uuid begun.sink.sink) }
 {
     let (folder, identity, at_end) = prepare(rt, cpus, place.path)?;
     let origin = identity.origin(place.name);
@@ -42,7 +42,7 @@ fn begin<'a>(
     probes: &Probes<'_>,
     place: Place<'a>,
 ) -> Result<Begun<'a, TraceFolder<SystemFolder<'a>>>, ToFolderFault>
-    ensures begun { IfOk result (λ begun. IsBegunTrace probes.now.schema probes.now.names begun.at_end.uuid begun.sink.sink) }
+    ensures begun { IfOk result (λ begun. IsBegunTrace probes.now.schema probes.now.names place.entry.name.now begun.at_end.uuid begun.sink.sink) }
     ensures refused { IfErr result (RefusesFolder config.now) }
 {
     if let Err(fault) = config.check() {
@@ -62,7 +62,7 @@ fn begin_for<'a>(
     probes: &Probes<'_>,
     place: Place<'a>,
 ) -> Result<Begun<'a, TraceFolder<SystemFolder<'a>>>, ToFolderFault>
-    ensures begun { IfOk result (λ begun. IsBegunTrace probes.now.schema probes.now.names begun.at_end.uuid begun.sink.sink) }
+    ensures begun { IfOk result (λ begun. IsBegunTrace probes.now.schema probes.now.names place.entry.name.now begun.at_end.uuid begun.sink.sink) }
     ensures refused { IfErr result (RefusesFolder (with_cpus cpus config.now)) }
 {
     match config_for(config, cpus) {
@@ -109,7 +109,7 @@ pub fn trace_to_folder<'a, R: Threads + Sync, W: Work<Enablings>, K: Sink<Enabli
     ensures refused { IfErr result.1 (RefusesFolder config.now) }
     ensures unchanged { OnErr result.1 (result.0 ≡ sink) }
     ensures started { IfOk result.1 (λ _. start_fault config.now ≡ None) }
-    ensures read { IfOk result.1 (λ t. IsTracedInto (K.gets probes.now.schema) (ThenServed (W.does probes.now.schema work.now)) probes.now.schema probes.now.names config.now sink t result.0) }
+    ensures read { IfOk result.1 (λ t. IsTracedInto (K.gets probes.now.schema) (ThenServed (W.does probes.now.schema work.now)) probes.now place.entry config.now sink t result.0) }
 {
     metadata_reads_back();
     live_file_reads_back();
@@ -133,7 +133,7 @@ pub fn trace_workers_to_folder<'a, R: Threads + Sync, W: Worker<Enablings>, K: S
     ensures refused { IfErr result.1 (RefusesFolder (one_for workers.old.items config.now)) }
     ensures unchanged { OnErr result.1 ((result.0 ≡ sink) × (workers.new ≡ workers.old)) }
     ensures started { IfOk result.1 (λ _. start_fault (one_for workers.old.items config.now) ≡ None) }
-    ensures read { IfOk result.1 (λ t. AreTracedInto (K.gets probes.now.schema) (W.does probes.now.schema) probes.now config.now workers.old.items workers.new.items sink t result.0) }
+    ensures read { IfOk result.1 (λ t. AreTracedInto (K.gets probes.now.schema) (W.does probes.now.schema) probes.now place.entry config.now workers.old.items workers.new.items sink t result.0) }
 {
     metadata_reads_back();
     live_file_reads_back();

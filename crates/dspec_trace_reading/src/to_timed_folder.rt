@@ -26,7 +26,7 @@ fn make<'a>(
     place: Place<'a>,
     clock: StampClock,
 ) -> Result<Begun<'a, TimedFolder<SystemFolder<'a>>>, FolderFault>
-    ensures { IfOk result (λ begun. IsBegunByTime probes.now.schema probes.now.names clock.hertz begun.at_end.uuid begun.sink.sink) }
+    ensures { IfOk result (λ begun. IsBegunByTime probes.now.schema probes.now.names place.entry.name.now clock.hertz clock.start begun.at_end.uuid begun.sink.sink) }
 {
     let (folder, identity, at_end) = prepare(rt, cpus, place.path)?;
     let start = clock.start;
@@ -53,7 +53,7 @@ fn begin_for<'a>(
     probes: &Probes<'_>,
     place: Place<'a>,
 ) -> Result<Begun<'a, TimedFolder<SystemFolder<'a>>>, ToFolderFault>
-    ensures begun { IfOk result (λ begun. IsBegunByTime probes.now.schema probes.now.names clock.hertz begun.at_end.uuid begun.sink.sink) }
+    ensures begun { IfOk result (λ begun. IsBegunByTime probes.now.schema probes.now.names place.entry.name.now clock.hertz clock.start begun.at_end.uuid begun.sink.sink) }
     ensures refused { IfErr result (RefusesFolder (with_cpus cpus config.now)) }
 {
     match config_for(config, cpus) {
@@ -92,7 +92,7 @@ fn begin<'a>(
     place: Place<'a>,
     clock: StampClock,
 ) -> Result<Begun<'a, TimedFolder<SystemFolder<'a>>>, ToFolderFault>
-    ensures begun { IfOk result (λ begun. IsBegunByTime probes.now.schema probes.now.names clock.hertz begun.at_end.uuid begun.sink.sink) }
+    ensures begun { IfOk result (λ begun. IsBegunByTime probes.now.schema probes.now.names place.entry.name.now clock.hertz clock.start begun.at_end.uuid begun.sink.sink) }
     ensures refused { IfErr result (RefusesFolder config.now) }
 {
     if let Err(fault) = config.check() {
@@ -120,7 +120,7 @@ pub fn trace_to_timed_folder<'a, R: Threads + Sync, W: Work<Enablings>, K: Sink<
     ensures started { IfOk result.1 (λ _. start_fault config.now ≡ None) }
     ensures refused { IfErr result.1 (RefusesFolder config.now) }
     ensures unchanged { OnErr result.1 (result.0 ≡ sink) }
-    ensures read { IfOk result.1 (λ t. IsTimedInto (K.gets probes.now.schema) (ThenServed (W.does probes.now.schema work.now)) probes.now.schema probes.now.names clock.hertz config.now sink t result.0) }
+    ensures read { IfOk result.1 (λ t. IsTimedInto (K.gets probes.now.schema) (ThenServed (W.does probes.now.schema work.now)) probes.now place.entry clock config.now sink t result.0) }
 {
     metadata_reads_back();
     live_file_reads_back();
@@ -152,7 +152,7 @@ pub fn trace_workers_to_timed_folder<
     ensures started { IfOk result.1 (λ _. start_fault (one_for workers.old.items config.now) ≡ None) }
     ensures refused { IfErr result.1 (RefusesFolder (one_for workers.old.items config.now)) }
     ensures unchanged { OnErr result.1 ((result.0 ≡ sink) × (workers.new ≡ workers.old)) }
-    ensures read { IfOk result.1 (λ t. AreTimedInto (K.gets probes.now.schema) (W.does probes.now.schema) probes.now clock.hertz config.now workers.old.items workers.new.items sink t result.0) }
+    ensures read { IfOk result.1 (λ t. AreTimedInto (K.gets probes.now.schema) (W.does probes.now.schema) probes.now place.entry clock config.now workers.old.items workers.new.items sink t result.0) }
 {
     files_join();
     files_have_all();

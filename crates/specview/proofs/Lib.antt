@@ -5,6 +5,5 @@ pub mod Files
 pub mod AllFiles
 pub mod Taking
 pub mod Steppings
-pub mod Uuids
 pub mod SmallShares
 pub mod SmallPlays

@@ -5,6 +5,5 @@ pub mod Clocks
 pub mod Folders
 pub mod Pictures
 pub mod Stepping
-pub mod Examined
 pub mod Replays
 pub mod Words

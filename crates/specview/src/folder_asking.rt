@@ -1,6 +1,7 @@
 //! What the words behind `specview folder` ask for.
 
 use clap::{Arg, ArgAction, ArgMatches, Command};
+use dspec_folder_view::TracksAsk;
 use std::alloc::{AllocError, Global};
 
 /// What is done with trace folders.
@@ -18,15 +19,6 @@ pub enum FolderTask<'a> {
     Json,
     /// The same with a row for each value of a field.
     Tracks(TracksAsk<'a>),
-}
-
-/// A document with a row for each value of a field.
-#[derive(Debug, Clone, Copy, PartialEq, Eq)]
-pub struct TracksAsk<'a> {
-    /// The name of the field.
-    pub field: &'a str,
-    /// Whether two records of one event, one behind the other in a row, are a slice.
-    pub slices: bool,
 }
 
 /// Folders, and what is done with them.

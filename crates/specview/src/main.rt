@@ -17,8 +17,8 @@
 //! its own.
 //!
 //! `specview folder [--check | --repair | --text | --json [--track FIELD [--slices]]] DIR ..` sums up trace folders of ours, whoever wrote them; or checks them, by the
-//! definition of what their bytes say, and cuts off what a stopped writer left; or tells or draws all that they have, merged by time. What they
-//! have is judged by functions over bytes, whose contracts say what an answer means; reading the files and printing is promised nothing of.
+//! definition of what their bytes say, and cuts off what a stopped writer left; or tells or draws all that they have, merged by time: all of
+//! it is of the crate `dspec_folder_view`.
 //!
 //! | File | What is in it |
 //! |---|---|
@@ -27,44 +27,32 @@
 //! | `pictured.rt`, `stepped.rt`, `ending.rt` | `picture_of`: the picture of a text's play; `steps_of_text`: its steps; which text has them, and why another has none (`specs/Pictures`, `specs/Stepping`); how a run ends |
 //! | `replay_asking.rt`, `replaying.rt` | what is asked of a replay; `replay_text`: what is printed of a schedule that a session makes (`specs/Replays`), and why it isn't |
 //! | `trace.rt`, `batches.rt`, `events.rt`, `folder.rt` | `trace_of`: a file as taken and by time; `shares_of`: a stream cut at the seals; the events; `TraceFiles` and `write_trace` |
-//! | `folder_asking.rt`, `folder_fault.rt`, `naming.rt`, `opening.rt` | what is asked of folders; statuses; which file is which CPU's; a folder's metadata and files |
-//! | `judging.rt`, `examining.rt` | `wrong_with`, `mend_of`: what is wrong with a file, and where it is cut (`specs/Examined`); the files of folders, one by one |
-//! | `counting.rt`, `merging.rt`, `showing.rt`, `listing.rt`, `chart.rt`, `tracks.rt` | the tables; what files tell, in order of time; as lines; as Chrome's Trace Event form, a row for each CPU, or for each value of a field |
+//! | `folder_asking.rt` | what is asked of folders |
 //! | `proofs/` | Cutting (a stream cut into batches), SmallShares, SmallPlays (what a play's packets tell is of 64 bits), Parts, Greatest, AllFiles, Files |
 #![tactic(auto)]
 
 mod arguments;
 mod batches;
-mod chart;
 mod clock;
-mod counting;
 mod ending;
 mod events;
-mod examining;
 mod fault;
 mod folder;
 mod folder_asking;
-mod folder_fault;
-mod judging;
-mod listing;
-mod merging;
-mod naming;
-mod opening;
 mod pictured;
 mod program;
 mod replacing;
 mod replay_asking;
 mod replaying;
-mod showing;
 mod stepped;
 mod trace;
-mod tracks;
 
 use arguments::{PictureAsk, TraceAsk, ViewTask, ask_of};
-use counting::count_folders;
 use dspec_command::{Input, ended, open, print_text, words_of};
+use dspec_folder_view::{
+    FolderViewFault, OutputFormat, count_folders, examine_folders, show_folders,
+};
 use dspec_replay::read_whole;
-use examining::examine_folders;
 use fault::ViewFault;
 use folder::{OutputFolder, write_trace};
 use folder_asking::{FolderAsk, FolderTask};
@@ -73,7 +61,6 @@ use program::ProgramFault;
 use replacing::{see_other, write_file};
 use replay_asking::ReplayAsk;
 use replaying::replay_text;
-use showing::{OutputFormat, show_folders};
 use std::alloc::Global;
 use std::io::Read;
 use std::process::ExitCode;
@@ -144,7 +131,7 @@ fn run_replay<'a>(rt: &HostRuntime, ask: &ReplayAsk<'a>) -> Result<(), ProgramFa
 }
 
 /// Shows or mends trace folders, and says whether nothing is wrong with them.
-fn run_folder<'a>(rt: &HostRuntime, ask: &FolderAsk<'a>) -> Result<bool, ProgramFault<'a>> {
+fn run_folder<'a>(rt: &HostRuntime, ask: &FolderAsk<'a>) -> Result<bool, FolderViewFault<'a>> {
     let paths = ask.paths.as_slice();
     match ask.task {
         FolderTask::Count => count_folders(rt, paths),
@@ -163,7 +150,7 @@ fn run<'a>(rt: &'a HostRuntime, words: &'a [String]) -> Result<bool, ProgramFaul
         ViewTask::Picture(ask) => run_picture(rt, &ask)?,
         ViewTask::Steps(schedule) => run_steps(rt, schedule)?,
         ViewTask::Replay(ask) => run_replay(rt, &ask)?,
-        ViewTask::Folder(ask) => return run_folder(rt, &ask),
+        ViewTask::Folder(ask) => return Ok(run_folder(rt, &ask)?),
         ViewTask::Text(text) => print_text(rt, text.as_str())?,
     }
     Ok(true)

@@ -1,9 +1,8 @@
 use crate::ending::DrawingFault;
 use crate::fault::ViewFault;
-use crate::folder_fault::TraceFolderFault;
 use crate::replaying::ReplayFault;
 use dspec_command::{CommandFault, ExitFault};
-use std::alloc::{AllocError, AllocFailed};
+use dspec_folder_view::{FolderViewFault, TraceFolderFault};
 use thiserror::Error;
 
 /// Why the program doesn't end with status 0.
@@ -41,14 +40,11 @@ impl<'a> From<ViewFault> for ProgramFault<'a> {
     }
 }
 
-impl<'a> From<AllocError> for ProgramFault<'a> {
-    fn from(_refused: AllocError) -> Self {
-        ProgramFault::Command(CommandFault::Memory)
-    }
-}
-
-impl<'a, T: Drop> From<AllocFailed<T>> for ProgramFault<'a> {
-    fn from(_refused: AllocFailed<T>) -> Self {
-        ProgramFault::Command(CommandFault::Memory)
+impl<'a> From<FolderViewFault<'a>> for ProgramFault<'a> {
+    fn from(fault: FolderViewFault<'a>) -> Self {
+        match fault {
+            FolderViewFault::Command(fault) => ProgramFault::Command(fault),
+            FolderViewFault::Folder(fault) => ProgramFault::Folder(fault),
+        }
     }
 }

@@ -1,9 +1,9 @@
 -- What a CPU may do next on the first slot, and what its own list tells then.
 use Rattle.std.proofs.Common.{◌≡◌, ℕ, zero, suc, ◌<◌, ◌&&◌, ◌≤◌, Bool, true, false, if◌then◌else◌, List, [], ◌∷◌, ◌++◌, sym, ap, ◌∙◌, subst, arith, refl}
 use Rattle.std.proofs.lemmas.Bool.Decides.{nat_tests}
-use Rattle.test_words.specs.Words.{Record, Speculation, SlotState, released, is_inactive, awaits, speculate_at, commit_at, discard_at, reap_at, in_range, is_among, callers, ack, number_of}
-use Rattle.test_words.specs.Words.{at_activity, at_word, at_hit, void_commit, void_discard, discard_hits, IsOn, IsInFlight, MayLoad, MayTry, Attempts, IsDeciding, joined_word, calling}
-use Rattle.test_words.specs.Words.{activity_place, acted, LoadedActivity, TriedWord, LoadedAck, Unused, Next}
+use Rattle.test_words.specs.Words.{Record, Speculation, SlotState, released, awaits, speculate_at, commit_at, discard_at, reap_at, in_range, is_among, callers, ack, number_of, at_activity, IsOn}
+use Rattle.test_words.specs.Words.{IsInFlight, MayLoad, MayTry, Attempts, IsDeciding, joined_word, calling, activity_place, acted, LoadedActivity, TriedWord, LoadedAck, Unused, Next, at_exchange}
+use Rattle.test_words.specs.Words.{shown, idle_progress, shown_commit, shown_discard, is_alone, is_release, at_word, Entered, LoadedWord, slot_place}
 use Rattle.dspec_word.specs.declared.act.Act.{Act}
 use Rattle.dspec_word.specs.declared.act.Act.TheVariants.{Void, Granted, Attempt, Idle}
 use Rattle.dspec_deeds.specs.declared.config.Config.{Config}
@@ -13,6 +13,7 @@ use Rattle.dspec_deeds.specs.declared.deed.Deed.{Deed}
 use Rattle.dspec_table.specs.declared.rule.View.{View}
 use Rattle.dspec_table.specs.declared.doing.Doing.{Doing}
 use Rattle.dspec_table.proofs.Flights.{quiet_activity, loads_next, in_flight, speculate_joins}
+use Rattle.dspec_interleaving.proofs.StepDeeds.{by_test}
 use Rattle.dspec_table.proofs.Reaping.{acked_since}
 
 first_in_range : (k : Config) (id : Speculation) → 1 ≤ k.nspec → id.slot ≡ 1 → in_range k id ≡ true
@@ -29,6 +30,13 @@ begins k v w c doing id config low is on unused mine step =
     let no_caller : doing.mine ≡ is_among c (callers id v.own) = mine ∙ sym (ap (is_among c) (unused.1 id)) in
     let flight : IsInFlight k w c doing id id.slot = in_flight k v w c doing id config inside on unused.0 (λ recent. no_caller) step in
     (subst (λ (s : ℕ). MayLoad k w c doing s doing.op) is (loads_next k w c id.slot doing id on flight), subst (Unused k c) (sym own) unused)
+
+-- an exchange of a call on a record that finds another word shows it as a load does
+pub shows_word : (v w : View) (doing : Doing) (id : Speculation) (r : Record) (word : SlotState) → doing.op ≡ op.Speculate id r → TriedWord doing 1 v word false w → LoadedWord doing 1 v word w
+shows_word v w doing id r word is step =
+    let same : at_exchange v.config (number_of v.who) doing 1 word false doing.op ≡ at_word v.config (number_of v.who) doing 1 word doing.op =
+    subst (λ (o : CpuOp). at_exchange v.config (number_of v.who) doing 1 word false o ≡ at_word v.config (number_of v.who) doing 1 word o) (sym is) refl in
+    (step.0, step.1, step.2, subst (λ ds. Entered (slot_place 1) v step.0 ds w) same step.3)
 
 -- what the table attempts, by the kind of call
 pub joins : (k : Config) (v w : View) (c : ℕ) (doing : Doing) (id : Speculation) (r : Record) (from to : SlotState) → doing.op ≡ op.Speculate id r
@@ -49,39 +57,27 @@ discards k v w c doing id from to is attempts next = next to (subst (Attempts do
 
 -- a decision, had or missed, leaves the CPU in no call, a caller of nothing, with nothing settled
 module _ (k j : Config) (x c : ℕ) (doing : Doing) (w : SlotState) (own : List Deed) (u : Unused k x own) where
-  void_commit_rests : (id : Speculation) (a : Act) → Unused k x (void_commit c id a ++ own)
+  void_commit_rests : (id : Speculation) (a : Act) → Unused k x ((shown_commit j c (shown doing w false) idle_progress id w a).deeds ++ own)
   void_commit_rests id Void = u
   void_commit_rests id Granted = u
   void_commit_rests id (Attempt to) = u
   void_commit_rests id Idle = u
 
-  void_discard_rests : (id : Speculation) (a : Act) → Unused k x (void_discard c id a ++ own)
+  void_discard_rests : (id : Speculation) (a : Act) → Unused k x ((shown_discard j c (shown doing w false) idle_progress id w a).deeds ++ own)
   void_discard_rests id Void = u
   void_discard_rests id Granted = u
   void_discard_rests id (Attempt to) = u
   void_discard_rests id Idle = u
 
-  thrown_rests : (id : Speculation) (a : Act) → Unused k x (discard_hits c doing id a ++ own)
-  thrown_rests id Void = u
-  thrown_rests id Granted = u
-  thrown_rests id (Attempt to) = go (is_inactive to.code)
-    where
-      go : (b : Bool) → Unused k x ((if b then Rattle.dspec_deeds.specs.declared.deed.Deed.TheVariants.Release id.slot
-          ∷ Rattle.dspec_deeds.specs.declared.deed.Deed.TheVariants.Discard c id (Rattle.dspec_deeds.specs.declared.deed.DecideFate.TheVariants.Thrown doing.count)
-          ∷ [] else Rattle.dspec_deeds.specs.declared.deed.Deed.TheVariants.Discard c id (Rattle.dspec_deeds.specs.declared.deed.DecideFate.TheVariants.Thrown doing.count) ∷ []) ++ own)
-      go true = u
-      go false = u
-  thrown_rests id Idle = u
-
-  hit_rests : (o : CpuOp) → IsDeciding o → Unused k x (at_hit c doing w o ++ own)
-  hit_rests (op.Commit id) d = u
-  hit_rests (op.Discard id) d = thrown_rests id (discard_at w id doing.mine)
+  hit_rests : (o : CpuOp) → IsDeciding o → Unused k x (at_exchange j c doing 1 w true o ++ own)
+  hit_rests (op.Commit id) d = by_test (λ ds. Unused k x (ds ++ own)) (is_alone (commit_at w id doing.mine)) _ _ (λ t. u) (λ f. u)
+  hit_rests (op.Discard id) d = by_test (λ ds. Unused k x (ds ++ own)) (is_release (discard_at w id doing.mine)) _ _ (λ t. u) (λ f. u)
   hit_rests (op.Trace r) d = absurd d
   hit_rests op.Speculation d = absurd d
   hit_rests (op.Speculate id r) d = absurd d
   hit_rests op.Service d = absurd d
 
-  word_rests : (o : CpuOp) → IsDeciding o → Unused k x (at_word j c doing 1 w o ++ own)
+  word_rests : (o : CpuOp) → IsDeciding o → Unused k x (at_exchange j c doing 1 w false o ++ own)
   word_rests (op.Commit id) d = void_commit_rests id (commit_at w id doing.mine)
   word_rests (op.Discard id) d = void_discard_rests id (discard_at w id doing.mine)
   word_rests (op.Trace r) d = absurd d
@@ -89,11 +85,11 @@ module _ (k j : Config) (x c : ℕ) (doing : Doing) (w : SlotState) (own : List 
   word_rests (op.Speculate id r) d = absurd d
   word_rests op.Service d = absurd d
 
-pub tried_rests : (k : Config) (x : ℕ) (v w : View) (doing : Doing) (shown : SlotState) (hit : Bool) → IsDeciding doing.op → Unused k x v.own → TriedWord doing 1 v shown hit w → Unused k x w.own
-tried_rests k x v w doing shown true d u step =
-    subst (Unused k x) (sym (ap (λ (y : View). y.own) step.3.view)) (hit_rests k v.config x (number_of v.who) doing shown v.own u doing.op d)
-tried_rests k x v w doing shown false d u step =
-    subst (Unused k x) (sym (ap (λ (y : View). y.own) step.3.view)) (word_rests k v.config x (number_of v.who) doing shown v.own u doing.op d)
+pub tried_rests : (k : Config) (x : ℕ) (v w : View) (doing : Doing) (w0 : SlotState) (hit : Bool) → IsDeciding doing.op → Unused k x v.own → TriedWord doing 1 v w0 hit w → Unused k x w.own
+tried_rests k x v w doing w0 true d u step =
+    subst (Unused k x) (sym (ap (λ (y : View). y.own) step.3.view)) (hit_rests k v.config x (number_of v.who) doing w0 v.own u doing.op d)
+tried_rests k x v w doing w0 false d u step =
+    subst (Unused k x) (sym (ap (λ (y : View). y.own) step.3.view)) (word_rests k v.config x (number_of v.who) doing w0 v.own u doing.op d)
 
 -- both acknowledgements that were shown stand
 pub both_acked : (k : Config) (v w u : View) (i a b : ℕ) → k.cpus ≡ 2 → LoadedAck 0 1 v a w → LoadedAck 1 1 w b u → i < a → i < b → (c : ℕ) → c < k.cpus → i < ack c 1 u.seen

@@ -12,7 +12,7 @@ use Rattle.dspec_promise.specs.Promise.{Promise}
 use Rattle.dspec_cpu.specs.Called.{no_calls}
 use Rattle.dspec_cpu.specs.Sealed.{waiting}
 use Rattle.dspec_session_core.specs.declared.left.Left.{Left}
-use Rattle.dspec_session_core.specs.Closing.{HoldInOrder}
+use Rattle.dspec_session_core.specs.Promised.{HoldRecords}
 use Rattle.dspec_session_core.proofs.PromisedBy.{there_is}
 use Rattle.dspec.specs.SinkRecords.{SinkRecords, KeepsBatch, no_records}
 use Rattle.dspec.specs.Passed.{AreFrom}
@@ -37,7 +37,7 @@ module _ (e : EnabledRows) (work : Requests) (k : Config) (old new : SinkRecords
       let first : 0 < k.cpus = omega arith in
       let (l, at) = there_is left 0 some in
       let mine = traced.promised.each 0 l at in
-      let hold = subst (λ bs. HoldInOrder (table_shape e.header (enabled e.rows)) (table_accepts e.header (enabled e.rows)) (table_text e.header (enabled e.rows)) bs mine.seen)
+      let hold = subst (λ bs. HoldRecords (table_shape e.header (enabled e.rows)) (table_accepts e.header (enabled e.rows)) (table_text e.header (enabled e.rows)) bs mine.seen)
       (append_assoc (traced.taken 0) (waiting l.rest) (l.last ∷ []) ∙ sym (traced.whole 0 l at)) mine.hold in
       let none = ap (λ (r : SinkRecords). r.fault) begun in
       let all = kept_all e traced.passed old new mine.seen none fine (subst (λ n. AreFrom n traced.passed) one traced.from) traced.got hold in

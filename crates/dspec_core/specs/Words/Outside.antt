@@ -11,6 +11,6 @@ pub use Rattle.dspec_deeds.specs.Words.{settle_fate, SettlesAs, ShowsOwnState, s
 pub use Rattle.dspec_cpu_state.specs.Words.{counts_of, HasRoom, IsCaller, IsFilledWith, IsRoomy, one_more_worn, parts_of_side, ShowsList, with_decided, with_fate}
 pub use Rattle.dspec_interleaving.specs.Words.{all_ran, all_turned, at_start, batch_at, begin_cpu, begun_consumer, begun_cpu, call_goes_on, changes, cleaned_to, committed_by, consumer_op_of}
 pub use Rattle.dspec_interleaving.specs.Words.{consumer_step, ConsumerStep, cpu_step, CpuStep, discarded_by, ends, enters_call, Expects, gives_at, HasHeadline, idle_cpus, idle_progress, is_about}
-pub use Rattle.dspec_interleaving.specs.Words.{is_actor, is_counted, is_first, is_idle, is_told_worn, is_worn, IsCoherent, IsPlayingAt, IsSlot, keeps_on, loads_service, missed, most_steps, moved_to}
-pub use Rattle.dspec_interleaving.specs.Words.{next_slot, OnItsWay, op_of, Playing, playing_at_start, PlayState, progress_of, ran, record_passes, same_word, served, shown_commit, shown_discard}
-pub use Rattle.dspec_interleaving.specs.Words.{shown_speculate, spoken_at, StandsCpu, StandsState, stepped, steps_limit, stops, takes_at, to_end, turned, wears, worn_count}
+pub use Rattle.dspec_interleaving.specs.Words.{is_actor, is_counted, is_first, is_idle, is_told_worn, is_worn, IsCoherent, IsPlayingAt, IsSlot, keeps_on, loads_service, measured, missed, most_steps}
+pub use Rattle.dspec_interleaving.specs.Words.{moved_to, next_slot, OnItsWay, op_of, Playing, playing_at_start, PlayState, progress_of, ran, record_passes, same_word, served, shown_commit}
+pub use Rattle.dspec_interleaving.specs.Words.{shown_discard, shown_speculate, spoken_at, StandsCpu, StandsState, stepped, steps_limit, stops, takes_at, to_end, turned, wears, worn_count}

@@ -9,10 +9,10 @@ pub use Rattle.dspec_deeds.specs.Words.{is_of, is_seal, is_size, IsLegal, IsOwn,
 pub use Rattle.dspec_deeds.specs.Words.{records_of_report, report, same_id, scan, sealed_last, seals, settle_fate, settled, settled_fate, SettlesAs, ShowsOwnState, solo, speculative, spoken_granted}
 pub use Rattle.dspec_deeds.specs.Words.{spoken_stopped, start_fault, StateParts, total, trace_kept, verdict, word_at}
 pub use Rattle.dspec_promise.specs.Words.{By, commit, Did, did, discard, emptied, service, speculated, traced}
-pub use Rattle.dspec_cpu_state.specs.Words.{counts_of, HasRoom, is_stopped_opening, IsCaller, IsRoomy, one_more_worn, parts_of_side, ShowsList, with_decided, with_fate, with_opening, worn_after}
-pub use Rattle.dspec_interleaving.specs.Words.{own_closed, own_closed_slot}
-pub use Rattle.dspec_table.specs.Words.{ack_place, activity_place, ask_place, at_activity, at_exchange, at_hit, at_word, Attempts, calling, CommitsNow, cpu_of, discard_hits, Entered, EnteredIn}
-pub use Rattle.dspec_table.specs.Words.{flight_after, Found, fresh_seat, here, Holder, IfCommitting, IsAt, IsInFlight, IsOn, known, last_set_up, last_words, LoadedActivity, LoadedAsk, LoadedWord}
-pub use Rattle.dspec_table.specs.Words.{MayLoad, MaySettle, MayTry, more, number_of, of_cpu, OpenedWord, OwnCommit, part_of, ReleasedWord, set_up, SettledWord, Shows, Since, slot_place, speculates}
-pub use Rattle.dspec_table.specs.Words.{TriedExchange, TriedWord, void_commit, void_discard}
+pub use Rattle.dspec_cpu_state.specs.Words.{counts_of, HasRoom, is_stopped_opening, IsCaller, IsRoomy, one_more_worn, parts_of_side, ShowsList, with_decided, with_fate, with_opening}
+pub use Rattle.dspec_interleaving.specs.Words.{discarded_by, idle_progress, own_closed, own_closed_slot, shown_commit, shown_discard, shown_speculate}
+pub use Rattle.dspec_table.specs.Words.{ack_place, activity_place, ask_place, at_activity, at_exchange, at_word, Attempts, calling, CommitsNow, cpu_of, Entered, EnteredIn, flight_after, Found}
+pub use Rattle.dspec_table.specs.Words.{fresh_seat, here, Holder, IfCommitting, IsAt, IsInFlight, IsOn, known, last_set_up, last_words, LoadedActivity, LoadedAsk, LoadedWord, MayLoad, MaySettle}
+pub use Rattle.dspec_table.specs.Words.{MayTry, more, nothing, number_of, of_cpu, OpenedWord, OwnCommit, part_of, ReleasedWord, set_up, SettledWord, shown, Shows, Since, slot_place, TriedExchange}
+pub use Rattle.dspec_table.specs.Words.{TriedWord}
 pub use Rattle.dspec_ring.specs.Words.{cpu_moved, CpuKnows, Pair}

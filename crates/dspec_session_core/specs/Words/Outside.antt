@@ -1,6 +1,6 @@
 -- Serves proofs. Words from the crates below, in one place. Declares nothing.
 pub use Rattle.dspec_record.specs.Words.{enabled, EnabledRows, Record, table_accepts, table_shape, table_text}
-pub use Rattle.dspec_buffer.specs.Words.{block, HasPieces, one, Piece, records}
+pub use Rattle.dspec_buffer.specs.Words.{block, BufferText, HasPieces, one, Piece, records}
 pub use Rattle.dspec_word.specs.Words.{awaits, settle_at, SlotState, Speculation}
 pub use Rattle.dspec_deeds.specs.Own.{taken}
 pub use Rattle.dspec_deeds.specs.Words.{accepted_first, ack, active, author, bare, batch_records, batches, callers, CanClose, closed_cpus, closed_slot, closed_slots, closing, committed, contents}

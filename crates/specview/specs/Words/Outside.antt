@@ -7,7 +7,6 @@ pub use Rattle.dspec_deeds.specs.Words.{IsAllowed, IsLegal, numbers_below, Offer
 pub use Rattle.dspec_interleaving.specs.Words.{or_else, setup_fault, worn_count}
 pub use Rattle.dspec_ctf.specs.Words.{Accepts, ArePacketsOfRecords, earlier, event, event_fields, events, HasNoRecordPacket, metadata_text, packet, packet_of, stamp_bytes, values_bytes}
 unfoldable pub use Rattle.dspec_ctf.specs.Words.{fault_of_metadata, form_fault, metadata_fault, names_fault}
-pub use Rattle.dspec_ctf_reading.specs.Words.{IsSoundFrom, Layout, split_packet}
 pub use Rattle.dspec_schedule.specs.Words.{header_of, Plan, plan_of, printed_text}
 unfoldable pub use Rattle.dspec_schedule.specs.Words.{schedule_of}
 pub use Rattle.dspec_replay.specs.Words.{all_buffers, call_that_ended, fault_of, IsPlayedText, IsPlayOf, IsTextFault, shapes_of, table_of, whole_call_of}

@@ -19,7 +19,7 @@ loop-to-init c =
     record {
       seat = c.load_word-word.ensures.seat;
       shown = loaded (set_up words) (cpu_of seat) doing c.args._id c.args.slot (known seat) c.requires.seat.1 seat.who_is c.load_word-word.result
-          (known c.load_word-word.new.self) c.requires.call c.load_word-word.ensures.step;
+          (known c.load_word-word.new.self) c.requires.on c.requires.call c.load_word-word.ensures.step;
       bounded = loaded_steps (set_up words) (cpu_of seat) doing c.args._id c.args.slot (known seat) c.requires.seat.1 seat.who_is c.load_word-word.result
           (known c.load_word-word.new.self) c.load_word-word.ensures.step;
       limit = c.load_word-word.ensures.limit;

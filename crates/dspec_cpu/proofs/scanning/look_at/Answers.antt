@@ -1,7 +1,8 @@
 use Rattle.std.proofs.Common.{◌≡◌, ◌∙◌, ◌∷◌, [], true, false, sym, ap, subst}
 use Rattle.dspec_deeds.specs.declared.deed.Deed.TheVariants.{Opened, Miss}
-use Rattle.dspec_cpu.specs.Words.{known, set_up, cpu_of, LoadedWord, Speculation, open_at}
+use Rattle.dspec_cpu.specs.Words.{known, set_up, cpu_of, LoadedWord, Speculation, open_at, nothing, shown, idle_progress}
 use Rattle.dspec_cpu.specs.declared.scanning.Look.TheVariants as look
+use Rattle.dspec_interleaving.proofs.StepDeeds.{missed_deeds}
 use Rattle.dspec_cpu.proofs.Slots.{passes, passed, tried}
 use Rattle.dspec_cpu.proofs.scanning.look_at.Goals as goal
 
@@ -45,4 +46,4 @@ returns-in-Err-clause-looked c =
     let free = sym (c.open_at.ensures ∙ ap (open_at word) most) ∙ c.in-Attempt.is in
     tried k (cpu_of seat) c.args.slot (known seat) c.requires.seat.1 seat.who_is word c.in-Attempt.field-0 c.in-Err.shown false u (known c.open_word.new.self) step free
     c.in-Err.ensures.step (look.Missed c.is_decided-in-Err.result)
-    (ap (λ b. Miss (cpu_of seat) c.args.slot b ∷ []) (sym c.is_decided-in-Err.ensures)) tt
+    (missed_deeds k (cpu_of seat) (shown nothing c.in-Err.shown false) idle_progress c.args.slot c.in-Err.shown ∙ ap (λ b. Miss (cpu_of seat) c.args.slot b ∷ []) (sym c.is_decided-in-Err.ensures)) tt

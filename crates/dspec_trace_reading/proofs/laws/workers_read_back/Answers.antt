@@ -1,4 +1,4 @@
-use Rattle.dspec_trace_reading.proofs.Filing.{FilesLaws}
+use Rattle.dspec_filing_reading.proofs.FilesLaws.{FilesLaws}
 use Rattle.dspec_trace_reading.proofs.Read.{kept_read, taken_read, timed_kept_read, timed_read}
 use Rattle.dspec_trace_reading.proofs.laws.workers_read_back.Goals as goal
 

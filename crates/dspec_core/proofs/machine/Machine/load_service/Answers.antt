@@ -1,12 +1,13 @@
 -- The table's act at the word and the acknowledgement that the list shows.
 use Rattle.std.proofs.Common.{◌+◌, [], Some, sym, ap, ◌∙◌, subst, arith}
-use Rattle.dspec_core.specs.Words.{CanBeReleased, settle_at, ack, word_at, progress_of, Makes, history, state_of, CpuStep, served}
+use Rattle.dspec_core.specs.Words.{CanBeReleased, settle_at, ack, word_at, progress_of, Makes, history, state_of, CpuStep, served, measured}
 use Rattle.dspec_interleaving.specs.declared.flight.CpuProgress.{CpuProgress}
 use Rattle.dspec_interleaving.specs.declared.flight.CallPlace.TheVariants as flight
 use Rattle.dspec_core.proofs.MachineReads.{cpu_read}
 use Rattle.dspec_core.proofs.Makings.{adds_none, step_made}
 use Rattle.dspec_core.proofs.SlotReads.{row_read, slot_read}
-use Rattle.dspec_interleaving.proofs.ServiceMoves.{served_deeds, store_next, passed_by}
+use Rattle.dspec_interleaving.proofs.StepDeeds.{served_deeds}
+use Rattle.dspec_interleaving.proofs.ServiceMoves.{store_next, passed_by}
 use Rattle.dspec_interleaving.proofs.StepReads.{can_be_released}
 use Rattle.dspec_core.proofs.machine.Machine.load_service.Goals as goal
 
@@ -55,11 +56,11 @@ returns-in_default g c =
     let me = progress_of (state_of m).progresses a in
     let reads = slot_read c.requires.shown a s c.requires.cpu c.requires.slot c.index.ensures c.index-word.ensures c.index-acked.ensures in
     let is = passed_by shape k a h me s c.args.sum (word_at s h) (settle_at (word_at s h) (ack a s h)) (λ e. c.in_default.not-Granted (row_read reads c.settle_at.ensures ∙ e)) in
-    let moved = served shape k a h me s [] c.args.sum in
+    let moved = served k a (measured shape k a h) me s [] c.args.sum in
     let made : Makes has capacity m c.serve_next.new.self a moved c.serve_next.result = record {
       shown = c.serve_next.ensures.shown;
       state = c.serve_next.ensures.state ∙ ap (λ ds. (Rattle.dspec_interleaving.specs.Turns.moved_to (state_of m) a record
-          { progress = moved.progress; deeds = ds; answer = moved.answer }).state) (sym (served_deeds shape k a h me s [] c.args.sum));
+          { progress = moved.progress; deeds = ds; answer = moved.answer }).state) (sym (served_deeds k a (measured shape k a h) me s [] c.args.sum));
       schema = c.serve_next.ensures.schema;
       answered = c.serve_next.ensures.answer;
     } in

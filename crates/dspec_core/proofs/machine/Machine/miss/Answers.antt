@@ -2,7 +2,7 @@
 use Rattle.std.proofs.Common.{◌≡◌, ◌≤◌, ◌<◌, ◌+◌, ◌==◌, ℕ, Bool, true, false, List, [], ◌∷◌, Option, Some, None, if◌then◌else◌, refl, sym, ap, ◌∙◌, subst, arith}
 use Rattle.std.proofs.lemmas.Bool.Decides.{nat_tests}
 use Rattle.dspec_record.specs.declared.field.Shape.{Shape}
-use Rattle.dspec_core.specs.Words.{is_decided, SlotState, progress_of, PlayState, history, state_of, missed, missed_busy}
+use Rattle.dspec_core.specs.Words.{is_decided, SlotState, progress_of, PlayState, history, state_of, missed, missed_busy, measured}
 use Rattle.dspec_deeds.specs.declared.calls.Answer.{Answer}
 use Rattle.dspec_deeds.specs.declared.calls.Answer.TheVariants as answer
 use Rattle.dspec_deeds.specs.declared.calls.Opening.{Opening}
@@ -28,13 +28,13 @@ is_last s n within most = grind (arith, nat_tests)
 failed : (shape : ℕ → Option Shape) (k : Config) (c : ℕ) (h : List Deed) (me : CpuProgress) (s : ℕ) (w : SlotState) (busy seen : Bool) (told : Opening) (a : Option Answer)
     → (s == k.nspec) ≡ true → busy ≡ is_decided w.code → seen ≡ missed_busy c (Miss c s busy ∷ h) → told ≡ (if seen then opening.Busy else opening.Unavailable) → a ≡ Some
     (answer.Opening told)
-    → record { progress = record me { flight = None; steps = 0 }; deeds = Miss c s busy ∷ []; answer = a } ≡ missed shape k c h me s w
+    → record { progress = record me { flight = None; steps = 0 }; deeds = Miss c s busy ∷ []; answer = a } ≡ missed k c (measured shape k c h) me s w
 failed shape k c h me s w busy seen told a last code found tells is = rw (last, is, tells, found, code) refl
 
 -- the next slot of a call that goes on
 goes_next : (shape : ℕ → Option Shape) (k : Config) (c : ℕ) (h : List Deed) (me : CpuProgress) (s : ℕ) (w : SlotState) (busy : Bool) (a : Option Answer) → (s == k.nspec) ≡ false
     → busy ≡ is_decided w.code → a ≡ None
-    → record { progress = record me { flight = Some (flight.ScanLoad (s + 1)); steps = me.steps + 1 }; deeds = Miss c s busy ∷ []; answer = a } ≡ missed shape k c h me s w
+    → record { progress = record me { flight = Some (flight.ScanLoad (s + 1)); steps = me.steps + 1 }; deeds = Miss c s busy ∷ []; answer = a } ≡ missed k c (measured shape k c h) me s w
 goes_next shape k c h me s w busy a more code none = rw (more, none, code) refl
 
 pub returns-then-slot-self-clause-makes : goal.returns-then-slot-self-clause-makes

@@ -27,6 +27,6 @@ decide_nothing-requires-2-clause-may g c =
     let worn : nat_le k.max_calls (calls a h) ≡ false = sym c.is_worn.ensures ∙ c.if-is_worn.false in
     let runs : halted h ≡ false = sym c.requires.stands.shown.active ∙ c.if-self.false in
     let out : in_range k id ≡ false = sym c.has_slot.ensures ∙ c.if-has_slot.false in
-    let is : cpu_step shape k a h me (begun_of d id) ≡ ends shape k a h me (deed_of d a id decided.Void ∷ []) (answer_of decided.Void) = begins shape k a h me id d ∙ rw
+    let is : cpu_step shape k a h me (begun_of d id) ≡ ends me (deed_of d a id decided.Void ∷ []) (answer_of decided.Void) = begins shape k a h me id d ∙ rw
     (worn, runs, out) refl in
     may_enter c.requires.stands (step_legal shape (state_of m) c.requires.stands.coherent a c.requires.stands.cpu (begun_of d id) c.requires.stands.flight _ is)

@@ -1,14 +1,15 @@
 -- The table's act at the word that the list shows.
 use Rattle.std.proofs.Common.{◌≡◌, [], ◌∷◌, ◌++◌, ◌+◌, List, Some, IfOk, sym, ap, ◌∙◌, subst}
 use Rattle.dspec_word.specs.declared.act.Act.TheVariants.{Attempt}
-use Rattle.dspec_core.specs.Words.{is_decided, SlotState, CanBeReleased, open_at, word_at, IsAllowed, progress_of, Makes, history, state_of, CpuStep, missed}
+use Rattle.dspec_core.specs.Words.{is_decided, SlotState, CanBeReleased, open_at, word_at, IsAllowed, progress_of, Makes, history, state_of, CpuStep, missed, measured}
 use Rattle.dspec_deeds.specs.declared.deed.Deed.{Deed}
 use Rattle.dspec_deeds.specs.declared.deed.Deed.TheVariants.{Miss}
 use Rattle.dspec_interleaving.specs.declared.flight.CpuProgress.{CpuProgress}
 use Rattle.dspec_interleaving.specs.declared.flight.CallPlace.TheVariants as flight
 use Rattle.dspec_core.proofs.Makings.{adds_none, may_enter, step_made}
 use Rattle.dspec_core.proofs.OneMore.{word_there}
-use Rattle.dspec_interleaving.proofs.ScanMoves.{missed_deeds, shown_misses, scan_tried}
+use Rattle.dspec_interleaving.proofs.StepDeeds.{missed_deeds}
+use Rattle.dspec_interleaving.proofs.ScanMoves.{shown_misses, scan_tried}
 use Rattle.dspec_interleaving.proofs.StepReads.{can_be_released, flight_stands, steps_fit, step_legal}
 use Rattle.dspec_core.proofs.machine.Machine.step_scan_load.Goals as goal
 
@@ -36,10 +37,10 @@ miss-requires g c =
     let word = word_there k h m.words.items s c.index-word.result.now at.0.0 at.0.1 c.requires.stands.shown.words c.index-word.ensures in
     let is = shown_misses shape k a h me s (word_at s h) (open_at (word_at s h) k.max_issues)
     (λ to e. c.in_default.not-Attempt to (c.open_at.ensures ∙ (ap (λ (w : SlotState). open_at w k.max_issues) word ∙ e))) in
-    let legal = step_legal shape (state_of m) coherent a c.requires.stands.cpu f c.requires.stands.flight (missed shape k a h me s (word_at s h)) is in
+    let legal = step_legal shape (state_of m) coherent a c.requires.stands.cpu f c.requires.stands.flight (missed k a (measured shape k a h) me s (word_at s h)) is in
     record {
       may = may_enter c.requires.stands (subst (λ (w : SlotState). IsAllowed shape k (Miss a s (is_decided w.code) ∷ h)) (sym word)
-          (subst (λ (ds : List Deed). IsAllowed shape k (ds ++ h)) (missed_deeds shape k a h me s (word_at s h)) legal));
+          (subst (λ (ds : List Deed). IsAllowed shape k (ds ++ h)) (missed_deeds k a (measured shape k a h) me s (word_at s h)) legal));
       few = c.requires.stands.few;
       slot = at.0.1;
       steps = steps_fit shape (state_of m) coherent a c.requires.stands.cpu f c.requires.stands.flight;
@@ -78,6 +79,6 @@ returns-in_default g c =
     (λ to e. c.in_default.not-Attempt to (c.open_at.ensures ∙ (ap (λ (w : SlotState). open_at w k.max_issues) word ∙ e))) in
     record {
       makes = subst (λ (x : CpuStep). IfOk c.miss.result (λ answer. Makes g.B.TraceBuffer.has g.B.TraceBuffer.capacity m c.miss.new.self a x answer))
-          (ap (missed shape k a h me s) word ∙ sym is) c.miss.ensures.makes;
+          (ap (missed k a (measured shape k a h) me s) word ∙ sym is) c.miss.ensures.makes;
       refused = c.miss.ensures.refused;
     }

@@ -23,5 +23,5 @@ enter_unspoken-requires-2-clause-may g c =
     let worn : nat_le k.max_calls (calls a h) ≡ false = sym c.is_worn.ensures ∙ c.if-is_worn.false in
     let runs : halted h ≡ false = sym c.requires.stands.shown.active ∙ c.if-self.false in
     let out : in_range k c.args.id ≡ false = sym c.has_slot.ensures ∙ c.if-has_slot.false in
-    let is : cpu_step shape k a h me f ≡ ends shape k a h me (Speculate a c.args.id c.args.rec.now spoken.Void ∷ []) (answer.Spoken spoken_answer.Void) = rw (worn, runs, out) refl in
+    let is : cpu_step shape k a h me f ≡ ends me (Speculate a c.args.id c.args.rec.now spoken.Void ∷ []) (answer.Spoken spoken_answer.Void) = rw (worn, runs, out) refl in
     may_enter c.requires.stands (step_legal shape (state_of m) c.requires.stands.coherent a c.requires.stands.cpu f c.requires.stands.flight _ is)

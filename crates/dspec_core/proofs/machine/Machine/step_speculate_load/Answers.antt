@@ -1,7 +1,7 @@
 -- The table's act at the word that the list shows.
 use Rattle.std.proofs.Common.{◌≡◌, refl, sym, ◌∙◌, subst}
 use Rattle.dspec_word.specs.declared.act.Act.TheVariants.{Granted}
-use Rattle.dspec_core.specs.Words.{CanBeReleased, speculate_at, is_among, callers, word_at, progress_of, history, state_of, cpu_step, spoken_at}
+use Rattle.dspec_core.specs.Words.{CanBeReleased, speculate_at, is_among, callers, word_at, progress_of, history, state_of, cpu_step, spoken_at, measured}
 use Rattle.dspec_interleaving.specs.declared.flight.CallPlace.TheVariants as flight
 use Rattle.dspec_interleaving.proofs.StepReads.{can_be_released, flight_stands, step_legal}
 use Rattle.dspec_interleaving.proofs.TableReads.{speculate_reads}
@@ -26,7 +26,7 @@ speculate-requires-clause-may g c =
     let f = flight.SpeculateLoad id r in
     let act : speculate_at (word_at id.slot h) id (is_among a (callers id h)) ≡ Granted =
     sym (speculate_reads h a id c.word_of-word.result c.is_mine-mine.result c.word_of-word.ensures c.is_mine-mine.ensures) ∙ (sym c.speculate_at.ensures ∙ c.in-Granted.is) in
-    let is : cpu_step shape m.config a h me f ≡ spoken_at shape m.config a h me id r = rw act refl in
+    let is : cpu_step shape m.config a h me f ≡ spoken_at m.config a (measured shape m.config a h) me id r = rw act refl in
     may_enter c.requires.stands (step_legal shape (state_of m) c.requires.stands.coherent a c.requires.stands.cpu f c.requires.stands.flight _ is)
 
 pub speculate-requires-clause-word : goal.speculate-requires-clause-word

@@ -1,7 +1,7 @@
 -- The table's act at the word that the list shows, expected or not.
 use Rattle.std.proofs.Common.{◌≡◌, [], ◌∷◌, ◌+◌, true, false, Option, Some, None, refl, sym, ap, ◌∙◌, subst}
 use Rattle.dspec_word.specs.declared.act.Act.TheVariants.{Granted, Attempt}
-use Rattle.dspec_core.specs.Words.{CanBeReleased, speculate_at, is_among, callers, word_at, progress_of, history, state_of, CpuStep, cpu_step, same_word, shown_speculate, spoken_at}
+use Rattle.dspec_core.specs.Words.{CanBeReleased, speculate_at, is_among, callers, word_at, progress_of, history, state_of, CpuStep, cpu_step, same_word, shown_speculate, spoken_at, measured}
 use Rattle.dspec_deeds.specs.declared.calls.Answer.{Answer}
 use Rattle.dspec_deeds.specs.declared.deed.Deed.TheVariants.{Speculate}
 use Rattle.dspec_deeds.specs.declared.deed.SpeculateFate.TheVariants as spoken
@@ -31,7 +31,7 @@ speculate-requires-clause-may g c =
     let f = flight.SpeculateTry id r c.args.from in
     let same : same_word (word_at id.slot h) c.args.from ≡ true =
     ap (λ w. same_word w c.args.from) (sym c.word_of-word.ensures) ∙ (sym (words_test c.word_of-word.result c.args.from) ∙ (sym c.eq.ensures ∙ c.if-eq.true)) in
-    let is : cpu_step shape m.config a h me f ≡ spoken_at shape m.config a h me id r = rw same refl in
+    let is : cpu_step shape m.config a h me f ≡ spoken_at m.config a (measured shape m.config a h) me id r = rw same refl in
     may_enter c.requires.stands (step_legal shape (state_of m) c.requires.stands.coherent a c.requires.stands.cpu f c.requires.stands.flight _ is)
 
 pub speculate-requires-clause-word : goal.speculate-requires-clause-word
@@ -61,7 +61,7 @@ speculate-requires-in-Granted-clause-may g c =
     ap (λ w. same_word w c.args.from) (sym c.word_of-word.ensures) ∙ (sym (words_test c.word_of-word.result c.args.from) ∙ (sym c.eq.ensures ∙ c.if-eq.false)) in
     let act : speculate_at (word_at id.slot h) id (is_among a (callers id h)) ≡ Granted =
     sym (speculate_reads h a id c.word_of-word.result c.is_mine-mine.result c.word_of-word.ensures c.is_mine-mine.ensures) ∙ (sym c.speculate_at-act.ensures ∙ c.in-Granted.is) in
-    let is : cpu_step shape m.config a h me f ≡ spoken_at shape m.config a h me id r = rw other (rw act refl) in
+    let is : cpu_step shape m.config a h me f ≡ spoken_at m.config a (measured shape m.config a h) me id r = rw other (rw act refl) in
     may_enter c.requires.stands (step_legal shape (state_of m) c.requires.stands.coherent a c.requires.stands.cpu f c.requires.stands.flight _ is)
 
 pub speculate-requires-in-Granted-clause-word : goal.speculate-requires-in-Granted-clause-word
@@ -91,7 +91,7 @@ enter_unspoken-requires-clause-may g c =
     ap (λ w. same_word w c.args.from) (sym c.word_of-word.ensures) ∙ (sym (words_test c.word_of-word.result c.args.from) ∙ (sym c.eq.ensures ∙ c.if-eq.false)) in
     let acts = c.speculate_at-act.ensures ∙ speculate_reads h a id c.word_of-word.result c.is_mine-mine.result c.word_of-word.ensures c.is_mine-mine.ensures in
     let act = speculate_at (word_at id.slot h) id (is_among a (callers id h)) in
-    let shown : cpu_step shape m.config a h me f ≡ shown_speculate shape m.config a h me id r (word_at id.slot h) act = rw other refl in
+    let shown : cpu_step shape m.config a h me f ≡ shown_speculate m.config a (measured shape m.config a h) me id r (word_at id.slot h) act = rw other refl in
     let is = shown_voids shape m.config a h me id r (word_at id.slot h) act (λ e. c.in_default-act.not-Granted (acts ∙ e)) (λ to e. c.in_default-act.not-Attempt to (acts ∙ e)) in
     may_enter c.requires.stands (step_legal shape (state_of m) c.requires.stands.coherent a c.requires.stands.cpu f c.requires.stands.flight _ (shown ∙ is))
 
@@ -127,7 +127,7 @@ returns-in_ok-enter_unspoken-in_default-act-clause-makes g c =
     ap (λ w. same_word w c.args.from) (sym c.word_of-word.ensures) ∙ (sym (words_test c.word_of-word.result c.args.from) ∙ (sym c.eq.ensures ∙ c.if-eq.false)) in
     let acts = c.speculate_at-act.ensures ∙ speculate_reads h a id c.word_of-word.result c.is_mine-mine.result c.word_of-word.ensures c.is_mine-mine.ensures in
     let act = speculate_at (word_at id.slot h) id (is_among a (callers id h)) in
-    let shown : cpu_step shape m.config a h me (flight.SpeculateTry id r c.args.from) ≡ shown_speculate shape m.config a h me id r (word_at id.slot h) act = rw other refl in
+    let shown : cpu_step shape m.config a h me (flight.SpeculateTry id r c.args.from) ≡ shown_speculate m.config a (measured shape m.config a h) me id r (word_at id.slot h) act = rw other refl in
     let is = shown_voids shape m.config a h me id r (word_at id.slot h) act (λ e. c.in_default-act.not-Granted (acts ∙ e)) (λ to e. c.in_default-act.not-Attempt to (acts ∙ e)) in
     let Ends : Option Answer → CpuStep = λ x. record { progress = record me { flight = None; steps = 0 }; deeds = Speculate a id r spoken.Void ∷ []; answer = x } in
     step_made g.B.TraceBuffer.has g.B.TraceBuffer.capacity m c.enter_unspoken.new.self c.end.new.self a (Speculate a id r spoken.Void ∷ [])

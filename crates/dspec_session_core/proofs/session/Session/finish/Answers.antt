@@ -1,5 +1,6 @@
 use Rattle.std.proofs.Common.{◌<◌, ◌≤◌, ◌∙◌, length, sym, ap, subst}
 use Rattle.std.proofs.lemmas.List.{length-reverse}
+use Rattle.dspec_buffer.proofs.SchemaLaws.{SchemaLaws}
 use Rattle.dspec_deeds.proofs.SetUp.{most_cpus}
 use Rattle.dspec_session_core.specs.Words.{set_up, words_of, CallsMade, view_of, called_at, entered_at, taken_at, worn_at}
 use Rattle.dspec_session_core.proofs.Ends.{none_in}
@@ -37,10 +38,16 @@ returns-clause-one_list g c = λ schema is p had.
     let text = g.S.Schema.text in
     let k = set_up (words_of c.args.self.shared) in
     let cpus = c.args.self.cpus.items in
+    let laws : SchemaLaws (shape_of schema) (accepted schema) (text schema) = record {
+      zero_has_none = g.met.S.Schema.zero_has_none schema;
+      shapes_fit = g.met.S.Schema.shapes_fit schema;
+      texts_fit = g.met.S.Schema.texts_fit schema;
+      texts_differ = g.met.S.Schema.texts_differ schema;
+    } in
     let closed = returns-clause-closed g c schema is p had in (
       closed.0,
       closed.1,
-      promised_with (shape_of schema) (accepted schema) (text schema) k (worn_at cpus) (taken_at c.args.self.consumer) (view_of c.args.self.consumer).own _ p closed.0 closed.1
+      promised_with (shape_of schema) (accepted schema) (text schema) laws k (worn_at cpus) (taken_at c.args.self.consumer) (view_of c.args.self.consumer).own _ p closed.0 closed.1
           (entered_at cpus) (called_at cpus)
           (λ n lt.
           let (cpu, at) = there_is cpus n (subst (λ m. n < m) (sym is.all) lt) in

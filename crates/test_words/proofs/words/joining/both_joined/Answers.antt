@@ -1,7 +1,7 @@
 use Rattle.std.proofs.Common.{ℕ, ◌∙◌, sym, subst}
 use Rattle.test_words.specs.Words.{MayTry, MayLoad, joined_word, known}
 use Rattle.dspec_table.proofs.Flights.{tries_again}
-use Rattle.test_words.proofs.Turns.{joins}
+use Rattle.test_words.proofs.Turns.{joins, shows_word}
 use Rattle.test_words.proofs.words.joining.both_joined.Goals as goal
 
 pub join_word-requires-clause-call : goal.join_word-requires-clause-call
@@ -38,4 +38,5 @@ join_word-requires-3-clause-call c =
     let may = subst (λ (n : ℕ). MayLoad k (known seat) n call 1 call.op) (sym c.shown-theirs.ensures.seat.1) may in
     subst (λ (n : ℕ). MayTry k (known new) n call 1 from (joined_word from)) (sym c.join_word-2.ensures.tried.seat.1)
     (joins k (known seat) (known new) seat.cpu call c.args.id c.args.rec from c.in-Attempt-speculate_at-2._again c.requires.op (sym c.speculate_at-3.ensures ∙ c.in-Attempt-speculate_at-2.is)
-    (λ to attempts. tries_again k (known seat) (known new) seat.cpu 1 call from to seat.who_is may c.in-Err.ensures.tried.step attempts)).0
+    (λ to attempts. tries_again k (known seat) (known new) seat.cpu 1 call from to seat.who_is may
+    (shows_word (known seat) (known new) call c.args.id c.args.rec from c.requires.op c.in-Err.ensures.tried.step) attempts)).0

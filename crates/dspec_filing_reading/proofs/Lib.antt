@@ -1,0 +1,8 @@
+mod Calling
+pub mod FilesLaws
+mod Folding
+pub mod Fronts
+pub mod Growing
+mod Packets
+pub mod Sharing
+mod Standing

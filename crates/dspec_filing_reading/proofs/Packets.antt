@@ -1,0 +1,126 @@
+-- What is read of packets, where more are written behind them.
+use Rattle.std.proofs.Common.{◌≡◌, ◌<◌, ◌≤◌, ◌^◌, ◌==◌, ◌++◌, ℕ, Bool, true, false, cond, List, [], ◌∷◌, refl, ap, sym, subst, ◌∙◌, arith}
+use Rattle.std.proofs.Common.{length, length-append, map, All}
+use Rattle.std.specs.Prelude.{filter, slice_index, slice_range}
+use Rattle.std.specs.List.{flat_map}
+use Rattle.std.proofs.lemmas.Bool.{eqb-true, eqb-false, ne_eqb}
+use Rattle.std.proofs.lemmas.Grind.{flat_map-append}
+use Rattle.std.proofs.lemmas.List.{append-nil, map-append}
+use Rattle.std.proofs.lemmas.List.Elements.{All-append, All-cons, All-nil, All-weaker, filter-append}
+use Rattle.dspec_filing_reading.specs.Words.{Record, EnabledRows, missed_packets, of_file, run_files, run_packet, run_packets, told_by, Accepts, AreRuns, IsFileRun, FileTells, PartTells, file_bytes}
+use Rattle.dspec_filing_reading.specs.Words.{event_of, layout_of, EventRead, PacketRead, ReadsPackets}
+use Rattle.dspec_record.specs.declared.header.Header.TheVariants as header
+use Rattle.dspec_ctf.specs.declared.form.Form.TheVariants.{ByTime}
+use Rattle.dspec_ctf.specs.declared.names.Names.{Names}
+use Rattle.dspec_ctf.specs.declared.rows.Run.{Run}
+use Rattle.dspec_filing_reading.proofs.FilesLaws.{FilesLaws, told_other, told_same}
+use Rattle.dspec_filing_reading.proofs.Fronts.{none_between}
+use Rattle.dspec_filing_reading.proofs.Growing.{grown, told_more}
+use Rattle.dspec_filing_reading.proofs.Sharing.{of_more, run_few, spread_each}
+
+-- packets, each for one of 64 files
+abbrev pub AreFew : List (ℕ × List ℕ) → Type 0
+AreFew ps = All (λ (p : ℕ × List ℕ). p.0 < 64) ps
+
+-- a file has the bytes of more packets behind what it has
+pub bytes_more : (file : ℕ) (ps qs : List (ℕ × List ℕ)) → file_bytes file (ps ++ qs) ≡ file_bytes file ps ++ file_bytes file qs
+bytes_more file ps qs =
+    ap (flat_map (λ (p : ℕ × List ℕ). p.1)) (filter-append (λ (p : ℕ × List ℕ). p.0 == file) ps qs)
+    ∙ flat_map-append (λ (p : ℕ × List ℕ). p.1) (filter (λ (p : ℕ × List ℕ). p.0 == file) ps) (filter (λ (p : ℕ × List ℕ). p.0 == file) qs)
+
+one_few : (file : ℕ) (bytes : List ℕ) → file < 64 → AreFew ((file, bytes) ∷ [])
+one_few file bytes few = All-cons (λ (p : ℕ × List ℕ). p.0 < 64) (file, bytes) [] few (All-nil (λ (p : ℕ × List ℕ). p.0 < 64))
+
+module _ (uuid : List ℕ) (e : EnabledRows) (names : Names) (hertz cpu : ℕ) where
+  abbrev pub Reads : List (ℕ × List ℕ) → List Record → ℕ → Type 0
+  Reads packets stream told = ReadsPackets uuid e names hertz cpu packets stream told
+
+  -- no packets and no records
+  pub reads_none : Reads [] [] 0
+  reads_none = record {
+    few_files = All-nil (λ (p : ℕ × List ℕ). p.0 < 64);
+    files = [];
+    each = refl;
+    few = All-nil (λ file. file < 64);
+    tells = λ file. record {
+      packets = [];
+      read = refl;
+      has = refl;
+      misses = sym (told_same (file == 0) 0);
+      whose = All-nil (λ (p : PacketRead). (p.uuid ≡ uuid) × (p.cpu ≡ cpu));
+    };
+  }
+
+  -- no more packets and no more records
+  pub reads_same : (ps : List (ℕ × List ℕ)) (stream rs : List Record) (place told : ℕ) → Reads ps stream told → Reads (ps ++ []) (stream ++ slice_range rs place place) told
+  reads_same ps stream rs place told reads =
+      subst (λ qs. Reads qs (stream ++ slice_range rs place place) told) (sym (append-nil ps))
+      (subst (λ qs. Reads ps qs told) (sym (ap (λ qs. stream ++ qs) (none_between rs place) ∙ append-nil stream)) reads)
+
+module _ (laws : FilesLaws) (uuid : List ℕ) (e : EnabledRows) (names : Names) (hertz cpu : ℕ) (low : cpu < 2 ^ 32) (long : length uuid ≡ 16) (stamped : e.header ≡ header.Two) where
+  abbrev Tells : ℕ → List ℕ → List EventRead → ℕ → Type 0
+  Tells file bytes es told = FileTells (layout_of e names (ByTime hertz)) uuid cpu bytes es (told_by file told)
+
+  -- one run's packet
+  pub reads_run : (ps : List (ℕ × List ℕ)) (stream : List Record) (lasts after : List ℕ) (rs : List Record) (from : ℕ) (run : Run) (told : ℕ) → told < 2 ^ 64 → All (Accepts e) rs
+      → length lasts ≤ 64 → IsFileRun lasts rs from run after → Reads uuid e names hertz cpu ps stream told
+      → Reads uuid e names hertz cpu (ps ++ (run.file, run_packet uuid e told cpu run.file (slice_range rs from run.end)) ∷ []) (stream ++ slice_range rs from run.end) told
+  reads_run ps stream lasts after rs from run told small accepted few is reads =
+      let one : List (ℕ × List ℕ) = run_packets uuid e told cpu rs from (run ∷ []) in
+      let more : List ℕ = run_files from (run ∷ []) in
+      let part : List Record = slice_range rs from run.end in
+      let are : AreRuns lasts rs from (run ∷ []) run.end after = (after, (is, (refl, refl))) in
+      let covers = laws.runs_have lasts after rs from run.end (run ∷ []) are in
+      let all = laws.have_all lasts part more after few covers.1 in
+      let below = run_few laws.have_all laws.runs_have lasts rs from run after few is in
+      record {
+        few_files = All-append (λ (p : ℕ × List ℕ). p.0 < 64) ps one reads.few_files (one_few run.file (run_packet uuid e told cpu run.file part) below.0);
+        files = reads.files ++ more;
+        each = omega (arith, length-append reads.files more, length-append stream part, reads.each, spread_each lasts part more after covers.1);
+        few = All-append (λ file. file < 64) reads.files more reads.few
+            (All-weaker (λ file. file < length after) (λ file. file < 64) (λ file there. omega (arith, there, all.3)) more all.2);
+        tells = λ file.
+            let tells_part : PartTells (layout_of e names (ByTime hertz)) uuid cpu (file_bytes file one) (map (event_of e names (ByTime hertz)) (of_file file more part)) (told_by file told) =
+            subst (λ qs. PartTells (layout_of e names (ByTime hertz)) uuid cpu (file_bytes file one) (map (event_of e names (ByTime hertz)) (of_file file more qs)) (told_by file told)) covers.0
+            (laws.runs e names hertz uuid told cpu rs file lasts after from run.end (run ∷ []) stamped long small low accepted are) in
+            let split : map (event_of e names (ByTime hertz)) (of_file file reads.files stream) ++ map (event_of e names (ByTime hertz)) (of_file file more part)
+            ≡ map (event_of e names (ByTime hertz)) (of_file file (reads.files ++ more) (stream ++ part)) =
+            sym (ap (map (event_of e names (ByTime hertz))) (of_more file reads.files more stream part reads.each)
+            ∙ map-append (event_of e names (ByTime hertz)) (of_file file reads.files stream) (of_file file more part)) in
+            subst (λ bytes. Tells file bytes (map (event_of e names (ByTime hertz)) (of_file file (reads.files ++ more) (stream ++ part))) told) (sym (bytes_more file ps one))
+            (subst (λ es. Tells file (file_bytes file ps ++ file_bytes file one) es told) split
+            (grown laws.join (layout_of e names (ByTime hertz)) uuid cpu (file_bytes file ps) (file_bytes file one) (map (event_of e names (ByTime hertz)) (of_file file reads.files stream))
+            (map (event_of e names (ByTime hertz)) (of_file file more part)) (told_by file told) (reads.tells file) tells_part));
+      }
+
+  -- what tells more as missed: the first file has it
+  tells_missed : (ps : List (ℕ × List ℕ)) (lasts : List ℕ) (told missed : ℕ) (es : List EventRead) → told < missed → missed < 2 ^ 64 → slice_index lasts 0 < 2 ^ 64 → (file : ℕ)
+      → Tells file (file_bytes file ps) es told → (b : Bool) → (file == 0) ≡ b
+      → Tells file (file_bytes file (ps ++ (0, missed_packets uuid told missed cpu lasts) ∷ [])) es missed
+  tells_missed ps lasts told missed es rises small at file tells true is =
+      let bytes : List ℕ = missed_packets uuid told missed cpu lasts in
+      let one : List (ℕ × List ℕ) = (0, bytes) ∷ [] in
+      let grows : file_bytes 0 (ps ++ one) ≡ file_bytes 0 ps ++ bytes = bytes_more 0 ps one ∙ ap (λ xs. file_bytes 0 ps ++ xs) (append-nil bytes) in
+      subst (λ n. Tells n (file_bytes n (ps ++ one)) es missed) (sym (eqb-true file 0 is))
+      (subst (λ xs. FileTells (layout_of e names (ByTime hertz)) uuid cpu xs es missed) (sym grows)
+      (told_more laws.join (layout_of e names (ByTime hertz)) uuid cpu (file_bytes 0 ps) bytes es told missed
+      (subst (λ n. Tells n (file_bytes n ps) es told) (eqb-true file 0 is) tells)
+      (laws.missed e names hertz uuid told missed cpu lasts stamped long (omega (arith, rises, small)) small low at) (omega (arith, rises))))
+  tells_missed ps lasts told missed es rises small at file tells false is =
+      let p : ℕ × List ℕ = (0, missed_packets uuid told missed cpu lasts) in
+      let other : (0 == file) ≡ false = ne_eqb 0 file (λ s. eqb-false file 0 is (sym s)) in
+      let none : file_bytes file (p ∷ []) ≡ [] = ap (λ b. flat_map (λ (x : ℕ × List ℕ). x.1) (cond b (p ∷ []) [])) other in
+      let stays : file_bytes file (ps ++ p ∷ []) ≡ file_bytes file ps = bytes_more file ps (p ∷ []) ∙ ap (λ xs. file_bytes file ps ++ xs) none ∙ append-nil (file_bytes file ps) in
+      subst (λ xs. Tells file xs es missed) (sym stays)
+      (subst (λ n. FileTells (layout_of e names (ByTime hertz)) uuid cpu (file_bytes file ps) es n) (told_other file told is ∙ sym (told_other file missed is)) tells)
+
+  pub reads_missed : (ps : List (ℕ × List ℕ)) (stream : List Record) (lasts : List ℕ) (told missed : ℕ) → told < missed → missed < 2 ^ 64 → slice_index lasts 0 < 2 ^ 64
+      → Reads uuid e names hertz cpu ps stream told → Reads uuid e names hertz cpu (ps ++ (0, missed_packets uuid told missed cpu lasts) ∷ []) stream missed
+  reads_missed ps stream lasts told missed rises small at reads = record {
+    few_files = All-append (λ (p : ℕ × List ℕ). p.0 < 64) ps ((0, missed_packets uuid told missed cpu lasts) ∷ []) reads.few_files
+        (one_few 0 (missed_packets uuid told missed cpu lasts) (omega arith));
+    files = reads.files;
+    each = reads.each;
+    few = reads.few;
+    tells = λ file. tells_missed ps lasts told missed (map (event_of e names (ByTime hertz)) (of_file file reads.files stream)) rises small at file (reads.tells file) (file == 0) refl;
+  }

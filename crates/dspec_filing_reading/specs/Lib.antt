@@ -1,0 +1,4 @@
+pub mod Sessions
+pub mod Reading
+pub mod Laws
+pub mod Words

@@ -1,0 +1,169 @@
+//! Traces as a document of Chrome's Trace Event form, which ui.perfetto.dev and chrome://tracing open: a process for each folder, and in
+//! it a row for each CPU.
+
+use crate::merging::{Merged, Source};
+use crate::showing::OpenedTraces;
+use dspec_ctf_reading::Metadata;
+use dspec_ctf_reading::folder::{Mark, Track, What, chrome_event, chrome_missed, chrome_name};
+use std::alloc::{AllocError, Global};
+use std::io;
+use std::io::Write;
+
+/// What stands before the events.
+pub(crate) const FRONT: &[u8] = b"{\"displayTimeUnit\":\"ns\",\"traceEvents\":[\n";
+
+/// What stands behind them.
+pub(crate) const END: &[u8] = b"\n]}\n";
+
+/// How far events of a trace without a clock are drawn from one another, in nanoseconds.
+pub(crate) const STEP: u64 = 1000;
+
+/// The row of a file's events.
+pub(crate) fn track_of(source: &Source) -> Track {
+    Track {
+        process: (source.folder as u64).saturating_add(1),
+        number: u64::from(source.cpu).saturating_add(1),
+    }
+}
+
+/// What a trace is called: by its program, process and machine, where it tells them, else by its folder.
+fn name_of(alloc: Global, path: &str, metadata: &Metadata<'_>) -> Result<String, AllocError> {
+    match metadata.process {
+        Some(process) => {
+            let (host, name, pid) = (process.host, process.name, process.pid);
+            format!(in alloc; "{name} ({pid}) on {host}")
+        }
+        None => String::from_str(alloc, path),
+    }
+}
+
+/// The event that names a trace.
+pub(crate) fn process_name(
+    alloc: Global,
+    traces: &OpenedTraces<'_, '_, '_>,
+    source: &Source,
+) -> Result<String, AllocError> {
+    let (Some(opened), Some(metadata)) = (
+        traces.opened.get(source.folder),
+        traces.metadatas.get(source.folder),
+    ) else {
+        return Ok(String::new(alloc));
+    };
+    let name = name_of(alloc, opened.path, metadata)?;
+    chrome_name(alloc, track_of(source), "process_name", name.as_str())
+}
+
+/// What the row of a CPU is called.
+pub(crate) fn cpu_name(alloc: Global, merged: &Merged, cpu: u32) -> Result<String, AllocError> {
+    match merged.base {
+        Some(_) => format!(in alloc; "cpu {cpu}"),
+        None => format!(in alloc; "cpu {cpu} (in order, without a clock)"),
+    }
+}
+
+/// The event that names the row of a CPU.
+fn row_name(alloc: Global, merged: &Merged, source: &Source) -> Result<String, AllocError> {
+    let name = cpu_name(alloc, merged, source.cpu)?;
+    chrome_name(alloc, track_of(source), "thread_name", name.as_str())
+}
+
+/// What happened so many nanoseconds behind the picture's beginning, as an event in the row of its CPU.
+pub(crate) fn event_of(
+    alloc: Global,
+    traces: &OpenedTraces<'_, '_, '_>,
+    source: &Source,
+    what: &What,
+    nanoseconds: u64,
+) -> Result<String, AllocError> {
+    let track = track_of(source);
+    match what {
+        What::Missed(missed) => chrome_missed(alloc, track, nanoseconds, *missed),
+        What::Event(event) => {
+            let texts = traces.metadatas.get(source.folder);
+            match texts.and_then(|metadata| metadata.events.get(event.place)) {
+                Some(text) => {
+                    chrome_event(alloc, track, text, nanoseconds, event.values.as_slice())
+                }
+                None => Ok(String::new(alloc)),
+            }
+        }
+    }
+}
+
+/// The time of the first mark, from which on a picture's times are counted.
+fn begin_of(merged: &Merged) -> u128 {
+    match merged.marks.first() {
+        Some(mark) => mark.time,
+        None => 0,
+    }
+}
+
+/// How many nanoseconds a mark is behind the picture's beginning, by a clock.
+pub(crate) fn behind_begin(merged: &Merged, mark: &Mark) -> u64 {
+    let behind = mark.time.saturating_sub(begin_of(merged));
+    u64::try_from(behind).unwrap_or(u64::MAX)
+}
+
+/// The same; without a clock by its place in its file.
+fn nanoseconds_of(merged: &Merged, mark: &Mark, places: &mut [u64]) -> u64 {
+    if merged.base.is_some() {
+        return behind_begin(merged, mark);
+    }
+    let Some(place) = places.get_mut(mark.file) else {
+        return 0;
+    };
+    let now = *place;
+    *place = now.saturating_add(STEP);
+    now
+}
+
+/// Writes an event, behind a comma where it isn't the first.
+pub(crate) fn put_event<W: Write>(out: &mut W, first: bool, event: &str) -> io::Result<()> {
+    if !first {
+        out.write_all(b",\n")?;
+    }
+    out.write_all(event.as_bytes())
+}
+
+/// Writes the names of all rows and of their traces, each once.
+fn put_names<W: Write>(
+    alloc: Global,
+    out: &mut W,
+    traces: &OpenedTraces<'_, '_, '_>,
+    merged: &Merged,
+) -> io::Result<()> {
+    let mut before: Option<Source> = None;
+    for source in &merged.sources {
+        if before.is_none_or(|other| other.folder != source.folder) {
+            let name = process_name(alloc, traces, source)?;
+            put_event(out, before.is_none(), name.as_str())?;
+        }
+        if before != Some(*source) {
+            let name = row_name(alloc, merged, source)?;
+            put_event(out, false, name.as_str())?;
+        }
+        before = Some(*source);
+    }
+    Ok(())
+}
+
+/// Writes the document.
+pub(crate) fn write_chart<W: Write>(
+    alloc: Global,
+    out: &mut W,
+    traces: &OpenedTraces<'_, '_, '_>,
+    merged: &Merged,
+) -> io::Result<()> {
+    out.write_all(FRONT)?;
+    put_names(alloc, out, traces, merged)?;
+    let mut places = vec![in alloc; 0u64; merged.sources.len()]?;
+    for mark in &merged.marks {
+        let nanoseconds = nanoseconds_of(merged, mark, places.as_mut_slice());
+        let Some(source) = merged.sources.get(mark.file) else {
+            continue;
+        };
+        let event = event_of(alloc, traces, source, &mark.what, nanoseconds)?;
+        put_event(out, false, event.as_str())?;
+    }
+    out.write_all(END)
+}

@@ -1,0 +1,137 @@
+//! What several trace folders tell, merged by time.
+
+use crate::fault::FolderViewFault;
+use crate::folder_fault::TraceFolderFault;
+use crate::naming::FileName;
+use crate::opening::OpenedTrace;
+use crate::showing::OpenedTraces;
+use dspec_ctf_reading::Metadata;
+use dspec_ctf_reading::folder::{Base, FileFault, Mark, Moment, base_of, marks_of, sort_by_time};
+use std::alloc::{AllocError, Global};
+
+/// A file that was read.
+#[derive(Debug, Clone, Copy, PartialEq, Eq)]
+pub(crate) struct Source {
+    /// The place of its folder.
+    pub folder: usize,
+    /// The number of its CPU.
+    pub cpu: u32,
+}
+
+/// What folders tell, in order of time.
+#[derive(Drop)]
+pub(crate) struct Merged {
+    /// What happened. A mark's file is a place in `sources`.
+    pub marks: Vec<Mark>,
+    /// The files that were read.
+    pub sources: Vec<Source>,
+    /// From when on times are counted; None where no trace has a clock.
+    pub base: Option<Base>,
+    /// Whether each file could be read to its end.
+    pub sound: bool,
+}
+
+/// Tells on the error output what is wrong with a file. A line that can't be written changes nothing.
+pub(crate) fn tell_wrong(rt: &HostRuntime, folder: &str, file: FileName, fault: &FileFault) {
+    let _ = eprintln!(rt; "specview: {folder}/{file}: {fault}");
+}
+
+/// Adds a time: a day and its time, or seconds from the clock's beginning on.
+pub(crate) fn put_moment(out: &mut String, base: Base, time: u128) -> Result<(), AllocError> {
+    if base == Base::Clock {
+        let (seconds, rest) = (time / 1_000_000_000, time % 1_000_000_000);
+        return write!(out, "{seconds}.{rest:09}");
+    }
+    let at = Moment::of(time);
+    let (year, month, day) = (at.year, at.month, at.day);
+    let (hour, minute, second) = (at.hour, at.minute, at.second);
+    let rest = at.nanosecond;
+    write!(
+        out,
+        "{year:04}-{month:02}-{day:02} {hour:02}:{minute:02}:{second:02}.{rest:09}"
+    )
+}
+
+/// From when on the times of all these traces are counted; None where none of them has a clock.
+fn common_base<'a>(
+    alloc: Global,
+    metadatas: &[Metadata<'_>],
+) -> Result<Option<Base>, TraceFolderFault<'a>> {
+    let mut clocks = Vec::new(alloc);
+    for metadata in metadatas {
+        if let Some(clock) = metadata.clock {
+            if clocks.push(clock).is_err() {
+                return Err(TraceFolderFault::Memory);
+            }
+        }
+    }
+    if clocks.is_empty() {
+        return Ok(None);
+    }
+    match base_of(clocks.as_slice()) {
+        Some(base) if clocks.len() == metadatas.len() => Ok(Some(base)),
+        _ => Err(TraceFolderFault::Clocks),
+    }
+}
+
+impl Merged {
+    /// Adds what a file tells.
+    fn add<'a>(
+        &mut self,
+        rt: &HostRuntime,
+        opened: &OpenedTrace<'a>,
+        metadata: &Metadata<'_>,
+        folder: usize,
+        file: FileName,
+    ) -> Result<(), FolderViewFault<'a>> {
+        let bytes = opened.bytes(rt, file)?;
+        let place = self.sources.len();
+        self.sources.push(Source {
+            folder,
+            cpu: file.cpu,
+        })?;
+        let base = self.base.unwrap_or(Base::Clock);
+        let marks = &mut self.marks;
+        match marks_of(rt.alloc(), metadata, base, place, bytes.as_slice(), marks)? {
+            None => Ok(()),
+            Some(fault) if fault.is_memory() => Err(FolderViewFault::from(AllocError)),
+            Some(fault) => {
+                self.sound = false;
+                tell_wrong(rt, opened.path, file, &fault);
+                Ok(())
+            }
+        }
+    }
+
+    /// Adds what the files of a folder tell.
+    fn add_folder<'a>(
+        &mut self,
+        rt: &HostRuntime,
+        opened: &OpenedTrace<'a>,
+        metadata: &Metadata<'_>,
+        folder: usize,
+    ) -> Result<(), FolderViewFault<'a>> {
+        for file in &opened.files {
+            self.add(rt, opened, metadata, folder, *file)?;
+        }
+        Ok(())
+    }
+}
+
+/// What these folders tell, in order of time.
+pub(crate) fn merge_all<'a>(
+    rt: &HostRuntime,
+    traces: &OpenedTraces<'_, '_, 'a>,
+) -> Result<Merged, FolderViewFault<'a>> {
+    let mut merged = Merged {
+        marks: Vec::new(rt.alloc()),
+        sources: Vec::new(rt.alloc()),
+        base: common_base(rt.alloc(), traces.metadatas)?,
+        sound: true,
+    };
+    for (folder, (opened, metadata)) in traces.opened.iter().zip(traces.metadatas).enumerate() {
+        merged.add_folder(rt, opened, metadata, folder)?;
+    }
+    sort_by_time(&mut merged.marks)?;
+    Ok(merged)
+}
