@@ -209,8 +209,10 @@ impl<K: Sink> Paths<K> {
         let core = self.core.clone();
         self.crashes();
         core.decide_open(self.is_killed());
-        for number in 0..core.lanes.count() {
-            let told = core.lanes.awaited(number).end();
+        // All lanes at once: else a path could have records in one lane while those for another, which has ended, are late.
+        let lanes: Vec<_> = (0..core.lanes.count()).map(|number| core.lanes.awaited(number)).collect();
+        let told: Vec<_> = lanes.into_iter().map(|mut lane| lane.end()).collect();
+        for told in told {
             self.told(told);
         }
         locked(&core.consumers).clear();
