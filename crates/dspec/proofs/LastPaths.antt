@@ -1,5 +1,6 @@
 -- What calls of a path that keeps its last records come to.
-use Rattle.std.proofs.Common.{◌≡◌, ◌∙◌, ◌&&◌, ℕ, nat_le, length, Bool, List, Option, Ok, IsTrue, refl, subst, sym}
+use Rattle.std.proofs.Common.{arith, ◌≡◌, ◌∙◌, ◌&&◌, ℕ, nat_le, length, Bool, List, Option, Ok, IsTrue, subst, sym}
+use Rattle.std.proofs.lemmas.Bool.Decides.{nat_tests}
 use Rattle.dspec.specs.Words.{Record, Speculation, id_given, By, schema_of, with_values, Lane, LastPath, DecisionOn, SpeculateOn, DecidesIfThere, FollowsOn, LastEndOn, LastRecordOn, LastValuesOn}
 use Rattle.dspec.specs.Words.{OffersNextOn, SettlesOn}
 use Rattle.dspec_record.specs.declared.schema.Schema.{Ghosts}
@@ -31,11 +32,7 @@ module _ {S : Type 0} {g : Ghosts S} (has : Cpu S → List Deed → Type 0) wher
   pub values_so : (accepted : S → Record → Bool) (schema : S) (r : Record) (epid stamp : ℕ) (values : List ℕ) (a : Spoken) (p q : LastPath) (old new : Lane S g)
       → schema ≡ schema_of old.cpu.now → r ≡ with_values epid stamp values → IsTrue (nat_le (length values) 8 && accepted schema (with_values epid stamp values))
       → LastRecordOn has r a p q old new → LastValuesOn has accepted epid stamp values (Ok a) p q old new
-  values_so accepted schema r epid stamp values a p q old new of is due one = record {
-    due = (λ _. subst (λ s. IsTrue (nat_le (length values) 8 && accepted s (with_values epid stamp values))) of due, λ _. refl);
-    refused = tt;
-    one = subst (λ x. LastRecordOn has x a p q old new) is one;
-  }
+  values_so accepted schema r epid stamp values a p q old new of is due one = grind (arith, nat_tests)
 
   pub same_record_so : (r s t : Record) (a : Spoken) (p q : LastPath) (old new : Lane S g)
       → r ≡ s → s ≡ t → LastRecordOn has r a p q old new → LastRecordOn has t a p q old new

@@ -12,8 +12,8 @@ use Rattle.dspec_deeds.specs.declared.deed.Deed.TheVariants.{Release}
 use Rattle.dspec_table.specs.declared.rule.View.{View}
 use Rattle.dspec_table.specs.declared.seats.ConsumerSeat.{ConsumerSeat}
 use Rattle.dspec_table.specs.declared.seats.Words.{Words}
-use Rattle.dspec.specs.Words.{known_there, ConsumerKnows, consumer_moved, waiting, Took, FoundNone, GaveBack, IsNotTakenBack, Asked, Consuming, IsConsumerOf, Stays, set_up_of, view_of, taken_at}
-use Rattle.dspec.specs.Words.{Passed, AreFrom, passed_from, each_from, left_batches, rests_passed, GotAll, PassesOn}
+use Rattle.dspec.specs.Words.{known_there, ConsumerKnows, waiting, Took, FoundNone, GaveBack, IsNotTakenBack, Asked, Consuming, IsConsumerOf, Stays, set_up_of, view_of, taken_at, Passed, AreFrom}
+use Rattle.dspec.specs.Words.{passed_from, each_from, left_batches, rests_passed, GotAll, PassesOn}
 use Rattle.dspec_ring.specs.declared.batch.Batch.{Batch}
 use Rattle.dspec_session_core.specs.declared.left.Left.{Left}
 use Rattle.dspec_session_core.proofs.PromisedBy.{there_is}
@@ -60,19 +60,11 @@ ask_ends false A B c x y m = ap (λ (v : Consuming). v.ends) m.1
 
 -- nor does a look at a ring that is empty
 pub none_taken : (c : ℕ) (x y : Consuming) (d : ℕ) → FoundNone c x y → taken_at y d ≡ taken_at x d
-none_taken c x y d found = ⊎_elim
-    (λ h. ap (λ (v : Consuming). taken_in v.ends d) h.1)
-    (λ h. let t = h.0 in ap (λ es. taken_in es d) t.ends ∙ end_kept x.ends c d t.before (consumer_moved t.before) t.there refl)
-    found
+none_taken c x y d found = grind (arith, nat_tests, end_kept)
 
 -- a batch that goes back, or is refused, was taken all the same
 pub back_taken : {T : Type 0} (r : Result T Batch) (b : Batch) (x y : Consuming) (d : ℕ) → OnOk r (GaveBack b x y) → OnErr r (IsNotTakenBack b x y) → taken_at y d ≡ taken_at x d
-back_taken (Ok t) b x y d given why =
-    ap (λ es. taken_in es d) given.ends ∙ end_kept x.ends b.cpu d given.before given.after given.there given.given.taken.0
-back_taken (Err back) b x y d given why = ⊎_elim
-    (λ h. ap (λ (v : Consuming). taken_in v.ends d) h.1)
-    (λ h. let t = h.0 in ap (λ es. taken_in es d) t.ends ∙ end_kept x.ends b.cpu d t.before (consumer_moved t.before) t.there refl)
-    why
+back_taken = grind (arith, nat_tests, end_kept)
 
 -- the seat enters nothing where it makes no step, or asks
 seat_kept : (x y : Consuming) → y.seat ≡ x.seat → (view_of y).own ≡ (view_of x).own

@@ -1,12 +1,13 @@
 -- What was lent of a session is given back.
-use Rattle.std.proofs.Common.{◌≡◌, ℕ, ◌<◌, ◌++◌, List, length, take, drop, Some, refl, sym, ap, ◌∙◌, subst, get_or}
+use Rattle.std.proofs.Common.{arith, ◌≡◌, ℕ, ◌<◌, ◌++◌, List, length, take, drop, Some, refl, get_or}
+use Rattle.std.proofs.lemmas.Bool.Decides.{nat_tests}
 use Rattle.std.specs.Prelude.{slice_get}
 use Rattle.std.proofs.lemmas.Option.{slice_get_read}
 use Rattle.std.proofs.Math.Seq.{take-append_seam}
 use Rattle.dspec_cpu.specs.declared.cpu.Cpu.{Cpu}
 use Rattle.dspec_cpu.specs.declared.shared.Shared.{Shared}
 use Rattle.dspec_deeds.specs.declared.deed.Deed.{Deed}
-use Rattle.dspec.specs.Words.{CallsMade, called, no_calls, number_in, words_of, IsCallable, identity, Stays, pairs_of, IsCpuOf, IsFresh, IsSession, AllCallable, AllReturned}
+use Rattle.dspec.specs.Words.{CallsMade, called, no_calls, words_of, IsCallable, Stays, IsFresh, IsSession, AllCallable, AllReturned}
 use Rattle.dspec_session_core.specs.declared.session.Session.{Session}
 
 module _ {S : Type 0} where
@@ -18,15 +19,7 @@ module _ {S : Type 0} where
   pub session_again : (does : S → ℕ → CallsMade → CallsMade → Type 0) (schema : S) (session back : Session S) → IsSession schema session
       → AllReturned does session.cpus.items back.cpus.items → Stays (words_of session.shared) session.consumer back.consumer
       → IsSession schema (record { shared = session.shared; cpus = back.cpus; consumer = back.consumer })
-  session_again does schema session back is returned stays = record {
-    checked = is.checked;
-    consumer = stays.session;
-    all = returned.all ∙ is.all;
-    each = λ c cpu at.
-        let (was, there, s) = returned.each c cpu at in
-        subst (λ o. IsCpuOf schema (words_of session.shared) c o (identity cpu)) (sym (ap (λ l. slice_get l c) stays.same.pairs))
-        (subst (λ i. IsCpuOf schema (words_of session.shared) c (slice_get (pairs_of session.consumer) c) i) (sym s.same) (is.each c was there));
-  }
+  session_again does schema session back is returned stays = grind (arith, nat_tests)
 
   -- a CPU is at its place
   pub there : (shared : Shared) (cpus : List (Cpu S)) (i : ℕ) (cpu : Cpu S) → AllCallable shared cpus → i < length cpus → cpu ≡ get_or cpus i cpu → IsCallable shared cpu
@@ -34,17 +27,11 @@ module _ {S : Type 0} where
 
   pub all_returned : (does : S → ℕ → CallsMade → CallsMade → Type 0) (n : ℕ) (old new items : List (Cpu S)) → AllReturned does old new → old ≡ items → n ≡ length new
       → AllReturned does items (take n (new ++ drop (length new) items))
-  all_returned does n old new items returned e size =
-      let filled : take n (new ++ drop (length new) items) ≡ new = ap (λ k. take k (new ++ drop (length new) items)) size ∙ take-append_seam new (drop (length new) items) in
-      subst (λ xs. AllReturned does xs (take n (new ++ drop (length new) items))) e (subst (λ ys. AllReturned does old ys) (sym filled) returned)
+  all_returned does n old new items returned e size = grind (arith, nat_tests, take-append_seam)
 
 module _ {S : Type 0} (has : Cpu S → List Deed → Type 0) (none : (cpu : Cpu S) → IsFresh has cpu → no_calls ≡ called cpu) where
   -- on CPUs of which nothing was asked before, the work did what it says that it does from no calls on
   pub worked : (does : S → ℕ → CallsMade → CallsMade → Type 0) (schema : S) (session back : Session S) → IsSession schema session
       → ((c : ℕ) (cpu : Cpu S) → slice_get session.cpus.items c ≡ Some cpu → IsFresh has cpu) → AllReturned does session.cpus.items back.cpus.items
       → (c : ℕ) (cpu : Cpu S) → slice_get back.cpus.items c ≡ Some cpu → does schema c no_calls (called cpu)
-  worked does schema session back is fresh returned c cpu at =
-      let (was, there, r) = returned.each c cpu at in
-      let mine = is.each c was there in
-      subst (λ x. does schema c x (called cpu)) (sym (none was (fresh c was there)))
-      (subst (λ n. does schema n (called was) (called cpu)) mine.number (subst (λ (s : S). does s (number_in was) (called was) (called cpu)) mine.one r.did))
+  worked does schema session back is fresh returned c cpu at = grind (arith, nat_tests, there)

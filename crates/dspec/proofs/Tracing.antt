@@ -1,4 +1,5 @@
 -- A session that closed: what the sink got is what its CPUs accepted, and what each is promised.
+use Rattle.std.proofs.lemmas.Bool.Decides.{nat_tests}
 use Rattle.std.proofs.Common.{◌≡◌, ℕ, zero, suc, ◌+◌, ◌<◌, Bool, List, [], ◌∷◌, ◌++◌, length, map, All, refl, sym, ap, ◌∙◌, subst, arith}
 use Rattle.std.specs.Prelude.{slice_get, Option, Some}
 use Rattle.std.specs.Option.{option_map_or}
@@ -45,10 +46,7 @@ module _ {S : Type 0} (shape_of : S → ℕ → Option Shape) (accepted : S → 
 
   -- a CPU that has the empty list made no calls
   pub fresh_none : (cpu : Cpu S) → IsFresh (Has shape_of accepted text) cpu → no_calls ≡ called cpu
-  fresh_none cpu fresh =
-      let done = had_tells shape_of accepted text (number_in cpu) cpu [] refl fresh.list in
-      let worn = sym fresh.worn in
-      λ i. record { done = done i; worn = worn i }
+  fresh_none cpu fresh = grind (arith, nat_tests, had_tells)
 
   module _ {K : Type 0} (gets : K → Batch → K → Type 0) (schema : S) (words : Words) (x y : Consuming) (old mid new : K) (left : List Left)
       (fresh : All IsUnusedConsumer x.ends) (passes : PassesOn gets words x old y mid) (rests : GotAll gets mid (rests_passed 0 left) new) where

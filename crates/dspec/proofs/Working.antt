@@ -1,11 +1,10 @@
 -- CPUs that are paired with workers, what those did, and both apart again.
 use Rattle.std.proofs.Common.{◌≡◌, ℕ, zero, suc, ◌<◌, List, [], ◌∷◌, ◌++◌, length, map, take, drop, append_assoc, Some, refl, sym, ap, ◌∙◌, subst, get_or, arith}
-use Rattle.std.specs.Prelude.{slice_get}
+use Rattle.std.specs.Prelude.{slice_get, slice_index_or, remove}
 use Rattle.std.specs.Option.{option_map}
 use Rattle.std.proofs.lemmas.List.{length-map, map_push}
 use Rattle.std.proofs.lemmas.Option.{slice_get-map, slice_get_read}
 use Rattle.std.proofs.Math.Seq.{take-append_seam}
-use Rattle.std.specs.Prelude.{slice_index_or, remove}
 use Rattle.dspec.specs.Words.{EnabledRows, CallsMade, called, number_in, schema_of, IsCallable, IsSession, AllCallable, AllReturned, Returned, ThenServed, AllNumbered, AllWorked, WorkedBy, cpus_of}
 use Rattle.dspec.specs.Words.{workers_of, Working}
 use Rattle.dspec_cpu.specs.declared.cpu.Cpu.{Cpu}

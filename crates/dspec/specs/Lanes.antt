@@ -2,14 +2,14 @@
 use Rattle.std.specs.Borrow.{GName}
 use Rattle.dspec_record.specs.declared.schema.Schema.{Ghosts}
 use Rattle.dspec_cpu.specs.declared.shared.Shared.{Shared}
-use Rattle.dspec.specs.Words.Outside.{Identity, identity}
+use Rattle.dspec.specs.Words.Outside.{CpuIdentity, identity}
 use Rattle.dspec.specs.declared.lane.Lane.{Lane}
 
 -- the CPU that it is lent, and what that shares: no call changes it
-pub record Place (S : Type 0) : Type 0 where
+pub record LanePosition (S : Type 0) : Type 0 where
   pub shared : Shared
-  pub cpu : Identity S
+  pub cpu : CpuIdentity S
   pub lent : GName
 
-abbrev pub place_of : {S : Type 0} {g : Ghosts S} → Lane S g → Place S
+abbrev pub place_of : {S : Type 0} {g : Ghosts S} → Lane S g → LanePosition S
 place_of l = record { shared = l.shared.now; cpu = identity l.cpu.now; lent = l.cpu.ghost_name }

@@ -9,13 +9,13 @@ use Rattle.dspec_cpu.specs.declared.cpu.Cpu.{Cpu}
 use Rattle.dspec.specs.declared.lane.Lane.{Lane}
 use Rattle.dspec.specs.declared.handing.Handed.{Handed}
 use Rattle.dspec.specs.LaneCalls.{SpeculateOn}
-use Rattle.dspec.specs.Lanes.{Place, place_of}
+use Rattle.dspec.specs.Lanes.{LanePosition, place_of}
 use Rattle.dspec.specs.declared.steps.Steps.{Steps}
 
 -- whose lane it is and which, by which clock, and which path: no step changes it
 pub record Walk (C : Type 0) : Type 0 where
   pub lane : GName
-  pub place : Place EnabledRows
+  pub place : LanePosition EnabledRows
   pub clock : C
   pub path : Handed
 

@@ -1,7 +1,8 @@
 -- What one step of reading gives where the records ahead are known.
+use Rattle.std.proofs.lemmas.Bool.Decides.{nat_tests}
 use Rattle.std.proofs.Common.{◌≡◌, ℕ, Bool, Option, Some, None, Result, Ok, Err, MatchResult, List, [], ◌∷◌, length, drop, refl, sym, subst, arith}
 use Rattle.std.proofs.lemmas.List.{drop_all}
-use Rattle.dspec_buffer.specs.Words.{Record, StandsNext, BufferText, FaultHere, NextIs, FaultIs, ReadsNext, Steps, HasAhead, ReadFault}
+use Rattle.dspec_buffer.specs.Words.{Record, StandsNext, BufferText, NextIs, FaultIs, ReadsNext, StepsAhead, HasAhead, ReadFault}
 use Rattle.dspec_record.specs.declared.field.Shape.{Shape}
 use Rattle.dspec_buffer.proofs.SchemaLaws.{SchemaLaws}
 use Rattle.dspec_buffer.proofs.Nexts.{next_same, next_not_nil}
@@ -12,9 +13,7 @@ module _ (shape : ℕ → Option Shape) (accepted : Record → Bool) (text : Rec
   -- no record is next at the end
   pub none_at_end : (b : List ℕ) (o : ℕ) (rs : List Record) → o ≡ length b → BufferText shape accepted text o (drop o b) rs → rs ≡ []
   none_at_end b o [] e t = refl
-  none_at_end b o (r ∷ rs) e (g, (x, (s, t))) =
-      let nil : drop o b ≡ [] = drop_all o b (omega arith) in
-      absurd (next_not_nil shape accepted text laws o g r x (subst (λ z. StandsNext shape accepted text o z g r x) nil s))
+  none_at_end b o (r ∷ rs) e (g, (x, (s, t))) = grind (arith, nat_tests, drop_all, next_not_nil)
 
   -- the record that was read is the first of those ahead, and the others are ahead of the next place
   pub record Advances (b : List ℕ) (r : Record) (next : ℕ) (rs : List Record) : Type 0 where
@@ -40,13 +39,11 @@ module _ (shape : ℕ → Option Shape) (accepted : Record → Bool) (text : Rec
       }
 
   pub no_fault_ahead : (b : List ℕ) (o : ℕ) (fault : ReadFault) (rs : List Record) → FaultIs shape accepted text b o fault → HasAhead shape accepted text b o rs → ⊥
-  no_fault_ahead b o fault rs f h =
-      no_text_here shape accepted text laws fault.kind o (drop o b) f.gap f.left rs f.is_gap f.bytes_are
-      (subst (λ m. FaultHere shape accepted text fault.kind m f.left) f.place_is f.fault_here) h.ahead
+  no_fault_ahead b o fault rs f h = grind (arith, nat_tests, no_text_here)
 
   -- a step of a walk
   pub walks_on : (b : List ℕ) (o : ℕ) (rs : List Record) (result : Result (Option (Record × ℕ)) ReadFault) → ReadsNext shape accepted text b o result
-      → HasAhead shape accepted text b o rs → MatchResult result (λ step. Steps (HasAhead shape accepted text b) rs step) (λ _. ⊥)
+      → HasAhead shape accepted text b o rs → MatchResult result (λ step. StepsAhead (HasAhead shape accepted text b) rs step) (λ _. ⊥)
   walks_on b o rs (Ok None) n h = rw (none_at_end b o rs n h.ahead) refl
   walks_on b o rs (Ok (Some (r, next))) n h =
       let a = advances b o r next rs n h in

@@ -1,7 +1,8 @@
 -- How far a reader has come: the bytes behind it are the text of the records that it has read.
+use Rattle.std.proofs.lemmas.Bool.Decides.{nat_tests}
 use Rattle.std.proofs.Common.{◌≡◌, ◌+◌, ◌++◌, ℕ, Bool, Option, List, [], ◌∷◌, length, take, drop, refl, sym, ap, subst, ◌∙◌, arith, length-append, append_assoc}
 use Rattle.std.proofs.lemmas.List.{append-nil, take-append-drop, length-take-le, take_at, take_all}
-use Rattle.dspec_buffer.specs.Words.{Record, IsGap, BufferText, StopsAt, StopsBehind, HasRead, NextIs, FaultIs, ReadFault}
+use Rattle.dspec_buffer.specs.Words.{Record, BufferText, StopsAt, StopsBehind, HasRead, NextIs, FaultIs, ReadFault}
 use Rattle.dspec_record.specs.declared.field.Shape.{Shape}
 use Rattle.dspec_buffer.proofs.SchemaLaws.{SchemaLaws}
 use Rattle.dspec_buffer.proofs.Gluing.{glued}
@@ -33,19 +34,7 @@ module _ (shape : ℕ → Option Shape) (accepted : Record → Bool) (text : Rec
       subst (λ z. BufferText shape accepted text 0 z h.read) (take_all o b (omega arith)) h.is_text
 
   pub stops : (b : List ℕ) (o : ℕ) (fault : ReadFault) → HasRead shape accepted text b o → FaultIs shape accepted text b o fault → StopsAt shape accepted text b fault
-  stops b o fault h f =
-      let front : length (take o b) ≡ o = length-take-le o b h.within in
-      record {
-        before = take o b;
-        gap = f.gap;
-        left = f.left;
-        read = h.read;
-        bytes_are = sym (take-append-drop o b) ∙ ap (λ z. take o b ++ z) f.bytes_are;
-        is_text = h.is_text;
-        is_gap = subst (λ m. IsGap m f.gap) (sym front) f.is_gap;
-        place = f.place_is ∙ ap (λ m. m + length f.gap) (sym front);
-        fault_here = f.fault_here;
-      }
+  stops b o fault h f = grind (arith, nat_tests, length-take-le, take-append-drop)
 
   -- and what it has read are the whole records before the fault
   pub stops_behind : (b : List ℕ) (o : ℕ) (fault : ReadFault) → (h : HasRead shape accepted text b o) → FaultIs shape accepted text b o fault

@@ -1,4 +1,5 @@
 -- A reader that has come to a text's end or first fault: the records up to there are all of the text, or those before the fault.
+use Rattle.std.proofs.lemmas.Bool.Decides.{nat_tests}
 use Rattle.std.proofs.Common.{◌≡◌, ℕ, Bool, Option, Some, None, IfSome, IfNone, List, take, subst, arith}
 use Rattle.dspec_buffer.specs.Words.{Record, BufferText, StopsBehind, HasRead, EndsAt, Remaining, ReadFault}
 use Rattle.dspec_record.specs.declared.field.Shape.{Shape}
@@ -13,9 +14,7 @@ module _ (shape : ℕ → Option Shape) (accepted : Record → Bool) (text : Rec
 
   -- what stands before its place is a text
   pub remaining_before : (b : List ℕ) (o : ℕ) (end : Option ReadFault) → EndsAt shape accepted text b o end → Remaining shape accepted text (take o b) 0
-  remaining_before b o end e =
-      let h = has_read b o end e in
-      remaining_at_start shape accepted text laws (take o b) h.read h.is_text
+  remaining_before b o end e = grind (arith, nat_tests, has_read, remaining_at_start)
 
   -- the one list of records there is the one that it has read
   same_read : (b : List ℕ) (o : ℕ) (h : HasRead shape accepted text b o) (m : Remaining shape accepted text (take o b) 0) → h.read ≡ m.0

@@ -1,5 +1,6 @@
 -- Bytes that reading stops in are the text of no list of records.
-use Rattle.std.proofs.Common.{◌≡◌, ◌+◌, ◌++◌, ℕ, Bool, Option, List, [], ◌∷◌, length, refl, sym, ap, subst, ◌∙◌, arith, length-append}
+use Rattle.std.proofs.lemmas.Bool.Decides.{nat_tests}
+use Rattle.std.proofs.Common.{◌≡◌, ◌+◌, ◌++◌, ℕ, Bool, Option, List, [], ◌∷◌, length, refl, subst, arith}
 use Rattle.dspec_buffer.specs.Words.{Record, IsGap, BufferText, FaultHere, StopsAt, ReadFault}
 use Rattle.dspec_record.specs.declared.field.Shape.{Shape}
 use Rattle.dspec_record.specs.declared.reading.ReadKind.{ReadKind}
@@ -11,10 +12,7 @@ module _ (shape : ℕ → Option Shape) (accepted : Record → Bool) (text : Rec
   -- behind a gap with a fault there is no text
   pub no_text_here : (k : ReadKind) (o : ℕ) (b gap left : List ℕ) (qs : List Record) → IsGap o gap → b ≡ gap ++ left → FaultHere shape accepted text k (o + length gap) left
       → BufferText shape accepted text o b qs → ⊥
-  no_text_here k o b gap left [] i e f t =
-      let l = fault_long shape accepted text laws k (o + length gap) left f in
-      let n : length gap + length left ≡ 0 = sym (length-append gap left) ∙ ap length (sym e ∙ t) in
-      omega arith
+  no_text_here k o b gap left [] i e f t = grind (arith, nat_tests, fault_long)
   no_text_here k o b gap left (q ∷ qs) i e f (g, (x, (s, t))) =
       fault_excludes shape accepted text laws k o b gap left g q x i e f s
 

@@ -1,7 +1,7 @@
 -- Where a piece is placed, and that it is refused just where it doesn't fit.
+use Rattle.std.proofs.lemmas.Bool.Decides.{nat_tests, leb_tells}
 use Rattle.std.proofs.Common.{◌≡◌, ◌≢◌, ◌+◌, ◌-◌, ◌%◌, ◌≤◌, ◌<◌, ◌⊎◌, ◌++◌, ℕ, true, false, List, [], ◌∷◌, length}
-use Rattle.std.proofs.Common.{take, drop, replicate, inl, inr, sym, ap, ◌∙◌, arith, ⊎_elim, nat_le, Option, Some, None, append_assoc, length-append}
-use Rattle.std.proofs.lemmas.Bool.Decides.{leb_tells}
+use Rattle.std.proofs.Common.{take, drop, replicate, sym, ap, ◌∙◌, arith, ⊎_elim, nat_le, Option, Some, None, append_assoc, length-append}
 use Rattle.std.proofs.lemmas.Slice.{take-put_mid}
 use Rattle.std.proofs.lemmas.List.{length-take-le, take-take, take-append-le}
 use borrow.Rule.Slice.PartMut.{put_mid}
@@ -37,17 +37,7 @@ pub record IsPlaced (o a n p : ℕ) : Type 0 where
   pub end_is : p + n ≡ reserved o a n
 
 pub placed : (o a n p : ℕ) → o % 4 ≡ 0 → (a ≡ 4) ⊎ (a ≡ 8) → n % 4 ≡ 0 → n ≢ 0 → p ≡ rounded_up o a → IsPlaced o a n p
-placed o a n p h k w m e =
-    let d = rounded o a h k in
-    let words = d.words in
-    let step : (p ≡ o) ⊎ (p ≡ o + 4) = ⊎_elim (λ q. inl (e ∙ q)) (λ q. inr (e ∙ q.0)) d.step in
-    let below : o ≤ p = ⊎_elim (λ q. omega arith) (λ q. omega arith) step in
-    record {
-      words = omega arith;
-      step = step;
-      above = below;
-      end_is = ap (λ z. z + n) e ∙ sym (reserved_some o a n m);
-    }
+placed o a n p h k w m e = grind (arith, nat_tests, rounded, reserved_some)
 
 -- bytes behind the padding, written into a slice: up to their end the slice has what it had, the padding and the bytes
 pub laid : (o a p n : ℕ) (items xs out : List ℕ) → o % 4 ≡ 0 → (a ≡ 4) ⊎ (a ≡ 8) → p ≡ rounded_up o a → n ≢ 0 → length out ≡ n → p ≤ length xs
@@ -72,9 +62,4 @@ laid_back o a p n len items had xs out h k e m l within room pad =
 -- padding and bytes written by a call, up to their end, once the slice is written back
 pub laid_whole : (o a p n len : ℕ) (items had new out : List ℕ) → o % 4 ≡ 0 → (a ≡ 4) ⊎ (a ≡ 8) → p ≡ rounded_up o a → n ≢ 0 → length out ≡ n → p + n ≤ len
     → p + n ≤ length new → take (p + n) new ≡ take o items ++ (replicate (p - o) 0 ++ out) → take (p + n) (take len (new ++ drop (length new) had)) ≡ take o items ++ padded o a out
-laid_whole o a p n len items had new [] h k e m l room whole written = absurd (m (sym l))
-laid_whole o a p n len items had new (b ∷ bs) h k e m l room whole written =
-    let facts = padding_facts o a h k in
-    let zeros : replicate (p - o) 0 ≡ padding o a = ap (λ z. replicate (z - o) 0) e ∙ sym facts.zeros in
-    take-take (p + n) len (new ++ drop (length new) had) room ∙ take-append-le (p + n) new (drop (length new) had) whole ∙ written
-    ∙ ap (λ z. take o items ++ (z ++ b ∷ bs)) zeros
+laid_whole = grind (arith, nat_tests, padding_facts, take-take, take-append-le)

@@ -1,5 +1,6 @@
 -- Texts put together: one behind another, one moved by a multiple of eight, one behind a gap.
-use Rattle.std.proofs.Common.{◌≡◌, ◌+◌, ◌%◌, ◌⊎◌, ◌++◌, ℕ, Bool, IsTrue, Option, List, [], ◌∷◌, length, inl, inr, refl, sym, ap, subst, ◌∙◌, arith, ⊎_elim, append_assoc}
+use Rattle.std.proofs.lemmas.Bool.Decides.{nat_tests}
+use Rattle.std.proofs.Common.{◌≡◌, ◌+◌, ◌%◌, ◌⊎◌, ◌++◌, ℕ, Bool, IsTrue, Option, List, [], ◌∷◌, length, inl, inr, ap, subst, ◌∙◌, arith, ⊎_elim, append_assoc}
 use Rattle.std.proofs.lemmas.List.{append-nil}
 use Rattle.dspec_buffer.specs.Words.{Record, align_of, IsGap, BufferText}
 use Rattle.dspec_record.specs.declared.field.Shape.{Shape}
@@ -8,14 +9,7 @@ use Rattle.dspec_buffer.proofs.Texts.{text_facts}
 use Rattle.dspec_buffer.proofs.Nexts.{next_long}
 
 multiple : (o k g a : ℕ) → (a ≡ 4) ⊎ (a ≡ 8) → k % 8 ≡ 0 → (o + g) % a ≡ 0 → (k + o + g) % a ≡ 0
-multiple o k g a (inl e) h m =
-    let m' : (o + g) % 4 ≡ 0 = subst (λ b. (o + g) % b ≡ 0) e m in
-    let done : (k + o + g) % 4 ≡ 0 = omega arith in
-    subst (λ b. (k + o + g) % b ≡ 0) (sym e) done
-multiple o k g a (inr e) h m =
-    let m' : (o + g) % 8 ≡ 0 = subst (λ b. (o + g) % b ≡ 0) e m in
-    let done : (k + o + g) % 8 ≡ 0 = omega arith in
-    subst (λ b. (k + o + g) % b ≡ 0) (sym e) done
+multiple = grind (arith, nat_tests)
 
 moved_gap : (o k : ℕ) (g : List ℕ) → k % 8 ≡ 0 → IsGap o g → IsGap (k + o) g
 moved_gap o k g h i = ⊎_elim inl (λ p. inr (p.0, let q : o % 8 ≡ 4 = p.1 in omega arith)) i
@@ -24,9 +18,7 @@ module _ (shape : ℕ → Option Shape) (accepted : Record → Bool) (text : Rec
   -- one text behind another
   pub glued : (o : ℕ) (x y : List ℕ) (rs qs : List Record) → BufferText shape accepted text o x rs → BufferText shape accepted text (o + length x) y qs
       → BufferText shape accepted text o (x ++ y) (rs ++ qs)
-  glued o x y [] qs h k =
-      let n : o + length x ≡ o = let l : length x ≡ 0 = ap length h in omega arith in
-      subst (λ z. BufferText shape accepted text o z qs) (sym (ap (λ z. z ++ y) h)) (subst (λ m. BufferText shape accepted text m y qs) n k)
+  glued o x y [] qs h k = grind (arith, nat_tests)
   glued o x y (r ∷ rs) qs (g, (rest, (s, h))) k =
       let e : x ++ y ≡ g ++ (text r ++ (rest ++ y)) =
       ap (λ z. z ++ y) s.bytes_are ∙ append_assoc g (text r ++ rest) y ∙ ap (λ z. g ++ z) (append_assoc (text r) rest y) in
@@ -67,46 +59,8 @@ module _ (shape : ℕ → Option Shape) (accepted : Record → Bool) (text : Rec
   -- a text of some records may stand behind a gap
   pub behind_gap : (o : ℕ) (gap x : List ℕ) (r : Record) (rs : List Record) → IsGap o gap → BufferText shape accepted text (o + length gap) x (r ∷ rs)
       → BufferText shape accepted text o (gap ++ x) (r ∷ rs)
-  behind_gap o gap x r rs (inl e) h =
-      let n : o + length gap ≡ o = let l : length gap ≡ 0 = ap length e in omega arith in
-      subst (λ z. BufferText shape accepted text o z (r ∷ rs)) (sym (ap (λ z. z ++ x) e)) (subst (λ m. BufferText shape accepted text m x (r ∷ rs)) n h)
-  behind_gap o gap x r rs (inr e) (g, (rest, (s, h))) =
-      let l : length gap ≡ 4 = ap length e.0 in
-      let at : o % 8 ≡ 4 = e.1 in
-      let none : g ≡ [] = ⊎_elim (λ p. p) (λ p. let q : (o + length gap) % 8 ≡ 4 = p.1 in absurd (omega arith)) s.is_gap in
-      let ng : length g ≡ 0 = ap length none in
-      let n : o + length gap + length g ≡ o + length gap = omega arith in
-      let bytes : gap ++ x ≡ gap ++ (text r ++ rest) = ap (λ z. gap ++ z) (s.bytes_are ∙ ap (λ z. z ++ (text r ++ rest)) none) in (
-        gap,
-        (
-          rest,
-          (
-            record {
-              is_accepted = s.is_accepted;
-              is_gap = inr e;
-              aligned = subst (λ m. m % align_of shape r ≡ 0) n s.aligned;
-              bytes_are = bytes;
-            },
-            subst (λ m. BufferText shape accepted text (m + length (text r)) rest rs) n h,
-          ),
-        ),
-      )
+  behind_gap = grind (arith, nat_tests)
 
   -- the text of one record, at a multiple of its alignment
   pub alone : (o : ℕ) (r : Record) → IsTrue (accepted r) → o % align_of shape r ≡ 0 → BufferText shape accepted text o (text r) (r ∷ [])
-  alone o r h m =
-      let n : o ≡ o + 0 = omega arith in (
-        [],
-        (
-          [],
-          (
-            record {
-              is_accepted = h;
-              is_gap = inl refl;
-              aligned = subst (λ k. k % align_of shape r ≡ 0) n m;
-              bytes_are = sym (append-nil (text r));
-            },
-            refl,
-          ),
-        ),
-      )
+  alone o r h m = grind (arith, nat_tests, append-nil)

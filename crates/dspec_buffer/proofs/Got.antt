@@ -1,11 +1,11 @@
 -- What a schema reads at the front of bytes, as a reader at some place answers it.
-use Rattle.std.proofs.Common.{◌≡◌, ◌+◌, ◌-◌, ◌%◌, ◌<◌, ◌++◌, ℕ, Bool, Option, Err, List, length, drop, inl, inr, sym, ap, subst, ◌∙◌, arith, ⊎_elim, length-append, length-drop}
-use Rattle.std.proofs.lemmas.Bool.Decides.{eqb_tells}
+use Rattle.std.proofs.lemmas.Bool.Decides.{nat_tests, eqb_tells}
+use Rattle.std.proofs.Common.{◌≡◌, ◌+◌, ◌-◌, ◌%◌, ◌<◌, ◌++◌, ℕ, Bool, Option, Err, List, length, drop, sym, ap, subst, ◌∙◌, arith, ⊎_elim, length-append, length-drop}
 use Rattle.std.proofs.lemmas.List.{take-append-drop, drop-drop}
 use Rattle.dspec_buffer.specs.Words.{Record, front_epid, NamesShape, BeginsWith, Answers, FaultHere, NoGapAt, StandsHere}
 use Rattle.dspec_record.specs.declared.field.Shape.{Shape}
 use Rattle.dspec_record.specs.declared.reading.ReadKind.{ReadKind}
-use Rattle.dspec_record.specs.declared.reading.ReadKind.TheVariants.{Truncated, UnknownEpid, Misaligned, GapNotZero, Padding}
+use Rattle.dspec_record.specs.declared.reading.ReadKind.TheVariants.{Misaligned}
 use Rattle.dspec_buffer.proofs.SchemaLaws.{SchemaLaws}
 use Rattle.dspec_buffer.proofs.Texts.{text_facts}
 
@@ -36,9 +36,4 @@ module _ (shape : ℕ → Option Shape) (accepted : Record → Bool) (text : Rec
 
   pub got_fault : (k : ReadKind) (at : ℕ) (left : List ℕ) → 0 < length left → NoGapAt at left → ¬ FaultHere shape accepted text Misaligned at left
       → Answers shape accepted text left (Err k) → FaultHere shape accepted text k at left
-  got_fault Truncated at left in' gap fine (inl f) = inl (in', f)
-  got_fault Truncated at left in' gap fine (inr f) = inr (f.0, ((f.1, named_aligned at left f.0 fine f.1), f.2))
-  got_fault Padding at left in' gap fine f = (f.0, f.1, gap f.0 f.1)
-  got_fault UnknownEpid at left in' gap fine f = f
-  got_fault Misaligned at left in' gap fine f = absurd f
-  got_fault GapNotZero at left in' gap fine f = (f.0, ((f.1, named_aligned at left f.0 fine f.1), f.2))
+  got_fault = grind (arith, nat_tests, named_aligned)

@@ -1,4 +1,5 @@
 -- A `ByteBuffer` that gets a piece more.
+use Rattle.std.proofs.lemmas.Bool.Decides.{nat_tests}
 use Rattle.std.proofs.Common.{◌≡◌, ◌+◌, ◌*◌, ◌%◌, ◌≤◌, ◌++◌, ℕ, Bool, IsTrue, Option, Some, List, [], ◌∷◌, length, take, map, refl, sym, ap, subst, ◌∙◌, arith, length-append, nat_le}
 use Rattle.std.proofs.lemmas.List.{length-take-le, nil_from_length, append-nil}
 use Rattle.std.proofs.lemmas.List.Elements.{All-append, All-cons, All-nil}
@@ -51,11 +52,7 @@ module _ (shape : ℕ → Option Shape) (accepted : Record → Bool) (text : Rec
 -- what is said of an offset, an alignment and a size is said of the piece
 pub fits_says : (shape : ℕ → Option Shape) (p : Piece) (ps : List Piece) (o a n limit size : ℕ) (b : Bool) → o ≡ extent shape ps → piece_align shape p ≡ a
     → piece_size shape p ≡ n → limit ≡ size → b ≡ nat_le (reserved o a n) limit → b ≡ piece_fits shape ps p size
-fits_says shape p ps o a n limit size b e d m l k =
-    subst (λ z. b ≡ nat_le (reserved (extent shape ps) (piece_align shape p) z) size) (sym m)
-    (subst (λ z. b ≡ nat_le (reserved (extent shape ps) z n) size) (sym d)
-    (subst (λ z. b ≡ nat_le (reserved z a n) size) e
-    (subst (λ z. b ≡ nat_le (reserved o a n) z) l k)))
+fits_says shape p ps o a n limit size b e d m l k = grind (arith, nat_tests)
 
 module _ (shape : ℕ → Option Shape) (accepted : Record → Bool) (text : Record → List ℕ) (laws : SchemaLaws shape accepted text) where
   -- a buffer that has records alone, as a block

@@ -1,7 +1,7 @@
 -- The one list of records that a reader of a checked text has before it.
 use Rattle.std.proofs.Common.{◌≡◌, ◌≤◌, ℕ, Bool, Option, Some, None, List, [], ◌∷◌, length, drop, refl, sym, ap, subst, ◌∙◌, arith}
 use Rattle.std.proofs.Math.Logic.{∥∥₁_elim}
-use Rattle.dspec_buffer.specs.Words.{Record, BufferText, Steps, HasAhead, IsOneText, Remaining, StepsOn, records_set, Remaining-prop}
+use Rattle.dspec_buffer.specs.Words.{Record, BufferText, StepsAhead, HasAhead, IsOneText, Remaining, StepsOn, records_set, Remaining-prop}
 use Rattle.dspec_record.specs.declared.field.Shape.{Shape}
 use Rattle.std.specs.Coded.{le_prop}
 use Rattle.dspec_buffer.proofs.SchemaLaws.{SchemaLaws}
@@ -24,7 +24,7 @@ module _ (shape : ℕ → Option Shape) (accepted : Record → Bool) (text : Rec
     all : rs ≡ found.0 ∷ others
     ahead : HasAhead shape accepted text b found.1 others
 
-  goes_over : (b : List ℕ) (found : Record × ℕ) (rs : List Record) → Steps (HasAhead shape accepted text b) rs (Some found) → GoesOver b found rs
+  goes_over : (b : List ℕ) (found : Record × ℕ) (rs : List Record) → StepsAhead (HasAhead shape accepted text b) rs (Some found) → GoesOver b found rs
   goes_over b found [] s = cc
   goes_over b found (r ∷ rs) s =
       let e = s.1.0 in
@@ -32,7 +32,7 @@ module _ (shape : ℕ → Option Shape) (accepted : Record → Bool) (text : Rec
       let first : found.0 ≡ r = ap (λ z. z.0) same in
       record { others = rs; all = ap (λ z. z ∷ rs) (sym first); ahead = subst (λ z. HasAhead shape accepted text b z.1 rs) (sym same) s.1.1 }
 
-  stays : (b : List ℕ) (rs : List Record) → Steps (HasAhead shape accepted text b) rs None → rs ≡ []
+  stays : (b : List ℕ) (rs : List Record) → StepsAhead (HasAhead shape accepted text b) rs None → rs ≡ []
   stays b [] s = refl
   stays b (r ∷ rs) s = let e = s.1.0 in cc
 

@@ -1,10 +1,11 @@
 -- A `ListBuffer` that gets a piece more.
-use Rattle.std.proofs.Common.{◌≡◌, ◌+◌, ◌++◌, ℕ, Bool, IsTrue, Option, List, [], ◌∷◌, length, map, reverse, sym, ap, subst, ◌∙◌, arith, length-append}
+use Rattle.std.proofs.lemmas.Bool.Decides.{nat_tests}
+use Rattle.std.proofs.Common.{◌≡◌, ◌+◌, ◌++◌, ℕ, Bool, IsTrue, Option, List, [], ◌∷◌, length, map, reverse, sym, ap, ◌∙◌, arith, length-append}
 use Rattle.std.proofs.lemmas.List.{reverse-append, nil_from_length, append-nil}
 use Rattle.std.proofs.lemmas.List.Elements.{All-append, All-cons, All-nil}
 use Rattle.std.proofs.lemmas.Grind.{flat_map-append}
 use Rattle.std.specs.List.{flat_map}
-use Rattle.dspec_buffer.specs.Words.{Record, Piece, one, block, records, records_of, extent, extent_of_records, Listed, HasListed}
+use Rattle.dspec_buffer.specs.Words.{Record, Piece, one, block, records, records_of, extent, extent_of_records, ListView, HasListed}
 use Rattle.dspec_record.specs.declared.field.Shape.{Shape}
 use Rattle.dspec_buffer.proofs.Accepted.{AllAccepted}
 use Rattle.dspec_buffer.proofs.Keeping.{records-alone, extent-alone}
@@ -12,13 +13,13 @@ use Rattle.dspec_buffer.proofs.Padding.{reserved_none}
 
 module _ (shape : ℕ → Option Shape) (accepted : Record → Bool) (text : Record → List ℕ) where
   -- what a piece more makes of a buffer
-  pub record Grows (b b' : Listed) (p : Piece) (ps : List Piece) : Type 0 where
+  pub record Grows (b b' : ListView) (p : Piece) (ps : List Piece) : Type 0 where
     pub all_accepted : AllAccepted accepted (records_of p)
     pub texts_are : b'.texts ≡ b.texts ++ flat_map text (reverse (records_of p))
     pub count_is : b'.count ≡ b.count + length (records_of p)
     pub offset_is : b'.offset ≡ extent shape (p ∷ ps)
 
-  pub listed : (b b' : Listed) (p : Piece) (ps : List Piece) → HasListed shape accepted text b ps → Grows b b' p ps → HasListed shape accepted text b' (p ∷ ps)
+  pub listed : (b b' : ListView) (p : Piece) (ps : List Piece) → HasListed shape accepted text b ps → Grows b b' p ps → HasListed shape accepted text b' (p ∷ ps)
   listed b b' p ps h k =
       let behind : flat_map text (reverse (records ps) ++ reverse (records_of p)) ≡ flat_map text (reverse (records ps)) ++ flat_map text (reverse (records_of p)) =
       flat_map-append text (reverse (records ps)) (reverse (records_of p)) in
@@ -39,22 +40,17 @@ module _ (shape : ℕ → Option Shape) (accepted : Record → Bool) (text : Rec
   one_text r = append-nil (text r)
 
   -- a buffer that has records alone, as a block
-  pub record IsListedBlock (b : Listed) (rs : List Record) : Type 0 where
+  pub record IsListedBlock (b : ListView) (rs : List Record) : Type 0 where
     pub all_accepted : AllAccepted accepted rs
     pub texts_are : b.texts ≡ flat_map text (reverse rs)
     pub count_is : b.count ≡ length rs
     pub size_is : extent_of_records shape rs ≡ b.offset
 
-  pub listed_block : (b : Listed) (rs : List Record) → HasListed shape accepted text b (map one rs) → IsListedBlock b rs
-  listed_block b rs h = record {
-    all_accepted = subst (λ z. AllAccepted accepted z) (records-alone rs) h.all_accepted;
-    texts_are = h.texts_are ∙ ap (λ z. flat_map text (reverse z)) (records-alone rs);
-    count_is = h.count_is ∙ ap length (records-alone rs);
-    size_is = sym (extent-alone shape rs) ∙ sym h.offset_is;
-  }
+  pub listed_block : (b : ListView) (rs : List Record) → HasListed shape accepted text b (map one rs) → IsListedBlock b rs
+  listed_block b rs h = grind (arith, nat_tests, AllAccepted, records-alone, extent-alone)
 
   -- an empty block leaves a buffer as it is
-  pub listed_empty : (b other : Listed) (ps : List Piece) (rs : List Record) → HasListed shape accepted text b ps → HasListed shape accepted text other (map one rs)
+  pub listed_empty : (b other : ListView) (ps : List Piece) (rs : List Record) → HasListed shape accepted text b ps → HasListed shape accepted text other (map one rs)
       → other.offset ≡ 0 → other.count ≡ 0 → HasListed shape accepted text b (block rs ∷ ps)
   listed_empty b other ps rs h k e l =
       let f = listed_block other rs k in

@@ -1,5 +1,6 @@
 -- No bytes are the text of two lists of records; and a text that goes on behind another is read on from there.
-use Rattle.std.proofs.Common.{◌≡◌, ◌+◌, ◌++◌, ℕ, Bool, Option, List, [], ◌∷◌, length, refl, sym, ap, subst, ◌∙◌, arith, length-append, append_assoc}
+use Rattle.std.proofs.lemmas.Bool.Decides.{nat_tests}
+use Rattle.std.proofs.Common.{◌≡◌, ◌+◌, ◌++◌, ℕ, Bool, Option, List, [], ◌∷◌, length, refl, ap, subst, ◌∙◌, arith, append_assoc}
 use Rattle.dspec_buffer.specs.Words.{Record, StandsNext, BufferText}
 use Rattle.dspec_record.specs.declared.field.Shape.{Shape}
 use Rattle.dspec_buffer.proofs.SchemaLaws.{SchemaLaws}
@@ -9,9 +10,7 @@ module _ (shape : ℕ → Option Shape) (accepted : Record → Bool) (text : Rec
   -- what follows a record follows it wherever the same record is next
   pub follows : (o : ℕ) (g g' : List ℕ) (q r : Record) (x y : List ℕ) (qs : List Record) → SameNext shape accepted text laws g g' q r x y
       → BufferText shape accepted text (o + length g' + length (text r)) y qs → BufferText shape accepted text (o + length g + length (text q)) x qs
-  follows o g g' q r x y qs same h =
-      let P : List ℕ → Record → List ℕ → Type 0 = λ a p z. BufferText shape accepted text (o + length a + length (text p)) z qs in
-      subst (λ a. P a q x) (sym same.same_gap) (subst (λ p. P g' p x) (sym same.same_record) (subst (λ z. P g' r z) (sym same.same_rest) h))
+  follows o g g' q r x y qs same h = grind (arith, nat_tests)
 
   pub one_reading : (o : ℕ) (b : List ℕ) (rs qs : List Record) → BufferText shape accepted text o b rs → BufferText shape accepted text o b qs → rs ≡ qs
   one_reading o b [] [] h k = refl
@@ -32,18 +31,8 @@ module _ (shape : ℕ → Option Shape) (accepted : Record → Bool) (text : Rec
     pub is_text : BufferText shape accepted text o left others
 
   pub goes_on : (o : ℕ) (b left : List ℕ) (rs qs : List Record) → BufferText shape accepted text o b rs → BufferText shape accepted text o (b ++ left) qs → GoesOn (o + length b) left rs qs
-  goes_on o b left [] qs h k =
-      let e : b ++ left ≡ left = ap (λ z. z ++ left) h in
-      let n : o + length b ≡ o = let l : length b ≡ 0 = ap length h in omega arith in
-      record {
-        others = qs;
-        all = refl;
-        is_text = subst (λ m. BufferText shape accepted text m left qs) (sym n) (subst (λ z. BufferText shape accepted text o z qs) e k);
-      }
-  goes_on o b left (r ∷ rs) [] (g, (x, (s, h))) k =
-      let l = next_long shape accepted text laws o b g r x s in
-      let n : length b + length left ≡ 0 = sym (length-append b left) ∙ ap length k in
-      absurd (omega arith)
+  goes_on o b left [] qs h k = grind (arith, nat_tests)
+  goes_on o b left (r ∷ rs) [] (g, (x, (s, h))) k = grind (arith, nat_tests, next_long)
   goes_on o b left (r ∷ rs) (q ∷ qs) (g, (x, (s, h))) (g', (y, (t, k))) =
       let e : b ++ left ≡ g ++ (text r ++ (x ++ left)) =
       ap (λ z. z ++ left) s.bytes_are ∙ append_assoc g (text r ++ x) left ∙ ap (λ z. g ++ z) (append_assoc (text r) x left) in

@@ -1,4 +1,5 @@
 -- A padding word that is always written, and a text over it where there is no padding.
+use Rattle.std.proofs.lemmas.Bool.Decides.{nat_tests}
 use Rattle.std.proofs.Common.{◌≡◌, ◌≤◌, ◌⊎◌, inl, inr, ◌+◌, ◌-◌, ◌++◌, ℕ, List, length, take, drop, replicate, sym, ap, ◌∙◌, arith, append_assoc, append-nil}
 use Rattle.std.proofs.lemmas.List.{take-take, take_at, length-take-le, take-append-le}
 use lib.Seq.{take-append-add}
@@ -12,9 +13,7 @@ up_to from place bytes new (inl here) within put =
     let front : length (take from bytes) ≡ from = length-take-le from bytes within in
     ap (λ z. take z new) here ∙ sym (take-take from (from + 4) new (omega arith)) ∙ ap (take from) put
     ∙ take_at (take from bytes) (replicate 4 0) from front ∙ sym (append-nil (take from bytes)) ∙ ap (λ z. take from bytes ++ replicate z 0) none
-up_to from place bytes new (inr behind) within put =
-    let four : 4 ≡ place - from = omega (arith, behind) in
-    ap (λ z. take z new) behind ∙ put ∙ ap (λ z. take from bytes ++ replicate z 0) four
+up_to from place bytes new (inr behind) within put = grind (arith, nat_tests)
 
 pub overwritten : (from place end k : ℕ) (bytes new out text : List ℕ) → (place ≡ from) ⊎ (place ≡ from + 4) → end ≡ place + length text → from ≤ length bytes → place ≤ length new
     → length text ≤ length out → take (from + 4) new ≡ take from bytes ++ replicate 4 0 → take (length text) out ≡ text

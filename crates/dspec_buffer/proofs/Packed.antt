@@ -1,64 +1,33 @@
 -- Texts one behind another: what is read at a place where the records behind it are known.
-use Rattle.std.proofs.Common.{◌≡◌, ◌+◌, ◌++◌, ℕ, Bool, IsTrue, Option, Some, None, Ok, Err, List, [], ◌∷◌, length, take, drop, refl, sym, ap, subst, ◌∙◌, arith, inl, inr, length-append, length-drop}
+use Rattle.std.proofs.lemmas.Bool.Decides.{nat_tests}
+use Rattle.std.proofs.Common.{◌≡◌, ◌+◌, ◌++◌, ℕ, Bool, IsTrue, Option, Some, None, Ok, Err, List, [], ◌∷◌, length, drop, sym, ap, subst, ◌∙◌, arith, length-append, length-drop}
 use Rattle.std.proofs.lemmas.List.{take-append-drop, take_at, drop-drop, append_cancel_left}
 use Rattle.std.specs.List.{flat_map}
-use Rattle.dspec_buffer.specs.Words.{Record, NamesShape, Answers, HasTexts, Steps}
+use Rattle.dspec_buffer.specs.Words.{Record, NamesShape, Answers, HasTexts, StepsAhead}
 use Rattle.dspec_record.specs.declared.field.Shape.{Shape}
 use Rattle.dspec_record.specs.declared.reading.ReadKind.{ReadKind}
-use Rattle.dspec_record.specs.declared.reading.ReadKind.TheVariants.{Truncated, UnknownEpid, Misaligned, GapNotZero, Padding}
 use Rattle.dspec_buffer.proofs.SchemaLaws.{SchemaLaws}
 use Rattle.dspec_buffer.proofs.Texts.{text_facts}
 use Rattle.dspec_buffer.proofs.Accepted.{first_accepted, others_accepted}
 
 module _ (shape : ℕ → Option Shape) (accepted : Record → Bool) (text : Record → List ℕ) (laws : SchemaLaws shape accepted text) where
   same_size : (r : Record) (x : List ℕ) (s : Shape) → IsTrue (accepted r) → NamesShape shape (text r ++ x) s → s.size ≡ length (text r)
-  same_size r x s h n =
-      let t = text_facts shape accepted text laws r h in
-      let k : shape r.epid ≡ Some s = subst (λ m. shape m ≡ Some s) (t.epid x) n.has_shape in
-      let has = t.has_shape in
-      let same : s ≡ t.shape_is = cc in
-      ap (λ z. z.size) same ∙ t.shape_size
+  same_size r x s h n = grind (arith, nat_tests, text_facts)
 
   long_text : (r : Record) (x : List ℕ) → length (text r ++ x) ≡ length (text r) + length x
   long_text r x = length-append (text r) x
 
   -- where a text stands at the front, no fault is answered
   no_fault : (k : ReadKind) (r : Record) (x : List ℕ) → IsTrue (accepted r) → Answers shape accepted text (text r ++ x) (Err k) → ⊥
-  no_fault Truncated r x h (inl f) =
-      let t = text_facts shape accepted text laws r h in
-      let least = t.least in
-      let l = long_text r x in
-      omega arith
-  no_fault Truncated r x h (inr f) =
-      let same = same_size r x f.0 h f.1 in
-      let short = f.2 in
-      let l = long_text r x in
-      omega arith
-  no_fault Padding r x h f =
-      let t = text_facts shape accepted text laws r h in
-      t.named (sym (t.epid x) ∙ f.1)
-  no_fault UnknownEpid r x h f =
-      let t = text_facts shape accepted text laws r h in
-      let k : shape r.epid ≡ None = subst (λ m. shape m ≡ None) (t.epid x) f.2 in
-      let has = t.has_shape in
-      cc
-  no_fault Misaligned r x h f = absurd f
-  no_fault GapNotZero r x h f =
-      let same = same_size r x f.0 h f.1 in
-      f.2.none r h (take_at (text r) x f.0.size (sym same))
+  no_fault = grind (arith, nat_tests, text_facts, long_text, same_size, take_at)
 
   -- nothing is read where no bytes are left
   nothing : (found : Record × ℕ) → Answers shape accepted text [] (Ok found) → ⊥
-  nothing (r, n) h =
-      let t = text_facts shape accepted text laws r h.is_accepted in
-      let least = t.least in
-      let e : take n [] ≡ text r = h.front in
-      let l = ap length (sym (take-append-drop n []) ∙ ap (λ z. z ++ drop n []) e) ∙ long_text r (drop n []) in
-      omega arith
+  nothing = grind (arith, nat_tests, text_facts, take-append-drop, long_text)
 
   -- the record that is read is the first of those before the walk, and the others are before it at the next place
   pub steps_over : (texts : List ℕ) (place : ℕ) (rs : List Record) (r : Record) (n : ℕ) → HasTexts accepted text texts place rs
-      → Answers shape accepted text (drop place texts) (Ok (r, n)) → Steps (HasTexts accepted text texts) rs (Some (r, place + n))
+      → Answers shape accepted text (drop place texts) (Ok (r, n)) → StepsAhead (HasTexts accepted text texts) rs (Some (r, place + n))
   steps_over texts place [] r n h k =
       absurd (nothing (r, n) (subst (λ z. Answers shape accepted text z (Ok (r, n))) h.texts_are k))
   steps_over texts place (q ∷ qs) r n h k =
@@ -85,7 +54,5 @@ module _ (shape : ℕ → Option Shape) (accepted : Record → Bool) (text : Rec
 
   -- nothing is read at the end alone
   pub steps_none : (texts : List ℕ) (place : ℕ) (rs : List Record) (k : ReadKind) → HasTexts accepted text texts place rs
-      → Answers shape accepted text (drop place texts) (Err k) → Steps (HasTexts accepted text texts) rs None
-  steps_none texts place [] k h f = refl
-  steps_none texts place (q ∷ qs) k h f =
-      absurd (no_fault k q (flat_map text qs) (first_accepted accepted q qs h.all_accepted) (subst (λ z. Answers shape accepted text z (Err k)) h.texts_are f))
+      → Answers shape accepted text (drop place texts) (Err k) → StepsAhead (HasTexts accepted text texts) rs None
+  steps_none = grind (arith, nat_tests, no_fault, first_accepted)

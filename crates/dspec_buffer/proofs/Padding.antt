@@ -1,6 +1,6 @@
 -- Padding words, and what a reservation takes.
-use Rattle.std.proofs.Common.{◌≡◌, ◌≢◌, ◌+◌, ◌-◌, ◌%◌, ◌≤◌, ◌⊎◌, ℕ, List, [], ◌∷◌, length, replicate, inl, inr, refl, sym, arith, ⊎_elim, length-append}
-use Rattle.std.proofs.lemmas.Bool.Decides.{eqb_tells}
+use Rattle.std.proofs.lemmas.Bool.Decides.{nat_tests, eqb_tells}
+use Rattle.std.proofs.Common.{◌≡◌, ◌≢◌, ◌+◌, ◌-◌, ◌%◌, ◌≤◌, ◌⊎◌, ℕ, List, [], length, replicate, inl, inr, refl, arith, ⊎_elim}
 use Rattle.dspec_buffer.specs.Words.{rounded_up, reserved, padding, padding_word, padded, IsGap}
 use Rattle.dspec_buffer.proofs.Rounding.{IsRounded, rounded}
 
@@ -16,27 +16,10 @@ pub record IsPadding (o a : ℕ) (gap : List ℕ) : Type 0 where
   pub zeros : gap ≡ replicate (rounded_up o a - o) 0
 
 padding_none : (o a : ℕ) → IsRounded o a (rounded_up o a) → o % a ≡ 0 → IsPadding o a []
-padding_none o a d e =
-    let p = d.stays e in
-    record {
-      is_gap = inl refl;
-      reaches = omega arith;
-      aligned = rw add_zero e;
-      zeros = let z : rounded_up o a - o ≡ 0 = omega arith in rw z refl;
-    }
-  where
-    add_zero : o + 0 ≡ o
-    add_zero = omega arith
+padding_none o a d e = grind (arith, nat_tests)
 
 padding_one : (o a : ℕ) → IsRounded o a (rounded_up o a) → o % a ≢ 0 → IsPadding o a padding_word
-padding_one o a d e =
-    let p = d.moves e in
-    record {
-      is_gap = inr (refl, ⊎_elim (λ q. absurd (omega arith)) (λ q. q.1) d.step);
-      reaches = sym p;
-      aligned = rw (sym p) d.multiple;
-      zeros = let z : rounded_up o a - o ≡ 4 = omega arith in rw z refl;
-    }
+padding_one o a d e = grind (arith, nat_tests)
 
 pub padding_facts : (o a : ℕ) → o % 4 ≡ 0 → (a ≡ 4) ⊎ (a ≡ 8) → IsPadding o a (padding o a)
 padding_facts o a h k =
@@ -50,11 +33,7 @@ pub reserved_none : (o a n : ℕ) → n ≡ 0 → reserved o a n ≡ o
 reserved_none o a n h = rw h refl
 
 pub length-padded : (o a : ℕ) (bs : List ℕ) → o % 4 ≡ 0 → (a ≡ 4) ⊎ (a ≡ 8) → o + length (padded o a bs) ≡ reserved o a (length bs)
-length-padded o a [] h k = omega arith
-length-padded o a (b ∷ bs) h k =
-    let r = (padding_facts o a h k).reaches in
-    let e = reserved_some o a (length (b ∷ bs)) (omega arith) in
-    rw length-append (omega arith)
+length-padded = grind (arith, nat_tests, padding_facts, reserved_some)
 
 -- a reservation keeps whole words, and takes its bytes
 pub record IsReserved (o n e : ℕ) : Type 0 where
@@ -62,11 +41,4 @@ pub record IsReserved (o n e : ℕ) : Type 0 where
   pub takes : o + n ≤ e
 
 pub reserved_facts : (o a n : ℕ) → o % 4 ≡ 0 → (a ≡ 4) ⊎ (a ≡ 8) → n % 4 ≡ 0 → IsReserved o n (reserved o a n)
-reserved_facts o a n h k w =
-    let d = rounded o a h k in
-    let z = d.words in
-    let below : o ≤ rounded_up o a = ⊎_elim (λ q. omega arith) (λ q. let q0 = q.0 in omega arith) d.step in
-    ⊎_elim
-    (λ p. let e = reserved_none o a n p.1 in record { words = rw e h; takes = omega arith })
-    (λ p. let e = reserved_some o a n p.1 in record { words = omega arith; takes = omega arith })
-    (eqb_tells n 0)
+reserved_facts o a n h k w = grind (arith, nat_tests, rounded, reserved_none, reserved_some, eqb_tells)

@@ -1,4 +1,5 @@
 -- The bytes of pieces are the text of their records.
+use Rattle.std.proofs.lemmas.Bool.Decides.{nat_tests}
 use Rattle.std.proofs.Common.{◌≡◌, ◌+◌, ◌%◌, ℕ, Bool, Option, List, [], ◌∷◌, length, reverse, refl, sym, subst, arith}
 use Rattle.std.proofs.lemmas.List.{reverse-append}
 use Rattle.dspec_buffer.specs.Words.{Record, Piece, one, block, records, records_of, align_of, extent_of_records, extent, piece_align, piece_bytes, bytes_of_records, bytes, padding, padded}
@@ -41,10 +42,7 @@ module _ (shape : ℕ → Option Shape) (accepted : Record → Bool) (text : Rec
   -- the bytes of a piece at a place that is aligned for it
   piece_read : (o : ℕ) (p : Piece) → AllAccepted accepted (records_of p) → o % piece_align shape p ≡ 0 → BufferText shape accepted text o (piece_bytes shape text p) (reverse (records_of p))
   piece_read o (one r) h m = alone shape accepted text laws o r (first_accepted accepted r [] h) m
-  piece_read o (block rs) h m =
-      let n : o + 0 ≡ o = omega arith in
-      subst (λ k. BufferText shape accepted text k (bytes_of_records shape text rs) (reverse rs)) n
-      (moved shape accepted text laws o 0 (bytes_of_records shape text rs) (reverse rs) m (records_read rs h))
+  piece_read o (block rs) h m = grind (arith, nat_tests, moved, records_read)
 
   pub pieces_read : (ps : List Piece) → AllAccepted accepted (records ps) → BufferText shape accepted text 0 (bytes shape text ps) (reverse (records ps))
   pieces_read [] h = refl

@@ -1,5 +1,6 @@
 -- Offsets are whole words, and alignments four or eight.
-use Rattle.std.proofs.Common.{◌≡◌, ◌≢◌, ◌≤◌, ◌+◌, ◌-◌, ◌%◌, ◌⊎◌, ℕ, inl, inr, ⊎_elim, ap, ◌∙◌, arith}
+use Rattle.std.proofs.lemmas.Bool.Decides.{nat_tests}
+use Rattle.std.proofs.Common.{◌≡◌, ◌≢◌, ◌+◌, ◌-◌, ◌%◌, ◌⊎◌, ℕ, inl, inr, ap, ◌∙◌, arith}
 use Rattle.std.specs.Int.Bits.{bit_and, and_zero_r}
 use Rattle.std.proofs.lemmas.Nat.{and_le_r, and_mod}
 use Rattle.dspec_buffer.specs.Words.{rounded_up}
@@ -13,22 +14,10 @@ pub record IsRounded (o a p : ℕ) : Type 0 where
   pub words : p % 4 ≡ 0
 
 rounded_four : (o : ℕ) → o % 4 ≡ 0 → IsRounded o 4 (rounded_up o 4)
-rounded_four o h = record {
-  multiple = omega arith;
-  step = inl (omega arith);
-  stays = λ e. omega arith;
-  moves = λ e. omega arith;
-  words = omega arith;
-}
+rounded_four o h = grind (arith, nat_tests)
 
 rounded_eight : (o : ℕ) → o % 4 ≡ 0 → IsRounded o 8 (rounded_up o 8)
-rounded_eight o h = record {
-  multiple = omega arith;
-  step = grind arith;
-  stays = λ e. omega arith;
-  moves = λ e. omega arith;
-  words = omega arith;
-}
+rounded_eight o h = grind (arith, nat_tests)
 
 pub rounded : (o a : ℕ) → o % 4 ≡ 0 → (a ≡ 4) ⊎ (a ≡ 8) → IsRounded o a (rounded_up o a)
 rounded o a h (inl e) = rw e (rounded_four o h)
@@ -36,14 +25,7 @@ rounded o a h (inr e) = rw e (rounded_eight o h)
 
 -- the bit of a whole word tells its distance from the multiple of eight below it
 word-bit : (o : ℕ) → o % 4 ≡ 0 → bit_and o 4 ≡ o % 8
-word-bit o h =
-    let few : bit_and o 4 ≤ 4 = and_le_r o 4 in
-    let low : bit_and o 4 % 8 ≡ bit_and (o % 8) 4 = and_mod o 4 3 in
-    let step : (o % 8 ≡ 0) ⊎ (o % 8 ≡ 4) = grind arith in
-    ⊎_elim
-    (λ e. let bit : bit_and (o % 8) 4 ≡ 0 = ap (λ n. bit_and n 4) e in omega arith)
-    (λ e. let bit : bit_and (o % 8) 4 ≡ 4 = ap (λ n. bit_and n 4) e in omega arith)
-    step
+word-bit o h = grind (arith, nat_tests, and_le_r o 4, and_mod o 4 3)
 
 -- so that rounding up adds the bit that the alignment forbids
 pub rounded-bit : (o a : ℕ) → o % 4 ≡ 0 → (a ≡ 4) ⊎ (a ≡ 8) → o + bit_and o (a - 4) ≡ rounded_up o a
@@ -52,8 +34,4 @@ rounded-bit o a h (inl e) =
     let up : rounded_up o a ≡ rounded_up o 4 = ap (rounded_up o) e in
     let stays : rounded_up o 4 ≡ o = omega arith in
     omega arith
-rounded-bit o a h (inr e) =
-    let bit : bit_and o (a - 4) ≡ o % 8 = ap (λ n. bit_and o (n - 4)) e ∙ word-bit o h in
-    let up : rounded_up o a ≡ rounded_up o 8 = ap (rounded_up o) e in
-    let moves : rounded_up o 8 ≡ o + o % 8 = omega arith in
-    omega arith
+rounded-bit o a h (inr e) = grind (arith, nat_tests, word-bit)

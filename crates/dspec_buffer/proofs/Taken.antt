@@ -1,4 +1,5 @@
 -- The records that a reader has been given so far are those of the bytes up to its place, and no others.
+use Rattle.std.proofs.lemmas.Bool.Decides.{nat_tests}
 use Rattle.std.proofs.Common.{◌≡◌, ◌<◌, ◌≤◌, ◌++◌, ℕ, Bool, Option, List, [], ◌∷◌, length, take, refl, arith}
 use Rattle.std.proofs.Math.Logic.{∥∥₁_elim, ∥∥₁_prop}
 use Rattle.dspec_buffer.specs.Words.{Record, StopsBehind, HasRead, NextIs, FaultIs, IsOneText, Remaining, records_set, IsOneText-prop, ReadFault}
@@ -35,7 +36,4 @@ module _ (shape : ℕ → Option Shape) (accepted : Record → Bool) (text : Rec
 
   -- a record takes the reader on
   pub goes_further : (b : List ℕ) (o : ℕ) (r : Record) (next : ℕ) → NextIs shape accepted text b o r next → o < next
-  goes_further b o r next n =
-      let long = (next_long shape accepted text laws o _ n.gap r _ n.stands).1 in
-      let e = n.next_is in
-      omega arith
+  goes_further b o r next n = grind (arith, nat_tests, next_long)

@@ -1,14 +1,12 @@
 -- A buffer while a text is upgraded into it, record by record.
-use Rattle.std.proofs.Common.{leb, ◌≡◌, ◌≤◌, ◌<◌, ◌⊎◌, ◌+◌, ◌++◌, ◌^◌, ◌&&◌, ℕ, Bool, true, false, IsTrue, Option}
-use Rattle.std.proofs.Common.{List, [], ◌∷◌, length, map, reverse, refl, sym, ap, subst, ◌∙◌, arith, append_assoc, ⊎_elim}
-use Rattle.std.specs.Option.{option_map_or}
+use Rattle.std.proofs.lemmas.Bool.Decides.{nat_tests, eqb_tells}
+use Rattle.std.proofs.Common.{leb, ◌≡◌, ◌≤◌, ◌<◌, ◌⊎◌, ◌+◌, ◌++◌, ◌^◌, ℕ, Bool, true, false, IsTrue, Option, List, [], ◌∷◌, length, refl, sym, ap, subst, ◌∙◌, arith, append_assoc, ⊎_elim}
 use Rattle.std.proofs.lemmas.Bool.{lt-ltb, leb-true, leb-false}
-use Rattle.std.proofs.lemmas.Bool.Decides.{eqb_tells}
 use Rattle.std.proofs.lemmas.List.{append-nil, reverse-append, map-append, length-reverse, length-map}
 use Rattle.std.proofs.lemmas.List.Elements.{All-cons, All-nil}
-use Rattle.dspec_buffer.specs.Words.{Record, EnabledRows, stamp_fits, fits, FieldTable, enabled, table_shape, table_accepts, table_text, IsAccepted, accepted-parts, enabled-IsLimited}
-use Rattle.dspec_buffer.specs.Words.{table-shapes_fit, table-texts_fit, table-texts_differ, Piece, one, records, reserved, align_of, size_of, piece_fits, BufferText, Stored, HasPieces, stamped}
-use Rattle.dspec_buffer.specs.Words.{all_stamped, IsOldText, new_extent, HasNew, IsUpgradable, IsUpgraded, FillsUp}
+use Rattle.dspec_buffer.specs.Words.{Record, EnabledRows, FieldTable, enabled, table_shape, table_accepts, table_text, enabled-IsLimited, table-shapes_fit, table-texts_fit, table-texts_differ}
+use Rattle.dspec_buffer.specs.Words.{Piece, one, records, reserved, align_of, size_of, piece_fits, BufferText, Stored, HasPieces, stamped, all_stamped, IsOldText, new_extent, HasNew, IsUpgradable}
+use Rattle.dspec_buffer.specs.Words.{IsUpgraded, FillsUp}
 use Rattle.dspec_record.specs.declared.field.Field.{Field}
 use Rattle.dspec_record.specs.declared.header.Header.{Header}
 use Rattle.dspec_record.specs.declared.header.Header.TheVariants.{Two}
@@ -36,16 +34,11 @@ laws_of h rows = record {
 
 -- a record that is accepted without a stamp is accepted with one
 pub stamped-accepted : (h : Header) (fields : FieldTable) (r : Record) (stamp : ℕ) → stamp < 2 ^ 64 → IsTrue (table_accepts h fields r) → IsTrue (table_accepts Two fields (stamped stamp r))
-stamped-accepted h fields r stamp small accepted =
-    let parts : IsAccepted h r (fields r.epid) = accepted-parts h fields r accepted in
-    let values : Bool = option_map_or (λ fs. fits fs r.values) (fields r.epid) false in
-    ap (λ b. b && (stamp_fits Two stamp && values)) parts.epid ∙ ap (λ b. b && values) (lt-ltb stamp (2 ^ 64) small) ∙ parts.values
+stamped-accepted h fields r stamp small accepted = grind (arith, nat_tests, lt-ltb)
 
 -- one record more is one piece more
 pub one-more : (stamp : ℕ) (rs : List Record) (r : Record) → all_stamped stamp (rs ++ r ∷ []) ≡ one (stamped stamp r) ∷ all_stamped stamp rs
-one-more stamp rs r =
-    ap (λ qs. map one (reverse qs)) (map-append (stamped stamp) rs (r ∷ []))
-    ∙ ap (map one) (reverse-append (map (stamped stamp) rs) (stamped stamp r ∷ []))
+one-more stamp rs r = grind (arith, nat_tests, map-append, reverse-append)
 
 reserved-ge : (o a n : ℕ) → (a ≡ 4) ⊎ (a ≡ 8) → o ≤ reserved o a n
 reserved-ge o a n aligned =
@@ -61,9 +54,7 @@ pub record IsUpgrading (old : EnabledRows) (stamp : ℕ) (text : List ℕ) (size
 
 -- a piece for each record
 count-done : (stamp : ℕ) (rs : List Record) → length (records (all_stamped stamp rs)) ≡ length rs
-count-done stamp rs =
-    ap length (records-alone (reverse (map (stamped stamp) rs)))
-    ∙ length-reverse (map (stamped stamp) rs) ∙ length-map rs (stamped stamp)
+count-done stamp rs = grind (arith, nat_tests, records-alone, length-reverse, length-map)
 
 module _ (old : EnabledRows) (stamp : ℕ) (text : List ℕ) (size : ℕ) where
   pub upgrading-accepted : (to : Stored) (r : Record) (left : List Record) → stamp < 2 ^ 64 → IsUpgrading old stamp text size to (r ∷ left)
@@ -90,26 +81,11 @@ module _ (old : EnabledRows) (stamp : ℕ) (text : List ℕ) (size : ℕ) where
       }
 
   pub upgrading-end : (to : Stored) → IsUpgrading old stamp text size to [] → IsUpgraded old stamp text to to.count
-  upgrading-end to h =
-      let Text : List Record → Type 0 = λ rs. IsOldText old text rs in
-      record {
-        all = h.done;
-        is_text = subst Text (append-nil h.done) h.is_text;
-        number = h.kept.count_is ∙ count-done stamp h.done;
-        kept = h.kept;
-      }
+  upgrading-end to h = grind (arith, nat_tests, append-nil, count-done)
 
   upgrading-full : (to : Stored) (r : Record) (left : List Record) (h : IsUpgrading old stamp text size to (r ∷ left))
       → size < new_extent old (one (stamped stamp r) ∷ all_stamped stamp h.done) → FillsUp old stamp text size to.count
-  upgrading-full to r left h over = record {
-    before = h.done;
-    first = r;
-    behind = left;
-    is_text = h.is_text;
-    number = h.kept.count_is ∙ count-done stamp h.done;
-    fit = h.fit;
-    over = over;
-  }
+  upgrading-full to r left h over = grind (arith, nat_tests, count-done)
 
 -- what a push answers and keeps, by some enablings
 abbrev pub Answers : EnabledRows → Stored → Record → Bool → Type 0
@@ -150,16 +126,11 @@ module _ (old : EnabledRows) (stamp : ℕ) (text : List ℕ) (size : ℕ) where
   -- the record that comes next is accepted with the stamp
   pub upgrading-next-accepted : (to : Stored) (r q : Record) (left : List Record) (new : EnabledRows) → stamp < 2 ^ 64 → IsUpgrading old stamp text size to (r ∷ left)
       → new ≡ with_stamps old → q ≡ stamped stamp r → IsTrue (table_accepts new.header (enabled new.rows) q)
-  upgrading-next-accepted to r q left new small h is same =
-      let Accepts : EnabledRows → Type 0 = λ e. IsTrue (table_accepts e.header (enabled e.rows) q) in
-      let Accepted : Record → Type 0 = λ p. IsTrue (table_accepts Two (enabled old.rows) p) in
-      subst Accepts (sym is) (subst Accepted (sym same) (upgrading-accepted old stamp text size to r left small h))
+  upgrading-next-accepted to r q left new small h is same = grind (arith, nat_tests, upgrading-accepted old stamp text size to r left small h)
 
   -- more records never reach less far
   reach : (xs ys : List Record) → stamp < 2 ^ 64 → AllAccepted (table_accepts old.header (enabled old.rows)) ys → new_extent old (all_stamped stamp xs) ≤ new_extent old (all_stamped stamp (xs ++ ys))
-  reach xs [] small ok =
-      let Reach : List Record → Type 0 = λ rs. new_extent old (all_stamped stamp xs) ≤ new_extent old (all_stamped stamp rs) in
-      subst Reach (sym (append-nil xs)) (omega arith)
+  reach xs [] small ok = grind (arith, nat_tests, append-nil)
   reach xs (y ∷ ys) small ok =
       let accepted : Record → Bool = table_accepts old.header (enabled old.rows) in
       let new_shape : ℕ → Option Shape = table_shape Two (enabled old.rows) in

@@ -1,14 +1,15 @@
 -- A walk over the text of a `ByteBuffer`.
-use Rattle.std.proofs.Common.{◌≡◌, ℕ, Bool, Option, List, [], ◌∷◌, reverse, inr, sym, subst, arith, ⊎_elim}
+use Rattle.std.proofs.lemmas.Bool.Decides.{nat_tests}
+use Rattle.std.proofs.Common.{◌≡◌, ℕ, Bool, Option, List, [], ◌∷◌, reverse, inr, sym, subst, arith}
 use Rattle.std.specs.Prelude.{Result, Ok, Err, IfOk, OnErr, IsOkAnd}
-use Rattle.dspec_buffer.specs.Words.{Record, Piece, records, BufferText, Stored, HasPieces, HasAhead, Steps, IsAhead, ReadFault}
+use Rattle.dspec_buffer.specs.Words.{Record, Piece, records, BufferText, Stored, HasPieces, HasAhead, StepsAhead, IsAhead, ReadFault}
 use Rattle.dspec_record.specs.declared.field.Shape.{Shape}
 use Rattle.dspec_buffer.proofs.SchemaLaws.{SchemaLaws}
 use Rattle.dspec_buffer.proofs.OneReading.{one_reading}
 use Rattle.dspec_buffer.proofs.PiecesRead.{pieces_read}
 
 -- where more can be ahead, a step says as much
-steps_weaker : (P Q : ℕ → List Record → Type 0) (rs : List Record) (step : Option (Record × ℕ)) → ((o : ℕ) (qs : List Record) → P o qs → Q o qs) → Steps P rs step → Steps Q rs step
+steps_weaker : (P Q : ℕ → List Record → Type 0) (rs : List Record) (step : Option (Record × ℕ)) → ((o : ℕ) (qs : List Record) → P o qs → Q o qs) → StepsAhead P rs step → StepsAhead Q rs step
 steps_weaker P Q [] step f s = s
 steps_weaker P Q (r ∷ rs) step f s = (s.0, (s.1.0, f s.0 rs s.1.1))
 
@@ -22,15 +23,11 @@ module _ (shape : ℕ → Option Shape) (accepted : Record → Bool) (text : Rec
   ahead_at_start b ps h = record { within = omega arith; ahead = reads_back b ps h }
 
   is_ahead : (b : Stored) (place : ℕ) (rs : List Record) → IsAhead (HasPieces shape accepted text b) (HasAhead shape accepted text b.text) place rs → HasAhead shape accepted text b.text place rs
-  is_ahead b place rs h =
-      ⊎_elim
-      (λ p. subst (λ m. HasAhead shape accepted text b.text m rs) (sym p.1.1) (subst (λ qs. HasAhead shape accepted text b.text 0 qs) (sym p.1.2) (ahead_at_start b p.0 p.1.0)))
-      (λ p. p)
-      h
+  is_ahead b place rs h = grind (arith, nat_tests, ahead_at_start)
 
   pub walk_from : (b : Stored) (place : ℕ) (rs : List Record) (step : Option (Record × ℕ))
-      → ((qs : List Record) → HasAhead shape accepted text b.text place qs → Steps (HasAhead shape accepted text b.text) qs step)
-      → IsAhead (HasPieces shape accepted text b) (HasAhead shape accepted text b.text) place rs → Steps (IsAhead (HasPieces shape accepted text b) (HasAhead shape accepted text b.text)) rs step
+      → ((qs : List Record) → HasAhead shape accepted text b.text place qs → StepsAhead (HasAhead shape accepted text b.text) qs step)
+      → IsAhead (HasPieces shape accepted text b) (HasAhead shape accepted text b.text) place rs → StepsAhead (IsAhead (HasPieces shape accepted text b) (HasAhead shape accepted text b.text)) rs step
   walk_from b place rs step read h =
       steps_weaker (HasAhead shape accepted text b.text) (IsAhead (HasPieces shape accepted text b) (HasAhead shape accepted text b.text)) rs step (λ o qs k. inr k) (read rs (is_ahead b place rs h))
 

@@ -1,4 +1,4 @@
--- Cited by calls. Which records some bytes are the text of. Nothing here knows how the bytes came about.
+-- Believed. Which records some bytes are the text of. Nothing here knows how the bytes came about.
 use Rattle.std.specs.Prelude.{◌≡◌, ℕ, ◌+◌, ◌%◌, ◌⊎◌, Bool, IsTrue, List, [], ◌∷◌, ◌++◌, length, Option}
 use Rattle.dspec_buffer.specs.Words.Outside.{Record}
 use Rattle.dspec_record.specs.declared.field.Shape.{Shape}

@@ -1,9 +1,9 @@
 -- Cited by calls. How a `ListBuffer` holds what contracts see of it.
 use Rattle.std.specs.Prelude.{◌≡◌, ◌≤◌, ◌*◌, ◌%◌, ◌^◌, vec_len, vec_capacity}
-use Rattle.dspec_buffer.specs.Listed.{Listed}
+use Rattle.dspec_buffer.specs.Listed.{ListView}
 use Rattle.dspec_buffer.specs.declared.list_buffer.ListBuffer.TheInside.{Inside}
 
-abbrev pub listed_of : Inside → Listed
+abbrev pub listed_of : Inside → ListView
 listed_of b = record { texts = b.texts.items; count = b.count; offset = b.offset; size = b.size }
 
 -- the offset is a whole number of words within the size, no record is smaller than a word, and there is room for texts

@@ -6,14 +6,14 @@ use Rattle.dspec_record.specs.declared.field.Shape.{Shape}
 use Rattle.dspec_buffer.specs.Extent.{Piece, records, extent}
 
 -- the texts of its records one behind another, how many there are, how far they would reach, and its size in bytes
-pub record Listed : Type 0 where
+pub record ListView : Type 0 where
   pub texts : List ℕ
   pub count : ℕ
   pub offset : ℕ
   pub size : ℕ
 
 -- the texts are those of the records of these pieces, all accepted, the count is their number and the offset their extent
-pub record HasListed (shape : ℕ → Option Shape) (accepted : Record → Bool) (text : Record → List ℕ) (b : Listed) (ps : List Piece) : Type 0 where
+pub record HasListed (shape : ℕ → Option Shape) (accepted : Record → Bool) (text : Record → List ℕ) (b : ListView) (ps : List Piece) : Type 0 where
   pub all_accepted : All (λ r. IsTrue (accepted r)) (records ps)
   pub texts_are : b.texts ≡ flat_map text (reverse (records ps))
   pub count_is : b.count ≡ length (records ps)

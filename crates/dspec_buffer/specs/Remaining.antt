@@ -3,7 +3,7 @@ use Rattle.std.specs.Prelude.{◌≡◌, ℕ, Bool, List, Option}
 use Rattle.dspec_buffer.specs.Words.Outside.{Record}
 use Rattle.dspec_record.specs.declared.field.Shape.{Shape}
 use Rattle.dspec_buffer.specs.Stored.{HasAhead}
-use Rattle.dspec_buffer.specs.Walking.{Steps}
+use Rattle.dspec_buffer.specs.Walking.{StepsAhead}
 
 module _ (shape : ℕ → Option Shape) (accepted : Record → Bool) (text : Record → List ℕ) where
   -- the bytes from this place on are the text of these records and of no others
@@ -13,7 +13,7 @@ module _ (shape : ℕ → Option Shape) (accepted : Record → Bool) (text : Rec
 
   -- of each list of records that the bytes from this place on are the text of, this is the first, with the place behind it; None at its end
   abbrev pub StepsOn : List ℕ → ℕ → Option (Record × ℕ) → Type 0
-  StepsOn bytes place step = (rs : List Record) → HasAhead shape accepted text bytes place rs → Steps (HasAhead shape accepted text bytes) rs step
+  StepsOn bytes place step = (rs : List Record) → HasAhead shape accepted text bytes place rs → StepsAhead (HasAhead shape accepted text bytes) rs step
 
   -- there is a list of records that the bytes from this place on are the text of
   abbrev pub Remaining : List ℕ → ℕ → Type 0

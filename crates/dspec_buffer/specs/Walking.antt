@@ -5,9 +5,9 @@ use Rattle.dspec_buffer.specs.Extent.{Piece, records}
 
 -- one step of a walk that still has these records before it: the first one and a place from which the others
 -- are still to come, or the end. `has_ahead` says what a walk has before it at a place.
-abbrev pub Steps : (ℕ → List Record → Type 0) → List Record → Option (Record × ℕ) → Type 0
-Steps has_ahead [] step = step ≡ None
-Steps has_ahead (r ∷ rs) step = (place : ℕ) × ((step ≡ Some (r, place)) × has_ahead place rs)
+abbrev pub StepsAhead : (ℕ → List Record → Type 0) → List Record → Option (Record × ℕ) → Type 0
+StepsAhead has_ahead [] step = step ≡ None
+StepsAhead has_ahead (r ∷ rs) step = (place : ℕ) × ((step ≡ Some (r, place)) × has_ahead place rs)
 
 -- a walk begins at place 0, with all records of the pieces before it, and is elsewhere where steps have led it
 abbrev pub IsAhead : (List Piece → Type 0) → (ℕ → List Record → Type 0) → ℕ → List Record → Type 0

@@ -6,12 +6,12 @@ pub use Rattle.dspec_buffer.specs.Extent.{align_of, block, bytes, bytes_of_recor
 pub use Rattle.dspec_buffer.specs.Extent.{piece_size, records, records_of, reserved, size_of}
 pub use Rattle.dspec_buffer.specs.Faults.{FaultHere, StopsAt, StopsBehind}
 pub use Rattle.dspec_buffer.specs.Laws.Remaining.{IsOneText-prop, records_set, Remaining-prop}
-pub use Rattle.dspec_buffer.specs.Listed.{HasListed, HasTexts, Listed}
+pub use Rattle.dspec_buffer.specs.Listed.{HasListed, HasTexts, ListView}
 pub use Rattle.dspec_buffer.specs.Progress.{Advances, Progress}
 pub use Rattle.dspec_buffer.specs.ReadingOn.{EndsAt, FaultIs, HasRead, NextIs, NoGapAt, ReadsNext, SkipsGap, StandsHere}
 pub use Rattle.dspec_buffer.specs.Remaining.{IsOneText, Remaining, StepsOn}
 pub use Rattle.dspec_buffer.specs.Stored.{HasAhead, HasPieces, Stored}
 pub use Rattle.dspec_buffer.specs.Upgrading.{all_stamped, FillsUp, HasNew, IsOldText, IsUpgradable, IsUpgraded, new_extent, stamped}
-pub use Rattle.dspec_buffer.specs.Walking.{IsAhead, Steps}
+pub use Rattle.dspec_buffer.specs.Walking.{IsAhead, StepsAhead}
 pub use Rattle.dspec_buffer.specs.declared.read_fault.ReadFault.{ReadFault}
 pub use Rattle.dspec_buffer.specs.declared.records.Records.TheInside.{Inside}

@@ -20,9 +20,9 @@ pub struct ListBuffer {
 }
 
 impl Model for ListBuffer {
-    ghost use Rattle.dspec_buffer.specs.Listed.{Listed};
+    ghost use Rattle.dspec_buffer.specs.Listed.{ListView};
 
-    ghost Value = { Listed };
+    ghost Value = { ListView };
 
     ghost use Rattle.dspec_buffer.specs.ListFields.{listed_of, IsListed};
 

@@ -3,7 +3,7 @@ ghost use Rattle.std.specs.Bool.{OnTrue, OnFalse};
 ghost use Rattle.dspec_record.specs.LaidOut.{IsLaidBy};
 ghost use Rattle.dspec_record.specs.Record.{Record};
 ghost use Rattle.dspec_buffer.specs.Extent.{Piece, one, block, records, reserved, extent, piece_fits};
-ghost use Rattle.dspec_buffer.specs.Walking.{Steps};
+ghost use Rattle.dspec_buffer.specs.Walking.{StepsAhead};
 
 use dspec_record::{Rec, Recorded, Schema};
 use std::alloc::{AllocError, Global};
@@ -90,7 +90,7 @@ pub trait TraceBuffer<S: Schema>: Drop {
     /// on from the place answered, and ends at None.
     fn next(&self, schema: &S, place: usize) -> Option<(Rec, usize)>
         ensures { (rs : List Record) → has_ahead self.now schema.now place rs
-            → Steps (has_ahead self.now schema.now) rs result };
+            → StepsAhead (has_ahead self.now schema.now) rs result };
 
     /// A walk that begins has all records before it.
     ghost begins: { (b : Self) (s : S) (ps : List Piece) → has b s ps → has_ahead b s 0 (reverse (records ps)) };

@@ -1,5 +1,5 @@
 -- A call on what a handle holds is one on the CPU, or the consumer, that is there.
-use Rattle.std.proofs.Common.{◌≡◌, ℕ, Bool, Option, Some, None, sym, subst}
+use Rattle.std.proofs.Common.{◌≡◌, ℕ, Bool, Option, Some, None, sym, subst, ap, ◌∙◌}
 use Rattle.std.specs.Prelude.{Result, Ok, Err, IfErr, IfNone, IfSome, MatchOption, MatchResult, OnErr, OnOk}
 use Rattle.dspec_ring.specs.declared.batch.Batch.{Batch}
 use Rattle.dspec_c.specs.Words.{EnabledRows, FoundNone, GaveBack, IsNotTakenBack, Took, Consuming, OnConsumer, OnTheirs, Theirs, OnCpu, OnSide, one_refused, CpuSide, ConsumerSide, HandleValue}
@@ -20,6 +20,11 @@ on_boxed refuses did old shared was cpu refused new e f same done count =
 pub on_cpu : (did : CpuSide → CpuSide → Type 0) (stays : Type 0) (was : HandleValue) (status : ℕ) (now : HandleValue) (old new : CpuSide) → was ≡ held.Cpu old → now ≡ held.Cpu new → did old new
     → OnCpu did stays was status now
 on_cpu did stays was status now old new e f done = subst (λ (h : HandleValue). OnCpu did stays h status now) (sym e) (new, f, done)
+
+-- where it is out, which shows it as it is there
+pub on_out : (did : CpuSide → CpuSide → Type 0) (stays : Type 0) (was : HandleValue) (status : ℕ) (now : HandleValue) (side old new : CpuSide) → old ≡ side → was ≡ held.Cpu side
+    → now ≡ held.Cpu new → did old new → OnCpu did stays was status now
+on_out did stays was status now side old new v e f done = on_cpu did stays was status now old new (e ∙ ap held.Cpu (sym v)) f done
 
 pub on_consumer : (did : ConsumerSide → ConsumerSide → Type 0) (stays : Type 0) (was : HandleValue) (status : ℕ) (now : HandleValue) (old new : ConsumerSide) → was ≡ held.Consumer old
     → now ≡ held.Consumer new → did old new → OnConsumer did stays was status now

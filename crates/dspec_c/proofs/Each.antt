@@ -1,7 +1,7 @@
 -- Lists each element of which has something at its place.
 use Rattle.std.proofs.Common.{◌≡◌, ℕ, ◌+◌, ◌<◌, List, [], ◌∷◌, ◌++◌, length, length-append, append_assoc, Option, take, suc, zero, refl, sym, ap, ◌∙◌, subst, arith}
 use Rattle.std.specs.Prelude.{slice_get, slice_index_or, slice_set, map, remove, Some, IsSome}
-use Rattle.dspec_c.specs.Words.{Pair, EnabledRows, words_of, Identity, IsCallable, identity, IsCpuOf, AtHome, CpuStay, CpuSide, AllCalled, AllInside, EachFrom, IsCpuAt, IsPlaceOf, cpu_inside}
+use Rattle.dspec_c.specs.Words.{Pair, EnabledRows, words_of, CpuIdentity, IsCallable, identity, IsCpuOf, AtHome, CpuStay, CpuSide, AllCalled, AllInside, EachFrom, IsCpuAt, IsPlaceOf, cpu_inside}
 use Rattle.dspec_c.specs.Words.{firsts, insides, new_side, refused_inside, refusals, waiting_so}
 use Rattle.dspec_cpu.specs.declared.cpu.Cpu.{Cpu}
 use Rattle.dspec_cpu.specs.declared.shared.Shared.{Shared}
@@ -32,7 +32,7 @@ set_back (y ∷ ys) (suc c) old new e at = ap (λ zs. y ∷ zs) (set_back ys c o
 pub cpu_at : (shared : Shared) (schema : EnabledRows) (pairs : List Pair) (c : ℕ) (place : Option CpuSide) (home : AtHome) (cpu : Cpu EnabledRows)
     → ((first : CpuSide) → place ≡ Some first → identity home.cpu ≡ identity first.cpu) → cpu ≡ home.cpu → IsPlaceOf shared schema pairs c place → IsCpuAt shared schema pairs c cpu
 cpu_at shared schema pairs c place home cpu same f at =
-    subst (λ (i : Identity EnabledRows). IsCpuOf schema (words_of shared) c (slice_get pairs c) i) (sym (ap (λ (y : Cpu EnabledRows). identity y) f ∙ same at.side at.is)) at.cpu
+    subst (λ (i : CpuIdentity EnabledRows). IsCpuOf schema (words_of shared) c (slice_get pairs c) i) (sym (ap (λ (y : Cpu EnabledRows). identity y) f ∙ same at.side at.is)) at.cpu
 
 -- one more is taken
 pub one_more : (shared : Shared) (schema : EnabledRows) (pairs : List Pair) (cpus : List (Cpu EnabledRows)) (places : List CpuStay) (place : CpuStay) (rest : List CpuStay) (cpu : Cpu EnabledRows)

@@ -3,9 +3,9 @@ use Rattle.std.proofs.Common.{◌≡◌, ℕ, List, [], ◌∷◌, length, Optio
 use Rattle.std.specs.Prelude.{Result, Ok, Err, IfNone, IfOk, IfSome, IsSomeAnd, OnErr, false, map, slice_get, slice_set}
 use Rattle.std.proofs.lemmas.List.{length-map, length-set}
 use Rattle.dspec_deeds.specs.declared.config.Config.{Config}
-use Rattle.dspec_c.specs.Words.{EnabledRows, last_seat, set_up, schema_of, words_of, Consuming, pairs_of, view_of, Has, IsCpuOf, IsFresh, Identity, IsTheirPlaceWith, LeaveTheirs, TheirStay, Theirs}
-use Rattle.dspec_c.specs.Words.{Pair, CpuStay, IsSameSide, LeavesPlace, CpuSide, EachFrom, Going, GoesOut, IsFreshIn, IsJustStarted, IsCpuAt, IsPlaceOf, IsWhole, LeavesOne, LooksAt, LooksAtOne}
-use Rattle.dspec_c.specs.Words.{TheyGoOut, firsts, they_wait_so, waiting_so}
+use Rattle.dspec_c.specs.Words.{EnabledRows, last_seat, set_up, schema_of, words_of, Consuming, pairs_of, view_of, Has, IsCpuOf, IsFresh, CpuIdentity, IsTheirPlaceWith, LeaveTheirs, TheirStay}
+use Rattle.dspec_c.specs.Words.{Theirs, Pair, CpuStay, IsSameSide, LeavesPlace, CpuSide, EachFrom, Going, GoesOut, IsFreshIn, IsJustStarted, IsCpuAt, IsPlaceOf, IsWhole, LeavesOne, LooksAt}
+use Rattle.dspec_c.specs.Words.{LooksAtOne, TheyGoOut, firsts, they_wait_so, waiting_so}
 use Rattle.dspec_cpu.specs.declared.cpu.Cpu.{Cpu}
 use Rattle.dspec_cpu.specs.declared.shared.Shared.{Shared}
 use Rattle.dspec_c.proofs.Looking.{first_at}
@@ -30,13 +30,13 @@ placed shared schema pairs k (Some first) side is e at = record {
   side = first;
   is = refl;
   shares = sym is.shared ∙ e;
-  cpu = subst (λ (i : Identity EnabledRows). IsCpuOf schema (words_of shared) k (slice_get pairs k) i) is.cpu at;
+  cpu = subst (λ (i : CpuIdentity EnabledRows). IsCpuOf schema (words_of shared) k (slice_get pairs k) i) is.cpu at;
 }
 
 still_placed : (shared given : Shared) (schema : EnabledRows) (pairs : List Pair) (k : ℕ) (old new : CpuStay) (side : CpuSide) → given ≡ shared → LeavesPlace given old side new
     → IsPlaceOf shared schema pairs k old.first → IsPlaceOf shared schema pairs k new.first
 still_placed shared given schema pairs k old new side e leaves at = placed shared schema pairs k new.first side leaves.stays (leaves.shares ∙ e)
-    (subst (λ (i : Identity EnabledRows). IsCpuOf schema (words_of shared) k (slice_get pairs k) i) (sym (leaves.same at.side at.is)) at.cpu)
+    (subst (λ (i : CpuIdentity EnabledRows). IsCpuOf schema (words_of shared) k (slice_get pairs k) i) (sym (leaves.same at.side at.is)) at.cpu)
 
 -- as many places as before
 left_count : (shared : Shared) (c : ℕ) (places now : List CpuStay) (side : CpuSide) → LeavesOne shared c places side now → length now ≡ length places

@@ -2,7 +2,7 @@
 use Rattle.std.proofs.Common.{◌≡◌, ℕ, ◌+◌, List, [], ◌∷◌, length, Option, Some, None, suc, zero, refl, sym, ap, ◌∙◌, subst, arith}
 use Rattle.std.specs.Prelude.{map, slice_get}
 use Rattle.std.proofs.lemmas.List.{length-map}
-use Rattle.dspec_c.specs.Words.{start_fault, EnabledRows, set_up, number_in, schema_of, words_of, Consuming, IsConsumerOf, IsSameConsumer, pairs_of, Has, IsCpuOf, IsFresh, IsSession, Identity}
+use Rattle.dspec_c.specs.Words.{start_fault, EnabledRows, set_up, number_in, schema_of, words_of, Consuming, IsConsumerOf, IsSameConsumer, pairs_of, Has, IsCpuOf, IsFresh, IsSession, CpuIdentity}
 use Rattle.dspec_c.specs.Words.{IsCallable, identity, TheirStay, Theirs, Came, CpuStay, IsPlaceWith, CpuSide, AllCalled, AreCame, EachFrom, Going, IsFreshIn, IsCpuAt, IsEnding, IsPlaceOf, IsStarted}
 use Rattle.dspec_c.specs.Words.{IsWhole, LeavesOne, LookedLater, cpu_inside, firsts, insides, they_wait_so, waiting_so}
 use Rattle.dspec_cpu.specs.declared.cpu.Cpu.{Cpu}
@@ -132,4 +132,4 @@ pub number_out : (shared given : Shared) (n : ℕ) (places : List CpuStay) (thei
     → LeavesOne given c places side now → number_in side.cpu ≡ c
 number_out shared given n places theirs c side now is leaves =
     let at_c = each_at (IsPlaceOf shared is.schema (pairs_of is.first.consumer)) 0 (firsts places) c leaves.stay.first is.ending.each (first_at places c leaves.stay leaves.there) in
-    ap (λ (i : Identity EnabledRows). i.number) (leaves.leaves.same at_c.side at_c.is) ∙ at_c.cpu.number ∙ omega arith
+    ap (λ (i : CpuIdentity EnabledRows). i.number) (leaves.leaves.same at_c.side at_c.is) ∙ at_c.cpu.number ∙ omega arith

@@ -4,7 +4,7 @@ use Rattle.std.specs.Prelude.{IfSome, IsSomeAnd, slice_get}
 use Rattle.core.specs.Option.{is_some}
 use Rattle.rtrb.specs.Ring.{known_free, sent}
 use Rattle.rtrb.specs.declared.producer.Producer.{Producer}
-use Rattle.dspec_c.specs.Words.{EnabledRows, words_of, Belongs, Identity, IsCallable, identity, AtHome, CpuStay, IsDesk, IsOut, IsSameAsAll, IsSameSide, IsUnused, LeavesPlace, CpuSide, at_home}
+use Rattle.dspec_c.specs.Words.{EnabledRows, words_of, Belongs, CpuIdentity, IsCallable, identity, AtHome, CpuStay, IsDesk, IsOut, IsSameAsAll, IsSameSide, IsUnused, LeavesPlace, CpuSide, at_home}
 use Rattle.dspec_c.specs.Words.{HomingProtocol}
 use Rattle.dspec_cpu.specs.declared.cpu.Cpu.{Cpu}
 use Rattle.dspec_cpu.specs.declared.shared.Shared.{Shared}
@@ -92,7 +92,7 @@ one_first received a b e f = ap (λ (o : Option CpuSide). or_this a o) (sym e �
 
 -- those can call it who share what it went through with
 pub callable_so : (shared : Shared) (first : CpuSide) (x : Cpu EnabledRows) → IsCallable shared first.cpu → identity x ≡ identity first.cpu → IsCallable shared x
-callable_so shared first x can same = subst (λ (i : Identity EnabledRows). Belongs (words_of shared) i) (sym same) can
+callable_so shared first x can same = subst (λ (i : CpuIdentity EnabledRows). Belongs (words_of shared) i) (sym same) can
 
 pub goes_out : (went : List CpuSide) (first side : CpuSide) → went ≡ first ∷ [] → side.shared ≡ first.shared → identity side.cpu ≡ identity first.cpu → IsOut went side
 goes_out went first side e f g = record { first = first; was = e; same = record { shared = f; cpu = g } }

@@ -6,7 +6,7 @@ use Rattle.dspec_record.specs.declared.header.Header.TheVariants.{One, Two}
 use Rattle.dspec_ctf.specs.declared.stream.PacketFault.{PacketFault}
 use Rattle.dspec_ctf.specs.declared.in_memory.fault.PutFault.{PutFault}
 use Rattle.dspec_ctf.specs.declared.in_memory.fault.TextFault.{TextFault}
-use Rattle.dspec_ctf.specs.declared.in_memory.identity.Identity.{Identity}
+use Rattle.dspec_ctf.specs.declared.in_memory.identity.TraceIdentity.{TraceIdentity}
 use Rattle.dspec_ctf.specs.declared.in_memory.packet.Packet.{Packet}
 use Rattle.dspec_c.specs.CtfStatuses.{needed_of, no_packet, no_stamp, packet_status, put_status, text_size, text_status}
 use Rattle.dspec_c.specs.Handles.{held_in, is_full}
@@ -32,22 +32,22 @@ abbrev pub packet_room : List ℕ → Packet → PacketRoom
 packet_room room packet = record { room = room; packet = packet }
 
 -- the metadata stands in the room, and its size is told
-pub record HasMetadata (identity : Identity) (e : EnabledRows) (names : List (List ℕ)) (kinds : List ℕ) (status : ℕ) (before now : TextRoom) : Type 0 where
+pub record HasMetadata (identity : TraceIdentity) (e : EnabledRows) (names : List (List ℕ)) (kinds : List ℕ) (status : ℕ) (before now : TextRoom) : Type 0 where
   pub fine : status ≡ 0
   pub puts : PutsMetadata identity e names kinds before.room now.size now.room
 
 -- it doesn't, for that; where the room is too small, it is told how many bytes are needed
-pub record LacksMetadata (identity : Identity) (e : EnabledRows) (names : List (List ℕ)) (kinds : List ℕ) (status : ℕ) (before now : TextRoom) : Type 0 where
+pub record LacksMetadata (identity : TraceIdentity) (e : EnabledRows) (names : List (List ℕ)) (kinds : List ℕ) (status : ℕ) (before now : TextRoom) : Type 0 where
   pub fault : TextFault
   pub numbered : status ≡ text_status fault
   pub why : PutsNone identity e names kinds (length before.room) fault
   pub told : now ≡ text_room before.room (text_size fault before.size)
 
-abbrev pub TellsMetadata : Identity → EnabledRows → List (List ℕ) → List ℕ → ℕ → TextRoom → TextRoom → Type 0
+abbrev pub TellsMetadata : TraceIdentity → EnabledRows → List (List ℕ) → List ℕ → ℕ → TextRoom → TextRoom → Type 0
 TellsMetadata identity e names kinds status before now = HasMetadata identity e names kinds status before now ⊎ LacksMetadata identity e names kinds status before now
 
 -- a schema is looked at, and stays as it was
-abbrev pub CtfMetadataAnswers : Identity → List (List ℕ) → List ℕ → HandleValue → ℕ → TextRoom → TextRoom → HandleValue → Type 0
+abbrev pub CtfMetadataAnswers : TraceIdentity → List (List ℕ) → List ℕ → HandleValue → ℕ → TextRoom → TextRoom → HandleValue → Type 0
 CtfMetadataAnswers identity names kinds (held.Schema e) status before now left = (left ≡ held.Schema e) × TellsMetadata identity e names kinds status before now
 CtfMetadataAnswers identity names kinds was status before now left = (left ≡ was) × ((status ≡ bad_handle) × (now ≡ before))
 

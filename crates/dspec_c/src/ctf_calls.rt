@@ -10,7 +10,7 @@ use crate::handle::{Handle, HandleBox};
 use crate::held::HandleValue;
 use crate::schema_calls::schema_in;
 use crate::statuses::{BAD_HANDLE, FULL_HANDLE, NO_MEMORY, NO_SUCH_CPU, OK};
-use dspec_ctf::{CpuPackets, Identity, Packet, put_metadata};
+use dspec_ctf::{CpuPackets, Packet, TraceIdentity, put_metadata};
 use dspec_record::Enablings;
 use std::alloc::Global;
 
@@ -19,7 +19,7 @@ use std::alloc::Global;
 pub extern "C" fn dspec_ctf_metadata(
     alloc: Global,
     schema: &mut Handle,
-    identity: &Identity<'_>,
+    identity: &TraceIdentity<'_>,
     names: &[&[u8]],
     kinds: &[u8],
     room: &mut [u8],
@@ -67,7 +67,7 @@ fn files_of(
 pub extern "C" fn dspec_ctf_new(
     alloc: Global,
     schema: &mut Handle,
-    identity: &Identity<'_>,
+    identity: &TraceIdentity<'_>,
     cpu: u32,
     files: &mut Handle,
 ) -> u32

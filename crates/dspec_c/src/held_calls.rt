@@ -16,7 +16,7 @@ pub fn held_trace(held: &mut HandleValue, epid: u32, stamp: u64, values: &[u64])
     ensures { TraceAnswers epid stamp values.now held.old result held.new }
 {
     match held {
-        HandleValue::Cpu(side) => of_traced(side.trace(epid, stamp, values)),
+        HandleValue::Cpu(side) => of_traced(side.homing.trace(epid, stamp, values)),
         _ => bad_handle(),
     }
 }
@@ -26,7 +26,7 @@ pub fn held_put<N>(held: &mut HandleValue, claim: u64, stamp: u64, words: &[u64]
     ensures { PutAnswers claim stamp words.now held.old result held.new }
 {
     match held {
-        HandleValue::Cpu(side) => of_traced(side.put::<N>(claim, stamp, words)),
+        HandleValue::Cpu(side) => of_traced(side.homing.put::<N>(claim, stamp, words)),
         _ => bad_handle(),
     }
 }
@@ -36,12 +36,10 @@ pub fn held_put_in<N>(held: &mut HandleValue, id: u64, claim: u64, stamp: u64, w
     ensures { PutInAnswers id claim stamp words.now held.old result held.new }
 {
     match held {
-        HandleValue::Cpu(side) => of_spoken(side.put_in::<N>(
-            SpecId::from_raw(id),
-            claim,
-            stamp,
-            words,
-        )),
+        HandleValue::Cpu(side) => of_spoken(
+            side.homing
+                .put_in::<N>(SpecId::from_raw(id), claim, stamp, words),
+        ),
         _ => bad_handle(),
     }
 }
@@ -50,7 +48,7 @@ pub fn held_speculation(held: &mut HandleValue, id: &mut u64) -> u32
     ensures { SpeculationAnswers held.old result id.old id.new held.new }
 {
     match held {
-        HandleValue::Cpu(side) => of_opening(side.speculation(), id),
+        HandleValue::Cpu(side) => of_opening(side.homing.speculation(), id),
         _ => BAD_HANDLE,
     }
 }
@@ -61,7 +59,9 @@ pub fn held_speculate(held: &mut HandleValue, id: u64, epid: u32, stamp: u64, va
     ensures { SpeculateAnswers id epid stamp values.now held.old result held.new }
 {
     match held {
-        HandleValue::Cpu(side) => of_spoken(side.offer(SpecId::from_raw(id), epid, stamp, values)),
+        HandleValue::Cpu(side) => of_spoken(
+            side.homing.offer(SpecId::from_raw(id), epid, stamp, values),
+        ),
         _ => bad_handle(),
     }
 }
@@ -70,7 +70,7 @@ pub fn held_commit(held: &mut HandleValue, id: u64, count: &mut u32) -> u32
     ensures { CommitAnswers id held.old result count.old count.new held.new }
 {
     match held {
-        HandleValue::Cpu(side) => of_decided(side.commit(SpecId::from_raw(id)), count),
+        HandleValue::Cpu(side) => of_decided(side.homing.commit(SpecId::from_raw(id)), count),
         _ => BAD_HANDLE,
     }
 }
@@ -79,7 +79,10 @@ pub fn held_commit_if_room(held: &mut HandleValue, id: u64, count: &mut u32) -> 
     ensures { CommitIfRoomAnswers id held.old result count.old count.new held.new }
 {
     match held {
-        HandleValue::Cpu(side) => of_committed(side.commit_if_room(SpecId::from_raw(id)), count),
+        HandleValue::Cpu(side) => of_committed(
+            side.homing.commit_if_room(SpecId::from_raw(id)),
+            count,
+        ),
         _ => BAD_HANDLE,
     }
 }
@@ -88,7 +91,7 @@ pub fn held_discard(held: &mut HandleValue, id: u64, count: &mut u32) -> u32
     ensures { DiscardAnswers id held.old result count.old count.new held.new }
 {
     match held {
-        HandleValue::Cpu(side) => of_decided(side.discard(SpecId::from_raw(id)), count),
+        HandleValue::Cpu(side) => of_decided(side.homing.discard(SpecId::from_raw(id)), count),
         _ => BAD_HANDLE,
     }
 }
@@ -99,7 +102,7 @@ pub fn held_service(held: &mut HandleValue, sealed: &mut bool, settled: &mut u32
 {
     match held {
         HandleValue::Cpu(side) => {
-            let served = side.service();
+            let served = side.homing.service();
             *sealed = served.sealed;
             *settled = served.settled;
             OK
@@ -113,7 +116,7 @@ pub fn held_dropped_in(held: &mut HandleValue, id: u64, count: &mut u32) -> u32
 {
     match held {
         HandleValue::Cpu(side) => {
-            *count = side.dropped_in(SpecId::from_raw(id));
+            *count = side.homing.dropped_in(SpecId::from_raw(id));
             OK
         }
         _ => BAD_HANDLE,
@@ -125,7 +128,7 @@ pub fn held_open_at(held: &mut HandleValue, slot: u32, id: &mut u64) -> u32
 {
     match held {
         HandleValue::Cpu(side) => {
-            *id = number_of(side.open_at(slot));
+            *id = number_of(side.homing.open_at(slot));
             OK
         }
         _ => BAD_HANDLE,
@@ -137,7 +140,7 @@ pub fn held_report(held: &mut HandleValue, report: &mut CReport) -> u32
 {
     match held {
         HandleValue::Cpu(side) => {
-            *report = CReport::of(&side.report(), side.refused());
+            *report = CReport::of(&side.homing.report(), side.homing.refused());
             OK
         }
         _ => BAD_HANDLE,

@@ -1,8 +1,9 @@
 -- What a commit or a discard leaves of a CPU, said of both as one.
 use Rattle.std.proofs.Common.{◌≡◌, ℕ, ◌-◌, Bool, true, false, ◌||◌, List, ◌∷◌, ◌++◌, [], reverse, set, if◌then◌else◌, Option, refl, true≢false}
 use Rattle.dspec_record.specs.declared.field.Shape.{Shape}
-use Rattle.dspec_core.specs.Words.{Speculation, SlotState, is_commit, is_copied, is_discard, is_open, word_at, IsSound, CpuLegal, contents, held, seals_now, stream, IsSlot, Decision, Commit}
-use Rattle.dspec_core.specs.Words.{Discard, decides, deed_of, ShowsWords}
+use Rattle.dspec_core.specs.Words.{Speculation, SlotState, author, halted, is_commit, is_copied, is_discard, is_open, word_at, IsSound, CpuLegal, contents, held, seals_now, stream, IsSlot, Decision}
+use Rattle.dspec_core.specs.Words.{Commit, Discard, decides, deed_of, ShowsWords}
+use Rattle.dspec_deeds.specs.declared.calls.Actor.TheVariants.{Cpu}
 use Rattle.dspec_deeds.specs.declared.config.Config.{Config}
 use Rattle.dspec_deeds.specs.declared.deed.DecideFate.{DecideFate}
 use Rattle.dspec_deeds.specs.declared.deed.DecideFate.TheVariants as decided
@@ -10,7 +11,7 @@ use Rattle.dspec_deeds.specs.declared.deed.Deed.{Deed}
 use Rattle.dspec_deeds.specs.declared.deed.Deed.TheVariants as deed
 use Rattle.dspec_deeds.proofs.WordChanges.{commit_open, discard_open}
 use Rattle.dspec_core.proofs.OwnSlots.{stream_commits, stream_discards}
-use Rattle.dspec_core.proofs.WordsShown.{words_set}
+use Rattle.dspec_core.proofs.WordsShown.{words_set, words_stay}
 
 module _ (k : Config) (c : ℕ) (id : Speculation) (f : DecideFate) (h : List Deed) where
   -- what is decided was open
@@ -60,3 +61,19 @@ module _ (k : Config) (c : ℕ) (id : Speculation) (f : DecideFate) (h : List De
   pub nothing_decided : (x : Decision) → decides x f ≡ false → IsSound k (deed_of x c id f ∷ h) → (is_commit f || is_discard f) ≡ false
   nothing_decided Commit e sound = undecided_is (is_commit f) (is_discard f) e sound.1.1.1
   nothing_decided Discard e sound = undecided_is (is_commit f) (is_discard f) sound.1.1.1 e
+
+-- the deed is of its CPU
+pub by_its_cpu : (d : Decision) (c : ℕ) (id : Speculation) (f : DecideFate) (h : List Deed) → author (deed_of d c id f) h ≡ Cpu c
+by_its_cpu Commit c id f h = refl
+by_its_cpu Discard c id f h = refl
+
+-- and it isn't a halt
+pub halted_still : (d : Decision) (c : ℕ) (id : Speculation) (f : DecideFate) (h : List Deed) → halted (deed_of d c id f ∷ h) ≡ halted h
+halted_still Commit c id f h = refl
+halted_still Discard c id f h = refl
+
+-- the words after a call that decided nothing
+pub undecided_words : (d : Decision) (k : Config) (c : ℕ) (id : Speculation) (f : DecideFate) (h : List Deed) (words : List SlotState) → decides d f ≡ false
+    → ShowsWords k h words → ShowsWords k (deed_of d c id f ∷ h) words
+undecided_words Commit k c id f h words none was = words_stay k (deed_of Commit c id f) h words (λ t. rw none refl) was
+undecided_words Discard k c id f h words none was = words_stay k (deed_of Discard c id f) h words (λ t. rw none refl) was

@@ -1,10 +1,8 @@
 -- What is kept of a CPU shows the list after a deed: the CPU's own, another's, or a release by whomever.
-use Rattle.std.proofs.Common.{[], ◌≡◌, ℕ, ◌+◌, ◌<◌, ◌≤◌, ◌^◌, true, false, ⊎_elim, List, ◌∷◌, length, reverse, take, refl, sym, ap, ◌∙◌, subst, arith, add-zero}
-use Rattle.std.specs.Prelude.{nat_lt}
-use Rattle.std.proofs.lemmas.Bool.Decides.{nat_tests}
+use Rattle.std.proofs.Common.{[], ◌≡◌, ℕ, ◌<◌, ◌≤◌, ◌^◌, false, List, ◌∷◌, length, reverse, take, refl, sym, ap, ◌∙◌, subst, arith, add-zero}
 use Rattle.std.proofs.lemmas.List.{reverse-append, length-reverse, take-append-le}
 use Rattle.dspec_core.specs.Words.{Record, Piece, Speculation, author, part, same_actor, active, batches, batch_records, contents, growing, seals, seals_now, stream, OwnState, ShowsOwnState}
-use Rattle.dspec_core.specs.Words.{own_side, ReadsApart, counts_of, one_more_worn, IsFilledWith, ShowsList, parts_of_side, Cpu, HasRecords, ShowsCpu, first_or_empty}
+use Rattle.dspec_core.specs.Words.{own_side, ReadsApart, counts_of, IsFilledWith, ShowsList, parts_of_side, Cpu, HasRecords, ShowsCpu, first_or_empty}
 use Rattle.dspec_deeds.specs.declared.config.Config.{Config}
 use Rattle.dspec_deeds.specs.declared.calls.Actor.TheVariants.{Cpu as CpuActor}
 use Rattle.dspec_deeds.specs.declared.deed.Deed.{Deed}
@@ -13,7 +11,7 @@ use Rattle.dspec_deeds.specs.declared.report.Report.{Report}
 use Rattle.dspec_deeds.proofs.OwnReads.{apart_other, reads}
 use Rattle.dspec_deeds.proofs.OwnStates.{side_part}
 use Rattle.dspec_deeds.proofs.StayingOwn.{accepted_other, batches_other}
-use Rattle.dspec_deeds.proofs.TestLemmas.{either_way, number_is_itself}
+use Rattle.dspec_deeds.proofs.TestLemmas.{number_is_itself}
 use Rattle.dspec_cpu_state.specs.declared.counts.Counts.{Counts}
 use Rattle.dspec_cpu_state.specs.declared.cpu_state.CpuState.{CpuState}
 use Rattle.dspec_cpu_state.proofs.Quiet.{quiet_shown}
@@ -40,13 +38,6 @@ told_counts p = record {
 
 counts_alike : (k : Config) (c w : ℕ) (g h : List Deed) → ReadsApart k c g h → counts_of k c w g ≡ counts_of k c w h
 counts_alike k c w g h e = ap told_counts (e.reporting w)
-
--- the count of worn calls stays within 64 bits
-one_more_fits : (n : ℕ) → n < 2 ^ 64 → one_more_worn n < 2 ^ 64
-one_more_fits n lt = ⊎_elim
-    (λ (t : nat_lt (n + 1) (2 ^ 64) ≡ true). rw t (grind (arith, nat_tests)))
-    (λ (f : nat_lt (n + 1) (2 ^ 64) ≡ false). rw f lt)
-    (either_way (nat_lt (n + 1) (2 ^ 64)))
 
 -- a slot given out counts nothing
 opened_counts : (k : Config) (c w : ℕ) (a : ℕ) (id : Speculation) (p : List Deed) → counts_of k c w (Opened a id ∷ p) ≡ counts_of k c w p
@@ -190,18 +181,16 @@ module _ {S B : Type 0} (has : B → S → List Piece → Type 0) (capacity : B 
     sealed_drops = was.sealed_drops;
   }
 
-  -- a call more was worn
-  pub wearing : (counts : Counts) (me : CpuProgress) → counts ≡ record own.side.counts { worn = one_more_worn own.side.counts.worn } → me.takes ≡ own.progress.takes → me.worn ≡ counts.worn
+  -- a step of the CPU, which counts the worn calls in both places
+  pub moving : (counts : Counts) (me : CpuProgress) → counts ≡ record own.side.counts { worn = me.worn } → me.takes ≡ own.progress.takes → me.worn < 2 ^ 64
       → ShowsCpu has capacity schema k c h (record own { progress = me; side = record own.side { counts = counts } })
-  wearing counts me is takes worn =
-      let n = one_more_worn own.side.counts.worn in
-      let told : counts.worn ≡ n = ap (λ (x : Counts). x.worn) is in
-      let before : own.side.counts.worn < 2 ^ 64 = subst (λ m. m < 2 ^ 64) (sym was.worn) was.few_worn in
-      let recounted : counts ≡ counts_of k c counts.worn h = is ∙ (ap (λ (x : Counts). record x { worn = n }) was.side.counted ∙ ap (λ m. counts_of k c m h) (sym told)) in
+  moving counts me is takes few =
+      let told : counts.worn ≡ me.worn = ap (λ (x : Counts). x.worn) is in
+      let recounted : counts ≡ counts_of k c counts.worn h = is ∙ (ap (λ (x : Counts). record x { worn = me.worn }) was.side.counted ∙ ap (λ m. counts_of k c m h) (sym told)) in
       record {
         side = record { parts = was.side.parts; counted = recounted };
-        worn = sym worn;
-        few_worn = subst (λ m. m < 2 ^ 64) (sym (worn ∙ told)) (one_more_fits own.side.counts.worn before);
+        worn = told;
+        few_worn = few;
         second = was.second;
         accepted = was.accepted;
         took = was.took ∙ ap (λ m. batch_records (take m (reverse (batches c h)))) (sym takes);

@@ -10,8 +10,11 @@ pub mod TakenBatches
 pub mod OwnSlots
 pub mod DecidedCpus
 pub mod OwnBlocks
-pub mod DecisionMoves
 pub mod SoloDiscards
+pub mod Seeing
+pub mod StepRecords
+pub mod Driving
+pub mod Entries
 pub mod Rooms
 pub mod Within
 pub mod Keepings

@@ -10,6 +10,9 @@ use Rattle.dspec_interleaving.proofs.CleanReads.{number_there}
 pub slot_in_range : (k : Config) (id : Speculation) → in_range k id ≡ true → IsSlot k id.slot
 slot_in_range k id e = (grind (arith, nat_tests), grind (arith, nat_tests))
 
+pub slot_inside : (k : Config) (id : Speculation) → IsSlot k id.slot → in_range k id ≡ true
+slot_inside k id slot = let least = slot.0 in let most = slot.1 in grind (arith, nat_tests)
+
 -- the place of a slot's number in what has an element for each slot
 pub place_within : (n s most count : ℕ) → n ≡ s → 1 ≤ s → s ≤ most → count ≡ most → n - 1 < count
 place_within n s most count is low high counted = omega arith

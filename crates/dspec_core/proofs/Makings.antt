@@ -1,28 +1,17 @@
 -- How an atomic step is put together: what its deeds enter, and then what becomes of its CPU's progress.
-use Rattle.std.proofs.Common.{◌≡◌, ℕ, ◌==◌, true, false, List, [], ◌++◌, set, Option, Some, refl, sym, ap, ◌∙◌, subst, ⊎_elim}
+use Rattle.std.proofs.Common.{◌≡◌, ℕ, ◌==◌, true, false, List, set, Option, Some, refl, sym, ap, ◌∙◌, subst, ⊎_elim}
 use Rattle.std.specs.Prelude.{slice_get}
 use Rattle.std.specs.Vec.{with_item}
 use Rattle.std.proofs.lemmas.List.{length-set, map-set}
 use Rattle.std.proofs.lemmas.Option.{slice_get_within}
-use Rattle.dspec_record.specs.declared.field.Shape.{Shape}
-use Rattle.dspec_core.specs.Words.{Piece, IsAllowed, Machine, Cpu, CpuStep, PlayState, progress_of, ShowsCpu, IsShownMachine, Adds, Makes, MayEnterOn, history, state_of, StandsAt}
+use Rattle.dspec_core.specs.Words.{Piece, Machine, Cpu, CpuStep, PlayState, progress_of, ShowsCpu, IsShownMachine, Adds, Makes, history, state_of}
 use Rattle.dspec_deeds.specs.declared.calls.Answer.{Answer}
 use Rattle.dspec_deeds.specs.declared.deed.Deed.{Deed}
-use Rattle.dspec_interleaving.specs.declared.flight.CallPlace.{CallPlace}
 use Rattle.dspec_interleaving.specs.declared.flight.CpuProgress.{CpuProgress}
 use Rattle.dspec_deeds.proofs.TestLemmas.{either_way, same_number, numbers_differ}
 use Rattle.dspec_deeds.proofs.Places.{got_set, got_other}
 use Rattle.dspec_core.proofs.OneMore.{progress_there}
 use Rattle.dspec_core.proofs.KeptCpus.{calling}
-
--- no deed was entered
-pub adds_none : {S B : Type 0} (m : Machine S B) → Adds [] m m
-adds_none m = record { state = refl; schema = refl }
-
--- what the list allows next may be entered where a CPU's call stands
-pub may_enter : {S B : Type 0} {has : B → S → List Piece → Type 0} {capacity : B → ℕ} {shape_of : S → ℕ → Option Shape} {m : Machine S B} {c : ℕ} {f : CallPlace} {ds : List Deed}
-    → StandsAt has capacity shape_of m c f → IsAllowed (shape_of m.schema) m.config (ds ++ history m) → MayEnterOn has capacity shape_of m c ds
-may_enter at legal = record { shown = at.shown; ranges = at.coherent.ranges; legal = legal; cpu = at.cpu }
 
 -- what a play knows of a machine where what is kept of one CPU is another
 pub state_puts : {S B : Type 0} (m : Machine S B) (c : ℕ) (new : Cpu B)

@@ -1,17 +1,19 @@
 -- A machine with one deed more shows its list where its words do, and what it keeps of each CPU.
-use Rattle.std.proofs.Common.{[], ◌≡◌, ℕ, zero, suc, ◌-◌, ◌<◌, ◌≤◌, true, false, ◌==◌, List, ◌∷◌, ◌++◌, length, map, reverse, set, get_or, Some, refl, sym, ap, ◌∙◌, subst, ⊎_elim, arith}
+use Rattle.std.proofs.Common.{[], ◌≡◌, ℕ, zero, suc, ◌-◌, ◌<◌, ◌≤◌, true, false, ◌==◌, List, ◌∷◌, ◌++◌, length, map, reverse, set, get_or, None, Some, refl, sym, ap, ◌∙◌, subst, ⊎_elim, arith}
 use Rattle.std.specs.Prelude.{slice_get}
 use Rattle.std.specs.Global.{Vec}
 use Rattle.std.specs.Vec.{with_item}
 use Rattle.std.proofs.lemmas.List.{reverse-append, length-set}
 use Rattle.std.proofs.lemmas.Option.{slice_get_read}
-use Rattle.dspec_core.specs.Words.{Piece, Speculation, SlotState, Machine, Cpu, halted, author, same_actor, word_at, progress_of, ShowsWords, ShowsCpu, IsShownMachine, Adds, history}
+use Rattle.dspec_core.specs.Words.{Piece, Speculation, SlotState, Machine, Cpu, halted, author, same_actor, word_at, progress_of, ShowsWords, ShowsCpu, IsShownMachine, Adds, history, CanBeReleased}
+use Rattle.dspec_core.specs.Words.{IsSlot, IsSound, start_fault}
 use Rattle.dspec_deeds.specs.declared.calls.Actor.TheVariants as actor
 use Rattle.dspec_deeds.specs.declared.config.Config.{Config}
 use Rattle.dspec_deeds.specs.declared.deed.Deed.{Deed}
 use Rattle.dspec_deeds.specs.declared.deed.Deed.TheVariants.{Halt, Opened, Release}
 use Rattle.dspec_deeds.proofs.TestLemmas.{either_way, same_number, numbers_differ}
 use Rattle.dspec_deeds.proofs.Places.{got_set, got_other}
+use Rattle.dspec_interleaving.proofs.StepReads.{can_be_released}
 use Rattle.dspec_core.proofs.KeptCpus.{opening, other_deed, releasing}
 
 -- the deed added last is the latest
@@ -24,6 +26,17 @@ word_there k h words s w least most was e =
     let got : slice_get words (s - 1) ≡ Some w = slice_get_read words k.nspec (s - 1) w (sym was.count) (omega arith) e in
     let shown : slice_get words (s - 1) ≡ Some (word_at s h) = was.slots s (least, most) in
     cc
+
+-- what is read of a machine's words by a slot's number: it stands there, is the slot's, and can be released where the list is sound
+module _ {S B : Type 0} {has : B → S → List Piece → Type 0} {capacity : B → ℕ} (m : Machine S B) (shown : IsShownMachine has capacity m) where
+  pub read_place : (s n : ℕ) → IsSlot m.config s → n ≡ s → n - 1 < m.words.len
+  read_place s n slot named = let low = slot.0 in let high = slot.1 in let count = shown.words.count in let len = m.words.ok.0 in omega arith
+
+  pub read_word : (s n : ℕ) (w : SlotState) → IsSlot m.config s → n ≡ s → w ≡ get_or m.words.items (n - 1) w → w ≡ word_at s (history m)
+  read_word s n w slot named e = word_there m.config (history m) m.words.items s w slot.0 slot.1 shown.words (subst (λ x. w ≡ get_or m.words.items (x - 1) w) named e)
+
+  pub read_released : start_fault m.config ≡ None → IsSound m.config (history m) → (s n : ℕ) (w : SlotState) → IsSlot m.config s → n ≡ s → w ≡ get_or m.words.items (n - 1) w → CanBeReleased w
+  read_released fine sound s n w slot named e = subst CanBeReleased (sym (read_word s n w slot named e)) (can_be_released m.config s (history m) fine sound)
 
 -- a write that leaves what is read of an element leaves what is read of all
 pub map_set : {A C : Type 0} (f : A → C) (xs : List A) (i : ℕ) (x y : A) → slice_get xs i ≡ Some x → f y ≡ f x → map f (set xs i y) ≡ map f xs

@@ -3,9 +3,9 @@ use Rattle.std.proofs.Common.{◌≡◌, ℕ, zero, suc, ◌+◌, ◌-◌, ◌<�
 use Rattle.std.proofs.Common.{◌∷◌, ◌++◌, length, map, reverse, if◌then◌else◌, Option, Some, None, refl, sym, ap, ◌∙◌, subst, arith, append-nil, true≢false}
 use Rattle.std.specs.Prelude.{Result, Ok, Err, OnOk, OnErr, slice_get}
 use Rattle.std.proofs.lemmas.List.{reverse-append}
-use Rattle.dspec_core.specs.Words.{Record, Piece, one, Speculation, decided_stopped, is_commit, is_copied, is_discard, spoken_granted, trace_kept, Verdict, undecided, committed, discarded, verdict}
+use Rattle.dspec_core.specs.Words.{Record, Piece, one, Speculation, decided_stopped, is_commit, is_copied, is_discard, spoken_granted, trace_kept, Ruling, undecided, committed, discarded, verdict}
 use Rattle.dspec_core.specs.Words.{is_undecided, is_open, issue, IsSound, CpuLegal, SettlesAs, fits_principal, fits_speculative, mark, accepted, contents, held, stream, last_called, start_fault}
-use Rattle.dspec_core.specs.Words.{IsCaller, ShowsList, IsSlot}
+use Rattle.dspec_core.specs.Words.{IsCaller, ShowsList, IsSlot, callers, is_among}
 use Rattle.dspec_record.specs.declared.field.Shape.{Shape}
 use Rattle.dspec_deeds.specs.declared.config.Config.{Config}
 use Rattle.dspec_deeds.specs.declared.deed.DecideFate.{DecideFate}
@@ -16,6 +16,7 @@ use Rattle.dspec_deeds.specs.declared.deed.TraceFate.{TraceFate}
 use Rattle.dspec_deeds.specs.declared.deed.TraceFate.TheVariants as traced
 use Rattle.dspec_deeds.specs.declared.deed.Deed.{Deed}
 use Rattle.dspec_deeds.specs.declared.deed.Deed.TheVariants.{Trace, Speculate, Commit, Discard, Settle}
+use Rattle.dspec_deeds.proofs.Marks.{mark_tells}
 use Rattle.dspec_deeds.proofs.OwnStates.{tells_present}
 use Rattle.dspec_deeds.proofs.PresentIds.{decided_given, open_present, present_is}
 use Rattle.dspec_deeds.proofs.SetUp.{set_up}
@@ -45,7 +46,7 @@ pub open_slot : (k : Config) (h : List Deed) (id : Speculation) → start_fault 
 open_slot k h id fine sound opens = opened_in_range k h id (set_up k fine).1 sound (open_present k h id sound opens).given
 
 -- a settlement is of a decided speculation
-settles_decided : (v : Verdict) (f : DecideFate) → SettlesAs v f → is_undecided v ≡ false
+settles_decided : (v : Ruling) (f : DecideFate) → SettlesAs v f → is_undecided v ≡ false
 settles_decided undecided f e = absurd e
 settles_decided (committed c) f e = refl
 settles_decided (discarded c) f e = refl
@@ -99,7 +100,7 @@ spoken_as shape k c id r spoken.Stopped fits h granted row is = absurd (true≢f
 pub settles_as : (k : Config) (c : ℕ) (id : Speculation) (f : DecideFate) (h : List Deed) → IsSound k (Settle c id f ∷ h) → (is_commit f || is_discard f) ≡ true
 settles_as k c id f h sound = go (verdict id h) f sound.1.1.1.1
   where
-    go : (v : Verdict) (f : DecideFate) → SettlesAs v f → (is_commit f || is_discard f) ≡ true
+    go : (v : Ruling) (f : DecideFate) → SettlesAs v f → (is_commit f || is_discard f) ≡ true
     go undecided f e = absurd e
     go (committed a) f e = rw e refl
     go (discarded a) (decided.Thrown n) e = refl
@@ -130,6 +131,11 @@ module _ {B : Type 0} (keeps : B → List Piece → Type 0) (capacity : B → �
 module _ {B : Type 0} (keeps : B → List Piece → Type 0) (capacity : B → ℕ) (k : Config) (c : ℕ) (h : List Deed) (side : CpuState B) (was : ShowsList keeps capacity k c h side)
     (id : Speculation) (slot : IsSlot k id.slot) (lt : c < k.cpus) (sound : IsSound k h) (now : issue id.slot h ≡ id.issue) where
   -- the mark tells whether the CPU is a caller
+  pub among_is : (mine : Bool) → ((m : ℕ) → slice_get side.marks (id.slot - 1) ≡ Some m → mine ≡ (m == id.issue + 1)) → mine ≡ is_among c (callers id h)
+  among_is mine tells =
+      tells (mark c id.slot h) (was.parts.marks id.slot slot.0 slot.1)
+      ∙ (ap (λ n. mark c id.slot h == n + 1) (sym now) ∙ (sym (mark_tells k c id.slot h sound).now ∙ ap (λ j. is_among c (callers j h)) (present_is id h now)))
+
   pub caller_is : (mine : Bool) → ((m : ℕ) → slice_get side.marks (id.slot - 1) ≡ Some m → mine ≡ (m == id.issue + 1)) → IsCaller c id mine h
   caller_is mine tells =
       let marked = tells (mark c id.slot h) (was.parts.marks id.slot slot.0 slot.1) in

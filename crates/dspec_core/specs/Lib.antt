@@ -39,5 +39,6 @@ pub mod Closings
 pub mod Decisions
 pub mod Standing
 pub mod Steps
+pub mod Table
 pub use Rattle.dspec_interleaving.specs.Laws
 pub mod Words

@@ -1,16 +1,16 @@
 -- Cited by calls. What a machine keeps of a CPU, and the words, show of the list of deeds.
 use Rattle.std.specs.Prelude.{ℕ, ◌≡◌, ◌<◌, ◌-◌, ◌^◌, List, [], ◌∷◌, length, slice_get, Some}
-use Rattle.dspec_core.specs.Words.Outside.{Record, Piece, records, SlotState, word_at, Batch, empty_batch, batches, contents, stream, taken, ShowsList, IsSlot}
+use Rattle.dspec_core.specs.Words.Outside.{Record, Piece, records, SlotState, word_at, Sealing, empty_batch, batches, contents, stream, taken, ShowsList, IsSlot}
 use Rattle.dspec_deeds.specs.declared.config.Config.{Config}
 use Rattle.dspec_deeds.specs.declared.deed.Deed.{Deed}
 use Rattle.dspec_core.specs.declared.machine.cpu.Cpu.{Cpu}
 
 -- the batch sealed last
-abbrev pub first_or_empty : List Batch → Batch
+abbrev pub first_or_empty : List Sealing → Sealing
 first_or_empty [] = empty_batch
 first_or_empty (b ∷ bs) = b
 
-abbrev pub batch_of_last_seal : ℕ → List Deed → Batch
+abbrev pub batch_of_last_seal : ℕ → List Deed → Sealing
 batch_of_last_seal c h = first_or_empty (batches c h)
 
 -- the words show the list: the word of slot s stands at place s - 1

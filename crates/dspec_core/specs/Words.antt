@@ -2,13 +2,17 @@
 pub mod Outside
 unfoldable pub use Outside.*
 pub use Rattle.dspec_core.specs.Closings.{ClosesTo, IsClosable}
-pub use Rattle.dspec_core.specs.Decisions.{act_of_decision, begun_of, decides, deed_of, load_of, shown_by, try_of}
-pub use Rattle.dspec_core.specs.Machines.{Adds, ConsumerMakes, history, IsShownMachine, Makes, MayEnterOn, state_of}
+pub use Rattle.dspec_core.specs.Decisions.{decided_left, decides, deed_of, word_left}
+pub use Rattle.dspec_core.specs.Machines.{Adds, ConsumerMakes, history, IsShownMachine, Makes, MayEnter, MayEnterOn, state_of}
 pub use Rattle.dspec_core.specs.Shown.{batch_of_last_seal, first_or_empty, HasRecords, ShowsCpu, ShowsWords}
-pub use Rattle.dspec_core.specs.Standing.{StandsAt}
+pub use Rattle.dspec_core.specs.Table.{aimed, entry_deeds, IsSlotPlace, IsStep, measured_by, moved_by, step_of, step_seen, TellsAt, TellsFit}
 pub use Rattle.dspec_core.specs.WorldViews.{WorldView}
-pub use Rattle.dspec_core.specs.Worlds.{is_due, IsWithin, world_view, WorldInvariant}
+pub use Rattle.dspec_core.specs.Worlds.{deed_passes, deeds_pass, is_due, IsWithin, MayCome, world_view, WorldInvariant}
 pub use Rattle.dspec_core.specs.declared.machine.Machine.{Machine}
 pub use Rattle.dspec_core.specs.declared.machine.cpu.Cpu.{Cpu}
 pub use Rattle.dspec_core.specs.declared.machine.decision.Decision.{Decision}
 pub use Rattle.dspec_core.specs.declared.machine.decision.Decision.TheVariants.{Commit, Discard}
+pub use Rattle.dspec_core.specs.declared.machine.seen.Entry.{Entry}
+pub use Rattle.dspec_core.specs.declared.machine.seen.Entry.TheVariants.{One}
+pub use Rattle.dspec_core.specs.declared.machine.seen.Move.{Move}
+pub use Rattle.dspec_core.specs.declared.machine.seen.Seen.{Seen}

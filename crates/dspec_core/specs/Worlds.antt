@@ -1,10 +1,11 @@
 -- Cited by calls. What contracts see of a world, and what holds between two of its steps.
-use Rattle.std.specs.Prelude.{ℕ, ◌≡◌, ◌<◌, ◌≤◌, ◌+◌, Bool, true, false, List, if◌then◌else◌, Option, Some}
+use Rattle.std.specs.Prelude.{ℕ, ◌≡◌, ◌<◌, ◌≤◌, ◌+◌, ◌++◌, ◌&&◌, Bool, true, false, List, [], ◌∷◌, if◌then◌else◌, Option, Some}
 use Rattle.dspec_record.specs.declared.field.Shape.{Shape}
-use Rattle.dspec_core.specs.Words.Outside.{Record, Piece, calls, op_of, consumer_op_of, record_passes, is_about, IsCoherent, progress_of}
+use Rattle.dspec_core.specs.Words.Outside.{HasAuthors, Record, Piece, IsAllowed, calls, op_of, consumer_op_of, record_passes, is_about, IsCoherent, progress_of}
 use Rattle.dspec_interleaving.specs.declared.flight.ConsumerFlight.{ConsumerFlight}
 use Rattle.dspec_deeds.specs.declared.config.Config.{Config}
 use Rattle.dspec_deeds.specs.declared.deed.Deed.{Deed}
+use Rattle.dspec_deeds.specs.declared.deed.Deed.TheVariants.{Trace, Speculate}
 use Rattle.dspec_interleaving.specs.declared.flight.CallPlace.{CallPlace}
 use Rattle.dspec_interleaving.specs.declared.flight.CallPlace.TheVariants.{SpeculateLoad, SpeculateTry, CommitLoad, CommitTry, DiscardLoad, DiscardTry}
 use Rattle.dspec_core.specs.declared.machine.Machine.{Machine}
@@ -36,3 +37,21 @@ pub record WorldInvariant {S B : Type 0} (has : B → S → List Piece → Type 
   pub accepted_records : (c : ℕ) (f : CallPlace) → c < m.config.cpus → (progress_of (state_of m).progresses c).flight ≡ Some f → record_passes (accepted m.schema) (op_of f) ≡ true
   pub within : (c : ℕ) → c < m.config.cpus → IsWithin m.config c (history m) (progress_of (state_of m).progresses c).flight
   pub about : (f : ConsumerFlight) → m.consumer.flight ≡ Some f → is_about m.config (consumer_op_of f) ≡ true
+
+-- the record of a deed, if it has one, is accepted
+abbrev pub deed_passes : (Record → Bool) → Deed → Bool
+deed_passes ok (Trace c r f) = ok r
+deed_passes ok (Speculate c id r f) = ok r
+deed_passes ok d = true
+
+abbrev pub deeds_pass : (Record → Bool) → List Deed → Bool
+deeds_pass ok [] = true
+deeds_pass ok (d ∷ ds) = deed_passes ok d && deeds_pass ok ds
+
+-- deeds may come next: the machine is kept, the list with them in front is legal and of CPUs that there are, and the schema accepts their records
+pub record MayCome {S B : Type 0} (has : B → S → List Piece → Type 0) (capacity : B → ℕ) (shape_of : S → ℕ → Option Shape) (accepted : S → Record → Bool) (m : Machine S B)
+    (ds : List Deed) : Type 0 where
+  pub kept : WorldInvariant has capacity shape_of accepted m
+  pub legal : IsAllowed (shape_of m.schema) m.config (ds ++ history m)
+  pub authors : HasAuthors m.config (ds ++ history m)
+  pub records : deeds_pass (accepted m.schema) ds ≡ true

@@ -2,14 +2,18 @@
 //! leaves what the definition of a play says, and a machine that shows its list of deeds (`specs/Shown.antt`,
 //! `specs/Machines.antt`), over any schema and any buffer.
 mod beginning;
+mod consuming;
 pub mod cpu;
 mod decision;
-mod dispatching;
 mod entering;
 mod finishing;
+mod measuring;
 mod reporting;
+mod seen;
+mod showing;
 mod starting;
 mod stepping;
+mod table;
 mod walking;
 
 use crate::machine::cpu::Cpu;

@@ -1,7 +1,7 @@
 -- A call of commit that decided: the list and the deeds behind it.
-use Rattle.std.proofs.Common.{◌≡◌, ◌≢◌, ℕ, ◌+◌, ◌==◌, Bool, true, false, List, [], ◌∷◌, ◌++◌, length, Option, refl, sym, ap, ◌∙◌, subst, inl, true≢false}
+use Rattle.std.proofs.Common.{◌≡◌, ◌≢◌, ℕ, ◌+◌, ◌==◌, Bool, true, false, List, [], ◌∷◌, length, Option, refl, sym, ap, ◌∙◌, subst, inl, true≢false}
 use Rattle.dspec_cpu.specs.Words.{Record, Stored, HasPieces, Speculation, SlotState, is_commit, CpuLegal, fits_principal, mark, contents, held, known, set_up, IsAt, cpu_of, ReleasedWord, IsCaller}
-use Rattle.dspec_cpu.specs.Words.{ShowsList, committed_fate, Cpu, Goes, steps, decided_deeds, HasList, IsReady, IsShown, Reached, Stands, OwnsCommit}
+use Rattle.dspec_cpu.specs.Words.{ShowsList, committed_fate, Cpu, steps, decision, decided_deeds, HasList, IsReady, IsShown, Reached, OwnsCommit}
 use Rattle.dspec_record.specs.declared.field.Shape.{Shape}
 use Rattle.dspec_buffer.specs.Extent as extent
 use Rattle.dspec_word.specs.declared.code.Code.TheVariants.{Committing}
@@ -16,14 +16,16 @@ use Rattle.dspec_table.specs.declared.seats.Words.{Words}
 use Rattle.dspec_table.specs.declared.seats.CpuSeat.{CpuSeat}
 use Rattle.dspec_cpu_state.specs.declared.cpu_state.CpuState.{CpuState}
 use Rattle.dspec_cpu.specs.declared.reaching.Reach.TheVariants as reach
-use Rattle.dspec_cpu.proofs.Decisions.{block_answer, block_deeds, fate_commits, fate_copied, fate_count, IsCommitWord, left_by_commit, released_shown, waits_many}
-use Rattle.dspec_cpu.proofs.Decided.{Ended, deciding, deed_of}
-use Rattle.dspec_cpu.proofs.Ready.{few, holder, ready_after, set_up_is, stands_behind}
+use Rattle.dspec_cpu.proofs.Decisions.{block_answer, block_deeds, fate_tells, IsCommitWord, left_by_commit, released_shown, waits_many}
+use Rattle.dspec_cpu.proofs.Behind.{Behind, behind}
+use Rattle.dspec_cpu.proofs.Decided.{Ended, deciding, deed_of, ended}
+use Rattle.dspec_cpu.proofs.Ready.{few, holder, set_up_is, stands_behind}
 use Rattle.dspec_cpu.proofs.Shown.{shows, shown_behind}
+use Rattle.dspec_cpu.proofs.Slots.{stands_more}
 use Rattle.dspec_cpu.proofs.Speculates.{caller_of}
 
 module _ (shape : ℕ → Option Shape) (accepted : Record → Bool) (text : Record → List ℕ) {S : Type 0} (words : Words) (cpu : Cpu S)
-    (ready : IsReady shape accepted text words cpu) (id : Speculation) (fit mine : Bool) (n : ℕ) (to : SlotState) (seat : CpuSeat) (commits : Bool) (is : commits ≡ true)
+    (ready : IsReady shape accepted text words cpu) {id : Speculation} {fit mine : Bool} {n : ℕ} {to : SlotState} (seat : CpuSeat) (commits : Bool) (is : commits ≡ true)
     (got : Reached cpu.config cpu.cpu (deciding true id fit n mine) id (known cpu.seat) (reach.Done to) (known seat)) where
   abbrev v : View
   v = known cpu.seat
@@ -54,29 +56,24 @@ module _ (shape : ℕ → Option Shape) (accepted : Record → Bool) (text : Rec
     block_shown : (p : List Deed) → HasList shape accepted text cpu p → IsShown shape accepted text new (d ∷ p)
     block_shown p had =
         let caller = caller_of cpu.config cpu.cpu id v.own mine (few shape accepted text words cpu ready) (got.present refl).0 p had.own (marked p had.shown) in
-        let allows : CpuLegal shape cpu.config p d = rw (fate_commits fit n) (fate_count fit n ∙ counting p had.shown caller, fate_copied fit n ∙ fitting p had.shown caller) in
-        let was = shown p (shows shape accepted text cpu.side p had.shown) caller (ap is_commit its ∙ fate_commits fit n)
+        let allows : CpuLegal shape cpu.config p d = rw ((fate_tells fit n).0) ((fate_tells fit n).2 ∙ counting p had.shown caller, (fate_tells fit n).1 ∙ fitting p had.shown caller) in
+        let was = shown p (shows shape accepted text cpu.side p had.shown) caller (ap is_commit its ∙ (fate_tells fit n).0)
         (subst (λ x. CpuLegal shape cpu.config p (Commit cpu.cpu id x)) (sym its) allows) in
         shown_behind shape accepted text cpu.side p had.shown d refl (number_is_itself cpu.cpu) allows now
         (subst (λ x. ShowsList (HasPieces shape accepted text) (λ b. b.size) cpu.config cpu.cpu (Commit cpu.cpu id x ∷ p) now) its was)
 
+    -- its deeds are those of the answer
+    answered : (alone : Bool) → decision alone id.slot d ≡ decided_deeds (Commit cpu.cpu id) id.slot alone a
+    answered alone = sym (ap (decided_deeds (Commit cpu.cpu id) id.slot alone) answers ∙ block_deeds (Commit cpu.cpu id) id.slot alone fit n)
+
+    commits_by : Commit cpu.cpu id ≡ deed_of commits cpu.cpu id
+    commits_by = ap (λ b. deed_of b cpu.cpu id) (sym is)
+
     -- it released nothing
     pub left_open : OwnsCommit (set_up words) (cpu_of seat) id.slot w (Attempt to) → to.code ≢ Committing → Ended shape accepted text words cpu (deed_of commits cpu.cpu id) id a new
-    left_open owns several =
-        let deeds : d ∷ [] ≡ decided_deeds (Commit cpu.cpu id) id.slot false a =
-        sym (ap (decided_deeds (Commit cpu.cpu id) id.slot false) answers ∙ block_deeds (Commit cpu.cpu id) id.slot false fit n) in
-        let list : (p : List Deed) → HasList shape accepted text cpu p → HasList shape accepted text new (d ∷ p) =
-        λ p had. record { own = ap (λ l. d ∷ l) had.own ∙ sym got.stands.own; shown = block_shown p had } in
-        subst (λ b. Ended shape accepted text words cpu (deed_of b cpu.cpu id) id a new) (sym is) record {
-          ready = ready_after shape accepted text words cpu ready new (d ∷ []) refl refl at.0 at.1 got.stands ready.steady.idle refl ready.steady.spare ready.steady.few
-              (d ∷ ready.steady.list) (list ready.steady.list ready.steady.listed);
-          decides = record {
-            alone = false;
-            did = subst (λ ds. Goes v ds w) deeds got.goes;
-            waits = λ d e. waits_many cpu.config id w.seen to got.stands.sound got.stands.rests owns.0 left several;
-            list = λ p had. subst (λ ds. HasList shape accepted text new (ds ++ p)) deeds (list p had);
-          };
-        }
+    left_open owns several = ended shape accepted text words cpu commits_by id a false new
+        (λ d e. waits_many cpu.config id w.seen to got.stands.sound got.stands.rests owns.0 left several) (subst (λ ds. Behind shape accepted text words cpu ds new) (answered false)
+        (behind shape accepted text words cpu ready seat at now (d ∷ []) got.goes got.stands (λ p. refl) ready.steady.idle refl block_shown))
 
     -- it released the slot
     pub released : (after : CpuSeat) (slot : ℕ) → slot ≡ id.slot → ReleasedWord slot w (known after) → IsAt words after × (cpu_of after ≡ cpu_of seat)
@@ -86,28 +83,9 @@ module _ (shape : ℕ → Option Shape) (accepted : Record → Bool) (text : Rec
         let step : ReleasedWord id.slot w u = subst (λ s. ReleasedWord s w u) there step in
         let last = stands_behind cpu.config cpu.cpu w u step.0 (Release id.slot ∷ []) (got.stands.config ∙ set_up_is shape accepted text words cpu ready)
         (got.stands.who ∙ holder shape accepted text words cpu ready) step.2 in
-        let deeds : Release id.slot ∷ d ∷ [] ≡ decided_deeds (Commit cpu.cpu id) id.slot true a =
-        sym (ap (decided_deeds (Commit cpu.cpu id) id.slot true) answers ∙ block_deeds (Commit cpu.cpu id) id.slot true fit n) in
-        let stands : Stands cpu.config cpu.cpu v (Release id.slot ∷ d ∷ []) u = record {
-          sound = last.sound;
-          part_is = last.part_is;
-          own = last.own ∙ ap (λ l. Release id.slot ∷ l) got.stands.own;
-          config = last.config ∙ got.stands.config;
-          who = last.who ∙ got.stands.who;
-          rests = last.rests;
-          flight = last.flight;
-        } in
-        let list : (p : List Deed) → HasList shape accepted text cpu p → HasList shape accepted text (record cpu { seat = after; side = now }) (Release id.slot ∷ d ∷ p) = λ p had. record {
-          own = ap (λ l. Release id.slot ∷ d ∷ l) had.own ∙ sym stands.own;
-          shown = released_shown shape accepted text new (d ∷ p) (block_shown p had) id.slot refl after;
-        } in
-        subst (λ b. Ended shape accepted text words cpu (deed_of b cpu.cpu id) id a (record cpu { seat = after; side = now })) (sym is) record {
-          ready = ready_after shape accepted text words cpu ready _ (Release id.slot ∷ d ∷ []) refl refl at_last.0 (at_last.1 ∙ at.1) stands ready.steady.idle refl ready.steady.spare
-              ready.steady.few (Release id.slot ∷ d ∷ ready.steady.list) (list ready.steady.list ready.steady.listed);
-          decides = record {
-            alone = true;
-            did = subst (λ ds. Goes v ds u) deeds (steps u (Release id.slot ∷ []) _ step.0 got.goes step.1 (inl step.2) refl);
-            waits = λ d e. absurd (true≢false e);
-            list = λ p had. subst (λ ds. HasList shape accepted text (record cpu { seat = after; side = now }) (ds ++ p)) deeds (list p had);
-          };
-        }
+        let stands = stands_more cpu.config cpu.cpu v w u (Release id.slot) (d ∷ []) got.stands last in
+        ended shape accepted text words cpu commits_by id a true (record cpu { seat = after; side = now }) (λ d e. absurd (true≢false e))
+        (subst (λ ds. Behind shape accepted text words cpu ds (record cpu { seat = after; side = now })) (answered true)
+        (behind shape accepted text words cpu ready after (at_last.0, at_last.1 ∙ at.1) now (Release id.slot ∷ d ∷ [])
+        (steps u (Release id.slot ∷ []) _ step.0 got.goes step.1 (inl step.2) refl) stands (λ p. refl) ready.steady.idle refl
+        (λ p had. released_shown shape accepted text new (d ∷ p) (block_shown p had) id.slot refl after)))

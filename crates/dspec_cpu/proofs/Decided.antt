@@ -1,7 +1,7 @@
 -- What a call of commit or discard left, and a call of either that decided nothing.
-use Rattle.std.proofs.Common.{◌≡◌, ℕ, ◌+◌, Bool, true, false, List, [], ◌∷◌, Option, None, if◌then◌else◌, refl, sym, ap, ◌∙◌, subst, true≢false}
-use Rattle.dspec_cpu.specs.Words.{Record, Stored, HasPieces, Speculation, scan, is_seal, CpuRow, is_of, bare, flight_after, known, set_up, IsAt, cpu_of, ShowsList, Cpu, Reach, Decides, HasList}
-use Rattle.dspec_cpu.specs.Words.{IsReady, Reached, Stands, turns}
+use Rattle.std.proofs.Common.{◌≡◌, ℕ, ◌+◌, Bool, true, false, List, ◌∷◌, Option, None, if◌then◌else◌, refl, sym, ◌∙◌, subst, true≢false}
+use Rattle.dspec_cpu.specs.Words.{Record, Stored, HasPieces, Speculation, solo, known, set_up, IsAt, cpu_of, ShowsList, Cpu, Reach, decided_deeds, Decides, HasList, IsReady, Reached, turns}
+use Rattle.dspec_cpu.specs.Words.{is_decision}
 use Rattle.dspec_record.specs.declared.field.Shape.{Shape}
 use Rattle.dspec_deeds.specs.declared.config.Config.{Config}
 use Rattle.dspec_deeds.specs.declared.calls.CpuOp.{CpuOp}
@@ -19,8 +19,7 @@ use Rattle.dspec_table.specs.declared.seats.Words.{Words}
 use Rattle.dspec_table.specs.declared.seats.CpuSeat.{CpuSeat}
 use Rattle.dspec_cpu_state.specs.declared.cpu_state.CpuState.{CpuState}
 use Rattle.dspec_cpu.specs.declared.reaching.Reach.TheVariants as reach
-use Rattle.dspec_cpu.proofs.Ready.{ready_after}
-use Rattle.dspec_cpu.proofs.Shown.{shows, shown_behind}
+use Rattle.dspec_cpu.proofs.Behind.{Behind, one_behind}
 
 -- the deed of the call, and the call, by whether it commits
 abbrev pub deed_of : Bool → ℕ → Speculation → DecideFate → Deed
@@ -44,13 +43,19 @@ module _ (shape : ℕ → Option Shape) (accepted : Record → Bool) (text : Rec
     pub decides : Decides of id a (HasList shape accepted text cpu) (known cpu.seat) (HasList shape accepted text new) (known new.seat)
 
   -- so far it came, as the session's words and the seat have it
-  pub reached_here : IsReady shape accepted text words cpu → (id : Speculation) (fit mine : Bool) (n : ℕ) {o p : CpuOp} → o ≡ p → {r : Reach} {w : View}
+  pub reached_here : IsReady shape accepted text words cpu → {id : Speculation} {fit mine : Bool} {n : ℕ} {o p : CpuOp} → o ≡ p → {r : Reach} {w : View}
       → Reached (set_up words) (cpu_of cpu.seat) record { op = o; fits = fit; count = n; mine = mine } id (known cpu.seat) r w
       → Reached cpu.config cpu.cpu record { op = p; fits = fit; count = n; mine = mine } id (known cpu.seat) r w
-  reached_here ready id fit mine n is {r} {w} got =
+  reached_here ready {id} {fit} {mine} {n} is {r} {w} got =
       subst (λ (x : Config × ℕ × CpuOp). Reached x.0 x.1 record { op = x.2; fits = fit; count = n; mine = mine } id (known cpu.seat) r w) (λ i. (ready.config i, ready.steady.seat i, is i)) got
 
-  module _ (ready : IsReady shape accepted text words cpu) (id : Speculation) (fit mine : Bool) (n : ℕ) (seat : CpuSeat) (now : CpuState Stored)
+  -- these deeds are those of its answer
+  pub ended : {of by : DecideFate → Deed} → of ≡ by → (id : Speculation) (a : Decided) (alone : Bool) (new : Cpu S)
+      → (is_decision a ≡ true → alone ≡ false → solo id (known new.seat).seen ≡ None) → Behind shape accepted text words cpu (decided_deeds of id.slot alone a) new → Ended by id a new
+  ended is id a alone new waits l =
+      subst (λ f. Ended f id a new) is record { ready = l.ready; decides = record { alone = alone; did = l.did; waits = waits; list = l.list } }
+
+  module _ (ready : IsReady shape accepted text words cpu) (seat : CpuSeat) (now : CpuState Stored)
       (at : IsAt words seat × (cpu_of seat ≡ cpu_of cpu.seat)) where
     abbrev Shows : List Deed → CpuState Stored → Type 0
     Shows p side = ShowsList (HasPieces shape accepted text) (λ b. b.size) cpu.config cpu.cpu p side
@@ -58,36 +63,21 @@ module _ (shape : ℕ → Option Shape) (accepted : Record → Bool) (text : Rec
     abbrev new : Cpu S
     new = record cpu { seat = seat; side = now }
 
-    -- behind one deed that has no part in a block
-    behind : (d : Deed) → Stands cpu.config cpu.cpu (known cpu.seat) (d ∷ []) (known seat) → ((p : List Deed) → Shows p cpu.side → Shows (d ∷ p) now)
-        → is_seal d ≡ false → is_of cpu.cpu d ≡ true → ((p : List Deed) → CpuRow shape cpu.config p d) → ((p : List Deed) → bare (d ∷ p) ≡ d ∷ bare p)
-        → scan cpu.config cpu.cpu (d ∷ (known cpu.seat).own) ≡ 0 → flight_after cpu.config (known cpu.seat).flight (d ∷ []) ≡ None
-        → IsReady shape accepted text words new × ((p : List Deed) → HasList shape accepted text cpu p → HasList shape accepted text new (d ∷ p))
-    behind d stands side unsealed its row bared idle over =
-        let list : (p : List Deed) → HasList shape accepted text cpu p → HasList shape accepted text new (d ∷ p) = λ p had. record {
-          own = bared p ∙ (ap (λ l. d ∷ l) had.own ∙ sym stands.own);
-          shown = shown_behind shape accepted text cpu.side p had.shown d unsealed its (row p) now (side p (shows shape accepted text cpu.side p had.shown));
-        } in (
-          ready_after shape accepted text words cpu ready new (d ∷ []) refl refl at.0 at.1 stands idle over ready.steady.spare ready.steady.few (d ∷ ready.steady.list)
-              (list ready.steady.list ready.steady.listed),
-          list,
-        )
+    -- by one deed that has no part in a block
+    left : (id : Speculation) (of : DecideFate → Deed) (a : Decided) → is_decision a ≡ false → Behind shape accepted text words cpu (decided_deeds of id.slot false a) new → Ended of id a new
+    left id of a none l = ended refl id a false new (λ d e. absurd (true≢false (sym d ∙ none))) l
 
     -- the session was stopped, or the identifier wasn't open
-    pub undecided : (commits stopped : Bool)
+    pub undecided : {id : Speculation} {fit mine : Bool} {n : ℕ} (commits stopped : Bool)
         → Reached cpu.config cpu.cpu (deciding commits id fit n mine) id (known cpu.seat) (if stopped then reach.Stopped else reach.Void) (known seat)
         → ((p : List Deed) → Shows p cpu.side → Shows (Commit cpu.cpu id (fate_left stopped) ∷ p) now)
         → ((p : List Deed) → Shows p cpu.side → Shows (Discard cpu.cpu id (fate_left stopped) ∷ p) now)
         → Ended (deed_of commits cpu.cpu id) id (if stopped then decided.Stopped else decided.Void) new
-    undecided true true got side other =
-        let l = behind _ got.stands side refl (number_is_itself cpu.cpu) (λ p. tt) (λ p. refl) ready.steady.idle refl in
-        record { ready = l.0; decides = record { alone = false; did = got.goes; waits = λ d e. absurd (true≢false (sym d)); list = l.1 } }
-    undecided true false got side other =
-        let l = behind _ got.stands side refl (number_is_itself cpu.cpu) (λ p. tt) (λ p. refl) ready.steady.idle refl in
-        record { ready = l.0; decides = record { alone = false; did = got.goes; waits = λ d e. absurd (true≢false (sym d)); list = l.1 } }
-    undecided false true got other side =
-        let l = behind _ got.stands side refl (number_is_itself cpu.cpu) (λ p. tt) (λ p. refl) ready.steady.idle refl in
-        record { ready = l.0; decides = record { alone = false; did = got.goes; waits = λ d e. absurd (true≢false (sym d)); list = l.1 } }
-    undecided false false got other side =
-        let l = behind _ got.stands side refl (number_is_itself cpu.cpu) (λ p. tt) (λ p. refl) ready.steady.idle refl in
-        record { ready = l.0; decides = record { alone = false; did = got.goes; waits = λ d e. absurd (true≢false (sym d)); list = l.1 } }
+    undecided {id = id} true true got side other = left id (Commit cpu.cpu id) decided.Stopped refl
+        (one_behind shape accepted text words cpu ready seat at now _ got.goes got.stands refl (number_is_itself cpu.cpu) ready.steady.idle refl (λ p had was. (tt, side p was)))
+    undecided {id = id} true false got side other = left id (Commit cpu.cpu id) decided.Void refl
+        (one_behind shape accepted text words cpu ready seat at now _ got.goes got.stands refl (number_is_itself cpu.cpu) ready.steady.idle refl (λ p had was. (tt, side p was)))
+    undecided {id = id} false true got other side = left id (Discard cpu.cpu id) decided.Stopped refl
+        (one_behind shape accepted text words cpu ready seat at now _ got.goes got.stands refl (number_is_itself cpu.cpu) ready.steady.idle refl (λ p had was. (tt, side p was)))
+    undecided {id = id} false false got other side = left id (Discard cpu.cpu id) decided.Void refl
+        (one_behind shape accepted text words cpu ready seat at now _ got.goes got.stands refl (number_is_itself cpu.cpu) ready.steady.idle refl (λ p had was. (tt, side p was)))

@@ -4,7 +4,7 @@ use Rattle.dspec_cpu.specs.Words.{Record, Speculation, SlotState, awaits, commit
 use Rattle.dspec_cpu.specs.Words.{IfCommitting, OwnCommit, Cpu, decision, decided_deeds, counts_of, committed_fate, IsShown, OwnsCommit}
 use Rattle.dspec_record.specs.declared.field.Shape.{Shape}
 use Rattle.dspec_word.specs.declared.code.Code.{Code}
-use Rattle.dspec_word.specs.declared.code.Code.TheVariants.{Inactive, Active, ActiveOne, ActiveMany, Committing, CommittingMany, Discarding}
+use Rattle.dspec_word.specs.declared.code.Code.TheVariants.{Active, ActiveOne, ActiveMany, Committing, CommittingMany}
 use Rattle.dspec_word.specs.declared.act.Act.TheVariants.{Attempt}
 use Rattle.dspec_deeds.specs.declared.config.Config.{Config}
 use Rattle.dspec_deeds.specs.declared.calls.CpuOp.TheVariants as op
@@ -20,24 +20,17 @@ use Rattle.dspec_table.specs.declared.rule.View.{View}
 use Rattle.dspec_table.specs.declared.seats.CpuSeat.{CpuSeat}
 use Rattle.dspec_cpu_state.specs.declared.counts.Counts.{Counts}
 use Rattle.dspec_cpu_state.proofs.Tallies.{released_counts}
-use Rattle.dspec_cpu.proofs.Quiet.{quiet_shown}
-use Rattle.dspec_cpu.proofs.Retries.{here_or_void, attempt_is}
+use Rattle.dspec_cpu.proofs.Shown.{quiet_shown}
+use Rattle.dspec_cpu.proofs.Retries.{here_or_void, attempt_is, to_is}
 
 -- the answer that tells what becomes of a block
 abbrev pub block_answer : Bool → ℕ → Decided
 block_answer fit n = if fit then decided.Copied n else decided.Lost n
 
-pub fate_commits : (fit : Bool) (n : ℕ) → is_commit (committed_fate fit n) ≡ true
-fate_commits true n = refl
-fate_commits false n = refl
-
-pub fate_copied : (fit : Bool) (n : ℕ) → is_copied (committed_fate fit n) ≡ fit
-fate_copied true n = refl
-fate_copied false n = refl
-
-pub fate_count : (fit : Bool) (n : ℕ) → count_of (committed_fate fit n) ≡ n
-fate_count true n = refl
-fate_count false n = refl
+-- the fate of a block that a commit measured
+pub fate_tells : (fit : Bool) (n : ℕ) → (is_commit (committed_fate fit n) ≡ true) × (is_copied (committed_fate fit n) ≡ fit) × (count_of (committed_fate fit n) ≡ n)
+fate_tells true n = (refl, refl, refl)
+fate_tells false n = (refl, refl, refl)
 
 pub block_deeds : (of : DecideFate → Deed) (slot : ℕ) (alone fit : Bool) (n : ℕ) → decided_deeds of slot alone (block_answer fit n) ≡ decision alone slot (of (committed_fate fit n))
 block_deeds of slot alone true n = refl
@@ -48,21 +41,15 @@ pub record IsCommitWord (i : ℕ) (to : SlotState) : Type 0 where
   pub issue : to.issue ≡ i
   pub code : (to.code ≡ Committing) ⊎ (to.code ≡ CommittingMany)
 
-same_word : {a b : SlotState} → Attempt a ≡ Attempt b → a ≡ b
-same_word e = cc (e)
-
 word_of : (i : ℕ) (a b : SlotState) → Attempt a ≡ Attempt b → IsCommitWord i a → IsCommitWord i b
-word_of i a b e w = subst (λ x. IsCommitWord i x) (same_word e) w
+word_of i a b e w = subst (λ x. IsCommitWord i x) (to_is e) w
 
 commit_leaves : (i : ℕ) (mine : Bool) (code : Code) (to : SlotState) → commit_act i mine code ≡ Attempt to → IsCommitWord i to
 commit_leaves i mine Active to e = word_of i _ to e record { issue = refl; code = inl refl }
 commit_leaves i true ActiveOne to e = word_of i _ to e record { issue = refl; code = inl refl }
 commit_leaves i false ActiveOne to e = word_of i _ to e record { issue = refl; code = inr refl }
 commit_leaves i mine ActiveMany to e = word_of i _ to e record { issue = refl; code = inr refl }
-commit_leaves i mine Inactive to e = absurd (cc (e))
-commit_leaves i mine Committing to e = absurd (cc (e))
-commit_leaves i mine CommittingMany to e = absurd (cc (e))
-commit_leaves i mine Discarding to e = absurd (cc (e))
+commit_leaves i mine code to e = absurd (cc (e))
 
 pub left_by_commit : (id : Speculation) (mine : Bool) (word to : SlotState) → commit_at word id mine ≡ Attempt to → IsCommitWord id.issue to
 left_by_commit id mine word to e =

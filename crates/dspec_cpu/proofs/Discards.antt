@@ -1,10 +1,10 @@
 -- A call of discard that decided: the list and the deeds behind it.
-use Rattle.std.proofs.Common.{◌≡◌, ℕ, ◌+◌, ◌==◌, Bool, true, false, List, ◌∷◌, ◌++◌, length, Option, None, refl, sym, ap, ◌∙◌, subst, true≢false}
+use Rattle.std.proofs.Common.{◌≡◌, ℕ, ◌+◌, ◌==◌, Bool, true, false, List, ◌∷◌, ◌++◌, length, Option, None, refl, sym, ap, subst, true≢false}
 use Rattle.dspec_cpu.specs.Words.{Record, Stored, HasPieces, Speculation, SlotState, is_inactive, discard_act, discard_at, scan, is_discard, CpuLegal, mark, held, bare, flight_after, known, set_up}
-use Rattle.dspec_cpu.specs.Words.{IsAt, cpu_of, Cpu, decision, IsCaller, ShowsList, HasList, IsReady, IsShown, Reached, OwnsCommit}
+use Rattle.dspec_cpu.specs.Words.{IsAt, cpu_of, Cpu, decision, IsCaller, ShowsList, IsReady, IsShown, Reached, OwnsCommit}
 use Rattle.dspec_record.specs.declared.field.Shape.{Shape}
 use Rattle.dspec_word.specs.declared.code.Code.{Code}
-use Rattle.dspec_word.specs.declared.code.Code.TheVariants.{Inactive, Active, ActiveOne, ActiveMany, Committing, CommittingMany, Discarding}
+use Rattle.dspec_word.specs.declared.code.Code.TheVariants.{Active, ActiveOne, ActiveMany, Discarding}
 use Rattle.dspec_word.specs.declared.act.Act.TheVariants.{Attempt}
 use Rattle.dspec_deeds.specs.declared.calls.Decided.TheVariants as decided
 use Rattle.dspec_deeds.specs.declared.deed.DecideFate.TheVariants as fated
@@ -16,10 +16,11 @@ use Rattle.dspec_table.specs.declared.seats.Words.{Words}
 use Rattle.dspec_table.specs.declared.seats.CpuSeat.{CpuSeat}
 use Rattle.dspec_cpu_state.specs.declared.cpu_state.CpuState.{CpuState}
 use Rattle.dspec_cpu.specs.declared.reaching.Reach.TheVariants as reach
-use Rattle.dspec_cpu.proofs.Decided.{Ended, deciding, deed_of}
+use Rattle.dspec_cpu.proofs.Behind.{behind}
+use Rattle.dspec_cpu.proofs.Decided.{Ended, deciding, deed_of, ended}
 use Rattle.dspec_cpu.proofs.Decisions.{waits_at, released_shown}
-use Rattle.dspec_cpu.proofs.Retries.{here_or_void, attempt_is}
-use Rattle.dspec_cpu.proofs.Ready.{few, ready_after}
+use Rattle.dspec_cpu.proofs.Retries.{here_or_void, attempt_is, to_is}
+use Rattle.dspec_cpu.proofs.Ready.{few}
 use Rattle.dspec_cpu.proofs.Shown.{shows, shown_behind}
 use Rattle.dspec_cpu.proofs.Speculates.{caller_of}
 
@@ -28,21 +29,15 @@ pub record IsDiscardWord (i : ℕ) (to : SlotState) : Type 0 where
   pub issue : is_inactive to.code ≡ false → to.issue ≡ i
   pub code : is_inactive to.code ≡ false → to.code ≡ Discarding
 
-same_word : {a b : SlotState} → Attempt a ≡ Attempt b → a ≡ b
-same_word e = cc (e)
-
 word_of : (i : ℕ) (a b : SlotState) → Attempt a ≡ Attempt b → IsDiscardWord i a → IsDiscardWord i b
-word_of i a b e w = subst (λ x. IsDiscardWord i x) (same_word e) w
+word_of i a b e w = subst (λ x. IsDiscardWord i x) (to_is e) w
 
 discard_leaves : (i : ℕ) (mine : Bool) (code : Code) (to : SlotState) → discard_act i mine code ≡ Attempt to → IsDiscardWord i to
 discard_leaves i mine Active to e = word_of i _ to e record { issue = λ n. refl; code = λ n. refl }
 discard_leaves i true ActiveOne to e = word_of i _ to e record { issue = λ n. absurd (true≢false n); code = λ n. absurd (true≢false n) }
 discard_leaves i false ActiveOne to e = word_of i _ to e record { issue = λ n. refl; code = λ n. refl }
 discard_leaves i mine ActiveMany to e = word_of i _ to e record { issue = λ n. refl; code = λ n. refl }
-discard_leaves i mine Inactive to e = absurd (cc (e))
-discard_leaves i mine Committing to e = absurd (cc (e))
-discard_leaves i mine CommittingMany to e = absurd (cc (e))
-discard_leaves i mine Discarding to e = absurd (cc (e))
+discard_leaves i mine code to e = absurd (cc (e))
 
 left_by_discard : (id : Speculation) (mine : Bool) (word to : SlotState) → discard_at word id mine ≡ Attempt to → IsDiscardWord id.issue to
 left_by_discard id mine word to e =
@@ -50,7 +45,7 @@ left_by_discard id mine word to e =
     subst (λ n. IsDiscardWord n to) (same_number word.issue id.issue both.0) (discard_leaves word.issue mine word.code to both.1)
 
 module _ (shape : ℕ → Option Shape) (accepted : Record → Bool) (text : Record → List ℕ) {S : Type 0} (words : Words) (cpu : Cpu S)
-    (ready : IsReady shape accepted text words cpu) (id : Speculation) (fit mine : Bool) (n : ℕ) (to : SlotState) (seat : CpuSeat)
+    (ready : IsReady shape accepted text words cpu) {id : Speculation} {fit mine : Bool} {n : ℕ} {to : SlotState} (seat : CpuSeat)
     (got : Reached cpu.config cpu.cpu (deciding false id fit n mine) id (known cpu.seat) (reach.Done to) (known seat)) where
   abbrev v : View
   v = known cpu.seat
@@ -91,20 +86,11 @@ module _ (shape : ℕ → Option Shape) (accepted : Record → Bool) (text : Rec
       let new = record cpu { seat = seat; side = now } in
       let a = got.acts refl in
       let left = left_by_discard id mine a.0 to a.1 in
-      let list : (p : List Deed) → HasList shape accepted text cpu p → HasList shape accepted text new (deeds ++ p) = λ p had.
+      ended shape accepted text words cpu (ap (λ b. deed_of b cpu.cpu id) (sym is)) id (decided.Thrown n) (is_inactive to.code) new
+      (λ d e. waits_at cpu.config id (known seat).seen to Discarding got.stands.sound got.stands.rests owns.0 (left.issue e) (left.code e) refl)
+      (behind shape accepted text words cpu ready seat at now deeds got.goes got.stands (λ p. bare_too p (is_inactive to.code)) (still_idle (is_inactive to.code))
+      (none_flies (is_inactive to.code)) (λ p had.
       let caller = caller_of cpu.config cpu.cpu id v.own mine (few shape accepted text words cpu ready) (got.present refl).0 p had.own (marked p had.shown) in
-      let count = counting p had.shown caller in record {
-        own = bare_too p (is_inactive to.code) ∙ (ap (λ l. deeds ++ l) had.own ∙ sym got.stands.own);
-        shown = released_too new p (is_inactive to.code) (shown_behind shape accepted text cpu.side p had.shown d refl (number_is_itself cpu.cpu) count now
-            (shown p (shows shape accepted text cpu.side p had.shown) caller refl count));
-      } in
-      subst (λ b. Ended shape accepted text words cpu (deed_of b cpu.cpu id) id (decided.Thrown n) new) (sym is) record {
-        ready = ready_after shape accepted text words cpu ready new deeds refl refl at.0 at.1 got.stands (still_idle (is_inactive to.code)) (none_flies (is_inactive to.code))
-            ready.steady.spare ready.steady.few (deeds ++ ready.steady.list) (list ready.steady.list ready.steady.listed);
-        decides = record {
-          alone = is_inactive to.code;
-          did = got.goes;
-          waits = λ d e. waits_at cpu.config id (known seat).seen to Discarding got.stands.sound got.stands.rests owns.0 (left.issue e) (left.code e) refl;
-          list = list;
-        };
-      }
+      let count = counting p had.shown caller in
+      released_too new p (is_inactive to.code) (shown_behind shape accepted text cpu.side p had.shown d refl (number_is_itself cpu.cpu) count now
+      (shown p (shows shape accepted text cpu.side p had.shown) caller refl count))))

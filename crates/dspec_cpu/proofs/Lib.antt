@@ -1,8 +1,8 @@
 pub mod Makes
 pub mod Limits
-pub mod Quiet
 pub mod Shown
 pub mod Ready
+pub mod Behind
 pub mod Traces
 pub mod Mine
 pub mod Outside

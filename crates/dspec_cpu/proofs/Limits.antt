@@ -7,7 +7,7 @@ use Rattle.dspec_deeds.specs.declared.config.StartFault.{StartFault}
 use Rattle.dspec_deeds.specs.declared.config.StartFault.TheVariants.{Cpus, Specs, BufSize, SpecSize, Issues, Calls}
 use Rattle.dspec_cpu.specs.Words.{is_between, is_size, start_fault, count_of, HasRoom, IsRoomy}
 use Rattle.dspec_deeds.specs.declared.deed.DecideFate.{DecideFate}
-use Rattle.dspec_deeds.specs.declared.deed.DecideFate.TheVariants.{Copied, Lost, Thrown, Void, Stopped}
+use Rattle.dspec_deeds.specs.declared.deed.DecideFate.TheVariants.{Copied}
 use Rattle.dspec_deeds.proofs.TestLemmas.{and_tells, same_number}
 use Rattle.dspec_cpu_state.specs.declared.counts.Counts.{Counts}
 
@@ -57,7 +57,4 @@ limits k e =
 -- counts that have room for a call more have room for its decision
 pub has_room : (n : Counts) (f : DecideFate) → IsRoomy n → count_of f < 2 ^ 32 → HasRoom f n
 has_room n (Copied m) roomy few = record { accepted = omega arith; lost = omega arith; discarded = omega arith; drops = omega arith; stopped = omega arith }
-has_room n (Lost m) roomy few = record { accepted = omega arith; lost = omega arith; discarded = omega arith; drops = omega arith; stopped = omega arith }
-has_room n (Thrown m) roomy few = record { accepted = omega arith; lost = omega arith; discarded = omega arith; drops = omega arith; stopped = omega arith }
-has_room n Void roomy few = record { accepted = omega arith; lost = omega arith; discarded = omega arith; drops = omega arith; stopped = omega arith }
-has_room n Stopped roomy few = record { accepted = omega arith; lost = omega arith; discarded = omega arith; drops = omega arith; stopped = omega arith }
+has_room n f roomy few = record { accepted = omega arith; lost = omega arith; discarded = omega arith; drops = omega arith; stopped = omega arith }

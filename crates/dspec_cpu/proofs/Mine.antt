@@ -6,7 +6,7 @@ use Rattle.dspec_cpu.specs.Words.{Speculation, spoken_granted, spoken_stopped, s
 use Rattle.dspec_deeds.specs.declared.config.Config.{Config}
 use Rattle.dspec_deeds.specs.declared.calls.Actor.TheVariants.{Cpu}
 use Rattle.dspec_deeds.specs.declared.deed.Deed.{Deed}
-use Rattle.dspec_deeds.specs.declared.deed.Deed.TheVariants.{Trace, Scan, Opened, Miss, Speculate, Commit, Discard, Settle, Seal, Release, Halt}
+use Rattle.dspec_deeds.specs.declared.deed.Deed.TheVariants.{Speculate}
 use Rattle.dspec_deeds.proofs.TestLemmas.{either_way, off, and_tells, same_number, number_is_itself, same_id_tells, id_is_itself, has_joined}
 use Rattle.dspec_deeds.proofs.Emptied.{callers_hold, past_empty}
 use Rattle.dspec_deeds.proofs.PresentIds.{open_is_now}
@@ -17,16 +17,6 @@ use Rattle.dspec_deeds.proofs.OwnReads.{reads, apart_bare}
 -- who was granted a speculation last is a caller of it
 pub marked_among : (c : ℕ) (id : Speculation) (h : List Deed) → mark c id.slot h ≡ id.issue + 1 → is_among c (callers id h) ≡ true
 marked_among c id [] e = absurd (omega arith)
-marked_among c id (Trace a r f ∷ h) e = marked_among c id h e
-marked_among c id (Scan a b ∷ h) e = marked_among c id h e
-marked_among c id (Opened a j ∷ h) e = marked_among c id h e
-marked_among c id (Miss a n b ∷ h) e = marked_among c id h e
-marked_among c id (Commit a j f ∷ h) e = marked_among c id h e
-marked_among c id (Discard a j f ∷ h) e = marked_among c id h e
-marked_among c id (Settle a j f ∷ h) e = marked_among c id h e
-marked_among c id (Seal a ∷ h) e = marked_among c id h e
-marked_among c id (Release n ∷ h) e = marked_among c id h e
-marked_among c id (Halt ∷ h) e = marked_among c id h e
 marked_among c id (Speculate a j r f ∷ h) e = go (spoken_granted f) (c == a) refl (id.slot == j.slot) refl (marked_among c id h) e
   where
     stays : (b : Bool) → is_among c (callers id h) ≡ true → is_among c (joined (if b then Some a else None) (callers id h)) ≡ true
@@ -48,20 +38,11 @@ marked_among c id (Speculate a j r f ∷ h) e = go (spoken_granted f) (c == a) r
         let path : id ≡ j = λ i. record { issue = now i; slot = at i } in
         let same : same_id id j ≡ true = subst (λ x. same_id id x ≡ true) path (id_is_itself id) in
         rw same (has_joined c a (callers id h) ∙ rw bis refl)
+marked_among c id (d ∷ h) e = marked_among c id h e
 
 -- a caller's mark isn't older than the speculation
 pub among_marked : (k : Config) (c : ℕ) (id : Speculation) (h : List Deed) → IsSound k h → is_among c (callers id h) ≡ true → id.issue + 1 ≤ mark c id.slot h
 among_marked k c id [] s e = absurd (true≢false (sym e))
-among_marked k c id (Trace a r f ∷ h) s e = among_marked k c id h s.0 e
-among_marked k c id (Scan a b ∷ h) s e = among_marked k c id h s.0 e
-among_marked k c id (Opened a j ∷ h) s e = among_marked k c id h s.0 e
-among_marked k c id (Miss a n b ∷ h) s e = among_marked k c id h s.0 e
-among_marked k c id (Commit a j f ∷ h) s e = among_marked k c id h s.0 e
-among_marked k c id (Discard a j f ∷ h) s e = among_marked k c id h s.0 e
-among_marked k c id (Settle a j f ∷ h) s e = among_marked k c id h s.0 e
-among_marked k c id (Seal a ∷ h) s e = among_marked k c id h s.0 e
-among_marked k c id (Release n ∷ h) s e = among_marked k c id h s.0 e
-among_marked k c id (Halt ∷ h) s e = among_marked k c id h s.0 e
 among_marked k c id (Speculate a j r f ∷ h) s e = go (spoken_granted f) refl (c == a) refl (id.slot == j.slot) refl (among_marked k c id h s.0) e
   where
     only : (b : Bool) → (b ≡ true → (c == a) ≡ false) → is_among c (joined (if b then Some a else None) (callers id h)) ≡ true → is_among c (callers id h) ≡ true
@@ -84,6 +65,7 @@ among_marked k c id (Speculate a j r f ∷ h) s e = go (spoken_granted f) refl (
         let at : issue id.slot h ≡ issue j.slot h = ap (λ n. issue n h) (same_number id.slot j.slot nis) in
         omega arith)
         (either_way (same_id id j))
+among_marked k c id (d ∷ h) s e = among_marked k c id h s.0 e
 
 -- so the mark tells, where the identifier isn't older than it
 pub mine_tells : (k : Config) (c : ℕ) (id : Speculation) (h : List Deed) → IsSound k h → mark c id.slot h ≤ id.issue + 1 → (mark c id.slot h == id.issue + 1) ≡ is_among c (callers id h)

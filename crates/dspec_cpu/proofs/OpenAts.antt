@@ -11,11 +11,9 @@ use Rattle.dspec_deeds.proofs.OwnReads.{apart_bare}
 use Rattle.dspec_deeds.proofs.TestLemmas.{either_way, same_number}
 use Rattle.dspec_table.proofs.Limits.{issue_within}
 use Rattle.dspec_cpu_state.proofs.Ones.{last_is}
+use Rattle.dspec_cpu_state.proofs.Places.{same_inside}
 use Rattle.dspec_cpu.proofs.Mine.{unmarked_empty}
 use Rattle.dspec_cpu.proofs.Ready.{steady_few}
-
-same_inside : {A : Type 0} {x y : A} → Some x ≡ Some y → x ≡ y
-same_inside e = cc (e)
 
 at_least : (n : ℕ) → n ≢ 0 → 1 ≤ n
 at_least zero f = absurd (f refl)

@@ -11,7 +11,8 @@ use Rattle.dspec_deeds.specs.declared.deed.Deed.TheVariants.{Scan, Opened, Miss}
 use Rattle.dspec_deeds.proofs.TestLemmas.{either_way, number_is_itself, same_number}
 use Rattle.dspec_table.specs.declared.seats.CpuSeat.{CpuSeat}
 use Rattle.dspec_cpu_state.specs.declared.counts.Counts.{Counts}
-use Rattle.dspec_cpu.proofs.Quiet.{quiet, quiet_shown}
+use Rattle.dspec_cpu_state.proofs.Quiet.{quiet}
+use Rattle.dspec_cpu.proofs.Shown.{quiet_shown}
 use Rattle.dspec_cpu.proofs.OpeningCounts.{given_counts, last_busy, last_unavailable, miss_counts, scan_counts, stop_counts}
 
 -- the same of all Misses
@@ -21,9 +22,8 @@ module _ (k : Config) (c : ℕ) (p : List Deed) where
   missed_calls (b ∷ bs) = add-zero (calls c ((misses c bs ++ Scan c true ∷ []) ++ p)) ∙ missed_calls bs
 
   missed_any : (bs : List Bool) → missed_busy c ((misses c bs ++ Scan c true ∷ []) ++ p) ≡ any_busy bs
-  missed_any [] = rw (number_is_itself c) refl
-  missed_any (true ∷ bs) = rw (number_is_itself c) refl
   missed_any (false ∷ bs) = missed_any bs
+  missed_any bs = rw (number_is_itself c) refl
 
   missed_drops : (bs : List Bool) → (growing c ((misses c bs ++ Scan c true ∷ []) ++ p)).drops ≡ (growing c p).drops
   missed_drops [] = add-zero (growing c p).drops
@@ -55,22 +55,18 @@ module _ (k : Config) (c : ℕ) (p : List Deed) where
   opening_calls bs opening.Worn un = absurd (true≢false un)
   opening_calls bs opening.Stopped un = rw (number_is_itself c) refl
   opening_calls bs (opening.Id id) un = add-zero (calls c ((misses c bs ++ Scan c true ∷ []) ++ p)) ∙ missed_calls bs
-  opening_calls bs opening.Unavailable un = missed_calls bs
-  opening_calls bs opening.Busy un = missed_calls bs
+  opening_calls bs a un = missed_calls bs
 
   opening_missed : (bs : List Bool) (a : Opening) → IsOpening k.nspec bs a → is_worn_opening a ≡ false → missed_busy c (opening_deeds c bs a ++ p) ≡ any_busy bs
   opening_missed bs opening.Worn is un = absurd (true≢false un)
   opening_missed bs opening.Stopped is un = rw (number_is_itself c) (sym (ap any_busy is))
-  opening_missed bs (opening.Id id) is un = missed_any bs
-  opening_missed bs opening.Unavailable is un = missed_any bs
-  opening_missed bs opening.Busy is un = missed_any bs
+  opening_missed bs a is un = missed_any bs
 
   opening_drops : (bs : List Bool) (a : Opening) → (growing c (opening_deeds c bs a ++ p)).drops ≡ (growing c p).drops
   opening_drops bs opening.Worn = refl
   opening_drops bs opening.Stopped = add-zero (growing c p).drops
   opening_drops bs (opening.Id id) = add-zero (growing c ((misses c bs ++ Scan c true ∷ []) ++ p)).drops ∙ missed_drops bs
-  opening_drops bs opening.Unavailable = missed_drops bs
-  opening_drops bs opening.Busy = missed_drops bs
+  opening_drops bs a = missed_drops bs
 
   opening_counts : (w : ℕ) (bs : List Bool) (a : Opening) → 1 ≤ k.nspec → IsOpening k.nspec bs a → is_worn_opening a ≡ false
       → counts_of k c w (opening_deeds c bs a ++ p) ≡ with_opening a (counts_of k c w p)
@@ -112,8 +108,7 @@ module _ (shape : ℕ → Option Shape) (accepted : Record → Bool) (text : Rec
   deeds_shown bs opening.Worn un = absurd (true≢false un)
   deeds_shown bs opening.Stopped un = one_shown (Scan cpu.cpu false) refl (number_is_itself cpu.cpu) tt
   deeds_shown bs (opening.Id id) un = more_shown (misses cpu.cpu bs ++ Scan cpu.cpu true ∷ []) (misses_shown bs) (Opened cpu.cpu id) refl (number_is_itself cpu.cpu) tt
-  deeds_shown bs opening.Unavailable un = misses_shown bs
-  deeds_shown bs opening.Busy un = misses_shown bs
+  deeds_shown bs a un = misses_shown bs
 
   -- the CPU shows the longer list with one call more, whether a slot missed was decided, and the counts of the answer
   pub opening_shown : (bs : List Bool) (a : Opening) (busy : Bool) (counts : Counts) → 1 ≤ cpu.config.nspec → IsOpening cpu.config.nspec bs a → is_worn_opening a ≡ false
@@ -136,8 +131,7 @@ bare_misses c p [] = refl
 bare_misses c p (b ∷ bs) = ap (λ l. Miss c (length bs + 1) b ∷ l) (bare_misses c p bs)
 
 pub bare_opening : (c : ℕ) (p : List Deed) (bs : List Bool) (a : Opening) → bare (opening_deeds c bs a ++ p) ≡ opening_deeds c bs a ++ bare p
-bare_opening c p bs opening.Worn = refl
-bare_opening c p bs opening.Stopped = refl
 bare_opening c p bs (opening.Id id) = ap (λ l. Opened c id ∷ l) (bare_misses c p bs)
 bare_opening c p bs opening.Unavailable = bare_misses c p bs
 bare_opening c p bs opening.Busy = bare_misses c p bs
+bare_opening c p bs a = refl

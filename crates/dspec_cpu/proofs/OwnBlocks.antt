@@ -7,7 +7,7 @@ use Rattle.dspec_record.specs.declared.field.Shape.{Shape}
 use Rattle.dspec_buffer.specs.Extent as extent
 use Rattle.dspec_ring.specs.declared.batch.Batch.{Batch}
 use Rattle.dspec_word.specs.declared.code.Code.{Code}
-use Rattle.dspec_word.specs.declared.code.Code.TheVariants.{Inactive, Active, ActiveOne, ActiveMany, Committing, CommittingMany, Discarding}
+use Rattle.dspec_word.specs.declared.code.Code.TheVariants.{Discarding}
 use Rattle.dspec_deeds.specs.declared.config.Config.{Config}
 use Rattle.dspec_deeds.specs.declared.deed.DecideFate.{DecideFate}
 use Rattle.dspec_deeds.specs.declared.deed.DecideFate.TheVariants as fated
@@ -29,28 +29,14 @@ lawful shape k c p id code = go (fits_principal shape k c (extent.block (content
     go true e = (refl, sym e)
     go false e = (refl, sym e)
 
-pub goes_on : (shape : ℕ → Option Shape) (k : Config) (c : ℕ) (p : List Deed) (id : Speculation) (code : Code) → decided_stopped (settling.settle_fate shape k c p id code) ≡ false
-goes_on shape k c p id Discarding = refl
-goes_on shape k c p id code = go (fits_principal shape k c (extent.block (contents (held c id p))) p)
-  where
-    go : (b : Bool) → decided_stopped (if b then fated.Copied (length (held c id p)) else fated.Lost (length (held c id p))) ≡ false
-    go true = refl
-    go false = refl
+-- a settlement ends the block, and isn't one that was stopped
+ends : (fit : Bool) (n : ℕ) (code : Code) → ((is_commit (settled_fate code fit n) || is_discard (settled_fate code fit n)) ≡ true) × (decided_stopped (settled_fate code fit n) ≡ false)
+ends fit n Discarding = (refl, refl)
+ends true n code = (refl, refl)
+ends false n code = (refl, refl)
 
-ends : (fit : Bool) (n : ℕ) (code : Code) → (is_commit (settled_fate code fit n) || is_discard (settled_fate code fit n)) ≡ true
-ends fit n Discarding = refl
-ends true n Inactive = refl
-ends false n Inactive = refl
-ends true n Active = refl
-ends false n Active = refl
-ends true n ActiveOne = refl
-ends false n ActiveOne = refl
-ends true n ActiveMany = refl
-ends false n ActiveMany = refl
-ends true n Committing = refl
-ends false n Committing = refl
-ends true n CommittingMany = refl
-ends false n CommittingMany = refl
+pub goes_on : (shape : ℕ → Option Shape) (k : Config) (c : ℕ) (p : List Deed) (id : Speculation) (code : Code) → decided_stopped (settling.settle_fate shape k c p id code) ≡ false
+goes_on shape k c p id code = (ends (fits_principal shape k c (extent.block (contents (held c id p))) p) (length (held c id p)) code).1
 
 module _ (shape : ℕ → Option Shape) (accepted : Record → Bool) (text : Record → List ℕ) {k : Config} {c : ℕ} {side : CpuState Stored} {batches : List Batch} {id : Speculation} {code : Code}
     (p : List Deed) (can : CanSettle shape accepted text k c side batches id code p) (j : Speculation) (named : j ≡ id) where
@@ -103,7 +89,7 @@ module _ (shape : ℕ → Option Shape) (accepted : Record → Bool) (text : Rec
             let f = settling.settle_fate shape k c p id code in
             let allows : CpuLegal shape k p (Settle c j fate) =
             subst (λ (x : Speculation × DecideFate). CpuLegal shape k p (Settle c x.0 x.1)) (λ i. (sym named i, sym same i)) (lawful shape k c p id code) in
-            let was = shown (shows shape accepted text side p can.shown) caller (ap (λ g. is_commit g || is_discard g) is ∙ ends fit n code) allows in
+            let was = shown (shows shape accepted text side p can.shown) caller (ap (λ g. is_commit g || is_discard g) is ∙ (ends fit n code).0) allows in
             record {
               fate = ap (λ (d : Doing). settled_fate code d.fits d.count) served ∙ fate_is;
               shown = shown_behind shape accepted text side p can.shown (Settle c id f) refl (number_is_itself c) (lawful shape k c p id code) now

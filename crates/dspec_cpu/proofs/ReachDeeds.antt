@@ -1,11 +1,11 @@
 -- The deeds of a call on a slot, by what it was shown.
-use Rattle.std.proofs.Common.{◌≡◌, ◌≢◌, ℕ, ◌+◌, ◌==◌, Bool, true, false, List, [], ◌∷◌, ◌++◌, if◌then◌else◌, Option, None, refl, sym}
+use Rattle.std.proofs.Common.{◌≡◌, ◌≢◌, ℕ, ◌==◌, Bool, true, false, List, [], ◌∷◌, ◌++◌, if◌then◌else◌, Option, None, refl, sym}
 use Rattle.std.proofs.Common.{ap, ◌∙◌, true≢false, append_assoc}
 use Rattle.dspec_cpu.specs.Words.{Speculation, SlotState, is_inactive, speculate_act, commit_act, discard_act, in_range, at_activity, at_exchange, IsOn, flight_after, Reach, Goes, rests, steps}
 use Rattle.dspec_cpu.specs.Words.{act_of, act_reached, is_reached, is_attempt, reached_deeds, is_stopped_reach, commit_at, shown, idle_progress, shown_speculate, shown_commit, shown_discard}
 use Rattle.dspec_cpu.specs.Words.{discarded_by}
 use Rattle.dspec_word.specs.declared.code.Code.{Code}
-use Rattle.dspec_word.specs.declared.code.Code.TheVariants.{Inactive, Active, ActiveOne, ActiveMany, Committing, CommittingMany, Discarding}
+use Rattle.dspec_word.specs.declared.code.Code.TheVariants.{Inactive, ActiveOne}
 use Rattle.dspec_word.specs.declared.act.Act.{Act}
 use Rattle.dspec_word.specs.declared.act.Act.TheVariants.{Void, Granted, Idle}
 use Rattle.dspec_deeds.specs.declared.config.Config.{Config}
@@ -30,9 +30,7 @@ pub stopped_deeds : (k : Config) (c : ℕ) (doing : Doing) (id : Speculation) (o
 stopped_deeds k c doing id (op.Speculate j r) on = refl
 stopped_deeds k c doing id (op.Commit j) on = refl
 stopped_deeds k c doing id (op.Discard j) on = refl
-stopped_deeds k c doing id (op.Trace r) on = absurd on
-stopped_deeds k c doing id op.Speculation on = absurd on
-stopped_deeds k c doing id op.Service on = absurd on
+stopped_deeds k c doing id o on = absurd on
 
 pub outside_deeds : (k : Config) (c : ℕ) (doing : Doing) (id : Speculation) (o : CpuOp) → IsOn id o → in_range k id ≡ false → at_activity k c doing o false ≡ reached_deeds c doing o reach.Void
 outside_deeds k c doing id (op.Speculate j r) on out =
@@ -41,60 +39,33 @@ outside_deeds k c doing id (op.Commit j) on out =
     by_test (λ ds. ds ≡ reached_deeds c doing (op.Commit j) reach.Void) (in_range k j) _ _ (λ t. off (in_range k j) t (ap (in_range k) on ∙ out)) (λ f. refl)
 outside_deeds k c doing id (op.Discard j) on out =
     by_test (λ ds. ds ≡ reached_deeds c doing (op.Discard j) reach.Void) (in_range k j) _ _ (λ t. off (in_range k j) t (ap (in_range k) on ∙ out)) (λ f. refl)
-outside_deeds k c doing id (op.Trace r) on out = absurd on
-outside_deeds k c doing id op.Speculation on out = absurd on
-outside_deeds k c doing id op.Service on out = absurd on
+outside_deeds k c doing id o on out = absurd on
 
 -- a decision is granted by no load
 commit_grants_none : (i : ℕ) (mine : Bool) (code : Code) → commit_act i mine code ≢ Granted
 commit_grants_none i mine Inactive e = absurd (cc (e))
-commit_grants_none i mine Active e = absurd (cc (e))
 commit_grants_none i true ActiveOne e = absurd (cc (e))
-commit_grants_none i false ActiveOne e = absurd (cc (e))
-commit_grants_none i mine ActiveMany e = absurd (cc (e))
-commit_grants_none i mine Committing e = absurd (cc (e))
-commit_grants_none i mine CommittingMany e = absurd (cc (e))
-commit_grants_none i mine Discarding e = absurd (cc (e))
+commit_grants_none i mine code e = absurd (cc (e))
 
 discard_grants_none : (i : ℕ) (mine : Bool) (code : Code) → discard_act i mine code ≢ Granted
 discard_grants_none i mine Inactive e = absurd (cc (e))
-discard_grants_none i mine Active e = absurd (cc (e))
 discard_grants_none i true ActiveOne e = absurd (cc (e))
-discard_grants_none i false ActiveOne e = absurd (cc (e))
-discard_grants_none i mine ActiveMany e = absurd (cc (e))
-discard_grants_none i mine Committing e = absurd (cc (e))
-discard_grants_none i mine CommittingMany e = absurd (cc (e))
-discard_grants_none i mine Discarding e = absurd (cc (e))
+discard_grants_none i mine code e = absurd (cc (e))
 
 speculate_acts : (i : ℕ) (mine : Bool) (code : Code) → speculate_act i mine code ≢ Idle
 speculate_acts i mine Inactive e = absurd (cc (e))
-speculate_acts i mine Active e = absurd (cc (e))
 speculate_acts i true ActiveOne e = absurd (cc (e))
-speculate_acts i false ActiveOne e = absurd (cc (e))
-speculate_acts i mine ActiveMany e = absurd (cc (e))
-speculate_acts i mine Committing e = absurd (cc (e))
-speculate_acts i mine CommittingMany e = absurd (cc (e))
-speculate_acts i mine Discarding e = absurd (cc (e))
+speculate_acts i mine code e = absurd (cc (e))
 
 commit_acts : (i : ℕ) (mine : Bool) (code : Code) → commit_act i mine code ≢ Idle
 commit_acts i mine Inactive e = absurd (cc (e))
-commit_acts i mine Active e = absurd (cc (e))
 commit_acts i true ActiveOne e = absurd (cc (e))
-commit_acts i false ActiveOne e = absurd (cc (e))
-commit_acts i mine ActiveMany e = absurd (cc (e))
-commit_acts i mine Committing e = absurd (cc (e))
-commit_acts i mine CommittingMany e = absurd (cc (e))
-commit_acts i mine Discarding e = absurd (cc (e))
+commit_acts i mine code e = absurd (cc (e))
 
 discard_acts : (i : ℕ) (mine : Bool) (code : Code) → discard_act i mine code ≢ Idle
 discard_acts i mine Inactive e = absurd (cc (e))
-discard_acts i mine Active e = absurd (cc (e))
 discard_acts i true ActiveOne e = absurd (cc (e))
-discard_acts i false ActiveOne e = absurd (cc (e))
-discard_acts i mine ActiveMany e = absurd (cc (e))
-discard_acts i mine Committing e = absurd (cc (e))
-discard_acts i mine CommittingMany e = absurd (cc (e))
-discard_acts i mine Discarding e = absurd (cc (e))
+discard_acts i mine code e = absurd (cc (e))
 
 idle_is : Idle ≢ Void
 idle_is q = absurd (cc (q))
@@ -104,9 +75,7 @@ pub never_idle : (o : CpuOp) (id : Speculation) (word : SlotState) (mine : Bool)
 never_idle (op.Speculate j r) id word mine on e = speculate_acts word.issue mine word.code (here_or_void (word.issue == j.issue) _ Idle e idle_is).1
 never_idle (op.Commit j) id word mine on e = commit_acts word.issue mine word.code (here_or_void (word.issue == j.issue) _ Idle e idle_is).1
 never_idle (op.Discard j) id word mine on e = discard_acts word.issue mine word.code (here_or_void (word.issue == j.issue) _ Idle e idle_is).1
-never_idle (op.Trace r) id word mine on e = absurd on
-never_idle op.Speculation id word mine on e = absurd on
-never_idle op.Service id word mine on e = absurd on
+never_idle o id word mine on e = absurd on
 
 granted_is : Granted ≢ Void
 granted_is q = absurd (cc (q))
@@ -126,44 +95,31 @@ ended_deeds k c slot doing id word (op.Speculate j r) (reach.Done to) on e n = s
 ended_deeds k c slot doing id word (op.Commit j) (reach.Done to) on e n = committed_deeds k c (shown doing word true) idle_progress j (commit_at word j doing.mine)
 ended_deeds k c slot doing id word (op.Discard j) (reach.Done to) on e n =
     ap (λ a. (discarded_by k c (shown doing word true) idle_progress j a).deeds) e ∙ discarded_deeds k c (shown doing word true) idle_progress j to
-ended_deeds k c slot doing id word (op.Trace r) x on e n = absurd on
-ended_deeds k c slot doing id word op.Speculation x on e n = absurd on
-ended_deeds k c slot doing id word op.Service x on e n = absurd on
+ended_deeds k c slot doing id word o r on e n = absurd on
 
 -- what isn't void was shown in the identifier's issue
 pub reached_now : (o : CpuOp) (id : Speculation) (word : SlotState) (mine : Bool) (a : Act) → IsOn id o → act_of o word mine ≡ a → a ≢ Void → word.issue ≡ id.issue
 reached_now (op.Speculate j r) id word mine a on e n = same_number word.issue j.issue (here_or_void (word.issue == j.issue) _ a e n).0 ∙ ap (λ (x : Speculation). x.issue) on
 reached_now (op.Commit j) id word mine a on e n = same_number word.issue j.issue (here_or_void (word.issue == j.issue) _ a e n).0 ∙ ap (λ (x : Speculation). x.issue) on
 reached_now (op.Discard j) id word mine a on e n = same_number word.issue j.issue (here_or_void (word.issue == j.issue) _ a e n).0 ∙ ap (λ (x : Speculation). x.issue) on
-reached_now (op.Trace r) id word mine a on e n = absurd on
-reached_now op.Speculation id word mine a on e n = absurd on
-reached_now op.Service id word mine a on e n = absurd on
+reached_now o id word mine a on e n = absurd on
 
 pub is_no_void : (r : Reach) → is_reached r ≡ true → act_reached r ≢ Void
 is_no_void (reach.Done to) t = attempt_is to
 is_no_void reach.Granted t = granted_is
-is_no_void reach.Stopped t = absurd (true≢false (sym t))
-is_no_void reach.Void t = absurd (true≢false (sym t))
+is_no_void r t = absurd (true≢false (sym t))
 
 pub unstopped : (r : Reach) → (r ≡ reach.Stopped → ⊥) → is_stopped_reach r ≡ false
 unstopped reach.Stopped n = absurd (n refl)
-unstopped reach.Void n = refl
-unstopped reach.Granted n = refl
-unstopped (reach.Done to) n = refl
+unstopped r n = refl
 
 -- where it ended no call is in flight
 pub reached_ends : (k : Config) (c : ℕ) (doing : Doing) (id : Speculation) (f : Option CpuOp) (o : CpuOp) (r : Reach) → IsOn id o
     → (r ≡ reach.Granted → (word : SlotState) × (act_of o word doing.mine ≡ Granted)) → flight_after k f (reached_deeds c doing o r) ≡ None
 reached_ends k c doing id f (op.Speculate j r) reach.Stopped on g = refl
-reached_ends k c doing id f (op.Speculate j r) reach.Void on g = refl
-reached_ends k c doing id f (op.Speculate j r) reach.Granted on g = refl
-reached_ends k c doing id f (op.Speculate j r) (reach.Done to) on g = refl
+reached_ends k c doing id f (op.Speculate j r) x on g = refl
 reached_ends k c doing id f (op.Commit j) reach.Stopped on g = refl
-reached_ends k c doing id f (op.Commit j) reach.Void on g = refl
-reached_ends k c doing id f (op.Commit j) reach.Granted on g = refl
-reached_ends k c doing id f (op.Commit j) (reach.Done to) on g = refl
-reached_ends k c doing id f (op.Discard j) reach.Stopped on g = refl
-reached_ends k c doing id f (op.Discard j) reach.Void on g = refl
+reached_ends k c doing id f (op.Commit j) x on g = refl
 reached_ends k c doing id f (op.Discard j) reach.Granted on g =
     let e = g refl in absurd (discard_grants_none e.0.issue doing.mine e.0.code (here_or_void (e.0.issue == j.issue) _ Granted e.1 granted_is).1)
 reached_ends k c doing id f (op.Discard j) (reach.Done to) on g = go (is_inactive to.code)
@@ -171,6 +127,5 @@ reached_ends k c doing id f (op.Discard j) (reach.Done to) on g = go (is_inactiv
     go : (b : Bool) → flight_after k f (if b then Release j.slot ∷ Discard c j (decided.Thrown doing.count) ∷ [] else Discard c j (decided.Thrown doing.count) ∷ []) ≡ None
     go true = refl
     go false = refl
-reached_ends k c doing id f (op.Trace r) x on g = absurd on
-reached_ends k c doing id f op.Speculation x on g = absurd on
-reached_ends k c doing id f op.Service x on g = absurd on
+reached_ends k c doing id f (op.Discard j) x on g = refl
+reached_ends k c doing id f o r on g = absurd on

@@ -1,5 +1,6 @@
 -- How far a call on an identifier comes.
-use Rattle.std.proofs.Common.{◌≡◌, ◌≢◌, ℕ, ◌+◌, ◌==◌, ◌≤◌, Bool, true, false, List, [], ◌∷◌, ◌++◌, Some, refl, sym}
+use Rattle.std.proofs.Common.{◌≡◌, ℕ, ◌+◌, ◌==◌, ◌≤◌, Bool, true, false, [], ◌++◌, Some, refl, sym}
+use Rattle.std.proofs.lemmas.List.{append-nil}
 use Rattle.std.proofs.Common.{ap, ◌∙◌, subst, inl, inr, arith, true≢false}
 use Rattle.std.specs.Prelude.{nat_le}
 use Rattle.std.proofs.lemmas.Bool.Decides.{nat_tests}
@@ -10,8 +11,6 @@ use Rattle.dspec_word.specs.declared.act.Act.{Act}
 use Rattle.dspec_word.specs.declared.act.Act.TheVariants.{Void, Granted}
 use Rattle.dspec_deeds.specs.declared.config.Config.{Config}
 use Rattle.dspec_deeds.specs.declared.calls.Actor.TheVariants.{Cpu as CpuActor}
-use Rattle.dspec_deeds.specs.declared.calls.CpuOp.TheVariants as op
-use Rattle.dspec_deeds.specs.declared.deed.Deed.{Deed}
 use Rattle.dspec_deeds.proofs.TestLemmas.{and_tells}
 use Rattle.dspec_table.specs.declared.rule.View.{View}
 use Rattle.dspec_table.specs.declared.doing.Doing.{Doing}
@@ -33,7 +32,7 @@ module _ (k : Config) (c : ℕ) (doing : Doing) (id : Speculation) (v : View) (c
       let no_grant : r ≡ reach.Granted → (word : SlotState) × (act_of doing.op word doing.mine ≡ Granted) = λ e. absurd (true≢false (sym (ap is_reached e) ∙ none)) in
       let one : w.steps ≡ v.steps + 1 = ap (λ (x : View). x.steps) entered.view in
       record {
-        goes = steps w _ _ step.0 rests step.1 (activity_enters doing v stopped w _ step deeds) (append_none _);
+        goes = steps w _ _ step.0 rests step.1 (activity_enters doing v stopped w _ step deeds) (sym (append-nil _));
         stands = stands_called k c doing.op v w _ (stands_behind k c (calling doing.op v) w step.0 _ config who entered)
             (reached_ends k c doing id (Some doing.op) doing.op r on no_grant ∙ sym (reached_ends k c doing id v.flight doing.op r on no_grant));
         stops = subst (λ b. StopsWhereMet v false b w) (sym answered) (heeds stopped step);
@@ -46,10 +45,6 @@ module _ (k : Config) (c : ℕ) (doing : Doing) (id : Speculation) (v : View) (c
       heeds : (b : Bool) → LoadedActivity doing v b w → StopsWhereMet v false b w
       heeds true s = shown_stop doing v w s
       heeds false s = shown_running doing v w w s
-
-      append_none : (ds : List Deed) → ds ≡ ds ++ []
-      append_none [] = refl
-      append_none (d ∷ ds) = ap (λ l. d ∷ l) (append_none ds)
 
   pub at_stop : (w : View) → LoadedActivity doing v true w → Reached k c doing id v reach.Stopped w
   at_stop w step = at_once reach.Stopped w true step (ap (λ n. at_activity v.config n doing doing.op true) (ap number_of who) ∙ stopped_deeds v.config c doing id doing.op on) refl refl refl
@@ -88,7 +83,7 @@ module _ (k : Config) (c : ℕ) (doing : Doing) (id : Speculation) (v : View) (c
       let one : u.steps ≡ v.steps + 1 = ap (λ (x : View). x.steps) first.view in
       record {
         goes = steps w (reached_deeds c doing doing.op r) (reached_deeds c doing doing.op r) log
-            (goes_on (steps u [] [] step.0 rests step.1 (activity_enters doing v false u [] step quiet) refl) shown.waited) shown.last.1 (inl entered) (append_none _);
+            (goes_on (steps u [] [] step.0 rests step.1 (activity_enters doing v false u [] step quiet) refl) shown.waited) shown.last.1 (inl entered) (sym (append-nil _));
         stands = record {
           sound = last.sound;
           part_is = last.part_is;
@@ -114,10 +109,6 @@ module _ (k : Config) (c : ℕ) (doing : Doing) (id : Speculation) (v : View) (c
           inside,
         );
       }
-    where
-      append_none : (ds : List Deed) → ds ≡ ds ++ []
-      append_none [] = refl
-      append_none (d ∷ ds) = ap (λ l. d ∷ l) (append_none ds)
 
 pub slot_inside : (k : Config) (id : Speculation) → in_range k id ≡ true → (1 ≤ id.slot) × (id.slot ≤ k.nspec)
 slot_inside k id e = let both = and_tells (nat_le 1 id.slot) (nat_le id.slot k.nspec) e in (let a = both.0 in grind (arith, nat_tests), let b = both.1 in grind (arith, nat_tests))

@@ -5,9 +5,9 @@ use Rattle.std.proofs.lemmas.Bool.Decides.{nat_tests}
 use Rattle.dspec_cpu.specs.Words.{Speculation, SlotState, word_number, code_number, speculate_act, commit_act, discard_act, of_cpu, number_of, IsOn, IsInFlight, MayLoad, MayTry, Attempts}
 use Rattle.dspec_cpu.specs.Words.{slot_place, Entered, LoadedWord, TriedWord, rests, steps, act_of, turns, is_attempt, releases_next, OwnsCommit, Shown, at_slot, at_word, at_exchange}
 use Rattle.dspec_word.specs.declared.code.Code.{Code}
-use Rattle.dspec_word.specs.declared.code.Code.TheVariants.{Inactive, Active, ActiveOne, ActiveMany, Committing, CommittingMany, Discarding}
+use Rattle.dspec_word.specs.declared.code.Code.TheVariants.{Active, ActiveOne, ActiveMany}
 use Rattle.dspec_word.specs.declared.act.Act.{Act}
-use Rattle.dspec_word.specs.declared.act.Act.TheVariants.{Void, Granted, Attempt, Idle}
+use Rattle.dspec_word.specs.declared.act.Act.TheVariants.{Void, Attempt}
 use Rattle.dspec_deeds.specs.declared.config.Config.{Config}
 use Rattle.dspec_deeds.specs.declared.calls.CpuOp.{CpuOp}
 use Rattle.dspec_deeds.specs.declared.calls.CpuOp.TheVariants as op
@@ -26,7 +26,7 @@ pub record IsTurn (n : ℕ) (code : Code) (to : SlotState) : Type 0 where
   pub low : 1 ≤ code_number code
   pub high : code_number code + 1 + releases_next (Attempt to) ≤ n
 
-to_is : {a b : SlotState} → Attempt a ≡ Attempt b → a ≡ b
+pub to_is : {a b : SlotState} → Attempt a ≡ Attempt b → a ≡ b
 to_is e = cc (e)
 
 turn_by : (n : ℕ) (code : Code) (a b : SlotState) → Attempt a ≡ Attempt b → 1 ≤ code_number code → code_number code + 1 + releases_next (Attempt a) ≤ n → IsTurn n code b
@@ -35,32 +35,21 @@ turn_by n code a b e low high = record { low = low; high = subst (λ (x : SlotSt
 speculate_turn : (i : ℕ) (mine : Bool) (code : Code) (to : SlotState) → speculate_act i mine code ≡ Attempt to → IsTurn 3 code to
 speculate_turn i mine Active to e = turn_by 3 Active _ to e (omega arith) (omega arith)
 speculate_turn i false ActiveOne to e = turn_by 3 ActiveOne _ to e (omega arith) (omega arith)
-speculate_turn i true ActiveOne to e = absurd (cc (e))
-speculate_turn i mine Inactive to e = absurd (cc (e))
-speculate_turn i mine ActiveMany to e = absurd (cc (e))
-speculate_turn i mine Committing to e = absurd (cc (e))
-speculate_turn i mine CommittingMany to e = absurd (cc (e))
-speculate_turn i mine Discarding to e = absurd (cc (e))
+speculate_turn i mine code to e = absurd (cc (e))
 
 commit_turn : (i : ℕ) (mine : Bool) (code : Code) (to : SlotState) → commit_act i mine code ≡ Attempt to → IsTurn 4 code to
 commit_turn i mine Active to e = turn_by 4 Active _ to e (omega arith) (omega arith)
 commit_turn i true ActiveOne to e = turn_by 4 ActiveOne _ to e (omega arith) (omega arith)
 commit_turn i false ActiveOne to e = turn_by 4 ActiveOne _ to e (omega arith) (omega arith)
 commit_turn i mine ActiveMany to e = turn_by 4 ActiveMany _ to e (omega arith) (omega arith)
-commit_turn i mine Inactive to e = absurd (cc (e))
-commit_turn i mine Committing to e = absurd (cc (e))
-commit_turn i mine CommittingMany to e = absurd (cc (e))
-commit_turn i mine Discarding to e = absurd (cc (e))
+commit_turn i mine code to e = absurd (cc (e))
 
 discard_turn : (i : ℕ) (mine : Bool) (code : Code) (to : SlotState) → discard_act i mine code ≡ Attempt to → IsTurn 4 code to
 discard_turn i mine Active to e = turn_by 4 Active _ to e (omega arith) (omega arith)
 discard_turn i true ActiveOne to e = turn_by 4 ActiveOne _ to e (omega arith) (omega arith)
 discard_turn i false ActiveOne to e = turn_by 4 ActiveOne _ to e (omega arith) (omega arith)
 discard_turn i mine ActiveMany to e = turn_by 4 ActiveMany _ to e (omega arith) (omega arith)
-discard_turn i mine Inactive to e = absurd (cc (e))
-discard_turn i mine Committing to e = absurd (cc (e))
-discard_turn i mine CommittingMany to e = absurd (cc (e))
-discard_turn i mine Discarding to e = absurd (cc (e))
+discard_turn i mine code to e = absurd (cc (e))
 
 -- and only at a word of the identifier's issue; nor is anything granted elsewhere
 pub here_or_void : (b : Bool) (a x : Act) → (if b then a else Void) ≡ x → x ≢ Void → (b ≡ true) × (a ≡ x)
@@ -84,17 +73,13 @@ attempted id (op.Commit j) word to mine on e =
 attempted id (op.Discard j) word to mine on e =
     let both = here_or_void (word.issue == j.issue) (discard_act word.issue mine word.code) (Attempt to) e (attempt_is to) in
     record { now = subst (λ (x : Speculation). (word.issue == x.issue) ≡ true) on both.0; turn = discard_turn word.issue mine word.code to both.1 }
-attempted id (op.Trace r) word to mine on e = absurd on
-attempted id op.Speculation word to mine on e = absurd on
-attempted id op.Service word to mine on e = absurd on
+attempted id o word to mine on e = absurd on
 
 pub attempts : (doing : Doing) (id : Speculation) (o : CpuOp) (word to : SlotState) → IsOn id o → act_of o word doing.mine ≡ Attempt to → Attempts doing word to o
 attempts doing id (op.Speculate j r) word to on e = e
 attempts doing id (op.Commit j) word to on e = e
 attempts doing id (op.Discard j) word to on e = e
-attempts doing id (op.Trace r) word to on e = absurd on
-attempts doing id op.Speculation word to on e = absurd on
-attempts doing id op.Service word to on e = absurd on
+attempts doing id o word to on e = absurd on
 
 -- turns that are left at a word
 left_here : (n : ℕ) (id : Speculation) (word to : SlotState) → IsAttempted n id word to → left n id word ≡ n - code_number word.code
@@ -105,8 +90,7 @@ left_here n id word to a =
 
 left_by : (n : ℕ) (w : SlotState) (b c : Bool) → (c ≡ true → 1 ≤ code_number w.code) → 1 ≤ n → (if b && c then n - code_number w.code else 0) + 1 ≤ n
 left_by n w true true low most = let l = low refl in omega arith
-left_by n w true false low most = omega arith
-left_by n w false c low most = omega arith
+left_by n w b c low most = omega arith
 
 pub left_bound : (n : ℕ) (id : Speculation) (w : SlotState) → 1 ≤ n → left n id w + 1 ≤ n
 left_bound n id w most = left_by n w (w.issue == id.issue) (nat_le 1 (code_number w.code)) (λ t. grind (arith, nat_tests)) most
@@ -135,30 +119,29 @@ fewer n id word to shown a greater =
 
 pub turns_some : (o : CpuOp) → 1 ≤ turns o
 turns_some (op.Speculate id r) = omega arith
-turns_some (op.Commit id) = omega arith
-turns_some (op.Discard id) = omega arith
-turns_some (op.Trace r) = omega arith
-turns_some op.Speculation = omega arith
-turns_some op.Service = omega arith
+turns_some o = omega arith
 
 flies : (k : Config) (v : View) (c slot : ℕ) (doing : Doing) (id : Speculation) (o : CpuOp) → IsOn id o → MayLoad k v c doing slot o → IsInFlight k v c doing id slot
 flies k v c slot doing id (op.Speculate j r) e f = subst (λ (x : Speculation). IsInFlight k v c doing x slot) e f
 flies k v c slot doing id (op.Commit j) e f = subst (λ (x : Speculation). IsInFlight k v c doing x slot) e f
 flies k v c slot doing id (op.Discard j) e f = subst (λ (x : Speculation). IsInFlight k v c doing x slot) e f
-flies k v c slot doing id (op.Trace r) e f = absurd e
-flies k v c slot doing id op.Speculation e f = absurd e
-flies k v c slot doing id op.Service e f = absurd e
+flies k v c slot doing id o e f = absurd e
 
 -- a word enters the same, loaded or shown by an exchange that failed
 missed_as_loaded : (k : Config) (c slot : ℕ) (doing : Doing) (w : SlotState) (id : Speculation) (o : CpuOp) → IsOn id o → at_exchange k c doing slot w false o ≡ at_word k c doing slot w o
 missed_as_loaded k c slot doing w id (op.Speculate j r) on = refl
 missed_as_loaded k c slot doing w id (op.Commit j) on = refl
 missed_as_loaded k c slot doing w id (op.Discard j) on = refl
-missed_as_loaded k c slot doing w id (op.Trace r) on = absurd on
-missed_as_loaded k c slot doing w id op.Speculation on = absurd on
-missed_as_loaded k c slot doing w id op.Service on = absurd on
+missed_as_loaded k c slot doing w id o on = absurd on
 
-module _ (k : Config) (c : ℕ) (doing : Doing) (id : Speculation) (slot : ℕ) (v : View) (config : v.config ≡ k) (who : v.who ≡ of_cpu c) where
+pub loaded_steps : (doing : Doing) (id : Speculation) (slot : ℕ) (v : View) (shown : SlotState) (w : View) → LoadedWord doing slot v shown w
+    → w.steps + left (turns doing.op) id shown ≤ v.steps + turns doing.op
+loaded_steps doing id slot v shown w step =
+    let one : w.steps ≡ v.steps + 1 = ap (λ (x : View). x.steps) step.3.view in
+    let most = left_bound (turns doing.op) id shown (turns_some doing.op) in
+    omega arith
+
+module _ {k : Config} {c : ℕ} {doing : Doing} {id : Speculation} {slot : ℕ} {v : View} (config : v.config ≡ k) (who : v.who ≡ of_cpu c) where
   -- the first load
   pub loaded : (shown : SlotState) (w : View) → IsOn id doing.op → IsInFlight k v c doing id slot → LoadedWord doing slot v shown w → Shown k c doing id slot v shown false w
   loaded shown w on flight step = record {
@@ -173,13 +156,7 @@ module _ (k : Config) (c : ℕ) (doing : Doing) (id : Speculation) (slot : ℕ) 
     worked = none_touched (at_slot slot) v;
   }
 
-  pub loaded_steps : (shown : SlotState) (w : View) → LoadedWord doing slot v shown w → w.steps + left (turns doing.op) id shown ≤ v.steps + turns doing.op
-  loaded_steps shown w step =
-      let one : w.steps ≡ v.steps + 1 = ap (λ (x : View). x.steps) step.3.view in
-      let most = left_bound (turns doing.op) id shown (turns_some doing.op) in
-      omega arith
-
-  module _ (word to : SlotState) (w : View) (on : IsOn id doing.op) (shows : Shown k c doing id slot v word false w) (e : act_of doing.op word doing.mine ≡ Attempt to) where
+  module _ {word to : SlotState} {w : View} (on : IsOn id doing.op) (shows : Shown k c doing id slot v word false w) (e : act_of doing.op word doing.mine ≡ Attempt to) where
     shows_word : LoadedWord doing slot shows.before word w
     shows_word = (
       shows.last.0,
@@ -223,16 +200,12 @@ module _ (k : Config) (c : ℕ) (doing : Doing) (id : Speculation) (slot : ℕ) 
         omega arith
 
 pub no_attempt : (a : Act) → ((x : SlotState) → a ≡ Attempt x → ⊥) → is_attempt a ≡ false
-no_attempt Void n = refl
-no_attempt Granted n = refl
-no_attempt Idle n = refl
 no_attempt (Attempt x) n = absurd (n x refl)
+no_attempt a n = refl
 
 pub no_release : (a : Act) → ((x : SlotState) → a ≡ Attempt x → ⊥) → releases_next a ≡ 0
-no_release Void n = refl
-no_release Granted n = refl
-no_release Idle n = refl
 no_release (Attempt x) n = absurd (n x refl)
+no_release a n = refl
 
 pub step_made : (doing : Doing) (slot : ℕ) (v : View) (shown : SlotState) (w : View) → TriedWord doing slot v shown false w → w.steps ≡ v.steps + 1
 step_made doing slot v shown w step = ap (λ (x : View). x.steps) step.3.view
@@ -241,7 +214,5 @@ pub loads : (k : Config) (v : View) (c slot : ℕ) (doing : Doing) (id : Specula
 loads = loads_next
 
 pub none_owned : (k : Config) (c slot : ℕ) (w : View) (a : Act) → ((x : SlotState) → a ≡ Attempt x → ⊥) → OwnsCommit k c slot w a
-none_owned k c slot w Void n = tt
-none_owned k c slot w Granted n = tt
-none_owned k c slot w Idle n = tt
 none_owned k c slot w (Attempt x) n = absurd (n x refl)
+none_owned k c slot w a n = tt

@@ -1,6 +1,6 @@
 -- How many moves of its rings a CPU makes.
 use Rattle.std.proofs.Common.{◌≡◌, ℕ, ◌+◌, ◌≤◌, Bool, Option, Some, None, refl, ap, arith, inl, inr}
-use Rattle.dspec_cpu.specs.Words.{Stored, CpuKnows, Buffers, FindsSpare, HandsOn, Heeds, not_asked, worn_out, no_spare, held_up, switched, Switches, never, looked, most_moves}
+use Rattle.dspec_cpu.specs.Words.{Stored, CpuKnows, Buffers, FindsSpare, HandsOn, Heeds, no_spare, held_up, switched, Switches, never, looked, most_moves}
 use Rattle.dspec_ring.specs.declared.batch.Batch.{Batch}
 use Rattle.dspec_deeds.specs.declared.config.Config.{Config}
 use Rattle.dspec_table.specs.declared.rule.View.{View}
@@ -24,14 +24,13 @@ found_by size e None f None (inr h) = let one = h.1.moves in omega arith
 
 heeded_by : (k : Config) (c ask : ℕ) (x : Buffers) (sealed : Bool) (y : Buffers) → Heeds k c ask x sealed y → y.end.moves ≤ x.end.moves + 2
 unfolding handing
-heeded_by k c ask x sealed y (not_asked le) = omega arith
-heeded_by k c ask x sealed y (worn_out lt le) = omega arith
 heeded_by k c ask x sealed y (no_spare lt below f finds) = let found = found_by k.bufsize x.end x.spare f None finds in omega arith
 heeded_by k c ask x sealed y (held_up lt below f s finds b is more) = let found = found_by k.bufsize x.end x.spare f (Some s) finds in omega arith
 heeded_by k c ask x sealed y (switched lt below f s finds none g left hands) =
     let found = found_by k.bufsize x.end x.spare f (Some s) finds in
     let handed = handed_by f (Some _) g left hands in
     omega arith
+heeded_by k c ask x sealed y z = omega arith
 
 most : (w : Option Batch) → handing w + 2 ≡ most_moves w
 unfolding handing

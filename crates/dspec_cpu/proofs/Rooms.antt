@@ -2,7 +2,7 @@
 use Rattle.std.proofs.Common.{◌≡◌, ℕ, ◌≤◌, Bool, true, false, ◌&&◌, ◌||◌, List, [], ◌∷◌, ◌++◌, Option, sym, ap, ◌∙◌, subst, ⊎_elim, refl, arith, true≢false}
 use Rattle.std.proofs.lemmas.Bool.Decides.{nat_tests}
 use Rattle.dspec_cpu.specs.Words.{Record, block, Speculation, fits_principal, contents, held, CpuRow, IsOwn, commit, Cpu, cpu_block_fits, decision, HasList, DecidesOne, is_lost_block}
-use Rattle.dspec_cpu.specs.Words.{made_all_calls, Identity, identity}
+use Rattle.dspec_cpu.specs.Words.{made_all_calls, CpuIdentity, identity}
 use Rattle.dspec_record.specs.declared.field.Shape.{Shape}
 use Rattle.dspec_deeds.specs.declared.config.Config.{Config}
 use Rattle.dspec_deeds.specs.declared.calls.Decided.{Decided}
@@ -38,7 +38,7 @@ module _ {S : Type 0} (shape_of : S → ℕ → Option Shape) (accepted : S → 
   none_lost old new id (decided.Lost n) same one p had due = absurd (⊎_elim
       (λ (w : made_all_calls old ≡ true). let all : old.config.max_calls ≤ old.side.calls = grind (arith, nat_tests) in true≢false (sym (one.leaves.worn.1 all)))
       (λ (fits : cpu_block_fits (shape_of old.schema) old id p ≡ true).
-      let legal = subst (λ (i : Identity S). IsOwn (shape_of i.schema) i.config i.number (decision one.decides.alone id.slot (Commit old.cpu id (fated.Lost n)) ++ p)) same
+      let legal = subst (λ (i : CpuIdentity S). IsOwn (shape_of i.schema) i.config i.number (decision one.decides.alone id.slot (Commit old.cpu id (fated.Lost n)) ++ p)) same
       (one.decides.list p had).shown.legal in
       true≢false (sym fits ∙ sym (row one.decides.alone legal)))
       (or_tells (made_all_calls old) (cpu_block_fits (shape_of old.schema) old id p) due))

@@ -1,5 +1,6 @@
 -- The steps of a call of speculation.
 use Rattle.std.proofs.Common.{◌≡◌, ℕ, ◌+◌, ◌*◌, ◌<◌, ◌≤◌, ◌==◌, Bool, true, false, ◌||◌, List, [], ◌∷◌, ◌++◌, length, if◌then◌else◌, Option, Some, None, refl, sym, ap, ◌∙◌, subst, ⊎_elim, inl, arith}
+use Rattle.std.proofs.lemmas.List.{append-nil}
 use Rattle.dspec_cpu.specs.Words.{Speculation, scan, of_cpu, number_of, calling, flight_after, activity_place, Entered, LoadedActivity, Goes, rests, steps, Stands, StopsWhereMet, any_busy}
 use Rattle.dspec_cpu.specs.Words.{LookedAtSlot, Scanned, misses, opening_deeds, IsOpening, is_worn_opening, Touches, of_slots, at_activity}
 use Rattle.dspec_deeds.specs.declared.config.Config.{Config}
@@ -44,15 +45,11 @@ module _ (k : Config) (c : ℕ) (v : View) where
       let entered : Entered activity_place (calling op.Speculation v) step.0 ds w = subst (λ x. Entered activity_place (calling op.Speculation v) step.0 x w) deeds step.3 in
       let same : flight_after k (Some op.Speculation) ds ≡ flight_after k v.flight ds =
       ap (flight_after k (Some op.Speculation)) e ∙ (flight_by_last k (Some op.Speculation) v.flight (Scan c r) [] [] ∙ ap (flight_after k v.flight) (sym e)) in (
-        steps w ds ds step.0 rests step.1 (activity_enters asked v b w ds step deeds) (append_none ds),
+        steps w ds ds step.0 rests step.1 (activity_enters asked v b w ds step deeds) (sym (append-nil ds)),
         stands_called k c op.Speculation v w ds (stands_behind k c (calling op.Speculation v) w step.0 ds config who entered) same,
         ap (λ (x : View). x.steps) entered.view,
         ap (λ (x : View). x.touched) entered.view,
       )
-    where
-      append_none : (l : List Deed) → l ≡ l ++ []
-      append_none [] = refl
-      append_none (d ∷ l) = ap (λ x. d ∷ x) (append_none l)
 
   pub runs : (w : View) → v.config ≡ k → v.who ≡ of_cpu c → LoadedActivity asked v false w → Came k c v 0 false w
   runs w config who step =
@@ -190,10 +187,9 @@ all_missed k c own (b ∷ bs) one all =
 
 pub idle_again : (k : Config) (c : ℕ) (own : List Deed) (bs : List Bool) (a : Opening) → 1 ≤ k.nspec → IsOpening k.nspec bs a → is_worn_opening a ≡ false → scan k c (opening_deeds c bs a ++ own) ≡ 0
 idle_again k c own bs opening.Worn one is un = absurd (Rattle.std.proofs.Common.true≢false un)
-idle_again k c own bs opening.Stopped one is un = rw (number_is_itself c) refl
-idle_again k c own bs (opening.Id id) one is un = rw (number_is_itself c) refl
 idle_again k c own bs opening.Unavailable one is un = all_missed k c own bs one is.0
 idle_again k c own bs opening.Busy one is un = all_missed k c own bs one is.0
+idle_again k c own bs a one is un = rw (number_is_itself c) refl
 
 all_flown : (k : Config) (c : ℕ) (f : Option CpuOp) (bs : List Bool) → 1 ≤ k.nspec → length bs ≡ k.nspec → flight_after k f (misses c bs ++ Scan c true ∷ []) ≡ None
 all_flown k c f [] one all = absurd (omega arith)
@@ -207,7 +203,6 @@ all_flown k c f (b ∷ bs) one all =
 pub none_flies : (k : Config) (c : ℕ) (f : Option CpuOp) (bs : List Bool) (a : Opening) → 1 ≤ k.nspec → IsOpening k.nspec bs a → is_worn_opening a ≡ false
     → flight_after k f (opening_deeds c bs a) ≡ None
 none_flies k c f bs opening.Worn one is un = absurd (Rattle.std.proofs.Common.true≢false un)
-none_flies k c f bs opening.Stopped one is un = refl
-none_flies k c f bs (opening.Id id) one is un = refl
 none_flies k c f bs opening.Unavailable one is un = all_flown k c f bs one is.0
 none_flies k c f bs opening.Busy one is un = all_flown k c f bs one is.0
+none_flies k c f bs a one is un = refl

@@ -6,31 +6,16 @@ use Rattle.dspec_record.specs.declared.field.Shape.{Shape}
 use Rattle.dspec_ring.specs.declared.batch.Batch.{Batch}
 use Rattle.dspec_deeds.specs.declared.config.Config.{Config}
 use Rattle.dspec_deeds.specs.declared.deed.Deed.{Deed}
-use Rattle.dspec_deeds.specs.declared.deed.Deed.TheVariants.{Trace, Scan, Opened, Miss, Speculate, Commit, Discard, Settle, Seal, Release, Halt}
+use Rattle.dspec_deeds.specs.declared.deed.Deed.TheVariants.{Seal}
 use Rattle.dspec_deeds.proofs.OwnReads.{apart_bare}
 use Rattle.dspec_deeds.proofs.TestLemmas.{number_is_itself, same_number}
 use Rattle.dspec_table.specs.declared.seats.Words.{Words}
 use Rattle.dspec_table.specs.declared.seats.CpuSeat.{CpuSeat}
+use Rattle.dspec_cpu_state.proofs.Tallies.{same_counts}
 use Rattle.dspec_cpu.proofs.Limits.{limits}
 
 sealed_counts : (k : Config) (c w : ℕ) (p : List Deed) → counts_of k c w (Seal c ∷ p) ≡ counts_of k c w p
-sealed_counts k c w p =
-    let n = counts_of k c w p in
-    λ i. record n {
-      offered = add-zero n.offered i;
-      accepted = add-zero n.accepted i;
-      dropped = add-zero n.dropped i;
-      specdropped = add-zero n.specdropped i;
-      lost = add-zero
-          n.lost i;
-      discarded = add-zero n.discarded i;
-      void = add-zero n.void i;
-      drops = add-zero n.drops i;
-      unavailable = add-zero n.unavailable i;
-      busy =
-          add-zero n.busy i;
-      stopped = add-zero n.stopped i;
-    }
+sealed_counts k c w p = same_counts (add-zero _) (add-zero _) (add-zero _) (add-zero _) (add-zero _) (add-zero _) (add-zero _) (add-zero _) (add-zero _) (add-zero _) (add-zero _) refl
 
 module _ (shape : ℕ → Option Shape) (accepted : Record → Bool) (text : Record → List ℕ) where
   -- there are as many batches as Seals, and no more than the most calls
@@ -49,16 +34,7 @@ module _ (shape : ℕ → Option Shape) (accepted : Record → Bool) (text : Rec
       let more : length bs ≡ suc (length x.1) = ap length x.2 in
       let told : IsTold k (seals c p + 1) bs = (omega arith, omega arith) in
       subst (λ m. IsTold k m bs) (ap (λ b. seals c p + (if b then 1 else 0)) (sym own.1)) told
-  sealed_count k c (Trace a r f ∷ p) bs own x = on k (seals c p) bs (sealed_count k c p bs own.0 x)
-  sealed_count k c (Scan a b ∷ p) bs own x = on k (seals c p) bs (sealed_count k c p bs own.0 x)
-  sealed_count k c (Opened a id ∷ p) bs own x = on k (seals c p) bs (sealed_count k c p bs own.0 x)
-  sealed_count k c (Miss a s b ∷ p) bs own x = on k (seals c p) bs (sealed_count k c p bs own.0 x)
-  sealed_count k c (Speculate a id r f ∷ p) bs own x = on k (seals c p) bs (sealed_count k c p bs own.0 x)
-  sealed_count k c (Commit a id f ∷ p) bs own x = on k (seals c p) bs (sealed_count k c p bs own.0 x)
-  sealed_count k c (Discard a id f ∷ p) bs own x = on k (seals c p) bs (sealed_count k c p bs own.0 x)
-  sealed_count k c (Settle a id f ∷ p) bs own x = on k (seals c p) bs (sealed_count k c p bs own.0 x)
-  sealed_count k c (Release s ∷ p) bs own x = on k (seals c p) bs (sealed_count k c p bs own.0 x)
-  sealed_count k c (Halt ∷ p) bs own x = on k (seals c p) bs (sealed_count k c p bs own.0 x)
+  sealed_count k c (d ∷ p) bs own x = on k (seals c p) bs (sealed_count k c p bs own.0 x)
 
   module _ {S : Type 0} (words : Words) (cpu : Cpu S) (ready : IsReady shape accepted text words cpu) where
     pub batch_count : length (batches_of cpu) ≡ cpu.side.seals

@@ -6,9 +6,9 @@ use Rattle.dspec_cpu.specs.Words.{Record, SlotState, CanBeReleased, awaits, is_d
 use Rattle.dspec_cpu.specs.Words.{IsReady, Stands, DueSettled, IsDueAt, SlotDone, serving, Entered, slot_place, number_of, shown, idle_progress}
 use Rattle.dspec_record.specs.declared.field.Shape.{Shape}
 use Rattle.dspec_word.specs.declared.code.Code.{Code}
-use Rattle.dspec_word.specs.declared.code.Code.TheVariants.{Inactive, Active, ActiveOne, ActiveMany, Committing, CommittingMany, Discarding}
+use Rattle.dspec_word.specs.declared.code.Code.TheVariants.{CommittingMany, Discarding}
 use Rattle.dspec_word.specs.declared.act.Act.{Act}
-use Rattle.dspec_word.specs.declared.act.Act.TheVariants.{Void, Granted, Attempt, Idle}
+use Rattle.dspec_word.specs.declared.act.Act.TheVariants.{Granted, Idle}
 use Rattle.dspec_deeds.specs.declared.deed.Deed.{Deed}
 use Rattle.dspec_deeds.proofs.OwnReads.{apart_bare}
 use Rattle.dspec_table.specs.declared.doing.Doing.{Doing}
@@ -22,19 +22,13 @@ use Rattle.dspec_cpu.proofs.Ready.{holder, ready_after, set_up_is, stands_behind
 
 -- a speculation that isn't decided waits for no CPU
 pub not_awaiting : (c : Code) → is_decided c ≡ false → awaits c ≡ false
-not_awaiting Inactive e = refl
-not_awaiting Active e = refl
-not_awaiting ActiveOne e = refl
-not_awaiting ActiveMany e = refl
-not_awaiting Committing e = refl
 not_awaiting CommittingMany e = e
 not_awaiting Discarding e = e
+not_awaiting c e = refl
 
 pub not_granted : (a : Act) → (a ≡ Granted → ⊥) → is_granted a ≡ false
 not_granted Granted n = absurd (n refl)
-not_granted Void n = refl
-not_granted (Attempt w) n = refl
-not_granted Idle n = refl
+not_granted a n = refl
 
 -- a word from which its slot can be released, and which waits, isn't of the last issue
 limited : (w : SlotState) (acked : ℕ) → CanBeReleased w → settle_at w acked ≡ Granted → w.issue < 2 ^ 57

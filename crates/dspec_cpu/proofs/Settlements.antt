@@ -1,17 +1,17 @@
 -- A list that goes on by a settlement, of which a CPU's own list is its part.
 use Rattle.std.proofs.Common.{◌≡◌, ℕ, ◌+◌, ◌==◌, ◌≤◌, ◌<◌, ◌^◌, Bool, true, false, not, ◌&&◌, List, ◌∷◌, length, Option, if◌then◌else◌, refl, sym, ap, ◌∙◌, subst, arith, true≢false}
 use Rattle.std.specs.Prelude.{nat_le}
-use Rattle.dspec_cpu.specs.Words.{Record, Stored, Speculation, SlotState, awaits, settle_at, is_granted, is_commit, is_lost, ack, issue, part, present, settled, solo, verdict, word_at, IsSound}
-use Rattle.dspec_cpu.specs.Words.{SettlesAs, calls, held, growing, is_drop, CountsWithin, report, bare, parts_of_side, HasRoom, counts_of, with_decided, AreShown, CanSettle, IsPartOf, shown_at}
+use Rattle.dspec_cpu.specs.Words.{Record, Stored, Speculation, SlotState, settled_fate, fits_principal, contents, awaits, settle_at, is_granted, is_lost, ack, issue, part, present, settled, solo}
+use Rattle.dspec_cpu.specs.Words.{verdict, word_at, SettlesAs, calls, held, CountsWithin, report, bare, parts_of_side, HasRoom, counts_of, with_decided, AreShown, CanSettle, IsPartOf, shown_at}
+use Rattle.dspec_buffer.specs.Extent as extent
 use Rattle.dspec_record.specs.declared.field.Shape.{Shape}
 use Rattle.dspec_ring.specs.declared.batch.Batch.{Batch}
 use Rattle.dspec_word.specs.declared.act.Act.TheVariants.{Granted, Idle}
 use Rattle.dspec_word.specs.declared.code.Code.{Code}
-use Rattle.dspec_word.specs.declared.code.Code.TheVariants.{Inactive, Active, ActiveOne, ActiveMany, Committing, CommittingMany, Discarding}
+use Rattle.dspec_word.specs.declared.code.Code.TheVariants.{CommittingMany, Discarding}
 use Rattle.dspec_deeds.specs.declared.config.Config.{Config}
 use Rattle.dspec_deeds.specs.declared.calls.Actor.TheVariants.{Cpu as CpuActor}
 use Rattle.dspec_deeds.specs.declared.deed.DecideFate.{DecideFate}
-use Rattle.dspec_deeds.specs.declared.deed.DecideFate.TheVariants as fated
 use Rattle.dspec_deeds.specs.declared.deed.Deed.{Deed}
 use Rattle.dspec_deeds.specs.declared.deed.Deed.TheVariants.{Settle}
 use Rattle.dspec_deeds.specs.Settling as settling
@@ -33,22 +33,13 @@ grant_tells w acked e = go (awaits w.code) (nat_le acked w.issue) e
   where
     go : (a b : Bool) → is_granted (if a && b then Granted else Idle) ≡ true → (a ≡ true) × (b ≡ true)
     go true true e = (refl, refl)
-    go true false e = absurd (true≢false (sym e))
-    go false b e = absurd (true≢false (sym e))
+    go a b e = absurd (true≢false (sym e))
 
-fate_fits : (shape : ℕ → Option Shape) (k : Config) (c : ℕ) (p : List Deed) (id : Speculation) (code : Code) → awaits code ≡ true → goes_with code (settling.settle_fate shape k c p id code) ≡ true
-fate_fits shape k c p id Discarding e = refl
-fate_fits shape k c p id CommittingMany e =
-    go (Rattle.dspec_deeds.specs.Legal.fits_principal shape k c (Rattle.dspec_buffer.specs.Extent.block (Rattle.dspec_deeds.specs.Own.contents (held c id p))) p)
-  where
-    go : (b : Bool) → is_commit (if b then fated.Copied (length (held c id p)) else fated.Lost (length (held c id p))) ≡ true
-    go true = refl
-    go false = refl
-fate_fits shape k c p id Inactive e = absurd (true≢false (sym e))
-fate_fits shape k c p id Active e = absurd (true≢false (sym e))
-fate_fits shape k c p id ActiveOne e = absurd (true≢false (sym e))
-fate_fits shape k c p id ActiveMany e = absurd (true≢false (sym e))
-fate_fits shape k c p id Committing e = absurd (true≢false (sym e))
+fate_fits : (fit : Bool) (n : ℕ) (code : Code) → awaits code ≡ true → goes_with code (settled_fate code fit n) ≡ true
+fate_fits fit n Discarding e = refl
+fate_fits true n CommittingMany e = refl
+fate_fits false n CommittingMany e = refl
+fate_fits fit n code e = absurd (true≢false (sym e))
 
 -- the CPU's acknowledgement is the one that the list of all tells
 pub ack_is : (k : Config) (c slot : ℕ) (log p : List Deed) → bare p ≡ part (CpuActor c) log → ack c slot p ≡ ack c slot log
@@ -75,7 +66,8 @@ module _ (shape : ℕ → Option Shape) (k : Config) (c : ℕ) (log p : List Dee
       let it : present slot log ≡ id = λ i. record { issue = issues i; slot = slot } in
       let before : nat_le (ack c slot log) (issue slot log) ≡ true = (λ i. nat_le (sym (ack_is k c slot log p its.part_is) i) (issues i)) ∙ (grant_tells word (ack c slot p) granted).1 in
       let undone : settled c (present slot log) log ≡ false = not_yet (settled c (present slot log) log) (sym (ack_tells k c slot log its.sound) ∙ before) in
-      let fate : SettlesAs (verdict id log) f = subst (λ j. SettlesAs (verdict j log) f) it (due.fate f (fate_fits shape k c p id word.code waits)) in
+      let fate : SettlesAs (verdict id log) f = subst (λ j. SettlesAs (verdict j log) f) it
+      (due.fate f (fate_fits (fits_principal shape k c (extent.block (contents (held c id p))) p) (length (held c id p)) word.code waits)) in
       record {
         sound = (its.sound, (its.rests, (its.idle, (sym issues, fate, ap (λ j. solo j log) (sym it) ∙ due.alone, ap (λ j. settled c j log) (sym it) ∙ undone))));
         rests = refl;

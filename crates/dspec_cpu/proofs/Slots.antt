@@ -72,16 +72,7 @@ module _ (k : Config) (c slot : ℕ) (v : View) (config : v.config ≡ k) (who :
       let two : w.steps ≡ u.steps + 1 = ap (λ (y : View). y.steps) entered.view in
       record {
         goes = steps w (look_deed c slot x ∷ []) (look_deed c slot x ∷ []) step.0 (steps u [] [] load.0 rests load.1 (inl first) refl) step.1 (inl entered) refl;
-        stands = record {
-          sound = last.sound;
-          part_is = last.part_is;
-          own = last.own ∙ ap (λ (y : View). look_deed c slot x ∷ y.own) first.view;
-          config = last.config
-              ∙ (u_config ∙ sym config);
-          who = last.who ∙ (u_who ∙ sym who);
-          rests = last.rests;
-          flight = last.flight ∙ flight_by_last k u.flight v.flight (look_deed c slot x) [] [];
-        };
+        stands = stands_more k c v u w (look_deed c slot x) [] (stands_behind k c v u load.0 [] config who first) last;
         bounded = omega arith;
         touches = touched_more (at_slot slot) v u w (slot_place slot) (touched_one (at_slot slot) v u (slot_place slot) (ap (λ (y : View). y.touched) first.view) refl)
             (ap (λ (y : View). y.touched) entered.view) refl;

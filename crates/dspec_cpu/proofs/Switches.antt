@@ -11,6 +11,7 @@ use Rattle.dspec_deeds.specs.declared.deed.Deed.{Deed}
 use Rattle.dspec_table.specs.declared.rule.View.{View}
 use Rattle.dspec_table.specs.declared.seats.Words.{Words}
 use Rattle.dspec_table.specs.declared.seats.CpuSeat.{CpuSeat}
+use Rattle.dspec_cpu_state.proofs.Places.{same_inside}
 use Rattle.dspec_cpu.proofs.Ready.{holder, ready_after, set_up_is}
 use Rattle.dspec_cpu.proofs.Seals.{kept_list, sealed_list}
 
@@ -32,9 +33,6 @@ pub record IsFound (size : ℕ) (e : CpuKnows) (x : Option Stored) (f : CpuKnows
   pub few : (n : ℕ) → n + spare_count x ≤ 1 + length e.spares → n + spare_count y ≤ 1 + length f.spares
   pub sized : ((b : Stored) → x ≡ Some b → b.size ≡ size) → (b : Stored) → y ≡ Some b → b.size ≡ size
 
-the_same : {a b : Stored} → Some a ≡ Some b → a ≡ b
-the_same e = cc (e)
-
 one_more : (xs ys : List Batch) (b : Batch) → ys ≡ xs ++ b ∷ [] → length ys ≡ length xs + 1
 one_more xs ys b e = ap length e ∙ length_push xs b
 
@@ -49,7 +47,7 @@ found size e None f (Some b) h = record {
   handed = h.1.handed;
   pair = h.1.pair;
   few = λ n le. let more = one_more e.spares f.spares h.0 h.1.spares in omega arith;
-  sized = λ was s at. ap (λ (t : Stored). t.size) (sym (the_same at)) ∙ h.3;
+  sized = λ was s at. ap (λ (t : Stored). t.size) (sym (same_inside at)) ∙ h.3;
 }
 found size e None f None (inl h) = record {
   handed = λ i. (h.0 i).handed;
@@ -104,8 +102,6 @@ module _ (shape : ℕ → Option Shape) (accepted : Record → Bool) (text : Rec
     -- every list is one still, with the Seal in front where there was one
     heeded_list : (seat : CpuSeat) → (known seat).own ≡ (known cpu.seat).own → (sealed : Bool) (y : Buffers) → Heeds cpu.config cpu.cpu ask looked_at sealed y
         → (p : List Deed) → HasList shape accepted text cpu p → HasList shape accepted text (with_buffers cpu seat y) (with_seal sealed cpu.cpu p)
-    heeded_list seat same sealed y (not_asked le) p had = kept_list shape accepted text words cpu ready seat same p had e left cpu.spare batches
-    heeded_list seat same sealed y (worn_out lt le) p had = kept_list shape accepted text words cpu ready seat same p had e left cpu.spare batches
     heeded_list seat same sealed y (no_spare lt below f finds) p had = kept_list shape accepted text words cpu ready seat same p had f left None (batches_left f None finds)
     heeded_list seat same sealed y (held_up lt below f s finds b is more) p had = kept_list shape accepted text words cpu ready seat same p had f left (Some s) (batches_left f (Some s) finds)
     heeded_list seat same sealed y (switched lt below f s finds none g last gives) p had =
@@ -113,6 +109,7 @@ module _ (shape : ℕ → Option Shape) (accepted : Record → Bool) (text : Rec
         ((passed f (Some (batch_of cpu.cpu looked_at)) g last gives).batches ∙ ap (λ bs. batch_of cpu.cpu (buffers_of cpu) ∷ bs)
         (ap (λ w. waiting w ++ reverse f.handed) (sym none) ∙ batches_left f (Some s) finds))
         (emptied_sized cpu.config.bufsize s ((found cpu.config.bufsize e cpu.spare f (Some s) finds).sized ready.steady.spare s refl)) below unfilled
+    heeded_list seat same sealed y x p had = kept_list shape accepted text words cpu ready seat same p had e left cpu.spare batches
 
     -- the CPU has no buffer more than came to it
     pub few_left : length (waiting left ++ reverse e.handed) + spare_count cpu.spare ≤ 1 + length e.spares
@@ -124,8 +121,6 @@ module _ (shape : ℕ → Option Shape) (accepted : Record → Bool) (text : Rec
         (subst (λ bs. length (waiting left ++ reverse bs) + spare_count cpu.spare ≤ 1 + length e.spares) (sym (found cpu.config.bufsize e cpu.spare f s finds).handed) few_left)
 
     few_after : (sealed : Bool) (y : Buffers) → Heeds cpu.config cpu.cpu ask looked_at sealed y → length (waiting y.held_back ++ reverse y.end.handed) + spare_count y.spare ≤ 1 + length y.end.spares
-    few_after sealed y (not_asked le) = few_left
-    few_after sealed y (worn_out lt le) = few_left
     few_after sealed y (no_spare lt below f finds) = few_found f None finds
     few_after sealed y (held_up lt below f s finds b is more) = few_found f (Some s) finds
     few_after sealed y (switched lt below f s finds none g last gives) =
@@ -134,21 +129,20 @@ module _ (shape : ℕ → Option Shape) (accepted : Record → Bool) (text : Rec
         let now = ap length (passed f (Some (batch_of cpu.cpu looked_at)) g last gives).batches in
         let same = ap length (passed f (Some (batch_of cpu.cpu looked_at)) g last gives).spares in
         omega arith
+    few_after sealed y x = few_left
 
     sized_after : (sealed : Bool) (y : Buffers) → Heeds cpu.config cpu.cpu ask looked_at sealed y → (b : Stored) → y.spare ≡ Some b → b.size ≡ cpu.config.bufsize
     sized_after sealed y (not_asked le) b at = ready.steady.spare b at
     sized_after sealed y (worn_out lt le) b at = ready.steady.spare b at
-    sized_after sealed y (no_spare lt below f finds) b at = absurd (cc (at))
     sized_after sealed y (held_up lt below f s finds w is more) b at = (found cpu.config.bufsize e cpu.spare f (Some s) finds).sized ready.steady.spare b at
-    sized_after sealed y (switched lt below f s finds none g last gives) b at = absurd (cc (at))
+    sized_after sealed y x b at = absurd (cc (at))
 
     pair_after : (sealed : Bool) (y : Buffers) → Heeds cpu.config cpu.cpu ask looked_at sealed y → y.end.pair ≡ e.pair
-    pair_after sealed y (not_asked le) = refl
-    pair_after sealed y (worn_out lt le) = refl
     pair_after sealed y (no_spare lt below f finds) = (found cpu.config.bufsize e cpu.spare f None finds).pair
     pair_after sealed y (held_up lt below f s finds b is more) = (found cpu.config.bufsize e cpu.spare f (Some s) finds).pair
     pair_after sealed y (switched lt below f s finds none g last gives) =
         (passed f (Some (batch_of cpu.cpu looked_at)) g last gives).pair ∙ (found cpu.config.bufsize e cpu.spare f (Some s) finds).pair
+    pair_after sealed y x = refl
 
     heeded_ready : (seat : CpuSeat) → IsAt words seat → cpu_of seat ≡ cpu_of cpu.seat → LoadedAsk cpu.cpu (known cpu.seat) ask (known seat)
         → (sealed : Bool) (y : Buffers) → Heeds cpu.config cpu.cpu ask looked_at sealed y → IsReady shape accepted text words (with_buffers cpu seat y)
@@ -180,9 +174,6 @@ module _ (shape : ℕ → Option Shape) (accepted : Record → Bool) (text : Rec
         number = ap (λ (x : Cpu S). x.cpu) is_new;
         pair = pair_after sealed (buffers_of new) heeds ∙ (passed cpu.end cpu.held_back e left hands).pair;
       }
-
-      pub switched_bounded : (known new.seat).steps ≤ (known cpu.seat).steps + 1
-      switched_bounded = let one : (known new.seat).steps ≡ (known cpu.seat).steps + 1 = ap (λ s. (known s).steps) beside.1 ∙ ap (λ (x : View). x.steps) its_ask.3 in omega arith
 
       pub switched_by : Switches cpu.config cpu.cpu (known cpu.seat) (buffers_of cpu) sealed (known new.seat) (buffers_of new)
       switched_by = looked unfilled e left hands ask (known new.seat) (subst (λ s. LoadedAsk cpu.cpu (known cpu.seat) ask (known s)) (sym beside.1) its_ask) sealed (buffers_of new) heeds

@@ -1,9 +1,9 @@
 -- What a call tells by its answer comes in front of what its CPU's calls told before.
 use Rattle.std.proofs.Common.{◌≡◌, ◌+◌, ◌*◌, ℕ, zero, suc, Bool, true, false, List, [], ◌∷◌, ◌++◌, length, refl, sym, ap, ◌∙◌, ⊎_elim, append_assoc, arith}
-use Rattle.dspec_cpu.specs.Words.{Record, Speculation, SlotState, settled_fate, did, commit, discard, Did, is_stopped_opening, calling, known, Entered, EnteredIn, Cpu, called, settled_did}
-use Rattle.dspec_cpu.specs.Words.{WithService, Decides, Goes, rests, steps, spoken_deeds, traced_deeds, is_worn_decided, is_worn_spoken, is_worn_trace, CallLeaves, config_of, number_in, seat_of}
-use Rattle.dspec_cpu.specs.Words.{worn_of, decision_deed, TracesOne, SpeculatesOne, OpensOne, DecidesOne, Opens, is_worn_opening, Serves, SettledBehind, SettledSlots, shown_at, is_stopped_decided}
-use Rattle.dspec_cpu.specs.Words.{is_stopped_spoken, is_stopped_trace, Buffers, Switches, never, looked, last_looked, of_activity, of_slot, of_slots}
+use Rattle.dspec_cpu.specs.Words.{Record, Speculation, SlotState, settled_fate, did, By, Did, is_stopped_opening, calling, known, Entered, EnteredIn, Cpu, called, settled_did, WithService, Decides}
+use Rattle.dspec_cpu.specs.Words.{Goes, rests, steps, spoken_deeds, traced_deeds, is_worn_decided, is_worn_spoken, is_worn_trace, CallLeaves, config_of, number_in, seat_of, worn_of, decision_deed}
+use Rattle.dspec_cpu.specs.Words.{TracesOne, SpeculatesOne, OpensOne, DecidesOne, Opens, is_worn_opening, Serves, SettledBehind, SettledSlots, shown_at, is_stopped_decided, is_stopped_spoken}
+use Rattle.dspec_cpu.specs.Words.{is_stopped_trace, Buffers, Switches, never, looked, last_looked, of_activity, of_slot, of_slots}
 use Rattle.dspec_deeds.specs.declared.calls.Decided.{Decided}
 use Rattle.dspec_deeds.specs.declared.calls.Opening.{Opening}
 use Rattle.dspec_deeds.specs.declared.calls.Served.{Served}
@@ -14,7 +14,7 @@ use Rattle.dspec_deeds.specs.declared.deed.DecideFate.{DecideFate}
 use Rattle.dspec_deeds.specs.declared.deed.Deed.{Deed}
 use Rattle.dspec_deeds.specs.declared.deed.Deed.TheVariants.{Settle}
 use Rattle.dspec_table.specs.declared.rule.View.{View}
-use Rattle.dspec_cpu.proofs.Told.{trace_told, speculate_told, commit_told, discard_told, opening_told, settles, settles_told}
+use Rattle.dspec_cpu.proofs.Told.{trace_told, speculate_told, decision_told, opening_told, settles, settles_told}
 
 -- steps of a seat put their deeds in front of its list
 entered_own : {place : ℕ} (v w : View) (log ds : List Deed) → Entered place v log ds w → w.own ≡ ds ++ v.own
@@ -51,13 +51,9 @@ module _ {S : Type 0} (has : Cpu S → List Deed → Type 0) (old new : Cpu S) (
       → Opens (config_of old) (number_in old) a (has old) (known (seat_of old)) (has new) (known (seat_of new)) → OpensOne has a old new
   opens_one a k o = record { tells = tells [] _ _ (goes_own o.did) k.wears (opening_told (number_in old) o.missed a); leaves = k; opens = o }
 
-  pub commits_one : (id : Speculation) (a : Decided) → CallLeaves (is_worn_decided a) (is_stopped_decided a) 5 (of_slot (config_of old) id) old new
-      → Decides (decision_deed commit (number_in old) id) id a (has old) (known (seat_of old)) (has new) (known (seat_of new)) → DecidesOne has commit id a old new
-  commits_one id a k d = record { tells = tells _ _ _ (goes_own d.did) k.wears (commit_told (number_in old) id d.alone a); leaves = k; decides = d }
-
-  pub discards_one : (id : Speculation) (a : Decided) → CallLeaves (is_worn_decided a) (is_stopped_decided a) 5 (of_slot (config_of old) id) old new
-      → Decides (decision_deed discard (number_in old) id) id a (has old) (known (seat_of old)) (has new) (known (seat_of new)) → DecidesOne has discard id a old new
-  discards_one id a k d = record { tells = tells _ _ _ (goes_own d.did) k.wears (discard_told (number_in old) id d.alone a); leaves = k; decides = d }
+  pub decides_one : (w : By) (id : Speculation) (a : Decided) → CallLeaves (is_worn_decided a) (is_stopped_decided a) 5 (of_slot (config_of old) id) old new
+      → Decides (decision_deed w (number_in old) id) id a (has old) (known (seat_of old)) (has new) (known (seat_of new)) → DecidesOne has w id a old new
+  decides_one w id a k d = record { tells = tells _ _ _ (goes_own d.did) k.wears (decision_told w (number_in old) id d.alone a); leaves = k; decides = d }
 
 -- settlements, one behind the other
 settles_append : (c : ℕ) (ss ts : List (Speculation × DecideFate)) → settles c (ss ++ ts) ≡ settles c ss ++ settles c ts

@@ -1,6 +1,8 @@
 -- The deeds of a call, as the page tells them by its answer.
 use Rattle.std.proofs.Common.{◌≡◌, ℕ, Bool, true, false, List, [], ◌∷◌, ◌++◌, map, refl, ap, ◌∙◌, append_assoc}
-use Rattle.dspec_cpu.specs.Words.{Record, Speculation, did, commit, discard, trace_did, speculate_did, decision_did, settled_did, traced_deeds, spoken_deeds, decided_deeds, misses, opening_deeds}
+use Rattle.dspec_cpu.specs.Words.{Record, Speculation, did, By, commit, trace_did, speculate_did, decision_did, decision_deed, settled_did, traced_deeds, spoken_deeds, decided_deeds, misses}
+use Rattle.dspec_cpu.specs.Words.{opening_deeds}
+use Rattle.dspec_promise.specs.Promise as page
 use Rattle.dspec_deeds.specs.declared.calls.Traced.{Traced}
 use Rattle.dspec_deeds.specs.declared.calls.Traced.TheVariants as answer
 use Rattle.dspec_deeds.specs.declared.calls.Spoken.{Spoken}
@@ -11,7 +13,7 @@ use Rattle.dspec_deeds.specs.declared.deed.Deed.{Deed}
 use Rattle.dspec_deeds.specs.declared.deed.DecideFate.{DecideFate}
 use Rattle.dspec_deeds.specs.declared.calls.Opening.{Opening}
 use Rattle.dspec_deeds.specs.declared.calls.Opening.TheVariants as opening
-use Rattle.dspec_deeds.specs.declared.deed.Deed.TheVariants.{Scan, Commit, Discard, Settle}
+use Rattle.dspec_deeds.specs.declared.deed.Deed.TheVariants.{Scan, Settle}
 use Rattle.dspec_deeds.proofs.TestLemmas.{number_is_itself}
 
 pub trace_told : (c : ℕ) (r : Record) (a : Traced) (p : List Deed) → did c (traced_deeds c r a ++ p) ≡ trace_did r a ++ did c p
@@ -22,21 +24,17 @@ pub speculate_told : (c : ℕ) (id : Speculation) (r : Record) (a : Spoken) (p :
 speculate_told c id r spoken.Worn p = refl
 speculate_told c id r a p = rw (number_is_itself c) refl
 
-pub commit_told : (c : ℕ) (id : Speculation) (alone : Bool) (a : Decided) (p : List Deed)
-    → did c (decided_deeds (Commit c id) id.slot alone a ++ p) ≡ decision_did commit id a ++ did c p
-commit_told c id alone decided.Worn p = refl
-commit_told c id alone decided.Void p = rw (number_is_itself c) refl
-commit_told c id alone decided.Stopped p = rw (number_is_itself c) refl
-commit_told c id true a p = rw (number_is_itself c) refl
-commit_told c id false a p = rw (number_is_itself c) refl
+deed_told : (w : By) (c : ℕ) (id : Speculation) (f : DecideFate) (p : List Deed) → did c (decision_deed w c id f ∷ p) ≡ page.emptied w id f ∷ did c p
+deed_told commit c id f p = rw (number_is_itself c) refl
+deed_told w c id f p = rw (number_is_itself c) refl
 
-pub discard_told : (c : ℕ) (id : Speculation) (alone : Bool) (a : Decided) (p : List Deed)
-    → did c (decided_deeds (Discard c id) id.slot alone a ++ p) ≡ decision_did discard id a ++ did c p
-discard_told c id alone decided.Worn p = refl
-discard_told c id alone decided.Void p = rw (number_is_itself c) refl
-discard_told c id alone decided.Stopped p = rw (number_is_itself c) refl
-discard_told c id true a p = rw (number_is_itself c) refl
-discard_told c id false a p = rw (number_is_itself c) refl
+pub decision_told : (w : By) (c : ℕ) (id : Speculation) (alone : Bool) (a : Decided) (p : List Deed)
+    → did c (decided_deeds (decision_deed w c id) id.slot alone a ++ p) ≡ decision_did w id a ++ did c p
+decision_told w c id alone decided.Worn p = refl
+decision_told w c id alone decided.Void p = deed_told w c id _ p
+decision_told w c id alone decided.Stopped p = deed_told w c id _ p
+decision_told w c id true a p = deed_told w c id _ p
+decision_told w c id false a p = deed_told w c id _ p
 
 -- a call of speculation touches no record
 misses_told : (c : ℕ) (bs : List Bool) (p : List Deed) → did c (misses c bs ++ p) ≡ did c p
@@ -49,9 +47,7 @@ scan_told c bs p = ap (did c) (append_assoc (misses c bs) (Scan c true ∷ []) p
 pub opening_told : (c : ℕ) (bs : List Bool) (a : Opening) (p : List Deed) → did c (opening_deeds c bs a ++ p) ≡ did c p
 opening_told c bs opening.Worn p = refl
 opening_told c bs opening.Stopped p = refl
-opening_told c bs (opening.Id id) p = scan_told c bs p
-opening_told c bs opening.Unavailable p = scan_told c bs p
-opening_told c bs opening.Busy p = scan_told c bs p
+opening_told c bs a p = scan_told c bs p
 
 -- the deeds of these settlements, by CPU c, are told as a service's
 abbrev pub settles : ℕ → List (Speculation × DecideFate) → List Deed

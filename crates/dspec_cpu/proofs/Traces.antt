@@ -1,10 +1,13 @@
 -- A call of trace.
-use Rattle.std.proofs.Common.{◌≡◌, ℕ, ◌+◌, Bool, true, false, [], ◌∷◌, if◌then◌else◌, refl, ap, ◌∙◌, subst}
-use Rattle.dspec_cpu.specs.Words.{Record, of_cpu, number_of, calling, activity_place, LoadedActivity, Entered, Goes, rests, steps, Stands, at_activity}
+use Rattle.std.proofs.Common.{◌≡◌, ℕ, Bool, true, false, List, [], Option, ◌∷◌, if◌then◌else◌, refl, ap, ◌∙◌, subst}
+use Rattle.dspec_cpu.specs.Words.{Record, CpuRow, fits_principal, of_cpu, number_of, calling, activity_place, LoadedActivity, Entered, Goes, rests, steps, Stands, at_activity}
 use Rattle.dspec_deeds.specs.declared.config.Config.{Config}
 use Rattle.dspec_deeds.specs.declared.calls.CpuOp.TheVariants as op
 use Rattle.dspec_deeds.specs.declared.deed.TraceFate.{TraceFate}
 use Rattle.dspec_deeds.specs.declared.deed.TraceFate.TheVariants as traced
+use Rattle.dspec_buffer.specs.Extent as extent
+use Rattle.dspec_record.specs.declared.field.Shape.{Shape}
+use Rattle.dspec_deeds.specs.declared.deed.Deed.{Deed}
 use Rattle.dspec_deeds.specs.declared.deed.Deed.TheVariants.{Trace}
 use Rattle.dspec_table.specs.declared.rule.View.{View}
 use Rattle.dspec_table.specs.declared.doing.Doing.{Doing}
@@ -21,7 +24,6 @@ fate fit stopped = if stopped then traced.Stopped else (if fit then traced.Kept 
 pub record Traces (k : Config) (c : ℕ) (v w : View) (r : Record) (f : TraceFate) : Type 0 where
   pub goes : Goes v (Trace c r f ∷ []) w
   pub stands : Stands k c v (Trace c r f ∷ []) w
-  pub one_step : w.steps ≡ v.steps + 1
 
 once : (k : Config) (c : ℕ) (r : Record) (fit b : Bool) → at_activity k c (asked r fit) (op.Trace r) b ≡ Trace c r (fate fit b) ∷ []
 once k c r fit true = refl
@@ -36,5 +38,10 @@ traces k c v w r fit b f config who step is =
     record {
       goes = steps w (Trace c r f ∷ []) (Trace c r f ∷ []) step.0 rests step.1 (activity_enters (asked r fit) v b w (Trace c r f ∷ []) step deeds) refl;
       stands = stands_called k c (op.Trace r) v w (Trace c r f ∷ []) (stands_behind k c (calling (op.Trace r) v) w step.0 (Trace c r f ∷ []) config who entered) refl;
-      one_step = ap (λ (x : View). x.steps) entered.view;
     }
+
+-- a record that was kept where it fits, and dropped where it doesn't
+pub trace_row : (shape : ℕ → Option Shape) (k : Config) (c : ℕ) (r : Record) (p : List Deed) (b : Bool) → b ≡ fits_principal shape k c (extent.one r) p
+    → CpuRow shape k p (Trace c r (if b then traced.Kept else traced.Dropped))
+trace_row shape k c r p true e = e
+trace_row shape k c r p false e = e

@@ -9,18 +9,18 @@ use Rattle.dspec_cpu.specs.declared.shared.Shared.{Shared}
 use Rattle.dspec_cpu.specs.Lists.{words_of}
 
 -- which CPU it is: no call changes it
-pub record Identity (S : Type 0) : Type 0 where
+pub record CpuIdentity (S : Type 0) : Type 0 where
   pub schema : S
   pub config : Config
   pub number : ℕ
   pub pair : Pair
   pub table : TableId
 
-abbrev pub identity : {S : Type 0} → Cpu S → Identity S
+abbrev pub identity : {S : Type 0} → Cpu S → CpuIdentity S
 identity cpu = record { schema = cpu.schema; config = cpu.config; number = cpu.cpu; pair = cpu.end.pair; table = cpu.seat.seat.table_id }
 
 -- it is a CPU of the session with these words
-pub record Belongs {S : Type 0} (words : Words) (i : Identity S) : Type 0 where
+pub record Belongs {S : Type 0} (words : Words) (i : CpuIdentity S) : Type 0 where
   pub table : i.table ≡ words.board.shared.table_id
   pub config : i.config ≡ set_up words
 

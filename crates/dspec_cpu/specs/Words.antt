@@ -3,7 +3,7 @@ pub mod Outside
 unfoldable pub use Outside.*
 pub use Rattle.dspec_cpu.specs.Between.{cpu_block_fits}
 pub use Rattle.dspec_cpu.specs.Called.{called, CallsMade, decision_did, no_calls, settled_did, speculate_did, trace_did, with_decision, with_speculate, with_speculation, with_trace, WithService}
-pub use Rattle.dspec_cpu.specs.Calls.{decided_deeds, Decides, decision, Goes, is_worn_decided, is_worn_spoken, is_worn_trace, rests, spoken_deeds, steps, traced_deeds}
+pub use Rattle.dspec_cpu.specs.Calls.{decided_deeds, Decides, decision, Goes, is_decision, is_worn_decided, is_worn_spoken, is_worn_trace, rests, spoken_deeds, steps, traced_deeds}
 pub use Rattle.dspec_cpu.specs.Dropped.{drops_told}
 pub use Rattle.dspec_cpu.specs.Keeping.{CallLeaves}
 pub use Rattle.dspec_cpu.specs.KeptRests.{rest_with}
@@ -20,7 +20,7 @@ pub use Rattle.dspec_cpu.specs.Scans.{any_busy, is_worn_opening, IsGivenAt, IsOp
 pub use Rattle.dspec_cpu.specs.Sealed.{AreSealed, HasSized, IsSealed, waiting}
 pub use Rattle.dspec_cpu.specs.Serving.{Serves}
 pub use Rattle.dspec_cpu.specs.Settled.{BlockSettled, CanSettle, DueSettled, IsDueAt, IsPartOf, KeepsBatches, serving, Settled, SettledBehind, SettledSlot, SettledSlots, shown_at, SlotDone}
-pub use Rattle.dspec_cpu.specs.Standing.{Belongs, Identity, identity, IsCallable}
+pub use Rattle.dspec_cpu.specs.Standing.{Belongs, CpuIdentity, identity, IsCallable}
 pub use Rattle.dspec_cpu.specs.Stops.{is_stopped_decided, is_stopped_reach, is_stopped_spoken, is_stopped_trace, StopsWhereMet}
 pub use Rattle.dspec_cpu.specs.Switching.{batch_of, Buffers, buffers_of, emptied, FindsSpare, HandsOn, Heeds, held_up, IsSameBeside, looked, most_moves, never, no_spare, not_asked, switched}
 pub use Rattle.dspec_cpu.specs.Switching.{Switches, with_buffers, with_seal, worn_out}

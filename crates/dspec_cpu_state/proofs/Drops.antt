@@ -11,6 +11,7 @@ use Rattle.dspec_deeds.specs.declared.deed.Deed.{Deed}
 use Rattle.dspec_deeds.specs.declared.deed.Deed.TheVariants.{Speculate}
 use Rattle.dspec_deeds.proofs.Dropping.{unmarked_drops, dropped_called}
 use Rattle.dspec_deeds.proofs.TestLemmas.{either_way, same_number, number_is_itself}
+use Rattle.dspec_cpu_state.proofs.Ones.{last_is}
 use Rattle.dspec_cpu_state.proofs.Places.{got_set, got_other}
 
 -- each slot's count is that of the speculation granted last
@@ -27,10 +28,7 @@ record AreBut (k : Config) (c : ℕ) (id : Speculation) (n : ℕ) (drops : List 
 module _ {k : Config} {c : ℕ} (p : List Deed) (id : Speculation) (low : 1 ≤ id.slot) (high : id.slot ≤ k.nspec) where
   -- where the CPU is a caller the slot's count is the speculation's
   pub counted_here : (drops : List ℕ) → AreDropped k c drops p → mark c id.slot p ≡ id.issue + 1 → slice_get drops (id.slot - 1) ≡ Some (dropped_in c id p)
-  counted_here drops are m =
-      let issues : mark c id.slot p - 1 ≡ id.issue = omega arith in
-      let it : last_called c id.slot p ≡ id = λ i. record { issue = issues i; slot = id.slot } in
-      are.each id.slot low high ∙ ap (λ j. Some (dropped_in c j p)) it
+  counted_here drops are m = are.each id.slot low high ∙ ap (λ j. Some (dropped_in c j p)) (last_is c id p m)
 
   -- with that one written
   written : (old new : List ℕ) (n : ℕ) → length old ≡ k.nspec → ((s : ℕ) → 1 ≤ s → s ≤ k.nspec → s ≢ id.slot → slice_get old (s - 1) ≡ Some (dropped_in c (last_called c s p) p))

@@ -3,6 +3,7 @@ use Rattle.std.proofs.Common.{◌≡◌, ◌≢◌, ℕ, suc, ◌+◌, ◌-◌, 
 use Rattle.std.proofs.Common.{length, map, get_or, Option, Some, if◌then◌else◌, refl, sym, ap, ◌∙◌, subst, ⊎_elim, arith, length-set, add-zero, true≢false}
 use Rattle.std.specs.Prelude.{slice_get, slice_set}
 use Rattle.std.specs.Global.{Vec}
+use Rattle.std.proofs.Math.Bool.{and-true}
 use Rattle.std.proofs.lemmas.Bool.Decides.{nat_tests}
 use Rattle.std.proofs.lemmas.Option.{slice_get-get_or}
 use Rattle.dspec_cpu_state.specs.Words.{Record, Piece, piece_fits, Speculation, is_commit, is_copied, is_discard, is_lost, decided_stopped, ack, same_id, CpuLegal, fits_principal, mark, Offer}
@@ -17,8 +18,8 @@ use Rattle.dspec_deeds.specs.declared.deed.Deed.{Deed}
 use Rattle.dspec_deeds.specs.declared.deed.Deed.TheVariants.{Commit, Discard, Settle}
 use Rattle.dspec_deeds.proofs.TestLemmas.{either_way, same_number, number_is_itself, id_is_itself, same_id_tells, other_slot, and_tells}
 use Rattle.dspec_cpu_state.proofs.Tallies.{commit_counts, discard_counts, settle_counts}
-use Rattle.dspec_cpu_state.proofs.Places.{got_set, got_other}
-use Rattle.dspec_cpu_state.proofs.Ones.{last_is, mine_last}
+use Rattle.dspec_cpu_state.proofs.Places.{got_set, got_other, same_inside, slot_set}
+use Rattle.dspec_cpu_state.proofs.Ones.{last_is, mine_last, one_call}
 
 pub count_held : (os : List Offer) → length (contents os) ≡ length os
 count_held [] = refl
@@ -116,7 +117,7 @@ module _ {B : Type 0} (keeps : B → List Piece → Type 0) (capacity : B → �
           λ s b one_low one_high got. ⊎_elim
               (λ (y : (s == id.slot) ≡ true).
               let same = same_number s id.slot y in
-              let is : b ≡ t.0 = some_is (sym got ∙ (ap (λ l. slice_get l (s - 1)) t.2
+              let is : b ≡ t.0 = same_inside (sym got ∙ (ap (λ l. slice_get l (s - 1)) t.2
               ∙ (ap (λ x. slice_get (slice_set side.speculative.items (id.slot - 1) t.0) (x - 1)) same ∙ got_set side.speculative.items (id.slot - 1) t.0 (omega arith)))) in
               subst (λ (q : ℕ × B). IsFilledWith keeps capacity k.specsize (map extent.one (contents (held c (last_called c q.0 p) (deed ∷ p)))) q.1) (λ i. (sym same i, sym is i))
               (record { sized = t.1 ∙ shows.sized; has = subst (λ l. keeps t.0 l) pieces (t.3 (ones (held c it p)) shows.has) }))
@@ -128,9 +129,6 @@ module _ {B : Type 0} (keeps : B → List Piece → Type 0) (capacity : B → �
               subst (λ l. IsFilledWith keeps capacity k.specsize (map extent.one (contents l)) b) (sym now) (was.parts.speculative s b one_low one_high before))
               (either_way (s == id.slot)),
         )
-      where
-        some_is : {A : Type 0} {x y : A} → Some x ≡ Some y → x ≡ y
-        some_is e = cc (e)
 
     principal : (new : B) → capacity new ≡ capacity side.active → Copied fit new → IsFilledWith keeps capacity k.bufsize (active c (deed ∷ p)) new
     principal new size told =
@@ -173,24 +171,13 @@ module _ {B : Type 0} (keeps : B → List Piece → Type 0) (capacity : B → �
           counted = numbers.counted;
         }
 
-  one_call : (m : ℕ) → m + 1 ≡ m + (if c == c then 1 else 0)
-  one_call m = rw (number_is_itself c) refl
-
   -- a decision of the CPU's own, or a settlement: whether it copies, and its counts
   module _ (f : DecideFate) (now : Counts) (plus : now ≡ with_decided f side.counts) where
     copies : (if is_copied f && (c == c) then extent.block have ∷ active c p else active c p) ≡ (if is_copied f then extent.block have ∷ active c p else active c p)
-    copies = rw (number_is_itself c) (flat (is_copied f))
-      where
-        flat : (b : Bool) → (if b && true then extent.block have ∷ active c p else active c p) ≡ (if b then extent.block have ∷ active c p else active c p)
-        flat true = refl
-        flat false = refl
+    copies = rw (number_is_itself c, and-true (is_copied f)) refl
 
     loses : (drops : ℕ) → drops ≡ side.drops + (if is_lost f then 1 else 0) → drops ≡ (growing c p).drops + (if is_lost f && (c == c) then 1 else 0)
-    loses drops is = is ∙ (ap (λ m. m + (if is_lost f then 1 else 0)) was.parts.drops ∙ rw (number_is_itself c) (flat (is_lost f) (growing c p).drops))
-      where
-        flat : (b : Bool) (m : ℕ) → m + (if b then 1 else 0) ≡ m + (if b && true then 1 else 0)
-        flat true m = refl
-        flat false m = refl
+    loses drops is = is ∙ (ap (λ m. m + (if is_lost f then 1 else 0)) was.parts.drops ∙ rw (number_is_itself c, and-true (is_lost f)) refl)
 
     counted : (deed : Deed) → ((w : ℕ) → counts_of k c w (deed ∷ p) ≡ with_decided f (counts_of k c w p)) → now ≡ counts_of k c now.worn (deed ∷ p)
     counted deed adds =
@@ -222,7 +209,7 @@ module _ {B : Type 0} (keeps : B → List Piece → Type 0) (capacity : B → �
           })
           (side.calls + 1) side.acks drops now
           (record {
-            called = ap (λ m. m + 1) was.parts.called ∙ one_call _;
+            called = ap (λ m. m + 1) was.parts.called ∙ one_call c _;
             ack_count = was.parts.ack_count;
             acks = was.parts.acks;
             drops = loses drops drops_is;
@@ -233,16 +220,11 @@ module _ {B : Type 0} (keeps : B → List Piece → Type 0) (capacity : B → �
           lawful : (x : DecideFate) → is_commit x ≡ true → CpuLegal shape k p (Commit c id x) → is_copied x ≡ fits_principal shape k c (extent.block have) p
           lawful (fated.Copied n) e a = a.1
           lawful (fated.Lost n) e a = a.1
-          lawful (fated.Thrown n) e a = absurd (true≢false (sym e))
-          lawful fated.Void e a = absurd (true≢false (sym e))
-          lawful fated.Stopped e a = absurd (true≢false (sym e))
+          lawful x e a = absurd (true≢false (sym e))
 
           unthrown : (x : DecideFate) → is_commit x ≡ true → is_discard x ≡ false
-          unthrown (fated.Copied n) e = refl
-          unthrown (fated.Lost n) e = refl
           unthrown (fated.Thrown n) e = absurd (true≢false (sym e))
-          unthrown fated.Void e = refl
-          unthrown fated.Stopped e = refl
+          unthrown x e = refl
 
       -- and with the settlement, which the slot's acknowledgement tells
       pub settle_shown : (is_commit f || is_discard f) ≡ true → CpuLegal shape k p (Settle c id f) → (acks : Vec ℕ) → acks.items ≡ slice_set side.acks.items (id.slot - 1) (id.issue + 1)
@@ -270,36 +252,17 @@ module _ {B : Type 0} (keeps : B → List Piece → Type 0) (capacity : B → �
         where
           room : (x : DecideFate) → (is_commit x || is_discard x) ≡ true → CpuLegal shape k p (Settle c id x) → is_copied x ≡ true → fits_principal shape k c (extent.block have) p ≡ true
           room (fated.Copied n) e a t = sym a.1 ∙ t
-          room (fated.Lost n) e a t = absurd (true≢false (sym t))
-          room (fated.Thrown n) e a t = absurd (true≢false (sym t))
-          room fated.Void e a t = absurd (true≢false (sym t))
-          room fated.Stopped e a t = absurd (true≢false (sym t))
+          room x e a t = absurd (true≢false (sym t))
 
           runs : (x : DecideFate) → (is_commit x || is_discard x) ≡ true → decided_stopped x ≡ false
-          runs (fated.Copied n) e = refl
-          runs (fated.Lost n) e = refl
-          runs (fated.Thrown n) e = refl
-          runs fated.Void e = refl
           runs fated.Stopped e = absurd (true≢false (sym e))
+          runs x e = refl
 
           ack_now : (s : ℕ) → ack c s (Settle c id f ∷ p) ≡ (if s == id.slot then id.issue + 1 else ack c s p)
           ack_now s = rw (number_is_itself c) refl
 
           told : (length acks.items ≡ k.nspec) × ((s : ℕ) → 1 ≤ s → s ≤ k.nspec → slice_get acks.items (s - 1) ≡ Some (ack c s (Settle c id f ∷ p)))
-          told =
-              let count = was.parts.ack_count in
-              let most = inside in (
-                ap length acks_are ∙ (length-set side.acks.items (id.slot - 1) (id.issue + 1) ∙ count),
-                λ s one_low one_high. ap (λ l. slice_get l (s - 1)) acks_are ∙ ⊎_elim
-                    (λ (y : (s == id.slot) ≡ true).
-                    ap (λ x. slice_get (slice_set side.acks.items (id.slot - 1) (id.issue + 1)) (x - 1)) (same_number s id.slot y)
-                    ∙ (got_set side.acks.items (id.slot - 1) (id.issue + 1) (omega arith) ∙ ap Some (sym (ack_now s ∙ ap (λ q. if q then id.issue + 1 else ack c s p) y))))
-                    (λ (z : (s == id.slot) ≡ false).
-                    let apart : s ≢ id.slot = grind (arith, nat_tests) in
-                    got_other side.acks.items (id.slot - 1) (s - 1) (id.issue + 1) (omega arith)
-                    ∙ (was.parts.acks s one_low one_high ∙ ap Some (sym (ack_now s ∙ ap (λ q. if q then id.issue + 1 else ack c s p) z))))
-                    (either_way (s == id.slot)),
-              )
+          told = slot_set k.nspec id.slot (id.issue + 1) (λ s. ack c s (Settle c id f ∷ p)) (λ s. ack c s p) side.acks.items acks.items low inside was.parts.ack_count was.parts.acks acks_are ack_now
 
       -- and with the discard, which leaves the active buffer alone
       pub discard_shown : is_discard f ≡ true
@@ -316,7 +279,7 @@ module _ {B : Type 0} (keeps : B → List Piece → Type 0) (capacity : B → �
           })
           (side.calls + 1) side.acks drops now
           (record {
-            called = ap (λ m. m + 1) was.parts.called ∙ one_call _;
+            called = ap (λ m. m + 1) was.parts.called ∙ one_call c _;
             ack_count = was.parts.ack_count;
             acks = was.parts.acks;
             drops = drops_is
@@ -326,22 +289,15 @@ module _ {B : Type 0} (keeps : B → List Piece → Type 0) (capacity : B → �
           new empty_now kept size copied_now
         where
           uncopied : (x : DecideFate) → is_discard x ≡ true → is_copied x ≡ false
-          uncopied (fated.Thrown n) e = refl
           uncopied (fated.Copied n) e = absurd (true≢false (sym e))
           uncopied (fated.Lost n) e = absurd (true≢false (sym e))
-          uncopied fated.Void e = refl
-          uncopied fated.Stopped e = refl
+          uncopied x e = refl
 
           unlost : (x : DecideFate) → is_discard x ≡ true → is_lost x ≡ false
-          unlost (fated.Thrown n) e = refl
-          unlost (fated.Copied n) e = refl
           unlost (fated.Lost n) e = absurd (true≢false (sym e))
-          unlost fated.Void e = refl
-          unlost fated.Stopped e = refl
+          unlost x e = refl
 
           uncommitted : (x : DecideFate) → is_discard x ≡ true → is_commit x ≡ false
-          uncommitted (fated.Thrown n) e = refl
           uncommitted (fated.Copied n) e = absurd (true≢false (sym e))
           uncommitted (fated.Lost n) e = absurd (true≢false (sym e))
-          uncommitted fated.Void e = refl
-          uncommitted fated.Stopped e = refl
+          uncommitted x e = refl

@@ -3,6 +3,7 @@ use Rattle.std.proofs.Common.{◌≡◌, ◌≢◌, ℕ, ◌+◌, ◌-◌, ◌==
 use Rattle.std.proofs.Common.{map, get_or, Option, Some, if◌then◌else◌, refl, sym, ap, ◌∙◌, subst, ⊎_elim, arith, length-set, add-zero}
 use Rattle.std.specs.Prelude.{slice_get, slice_set}
 use Rattle.std.specs.Global.{Vec}
+use Rattle.std.proofs.Math.Bool.{and-true}
 use Rattle.std.proofs.lemmas.Bool.Decides.{nat_tests}
 use Rattle.std.proofs.lemmas.Option.{slice_get-get_or}
 use Rattle.dspec_cpu_state.specs.Words.{Record, Piece, piece_fits, Speculation, spoken_granted, spoken_kept, same_id, fits_speculative, mark, contents, held, offers, seals, last_called, Counts}
@@ -15,8 +16,9 @@ use Rattle.dspec_deeds.specs.declared.deed.Deed.{Deed}
 use Rattle.dspec_deeds.specs.declared.deed.Deed.TheVariants.{Speculate}
 use Rattle.dspec_deeds.proofs.TestLemmas.{either_way, same_number, number_is_itself, id_is_itself, other_slot}
 use Rattle.dspec_cpu_state.proofs.Drops.{AreDropped}
-use Rattle.dspec_cpu_state.proofs.OfferTallies.{spoken_counts}
-use Rattle.dspec_cpu_state.proofs.Places.{got_set, got_other}
+use Rattle.dspec_cpu_state.proofs.Tallies.{spoken_counts}
+use Rattle.dspec_cpu_state.proofs.Ones.{last_is, one_call}
+use Rattle.dspec_cpu_state.proofs.Places.{got_set, got_other, same_inside, slot_set}
 
 module _ {B : Type 0} (keeps : B → List Piece → Type 0) (capacity : B → ℕ) (shape : ℕ → Option Shape) {k : Config} {c : ℕ} {side : CpuState B} (p : List Deed)
     (was : ShowsList keeps capacity k c p side) (id : Speculation) (r : Record) (mine : Bool)
@@ -34,16 +36,11 @@ module _ {B : Type 0} (keeps : B → List Piece → Type 0) (capacity : B → �
   pub pieces : (if mine then last else []) ≡ map extent.one have
   pieces = ⊎_elim
       (λ (t : mine ≡ true).
-      let m : mark c id.slot p ≡ id.issue + 1 = same_number (mark c id.slot p) (id.issue + 1) (sym caller.marked ∙ t) in
-      let issues : mark c id.slot p - 1 ≡ id.issue = omega arith in
-      let same : last_called c id.slot p ≡ id = λ i. record { issue = issues i; slot = id.slot } in
-      ap (λ b. if b then last else []) t ∙ ap (λ j. map extent.one (contents (held c j p))) same)
+      ap (λ b. if b then last else []) t
+      ∙ ap (λ j. map extent.one (contents (held c j p))) (last_is c id p (same_number (mark c id.slot p) (id.issue + 1) (sym caller.marked ∙ t))))
       (λ (f : mine ≡ false).
       ap (λ b. if b then last else []) f ∙ ap (λ l. map extent.one (contents l)) (sym (caller.empty f)))
       (either_way mine)
-
-  pub buffer_there : (b : B) → b ≡ get_or side.speculative.items (id.slot - 1) b → IsFilledWith keeps capacity k.specsize last b
-  buffer_there b is = was.parts.speculative id.slot b low inside (slice_get-get_or side.speculative.items (id.slot - 1) b (omega arith) ∙ ap Some (sym is))
 
   -- what the buffer answered, and what became of it
   abbrev pub IsGranted : Bool → Vec B → Type 0
@@ -95,8 +92,8 @@ module _ {B : Type 0} (keeps : B → List Piece → Type 0) (capacity : B → �
               let m : mark c s (deed ∷ p) ≡ id.issue + 1 = mark_now s ∙ ap (λ q. if q then id.issue + 1 else mark c s p) y in
               let issues : mark c s (deed ∷ p) - 1 ≡ id.issue = omega arith in
               let it : last_called c s (deed ∷ p) ≡ id = λ i. record { issue = issues i; slot = same i } in
-              let now : contents (held c id (deed ∷ p)) ≡ (if kept then r ∷ have else have) = held_now id ∙ (rw (id_is_itself id) (flat kept)) in
-              let is : b ≡ t.0 = some_is (sym got ∙ (ap (λ l. slice_get l (s - 1)) t.2
+              let now : contents (held c id (deed ∷ p)) ≡ (if kept then r ∷ have else have) = held_now id ∙ (rw (id_is_itself id, and-true kept) refl) in
+              let is : b ≡ t.0 = same_inside (sym got ∙ (ap (λ l. slice_get l (s - 1)) t.2
               ∙ (ap (λ x. slice_get (slice_set side.speculative.items (id.slot - 1) t.0) (x - 1)) same ∙ got_set side.speculative.items (id.slot - 1) t.0 (omega arith)))) in
               subst (λ x. IsFilledWith keeps capacity k.specsize (map extent.one (contents (held c (last_called c s (deed ∷ p)) (deed ∷ p)))) x) (sym is)
               (subst (λ j. IsFilledWith keeps capacity k.specsize (map extent.one (contents (held c j (deed ∷ p)))) t.0) (sym it)
@@ -114,13 +111,6 @@ module _ {B : Type 0} (keeps : B → List Piece → Type 0) (capacity : B → �
               (either_way (s == id.slot)),
         )
       where
-        some_is : {A : Type 0} {x y : A} → Some x ≡ Some y → x ≡ y
-        some_is e = cc (e)
-
-        flat : (b : Bool) → (if b && true then r ∷ have else have) ≡ (if b then r ∷ have else have)
-        flat true = refl
-        flat false = refl
-
         none : (b : Bool) (x y : List Record) → (if b && false then x else y) ≡ y
         none true x y = refl
         none false x y = refl
@@ -131,22 +121,7 @@ module _ {B : Type 0} (keeps : B → List Piece → Type 0) (capacity : B → �
 
     granted_marks : (new : List ℕ) → new ≡ slice_set side.marks (id.slot - 1) (id.issue + 1)
         → (length new ≡ k.nspec) × ((s : ℕ) → 1 ≤ s → s ≤ k.nspec → slice_get new (s - 1) ≡ Some (mark c s (deed ∷ p)))
-    granted_marks new is =
-        let count = was.parts.mark_count in
-        let most = inside in (
-          ap length is ∙ (length-set side.marks (id.slot - 1) (id.issue + 1) ∙ count),
-          λ s one_low one_high. ⊎_elim
-              (λ (y : (s == id.slot) ≡ true).
-              let same = same_number s id.slot y in
-              let set_is = got_set side.marks (id.slot - 1) (id.issue + 1) (omega arith) in
-              ap (λ l. slice_get l (s - 1)) is ∙ (ap (λ x. slice_get (slice_set side.marks (id.slot - 1) (id.issue + 1)) (x - 1)) same ∙ (set_is
-              ∙ ap Some (sym (mark_now s ∙ ap (λ q. if q then id.issue + 1 else mark c s p) y)))))
-              (λ (n : (s == id.slot) ≡ false).
-              let apart : s ≢ id.slot = grind (arith, nat_tests) in
-              ap (λ l. slice_get l (s - 1)) is ∙ (got_other side.marks (id.slot - 1) (s - 1) (id.issue + 1) (omega arith) ∙ (was.parts.marks s one_low one_high
-              ∙ ap Some (sym (mark_now s ∙ ap (λ q. if q then id.issue + 1 else mark c s p) n)))))
-              (either_way (s == id.slot)),
-        )
+    granted_marks new is = slot_set k.nspec id.slot (id.issue + 1) (λ s. mark c s (deed ∷ p)) (λ s. mark c s p) side.marks new low inside was.parts.mark_count was.parts.marks is mark_now
 
     -- the side shows the list with the record in front
     pub granted_shown : (buffers : Vec B) → IsGranted kept buffers → (marks : List ℕ) → marks ≡ slice_set side.marks (id.slot - 1) (id.issue + 1)
@@ -175,6 +150,3 @@ module _ {B : Type 0} (keeps : B → List Piece → Type 0) (capacity : B → �
           };
           counted = plus ∙ (ap (with_spoken f) was.counted ∙ (sym (spoken_counts k c side.counts.worn p id r f) ∙ ap (λ n. counts_of k c n (deed ∷ p)) (sym worn)));
         }
-      where
-        one_call : (x n : ℕ) → n + 1 ≡ n + (if x == x then 1 else 0)
-        one_call x n = rw (number_is_itself x) refl

@@ -1,7 +1,6 @@
 pub mod Places
 pub mod Ones
 pub mod Starts
-pub mod OfferTallies
 pub mod Tallies
 pub mod Quiet
 pub mod Drops

@@ -1,11 +1,12 @@
 -- A list of records as a list of pieces, and a cell of a list.
-use Rattle.std.proofs.Common.{◌≡◌, ℕ, ◌+◌, ◌-◌, Bool, true, false, List, [], ◌∷◌, set, map, Option, Some, if◌then◌else◌, refl, sym, ap, ◌∙◌, arith}
+use Rattle.std.proofs.Common.{◌≡◌, ℕ, ◌+◌, ◌-◌, ◌==◌, Bool, true, false, List, [], ◌∷◌, set, map, Option, Some, if◌then◌else◌, refl, sym, ap, ◌∙◌, arith}
 use Rattle.std.specs.Prelude.{slice_get}
 use Rattle.std.proofs.lemmas.Option.{get_or_from_slice_get}
 use Rattle.std.proofs.lemmas.List.{set-get_or}
 use Rattle.dspec_cpu_state.specs.Words.{Record, one, records, extent, extent_of_records, reserved, align_of, size_of, Speculation, mark, contents, held, last_called}
 use Rattle.dspec_record.specs.declared.field.Shape.{Shape}
 use Rattle.dspec_deeds.specs.declared.deed.Deed.{Deed}
+use Rattle.dspec_deeds.proofs.TestLemmas.{number_is_itself}
 
 pub extent_ones : (shape : ℕ → Option Shape) (rs : List Record) → extent shape (map one rs) ≡ extent_of_records shape rs
 extent_ones shape [] = refl
@@ -26,3 +27,7 @@ pub mine_last : (c : ℕ) (id : Speculation) (p : List Deed) (mine : Bool) → (
     → (if mine then contents (held c (last_called c id.slot p) p) else []) ≡ (if mine then contents (held c id p) else [])
 mine_last c id p true m = ap (λ j. contents (held c j p)) (last_is c id p (m refl))
 mine_last c id p false m = refl
+
+-- a call of the CPU's own is one more
+pub one_call : (c n : ℕ) → n + 1 ≡ n + (if c == c then 1 else 0)
+one_call c n = rw (number_is_itself c) refl

@@ -8,7 +8,7 @@ use Rattle.dspec_deeds.specs.declared.deed.TraceFate.TheVariants as traced
 use Rattle.dspec_deeds.specs.declared.deed.SpeculateFate.TheVariants as spoken
 use Rattle.dspec_deeds.specs.declared.deed.DecideFate.TheVariants as decided
 use Rattle.dspec_deeds.specs.declared.deed.Deed.{Deed}
-use Rattle.dspec_deeds.specs.declared.deed.Deed.TheVariants.{Trace, Scan, Opened, Miss, Speculate, Commit, Discard, Settle, Seal, Release, Halt}
+use Rattle.dspec_deeds.specs.declared.deed.Deed.TheVariants.{Trace, Speculate, Commit, Discard, Settle, Seal}
 
 abbrev pub quiet : Deed → Bool
 quiet (Trace a r f) = not (trace_kept f)
@@ -35,29 +35,14 @@ still c p = add-zero (seals c p)
 
 pub leaves : (c : ℕ) (d : Deed) (p : List Deed) → quiet d ≡ true → Leaves c d p
 leaves c (Trace a r traced.Kept) p e = no e
-leaves c (Trace a r traced.Dropped) p e = record { marks = λ s. refl; acks = λ s. refl; holds = λ id. refl; drops = λ id. refl; principal = refl; sealing = still c p }
-leaves c (Trace a r traced.Stopped) p e = record { marks = λ s. refl; acks = λ s. refl; holds = λ id. refl; drops = λ id. refl; principal = refl; sealing = still c p }
-leaves c (Scan a b) p e = record { marks = λ s. refl; acks = λ s. refl; holds = λ id. refl; drops = λ id. refl; principal = refl; sealing = still c p }
-leaves c (Opened a id) p e = record { marks = λ s. refl; acks = λ s. refl; holds = λ id. refl; drops = λ id. refl; principal = refl; sealing = still c p }
-leaves c (Miss a s b) p e = record { marks = λ s. refl; acks = λ s. refl; holds = λ id. refl; drops = λ id. refl; principal = refl; sealing = still c p }
 leaves c (Speculate a id r spoken.Kept) p e = no e
 leaves c (Speculate a id r spoken.Dropped) p e = no e
-leaves c (Speculate a id r spoken.Void) p e = record { marks = λ s. refl; acks = λ s. refl; holds = λ id. refl; drops = λ id. refl; principal = refl; sealing = still c p }
-leaves c (Speculate a id r spoken.Stopped) p e = record { marks = λ s. refl; acks = λ s. refl; holds = λ id. refl; drops = λ id. refl; principal = refl; sealing = still c p }
 leaves c (Commit a id (decided.Copied n)) p e = no e
 leaves c (Commit a id (decided.Lost n)) p e = no e
-leaves c (Commit a id (decided.Thrown n)) p e = record { marks = λ s. refl; acks = λ s. refl; holds = λ id. refl; drops = λ id. refl; principal = refl; sealing = still c p }
-leaves c (Commit a id decided.Void) p e = record { marks = λ s. refl; acks = λ s. refl; holds = λ id. refl; drops = λ id. refl; principal = refl; sealing = still c p }
-leaves c (Commit a id decided.Stopped) p e = record { marks = λ s. refl; acks = λ s. refl; holds = λ id. refl; drops = λ id. refl; principal = refl; sealing = still c p }
 leaves c (Discard a id (decided.Thrown n)) p e = no e
-leaves c (Discard a id (decided.Copied n)) p e = record { marks = λ s. refl; acks = λ s. refl; holds = λ id. refl; drops = λ id. refl; principal = refl; sealing = still c p }
-leaves c (Discard a id (decided.Lost n)) p e = record { marks = λ s. refl; acks = λ s. refl; holds = λ id. refl; drops = λ id. refl; principal = refl; sealing = still c p }
-leaves c (Discard a id decided.Void) p e = record { marks = λ s. refl; acks = λ s. refl; holds = λ id. refl; drops = λ id. refl; principal = refl; sealing = still c p }
-leaves c (Discard a id decided.Stopped) p e = record { marks = λ s. refl; acks = λ s. refl; holds = λ id. refl; drops = λ id. refl; principal = refl; sealing = still c p }
 leaves c (Settle a id f) p e = no e
 leaves c (Seal a) p e = no e
-leaves c (Release s) p e = record { marks = λ s. refl; acks = λ s. refl; holds = λ id. refl; drops = λ id. refl; principal = refl; sealing = still c p }
-leaves c Halt p e = record { marks = λ s. refl; acks = λ s. refl; holds = λ id. refl; drops = λ id. refl; principal = refl; sealing = still c p }
+leaves c d p e = record { marks = λ s. refl; acks = λ s. refl; holds = λ id. refl; drops = λ id. refl; principal = refl; sealing = still c p }
 
 module _ {B : Type 0} (keeps : B → List Piece → Type 0) (capacity : B → ℕ) {k : Config} {c : ℕ} {side : CpuState B} (p : List Deed) (was : ShowsList keeps capacity k c p side) where
   -- what shows the list shows it with such a deed in front, once numbers and counts are those of the longer list

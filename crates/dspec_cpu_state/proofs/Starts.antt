@@ -38,6 +38,5 @@ zero_count n xs e = ap length e ∙ length-replicate n 0
 
 -- at each place of a list of zeros stands 0, and behind it too
 pub zero_everywhere : (n s : ℕ) → get_or (replicate {A = ℕ} n 0) s 0 ≡ 0
-zero_everywhere zero s = refl
-zero_everywhere (suc n) zero = refl
 zero_everywhere (suc n) (suc s) = zero_everywhere n s
+zero_everywhere n s = refl

@@ -1,12 +1,33 @@
--- What a decision, a settlement and a release add to the counts; how drops are counted.
-use Rattle.std.proofs.Common.{◌≡◌, ℕ, ◌+◌, ◌≤◌, Bool, true, false, List, [], ◌∷◌, ◌++◌, if◌then◌else◌, arith, add-zero, true≢false}
-use Rattle.dspec_cpu_state.specs.Words.{Speculation, is_commit, is_discard, decided_stopped, empty_batch, growing, is_drop, seals_now, accepts, total, one_if, Counts, counts_of, with_decided}
+-- What an offer to a speculation, a decision, a settlement and a release add to the counts; how drops are counted.
+use Rattle.std.proofs.Common.{◌≡◌, ℕ, ◌+◌, ◌≤◌, Bool, true, false, List, [], ◌∷◌, ◌++◌, if◌then◌else◌, arith, refl, add-zero, true≢false}
+use Rattle.dspec_cpu_state.specs.Words.{Record, Speculation, is_commit, is_discard, decided_stopped, empty_batch, growing, is_drop, seals_now, accepts, total, one_if, Counts, counts_of}
+use Rattle.dspec_cpu_state.specs.Words.{with_decided, with_spoken}
 use Rattle.dspec_deeds.specs.declared.config.Config.{Config}
 use Rattle.dspec_deeds.specs.declared.deed.DecideFate.{DecideFate}
 use Rattle.dspec_deeds.specs.declared.deed.DecideFate.TheVariants as decided
+use Rattle.dspec_deeds.specs.declared.deed.SpeculateFate.{SpeculateFate}
+use Rattle.dspec_deeds.specs.declared.deed.SpeculateFate.TheVariants as spoken
 use Rattle.dspec_deeds.specs.declared.deed.Deed.{Deed}
-use Rattle.dspec_deeds.specs.declared.deed.Deed.TheVariants.{Commit, Discard, Settle, Release}
+use Rattle.dspec_deeds.specs.declared.deed.Deed.TheVariants.{Speculate, Commit, Discard, Settle, Release}
 use Rattle.dspec_deeds.proofs.TestLemmas.{number_is_itself}
+
+-- counts are the same, number by number
+pub same_counts : {n m : Counts} → n.offered ≡ m.offered → n.accepted ≡ m.accepted → n.dropped ≡ m.dropped → n.specdropped ≡ m.specdropped → n.lost ≡ m.lost → n.discarded ≡ m.discarded
+    → n.void ≡ m.void → n.drops ≡ m.drops → n.unavailable ≡ m.unavailable → n.busy ≡ m.busy → n.stopped ≡ m.stopped → n.worn ≡ m.worn → n ≡ m
+same_counts offered accepted dropped specdropped lost discarded void drops unavailable busy stopped worn = λ i. record {
+  offered = offered i;
+  accepted = accepted i;
+  dropped = dropped i;
+  specdropped = specdropped i;
+  lost = lost i;
+  discarded = discarded i;
+  void = void i;
+  drops = drops i;
+  unavailable = unavailable i;
+  busy = busy i;
+  stopped = stopped i;
+  worn = worn i;
+}
 
 module _ (k : Config) (c w : ℕ) (p : List Deed) where
   abbrev n : Counts
@@ -14,193 +35,31 @@ module _ (k : Config) (c w : ℕ) (p : List Deed) where
 
   -- a commit is never thrown
   pub commit_counts : (id : Speculation) (f : DecideFate) → is_discard f ≡ false → counts_of k c w (Commit c id f ∷ p) ≡ with_decided f n
-  commit_counts id (decided.Copied m) lawful =
-      rw (number_is_itself c) (λ i. record n {
-        offered = add-zero n.offered i;
-        accepted = n.accepted + m;
-        dropped = add-zero n.dropped i;
-        specdropped = add-zero n.specdropped
-            i;
-        lost = n.lost + 0;
-        discarded = n.discarded + 0;
-        void = add-zero n.void i;
-        drops = n.drops + 0;
-        unavailable = add-zero n.unavailable i;
-        busy = add-zero n.busy i;
-        stopped = n.stopped + 0;
-      })
-  commit_counts id (decided.Lost m) lawful =
-      rw (number_is_itself c) (λ i. record n {
-        offered = add-zero n.offered i;
-        accepted = n.accepted + 0;
-        dropped = add-zero n.dropped i;
-        specdropped = add-zero n.specdropped
-            i;
-        lost = n.lost + m;
-        discarded = n.discarded + 0;
-        void = add-zero n.void i;
-        drops = n.drops + 1;
-        unavailable = add-zero n.unavailable i;
-        busy = add-zero n.busy i;
-        stopped = n.stopped + 0;
-      })
   commit_counts id (decided.Thrown m) lawful = absurd (true≢false lawful)
-  commit_counts id decided.Void lawful = λ i. record n {
-    offered = add-zero n.offered i;
-    accepted = n.accepted + 0;
-    dropped = add-zero n.dropped i;
-    specdropped = add-zero n.specdropped i;
-    lost = n.lost + 0;
-    discarded = n.discarded + 0;
-    void = add-zero n.void i;
-    drops = n.drops + 0;
-    unavailable = add-zero n.unavailable i;
-    busy = add-zero n.busy i;
-    stopped = n.stopped + 0;
-  }
-  commit_counts id decided.Stopped lawful =
-      rw (number_is_itself c) (λ i. record n {
-        offered = add-zero n.offered i;
-        accepted = n.accepted + 0;
-        dropped = add-zero n.dropped i;
-        specdropped = add-zero n.specdropped
-            i;
-        lost = n.lost + 0;
-        discarded = n.discarded + 0;
-        void = add-zero n.void i;
-        drops = n.drops + 0;
-        unavailable = add-zero n.unavailable i;
-        busy = add-zero n.busy i;
-        stopped = n.stopped + 1;
-      })
+  commit_counts id decided.Void lawful = same_counts (add-zero _) refl (add-zero _) (add-zero _) refl refl (add-zero _) refl (add-zero _) (add-zero _) refl refl
+  commit_counts id f lawful = rw (number_is_itself c) (same_counts (add-zero _) refl (add-zero _) (add-zero _) refl refl (add-zero _) refl (add-zero _) (add-zero _) refl refl)
 
   -- and a discard never a commit
   pub discard_counts : (id : Speculation) (f : DecideFate) → is_commit f ≡ false → counts_of k c w (Discard c id f ∷ p) ≡ with_decided f n
   discard_counts id (decided.Copied m) lawful = absurd (true≢false lawful)
   discard_counts id (decided.Lost m) lawful = absurd (true≢false lawful)
-  discard_counts id (decided.Thrown m) lawful =
-      rw (number_is_itself c) (λ i. record n {
-        offered = add-zero n.offered i;
-        accepted = n.accepted + 0;
-        dropped = add-zero n.dropped i;
-        specdropped = add-zero n.specdropped
-            i;
-        lost = n.lost + 0;
-        discarded = n.discarded + m;
-        void = add-zero n.void i;
-        drops = n.drops + 0;
-        unavailable = add-zero n.unavailable i;
-        busy = add-zero n.busy i;
-        stopped = n.stopped + 0;
-      })
-  discard_counts id decided.Void lawful = λ i. record n {
-    offered = add-zero n.offered i;
-    accepted = n.accepted + 0;
-    dropped = add-zero n.dropped i;
-    specdropped = add-zero n.specdropped i;
-    lost = n.lost + 0;
-    discarded = n.discarded + 0;
-    void = add-zero n.void i;
-    drops = n.drops + 0;
-    unavailable = add-zero n.unavailable i;
-    busy = add-zero n.busy i;
-    stopped = n.stopped + 0;
-  }
-  discard_counts id decided.Stopped lawful =
-      rw (number_is_itself c) (λ i. record n {
-        offered = add-zero n.offered i;
-        accepted = n.accepted + 0;
-        dropped = add-zero n.dropped i;
-        specdropped = add-zero n.specdropped
-            i;
-        lost = n.lost + 0;
-        discarded = n.discarded + 0;
-        void = add-zero n.void i;
-        drops = n.drops + 0;
-        unavailable = add-zero n.unavailable i;
-        busy = add-zero n.busy i;
-        stopped = n.stopped + 1;
-      })
+  discard_counts id decided.Void lawful = same_counts (add-zero _) refl (add-zero _) (add-zero _) refl refl (add-zero _) refl (add-zero _) (add-zero _) refl refl
+  discard_counts id f lawful = rw (number_is_itself c) (same_counts (add-zero _) refl (add-zero _) (add-zero _) refl refl (add-zero _) refl (add-zero _) (add-zero _) refl refl)
 
   -- a settlement is never stopped
   pub settle_counts : (id : Speculation) (f : DecideFate) → decided_stopped f ≡ false → counts_of k c w (Settle c id f ∷ p) ≡ with_decided f n
-  settle_counts id (decided.Copied m) lawful =
-      rw (number_is_itself c) (λ i. record n {
-        offered = add-zero n.offered i;
-        accepted = n.accepted + m;
-        dropped = add-zero n.dropped i;
-        specdropped = add-zero n.specdropped
-            i;
-        lost = n.lost + 0;
-        discarded = n.discarded + 0;
-        void = add-zero n.void i;
-        drops = n.drops + 0;
-        unavailable = add-zero n.unavailable i;
-        busy = add-zero n.busy i;
-        stopped = n.stopped + 0;
-      })
-  settle_counts id (decided.Lost m) lawful =
-      rw (number_is_itself c) (λ i. record n {
-        offered = add-zero n.offered i;
-        accepted = n.accepted + 0;
-        dropped = add-zero n.dropped i;
-        specdropped = add-zero n.specdropped
-            i;
-        lost = n.lost + m;
-        discarded = n.discarded + 0;
-        void = add-zero n.void i;
-        drops = n.drops + 1;
-        unavailable = add-zero n.unavailable i;
-        busy = add-zero n.busy i;
-        stopped = n.stopped + 0;
-      })
-  settle_counts id (decided.Thrown m) lawful =
-      rw (number_is_itself c) (λ i. record n {
-        offered = add-zero n.offered i;
-        accepted = n.accepted + 0;
-        dropped = add-zero n.dropped i;
-        specdropped = add-zero n.specdropped
-            i;
-        lost = n.lost + 0;
-        discarded = n.discarded + m;
-        void = add-zero n.void i;
-        drops = n.drops + 0;
-        unavailable = add-zero n.unavailable i;
-        busy = add-zero n.busy i;
-        stopped = n.stopped + 0;
-      })
-  settle_counts id decided.Void lawful = λ i. record n {
-    offered = add-zero n.offered i;
-    accepted = n.accepted + 0;
-    dropped = add-zero n.dropped i;
-    specdropped = add-zero n.specdropped i;
-    lost = n.lost + 0;
-    discarded = n.discarded + 0;
-    void = add-zero n.void i;
-    drops = n.drops + 0;
-    unavailable = add-zero n.unavailable i;
-    busy = add-zero n.busy i;
-    stopped = n.stopped + 0;
-  }
   settle_counts id decided.Stopped lawful = absurd (true≢false lawful)
+  settle_counts id decided.Void lawful = same_counts (add-zero _) refl (add-zero _) (add-zero _) refl refl (add-zero _) refl (add-zero _) (add-zero _) refl refl
+  settle_counts id f lawful = rw (number_is_itself c) (same_counts (add-zero _) refl (add-zero _) (add-zero _) refl refl (add-zero _) refl (add-zero _) (add-zero _) refl refl)
+
+  -- an offer to a speculation
+  pub spoken_counts : (id : Speculation) (r : Record) (f : SpeculateFate) → counts_of k c w (Speculate c id r f ∷ p) ≡ with_spoken f n
+  spoken_counts id r spoken.Kept = rw (number_is_itself c) (same_counts refl (add-zero _) (add-zero _) refl (add-zero _) (add-zero _) refl (add-zero _) (add-zero _) (add-zero _) refl refl)
+  spoken_counts id r f = rw (number_is_itself c) (same_counts refl (add-zero _) (add-zero _) refl (add-zero _) (add-zero _) refl (add-zero _) (add-zero _) (add-zero _) refl refl)
 
   -- a release counts nothing
   pub released_counts : (s : ℕ) → counts_of k c w (Release s ∷ p) ≡ n
-  released_counts s = λ i. record n {
-    offered = add-zero n.offered i;
-    accepted = add-zero n.accepted i;
-    dropped = add-zero n.dropped i;
-    specdropped = add-zero n.specdropped
-        i;
-    lost = add-zero n.lost i;
-    discarded = add-zero n.discarded i;
-    void = add-zero n.void i;
-    drops = add-zero n.drops i;
-    unavailable = add-zero n.unavailable i;
-    busy =
-        add-zero n.busy i;
-    stopped = add-zero n.stopped i;
-  }
+  released_counts s = same_counts (add-zero _) (add-zero _) (add-zero _) (add-zero _) (add-zero _) (add-zero _) (add-zero _) (add-zero _) (add-zero _) (add-zero _) (add-zero _) refl
 
 -- the drops since the last Seal are among all drops
 pub drops_since : (c : ℕ) (p : List Deed) → (growing c p).drops ≤ total (λ d. one_if (is_drop c d)) p

@@ -1,5 +1,5 @@
 -- A call that decided nothing, and a record that was granted nothing.
-use Rattle.std.proofs.Common.{◌≡◌, ℕ, ◌+◌, ◌==◌, ◌||◌, false, List, ◌∷◌, if◌then◌else◌, refl, sym, ap, ◌∙◌, add-zero, true≢false}
+use Rattle.std.proofs.Common.{◌≡◌, ℕ, ◌+◌, ◌||◌, false, List, ◌∷◌, refl, sym, ap, ◌∙◌, add-zero, true≢false}
 use Rattle.dspec_cpu_state.specs.Words.{Record, Piece, Speculation, is_commit, is_discard, spoken_granted, Counts, CpuState, counts_of, with_decided, with_spoken, ShowsList}
 use Rattle.dspec_deeds.specs.declared.config.Config.{Config}
 use Rattle.dspec_deeds.specs.declared.deed.DecideFate.{DecideFate}
@@ -8,13 +8,9 @@ use Rattle.dspec_deeds.specs.declared.deed.SpeculateFate.{SpeculateFate}
 use Rattle.dspec_deeds.specs.declared.deed.SpeculateFate.TheVariants as spoken
 use Rattle.dspec_deeds.specs.declared.deed.Deed.{Deed}
 use Rattle.dspec_deeds.specs.declared.deed.Deed.TheVariants.{Speculate, Commit, Discard}
-use Rattle.dspec_deeds.proofs.TestLemmas.{number_is_itself}
-use Rattle.dspec_cpu_state.proofs.OfferTallies.{spoken_counts}
-use Rattle.dspec_cpu_state.proofs.Tallies.{commit_counts, discard_counts}
+use Rattle.dspec_cpu_state.proofs.Ones.{one_call}
+use Rattle.dspec_cpu_state.proofs.Tallies.{commit_counts, discard_counts, spoken_counts}
 use Rattle.dspec_cpu_state.proofs.Quiet.{quiet_shown}
-
-one_call : (c n : ℕ) → n + 1 ≡ n + (if c == c then 1 else 0)
-one_call c n = rw (number_is_itself c) refl
 
 module _ {B : Type 0} (keeps : B → List Piece → Type 0) (capacity : B → ℕ) {k : Config} {c : ℕ} {side : CpuState B} (p : List Deed) (was : ShowsList keeps capacity k c p side)
     (id : Speculation) (now : Counts) where
@@ -29,38 +25,23 @@ module _ {B : Type 0} (keeps : B → List Piece → Type 0) (capacity : B → �
   commit_left (decided.Copied n) e plus = absurd (true≢false e)
   commit_left (decided.Lost n) e plus = absurd (true≢false e)
   commit_left (decided.Thrown n) e plus = absurd (true≢false e)
-  commit_left decided.Void e plus =
-      quiet_shown keeps capacity p was (Commit c id decided.Void) refl (side.calls + 1) side.missed_busy side.drops now
+  commit_left f e plus = quiet_shown keeps capacity p was (Commit c id f) refl (side.calls + 1) side.missed_busy side.drops now
       (ap (λ n. n + 1) was.parts.called ∙ one_call c _) was.parts.missed (was.parts.drops ∙ sym (add-zero _))
-      (counted (Commit c id decided.Void) (with_decided decided.Void) (λ n. refl) plus (commit_counts k c side.counts.worn p id decided.Void refl))
-  commit_left decided.Stopped e plus =
-      quiet_shown keeps capacity p was (Commit c id decided.Stopped) refl (side.calls + 1) side.missed_busy side.drops now
-      (ap (λ n. n + 1) was.parts.called ∙ one_call c _) was.parts.missed (was.parts.drops ∙ sym (add-zero _))
-      (counted (Commit c id decided.Stopped) (with_decided decided.Stopped) (λ n. refl) plus (commit_counts k c side.counts.worn p id decided.Stopped refl))
+      (counted (Commit c id f) (with_decided f) (λ n. refl) plus (commit_counts k c side.counts.worn p id f refl))
 
   pub discard_left : (f : DecideFate) → (is_commit f || is_discard f) ≡ false → now ≡ with_decided f side.counts
       → ShowsList keeps capacity k c (Discard c id f ∷ p) (record side { calls = side.calls + 1; counts = now })
   discard_left (decided.Copied n) e plus = absurd (true≢false e)
   discard_left (decided.Lost n) e plus = absurd (true≢false e)
   discard_left (decided.Thrown n) e plus = absurd (true≢false e)
-  discard_left decided.Void e plus =
-      quiet_shown keeps capacity p was (Discard c id decided.Void) refl (side.calls + 1) side.missed_busy side.drops now
+  discard_left f e plus = quiet_shown keeps capacity p was (Discard c id f) refl (side.calls + 1) side.missed_busy side.drops now
       (ap (λ n. n + 1) was.parts.called ∙ one_call c _) was.parts.missed (was.parts.drops ∙ sym (add-zero _))
-      (counted (Discard c id decided.Void) (with_decided decided.Void) (λ n. refl) plus (discard_counts k c side.counts.worn p id decided.Void refl))
-  discard_left decided.Stopped e plus =
-      quiet_shown keeps capacity p was (Discard c id decided.Stopped) refl (side.calls + 1) side.missed_busy side.drops now
-      (ap (λ n. n + 1) was.parts.called ∙ one_call c _) was.parts.missed (was.parts.drops ∙ sym (add-zero _))
-      (counted (Discard c id decided.Stopped) (with_decided decided.Stopped) (λ n. refl) plus (discard_counts k c side.counts.worn p id decided.Stopped refl))
+      (counted (Discard c id f) (with_decided f) (λ n. refl) plus (discard_counts k c side.counts.worn p id f refl))
 
   pub spoken_left : (r : Record) (f : SpeculateFate) → spoken_granted f ≡ false → now ≡ with_spoken f side.counts
       → ShowsList keeps capacity k c (Speculate c id r f ∷ p) (record side { calls = side.calls + 1; counts = now })
   spoken_left r spoken.Kept e plus = absurd (true≢false e)
   spoken_left r spoken.Dropped e plus = absurd (true≢false e)
-  spoken_left r spoken.Void e plus =
-      quiet_shown keeps capacity p was (Speculate c id r spoken.Void) refl (side.calls + 1) side.missed_busy side.drops now
+  spoken_left r f e plus = quiet_shown keeps capacity p was (Speculate c id r f) refl (side.calls + 1) side.missed_busy side.drops now
       (ap (λ n. n + 1) was.parts.called ∙ one_call c _) was.parts.missed (was.parts.drops ∙ sym (add-zero _))
-      (counted (Speculate c id r spoken.Void) (with_spoken spoken.Void) (λ n. refl) plus (spoken_counts k c side.counts.worn p id r spoken.Void))
-  spoken_left r spoken.Stopped e plus =
-      quiet_shown keeps capacity p was (Speculate c id r spoken.Stopped) refl (side.calls + 1) side.missed_busy side.drops now
-      (ap (λ n. n + 1) was.parts.called ∙ one_call c _) was.parts.missed (was.parts.drops ∙ sym (add-zero _))
-      (counted (Speculate c id r spoken.Stopped) (with_spoken spoken.Stopped) (λ n. refl) plus (spoken_counts k c side.counts.worn p id r spoken.Stopped))
+      (counted (Speculate c id r f) (with_spoken f) (λ n. refl) plus (spoken_counts k c side.counts.worn p id r f))

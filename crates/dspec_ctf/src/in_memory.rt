@@ -15,6 +15,6 @@ mod scratch;
 
 pub use cpu_packets::CpuPackets;
 pub use fault::{PutFault, TextFault};
-pub use identity::Identity;
+pub use identity::TraceIdentity;
 pub use metadata::put_metadata;
 pub use packet::Packet;

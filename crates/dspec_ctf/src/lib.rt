@@ -12,7 +12,7 @@
 //! | `rows.rt` | `Rows`: a CPU's files in a trace by time that is written while it runs; the runs of a batch, the packets of one, what tells what was missed |
 //! | `filled.rt` | packets of 1,024 bytes, of files that are written while a session runs; those of a batch as taken |
 //! | `records.rt`, `laws.rt`, `fault.rt` | packets of records in memory; the laws; the faults |
-//! | `in_memory.rt`, `in_memory/` | traces by time for a program that writes its files itself: `CpuPackets` and its batches, `Packet`, `Identity`, `put_metadata`; their law and faults |
+//! | `in_memory.rt`, `in_memory/` | traces by time for a program that writes its files itself: `CpuPackets` and its batches, `Packet`, `TraceIdentity`, `put_metadata`; their law and faults |
 //! | `specs/InMemory/` | Filing (what is known of a CPU's files), Calls (what each call makes of it), Batches (all packets of one), Naming (the metadata by plain bytes and numbers) |
 //! | `specs/`: Packets, Streams, ByTime, Filled, Rows, Metadata, Names | the bytes; which packet is a batch's and why there is none; a CPU's packets by time; packets of 1,024 bytes; which file each record goes to; the text; the first thing that is wrong with names or a form |
 //! | `proofs/` | Sizes (what an event has at the most), Collecting (one text more), Filling (records shared out to packets of 1,024 bytes), Ranges (a loop that writes a piece each), Lines, OneList, Spreading (records go to files), Rising (what the files have then), Texts |
@@ -39,7 +39,7 @@ pub use by_time::TimeFault;
 pub use dspec_probe::{Kind, ProbeNames};
 pub use fault::{MetadataFault, NameFault, NameKind};
 pub use form::Form;
-pub use in_memory::{CpuPackets, Identity, Packet, PutFault, TextFault, put_metadata};
+pub use in_memory::{CpuPackets, Packet, PutFault, TextFault, TraceIdentity, put_metadata};
 pub use names::Names;
 pub use origin::{ClockStart, Origin, Process};
 pub use records::first_refused;

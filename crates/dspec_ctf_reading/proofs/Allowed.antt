@@ -1,14 +1,15 @@
 -- Names that the metadata may have can be read.
-use Rattle.std.proofs.Common.{◌≡◌, ◌≤◌, ◌<◌, ◌+◌, ◌-◌, ◌*◌, ◌^◌, ◌==◌, ◌++◌, ◌∷◌, ℕ, Bool, true, false, inl, List, [], length, drop, replicate}
+use Rattle.std.proofs.lemmas.Bool.Decides.{nat_tests}
+use Rattle.std.proofs.Common.{◌≡◌, ◌≤◌, ◌<◌, ◌+◌, ◌-◌, ◌^◌, ◌==◌, ◌++◌, ◌∷◌, ℕ, Bool, true, false, inl, List, [], length, drop}
 use Rattle.std.proofs.Common.{map, Option, Some, None, option_map, refl, ap, sym, subst, ◌∙◌, arith, All}
 use Rattle.std.specs.Prelude.{option_and_then, slice_get, slice_index_or, codes, decimal}
 use Rattle.std.specs.Option.{option_map_or}
 use Rattle.std.specs.List.{range_with_len, enumerate_from}
 use Rattle.std.proofs.lemmas.Bool.{eqb-true}
-use Rattle.dspec_ctf_reading.specs.Words.{width, EnabledRows, is_next, next_words, name_place, event_fields, type_name, labelled_type, typed_line, text_line, words_at, next_in_front, kind_line}
-use Rattle.dspec_ctf_reading.specs.Words.{field_line, given_line, given_lines, event_name, field_lines, earlier, first_found, first_bad, has_stamp, labels_at, first_bad_label, label_fault_at}
-use Rattle.dspec_ctf_reading.specs.Words.{labels_fault, fields_fault, is_text_before, can_mean, text_fault_at, texts_fault, fault_at, events_fault, names_fault, form_fault, metadata_fault}
-use Rattle.dspec_ctf_reading.specs.Words.{process_fault, origin_fault, FieldLayout, is_digit, is_word, names_by, given_name, given_for, HasNumbers}
+use Rattle.dspec_ctf_reading.specs.Words.{width, EnabledRows, is_next, next_words, name_place, event_fields, type_name, labelled_type, typed_line, words_at, next_in_front, kind_line, field_line}
+use Rattle.dspec_ctf_reading.specs.Words.{given_line, given_lines, event_name, field_lines, earlier, first_found, first_bad, has_stamp, labels_at, first_bad_label, label_fault_at, labels_fault}
+use Rattle.dspec_ctf_reading.specs.Words.{fields_fault, is_text_before, can_mean, text_fault_at, texts_fault, fault_at, events_fault, names_fault, form_fault, metadata_fault, process_fault}
+use Rattle.dspec_ctf_reading.specs.Words.{origin_fault, FieldLayout, is_digit, is_word, names_by, given_name, given_for, HasNumbers}
 use Rattle.dspec_record.specs.declared.field.Field.{Field}
 use Rattle.dspec_record.specs.declared.field.Field.TheVariants.{One}
 use Rattle.dspec_probe.specs.declared.kind.Kind.{Kind}
@@ -24,14 +25,11 @@ use Rattle.dspec_ctf.specs.declared.fault.MetadataFault.TheVariants.{Name}
 use Rattle.dspec_ctf.specs.declared.form.Form.{Form}
 use Rattle.dspec_ctf_reading.proofs.Lines.{IsWordy, IsPiece, joined-map, AreLines-map, typed-line, text-line}
 use Rattle.dspec_ctf_reading.proofs.FieldTypes.{IsQuotable, type-back, kind-back, no-text-type, no-text-name}
-use Rattle.dspec_ctf_reading.proofs.TextWords.{next-text, CanMean, text-within, first-none, flat, flat-ones, shape_at, piece_by, piece_at}
+use Rattle.dspec_ctf_reading.proofs.TextWords.{next-text, CanMean, text-within, first-none, flat, flat-ones, shape_at, piece_by, piece_at, AreFit, run-none, flat-pieces, are-fit, words-few}
 use Rattle.dspec_ctf_reading.proofs.NextWords.{kind_of, name-same, name-within}
-use Rattle.dspec_ctf_reading.proofs.TextWords.{AreFit, run-none, flat-pieces, are-fit, words-few}
 use Rattle.dspec_ctf_reading.proofs.Texts.{IsTold}
 use Rattle.dspec_ctf_reading.proofs.Headings.{IsShown}
-use Rattle.dspec_ctf_reading.proofs.AllowedWords.{earlier-none, get-some, index-map}
-use Rattle.dspec_ctf_reading.proofs.AllowedWords.{labels-fit, map-long, map-none, names-fit, none-found, then-none, wordy-quotable}
-use Rattle.dspec_ctf_reading.proofs.AllowedWords.{shown, numbered-wordy}
+use Rattle.dspec_ctf_reading.proofs.AllowedWords.{earlier-none, get-some, index-map, labels-fit, map-long, map-none, names-fit, none-found, then-none, wordy-quotable, shown, numbered-wordy}
 
 -- numbered names
 numbered-told : (e : EnabledRows) (place : ℕ) → place + 1 < 2 ^ 64 → length (event_fields e (place + 1)) ≤ 8 → IsTold e Numbered place
@@ -104,9 +102,7 @@ kind-piece : (n : ProbeNames) (k : ℕ) (f : Field) (kind : Kind) (name : List �
     → (is_next kind ≡ false → IsWordy name × (All IsQuotable (labels_at n (name_place n.kinds k)) × (length (labels_at n (name_place n.kinds k)) ≤ 2 ^ 64)))
     → words_at n k ≤ 8 → given_name n k ≡ name → IsPiece (kind_line n k f kind name) (piece_by n.kinds (given_name n) kind (k, f))
 kind-piece n k f TextNext name fit few is = inl (refl, refl)
-kind-piece n k f Text name fit few is =
-    subst (λ called. IsPiece (text_line (8 * words_at n k) name) (replicate (words_at n k) (record { name = called; width = 8 }))) (sym is)
-    (text-line name (words_at n k) (fit refl).0 (omega arith) few)
+kind-piece n k f Text name fit few is = grind (arith, nat_tests, IsPiece, text-line)
 kind-piece n k f Unsigned name fit few is =
     let labels : List (List ℕ) = labels_at n (name_place n.kinds k) in
     subst (λ called. IsPiece (typed_line (labelled_type Unsigned labels f) name) (record { name = called; width = width f } ∷ [])) (sym is)

@@ -1,4 +1,5 @@
 -- Words, identifiers and labels that the metadata may have can be read.
+use Rattle.std.proofs.lemmas.Bool.Decides.{nat_tests}
 use Rattle.std.proofs.Common.{◌≡◌, ◌≢◌, ◌≤◌, ◌<◌, ◌+◌, ◌&&◌, ◌||◌, ◌==◌, ◌⊎◌, inl, inr, ℕ, zero, suc, Bool, true, false, cond, leb, not}
 use Rattle.std.proofs.Common.{List, [], ◌∷◌, length, map, take, Option, Some, None, option_map, refl, ap, subst, arith, All, ◌-◌, ◌^◌, ◌++◌, ◌∙◌, length-append}
 use Rattle.std.specs.Prelude.{slice_get, slice_index_or, option_and_then, decimal}
@@ -70,9 +71,7 @@ quoted-of b low high other =
     (not_from_false _ (or_from _ _ (ne_eqb b 34 (λ same. omega (arith, same, low))) (ne_eqb b 92 other)))
 
 between : (low high b : ℕ) → (leb low b && leb b high) ≡ true → (low ≤ b) × (b ≤ high)
-between low high b is =
-    let parts = and_parts (leb low b) (leb b high) is in
-    (leb-true low b parts.0, leb-true b high parts.1)
+between low high b is = grind (arith, nat_tests, and_parts, leb-true)
 
 digit-quoted : (b : ℕ) → is_digit b ≡ true → is_quoted b ≡ true
 unfolding is_digit

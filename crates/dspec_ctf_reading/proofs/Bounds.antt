@@ -2,32 +2,33 @@
 use Rattle.std.proofs.Common.{◌≡◌, ◌≤◌, ◌<◌, ◌+◌, ◌-◌, ◌*◌, ◌/◌, ◌==◌, ℕ, zero, suc, Bool, true, false, cond, leb, List, [], ◌∷◌, length, take, drop, Option}
 use Rattle.std.proofs.Common.{Some, None, option_map, refl, ap, arith, length-drop}
 use Rattle.std.specs.Prelude.{option_and_then}
-use Rattle.dspec_ctf_reading.specs.Words.{FieldLayout, EventLayout, Layout, PacketRead, FrontRead, Part, then_read, read_number, read_bytes, read_stamp, read_span, find_event, read_payload}
+use Rattle.dspec_ctf_reading.specs.Words.{FieldLayout, EventLayout, Layout, PacketRead, FrontRead, PartRead, then_read, read_number, read_bytes, read_stamp, read_span, find_event, read_payload}
 use Rattle.dspec_ctf_reading.specs.Words.{read_event_body, read_event, read_events_within, read_events, read_this, read_header, read_counts, read_front, sizes_agree, with_events, read_body}
 use Rattle.dspec_ctf_reading.specs.Words.{read_packet, read_packets_within, read_file}
 use Rattle.dspec_ctf_reading.proofs.Agreeing.{Agrees, agrees}
 
 -- behind the part, if there is one, there are so many bytes at most
-unfoldable pub Leaves : {A : Type 0} → ℕ → Part A → Type 0
+unfoldable pub Leaves : {A : Type 0} → ℕ → PartRead A → Type 0
 Leaves n None = Unit
 Leaves n (Some p) = length p.1 ≤ n
 
-Leaves-then : {A B : Type 0} (m n : ℕ) (part : Part A) (f : A → List ℕ → Part B) → Leaves m part → ((x : A) (rest : List ℕ) → length rest ≤ m → Leaves n (f x rest)) → Leaves n (then_read part f)
+Leaves-then : {A B : Type 0} (m n : ℕ) (part : PartRead A) (f : A → List ℕ → PartRead B) → Leaves m part
+    → ((x : A) (rest : List ℕ) → length rest ≤ m → Leaves n (f x rest)) → Leaves n (then_read part f)
 unfolding Leaves
 Leaves-then m n None f few next = tt
 Leaves-then m n (Some p) f few next = next p.0 p.1 few
 
-Leaves-map : {A B : Type 0} (n : ℕ) (part : Part A) (g : A → B) → Leaves n part → Leaves n (option_map (λ p. (g p.0, p.1)) part)
+Leaves-map : {A B : Type 0} (n : ℕ) (part : PartRead A) (g : A → B) → Leaves n part → Leaves n (option_map (λ p. (g p.0, p.1)) part)
 unfolding Leaves
 Leaves-map n None g few = tt
 Leaves-map n (Some p) g few = few
 
-Leaves-choice : {A B : Type 0} (n : ℕ) (o : Option A) (f : A → Part B) → ((x : A) → Leaves n (f x)) → Leaves n (option_and_then f o)
+Leaves-choice : {A B : Type 0} (n : ℕ) (o : Option A) (f : A → PartRead B) → ((x : A) → Leaves n (f x)) → Leaves n (option_and_then f o)
 unfolding Leaves
 Leaves-choice n None f each = tt
 Leaves-choice n (Some x) f each = each x
 
-Leaves-more : {A : Type 0} (m n : ℕ) (part : Part A) → m ≤ n → Leaves m part → Leaves n part
+Leaves-more : {A : Type 0} (m n : ℕ) (part : PartRead A) → m ≤ n → Leaves m part → Leaves n part
 unfolding Leaves
 Leaves-more m n None up few = tt
 Leaves-more m n (Some p) up few = omega (arith, up, few)
@@ -77,7 +78,7 @@ event-leaves layout bytes =
     (λ id rest few. Leaves-choice m (find_event id layout.events) (λ event. read_event_body layout.timed event rest) (λ event. event_body-within layout.timed event m rest few))
 
 -- two ways of going on that are the same wherever fewer bytes are left give the same
-rest-same : {A : Type 0} (n : ℕ) (part : Part A) (f g : List ℕ → Option (List A)) → Leaves n part → ((rest : List ℕ) → length rest ≤ n → f rest ≡ g rest)
+rest-same : {A : Type 0} (n : ℕ) (part : PartRead A) (f g : List ℕ → Option (List A)) → Leaves n part → ((rest : List ℕ) → length rest ≤ n → f rest ≡ g rest)
     → option_and_then (λ p. option_map (λ more. p.0 ∷ more) (f p.1)) part ≡ option_and_then (λ p. option_map (λ more. p.0 ∷ more) (g p.1)) part
 unfolding Leaves
 rest-same n None f g few same = refl
@@ -103,7 +104,7 @@ this-leaves n x bytes = go (read_number n bytes) (number-leaves n bytes)
     go-test true rest few = few
     go-test false rest few = tt
 
-    go : (part : Part ℕ) → Leaves (length bytes - n) part → Leaves {A = Unit} (length bytes - n) (option_and_then (λ p. cond (p.0 == x) (Some (tt, p.1)) None) part)
+    go : (part : PartRead ℕ) → Leaves (length bytes - n) part → Leaves {A = Unit} (length bytes - n) (option_and_then (λ p. cond (p.0 == x) (Some (tt, p.1)) None) part)
     go None few = tt
     go (Some p) few = go-test (p.0 == x) p.1 few
 

@@ -1,10 +1,11 @@
 -- Events and their values, one behind another, as loops read them.
+use Rattle.std.proofs.lemmas.Bool.Decides.{nat_tests}
 use Rattle.std.proofs.Common.{◌≡◌, ◌<◌, ◌+◌, ◌==◌, ℕ, zero, suc, true, false, cond, List, [], ◌∷◌, ◌++◌, map, length, drop, get_or, Option, Some, None, option_map}
 use Rattle.std.proofs.Common.{refl, ap, sym, ◌∙◌, arith, append_assoc, add-one}
 use Rattle.std.specs.Prelude.{option_and_then}
 use Rattle.std.specs.List.{zip}
 use Rattle.std.proofs.lemmas.List.{map-append, append-nil, get_or-map, length-map}
-use Rattle.dspec_ctf_reading.specs.Words.{width, Part, then_read, read_number, find_event, read_payload, read_event, read_events, Layout, EventRead, FieldText, EventText, told_field, told_event}
+use Rattle.dspec_ctf_reading.specs.Words.{width, PartRead, then_read, read_number, find_event, read_payload, read_event, read_events, Layout, EventRead, FieldText, EventText, told_field, told_event}
 use Rattle.dspec_ctf_reading.specs.Words.{names_of, text_at, behind_events}
 use Rattle.dspec_ctf_reading.proofs.Bounds.{events-on-bytes}
 
@@ -17,18 +18,11 @@ find-open id (suc i) (x ∷ events) e below = find-open id i events e (omega (ar
 
 pub find-here : (id i : ℕ) (events : List EventText) (e : EventText) → i < length events → e ≡ get_or events i e → (e.id == id) ≡ true
     → find_event id (map told_event (drop i events)) ≡ Some (told_event e)
-find-here id i events e below is same =
-    find-open id i events e below
-    ∙ ap (λ x. cond (x.id == id) (Some (told_event x)) (find_event id (map told_event (drop (suc i) events)))) (sym is)
-    ∙ ap (λ t. cond t (Some (told_event e)) (find_event id (map told_event (drop (suc i) events)))) same
+find-here id i events e below is same = grind (arith, nat_tests, find-open id i events e below)
 
 pub find-on : (id i : ℕ) (events : List EventText) (e : EventText) → i < length events → e ≡ get_or events i e → (e.id == id) ≡ false
     → find_event id (map told_event (drop i events)) ≡ find_event id (map told_event (drop (i + 1) events))
-find-on id i events e below is other =
-    find-open id i events e below
-    ∙ ap (λ x. cond (x.id == id) (Some (told_event x)) (find_event id (map told_event (drop (suc i) events)))) (sym is)
-    ∙ ap (λ t. cond t (Some (told_event e)) (find_event id (map told_event (drop (suc i) events)))) other
-    ∙ ap (λ n. find_event id (map told_event (drop n events))) (sym (add-one i))
+find-on id i events e below is other = grind (arith, nat_tests, find-open id i events e below)
 
 pub text_at-here : (i : ℕ) (events : List EventText) (e : EventText) → i < length events → e ≡ get_or events i e → text_at (map told_event events) i ≡ told_event e
 text_at-here i events e below is = get_or-map told_event events i e (record { id = 0; name = []; fields = [] }) below ∙ ap told_event (sym is)
@@ -59,16 +53,16 @@ zip-push (n ∷ names) [] v d below = ap (λ more. (n, v) ∷ more) (zip-none na
 zip-push (n ∷ names) (w ∷ values) v d below = ap (λ more. (n, w) ∷ more) (zip-push names values v d (omega (arith, below)))
 
 -- the values so far under their names, and what is read behind them
-abbrev pub under_names : List FieldText → List ℕ → Part (List (List ℕ × ℕ)) → Part (List (List ℕ × ℕ))
+abbrev pub under_names : List FieldText → List ℕ → PartRead (List (List ℕ × ℕ)) → PartRead (List (List ℕ × ℕ))
 under_names fields values part = option_map (λ p. (zip (names_of (map told_field fields)) values ++ p.0, p.1)) part
 
-abbrev put_before : List (List ℕ × ℕ) → Part (List (List ℕ × ℕ)) → Part (List (List ℕ × ℕ))
+abbrev put_before : List (List ℕ × ℕ) → PartRead (List (List ℕ × ℕ)) → PartRead (List (List ℕ × ℕ))
 put_before before part = option_map (λ p. (before ++ p.0, p.1)) part
 
-abbrev put_first : List ℕ × ℕ → Part (List (List ℕ × ℕ)) → Part (List (List ℕ × ℕ))
+abbrev put_first : List ℕ × ℕ → PartRead (List (List ℕ × ℕ)) → PartRead (List (List ℕ × ℕ))
 put_first x part = option_map (λ p. (x ∷ p.0, p.1)) part
 
-one-value : (before : List (List ℕ × ℕ)) (x : List ℕ × ℕ) (part : Part (List (List ℕ × ℕ))) → put_before before (put_first x part) ≡ put_before (before ++ x ∷ []) part
+one-value : (before : List (List ℕ × ℕ)) (x : List ℕ × ℕ) (part : PartRead (List (List ℕ × ℕ))) → put_before before (put_first x part) ≡ put_before (before ++ x ∷ []) part
 one-value before x None = refl
 one-value before x (Some p) = ap (λ xs. Some (xs, p.1)) (sym (append_assoc before (x ∷ []) p.0))
 
@@ -77,14 +71,14 @@ name-at i [] f below is = absurd (omega (arith, below))
 name-at zero (x ∷ fields) f below is = ap (λ x. x.name.now) (sym is)
 name-at (suc i) (x ∷ fields) f below is = name-at i fields f (omega (arith, below)) is
 
-put-none : (part : Part (List (List ℕ × ℕ))) → part ≡ put_before [] part
+put-none : (part : PartRead (List (List ℕ × ℕ))) → part ≡ put_before [] part
 put-none None = refl
 put-none (Some p) = refl
 
-pub payload-begin : (fields : List FieldText) (values : List ℕ) (part : Part (List (List ℕ × ℕ))) → values ≡ [] → part ≡ under_names fields values part
+pub payload-begin : (fields : List FieldText) (values : List ℕ) (part : PartRead (List (List ℕ × ℕ))) → values ≡ [] → part ≡ under_names fields values part
 payload-begin fields values part none = put-none part ∙ ap (λ before. put_before before part) (sym (zip-none (names_of (map told_field fields)) values none))
 
-pub payload-on : (i : ℕ) (fields : List FieldText) (f : FieldText) (values grown : List ℕ) (v : ℕ) (whole : Part (List (List ℕ × ℕ))) (rest next : List ℕ)
+pub payload-on : (i : ℕ) (fields : List FieldText) (f : FieldText) (values grown : List ℕ) (v : ℕ) (whole : PartRead (List (List ℕ × ℕ))) (rest next : List ℕ)
     → i < length fields → f ≡ get_or fields i f → length values ≡ i → whole ≡ under_names fields values (read_payload (map told_field (drop i fields)) rest)
     → read_number (width f.width) rest ≡ Some (v, next) → grown ≡ values ++ v ∷ []
     → whole ≡ under_names fields grown (read_payload (map told_field (drop (i + 1) fields)) next)
@@ -98,29 +92,25 @@ payload-on i fields f values grown v whole rest next below is count so_far read 
     (ap (λ name. zip (names_of (map told_field fields)) values ++ (name, v) ∷ []) (sym name)
     ∙ sym (zip-push (names_of (map told_field fields)) values v [] few) ∙ ap (zip (names_of (map told_field fields))) (sym longer))
 
-pub payload-stop : (i : ℕ) (fields : List FieldText) (f : FieldText) (values : List ℕ) (whole : Part (List (List ℕ × ℕ))) (rest : List ℕ)
+pub payload-stop : (i : ℕ) (fields : List FieldText) (f : FieldText) (values : List ℕ) (whole : PartRead (List (List ℕ × ℕ))) (rest : List ℕ)
     → i < length fields → f ≡ get_or fields i f → whole ≡ under_names fields values (read_payload (map told_field (drop i fields)) rest)
     → read_number (width f.width) rest ≡ None → whole ≡ None
-payload-stop i fields f values whole rest below is so_far read =
-    so_far ∙ ap (under_names fields values) (payload-here i fields f rest below is
-    ∙ ap (λ part. then_read part (λ value rest. option_map (λ p. ((f.name.now, value) ∷ p.0, p.1)) (read_payload (map told_field (drop (i + 1) fields)) rest))) read)
+payload-stop i fields f values whole rest below is so_far read = grind (arith, nat_tests, payload-here i fields f rest below is)
 
 drop-all : {A : Type 0} (xs : List A) → drop (length xs) xs ≡ []
 drop-all [] = refl
 drop-all (x ∷ xs) = drop-all xs
 
-pub payload-end : (i : ℕ) (fields : List FieldText) (values : List ℕ) (whole : Part (List (List ℕ × ℕ))) (rest : List ℕ)
+pub payload-end : (i : ℕ) (fields : List FieldText) (values : List ℕ) (whole : PartRead (List (List ℕ × ℕ))) (rest : List ℕ)
     → i ≡ length fields → whole ≡ under_names fields values (read_payload (map told_field (drop i fields)) rest)
     → whole ≡ Some (zip (names_of (map told_field fields)) values, rest)
-payload-end i fields values whole rest all so_far =
-    so_far ∙ ap (λ more. under_names fields values (read_payload (map told_field more) rest)) (ap (λ n. drop n fields) all ∙ drop-all fields)
-    ∙ ap (λ vs. Some (vs, rest)) (append-nil (zip (names_of (map told_field fields)) values))
+payload-end i fields values whole rest all so_far = grind (arith, nat_tests, drop-all, append-nil)
 
 -- the same where no value is kept
-abbrev rest_of : Part (List (List ℕ × ℕ)) → Option (List ℕ)
+abbrev rest_of : PartRead (List (List ℕ × ℕ)) → Option (List ℕ)
 rest_of part = option_map (λ p. p.1) part
 
-only-rest : (x : List ℕ × ℕ) (part : Part (List (List ℕ × ℕ))) → rest_of (put_first x part) ≡ rest_of part
+only-rest : (x : List ℕ × ℕ) (part : PartRead (List (List ℕ × ℕ))) → rest_of (put_first x part) ≡ rest_of part
 only-rest x None = refl
 only-rest x (Some p) = refl
 
@@ -128,16 +118,12 @@ pub rest-on : (i : ℕ) (fields : List FieldText) (f : FieldText) (v : ℕ) (who
     → i < length fields → f ≡ get_or fields i f → whole ≡ option_map (λ p. p.1) (read_payload (map told_field (drop i fields)) rest)
     → read_number (width f.width) rest ≡ Some (v, next) → whole ≡ option_map (λ p. p.1) (read_payload (map told_field (drop (i + 1) fields)) next)
 rest-on i fields f v whole rest next below is so_far read =
-    so_far ∙ ap (option_map (λ p. p.1)) (payload-here i fields f rest below is
-    ∙ ap (λ part. then_read part (λ value rest. option_map (λ p. ((f.name.now, value) ∷ p.0, p.1)) (read_payload (map told_field (drop (i + 1) fields)) rest))) read)
-    ∙ only-rest (f.name.now, v) (read_payload (map told_field (drop (i + 1) fields)) next)
+    grind (arith, nat_tests, payload-here i fields f rest below is, only-rest (f.name.now, v) (read_payload (map told_field (drop (i + 1) fields)) next))
 
 pub rest-stop : (i : ℕ) (fields : List FieldText) (f : FieldText) (whole : Option (List ℕ)) (rest : List ℕ)
     → i < length fields → f ≡ get_or fields i f → whole ≡ option_map (λ p. p.1) (read_payload (map told_field (drop i fields)) rest)
     → read_number (width f.width) rest ≡ None → whole ≡ None
-rest-stop i fields f whole rest below is so_far read =
-    so_far ∙ ap (option_map (λ p. p.1)) (payload-here i fields f rest below is
-    ∙ ap (λ part. then_read part (λ value rest. option_map (λ p. ((f.name.now, value) ∷ p.0, p.1)) (read_payload (map told_field (drop (i + 1) fields)) rest))) read)
+rest-stop i fields f whole rest below is so_far read = grind (arith, nat_tests, payload-here i fields f rest below is)
 
 pub rest-end : (i : ℕ) (fields : List FieldText) (whole : Option (List ℕ)) (rest : List ℕ) → i ≡ length fields
     → whole ≡ option_map (λ p. p.1) (read_payload (map told_field (drop i fields)) rest) → whole ≡ Some rest
@@ -146,18 +132,16 @@ rest-end i fields whole rest all so_far =
 
 -- events
 module _ (layout : Layout) where
-  more-behind : (n : ℕ) (part : Part EventRead) (next : List ℕ) → option_map (λ p. p.1) part ≡ Some next → option_and_then (λ p. Some p.1) part ≡ Some next
+  more-behind : (n : ℕ) (part : PartRead EventRead) (next : List ℕ) → option_map (λ p. p.1) part ≡ Some next → option_and_then (λ p. Some p.1) part ≡ Some next
   more-behind n None next is = is
   more-behind n (Some p) next is = is
 
   pub behind-more : (n : ℕ) (body rest next : List ℕ) → behind_events n layout body ≡ Some rest → option_map (λ p. p.1) (read_event layout rest) ≡ Some next
       → behind_events (suc n) layout body ≡ Some next
-  behind-more zero body rest next is read =
-      let same : body ≡ rest = cc in
-      more-behind 0 (read_event layout body) next (ap (λ bytes. option_map (λ p. p.1) (read_event layout bytes)) same ∙ read)
+  behind-more zero body rest next is read = grind (arith, nat_tests, more-behind)
   behind-more (suc n) body rest next is read = go (read_event layout body) is (λ bytes is. behind-more n bytes rest next is read)
     where
-      go : (part : Part EventRead) → option_and_then (λ p. behind_events n layout p.1) part ≡ Some rest
+      go : (part : PartRead EventRead) → option_and_then (λ p. behind_events n layout p.1) part ≡ Some rest
           → ((bytes : List ℕ) → behind_events n layout bytes ≡ Some rest → behind_events (suc n) layout bytes ≡ Some next)
           → option_and_then (λ p. behind_events (suc n) layout p.1) part ≡ Some next
       go None is more = absurd (cc)
@@ -197,27 +181,11 @@ module _ (layout : Layout) where
   pub count-more : (count : ℕ) (whole : Option ℕ) (rest next : List ℕ) → 0 < length rest
       → whole ≡ option_map (λ events. count + length events) (read_events layout rest) → option_map (λ p. p.1) (read_event layout rest) ≡ Some next
       → whole ≡ option_map (λ events. (count + 1) + length events) (read_events layout next)
-  count-more count whole rest next some so_far read =
-      so_far ∙ ap (option_map (λ events. count + length events)) (events-on-bytes layout rest some) ∙ go (read_event layout rest) read
-    where
-      counted : (x : EventRead) (part : Option (List EventRead)) → option_map (λ events. count + length events) (option_map (λ events. x ∷ events) part)
-          ≡ option_map (λ events. (count + 1) + length events) part
-      counted x None = refl
-      counted x (Some events) = ap Some (omega arith)
-
-      go : (part : Part EventRead) → option_map (λ p. p.1) part ≡ Some next
-          → option_map (λ events. count + length events) (option_and_then (λ p. option_map (λ events. p.0 ∷ events) (read_events layout p.1)) part)
-          ≡ option_map (λ events. (count + 1) + length events) (read_events layout next)
-      go None is = absurd (cc)
-      go (Some p) is =
-          let same : p.1 ≡ next = cc in
-          counted p.0 (read_events layout p.1) ∙ ap (λ bytes. option_map (λ events. (count + 1) + length events) (read_events layout bytes)) same
+  count-more count whole rest next some so_far read = grind (arith, nat_tests, events-on-bytes)
 
   pub count-stop : (count : ℕ) (whole : Option ℕ) (rest : List ℕ) → 0 < length rest
       → whole ≡ option_map (λ events. count + length events) (read_events layout rest) → read_event layout rest ≡ None → whole ≡ None
-  count-stop count whole rest some so_far read =
-      so_far ∙ ap (option_map (λ events. count + length events)) (events-on-bytes layout rest some
-      ∙ ap (option_and_then (λ p. option_map (λ events. p.0 ∷ events) (read_events layout p.1))) read)
+  count-stop count whole rest some so_far read = grind (arith, nat_tests, events-on-bytes)
 
   pub count-end : (count : ℕ) (whole : Option ℕ) (rest : List ℕ) → length rest ≡ 0
       → whole ≡ option_map (λ events. count + length events) (read_events layout rest) → whole ≡ Some count

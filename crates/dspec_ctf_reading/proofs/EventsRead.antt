@@ -1,14 +1,15 @@
 -- What was written of a record is read as its event.
+use Rattle.std.proofs.lemmas.Bool.Decides.{nat_tests}
 use Rattle.std.proofs.Common.{◌≡◌, ◌≢◌, ◌≤◌, ◌<◌, ◌+◌, ◌^◌, ◌++◌, ◌==◌, ℕ, zero, suc, Bool, true, false, cond, ltb, leb, IsTrue, List, [], ◌∷◌, length, map, Option, Some, None}
-use Rattle.std.proofs.Common.{option_map, refl, ap, sym, subst, ◌∙◌, arith, append_assoc, All}
-use Rattle.std.specs.Prelude.{slice_get, unwrap_or, option_and_then}
+use Rattle.std.proofs.Common.{option_map, refl, ap, sym, ◌∙◌, arith, append_assoc, All}
+use Rattle.std.specs.Prelude.{option_and_then}
 use Rattle.std.specs.Option.{option_map_or}
 use Rattle.std.specs.List.{enumerate_from, range_with_len}
 use Rattle.std.proofs.lemmas.Bool.{ltb-true, leb-true, eqb-true, eqb-false}
 use Rattle.std.proofs.lemmas.List.Elements.{All-head, All-tail}
 use Rattle.std.proofs.lemmas.Option.{slice_get_within}
-use Rattle.dspec_ctf_reading.specs.Words.{Record, width, little_endian, stamp_fits, fits, within_limit, enabled, EnabledRows, both, IsAccepted, accepted-parts, stamp_bytes, values_bytes, event}
-use Rattle.dspec_ctf_reading.specs.Words.{events, event_fields, Accepts, FieldLayout, EventLayout, EventRead, Part, then_read, read_number, find_event, read_payload, read_event_body, read_event}
+use Rattle.dspec_ctf_reading.specs.Words.{Record, width, little_endian, stamp_fits, fits, enabled, EnabledRows, both, IsAccepted, accepted-parts, stamp_bytes, values_bytes, event, events}
+use Rattle.dspec_ctf_reading.specs.Words.{event_fields, Accepts, FieldLayout, EventLayout, EventRead, PartRead, then_read, read_number, find_event, read_payload, read_event_body, read_event}
 use Rattle.dspec_ctf_reading.specs.Words.{read_events, Naming, stamp_field, field_layouts, stamp_value, named_values, event_layout, layout_by, event_read}
 use Rattle.dspec_record.specs.declared.field.Field.{Field}
 use Rattle.dspec_record.specs.declared.field.Field.TheVariants.{Four, Eight}
@@ -26,7 +27,7 @@ values-back name n (f ∷ fs) [] rest h = absurd (cc)
 values-back name n (f ∷ fs) (v ∷ vs) rest h =
     let parts : IsTrue (ltb v (256 ^ width f)) × IsTrue (fits fs vs) = both (ltb v (256 ^ width f)) (fits fs vs) h in
     let others : List FieldLayout = map (λ p. record { name = name p.0; width = width p.1 }) (enumerate_from (n + 1) fs) in
-    let go_on : ℕ → List ℕ → Part (List (List ℕ × ℕ)) = λ value more. option_map (λ p. ((name n, value) ∷ p.0, p.1)) (read_payload others more) in
+    let go_on : ℕ → List ℕ → PartRead (List (List ℕ × ℕ)) = λ value more. option_map (λ p. ((name n, value) ∷ p.0, p.1)) (read_payload others more) in
     ap (λ bytes. then_read (read_number (width f) bytes) go_on) (append_assoc (little_endian (width f) v) (values_bytes fs vs) rest)
     ∙ ap (λ part. then_read part go_on) (number-back f v (values_bytes fs vs ++ rest) (ltb-true v (256 ^ width f) parts.0))
     ∙ ap (option_map (λ p. ((name n, v) ∷ p.0, p.1))) (values-back name (n + 1) fs vs rest parts.1)
@@ -89,18 +90,7 @@ row-known gs vs false is h = absurd (cc)
 
 pub is-known : (e : EnabledRows) (epid : ℕ) (vs : List ℕ) → IsTrue (option_map_or (λ fs. fits fs vs) (enabled e.rows epid) false) → IsKnown e epid vs
 is-known e zero vs h = absurd (cc)
-is-known e (suc n) vs h = go (slice_get e.rows n) refl h
-  where
-    go : (o : Option (List Field)) → slice_get e.rows n ≡ o → IsTrue (option_map_or (λ fs. fits fs vs) (option_and_then within_limit o) false) → IsKnown e (suc n) vs
-    go None is h = absurd (cc)
-    go (Some gs) is h =
-        let known : IsTrue (fits gs vs) × (length gs ≤ 8) = row-known gs vs (leb (length gs) 8) refl h in
-        record {
-          low = omega arith;
-          high = omega (arith, slice_get_within e.rows n gs is);
-          fit = subst (λ o. IsTrue (fits (unwrap_or o []) vs)) (sym is) known.0;
-          few = subst (λ o. length (unwrap_or o []) ≤ 8) (sym is) known.1;
-        }
+is-known e (suc n) vs h = grind (arith, nat_tests, row-known, slice_get_within)
 
 module _ (called : Naming) (timed : Bool) (e : EnabledRows) (has : HasStamps timed e.header) where
   pub event-back : (r : Record) (rest : List ℕ) → Accepts e r → read_event (layout_by called timed e) (event e r ++ rest) ≡ Some (event_read called timed e r, rest)
@@ -110,7 +100,7 @@ module _ (called : Naming) (timed : Bool) (e : EnabledRows) (has : HasStamps tim
       let values : List ℕ = values_bytes (event_fields e r.epid) r.values in
       let tail : List ℕ = stamp_bytes e.header r.stamp ++ (values ++ rest) in
       let shapes : List EventLayout = map (event_layout called timed e) (range_with_len 1 (length e.rows)) in
-      let go_on : ℕ → List ℕ → Part EventRead = λ id more. option_and_then (λ shape. read_event_body timed shape more) (find_event id shapes) in
+      let go_on : ℕ → List ℕ → PartRead EventRead = λ id more. option_and_then (λ shape. read_event_body timed shape more) (find_event id shapes) in
       let split : event e r ++ rest ≡ little_endian 4 r.epid ++ tail =
       append_assoc (little_endian 4 r.epid) (stamp_bytes e.header r.stamp ++ values) rest
       ∙ ap (λ more. little_endian 4 r.epid ++ more) (append_assoc (stamp_bytes e.header r.stamp) values rest) in
@@ -123,7 +113,7 @@ module _ (called : Naming) (timed : Bool) (e : EnabledRows) (has : HasStamps tim
   pub events-back : (rs : List Record) → All (Accepts e) rs → read_events (layout_by called timed e) (events e rs) ≡ Some (map (event_read called timed e) rs)
   events-back [] of_rs = refl
   events-back (r ∷ rs) of_rs =
-      let go_on : Part EventRead → Option (List EventRead) = λ part. option_and_then (λ p. option_map (λ more. p.0 ∷ more) (read_events (layout_by called timed e) p.1)) part in
+      let go_on : PartRead EventRead → Option (List EventRead) = λ part. option_and_then (λ p. option_map (λ more. p.0 ∷ more) (read_events (layout_by called timed e) p.1)) part in
       events-on-bytes (layout_by called timed e) (event e r ++ events e rs) (omega arith)
       ∙ ap go_on (event-back r (events e rs) (All-head (Accepts e) r rs of_rs))
       ∙ ap (option_map (λ more. event_read called timed e r ∷ more)) (events-back rs (All-tail (Accepts e) r rs of_rs))

@@ -1,11 +1,11 @@
 -- The types of fields are read as their widths.
-use Rattle.std.proofs.Common.{◌≡◌, ◌≤◌, ◌<◌, ◌+◌, ◌^◌, ◌++◌, ℕ, zero, suc, true, List}
-use Rattle.std.proofs.Common.{[], ◌∷◌, length, map, Some, None, option_map, refl, ap, ◌∙◌, arith, append_assoc, length-append, All}
+use Rattle.std.proofs.lemmas.Bool.Decides.{nat_tests}
+use Rattle.std.proofs.Common.{◌≡◌, ◌≤◌, ◌<◌, ◌+◌, ◌^◌, ◌++◌, ℕ, zero, suc, true, List, [], ◌∷◌, length, map, Some, None, option_map, refl, ap, ◌∙◌, arith, append_assoc, length-append, All}
 use Rattle.std.specs.Prelude.{codes, decimal}
 use Rattle.std.specs.List.{flat_map, list_all, enumerate_from}
 use Rattle.std.proofs.lemmas.List.Elements.{All-head, All-tail}
-use Rattle.dspec_ctf_reading.specs.Words.{width, type_name, kind_type, label_item, label_items, labelled_type, Part, then_read, rest_past, past, past_or, is_digit, read_decimal, is_quoted}
-use Rattle.dspec_ctf_reading.specs.Words.{whole_types, float_types, read_type_of, read_label, read_labels, read_type, text_front}
+use Rattle.dspec_ctf_reading.specs.Words.{width, type_name, kind_type, label_item, label_items, labelled_type, PartRead, then_read, rest_past, past, is_digit, read_decimal, is_quoted, whole_types}
+use Rattle.dspec_ctf_reading.specs.Words.{float_types, read_type_of, read_label, read_labels, read_type, text_front}
 use Rattle.dspec_record.specs.declared.field.Field.{Field}
 use Rattle.dspec_record.specs.declared.field.Field.TheVariants.{One, Two, Four, Eight}
 use Rattle.dspec_probe.specs.declared.kind.Kind.{Kind}
@@ -96,10 +96,7 @@ pub no-text-name : (f : Field) (rest : List ℕ) → rest_past text_front (type_
 no-text-name f rest = no-text Unsigned f rest
 
 pub kind-back : (kind : Kind) (f : Field) (rest : List ℕ) → read_type (kind_type kind f ++ rest) ≡ Some (width f, rest)
-kind-back kind f rest =
-    let enum : List ℕ → Part ℕ =
-    λ more. then_read (read_type_of whole_types more) (λ w more. past (codes " { ") more (λ more. option_map (λ p. (w, p.1)) (read_labels (length more) more))) in
-    ap (λ o. past_or o enum (read_type_of (whole_types ++ float_types) (kind_type kind f ++ rest))) (no-enum kind f rest) ∙ plain-back kind f rest
+kind-back kind f rest = grind (arith, nat_tests, no-enum, plain-back)
 
 -- a whole number's
 IsWhole : Kind → Type 0
@@ -139,8 +136,8 @@ five a b c d e x = simp append_assoc
 label-back : (n : ℕ) (label rest : List ℕ) → n < 2 ^ 64 → IsQuotable label → read_label (label_item (n, label) ++ rest) ≡ Some ((label, n), rest)
 unfolding IsQuotable is_quoted is_digit
 label-back n label rest low fit =
-    let c : List ℕ → ℕ → List ℕ → Part (List ℕ × ℕ) = λ name number more. past (codes ", ") more (λ more. Some ((name, number), more)) in
-    let b : List ℕ → List ℕ → Part (List ℕ × ℕ) = λ name more. past (codes "\" = ") more (λ more. then_read (read_decimal more) (λ number more. c name number more)) in
+    let c : List ℕ → ℕ → List ℕ → PartRead (List ℕ × ℕ) = λ name number more. past (codes ", ") more (λ more. Some ((name, number), more)) in
+    let b : List ℕ → List ℕ → PartRead (List ℕ × ℕ) = λ name more. past (codes "\" = ") more (λ more. then_read (read_decimal more) (λ number more. c name number more)) in
     ap read_label (five (codes "\"") label (codes "\" = ") (decimal n) (codes ", ") rest)
     ∙ ap (λ part. then_read part b) (read-run-back is_quoted label (codes "\" = " ++ (decimal n ++ (codes ", " ++ rest))) fit.0 fit.1 refl)
     ∙ ap (λ part. then_read part (λ number more. c label number more)) (decimal-back n (codes ", " ++ rest) low refl)
@@ -151,7 +148,7 @@ labels-back zero n labels rest few low fit = absurd (omega (arith, few))
 labels-back (suc most) n [] rest few low fit = refl
 labels-back (suc most) n (label ∷ labels) rest few low fit =
     let others : List ℕ = flat_map label_item (enumerate_from (n + 1) labels) in
-    let next : List ℕ × ℕ → List ℕ → Part (List (List ℕ × ℕ)) = λ one more. option_map (λ p. (one ∷ p.0, p.1)) (read_labels most more) in
+    let next : List ℕ × ℕ → List ℕ → PartRead (List (List ℕ × ℕ)) = λ one more. option_map (λ p. (one ∷ p.0, p.1)) (read_labels most more) in
     ap (read_labels (suc most)) (append_assoc (label_item (n, label)) others (codes "}" ++ rest))
     ∙ ap (λ part. then_read part next) (label-back n label (others ++ (codes "}" ++ rest)) (omega (arith, low)) (All-head IsQuotable label labels fit))
     ∙ ap (option_map (λ p. ((label, n) ∷ p.0, p.1))) (labels-back most (n + 1) labels rest (omega (arith, few)) (omega (arith, low)) (All-tail IsQuotable label labels fit))
@@ -169,7 +166,7 @@ enum-back : (kind : Kind) (labels : List (List ℕ)) (f : Field) (rest : List �
 enum-back kind labels f rest whole low fit =
     let items : List ℕ = flat_map label_item (enumerate_from 0 labels) in
     let tail : List ℕ = items ++ (codes "}" ++ rest) in
-    let next : ℕ → List ℕ → Part ℕ = λ w more. past (codes " { ") more (λ more. option_map (λ p. (w, p.1)) (read_labels (length more) more)) in
+    let next : ℕ → List ℕ → PartRead ℕ = λ w more. past (codes " { ") more (λ more. option_map (λ p. (w, p.1)) (read_labels (length more) more)) in
     ap read_type (five (codes "enum : ") (kind_type kind f) (codes " { ") items (codes "}") rest)
     ∙ ap (λ part. then_read part next) (whole-back kind f (codes " { " ++ tail) whole)
     ∙ ap (option_map (λ p. (width f, p.1)))

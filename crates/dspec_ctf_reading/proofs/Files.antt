@@ -1,4 +1,5 @@
 -- Files of packets that were written one behind another.
+use Rattle.std.proofs.lemmas.Bool.Decides.{nat_tests}
 use Rattle.std.proofs.Common.{◌≡◌, ◌≤◌, ◌<◌, ◌+◌, ◌-◌, ◌^◌, ◌++◌, ℕ, zero, suc, Bool, true, IsTrue, List, [], ◌∷◌, length, map, replicate, Option, Some, option_map, refl, ap, sym, ◌∙◌, arith, All}
 use Rattle.std.specs.Prelude.{slice_get, option_and_then}
 use Rattle.std.specs.Option.{option_map_or}
@@ -6,8 +7,8 @@ use Rattle.std.specs.List.{flat_map}
 use Rattle.std.proofs.lemmas.Bool.{ltb-true, eqb-true}
 use Rattle.std.proofs.lemmas.List.{append-nil, map-append}
 use Rattle.std.proofs.lemmas.List.Elements.{All-head, All-tail, All-nil, All-cons}
-use Rattle.dspec_ctf_reading.specs.Words.{Record, stamp_fits, enabled, EnabledRows, IsAccepted, accepted-parts, events, header_bytes, front_size, front_bytes, packet_around, filled_around}
-use Rattle.dspec_ctf_reading.specs.Words.{filled_size, Accepts, span_of, Layout, EventRead, PacketRead, read_packet, read_file, events_of, Naming, layout_by, packet_read}
+use Rattle.dspec_ctf_reading.specs.Words.{Record, stamp_fits, EnabledRows, events, header_bytes, front_size, front_bytes, packet_around, filled_around, filled_size, Accepts, span_of, Layout}
+use Rattle.dspec_ctf_reading.specs.Words.{EventRead, PacketRead, read_packet, read_file, events_of, Naming, layout_by, packet_read}
 use Rattle.dspec_record.specs.declared.header.Header.{Header}
 use Rattle.dspec_record.specs.declared.header.Header.TheVariants as header
 use Rattle.dspec_ctf_reading.proofs.Bounds.{packets-on-bytes}
@@ -74,9 +75,7 @@ stamp-low header.Two stamp fit = ltb-true stamp (2 ^ 64) fit
 
 end-low : (e : EnabledRows) (rs : List Record) (k : ℕ) → All (Accepts e) rs → option_map_or (λ r. r.stamp) (slice_get rs k) 0 < 2 ^ 64
 end-low e [] k of_rs = omega arith
-end-low e (r ∷ rs) zero of_rs =
-    let parts : IsAccepted e.header r (enabled e.rows r.epid) = accepted-parts e.header (enabled e.rows) r (All-head (Accepts e) r rs of_rs) in
-    stamp-low e.header r.stamp parts.stamp
+end-low e (r ∷ rs) zero of_rs = grind (arith, nat_tests, All-head, stamp-low)
 end-low e (r ∷ rs) (suc k) of_rs = end-low e rs k (All-tail (Accepts e) r rs of_rs)
 
 pub span-low : (e : EnabledRows) (rs : List Record) → All (Accepts e) rs → HasSpan true (Some (span_of rs))

@@ -4,30 +4,30 @@ use Rattle.std.proofs.Common.{option_map, refl, ap, sym, subst, ◌∙◌, arith
 use Rattle.std.specs.Prelude.{option_and_then}
 use Rattle.std.proofs.lemmas.Bool.{leb-true, le-leb, cond-true}
 use Rattle.std.proofs.lemmas.List.{take-append-le, drop-append-le}
-use Rattle.dspec_ctf_reading.specs.Words.{Layout, PacketRead, FrontRead, Part, then_read, read_number, read_bytes, read_span, read_this, read_header, read_counts, read_front, sizes_agree}
+use Rattle.dspec_ctf_reading.specs.Words.{Layout, PacketRead, FrontRead, PartRead, then_read, read_number, read_bytes, read_span, read_this, read_header, read_counts, read_front, sizes_agree}
 use Rattle.dspec_ctf_reading.specs.Words.{with_events, read_body, read_packet, read_file}
 use Rattle.dspec_ctf_reading.proofs.Agreeing.{Agrees, agree, agrees}
 use Rattle.dspec_ctf_reading.proofs.Bounds.{Leaves, front-leaves, packet-leaves, packets-on}
 
 module _ (more : List ℕ) where
   -- if there is a part, the other is the same with these bytes behind what it leaves
-  Keeps : {A : Type 0} → Part A → Part A → Type 0
+  Keeps : {A : Type 0} → PartRead A → PartRead A → Type 0
   Keeps None other = Unit
   Keeps (Some p) other = other ≡ Some (p.0, p.1 ++ more)
 
-  Keeps-then : {A B : Type 0} (m : ℕ) (part other : Part A) (f g : A → List ℕ → Part B) → Leaves m part → Keeps part other
+  Keeps-then : {A B : Type 0} (m : ℕ) (part other : PartRead A) (f g : A → List ℕ → PartRead B) → Leaves m part → Keeps part other
       → ((x : A) (rest : List ℕ) → length rest ≤ m → Keeps (f x rest) (g x (rest ++ more))) → Keeps (then_read part f) (then_read other g)
   unfolding Keeps Leaves
   Keeps-then m None other f g few keeps next = tt
   Keeps-then m (Some p) other f g few keeps next = subst (λ q. Keeps (f p.0 p.1) (then_read q g)) (sym keeps) (next p.0 p.1 few)
 
-  Keeps-on : {A B : Type 0} (part other : Part A) (f g : A → List ℕ → Part B) → Keeps part other → ((x : A) (rest : List ℕ) → Keeps (f x rest) (g x (rest ++ more)))
+  Keeps-on : {A B : Type 0} (part other : PartRead A) (f g : A → List ℕ → PartRead B) → Keeps part other → ((x : A) (rest : List ℕ) → Keeps (f x rest) (g x (rest ++ more)))
       → Keeps (then_read part f) (then_read other g)
   unfolding Keeps
   Keeps-on None other f g keeps next = tt
   Keeps-on (Some p) other f g keeps next = subst (λ q. Keeps (f p.0 p.1) (then_read q g)) (sym keeps) (next p.0 p.1)
 
-  Keeps-map : {A B : Type 0} (part other : Part A) (g : A → B) → Keeps part other → Keeps (option_map (λ p. (g p.0, p.1)) part) (option_map (λ p. (g p.0, p.1)) other)
+  Keeps-map : {A B : Type 0} (part other : PartRead A) (g : A → B) → Keeps part other → Keeps (option_map (λ p. (g p.0, p.1)) part) (option_map (λ p. (g p.0, p.1)) other)
   unfolding Keeps
   Keeps-map None other g keeps = tt
   Keeps-map (Some p) other g keeps = ap (option_map (λ p. (g p.0, p.1))) keeps
@@ -164,10 +164,10 @@ join layout (suc most) (x ∷ a) b ps qs few first second =
     go (read_packet layout (x ∷ a)) (packet-leaves layout (x ∷ a)) (packet-keeps b layout (x ∷ a)) (sym (packets-on layout x a) ∙ first)
     (λ rest others short are. join layout most rest b others qs short are second)
   where
-    go_on : Part PacketRead → Option (List PacketRead)
+    go_on : PartRead PacketRead → Option (List PacketRead)
     go_on part = option_and_then (λ p. option_map (λ packets. p.0 ∷ packets) (read_file layout p.1)) part
 
-    go : (part : Part PacketRead) → Leaves (length (x ∷ a) - 4) part → Keeps b part (read_packet layout (x ∷ (a ++ b))) → go_on part ≡ Some ps
+    go : (part : PartRead PacketRead) → Leaves (length (x ∷ a) - 4) part → Keeps b part (read_packet layout (x ∷ (a ++ b))) → go_on part ≡ Some ps
         → ((rest : List ℕ) (others : List PacketRead) → length rest ≤ most → read_file layout rest ≡ Some others → read_file layout (rest ++ b) ≡ Some (others ++ qs))
         → read_file layout (x ∷ (a ++ b)) ≡ Some (ps ++ qs)
     go None short keeps is later = absurd (cc)

@@ -3,7 +3,7 @@ use Rattle.std.proofs.Common.{◌≡◌, ◌≤◌, ◌<◌, ◌+◌, ◌*◌, �
 use Rattle.std.proofs.Common.{[], ◌∷◌, length, map, Some, None, option_map, refl, ap, sym, ◌∙◌, arith, append_assoc, length-append}
 use Rattle.std.specs.Prelude.{◌⊎◌, codes, decimal}
 use Rattle.std.specs.List.{flat_map, list_all, enumerate_from}
-use Rattle.dspec_ctf_reading.specs.Words.{width, text_type, text_line, typed_line, FieldLayout, Part, then_read, rest_past, past, past_or, is_digit, read_decimal, is_word, read_word, read_type}
+use Rattle.dspec_ctf_reading.specs.Words.{width, text_type, text_line, typed_line, FieldLayout, PartRead, then_read, rest_past, past, past_or, is_digit, read_decimal, is_word, read_word, read_type}
 use Rattle.dspec_ctf_reading.specs.Words.{read_number_field, text_front, text_layouts, read_text_field, read_field, read_fields}
 use Rattle.dspec_record.specs.declared.field.Field.{Field}
 use Rattle.dspec_ctf_reading.proofs.Scanning.{read-run-back, decimal-back}
@@ -18,8 +18,8 @@ number-field-back : (type name rest : List ℕ) (w : ℕ) → ((more : List ℕ)
     → read_number_field (type ++ (codes " " ++ (name ++ (codes ";\n" ++ rest)))) ≡ Some (record { name = name; width = w }, rest)
 unfolding IsWordy is_word is_digit
 number-field-back type name rest w known fit =
-    let c : ℕ → List ℕ → List ℕ → Part FieldLayout = λ size word more. past (codes ";\n") more (λ more. Some (record { name = word; width = size }, more)) in
-    let b : ℕ → List ℕ → Part FieldLayout = λ size more. past (codes " ") more (λ more. then_read (read_word more) (λ word more. c size word more)) in
+    let c : ℕ → List ℕ → List ℕ → PartRead FieldLayout = λ size word more. past (codes ";\n") more (λ more. Some (record { name = word; width = size }, more)) in
+    let b : ℕ → List ℕ → PartRead FieldLayout = λ size more. past (codes " ") more (λ more. then_read (read_word more) (λ word more. c size word more)) in
     ap (λ part. then_read part b) (known (codes " " ++ (name ++ (codes ";\n" ++ rest))))
     ∙ ap (λ part. then_read part (λ word more. c w word more)) (read-run-back is_word name (codes ";\n" ++ rest) fit.0 fit.1 refl)
 
@@ -50,8 +50,8 @@ text-back : (name rest : List ℕ) (words : ℕ) → IsWordy name → 1 ≤ word
 unfolding text_type IsWordy is_word is_digit
 text-back name rest words fit some few =
     let size : ℕ = 8 * words in
-    let c : List ℕ → ℕ → List ℕ → Part (List FieldLayout) = λ word bytes more. past (codes "];\n") more (λ more. option_map (λ fields. (fields, more)) (text_layouts word bytes)) in
-    let b : List ℕ → List ℕ → Part (List FieldLayout) = λ word more. past (codes "[") more (λ more. then_read (read_decimal more) (λ bytes more. c word bytes more)) in
+    let c : List ℕ → ℕ → List ℕ → PartRead (List FieldLayout) = λ word bytes more. past (codes "];\n") more (λ more. option_map (λ fields. (fields, more)) (text_layouts word bytes)) in
+    let b : List ℕ → List ℕ → PartRead (List FieldLayout) = λ word more. past (codes "[") more (λ more. then_read (read_decimal more) (λ bytes more. c word bytes more)) in
     ap read_field (five (codes "\t\tinteger { size = 8; align = 8; signed = false; encoding = UTF8; } ") name (codes "[") (decimal size) (codes "];\n") rest)
     ∙ ap (λ part. then_read part b) (read-run-back is_word name (codes "[" ++ (decimal size ++ (codes "];\n" ++ rest))) fit.0 fit.1 refl)
     ∙ ap (λ part. then_read part (λ bytes more. c name bytes more)) (decimal-back size (codes "];\n" ++ rest) (omega (arith, few)) refl)
@@ -119,8 +119,8 @@ lines-within (suc most) (line ∷ lines) (piece ∷ pieces) rest (inl none, are)
     ∙ ap (λ p. Some (p ++ flat pieces, rest)) (sym none.1)
 lines-within (suc most) (line ∷ lines) (piece ∷ pieces) rest (inr is, are) few =
     let tail : List ℕ = joined lines ++ (codes "\t};\n};\n" ++ rest) in
-    let next : List FieldLayout → List ℕ → Part (List FieldLayout) = λ some more. option_map (λ p. (some ++ p.0, p.1)) (read_fields most more) in
-    let end : List ℕ → Part (List FieldLayout) = λ more. Some ([], more) in
+    let next : List FieldLayout → List ℕ → PartRead (List FieldLayout) = λ some more. option_map (λ p. (some ++ p.0, p.1)) (read_fields most more) in
+    let end : List ℕ → PartRead (List FieldLayout) = λ more. Some ([], more) in
     ap (read_fields (suc most)) (append_assoc line (joined lines) (codes "\t};\n};\n" ++ rest))
     ∙ ap (λ o. past_or o end (then_read (read_field (line ++ tail)) next)) (is.goes_on tail)
     ∙ ap (λ part. then_read part next) (is.known tail)

@@ -1,5 +1,6 @@
 -- Values stand in order, under names by their places.
-use Rattle.std.proofs.Common.{◌≡◌, ◌+◌, false, ℕ, List, [], ◌∷◌, ◌++◌, length, map, Some, refl, ap}
+use Rattle.std.proofs.Common.{arith, ◌≡◌, ◌+◌, false, ℕ, List, [], ◌∷◌, ◌++◌, length, map, Some, refl, ap}
+use Rattle.std.proofs.lemmas.Bool.Decides.{nat_tests}
 use Rattle.std.specs.Option.{option_map_or}
 use Rattle.std.specs.List.{enumerate_from, range_with_len}
 use Rattle.dspec_record.specs.declared.header.Header.{Header}
@@ -28,9 +29,7 @@ plain-values header.Two stamp vs us is one = absurd (cc)
 names-of : (name other : ℕ → List ℕ) → ((k : ℕ) → name k ≡ other k) → (n : ℕ) (vs : List ℕ)
     → map (λ (v : List ℕ × ℕ). v.0) (map (λ p. (name p.0, p.1)) (enumerate_from n vs)) ≡ map other (range_with_len n (length vs))
 names-of name other each n [] = refl
-names-of name other each n (v ∷ vs) =
-    let rest = names-of name other each (n + 1) vs in
-    (λ i. each n i ∷ rest i)
+names-of name other each n (v ∷ vs) = grind (arith, nat_tests, names-of name other each (n + 1) vs)
 
 pub event-called : (names : Names) (epid : ℕ) (n : ProbeNames) → given_for names epid ≡ Some n → (names_by names).event epid ≡ n.event.now
 unfolding event_name

@@ -1,6 +1,6 @@
 -- How many next words of texts stand among an event's fields, and where a field's name stands.
-use Rattle.std.proofs.Common.{◌≡◌, ◌≤◌, ◌<◌, ◌+◌, ◌-◌, ℕ, zero, suc, Bool}
-use Rattle.std.proofs.Common.{true, false, List, [], ◌∷◌, take, drop, refl, ap, sym, ◌∙◌, arith}
+use Rattle.std.proofs.lemmas.Bool.Decides.{nat_tests}
+use Rattle.std.proofs.Common.{◌≡◌, ◌≤◌, ◌<◌, ◌+◌, ◌-◌, ℕ, zero, suc, Bool, true, false, List, [], ◌∷◌, take, drop, refl, ap, sym, ◌∙◌, arith}
 use Rattle.std.specs.Prelude.{slice_index_or, if◌then◌else◌}
 use Rattle.std.proofs.lemmas.List.{get_or-drop}
 use Rattle.dspec_ctf_reading.specs.Words.{is_next, next_words, name_place, next_in_front}
@@ -62,9 +62,7 @@ next-few (k ∷ ks) n m within = go (next-few ks (n + 1) m (λ p is. omega (arit
 -- ---- names
 
 pub name-same : (ks : List Kind) (q : ℕ) → is_next (kind_of ks (q + 1)) ≡ true → name_place ks (q + 1) ≡ name_place ks q
-name-same ks q is =
-    let one : next_words (take (q + 1 + 1) ks) ≡ next_words (take (q + 1) ks) + 1 = next-step ks (q + 1) ∙ ap (λ b. next_words (take (q + 1) ks) + (if b then 1 else 0)) is in
-    omega (arith, one)
+name-same ks q is = grind (arith, nat_tests, next-step)
 
 pub name-within : (ks : List Kind) (names m p : ℕ) → names + next_words ks ≡ m → ((q : ℕ) → is_next (kind_of ks q) ≡ true → q < m) → p < m → is_next (kind_of ks p) ≡ false
     → name_place ks p < names

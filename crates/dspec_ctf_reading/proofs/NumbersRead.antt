@@ -1,4 +1,5 @@
 -- A number that was written in so many bytes is read from them.
+use Rattle.std.proofs.lemmas.Bool.Decides.{nat_tests}
 use Rattle.std.proofs.Common.{◌≡◌, ◌<◌, ◌+◌, ◌*◌, ◌/◌, ◌%◌, ◌^◌, ℕ, List, ◌++◌, Some, ap, ◌∙◌, arith}
 use Rattle.std.proofs.lemmas.Nat.{from_le_bytes-to_le_bytes_2, from_le_bytes-to_le_bytes_4, from_le_bytes-to_le_bytes_8}
 use Rattle.dspec_ctf_reading.specs.Words.{width, little_endian, read_number}
@@ -21,7 +22,4 @@ number-back One v rest low = ap (λ n. Some (n, rest)) (omega (arith, low))
 number-back Two v rest low = ap (λ n. Some (n, rest)) (nested-2 (v % 256) (v / 256 % 256) ∙ from_le_bytes-to_le_bytes_2 v low)
 number-back Four v rest low =
     ap (λ n. Some (n, rest)) (nested-4 (v % 256) (v / 256 % 256) (v / 256 ^ 2 % 256) (v / 256 ^ 3 % 256) ∙ from_le_bytes-to_le_bytes_4 v low)
-number-back Eight v rest low =
-    ap (λ n. Some (n, rest))
-    (nested-8 (v % 256) (v / 256 % 256) (v / 256 ^ 2 % 256) (v / 256 ^ 3 % 256) (v / 256 ^ 4 % 256) (v / 256 ^ 5 % 256) (v / 256 ^ 6 % 256) (v / 256 ^ 7 % 256)
-    ∙ from_le_bytes-to_le_bytes_8 v low)
+number-back Eight v rest low = grind (arith, nat_tests, nested-8, from_le_bytes-to_le_bytes_8)

@@ -4,7 +4,7 @@ use Rattle.std.proofs.Common.{option_map, refl, ap, sym, ◌∙◌, arith, appen
 use Rattle.std.proofs.lemmas.Bool.{le-leb, cond-true}
 use Rattle.std.proofs.lemmas.List.{take_at, drop_at, length-replicate}
 use Rattle.dspec_ctf_reading.specs.Words.{Record, little_endian, EnabledRows, events, header_bytes, span_bytes, front_size, context_bytes, front_bytes, packet_around, filled_around, filled_size}
-use Rattle.dspec_ctf_reading.specs.Words.{Accepts, Layout, EventRead, PacketRead, FrontRead, Part, then_read, read_number, read_bytes, read_this, read_span, read_header, read_counts, read_front}
+use Rattle.dspec_ctf_reading.specs.Words.{Accepts, Layout, EventRead, PacketRead, FrontRead, PartRead, then_read, read_number, read_bytes, read_this, read_span, read_header, read_counts, read_front}
 use Rattle.dspec_ctf_reading.specs.Words.{sizes_agree, read_events, with_events, read_body, read_packet, Naming, event_read, layout_by, packet_read}
 use Rattle.dspec_record.specs.declared.field.Field.TheVariants.{Four, Eight}
 use Rattle.dspec_ctf_reading.proofs.Agreeing.{Agrees, agree}
@@ -20,7 +20,7 @@ bytes-back n xs rest is =
 header-back : (uuid rest : List ℕ) → length uuid ≡ 16 → read_header (header_bytes uuid ++ rest) ≡ Some (uuid, rest)
 unfolding header_bytes
 header-back uuid rest long =
-    let go_on : List ℕ → List ℕ → Part (List ℕ) = λ read more. option_map (λ p. (read, p.1)) (read_this 4 0 more) in
+    let go_on : List ℕ → List ℕ → PartRead (List ℕ) = λ read more. option_map (λ p. (read, p.1)) (read_this 4 0 more) in
     ap (λ bytes. then_read (read_bytes 16 bytes) go_on) (append_assoc uuid (little_endian 4 0) rest)
     ∙ ap (λ part. then_read part go_on) (bytes-back 16 uuid (little_endian 4 0 ++ rest) long)
 
@@ -37,7 +37,7 @@ span-back false None rest has = refl
 span-back false (Some span) rest has = absurd has
 span-back true None rest has = absurd has
 span-back true (Some span) rest has =
-    let go_on : ℕ → List ℕ → Part (Option (ℕ × ℕ)) = λ begin more. option_map (λ p. (Some (begin, p.0), p.1)) (read_number 8 more) in
+    let go_on : ℕ → List ℕ → PartRead (Option (ℕ × ℕ)) = λ begin more. option_map (λ p. (Some (begin, p.0), p.1)) (read_number 8 more) in
     ap (λ bytes. then_read (read_number 8 bytes) go_on) (append_assoc (little_endian 8 span.0) (little_endian 8 span.1) rest)
     ∙ ap (λ part. then_read part go_on) (number-back Eight span.0 (little_endian 8 span.1 ++ rest) has.0)
     ∙ ap (option_map (λ p. (Some (span.0, p.0), p.1))) (number-back Eight span.1 rest has.1)
@@ -50,11 +50,11 @@ counts-back : (uuid : List ℕ) (span : Option (ℕ × ℕ)) (content bits misse
     → read_counts uuid span (context_bytes content bits missed cpu ++ rest) ≡ Some (front_read uuid span content bits missed cpu, rest)
 unfolding context_bytes
 counts-back uuid span content bits missed cpu rest less low few small =
-    let fourth : ℕ → ℕ → ℕ → List ℕ → Part FrontRead =
+    let fourth : ℕ → ℕ → ℕ → List ℕ → PartRead FrontRead =
     λ had size gone more.
     option_map (λ p. (record { uuid = uuid; span = span; content_size = had; packet_size = size; discarded = gone; cpu = p.0 }, p.1)) (read_number 4 more) in
-    let third : ℕ → ℕ → List ℕ → Part FrontRead = λ had size more. then_read (read_number 8 more) (λ gone more. fourth had size gone more) in
-    let second : ℕ → List ℕ → Part FrontRead = λ had more. then_read (read_number 8 more) (λ size more. third had size more) in
+    let third : ℕ → ℕ → List ℕ → PartRead FrontRead = λ had size more. then_read (read_number 8 more) (λ gone more. fourth had size gone more) in
+    let second : ℕ → List ℕ → PartRead FrontRead = λ had more. then_read (read_number 8 more) (λ size more. third had size more) in
     let d : List ℕ = little_endian 4 cpu in
     let c : List ℕ = little_endian 8 missed in
     let b : List ℕ = little_endian 8 bits in
@@ -73,8 +73,8 @@ front-back : (timed : Bool) (uuid : List ℕ) (span : Option (ℕ × ℕ)) (cont
 unfolding front_bytes
 front-back timed uuid span content size missed cpu rest long has less low few small =
     let c : List ℕ = context_bytes (8 * content) (8 * size) missed cpu in
-    let second : List ℕ → Option (ℕ × ℕ) → List ℕ → Part FrontRead = λ id at more. read_counts id at more in
-    let first : List ℕ → List ℕ → Part FrontRead = λ id more. then_read (read_span timed more) (second id) in
+    let second : List ℕ → Option (ℕ × ℕ) → List ℕ → PartRead FrontRead = λ id at more. read_counts id at more in
+    let first : List ℕ → List ℕ → PartRead FrontRead = λ id more. then_read (read_span timed more) (second id) in
     ap (λ bytes. then_read (read_header bytes) first)
     (append_assoc (header_bytes uuid) (span_bytes span ++ c) rest ∙ ap (λ more. header_bytes uuid ++ more) (append_assoc (span_bytes span) c rest))
     ∙ ap (λ part. then_read part first) (header-back uuid (span_bytes span ++ (c ++ rest)) long)
@@ -128,7 +128,7 @@ body-back layout head body fill rest front n es long content size are =
       within = omega (arith, content, size);
       high = omega (arith, size, there);
     } in
-    let made : Option PacketRead → Part PacketRead = λ o. option_map (λ packet. (packet, drop end bytes)) o in
+    let made : Option PacketRead → PartRead PacketRead = λ o. option_map (λ packet. (packet, drop end bytes)) o in
     let body_is : take last (body ++ more) ≡ body = take_at body more last (omega (arith, content, front_is, long)) in
     let whole : List ℕ = (head ++ body) ++ fill in
     let rest_is : drop end bytes ≡ rest =

@@ -1,5 +1,5 @@
 -- Runs of bytes, fixed texts and numbers, as loops over bytes find them.
-use Rattle.std.proofs.Common.{◌≡◌, ◌≤◌, ◌<◌, ◌+◌, ◌*◌, ◌-◌, ◌&&◌, ℕ, zero, suc, nat_eq, Bool, true, false, cond, List, [], ◌∷◌, length, take, drop, get_or, Option, Some, None}
+use Rattle.std.proofs.Common.{◌≡◌, ◌≤◌, ◌<◌, ◌+◌, ◌*◌, ◌-◌, ℕ, zero, suc, nat_eq, Bool, true, false, cond, List, [], ◌∷◌, length, take, drop, get_or, Option, Some, None}
 use Rattle.std.proofs.Common.{option_map, refl, ap, sym, ◌∙◌, arith, Bor, MatchOption, add-one}
 use Rattle.std.specs.Cmp.Lexicographic.{pointwise}
 use Rattle.std.specs.List.{list_all}
@@ -22,11 +22,7 @@ rest_past-there (c ∷ text) (b ∷ bytes) same =
 rest_past-other : (text bytes : List ℕ) → pointwise nat_eq (take (length text) bytes) text ≡ false → None ≡ rest_past text bytes
 rest_past-other [] bytes other = absurd (cc)
 rest_past-other (c ∷ text) [] other = refl
-rest_past-other (c ∷ text) (b ∷ bytes) other = other-byte (nat_eq b c) (pointwise nat_eq (take (length text) bytes) text) (rest_past text bytes) other (rest_past-other text bytes)
-  where
-    other-byte : (t more : Bool) (rest : Option (List ℕ)) → (t && more) ≡ false → (more ≡ false → None ≡ rest) → None ≡ cond t rest None
-    other-byte true more rest is on = on is
-    other-byte false more rest is on = refl
+rest_past-other (c ∷ text) (b ∷ bytes) other = grind (arith, nat_tests, rest_past-other text bytes)
 
 pub behind-told : (text bytes : List ℕ) (r : Option (Bor (List ℕ))) → MatchOption r (pointwise nat_eq (take (length text) bytes) text ≡ false)
     (λ x. (pointwise nat_eq (take (length text) bytes) text ≡ true) × (x.now ≡ drop (length text) bytes) × (length x.now + length text ≡ length bytes))
@@ -47,12 +43,7 @@ run-ends test (suc n) (b ∷ bytes) within pass stops =
 
 run-passes : (test : ℕ → Bool) (bytes : List ℕ) → list_all test (run_of test bytes).0 ≡ true
 run-passes test [] = refl
-run-passes test (b ∷ bytes) = passes (test b) refl (run-passes test bytes)
-  where
-    passes : (t : Bool) → test b ≡ t → list_all test (run_of test bytes).0 ≡ true
-        → list_all test (cond {A = List ℕ × List ℕ} t (b ∷ (run_of test bytes).0, (run_of test bytes).1) ([], b ∷ bytes)).0 ≡ true
-    passes true is more = and_from (test b) (list_all test (run_of test bytes).0) is more
-    passes false is more = refl
+run-passes test (b ∷ bytes) = grind (arith, nat_tests, run-passes test bytes, and_from)
 
 -- a run of these sets is text
 below_ascii : (set : Set) (byte : ℕ) → test_of set byte ≡ true → byte < 128

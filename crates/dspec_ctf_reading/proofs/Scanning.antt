@@ -1,8 +1,8 @@
 -- What stands in a text is found there.
-use Rattle.std.proofs.Common.{◌≡◌, ◌<◌, ◌^◌, ◌==◌, ◌++◌, ℕ, Bool, true, cond, List, [], ◌∷◌, length, Option, Some, None, option_map, refl, ap, ◌∙◌, arith}
+use Rattle.std.proofs.lemmas.Bool.Decides.{nat_tests}
+use Rattle.std.proofs.Common.{◌≡◌, ◌<◌, ◌^◌, ◌++◌, ℕ, Bool, true, cond, List, [], ◌∷◌, length, Option, Some, None, refl, ap, ◌∙◌, arith, rules}
 use Rattle.std.specs.Prelude.{option_and_then, decimal}
 use Rattle.std.specs.List.{list_all}
-use Rattle.std.proofs.Common.{rules}
 use Rattle.std.proofs.lemmas.Bool.{eq-eqb, ne_eqb, and_parts, and_from, cond-false}
 use Rattle.std.proofs.lemmas.Fmt.{digits_decimal, digits_value-decimal, decimal_nonempty}
 use Rattle.std.proofs.lemmas.Str.Parse.{IsNumeralModel, numerals_by_fold}
@@ -27,9 +27,7 @@ run-back test (x ∷ xs) rest pass ends =
     ap (λ b. cond b (x ∷ more.0, more.1) ([], x ∷ (xs ++ rest))) parts.0 ∙ ap (λ p. (x ∷ p.0, p.1)) (run-back test xs rest parts.1 ends)
 
 pub read-run-back : (test : ℕ → Bool) (xs rest : List ℕ) → list_all test xs ≡ true → 0 < length xs → run_of test rest ≡ ([], rest) → read_run test (xs ++ rest) ≡ Some (xs, rest)
-read-run-back test xs rest pass some ends =
-    ap (λ p. cond (length p.0 == 0) None (Some p)) (run-back test xs rest pass ends)
-    ∙ cond-false (length xs == 0) None (Some (xs, rest)) (ne_eqb (length xs) 0 (λ none. omega (arith, some, none)))
+read-run-back test xs rest pass some ends = grind (arith, nat_tests, run-back, cond-false, ne_eqb)
 
 -- numbers
 own : IsNumeralModel (λ ds. list_all is_digit ds ≡ true) (digits_number 0)
@@ -41,8 +39,7 @@ decimal-digits n low = digits_decimal own n low
 
 pub decimal-back : (n : ℕ) (rest : List ℕ) → n < 2 ^ 64 → run_of is_digit rest ≡ ([], rest) → read_decimal (decimal n ++ rest) ≡ Some (n, rest)
 decimal-back n rest low ends =
-    ap (option_map (λ p. (digits_number 0 p.0, p.1))) (read-run-back is_digit (decimal n) rest (decimal-digits n low) (decimal_nonempty n low) ends)
-    ∙ ap (λ v. Some (v, rest)) (digits_value-decimal own n low)
+    grind (arith, nat_tests, read-run-back is_digit (decimal n) rest (decimal-digits n low) (decimal_nonempty n low) ends, decimal-digits n low, decimal_nonempty n low, digits_value-decimal own n low)
 
 -- tests that pass more
 pub list_all-weaker : (test other : ℕ → Bool) → ((b : ℕ) → test b ≡ true → other b ≡ true) → (xs : List ℕ) → list_all test xs ≡ true → list_all other xs ≡ true

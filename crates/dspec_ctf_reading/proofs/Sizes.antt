@@ -1,8 +1,8 @@
 -- How many bytes the events of records have at most.
-use Rattle.std.proofs.Common.{◌≡◌, ◌≤◌, ◌*◌, ◌++◌, ℕ, List, [], ◌∷◌, length, refl, arith, length-append, All}
+use Rattle.std.proofs.lemmas.Bool.Decides.{nat_tests}
+use Rattle.std.proofs.Common.{◌≤◌, ◌*◌, ℕ, List, [], ◌∷◌, length, arith, length-append, All}
 use Rattle.std.proofs.lemmas.List.Elements.{All-head, All-tail}
-use Rattle.dspec_ctf_reading.specs.Words.{Record, width, little_endian, EnabledRows, enabled, length-little_endian, IsAccepted, accepted-parts, stamp_bytes, values_bytes, event, events}
-use Rattle.dspec_ctf_reading.specs.Words.{event_fields, Accepts}
+use Rattle.dspec_ctf_reading.specs.Words.{Record, width, little_endian, EnabledRows, length-little_endian, stamp_bytes, values_bytes, event, events, Accepts}
 use Rattle.dspec_record.specs.declared.field.Field.{Field}
 use Rattle.dspec_record.specs.declared.field.Field.TheVariants.{One, Two, Four, Eight}
 use Rattle.dspec_record.specs.declared.header.Header.{Header}
@@ -26,14 +26,7 @@ values-small (f ∷ fs) (v ∷ vs) =
     omega (arith, length-append (little_endian (width f) v) (values_bytes fs vs), length-little_endian f v, narrow f, values-small fs vs)
 
 pub event-small : (e : EnabledRows) (r : Record) → Accepts e r → length (event e r) ≤ 76
-event-small e r of_r =
-    let parts : IsAccepted e.header r (enabled e.rows r.epid) = accepted-parts e.header (enabled e.rows) r of_r in
-    let known : IsKnown e r.epid r.values = is-known e r.epid r.values parts.values in
-    let id : List ℕ = little_endian 4 r.epid in
-    let stamp : List ℕ = stamp_bytes e.header r.stamp in
-    let values : List ℕ = values_bytes (event_fields e r.epid) r.values in
-    let four : length id ≡ 4 = refl in
-    omega (arith, known.few, four, length-append id (stamp ++ values), length-append stamp values, stamp-small e.header r.stamp, values-small (event_fields e r.epid) r.values)
+event-small e r of_r = grind (arith, nat_tests, IsKnown, is-known, stamp-small, values-small)
 
 pub events-small : (e : EnabledRows) (rs : List Record) → All (Accepts e) rs → length (events e rs) ≤ 76 * length rs
 events-small e [] of_rs = omega arith

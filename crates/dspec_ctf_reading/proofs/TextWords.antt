@@ -1,10 +1,9 @@
 -- The words of texts among an event's fields: their names, and the fields that a text's line tells.
-use Rattle.std.proofs.Common.{append_assoc, ◌≡◌, ◌≤◌, ◌<◌, ◌+◌, ◌-◌, ◌==◌, ◌++◌, ℕ, suc, Bool}
-use Rattle.std.proofs.Common.{true, false, List, [], ◌∷◌, length, map, take, drop, replicate, refl, ap, sym, ◌∙◌, arith}
-use Rattle.std.specs.Prelude.{slice_index_or, nat_lt, if◌then◌else◌}
+use Rattle.std.proofs.lemmas.Bool.Decides.{nat_tests}
+use Rattle.std.proofs.Common.{append_assoc, ◌≡◌, ◌≤◌, ◌<◌, ◌+◌, ◌-◌, ◌==◌, ◌++◌, ℕ, suc, Bool, true, false, List, [], ◌∷◌, length, map, take, drop, replicate, refl, ap, sym, ◌∙◌, arith}
+use Rattle.std.specs.Prelude.{slice_index_or, if◌then◌else◌}
 use Rattle.std.specs.List.{flat_map, enumerate_from}
 use Rattle.std.proofs.lemmas.Bool.{eqb-true, and_parts}
-use Rattle.std.proofs.Common.{ltb-true, ltb-false}
 use Rattle.std.proofs.lemmas.List.{length-drop, take-append-drop, get_or-drop, get_or_past}
 use Rattle.dspec_ctf_reading.specs.Words.{width, is_next, next_in_front, words_at, is_text, is_text_before, can_mean, FieldLayout}
 use Rattle.dspec_record.specs.declared.field.Field.{Field}
@@ -47,32 +46,19 @@ CanMean ks fs = (p : ℕ) → p < length ks → can_mean (kind_of ks p) (width (
 
 module _ (ks : List Kind) (fs : List Field) (can : CanMean ks fs) where
   can-all : (p : ℕ) → can_mean (kind_of ks p) (width (slice_index_or fs p One) == 8) (is_text_before ks p) ≡ true
-  can-all p = go (nat_lt p (length ks)) refl
-    where
-      go : (b : Bool) → nat_lt p (length ks) ≡ b → can_mean (kind_of ks p) (width (slice_index_or fs p One) == 8) (is_text_before ks p) ≡ true
-      go true is = can p (ltb-true p (length ks) is)
-      go false is = ap (λ k. can_mean k (width (slice_index_or fs p One) == 8) (is_text_before ks p)) (get_or_past ks p Unsigned (ltb-false p (length ks) is))
+  can-all p = grind (arith, nat_tests, kind_of, get_or_past)
 
   pub text-eight : (p : ℕ) → is_text (kind_of ks p) ≡ true → width (slice_index_or fs p One) ≡ 8
   text-eight p is = eqb-true (width (slice_index_or fs p One)) 8 (fact-eight (kind_of ks p) (width (slice_index_or fs p One) == 8) (is_text_before ks p) (can-all p) is)
 
   pub text-within : (p : ℕ) → is_text (kind_of ks p) ≡ true → p < length fs
-  text-within p is = go (nat_lt p (length fs)) refl
-    where
-      go : (b : Bool) → nat_lt p (length fs) ≡ b → p < length fs
-      go true low = ltb-true p (length fs) low
-      go false high =
-          let one : width (slice_index_or fs p One) ≡ 1 = ap width (get_or_past fs p One (ltb-false p (length fs) high)) in
-          absurd (omega (arith, one, text-eight p is))
+  text-within p is = grind (arith, nat_tests, get_or_past, text-eight)
 
   pub next-before : (q : ℕ) → is_next (kind_of ks (q + 1)) ≡ true → is_text (kind_of ks q) ≡ true
   next-before q is = ap (is_text_before ks) (one-more q) ∙ fact-before (kind_of ks (q + 1)) (width (slice_index_or fs (q + 1) One) == 8) (is_text_before ks (q + 1)) (can-all (q + 1)) is
 
   pub first-none : is_next (kind_of ks 0) ≡ false
-  first-none = not-true (is_next (kind_of ks 0)) (λ is. no (fact-before (kind_of ks 0) (width (slice_index_or fs 0 One) == 8) false (can-all 0) is))
-    where
-      no : false ≡ true → ⊥
-      no is = absurd (cc)
+  first-none = grind (arith, nat_tests, not-true, kind_of, fact-before, can-all)
 
 -- ---- the fields of lines
 

@@ -3,7 +3,7 @@ use Rattle.std.proofs.Common.{◌≡◌, ◌≤◌, ◌<◌, ◌+◌, ◌-◌, �
 use Rattle.std.specs.Prelude.{option_and_then, codes, decimal}
 use Rattle.std.specs.List.{flat_map, range_with_len}
 use Rattle.std.proofs.lemmas.List.{append-nil}
-use Rattle.dspec_ctf_reading.specs.Words.{EnabledRows, event_fields, stamp_line, event_name, field_lines, event_number, event_front, event_text, typed_line, FieldLayout, EventLayout, Part}
+use Rattle.dspec_ctf_reading.specs.Words.{EnabledRows, event_fields, stamp_line, event_name, field_lines, event_number, event_front, event_text, typed_line, FieldLayout, EventLayout, PartRead}
 use Rattle.dspec_ctf_reading.specs.Words.{then_read, past, is_digit, is_word, is_quoted, read_quoted, read_fields, read_event_text, read_event_texts, stamp_field, field_layouts, event_layout}
 use Rattle.dspec_ctf_reading.specs.Words.{is_timed, names_by}
 use Rattle.dspec_record.specs.declared.field.Field.TheVariants.{Eight}
@@ -66,10 +66,10 @@ event-text-back form e names place rest told =
     let tail_is : stamp_line form e.header ++ (others ++ end) ≡ tail =
     (λ i. stamp.text_is i ++ (told.fields.text_is i ++ end)) ∙ sym (append_assoc (joined stamp.lines) (joined told.fields.lines) end)
     ∙ ap (λ bytes. bytes ++ end) (sym (joined-append stamp.lines told.fields.lines)) in
-    let c : ℕ → List ℕ → List ℕ → Part EventLayout =
+    let c : ℕ → List ℕ → List ℕ → PartRead EventLayout =
     λ id word more. past (codes "\";\n\tstream_id = 0;\n\tfields := struct {\n")
     more (λ more. option_map (λ p. (record { id = id; name = word; fields = p.0 }, p.1)) (read_fields (length more) more)) in
-    let b : ℕ → List ℕ → Part EventLayout = λ id more. past (codes ";\n\tname = \"") more (λ more. then_read (read_quoted more) (λ word more. c id word more)) in
+    let b : ℕ → List ℕ → PartRead EventLayout = λ id more. past (codes ";\n\tname = \"") more (λ more. then_read (read_quoted more) (λ word more. c id word more)) in
     let back : (place + 1) - 1 ≡ place = omega arith in
     ap read_event_text
     (eight (codes "\nevent {\n\tid = ") (decimal (place + 1)) (codes ";\n\tname = \"")
@@ -101,7 +101,7 @@ texts-within form e names (suc most) a zero told few = refl
 texts-within form e names zero a (suc k) told few = absurd (omega (arith, few))
 texts-within form e names (suc most) a (suc k) told few =
     let rest : List ℕ = flat_map (event_text form e names) (range_with_len (a + 1) k) in
-    let go_on : Part EventLayout → Option (List EventLayout) = λ part. option_and_then (λ p. option_map (λ events. p.0 ∷ events) (read_event_texts most p.1)) part in
+    let go_on : PartRead EventLayout → Option (List EventLayout) = λ part. option_and_then (λ p. option_map (λ events. p.0 ∷ events) (read_event_texts most p.1)) part in
     on-bytes most (event_text form e names a ++ rest) (omega (arith, text-some form e names a, length-append (event_text form e names a) rest))
     ∙ ap go_on (event-text-back form e names a rest (told a (omega arith)))
     ∙ ap (option_map (λ events. event_layout (names_by names) (is_timed form) e (a + 1) ∷ events))

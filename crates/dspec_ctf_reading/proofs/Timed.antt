@@ -1,6 +1,6 @@
 -- A CPU's file by time, and one as taken.
-use Rattle.std.proofs.Common.{◌≡◌, ◌≢◌, ◌≤◌, ◌<◌, ◌+◌, ◌*◌, ◌/◌, ◌^◌, ◌++◌, ◌==◌, ℕ, zero, suc, Bool, true, false, cond, List, [], ◌∷◌, length, map, take, drop, Some, None}
-use Rattle.std.proofs.Common.{refl, ap, sym, ◌∙◌, arith, All}
+use Rattle.std.proofs.lemmas.Bool.Decides.{nat_tests}
+use Rattle.std.proofs.Common.{◌≡◌, ◌≤◌, ◌<◌, ◌+◌, ◌*◌, ◌/◌, ◌^◌, ◌++◌, ◌==◌, ℕ, zero, suc, Bool, true, false, cond, List, [], ◌∷◌, length, map, take, drop, Some, None, refl, ap, sym, ◌∙◌, arith, All}
 use Rattle.std.specs.List.{flat_map, range_with_len}
 use Rattle.std.proofs.lemmas.Bool.{eqb-true, eqb-false, eq-eqb}
 use Rattle.std.proofs.lemmas.List.{take-append-drop, drop_all, drop-drop, length-take}
@@ -17,9 +17,7 @@ few ps = omega (arith, length-take 4096 ps)
 
 -- there are packets for all records
 covers-test : (missed n : ℕ) (none : Bool) → (n == 0) ≡ none → n ≤ 4096 * (0 + cond none (cond (missed == 0) 0 1) ((n + 4095) / 4096))
-covers-test missed n true is =
-    let nothing : n ≡ 0 = eqb-true n 0 is in
-    omega (arith, nothing)
+covers-test missed n true is = grind (arith, nat_tests, eqb-true)
 covers-test missed n false is = omega arith
 
 covers : (missed n : ℕ) → n ≤ 4096 * (0 + packet_count missed n)
@@ -27,11 +25,7 @@ covers missed n = covers-test missed n (n == 0) refl
 
 -- and there is none only where nothing was missed
 none-test : (missed n : ℕ) (none gone : Bool) → (n == 0) ≡ none → (missed == 0) ≡ gone → cond none (cond gone 0 1) ((n + 4095) / 4096) ≡ 0 → missed ≡ 0
-none-test missed n true true is nothing count = eqb-true missed 0 nothing
-none-test missed n true false is nothing count = absurd (omega (arith, count))
-none-test missed n false gone is nothing count =
-    let some : n ≢ 0 = eqb-false n 0 is in
-    absurd (omega (arith, count, some))
+none-test = grind (arith, nat_tests, eqb-true, eqb-false)
 
 -- the parts are all records, in order
 parts-all : (rs : List Record) (k a : ℕ) → length rs ≤ 4096 * (a + k) → flat_map (part_at rs) (range_with_len a k) ≡ drop (4096 * a) rs

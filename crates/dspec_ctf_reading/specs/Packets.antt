@@ -4,8 +4,8 @@ use Rattle.dspec_ctf_reading.specs.Reading.{Layout, FrontRead, read_number, read
 use Rattle.dspec_ctf_reading.specs.Fronts.{split_packet}
 use Rattle.dspec_ctf_reading.specs.declared.fault.PacketReadFault.{PacketReadFault}
 use Rattle.dspec_ctf_reading.specs.declared.fault.PacketReadFault.TheVariants.{Cut, Magic, Stream, ContentWithinByte, PacketWithinByte, BeforeEvents, BehindPacket, BehindFile}
-use Rattle.dspec_ctf_reading.specs.declared.fault.PacketFault.{PacketFault}
-use Rattle.dspec_ctf_reading.specs.declared.fault.PacketFault.TheVariants.{Packet, Events}
+use Rattle.dspec_ctf_reading.specs.declared.fault.WholePacketFault.{WholePacketFault}
+use Rattle.dspec_ctf_reading.specs.declared.fault.WholePacketFault.TheVariants.{Packet, Events}
 use Rattle.dspec_ctf_reading.specs.Faults.{EventsDue}
 
 -- Of bytes that begin with no front: another magic number stands there, or another stream; or neither, and so they are cut.
@@ -30,6 +30,6 @@ PacketDue timed bytes fault =
     MatchOption (read_front timed bytes) (FrontDue bytes fault) (λ p. SizesDue p.0 (length bytes - length p.1) (length bytes) fault)
 
 -- Of bytes that begin with no packet whose events can be read.
-abbrev pub WholeDue : Layout → List ℕ → PacketFault → Type 0
+abbrev pub WholeDue : Layout → List ℕ → WholePacketFault → Type 0
 WholeDue layout bytes (Packet fault) = PacketDue layout.timed bytes fault
 WholeDue layout bytes (Events fault) = IsSomeAnd (split_packet layout.timed bytes) (λ packet. EventsDue layout packet.body fault)

@@ -45,30 +45,30 @@ pub record PacketRead : Type 0 where
 -- ---- the parts
 
 -- a part that was read from the front of the bytes, and the bytes behind it; or nothing, where they don't begin with such a part
-abbrev pub Part : Type 0 → Type 0
-Part A = Option (A × List ℕ)
+abbrev pub PartRead : Type 0 → Type 0
+PartRead A = Option (A × List ℕ)
 
 -- goes on behind a part
-abbrev pub then_read : {A B : Type 0} → Part A → (A → List ℕ → Part B) → Part B
+abbrev pub then_read : {A B : Type 0} → PartRead A → (A → List ℕ → PartRead B) → PartRead B
 then_read part f = option_and_then (λ p. f p.0 p.1) part
 
 -- a number of so many bytes, the lowest first
-abbrev pub read_number : ℕ → List ℕ → Part ℕ
+abbrev pub read_number : ℕ → List ℕ → PartRead ℕ
 read_number zero bytes = Some (0, bytes)
 read_number (suc n) [] = None
 read_number (suc n) (b ∷ bytes) = option_map (λ p. (b + 256 * p.0, p.1)) (read_number n bytes)
 
 -- so many bytes as they stand
-abbrev pub read_bytes : ℕ → List ℕ → Part (List ℕ)
+abbrev pub read_bytes : ℕ → List ℕ → PartRead (List ℕ)
 read_bytes n bytes = if nat_le n (length bytes) then Some (take n bytes, drop n bytes) else None
 
 -- a stamp, where there is a clock
-abbrev pub read_stamp : Bool → List ℕ → Part (Option ℕ)
+abbrev pub read_stamp : Bool → List ℕ → PartRead (Option ℕ)
 read_stamp false bytes = Some (None, bytes)
 read_stamp true bytes = option_map (λ p. (Some p.0, p.1)) (read_number 8 bytes)
 
 -- two stamps, where there is a clock
-abbrev pub read_span : Bool → List ℕ → Part (Option (ℕ × ℕ))
+abbrev pub read_span : Bool → List ℕ → PartRead (Option (ℕ × ℕ))
 read_span false bytes = Some (None, bytes)
 read_span true bytes = then_read (read_number 8 bytes) (λ begin rest. option_map (λ p. (Some (begin, p.0), p.1)) (read_number 8 rest))
 
@@ -80,19 +80,19 @@ find_event id [] = None
 find_event id (event ∷ events) = if event.id == id then Some event else find_event id events
 
 -- a value for each field, one behind another
-abbrev pub read_payload : List FieldLayout → List ℕ → Part (List (List ℕ × ℕ))
+abbrev pub read_payload : List FieldLayout → List ℕ → PartRead (List (List ℕ × ℕ))
 read_payload [] bytes = Some ([], bytes)
 read_payload (field ∷ fields) bytes =
     then_read (read_number field.width bytes) (λ value rest. option_map (λ p. ((field.name, value) ∷ p.0, p.1)) (read_payload fields rest))
 
 -- what stands behind an event's number: its stamp, then its values
-abbrev pub read_event_body : Bool → EventLayout → List ℕ → Part EventRead
+abbrev pub read_event_body : Bool → EventLayout → List ℕ → PartRead EventRead
 read_event_body timed event bytes =
     then_read (read_stamp timed bytes) (λ stamp rest.
     option_map (λ p. (record { id = event.id; name = event.name; stamp = stamp; values = p.0 }, p.1)) (read_payload event.fields rest))
 
 -- an event: a number that the metadata knows, in four bytes, and what stands behind it
-abbrev pub read_event : Layout → List ℕ → Part EventRead
+abbrev pub read_event : Layout → List ℕ → PartRead EventRead
 read_event layout bytes =
     then_read (read_number 4 bytes) (λ id rest. option_and_then (λ event. read_event_body layout.timed event rest) (find_event id layout.events))
 
@@ -120,17 +120,17 @@ pub record FrontRead : Type 0 where
   pub cpu : ℕ
 
 -- a number of so many bytes that has to be this one
-abbrev pub read_this : ℕ → ℕ → List ℕ → Part (Unit {0})
+abbrev pub read_this : ℕ → ℕ → List ℕ → PartRead (Unit {0})
 read_this n x bytes = option_and_then (λ p. if p.0 == x then Some (tt, p.1) else None) (read_number n bytes)
 
 -- the header of a packet: the magic number of the format, the trace's 16 bytes, and the number of the stream's kind, of which there is one, 0
-abbrev pub read_header : List ℕ → Part (List ℕ)
+abbrev pub read_header : List ℕ → PartRead (List ℕ)
 read_header bytes =
     then_read (read_this 4 3254525889 bytes) (λ _ rest.
     then_read (read_bytes 16 rest) (λ uuid rest. option_map (λ p. (uuid, p.1)) (read_this 4 0 rest)))
 
 -- behind the stamps: the size of what the packet has, its front and its events, its own size, how many events were missed so far, and the CPU
-abbrev pub read_counts : List ℕ → Option (ℕ × ℕ) → List ℕ → Part FrontRead
+abbrev pub read_counts : List ℕ → Option (ℕ × ℕ) → List ℕ → PartRead FrontRead
 read_counts uuid span bytes =
     then_read (read_number 8 bytes) (λ content_size rest.
     then_read (read_number 8 rest) (λ packet_size rest.
@@ -139,7 +139,7 @@ read_counts uuid span bytes =
     (read_number 4 rest))))
 
 -- the header, and the context behind it
-abbrev pub read_front : Bool → List ℕ → Part FrontRead
+abbrev pub read_front : Bool → List ℕ → PartRead FrontRead
 read_front timed bytes =
     then_read (read_header bytes) (λ uuid rest. then_read (read_span timed rest) (λ span rest. read_counts uuid span rest))
 
@@ -159,14 +159,14 @@ with_events layout front body =
 
 -- A packet: its front, then events up to the end of its content. What is behind them up to its own end is passed over. All bytes are given besides
 -- those behind the front, for the sizes.
-abbrev pub read_body : Layout → List ℕ → FrontRead → List ℕ → Part PacketRead
+abbrev pub read_body : Layout → List ℕ → FrontRead → List ℕ → PartRead PacketRead
 read_body layout bytes front rest =
     if sizes_agree front (length bytes - length rest) (length bytes)
     then option_map (λ packet. (packet, drop (front.packet_size / 8) bytes))
     (with_events layout front (take (front.content_size / 8 - (length bytes - length rest)) rest))
     else None
 
-abbrev pub read_packet : Layout → List ℕ → Part PacketRead
+abbrev pub read_packet : Layout → List ℕ → PartRead PacketRead
 read_packet layout bytes = then_read (read_front layout.timed bytes) (λ front rest. read_body layout bytes front rest)
 
 -- packets one behind another up to the end of the bytes, of so many at most; as with events, as many as there are bytes are enough

@@ -2,7 +2,7 @@
 -- traces have: the same lines, in the same order. Whatever else stands there is refused.
 use Rattle.std.specs.Prelude.{ℕ, zero, suc, ◌+◌, ◌-◌, ◌*◌, ◌/◌, ◌%◌, ◌==◌, nat_le, not, Bool, true, false, ◌&&◌, ◌||◌, List, [], ◌∷◌, ◌++◌, length, replicate, codes, Option, Some, None, if◌then◌else◌}
 use Rattle.std.specs.Option.{option_map, option_and_then}
-use Rattle.dspec_ctf_reading.specs.Reading.{FieldLayout, EventLayout, Layout, Part, then_read}
+use Rattle.dspec_ctf_reading.specs.Reading.{FieldLayout, EventLayout, Layout, PartRead, then_read}
 
 -- ---- the parts of a text
 
@@ -22,11 +22,11 @@ past_or None f other = other
 past_or (Some rest) f other = f rest
 
 -- goes on behind a part, which tells nothing of the layout
-abbrev pub then_rest : {A B : Type 0} → Part A → (List ℕ → Option B) → Option B
+abbrev pub then_rest : {A B : Type 0} → PartRead A → (List ℕ → Option B) → Option B
 then_rest part f = option_and_then (λ p. f p.1) part
 
 -- goes on with a part and what is behind it
-abbrev pub with_part : {A B : Type 0} → Part A → (A → List ℕ → Option B) → Option B
+abbrev pub with_part : {A B : Type 0} → PartRead A → (A → List ℕ → Option B) → Option B
 with_part part f = option_and_then (λ p. f p.0 p.1) part
 
 -- the bytes up to the first that fails the test, and those from it on
@@ -35,7 +35,7 @@ run_of test [] = ([], [])
 run_of test (b ∷ bytes) = if test b then (b ∷ (run_of test bytes).0, (run_of test bytes).1) else ([], b ∷ bytes)
 
 -- one byte or more that pass the test
-abbrev pub read_run : (ℕ → Bool) → List ℕ → Part (List ℕ)
+abbrev pub read_run : (ℕ → Bool) → List ℕ → PartRead (List ℕ)
 read_run test bytes = if length (run_of test bytes).0 == 0 then None else Some (run_of test bytes)
 
 -- a number by its digits
@@ -46,21 +46,21 @@ abbrev pub digits_number : ℕ → List ℕ → ℕ
 digits_number n [] = n
 digits_number n (b ∷ bs) = digits_number (10 * n + (b - 48)) bs
 
-abbrev pub read_decimal : List ℕ → Part ℕ
+abbrev pub read_decimal : List ℕ → PartRead ℕ
 read_decimal bytes = option_map (λ p. (digits_number 0 p.0, p.1)) (read_run is_digit bytes)
 
 -- a word of English letters, digits and underscores
 unfoldable pub is_word : ℕ → Bool
 is_word b = ((nat_le 65 b && nat_le b 90) || ((nat_le 97 b && nat_le b 122) || b == 95)) || is_digit b
 
-abbrev pub read_word : List ℕ → Part (List ℕ)
+abbrev pub read_word : List ℕ → PartRead (List ℕ)
 read_word bytes = read_run is_word bytes
 
 -- a text in quotes, behind the first of them: printable ASCII without quotes and backslashes
 unfoldable pub is_quoted : ℕ → Bool
 is_quoted b = (nat_le 32 b && nat_le b 126) && not (b == 34 || b == 92)
 
-abbrev pub read_quoted : List ℕ → Part (List ℕ)
+abbrev pub read_quoted : List ℕ → PartRead (List ℕ)
 read_quoted bytes = read_run is_quoted bytes
 
 -- ---- the types of fields
@@ -77,12 +77,12 @@ float_types =
     (codes "floating_point { exp_dig = 8; mant_dig = 24; align = 8; }", 4) ∷ (codes "floating_point { exp_dig = 11; mant_dig = 53; align = 8; }", 8) ∷ []
 
 -- the first of these types that stands there
-abbrev pub read_type_of : List (List ℕ × ℕ) → List ℕ → Part ℕ
+abbrev pub read_type_of : List (List ℕ × ℕ) → List ℕ → PartRead ℕ
 read_type_of [] bytes = None
 read_type_of (type ∷ types) bytes = past_or (rest_past type.0 bytes) (λ rest. Some (type.1, rest)) (read_type_of types bytes)
 
 -- a label, and the number that has it
-abbrev pub read_label : List ℕ → Part (List ℕ × ℕ)
+abbrev pub read_label : List ℕ → PartRead (List ℕ × ℕ)
 read_label bytes =
     past (codes "\"") bytes (λ rest.
     then_read (read_quoted rest) (λ label rest.
@@ -90,14 +90,14 @@ read_label bytes =
     then_read (read_decimal rest) (λ number rest. past (codes ", ") rest (λ rest. Some ((label, number), rest))))))
 
 -- labels up to the brace behind them, of so many at most; a label takes some bytes, so as many as there are bytes are enough
-abbrev pub read_labels : ℕ → List ℕ → Part (List (List ℕ × ℕ))
+abbrev pub read_labels : ℕ → List ℕ → PartRead (List (List ℕ × ℕ))
 read_labels zero bytes = None
 read_labels (suc most) bytes =
     past_or (rest_past (codes "}") bytes) (λ rest. Some ([], rest))
     (then_read (read_label bytes) (λ label rest. option_map (λ p. (label ∷ p.0, p.1)) (read_labels most rest)))
 
 -- a type, and how many bytes its values have: a number's, or an enumeration of labels over a whole number's
-abbrev pub read_type : List ℕ → Part ℕ
+abbrev pub read_type : List ℕ → PartRead ℕ
 read_type bytes =
     past_or (rest_past (codes "enum : ") bytes)
     (λ rest. then_read (read_type_of whole_types rest) (λ width rest. past (codes " { ") rest (λ rest. option_map (λ p. (width, p.1)) (read_labels (length rest) rest))))
@@ -106,7 +106,7 @@ read_type bytes =
 -- ---- events
 
 -- a field of numbers
-abbrev pub read_number_field : List ℕ → Part FieldLayout
+abbrev pub read_number_field : List ℕ → PartRead FieldLayout
 read_number_field bytes =
     then_read (read_type bytes) (λ width rest.
     past (codes " ") rest (λ rest.
@@ -122,26 +122,26 @@ text_layouts name size =
     if (size % 8 == 0) && (nat_le 8 size && nat_le size 64) then Some (replicate (size / 8) (record { name = name; width = 8 })) else None
 
 -- a text, from its name on: each of its words is a field of that name
-abbrev pub read_text_field : List ℕ → Part (List FieldLayout)
+abbrev pub read_text_field : List ℕ → PartRead (List FieldLayout)
 read_text_field bytes =
     then_read (read_word bytes) (λ name rest.
     past (codes "[") rest (λ rest.
     then_read (read_decimal rest) (λ size rest. past (codes "];\n") rest (λ rest. option_map (λ fields. (fields, rest)) (text_layouts name size)))))
 
 -- a line: a text, or one field
-abbrev pub read_field : List ℕ → Part (List FieldLayout)
+abbrev pub read_field : List ℕ → PartRead (List FieldLayout)
 read_field bytes =
     past (codes "\t\t") bytes (λ rest.
     past_or (rest_past text_front rest) read_text_field (option_map (λ p. (p.0 ∷ [], p.1)) (read_number_field rest)))
 
 -- fields up to the end of their event, of so many at most
-abbrev pub read_fields : ℕ → List ℕ → Part (List FieldLayout)
+abbrev pub read_fields : ℕ → List ℕ → PartRead (List FieldLayout)
 read_fields zero bytes = None
 read_fields (suc most) bytes =
     past_or (rest_past (codes "\t};\n};\n") bytes) (λ rest. Some ([], rest))
     (then_read (read_field bytes) (λ fields rest. option_map (λ p. (fields ++ p.0, p.1)) (read_fields most rest)))
 
-abbrev pub read_event_text : List ℕ → Part EventLayout
+abbrev pub read_event_text : List ℕ → PartRead EventLayout
 read_event_text bytes =
     past (codes "\nevent {\n\tid = ") bytes (λ rest.
     then_read (read_decimal rest) (λ id rest.
@@ -194,7 +194,7 @@ read_clock_start bytes =
     (Some bytes)
 
 -- the clock, where there is one, with the type of its stamps
-abbrev pub read_clock : List ℕ → Part Bool
+abbrev pub read_clock : List ℕ → PartRead Bool
 read_clock bytes =
     past_or (rest_past (codes "\nclock {\n\tname = stamp;\n\tfreq = ") bytes) (λ rest.
     then_rest (read_decimal rest) (λ rest.

@@ -4,7 +4,7 @@ use Rattle.std.specs.List.{zip}
 use Rattle.dspec_ctf_reading.specs.Words.Outside.{width}
 use Rattle.dspec_ctf_reading.specs.Reading.{FieldLayout, EventLayout, Layout, EventRead}
 use Rattle.dspec_ctf_reading.specs.Fronts.{PacketSplit, front_of}
-use Rattle.dspec_ctf_reading.specs.declared.fronts.Packet.{Packet}
+use Rattle.dspec_ctf_reading.specs.declared.fronts.SplitPacket.{SplitPacket}
 use Rattle.dspec_ctf_reading.specs.declared.told.Label.{Label}
 use Rattle.dspec_ctf_reading.specs.declared.told.FieldText.{FieldText}
 use Rattle.dspec_ctf_reading.specs.declared.told.EventText.{EventText}
@@ -57,5 +57,5 @@ Fits layout event =
 -- ---- packets
 
 -- a packet in memory as it is split
-abbrev pub told_packet : Packet → PacketSplit
+abbrev pub told_packet : SplitPacket → PacketSplit
 told_packet packet = record { front = front_of packet.front; body = packet.body.now; behind = packet.behind.now }

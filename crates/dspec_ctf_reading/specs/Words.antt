@@ -12,7 +12,7 @@ pub use Rattle.dspec_ctf_reading.specs.Laws.{FilledFilesReadBack, MetadataTells,
 pub use Rattle.dspec_ctf_reading.specs.Layouts.{event_layout, event_of, event_read, field_layouts, given_for, given_name, is_timed, layout_by, layout_of, named_values, names_by, Naming, packet_read}
 pub use Rattle.dspec_ctf_reading.specs.Layouts.{stamp_field, stamp_value}
 pub use Rattle.dspec_ctf_reading.specs.Parts.{is_unread, test_of}
-pub use Rattle.dspec_ctf_reading.specs.Reading.{EventLayout, EventRead, events_of, FieldLayout, find_event, FrontRead, Layout, loss_of, PacketRead, Part, read_body, read_bytes, read_counts}
+pub use Rattle.dspec_ctf_reading.specs.Reading.{EventLayout, EventRead, events_of, FieldLayout, find_event, FrontRead, Layout, loss_of, PacketRead, PartRead, read_body, read_bytes, read_counts}
 pub use Rattle.dspec_ctf_reading.specs.Reading.{read_event, read_event_body, read_events, read_events_within, read_file, read_front, read_header, read_number, read_packet, read_packets_within}
 pub use Rattle.dspec_ctf_reading.specs.Reading.{read_payload, read_span, read_stamp, read_this, sizes_agree, then_read, with_events}
 pub use Rattle.dspec_ctf_reading.specs.ReadingMetadata.{digits_number, float_types, header_lines, past, past_or, read_clock, read_clock_start, read_clock_uuid, read_decimal, read_event_text}

@@ -6,7 +6,7 @@ ghost use Rattle.dspec_ctf_reading.specs.ReadingMetadata.{read_event_text, read_
 ghost use Rattle.dspec_ctf_reading.specs.Parts.{Gives};
 ghost use Rattle.dspec_ctf_reading.specs.Told.{told_event, told_field};
 
-use crate::fault::{Expected, Stop};
+use crate::fault::{Expected, ReadStop};
 use crate::kinds::field_type;
 use crate::scan::{behind, decimal, past_text, quoted, word};
 use crate::told::{EventText, FieldText};
@@ -18,7 +18,7 @@ use std::alloc::{AllocError, Global};
 const TEXT_FRONT: &str = "integer { size = 8; align = 8; signed = false; encoding = UTF8; } ";
 
 /// A field of numbers, and the bytes behind its line.
-fn number_field<'t>(alloc: Global, bytes: &'t [u8]) -> Result<(FieldText<'t>, &'t [u8]), Stop>
+fn number_field<'t>(alloc: Global, bytes: &'t [u8]) -> Result<(FieldText<'t>, &'t [u8]), ReadStop>
     ensures { Gives result (λ p. (told_field p.0, p.1.now)) (read_number_field bytes.now) }
 {
     let (told, rest) = field_type(alloc, bytes)?;
@@ -74,7 +74,10 @@ fn words<'t>(
 }
 
 /// A text, from its name on: its words, and the bytes behind its line.
-fn text_field<'t>(alloc: Global, bytes: &'t [u8]) -> Result<(Vec<FieldText<'t>>, &'t [u8]), Stop>
+fn text_field<'t>(
+    alloc: Global,
+    bytes: &'t [u8],
+) -> Result<(Vec<FieldText<'t>>, &'t [u8]), ReadStop>
     ensures { Gives result (λ p. (map told_field p.0.items, p.1.now)) (read_text_field bytes.now) }
 {
     let (name, rest) = word(bytes)?;
@@ -83,7 +86,7 @@ fn text_field<'t>(alloc: Global, bytes: &'t [u8]) -> Result<(Vec<FieldText<'t>>,
     let end = past_text(rest, "];\n")?;
     match words(alloc, name, size)? {
         Some(fields) => Ok((fields, end)),
-        None => Err(Stop::Unread {
+        None => Err(ReadStop::Unread {
             left: rest.len(),
             expected: Expected::Type,
         }),
@@ -91,7 +94,7 @@ fn text_field<'t>(alloc: Global, bytes: &'t [u8]) -> Result<(Vec<FieldText<'t>>,
 }
 
 /// A line: the field that it tells, or the words of a text, and the bytes behind it.
-fn field<'t>(alloc: Global, bytes: &'t [u8]) -> Result<(Vec<FieldText<'t>>, &'t [u8]), Stop>
+fn field<'t>(alloc: Global, bytes: &'t [u8]) -> Result<(Vec<FieldText<'t>>, &'t [u8]), ReadStop>
     ensures { Gives result (λ p. (map told_field p.0.items, p.1.now)) (read_field bytes.now) }
 {
     let rest = past_text(bytes, "\t\t")?;
@@ -105,7 +108,7 @@ fn field<'t>(alloc: Global, bytes: &'t [u8]) -> Result<(Vec<FieldText<'t>>, &'t 
 }
 
 /// Fields up to the end of their event, and the bytes behind it.
-fn fields<'t>(alloc: Global, bytes: &'t [u8]) -> Result<(Vec<FieldText<'t>>, &'t [u8]), Stop>
+fn fields<'t>(alloc: Global, bytes: &'t [u8]) -> Result<(Vec<FieldText<'t>>, &'t [u8]), ReadStop>
     ensures { Gives result (λ p. (map told_field p.0.items, p.1.now)) (read_fields (length bytes.now) bytes.now) }
 {
     let mut found = Vec::new(alloc);
@@ -118,14 +121,14 @@ fn fields<'t>(alloc: Global, bytes: &'t [u8]) -> Result<(Vec<FieldText<'t>>, &'t
         found.append(&mut line)?;
         rest = next;
     }
-    Err(Stop::Unread {
+    Err(ReadStop::Unread {
         left: rest.len(),
         expected: Expected::Text("\t};\n};\n"),
     })
 }
 
 /// An event, and the bytes behind it.
-fn event<'t>(alloc: Global, bytes: &'t [u8]) -> Result<(EventText<'t>, &'t [u8]), Stop>
+fn event<'t>(alloc: Global, bytes: &'t [u8]) -> Result<(EventText<'t>, &'t [u8]), ReadStop>
     ensures { Gives result (λ p. (told_event p.0, p.1.now)) (read_event_text bytes.now) }
 {
     let rest = past_text(bytes, "\nevent {\n\tid = ")?;
@@ -138,7 +141,7 @@ fn event<'t>(alloc: Global, bytes: &'t [u8]) -> Result<(EventText<'t>, &'t [u8])
 }
 
 /// Events up to the end of the text.
-pub(crate) fn events<'t>(alloc: Global, bytes: &'t [u8]) -> Result<Vec<EventText<'t>>, Stop>
+pub(crate) fn events<'t>(alloc: Global, bytes: &'t [u8]) -> Result<Vec<EventText<'t>>, ReadStop>
     ensures { Gives result (λ events. map told_event events.items) (read_event_texts (length bytes.now) bytes.now) }
 {
     let mut found = Vec::new(alloc);
@@ -154,7 +157,7 @@ pub(crate) fn events<'t>(alloc: Global, bytes: &'t [u8]) -> Result<Vec<EventText
     if rest.is_empty() {
         return Ok(found);
     }
-    Err(Stop::Unread {
+    Err(ReadStop::Unread {
         left: rest.len(),
         expected: Expected::Text("\nevent {\n\tid = "),
     })

@@ -1,7 +1,7 @@
 //! Why a text or bytes can't be read.
 
 ghost use Rattle.std.specs.Prelude.{◌≡◌};
-ghost use Rattle.dspec_ctf_reading.specs.declared.fault.Stop.TheVariants.{Memory};
+ghost use Rattle.dspec_ctf_reading.specs.declared.fault.ReadStop.TheVariants.{Memory};
 ghost use Rattle.dspec_ctf_reading.specs.declared.fault.MetadataReadFault.TheVariants.{Memory as no_memory};
 
 use std::alloc::{AllocError, AllocFailed};
@@ -52,7 +52,7 @@ pub enum MetadataReadFault {
 
 /// Where reading a text stopped, with so many bytes left, and why.
 #[derive(Debug, Clone, Copy, Drop)]
-pub(crate) enum Stop {
+pub(crate) enum ReadStop {
     /// Something else should stand there.
     Unread { left: usize, expected: Expected },
     /// A number that begins there has more than 64 bits.
@@ -61,19 +61,19 @@ pub(crate) enum Stop {
     Memory,
 }
 
-impl From<AllocError> for Stop {
+impl From<AllocError> for ReadStop {
     ghost from_gives = { λ _ e. e ≡ Memory };
 
-    fn from(_e: AllocError) -> Stop {
-        Stop::Memory
+    fn from(_e: AllocError) -> ReadStop {
+        ReadStop::Memory
     }
 }
 
-impl<T: Drop> From<AllocFailed<T>> for Stop {
+impl<T: Drop> From<AllocFailed<T>> for ReadStop {
     ghost from_gives = { λ _ e. e ≡ Memory };
 
-    fn from(_e: AllocFailed<T>) -> Stop {
-        Stop::Memory
+    fn from(_e: AllocFailed<T>) -> ReadStop {
+        ReadStop::Memory
     }
 }
 
@@ -157,7 +157,7 @@ pub enum PacketReadFault {
 
 /// Why a packet can't be read whole.
 #[derive(Debug, Clone, Copy, PartialEq, Eq, Error)]
-pub enum PacketFault {
+pub enum WholePacketFault {
     /// The bytes begin with no packet.
     #[error(transparent)]
     Packet(PacketReadFault),

@@ -30,5 +30,5 @@ pub use mark::{Mark, What, marks_of, sort_by_time};
 pub use packet::{ReadPacket, read_packet};
 pub use text::{event_text, field_text, missed_text};
 pub use track::{RowPart, row_parts_of};
-pub use value::Shown;
+pub use value::ShownValue;
 pub use whole::{Ending, ending_of, whole_len};

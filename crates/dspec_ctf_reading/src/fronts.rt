@@ -24,7 +24,7 @@ pub struct Front {
 
 /// A packet, and what stands behind it.
 #[derive(Debug, Clone, Copy)]
-pub struct Packet<'b> {
+pub struct SplitPacket<'b> {
     /// What it tells before its events.
     pub front: Front,
     /// The bytes of its events, up to the end of its content.
@@ -110,7 +110,7 @@ pub fn read_front(timed: bool, bytes: &[u8]) -> Option<(Front, &[u8])>
 
 /// The packet with which these bytes begin: its front, and the bytes of its events up to the end of its content. What fills it up behind
 /// them is passed over. None where the bytes begin with no front, and where its sizes don't agree with each other and with the bytes.
-pub fn split_packet(timed: bool, bytes: &[u8]) -> Option<Packet<'_>>
+pub fn split_packet(timed: bool, bytes: &[u8]) -> Option<SplitPacket<'_>>
     ensures { option_map (λ p. record { front = front_of p.front; body = p.body.now; behind = p.behind.now }) result ≡ packet_split timed bytes.now }
 {
     let (front, rest) = read_front(timed, bytes)?;
@@ -126,7 +126,7 @@ pub fn split_packet(timed: bool, bytes: &[u8]) -> Option<Packet<'_>>
         return None;
     }
     let (content, end) = (content as usize, end as usize);
-    Some(Packet {
+    Some(SplitPacket {
         front,
         body: &rest[..content - read],
         behind: &bytes[end..],

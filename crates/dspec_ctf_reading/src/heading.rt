@@ -4,9 +4,9 @@ ghost use Rattle.std.specs.Prelude.{◌≡◌, is_some};
 ghost use Rattle.dspec_ctf_reading.specs.ReadingMetadata.{read_clock, read_clock_start, read_clock_uuid, read_process, rest_past, stream_lines};
 ghost use Rattle.dspec_ctf_reading.specs.Parts.{Gives, read_trace};
 
-use crate::fault::{Expected, Stop};
+use crate::fault::{Expected, ReadStop};
 use crate::scan::{behind, decimal, past, past_text, quoted};
-use crate::told::{ClockText, Process};
+use crate::told::{ClockText, ToldProcess};
 
 /// The types that each of our traces has.
 const TYPES: &str =
@@ -32,7 +32,7 @@ const TIMED_STREAM: &str =
     "\nstream {\n\tid = 0;\n\tpacket.context := struct {\n\t\tstamp_t timestamp_begin;\n\t\tstamp_t timestamp_end;\n\t\tuint64_t content_size;\n\t\tuint64_t packet_size;\n\t\tuint64_t events_discarded;\n\t\tuint32_t cpu_id;\n\t};\n\tevent.header := struct {\n\t\tuint32_t id;\n\t\tstamp_t timestamp;\n\t};\n};\n";
 
 /// The text of the trace's uuid, and the bytes behind the lines in which it stands.
-pub(crate) fn trace(bytes: &[u8]) -> Result<(&str, &[u8]), Stop>
+pub(crate) fn trace(bytes: &[u8]) -> Result<(&str, &[u8]), ReadStop>
     ensures { Gives result (λ p. p.1.now) (read_trace bytes.now) }
 {
     let rest = past(bytes, TYPES, Expected::Types)?;
@@ -43,7 +43,7 @@ pub(crate) fn trace(bytes: &[u8]) -> Result<(&str, &[u8]), Stop>
 }
 
 /// The process, where it is told, and the bytes behind it.
-pub(crate) fn process(bytes: &[u8]) -> Result<(Option<Process<'_>>, &[u8]), Stop>
+pub(crate) fn process(bytes: &[u8]) -> Result<(Option<ToldProcess<'_>>, &[u8]), ReadStop>
     ensures { Gives result (λ p. p.1.now) (read_process bytes.now) }
 {
     let Some(rest) = behind(bytes, "\thostname = \"") else {
@@ -55,11 +55,11 @@ pub(crate) fn process(bytes: &[u8]) -> Result<(Option<Process<'_>>, &[u8]), Stop
     let rest = past_text(rest, "\";\n\tvpid = ")?;
     let (pid, rest) = decimal(rest)?;
     let rest = past_text(rest, ";\n")?;
-    Ok((Some(Process { host, name, pid }), rest))
+    Ok((Some(ToldProcess { host, name, pid }), rest))
 }
 
 /// The text of the clock's uuid, where it is told, and the bytes behind it.
-fn clock_uuid(bytes: &[u8]) -> Result<(Option<&str>, &[u8]), Stop>
+fn clock_uuid(bytes: &[u8]) -> Result<(Option<&str>, &[u8]), ReadStop>
     ensures { Gives result (λ p. p.1.now) (read_clock_uuid bytes.now) }
 {
     let Some(rest) = behind(bytes, "\tuuid = \"") else {
@@ -71,7 +71,7 @@ fn clock_uuid(bytes: &[u8]) -> Result<(Option<&str>, &[u8]), Stop>
 }
 
 /// Where the clock began, where it is told, and the bytes behind it.
-fn clock_start(bytes: &[u8]) -> Result<(Option<(u64, u64)>, &[u8]), Stop>
+fn clock_start(bytes: &[u8]) -> Result<(Option<(u64, u64)>, &[u8]), ReadStop>
     ensures { Gives result (λ p. p.1.now) (read_clock_start bytes.now) }
 {
     let Some(rest) = behind(bytes, "\toffset_s = ") else {
@@ -85,7 +85,7 @@ fn clock_start(bytes: &[u8]) -> Result<(Option<(u64, u64)>, &[u8]), Stop>
 }
 
 /// The clock, where there is one, and the bytes behind it.
-pub(crate) fn clock(bytes: &[u8]) -> Result<(Option<ClockText<'_>>, &[u8]), Stop>
+pub(crate) fn clock(bytes: &[u8]) -> Result<(Option<ClockText<'_>>, &[u8]), ReadStop>
     ensures { Gives result (λ p. (is_some p.0, p.1.now)) (read_clock bytes.now) }
 {
     let Some(rest) = behind(bytes, "\nclock {\n\tname = stamp;\n\tfreq = ") else {
@@ -107,7 +107,7 @@ pub(crate) fn clock(bytes: &[u8]) -> Result<(Option<ClockText<'_>>, &[u8]), Stop
 }
 
 /// What is behind the streams of a trace with a clock or without.
-pub(crate) fn streams(timed: bool, bytes: &[u8]) -> Result<&[u8], Stop>
+pub(crate) fn streams(timed: bool, bytes: &[u8]) -> Result<&[u8], ReadStop>
     ensures { Gives result (λ rest. rest.now) (rest_past (stream_lines timed) bytes.now) }
 {
     if timed {

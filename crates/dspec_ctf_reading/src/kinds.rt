@@ -7,7 +7,7 @@ ghost use Rattle.dspec_ctf_reading.specs.ReadingMetadata.{float_types, read_labe
 ghost use Rattle.dspec_ctf_reading.specs.Parts.{Gives, read_enumeration};
 ghost use Rattle.dspec_ctf_reading.specs.Told.{told_label};
 
-use crate::fault::{Expected, Stop};
+use crate::fault::{Expected, ReadStop};
 use crate::scan::{behind, decimal, past_text, quoted};
 use crate::told::Label;
 use dspec_probe::Kind;
@@ -88,15 +88,15 @@ fn number(bytes: &[u8]) -> Option<(Field, Kind, &[u8])>
 }
 
 /// No type stands here.
-fn no_type(bytes: &[u8]) -> Stop {
-    Stop::Unread {
+fn no_type(bytes: &[u8]) -> ReadStop {
+    ReadStop::Unread {
         left: bytes.len(),
         expected: Expected::Type,
     }
 }
 
 /// A label, and the bytes behind it.
-fn label(bytes: &[u8]) -> Result<(Label<'_>, &[u8]), Stop>
+fn label(bytes: &[u8]) -> Result<(Label<'_>, &[u8]), ReadStop>
     ensures { Gives result (λ p. (told_label p.0, p.1.now)) (read_label bytes.now) }
 {
     let rest = past_text(bytes, "\"")?;
@@ -108,7 +108,7 @@ fn label(bytes: &[u8]) -> Result<(Label<'_>, &[u8]), Stop>
 }
 
 /// Labels up to the brace behind them, and the bytes behind it.
-fn labels<'t>(alloc: Global, bytes: &'t [u8]) -> Result<(Vec<Label<'t>>, &'t [u8]), Stop>
+fn labels<'t>(alloc: Global, bytes: &'t [u8]) -> Result<(Vec<Label<'t>>, &'t [u8]), ReadStop>
     ensures { Gives result (λ p. (map told_label p.0.items, p.1.now)) (read_labels (length bytes.now) bytes.now) }
 {
     let mut found = Vec::new(alloc);
@@ -121,7 +121,7 @@ fn labels<'t>(alloc: Global, bytes: &'t [u8]) -> Result<(Vec<Label<'t>>, &'t [u8
         found.push(one)?;
         rest = next;
     }
-    Err(Stop::Unread {
+    Err(ReadStop::Unread {
         left: rest.len(),
         expected: Expected::Text("}"),
     })
@@ -139,7 +139,7 @@ pub(crate) struct Numbers<'t> {
 }
 
 /// An enumeration, from the type of its numbers on, and the bytes behind it.
-fn enumeration<'t>(alloc: Global, bytes: &'t [u8]) -> Result<(Numbers<'t>, &'t [u8]), Stop>
+fn enumeration<'t>(alloc: Global, bytes: &'t [u8]) -> Result<(Numbers<'t>, &'t [u8]), ReadStop>
     ensures { Gives result (λ p. (bytes_of p.0.width, p.1.now)) (read_enumeration bytes.now) }
 {
     let Some((width, kind, rest)) = whole(bytes) else {
@@ -161,7 +161,7 @@ fn enumeration<'t>(alloc: Global, bytes: &'t [u8]) -> Result<(Numbers<'t>, &'t [
 pub(crate) fn field_type<'t>(
     alloc: Global,
     bytes: &'t [u8],
-) -> Result<(Numbers<'t>, &'t [u8]), Stop>
+) -> Result<(Numbers<'t>, &'t [u8]), ReadStop>
     ensures { Gives result (λ p. (bytes_of p.0.width, p.1.now)) (read_type bytes.now) }
 {
     if let Some(rest) = behind(bytes, "enum : ") {

@@ -39,9 +39,9 @@ pub use dspec_probe::Kind;
 pub use dspec_record::Field;
 pub use events::{Event, check_events, read_event, read_events};
 pub use fault::{
-    EventFault, EventsFault, Expected, MetadataReadFault, PacketFault, PacketReadFault,
+    EventFault, EventsFault, Expected, MetadataReadFault, PacketReadFault, WholePacketFault,
 };
-pub use fronts::{Front, Packet};
+pub use fronts::{Front, SplitPacket};
 pub use metadata::read_metadata;
 pub use packets::{check_packet, next_packet};
-pub use told::{ClockText, EventText, FieldText, Label, Metadata, Process};
+pub use told::{ClockText, EventText, FieldText, Label, Metadata, ToldProcess};

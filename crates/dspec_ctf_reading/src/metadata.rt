@@ -7,14 +7,14 @@ ghost use Rattle.dspec_ctf_reading.specs.Told.{told_layout};
 ghost use Rattle.dspec_ctf_reading.specs.Faults.{is_misread};
 
 use crate::entries::events;
-use crate::fault::{MetadataReadFault, Stop};
+use crate::fault::{MetadataReadFault, ReadStop};
 use crate::heading::{clock, process, streams, trace};
 use crate::scan::past_text;
 use crate::told::Metadata;
 use std::alloc::Global;
 
 /// What the text tells, or where reading it stopped.
-fn read<'t>(alloc: Global, text: &'t [u8]) -> Result<Metadata<'t>, Stop>
+fn read<'t>(alloc: Global, text: &'t [u8]) -> Result<Metadata<'t>, ReadStop>
     ensures { Gives result told_layout (metadata_read text.now) }
 {
     let (uuid, rest) = trace(text)?;
@@ -49,13 +49,13 @@ pub fn read_metadata<'t>(alloc: Global, text: &'t [u8]) -> Result<Metadata<'t>, 
 {
     match read(alloc, text) {
         Ok(metadata) => Ok(metadata),
-        Err(Stop::Unread { left, expected }) => Err(MetadataReadFault::Line {
+        Err(ReadStop::Unread { left, expected }) => Err(MetadataReadFault::Line {
             line: line_of(text, left),
             expected,
         }),
-        Err(Stop::TooLarge { left }) => Err(MetadataReadFault::TooLarge {
+        Err(ReadStop::TooLarge { left }) => Err(MetadataReadFault::TooLarge {
             line: line_of(text, left),
         }),
-        Err(Stop::Memory) => Err(MetadataReadFault::Memory),
+        Err(ReadStop::Memory) => Err(MetadataReadFault::Memory),
     }
 }

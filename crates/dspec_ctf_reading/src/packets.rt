@@ -8,8 +8,8 @@ ghost use Rattle.dspec_ctf_reading.specs.Told.{told_layout, told_packet};
 ghost use Rattle.dspec_ctf_reading.specs.Packets.{FrontDue, PacketDue, SizesDue, WholeDue};
 
 use crate::events::check_events;
-use crate::fault::{PacketFault, PacketReadFault};
-use crate::fronts::{Front, Packet, read_front, split_packet};
+use crate::fault::{PacketReadFault, WholePacketFault};
+use crate::fronts::{Front, SplitPacket, read_front, split_packet};
 use crate::numbers::four;
 use crate::told::Metadata;
 
@@ -73,7 +73,7 @@ fn size_fault(front: &Front, read: usize, there: usize) -> PacketReadFault
 
 /// The packet with which these bytes begin: its front, the bytes of its events, and those behind it. `timed` says whether the trace has a
 /// clock.
-pub fn next_packet(timed: bool, bytes: &[u8]) -> Result<Packet<'_>, PacketReadFault>
+pub fn next_packet(timed: bool, bytes: &[u8]) -> Result<SplitPacket<'_>, PacketReadFault>
     ensures read { IfOk result (λ packet. packet_split timed bytes.now ≡ Some (told_packet packet)) }
     ensures none { IfErr result (λ _. packet_split timed bytes.now ≡ None) }
     ensures fault { IfErr result (λ fault. PacketDue timed bytes.now fault) }
@@ -91,7 +91,10 @@ pub fn next_packet(timed: bool, bytes: &[u8]) -> Result<Packet<'_>, PacketReadFa
 }
 
 /// The packet with which these bytes begin, where its events can be read too. Takes no memory.
-pub fn check_packet<'b>(metadata: &Metadata<'_>, bytes: &'b [u8]) -> Result<Packet<'b>, PacketFault>
+pub fn check_packet<'b>(
+    metadata: &Metadata<'_>,
+    bytes: &'b [u8],
+) -> Result<SplitPacket<'b>, WholePacketFault>
     ensures split { IfOk result (λ packet. packet_split (told_layout metadata.now).timed bytes.now ≡ Some (told_packet packet)) }
     ensures read { IfOk result (λ packet. option_map (λ p. p.1) (packet_from (told_layout metadata.now) bytes.now) ≡ Some packet.behind.now) }
     ensures none { IfErr result (λ _. packet_from (told_layout metadata.now) bytes.now ≡ None) }
@@ -99,10 +102,10 @@ pub fn check_packet<'b>(metadata: &Metadata<'_>, bytes: &'b [u8]) -> Result<Pack
 {
     let packet = match next_packet(metadata.clock.is_some(), bytes) {
         Ok(packet) => packet,
-        Err(fault) => return Err(PacketFault::Packet(fault)),
+        Err(fault) => return Err(WholePacketFault::Packet(fault)),
     };
     match check_events(metadata, packet.body) {
         Ok(_) => Ok(packet),
-        Err(fault) => Err(PacketFault::Events(fault)),
+        Err(fault) => Err(WholePacketFault::Events(fault)),
     }
 }

@@ -5,7 +5,7 @@ ghost use Rattle.std.specs.Option.{option_map};
 ghost use Rattle.dspec_ctf_reading.specs.ReadingMetadata.{digits_number, read_decimal, read_quoted, read_run, read_word, rest_past, run_of};
 ghost use Rattle.dspec_ctf_reading.specs.Parts.{Gives, test_of};
 
-use crate::fault::{Expected, Stop};
+use crate::fault::{Expected, ReadStop};
 
 /// What is behind this text, where the bytes begin with it.
 pub(crate) fn behind<'t>(bytes: &'t [u8], text: &str) -> Option<&'t [u8]>
@@ -29,12 +29,12 @@ pub(crate) fn past<'t>(
     bytes: &'t [u8],
     text: &'static str,
     expected: Expected,
-) -> Result<&'t [u8], Stop>
+) -> Result<&'t [u8], ReadStop>
     ensures { Gives result (λ rest. rest.now) (rest_past text.now bytes.now) }
 {
     match behind(bytes, text) {
         Some(rest) => Ok(rest),
-        None => Err(Stop::Unread {
+        None => Err(ReadStop::Unread {
             left: left_from(bytes, text),
             expected,
         }),
@@ -42,7 +42,7 @@ pub(crate) fn past<'t>(
 }
 
 /// What is behind a short text, with which the bytes have to begin.
-pub(crate) fn past_text<'t>(bytes: &'t [u8], text: &'static str) -> Result<&'t [u8], Stop>
+pub(crate) fn past_text<'t>(bytes: &'t [u8], text: &'static str) -> Result<&'t [u8], ReadStop>
     ensures { Gives result (λ rest. rest.now) (rest_past text.now bytes.now) }
 {
     past(bytes, text, Expected::Text(text))
@@ -102,12 +102,12 @@ pub(crate) fn run<'t>(set: Set, bytes: &'t [u8]) -> Option<(&'t str, &'t [u8])>
 }
 
 /// A word, and the bytes behind it.
-pub(crate) fn word(bytes: &[u8]) -> Result<(&str, &[u8]), Stop>
+pub(crate) fn word(bytes: &[u8]) -> Result<(&str, &[u8]), ReadStop>
     ensures { Gives result (λ p. (p.0.now, p.1.now)) (read_word bytes.now) }
 {
     match run(Set::Word, bytes) {
         Some(part) => Ok(part),
-        None => Err(Stop::Unread {
+        None => Err(ReadStop::Unread {
             left: bytes.len(),
             expected: Expected::Name,
         }),
@@ -115,12 +115,12 @@ pub(crate) fn word(bytes: &[u8]) -> Result<(&str, &[u8]), Stop>
 }
 
 /// A text that stands in quotes, behind the first of them, and the bytes behind it.
-pub(crate) fn quoted(bytes: &[u8]) -> Result<(&str, &[u8]), Stop>
+pub(crate) fn quoted(bytes: &[u8]) -> Result<(&str, &[u8]), ReadStop>
     ensures { Gives result (λ p. (p.0.now, p.1.now)) (read_quoted bytes.now) }
 {
     match run(Set::Quoted, bytes) {
         Some(part) => Ok(part),
-        None => Err(Stop::Unread {
+        None => Err(ReadStop::Unread {
             left: bytes.len(),
             expected: Expected::Quoted,
         }),
@@ -151,18 +151,18 @@ fn number_of(digits: &[u8]) -> Option<u64>
 }
 
 /// A number by its digits, and the bytes behind it.
-pub(crate) fn decimal(bytes: &[u8]) -> Result<(u64, &[u8]), Stop>
+pub(crate) fn decimal(bytes: &[u8]) -> Result<(u64, &[u8]), ReadStop>
     ensures { Gives result (λ p. (p.0, p.1.now)) (read_decimal bytes.now) }
 {
     let left = bytes.len();
     let Some((digits, rest)) = run(Set::Digits, bytes) else {
-        return Err(Stop::Unread {
+        return Err(ReadStop::Unread {
             left,
             expected: Expected::Number,
         });
     };
     match number_of(digits.as_bytes()) {
         Some(number) => Ok((number, rest)),
-        None => Err(Stop::TooLarge { left }),
+        None => Err(ReadStop::TooLarge { left }),
     }
 }

@@ -38,7 +38,7 @@ pub struct EventText<'t> {
 
 /// Who wrote the trace.
 #[derive(Debug, Clone, Copy, PartialEq, Eq)]
-pub struct Process<'t> {
+pub struct ToldProcess<'t> {
     /// The name of the machine.
     pub host: &'t str,
     /// The name of the program.
@@ -64,7 +64,7 @@ pub struct Metadata<'t> {
     /// The text of the trace's uuid.
     pub uuid: &'t str,
     /// Who wrote the trace, where it is told.
-    pub process: Option<Process<'t>>,
+    pub process: Option<ToldProcess<'t>>,
     /// The clock of its stamps; None where its events have none.
     pub clock: Option<ClockText<'t>>,
     /// Its events, in the order of the text.

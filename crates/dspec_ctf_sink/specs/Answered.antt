@@ -1,9 +1,9 @@
 -- Cited by calls. The bytes of a file, by what the system answered.
 use Rattle.std.specs.Prelude.{ℕ, List, ◌++◌, take}
-use Rattle.dspec_ctf_sink.specs.declared.told.Answer.{Answer}
-use Rattle.dspec_ctf_sink.specs.declared.told.Answer.TheVariants.{Behind, Left}
+use Rattle.dspec_ctf_sink.specs.declared.told.FileAnswer.{FileAnswer}
+use Rattle.dspec_ctf_sink.specs.declared.told.FileAnswer.TheVariants.{Behind, Left}
 
 -- with one answer more
-abbrev pub answered_by : List ℕ → Answer → List ℕ
+abbrev pub answered_by : List ℕ → FileAnswer → List ℕ
 answered_by bytes (Behind more) = bytes ++ more.now
 answered_by bytes (Left n) = take n bytes

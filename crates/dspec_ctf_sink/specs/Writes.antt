@@ -1,5 +1,5 @@
 -- Cited by calls. What a place that takes files was asked for.
-use Rattle.std.specs.Prelude.{ℕ, ◌≡◌, ◌⊎◌, ◌&&◌, if◌then◌else◌, is_none, bytes_eq, List, [], ◌∷◌, ◌++◌, Option, Some, None}
+use Rattle.std.specs.Prelude.{ℕ, ◌≡◌, ◌≢◌, ◌⊎◌, ◌&&◌, if◌then◌else◌, is_none, bytes_eq, List, [], ◌∷◌, ◌++◌, Option, Some, None}
 use Rattle.std.specs.List.{flat_map}
 use Rattle.dspec_ctf_sink.specs.Faults.{IsWriteFault}
 use Rattle.dspec_ctf_sink.specs.declared.fault.FolderFault.{FolderFault}
@@ -37,3 +37,15 @@ brought_to name w = if (is_none w.refused && bytes_eq w.name name) then w.bytes 
 -- what these writes leave of the file of this name: the bytes of those that were taken, one behind another
 abbrev pub file_of : List ℕ → List FileWrite → List ℕ
 file_of name writes = flat_map (brought_to name) writes
+
+-- a folder was made at this path: that stands first among what it was asked for, under no name
+abbrev pub made_at : List ℕ → FileWrite
+made_at path = record { name = []; bytes = path; refused = None }
+
+-- where the folder was made that was asked for these
+abbrev pub path_of : List FileWrite → List ℕ
+path_of writes = file_of [] writes
+
+-- these left no file anything
+abbrev pub LeaveNone : List FileWrite → Type 0
+LeaveNone writes = (name : List ℕ) → name ≢ [] → file_of name writes ≡ []

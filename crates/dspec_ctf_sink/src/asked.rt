@@ -15,31 +15,31 @@ pub(crate) struct Asking<'a> {
 
 /// What a folder was asked for, each write with its answer. Only clauses read it: it takes no memory, and to note a write takes no time.
 #[derive(Drop)]
-pub(crate) struct Asked {
+pub(crate) struct FolderAsked {
     ghost writes: { List FileWrite },
 }
 
-impl Model for Asked {
+impl Model for FolderAsked {
     ghost also_owns = { λ _. ftrue };
 }
 
 // It owns nothing.
-unsafe impl Send for Asked {}
+unsafe impl Send for FolderAsked {}
 
-impl Asked {
+impl FolderAsked {
     ghost use Rattle.dspec_ctf_sink.specs.Asked.{asked_then};
 
     /// Nothing was asked for.
-    pub(crate) fn none() -> Asked
+    pub(crate) fn none() -> FolderAsked
         ensures { result.writes ≡ [] }
     {
-        Asked {}
+        FolderAsked {}
     }
 
     /// One write more.
-    pub(crate) fn then(&self, _asking: &Asking<'_>) -> Asked
+    pub(crate) fn then(&self, _asking: &Asking<'_>) -> FolderAsked
         ensures { result.writes ≡ asked_then self.now.writes _asking.now }
     {
-        Asked {}
+        FolderAsked {}
     }
 }

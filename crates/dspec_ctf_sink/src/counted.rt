@@ -6,7 +6,7 @@ ghost use Rattle.dspec_ctf_sink.specs.Faults.{IsWriteFault};
 use crate::fault::FolderFault;
 use crate::held::Cuttable;
 use crate::made::make_file;
-use crate::told::{Answer, Told};
+use crate::told::{FileAnswer, FileAnswers};
 use std::fs::File;
 use std::io;
 use std::io::Write;
@@ -17,7 +17,7 @@ pub(crate) struct CountedFile {
     path: String,
     file: File,
     size: u64,
-    told: Told,
+    told: FileAnswers,
     ghost long: { length told.bytes ≡ size },
 }
 
@@ -36,7 +36,7 @@ impl CountedFile {
             path,
             file,
             size: 0,
-            told: Told::none(),
+            told: FileAnswers::none(),
         })
     }
 }
@@ -50,7 +50,7 @@ impl Write for CountedFile {
             return Err(io::Error::from(io::ErrorKind::FileTooLarge));
         }
         let count = self.file.write(buf)?;
-        self.told = self.told.then(&Answer::Behind(&buf[..count]));
+        self.told = self.told.then(&FileAnswer::Behind(&buf[..count]));
         self.size += count as u64;
         Ok(count)
     }
@@ -70,7 +70,7 @@ impl Cuttable for CountedFile {
     fn cut(&mut self, length: u64) -> io::Result<()> {
         let left = length.min(self.size);
         self.file.set_len(left)?;
-        self.told = self.told.then(&Answer::Left(left));
+        self.told = self.told.then(&FileAnswer::Left(left));
         self.size = left;
         Ok(())
     }

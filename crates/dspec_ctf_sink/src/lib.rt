@@ -7,11 +7,11 @@
 //! | File | What is in it |
 //! |---|---|
 //! | `folder.rt`, `system.rt` | `Folder`, a place that takes writes, with a ghost list of them and their answers; `SystemFolder`, one of the system, which has to be empty; it and its files are held open |
-//! | `room.rt` | `Room`: room that is kept on the disk for a trace's last packets |
+//! | `room.rt` | `KeptRoom`: room that is kept on the disk for a trace's last packets |
 //! | `held.rt` | `HeldFile`: a file that is held open and has whole writes alone; what a failed write left is cut off |
 //! | `made.rt` | `make_file`: at which path a file is made, nothing but this code knows |
 //! | `counted.rt` | `CountedFile`, a file of the system, and the path at which it was made: the only calls that write it and cut it, and what their answers tell of its bytes |
-//! | `told.rt`, `asked.rt` | `Told` and `Asked`: what was answered of a file, and what a folder was asked for, for clauses alone; they have no bytes, and their two bodies each are proved by hand |
+//! | `told.rt`, `asked.rt` | `FileAnswers` and `FolderAsked`: what was answered of a file, and what a folder was asked for, for clauses alone; they have no bytes, and their two bodies each are proved by hand |
 //! | `tracing.rt`, `fault.rt` | `TraceFolder`, the sink: metadata first, then the packets of each batch, one write; what a refused write loses is counted, and the next batch is tried |
 //! | `next.rt` | the packets of a batch, with one in front that tells of none missed where some are told first |
 //! | `losing.rt`, `telling.rt`, `laws.rt` | `Loss` and `Lossy`, which tell what wasn't written; `Telling`, a sink whose losses are printed while it runs; the law that nothing is lost uncounted |
@@ -51,7 +51,7 @@ pub use fault::FolderFault;
 pub use folder::Folder;
 pub use identity::Identity;
 pub use losing::{Loss, Lossy};
-pub use room::Room;
+pub use room::KeptRoom;
 pub use system::SystemFolder;
 pub use telling::Telling;
 pub use timed::TimedFolder;

@@ -12,11 +12,11 @@ use std::os::fd::AsRawFd;
 /// What is kept for a CPU: a page of the disk, of which its last packets take half at most.
 const PAGE: [u8; 4096] = [0; 4096];
 
-/// Room on the disk of a folder, kept by a hidden file in it, `.room`, which tools pass over. Where it is given back right before `tell_untold`, a trace
+/// KeptRoom on the disk of a folder, kept by a hidden file in it, `.room`, which tools pass over. Where it is given back right before `tell_untold`, a trace
 /// tells what it couldn't write on a disk that is full by then. The file stays where nobody gives it back.
 #[must_use]
 #[derive(Drop)]
-pub struct Room<'a> {
+pub struct KeptRoom<'a> {
     host: &'a HostRuntime,
     folder: File,
     path: String,
@@ -36,7 +36,7 @@ fn fill(file: &mut File, pages: u32) -> Result<(), FolderFault>
 
 impl<'a> SystemFolder<'a> {
     /// Keeps 4,096 bytes of the disk for each of so many CPUs. Refused where `.room` is there, or the disk has no room; then it keeps none.
-    pub fn keep_room(&self, cpus: u32) -> Result<Room<'a>, FolderFault>
+    pub fn keep_room(&self, cpus: u32) -> Result<KeptRoom<'a>, FolderFault>
         ensures { IfErr result IsFolderFault }
     {
         let (host, alloc) = (self.host, self.host.alloc());
@@ -51,7 +51,7 @@ impl<'a> SystemFolder<'a> {
             Err(fault) => return Err(fault),
         };
         let filled = fill(&mut file, cpus);
-        let room = Room { host, folder, path };
+        let room = KeptRoom { host, folder, path };
         match filled {
             Ok(()) => Ok(room),
             Err(fault) => {
@@ -62,7 +62,7 @@ impl<'a> SystemFolder<'a> {
     }
 }
 
-impl Room<'_> {
+impl KeptRoom<'_> {
     /// Gives the room back. Refused where the file couldn't be removed, as where it is gone.
     pub fn give_back(self) -> Result<(), FolderFault>
         ensures { IfErr result IsFolderFault }

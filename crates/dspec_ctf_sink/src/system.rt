@@ -1,9 +1,9 @@
-ghost use Rattle.std.specs.Prelude.{◌≡◌, ◌≢◌, ◌<◌, length, vec_len, [], All, List, Some, IfOk, IfErr, IfSome, None, OnOk, string_bytes};
+ghost use Rattle.std.specs.Prelude.{◌≡◌, ◌≢◌, ◌<◌, ◌++◌, ◌∷◌, length, vec_len, [], All, List, Some, IfOk, IfErr, IfSome, None, OnOk, string_bytes};
 ghost use Rattle.dspec_ctf_sink.specs.Faults.{IsFolderFault, IsWriteFault};
 ghost use Rattle.dspec_ctf_sink.specs.Held.{FilesHave, HaveBesides, IsFileAt, path_in};
-ghost use Rattle.dspec_ctf_sink.specs.Writes.{FileWrite};
+ghost use Rattle.dspec_ctf_sink.specs.Writes.{FileWrite, made_at};
 
-use crate::asked::{Asked, Asking};
+use crate::asked::{Asking, FolderAsked};
 use crate::counted::CountedFile;
 use crate::fault::{FolderFault, look_fault, write_fault};
 use crate::folder::Folder;
@@ -19,15 +19,16 @@ use std::{fs, io};
 pub struct SystemFolder<'a> {
     pub(crate) host: &'a HostRuntime,
     pub(crate) folder: File,
+    made: FolderAsked,
     files: Vec<HeldFile<CountedFile>>,
-    asked: Asked,
+    asked: FolderAsked,
     ghost tied: { ∥ FilesHave files.items asked.writes ∥₁ },
 }
 
 impl<'a> SystemFolder<'a> {
     /// Makes the folder of that path. One that is there has to be empty.
     pub fn new(rt: &'a HostRuntime, path: &str) -> Result<SystemFolder<'a>, FolderFault>
-        ensures unasked { IfOk result (λ folder. ⟦<SystemFolder<'a> as Folder>⟧.written folder ≡ Some []) }
+        ensures made { IfOk result (λ folder. ⟦<SystemFolder<'a> as Folder>⟧.written folder ≡ Some (made_at path.now ∷ [])) }
         ensures fault { IfErr result IsFolderFault }
     {
         match fs::create_dir(rt, path) {
@@ -36,13 +37,14 @@ impl<'a> SystemFolder<'a> {
             }
             _ => {}
         }
-        let folder = open_folder(rt, path)?;
+        let (folder, made) = open_made(rt, path)?;
         see_no_file(rt, &folder)?;
         Ok(SystemFolder {
             host: rt,
             folder,
+            made,
             files: Vec::new(rt.alloc()),
-            asked: Asked::none(),
+            asked: FolderAsked::none(),
         })
     }
 }
@@ -56,6 +58,20 @@ pub(crate) fn open_folder(rt: &HostRuntime, path: &str) -> Result<File, FolderFa
         Ok(folder) => Ok(folder),
         Err(fault) => Err(look_fault(&fault)),
     }
+}
+
+/// The same, and that this is the path at which it was made.
+fn open_made(rt: &HostRuntime, path: &str) -> Result<(File, FolderAsked), FolderFault>
+    ensures made { IfOk result (λ opened. opened.1.writes ≡ made_at path.now ∷ []) }
+    ensures fault { IfErr result IsFolderFault }
+{
+    let folder = open_folder(rt, path)?;
+    let made = FolderAsked::none().then(&Asking {
+        name: "",
+        bytes: path.as_bytes(),
+        refused: None,
+    });
+    Ok((folder, made))
 }
 
 /// The path of a file in the folder that is open under this number, wherever that folder is by now.
@@ -161,7 +177,7 @@ fn add_to(
 }
 
 impl<'a> Folder for SystemFolder<'a> {
-    ghost written = { λ i. Some i.asked.writes };
+    ghost written = { λ i. Some (i.made.writes ++ i.asked.writes) };
 
     fn add(&mut self, alloc: Global, name: &str, bytes: &[u8]) -> Result<(), FolderFault> {
         let answer = add_to(&mut self.files, self.host, &self.folder, alloc, name, bytes);

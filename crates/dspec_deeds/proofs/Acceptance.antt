@@ -1,11 +1,10 @@
 -- A record is accepted once at most; one offered to a speculation only after its commit, and never where it was discarded.
-use Prim.Native.Nat.{zero, suc}
-use Rattle.std.proofs.Common.{◌≡◌, ℕ, ◌≤◌, Bool, true, false, ◌&&◌, ◌==◌, if◌then◌else◌, List, [], ◌∷◌, Option, None, Some, refl, sym, ap, ◌∙◌, subst, ⊎_elim, arith, true≢false}
+use Rattle.std.proofs.lemmas.Bool.Decides.{nat_tests}
+use Rattle.std.proofs.Common.{◌≡◌, ℕ, ◌≤◌, Bool, true, false, ◌&&◌, ◌==◌, List, [], ◌∷◌, Option, None, Some, refl, sym, ap, ◌∙◌, subst, ⊎_elim, arith, true≢false}
 use Rattle.std.specs.Option.{option_map}
 use Rattle.dspec_record.specs.declared.field.Shape.{Shape}
-use Rattle.dspec_deeds.specs.Words.{Speculation, Config, Deed, Commit, Discard, Settle, DecideFate, is_commit, is_discard, same_id, verdict, offered_by, offers, accepted, SettlesAs, Follows}
-use Rattle.dspec_deeds.specs.Words.{IsAllowed, Fate, taken, dropped, void, waiting, fate, emptied_as, is_taken, is_waiting, has_fate, offered_to, destination, times, has_commit, has_discard}
-use Rattle.dspec_deeds.specs.Words.{AcceptanceLaw}
+use Rattle.dspec_deeds.specs.Words.{Speculation, Config, Deed, Commit, Discard, Settle, DecideFate, is_discard, same_id, verdict, offered_by, offers, accepted, SettlesAs, Follows, IsAllowed, Fate}
+use Rattle.dspec_deeds.specs.Words.{taken, dropped, void, waiting, fate, emptied_as, is_taken, offered_to, destination, times, has_commit, AcceptanceLaw}
 use Rattle.dspec_deeds.specs.declared.deed.DecideFate.TheVariants as decided
 use Rattle.dspec_deeds.specs.Fates.{discarded}
 use Rattle.dspec_deeds.proofs.TestLemmas.{either_way, off, and_tells, id_is_itself, same_number, same_id_tells}
@@ -39,9 +38,7 @@ placed_offered (waiting id) x h s = s
 
 -- a buffer whose records are taken was committed
 taken_ruled : (k : Config) (c : ℕ) (d : Deed) (h : List Deed) (id : Speculation) (f : Fate) → Follows k h d → Empties c d h id f → is_taken f ≡ true → has_commit id (d ∷ h) ≡ true
-taken_ruled k c (Commit a j g) h id f s m t =
-    let both = and_tells (is_commit g) ((c == a) && same_id id j) (m.empty id ∙ id_is_itself id) in
-    rw (both.0, (and_tells (c == a) (same_id id j) both.1).1) refl
+taken_ruled k c (Commit a j g) h id f s m t = grind (arith, nat_tests)
 taken_ruled k c (Discard a j g) h id f s m t =
     let both = and_tells (is_discard g) ((c == a) && same_id id j) (m.empty id ∙ id_is_itself id) in
     off (is_taken (emptied_as g id)) (ap is_taken (m.fates id) ∙ t) (discards g both.0)
@@ -67,17 +64,7 @@ placed_emptied c d h id f m ruled (Some taken) x p = placed_still (Some taken) x
 placed_emptied c d h id f m ruled (Some dropped) x p = tt
 placed_emptied c d h id f m ruled (Some discarded) x p = tt
 placed_emptied c d h id f m ruled (Some void) x p = tt
-placed_emptied c d h id f m ruled (Some (waiting j)) x p = ⊎_elim
-    (λ (t : same_id j id ≡ true). rw t (moved f (same_id_tells j id t) m.gone ruled))
-    (λ (n : same_id j id ≡ false). rw n p)
-    (either_way (same_id j id))
-  where
-    moved : (g : Fate) → j ≡ id → is_waiting g ≡ false → (is_taken g ≡ true → has_commit id (d ∷ h) ≡ true) → Placed (Some g) x (d ∷ h)
-    moved taken e w r = λ i y. let same : i ≡ id = cc in subst (λ v. has_commit v (d ∷ h) ≡ true) (sym same) (r refl)
-    moved dropped e w r = tt
-    moved discarded e w r = tt
-    moved void e w r = tt
-    moved (waiting i) e w r = absurd (true≢false w)
+placed_emptied c d h id f m ruled (Some (waiting j)) x p = grind (arith, nat_tests)
 
 -- without an offer no destination changes
 destination_unoffered : (c j : ℕ) (d : Deed) (h : List Deed) → offered_by c d ≡ None → destination c j (d ∷ h) ≡ destination c j h
@@ -117,23 +104,8 @@ accepted_committed shape k c h l j id e le =
 
 -- a record is counted once at most
 tally_once : (test : Fate → Bool) (f : Option Fate) → tally test f ≤ 1
-tally_once test f = once (has_fate test f)
-  where
-    once : (b : Bool) → (if b then 1 else 0) ≤ 1
-    once true = omega arith
-    once false = omega arith
+tally_once test f = grind arith
 
 -- the acceptance law, of every legal list
 pub acceptance_law : (shape : ℕ → Option Shape) (k : Config) (c : ℕ) (h : List Deed) → IsAllowed shape k h → AcceptanceLaw c h
-acceptance_law shape k c h l = record {
-  once = λ j. let same = times_taken c j h (legal_accounts shape k c h l) in let one = tally_once is_taken (fate c j h) in omega arith;
-  after_commit = accepted_committed shape k c h l;
-  not_discarded = λ j id e thrown. never j id e thrown;
-}
-  where
-    never : (j : ℕ) (id : Speculation) → destination c j h ≡ Some id → has_discard id h ≡ true → times j (accepted c h) ≡ 0
-    never j id e thrown = step (times j (accepted c h)) refl
-      where
-        step : (n : ℕ) → times j (accepted c h) ≡ n → n ≡ 0
-        step zero same = refl
-        step (suc n) same = off (has_discard id h) thrown (one_decision k id h l.0 (accepted_committed shape k c h l j id e (omega arith)))
+acceptance_law shape k c h l = grind (arith, nat_tests, times_taken, legal_accounts, tally_once, accepted_committed, off, one_decision)

@@ -1,39 +1,25 @@
 -- The acknowledgements that the list shows, and what the CPUs have settled.
-use Rattle.std.proofs.Common.{◌≡◌, ℕ, suc, ◌+◌, ◌≤◌, true, false, not, ◌||◌, ◌==◌, List, [], ◌∷◌, refl, sym, ap, ◌∙◌, subst, ⊎_elim, arith, true≢false}
+use Rattle.std.proofs.Common.{◌≡◌, ℕ, suc, ◌+◌, ◌≤◌, true, false, not, ◌||◌, ◌==◌, List, [], ◌∷◌, refl, sym, ap, subst, ⊎_elim, arith, true≢false}
 use Rattle.std.specs.Prelude.{nat_le, nat_lt}
 use Rattle.std.proofs.lemmas.Bool.Decides.{nat_tests}
-use Rattle.dspec_deeds.specs.Words.{Speculation, Config, DecideFate, Deed, Settle, same_id, issue, releases, present, verdict, undecided, committed, discarded, Verdict, is_undecided, latest, ruling}
-use Rattle.dspec_deeds.specs.Words.{settled, settles, acks, ack, SettlesAs, IsSound}
-use Rattle.dspec_deeds.proofs.TestLemmas.{either_way, off, and_tells, or_tells, or_true, same_number, same_id_tells, id_is_itself}
-use Rattle.dspec_deeds.proofs.SoundLists.{issue_grows}
+use Rattle.dspec_deeds.specs.Words.{Speculation, Config, DecideFate, Deed, Settle, same_id, issue, releases, present, verdict, undecided, committed, discarded, Ruling, is_undecided, settled}
+use Rattle.dspec_deeds.specs.Words.{settles, acks, ack, SettlesAs, IsSound}
+use Rattle.dspec_deeds.proofs.TestLemmas.{either_way, off, and_tells, or_tells, or_true, same_id_tells}
 use Rattle.dspec_deeds.proofs.WordChanges.{ack_stays}
 
 -- the settlement that a test found
 settlement : (c s : ℕ) (d : Deed) (h : List Deed) (k : Config) → IsSound k (d ∷ h) → acks c s d ≡ true
     → (ack c s (d ∷ h) ≡ issue s h + 1) × (settles c (present s h) d ≡ true) × (issue s (d ∷ h) ≡ issue s h)
-settlement c s (Settle a id f) h k sound t =
-    let both = and_tells (c == a) (s == id.slot) t in
-    let slot = same_number s id.slot both.1 in
-    let now : id.issue ≡ issue s h = sound.1.1.1.0 ∙ ap (λ x. issue x h) (sym slot) in
-    let p : id ≡ present s h = λ i. record { issue = now i; slot = sym slot i } in
-    let here : settles c id (Settle a id f) ≡ true = rw (both.0, id_is_itself id) refl in
-    (rw t (ap (λ m. m + 1) now), subst (λ j. settles c j (Settle a id f) ≡ true) p here, refl)
-settlement c s d h k sound t = absurd (true≢false (sym t))
+settlement c s d h k h1 h2 = grind arith
 
 -- an acknowledgement is of an issue that was reached
 pub ack_bound : (k : Config) (c s : ℕ) (h : List Deed) → IsSound k h → ack c s h ≤ issue s h + 1
 ack_bound k c s [] sound = omega arith
-ack_bound k c s (d ∷ h) sound = ⊎_elim
-    (λ (t : acks c s d ≡ true). let is = settlement c s d h k sound t in let a = is.0 in let b = is.2 in omega arith)
-    (λ (f : acks c s d ≡ false). let r = ack_bound k c s h sound.0 in let g = issue_grows s d h in let e = ack_stays c s d h f in omega arith)
-    (either_way (acks c s d))
+ack_bound k c s (d ∷ h) sound = grind (arith, nat_tests, ack_bound k c s h sound.0)
 
 -- acknowledgements never fall
 pub acks_rise : (k : Config) (c s : ℕ) (d : Deed) (h : List Deed) → IsSound k (d ∷ h) → ack c s h ≤ ack c s (d ∷ h)
-acks_rise k c s d h sound = ⊎_elim
-    (λ (t : acks c s d ≡ true). let is = settlement c s d h k sound t in let a = is.0 in let b = ack_bound k c s h sound.0 in omega arith)
-    (λ (f : acks c s d ≡ false). let e = ack_stays c s d h f in omega arith)
-    (either_way (acks c s d))
+acks_rise k c s d h sound = grind (arith, nat_tests, settlement, ack_bound, ack_stays)
 
 -- what was settled stays so
 pub settled_stays : (c : ℕ) (id : Speculation) (d : Deed) (h : List Deed) → settled c id h ≡ true → settled c id (d ∷ h) ≡ true
@@ -59,12 +45,7 @@ acked k c s (d ∷ h) sound le = ⊎_elim
 
 -- a settlement acknowledges
 settles_acks : (c : ℕ) (id : Speculation) (d : Deed) (h : List Deed) → settles c id d ≡ true → ack c id.slot (d ∷ h) ≡ id.issue + 1
-settles_acks c id (Settle a j f) h t =
-    let both = and_tells (c == a) (same_id id j) t in
-    let p = same_id_tells id j both.1 in
-    let hit : acks c id.slot (Settle a j f) ≡ true = rw both.0 (and_tells (id.issue == j.issue) (id.slot == j.slot) both.1).1 in
-    rw hit (ap (λ (x : Speculation). x.issue + 1) (sym p))
-settles_acks c id d h t = absurd (true≢false (sym t))
+settles_acks c id d h h1 = grind arith
 
 -- what a CPU has settled it has acknowledged
 pub settled_acked : (k : Config) (c : ℕ) (id : Speculation) (h : List Deed) → IsSound k h → settled c id h ≡ true → id.issue + 1 ≤ ack c id.slot h
@@ -98,12 +79,7 @@ acked_is k c s h sound = ⊎_elim
 
 -- a decision is never undone
 pub decided_stays : (id : Speculation) (d : Deed) (h : List Deed) → is_undecided (verdict id h) ≡ false → is_undecided (verdict id (d ∷ h)) ≡ false
-decided_stays id d h e = go (ruling id d)
-  where
-    go : (r : Verdict) → is_undecided (latest r (verdict id h)) ≡ false
-    go undecided = e
-    go (committed c) = refl
-    go (discarded c) = refl
+decided_stays id d h e = grind arith
 
 -- what a CPU has settled was decided
 pub settled_decided : (k : Config) (c : ℕ) (id : Speculation) (h : List Deed) → IsSound k h → settled c id h ≡ true → is_undecided (verdict id h) ≡ false
@@ -113,7 +89,7 @@ settled_decided k c id (d ∷ h) sound e = ⊎_elim
     (λ (t : settled c id h ≡ true). decided_stays id d h (settled_decided k c id h sound.0 t))
     (or_tells (settles c id d) (settled c id h) e)
   where
-    ruled : (v : Verdict) (f : DecideFate) → SettlesAs v f → is_undecided v ≡ false
+    ruled : (v : Ruling) (f : DecideFate) → SettlesAs v f → is_undecided v ≡ false
     ruled undecided f never = absurd never
     ruled (committed a) f e = refl
     ruled (discarded a) f e = refl

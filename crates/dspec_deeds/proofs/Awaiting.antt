@@ -1,11 +1,13 @@
 -- What there is to settle in a slot whose word waits for every CPU.
-use Rattle.std.proofs.Common.{◌≡◌, ℕ, Bool, true, false, if◌then◌else◌, List, [], ◌∷◌, Some, None, refl, sym, ap, ◌∙◌, subst, true≢false, not, ◌&&◌, ⊎_elim, Option}
+use Rattle.std.proofs.Common.{arith}
+use Rattle.std.proofs.lemmas.Bool.Decides.{nat_tests}
+use Rattle.std.proofs.Common.{◌≡◌, ℕ, Bool, true, false, if◌then◌else◌, List, [], ◌∷◌, Some, None, refl, sym, ap, ◌∙◌, subst, true≢false, not, ◌&&◌, Option}
 use Rattle.std.specs.Prelude.{is_none}
 use Rattle.dspec_word.specs.declared.code.Code.{Code}
 use Rattle.dspec_word.specs.declared.code.Code.TheVariants.{Inactive, Committing, CommittingMany, Discarding}
-use Rattle.dspec_deeds.specs.Words.{awaits, Config, DecideFate, Deed, is_commit, is_discard, present, opened, Verdict, undecided, committed, discarded, verdict, is_undecided, callers, standing}
+use Rattle.dspec_deeds.specs.Words.{awaits, Config, DecideFate, Deed, is_commit, is_discard, present, opened, Ruling, undecided, committed, discarded, verdict, is_undecided, callers, standing}
 use Rattle.dspec_deeds.specs.Words.{active_code, is_sole, is_sole_or_none, word_at, is_busy, solo, solo_of, owed, SettlesAs, IsSound}
-use Rattle.dspec_deeds.proofs.TestLemmas.{either_way, off, and_tells}
+use Rattle.dspec_deeds.proofs.TestLemmas.{off, and_tells}
 use Rattle.dspec_deeds.proofs.WordCodes.{decided_awaits}
 use Rattle.dspec_deeds.proofs.Debtless.{debtless}
 
@@ -35,7 +37,7 @@ awaiting k s h c sound rests is a = go (opened (present s h) h) (verdict (presen
     many true e = absurd (true≢false (sym a ∙ ap awaits (sym e)))
     many false e = refl
 
-    go : (o : Bool) (v : Verdict) (cs : List ℕ) → opened (present s h) h ≡ o → verdict (present s h) h ≡ v → callers (present s h) h ≡ cs
+    go : (o : Bool) (v : Ruling) (cs : List ℕ) → opened (present s h) h ≡ o → verdict (present s h) h ≡ v → callers (present s h) h ≡ cs
         → (if opened (present s h) h then standing (verdict (present s h) h) (callers (present s h) h) else Inactive) ≡ c → IsAwaiting s h c
     go false v cs eo ev ec e = absurd (true≢false (sym a ∙ ap awaits (sym e ∙ ap (λ b. if b then standing (verdict (present s h) h) (callers (present s h) h) else Inactive) eo)))
     go true undecided cs eo ev ec e =
@@ -73,16 +75,4 @@ not_tells false e = refl
 
 -- where no release is owed, a word waits exactly where its slot is busy and no CPU decided alone
 pub awaits_is : (k : Config) (s : ℕ) (h : List Deed) → IsSound k h → owed h ≡ 0 → awaits (word_at s h).code ≡ (is_busy s h && is_none (solo (present s h) h))
-awaits_is k s h sound rests = ⊎_elim
-    (λ (t : awaits (word_at s h).code ≡ true).
-    let is = awaiting k s h (word_at s h).code sound rests refl t in
-    let ruled = is.ruled in
-    let alone = is.alone in
-    t ∙ sym (ap (λ b. not b && is_none (solo (present s h) h)) ruled ∙ ap is_none alone))
-    (λ (f : awaits (word_at s h).code ≡ false). f ∙ sym (⊎_elim
-    (λ (t : (is_busy s h && is_none (solo (present s h) h)) ≡ true).
-    let both = and_tells (is_busy s h) (is_none (solo (present s h) h)) t in
-    off (awaits (word_at s h).code) (decided_awaits k s h sound (not_tells (is_undecided (verdict (present s h) h)) both.0) (is_none_tells (solo (present s h) h) both.1)) f)
-    (λ x. x)
-    (either_way (is_busy s h && is_none (solo (present s h) h)))))
-    (either_way (awaits (word_at s h).code))
+awaits_is k s h sound rests = grind (arith, nat_tests, awaiting, and_tells, off, decided_awaits, not_tells, is_none_tells)

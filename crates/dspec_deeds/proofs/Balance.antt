@@ -1,30 +1,16 @@
 -- Each offered record is in one count of its CPU's report.
 use Rattle.std.proofs.Common.{◌≡◌, ℕ, ◌+◌, false, if◌then◌else◌, List, [], ◌∷◌, ◌++◌, length, refl, arith}
 use Rattle.dspec_deeds.specs.Words.{Config, Deed, Offer, offers, held, Spoken, speculative, accepts_now, traces_dropped_now, specdrops_now, loses_now, discards_now, voids_now, report}
-use Rattle.dspec_deeds.specs.Words.{records_of_report, Fate, taken, dropped, void, waiting, is_taken, is_dropped, is_discarded, is_void, is_waiting}
+use Rattle.dspec_deeds.specs.Words.{records_of_report, Fate, taken, dropped, void, waiting, is_waiting}
 use Rattle.dspec_deeds.specs.Fates.{discarded}
 use Rattle.dspec_deeds.proofs.DeedOffers.{spoken_as, next_offer, Counts, Effect, idle, offering, emptying}
 use Rattle.dspec_deeds.proofs.DeedEffects.{Accounts}
 use Rattle.dspec_deeds.proofs.SpokenRecords.{spoken_idle, spoken_offered, spoken_fewer}
 
--- a fate is one of the five
-one_fate : (f : Fate) (n : ℕ) → (if is_taken f then n else 0) + (if is_dropped f then n else 0) + (if is_discarded f then n else 0) + (if is_void f then n else 0) + (if is_waiting f then n else 0) ≡ n
-one_fate taken n = omega arith
-one_fate dropped n = omega arith
-one_fate discarded n = omega arith
-one_fate void n = omega arith
-one_fate (waiting id) n = omega arith
-
 -- what the counts of a deed add up to
 counted : (c : ℕ) (d : Deed) (f : Fate) (n : ℕ) → Counts c d f n
     → accepts_now c d + traces_dropped_now c d + specdrops_now c d + loses_now c d + discards_now c d + voids_now c d + (if is_waiting f then n else 0) ≡ n
-counted c d f n s =
-    let a = s.accepts in
-    let b = s.drops in
-    let e = s.discards in
-    let v = s.voids in
-    let one = one_fate f n in
-    omega arith
+counted c d f n h1 = grind arith
 
 -- one more speculative record, if it waits
 spoken_more : (f : Fate) (o : Offer) (ps : List Spoken) → length (spoken_as f o ++ ps) ≡ length ps + (if is_waiting f then 1 else 0)

@@ -1,10 +1,11 @@
 -- What is read off all deeds is the same without the Seals.
-use Rattle.std.proofs.Common.{◌≡◌, ℕ, suc, ◌+◌, true, false, ◌||◌, ◌&&◌, if◌then◌else◌, List, [], ◌∷◌, refl, sym, ap, ◌∙◌, ⊎_elim, true≢false}
-use Rattle.dspec_deeds.specs.Words.{Speculation, Config, Deed, Trace, Scan, Opened, Miss, Speculate, Commit, Discard, Settle, Seal, Release, Halt, is_discard, halted, is_halt, issue, releases}
-use Rattle.dspec_deeds.specs.Words.{opened, opens, verdict, ruling, latest, callers, calls_on, joined, is_sole, solo, solo_of, present, settled, settles, scan, scanned, opened_since, is_scan}
-use Rattle.dspec_deeds.specs.Words.{opens_slot, owing, author, releaser, code_at, standing, word_at, ack, acks, issue_of, is_seal, bare, ShowsAlike}
+use Rattle.std.proofs.Common.{arith}
+use Rattle.std.proofs.lemmas.Bool.Decides.{nat_tests}
+use Rattle.std.proofs.Common.{◌≡◌, ℕ, suc, ◌+◌, true, false, ◌||◌, ◌&&◌, if◌then◌else◌, List, [], ◌∷◌, refl, sym, ap, ◌∙◌, true≢false}
+use Rattle.dspec_deeds.specs.Words.{Speculation, Config, Deed, Discard, Seal, is_discard, halted, is_halt, issue, releases, opened, opens, verdict, ruling, latest, callers, calls_on, joined}
+use Rattle.dspec_deeds.specs.Words.{is_sole, solo, solo_of, present, settled, settles, scan, scanned, opened_since, is_scan, opens_slot, owing, author, code_at, standing, word_at, ack, acks}
+use Rattle.dspec_deeds.specs.Words.{issue_of, is_seal, bare, ShowsAlike}
 use Rattle.dspec_word.specs.declared.code.Code.TheVariants.{Inactive}
-use Rattle.dspec_deeds.proofs.TestLemmas.{either_way}
 
 -- a Seal is a CPU's
 pub seal_is : (d : Deed) → is_seal d ≡ true → (c : ℕ) × (d ≡ Seal c)
@@ -15,13 +16,7 @@ seal_is d e = absurd (true≢false (sym e))
 pub reads_bare : {A : Type 0} (F : List Deed → A) (step : Deed → A → A) → ((d : Deed) (h : List Deed) → F (d ∷ h) ≡ step d (F h)) → ((c : ℕ) (x : A) → step (Seal c) x ≡ x)
     → (h : List Deed) → F h ≡ F (bare h)
 reads_bare F step each over [] = refl
-reads_bare F step each over (d ∷ h) = ⊎_elim
-    (λ (t : is_seal d ≡ true).
-    let s = seal_is d t in
-    let here : F (d ∷ h) ≡ F h = each d h ∙ (ap (λ x. step x (F h)) s.1 ∙ over s.0 (F h)) in
-    here ∙ (reads_bare F step each over h ∙ ap (λ b. F (if b then bare h else d ∷ bare h)) (sym t)))
-    (λ (f : is_seal d ≡ false). each d h ∙ (ap (step d) (reads_bare F step each over h) ∙ (sym (each d (bare h)) ∙ ap (λ b. F (if b then bare h else d ∷ bare h)) (sym f))))
-    (either_way (is_seal d))
+reads_bare F step each over (d ∷ h) = grind (arith, nat_tests, reads_bare F step each over h)
 
 pub halted_bare : (h : List Deed) → halted h ≡ halted (bare h)
 halted_bare = reads_bare halted (λ d x. is_halt d || x) (λ d h. refl) (λ c x. refl)
@@ -57,17 +52,7 @@ pub present_bare : (s : ℕ) (h : List Deed) → present s h ≡ present s (bare
 present_bare s h = λ i. record { issue = issue_bare s h i; slot = s }
 
 pub author_bare : (d : Deed) (h : List Deed) → author d h ≡ author d (bare h)
-author_bare (Release n) h = ap releaser (ap (λ j. solo j h) (present_bare n h) ∙ solo_bare (present n (bare h)) h)
-author_bare (Trace c r f) h = refl
-author_bare (Scan c run) h = refl
-author_bare (Opened c j) h = refl
-author_bare (Miss c n b) h = refl
-author_bare (Speculate c j r f) h = refl
-author_bare (Commit c j f) h = refl
-author_bare (Discard c j f) h = refl
-author_bare (Settle c j f) h = refl
-author_bare (Seal c) h = refl
-author_bare Halt h = refl
+author_bare d h = grind (arith, nat_tests, present_bare, solo_bare)
 
 pub owing_bare : (d : Deed) (h : List Deed) → owing d h ≡ owing d (bare h)
 owing_bare (Discard c j f) h = ap (λ cs. if is_discard f && is_sole c cs then j.slot else 0) (callers_bare j h)
@@ -81,13 +66,4 @@ word_bare s h = ap (λ (j : Speculation). record { issue = j.issue; code = code_
 
 -- the Seals show nothing of what is read off all deeds
 pub shows_bare : (h : List Deed) → ShowsAlike h (bare h)
-shows_bare h = record {
-  halts = halted_bare h;
-  words = λ s. word_bare s h;
-  acks = λ c s. ack_bare c s h;
-  given = λ id. opened_bare id h;
-  verdicts = λ id. verdict_bare id h;
-  calling = λ id. callers_bare id h;
-  alone = λ id. solo_bare id h;
-  settling = λ c id. settled_bare c id h;
-}
+shows_bare h = grind (arith, nat_tests, halted_bare, word_bare, ack_bare, opened_bare, verdict_bare, callers_bare, solo_bare, settled_bare)

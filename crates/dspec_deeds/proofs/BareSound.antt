@@ -1,6 +1,8 @@
 -- A list with Seals is legal in its common part where the list without them is.
-use Rattle.std.proofs.Common.{◌≡◌, ◌⊎◌, ℕ, Bool, true, false, ◌||◌, ◌&&◌, ◌==◌, if◌then◌else◌, List, [], ◌∷◌, refl, sym, ap, ◌∙◌, subst, ⊎_elim}
-use Rattle.dspec_deeds.specs.Words.{Config, Cpu, Deed, Discard, Seal, halted, is_halt, late, owed, same_actor, facts, Follows, FollowsBy, IsSound, is_seal, bare}
+use Rattle.std.proofs.Common.{arith}
+use Rattle.std.proofs.lemmas.Bool.Decides.{nat_tests}
+use Rattle.std.proofs.Common.{◌≡◌, ◌⊎◌, ℕ, true, false, ◌||◌, if◌then◌else◌, List, [], ◌∷◌, refl, sym, ◌∙◌, subst, ⊎_elim}
+use Rattle.dspec_deeds.specs.Words.{Config, Deed, Discard, Seal, halted, late, owed, facts, Follows, FollowsBy, IsSound, is_seal, bare}
 use Rattle.dspec_deeds.proofs.TestLemmas.{either_way, same_number, or_false, and_false}
 use Rattle.dspec_deeds.proofs.BareReads.{seal_is, halted_bare, issue_bare, opened_bare, verdict_bare, callers_bare, settled_bare, scan_bare, since_bare, author_bare, owing_bare}
 
@@ -30,38 +32,10 @@ late_there c h = ⊎_elim (λ (e : halted h ≡ false). rw e (or_false (late c h
 
 late_bare : (c : ℕ) (h : List Deed) → ArePut h → late c h ≡ late c (bare h)
 late_bare c [] p = refl
-late_bare c (d ∷ h) p = ⊎_elim
-    (λ (t : is_seal d ≡ true).
-    let s = seal_is d t in
-    let put : MayPut (Seal s.0) h = subst (λ x. MayPut x h) s.1 p.1 in
-    let here : late c (d ∷ h) ≡ late c h = ap (λ x. late c (x ∷ h)) s.1 ∙ over (c == s.0) (either_way (c == s.0)) s.0 put.0 refl in
-    here ∙ (late_bare c h p.0 ∙ ap (λ b. late c (if b then bare h else d ∷ bare h)) (sym t)))
-    (λ (f : is_seal d ≡ false).
-    let step : late c (d ∷ h) ≡ late c (d ∷ bare h) = λ i. if is_halt d then false else (late_bare c h p.0 i || (halted_bare h i && same_actor (Cpu c) (author_bare d h i))) in
-    step ∙ ap (λ b. late c (if b then bare h else d ∷ bare h)) (sym f))
-    (either_way (is_seal d))
-  where
-    and_true : (b : Bool) → (b && true) ≡ b
-    and_true true = refl
-    and_true false = refl
-
-    over : (b : Bool) → (b ≡ true) ⊎ (b ≡ false) → (a : ℕ) → IsNoLater a h → (c == a) ≡ b → (late c h || (halted h && (c == a))) ≡ late c h
-    over true w a there e = ap (λ x. late c h || (halted h && x)) e ∙ (ap (λ x. late c h || x) (and_true (halted h)) ∙ late_there c h (subst (λ x. IsNoLater x h) (sym (same_number c a e)) there))
-    over false w a there e = ap (λ x. late c h || (halted h && x)) e ∙ (ap (λ x. late c h || x) (and_false (halted h)) ∙ or_false (late c h))
+late_bare c (d ∷ h) p = grind (arith, nat_tests, late_bare c h p.0, seal_is, halted_bare, author_bare, late_there, same_number, and_false, or_false)
 
 facts_bare : (k : Config) (h : List Deed) → ArePut h → facts k h ≡ facts k (bare h)
-facts_bare k h p = λ i. record {
-  halt = halted_bare h i;
-  issues = λ s. issue_bare s h i;
-  given = λ id. opened_bare id h i;
-  ruled = λ id. verdict_bare id h i;
-  called = λ id. callers_bare id h i;
-  done = λ c id. settled_bare c id h i;
-  scans = λ c. scan_bare k c h i;
-  since = λ c s. since_bare c s h i;
-  tardy = λ c. late_bare c h p i;
-  debt = owed_bare h p i;
-}
+facts_bare k h p = grind (arith, nat_tests, halted_bare, issue_bare, opened_bare, verdict_bare, callers_bare, settled_bare, scan_bare, since_bare, late_bare, owed_bare)
 
 -- the Seals put in keep the list legal in its common part
 pub sound_with_seals : (k : Config) (h : List Deed) → ArePut h → IsSound k (bare h) → IsSound k h

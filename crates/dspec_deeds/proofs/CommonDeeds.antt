@@ -1,36 +1,20 @@
 -- The common part doesn't look at what found room, nor at how many records there were.
-use Rattle.std.proofs.Common.{◌≡◌, ℕ, suc, ◌+◌, Bool, false, ◌||◌, ◌&&◌, if◌then◌else◌, List, [], Some, None, ◌∷◌, refl, sym, ap, ◌∙◌, subst}
-use Rattle.dspec_deeds.specs.Words.{Speculation, Config, Cpu, TraceFate, SpeculateFate, DecideFate, Deed, Trace, Speculate, Commit, Discard, Settle, Release, Halt, trace_stopped, spoken_stopped}
-use Rattle.dspec_deeds.specs.Words.{spoken_granted, decided_stopped, is_commit, is_discard, same_id, halted, is_halt, issue, releases, present, opened, opens, Verdict, undecided, committed}
-use Rattle.dspec_deeds.specs.Words.{discarded, verdict, ruling, latest, callers, calls_on, joined, is_sole, solo, solo_of, settled, settles, scan, scanned, opened_since, is_scan, opens_slot, owed}
-use Rattle.dspec_deeds.specs.Words.{author, releaser, same_actor, late, code_at, standing, word_at, ack, acks, issue_of, Facts, facts, SettlesAs, AnswersBy, FollowsBy, IsSound, HasAuthors}
-use Rattle.dspec_deeds.specs.Words.{common_traced, common_spoken, common_decided, common_deed, common_deeds, IsSameInCommon, AreSameInCommon, ShowsAlike}
+use Rattle.std.proofs.lemmas.Bool.Decides.{nat_tests}
+use Rattle.std.proofs.Common.{arith}
+use Rattle.std.proofs.Common.{◌≡◌, ℕ, suc, ◌+◌, false, ◌||◌, ◌&&◌, if◌then◌else◌, List, [], Some, None, ◌∷◌, refl, sym, ap, ◌∙◌, subst}
+use Rattle.dspec_deeds.specs.Words.{Speculation, Config, Cpu, SpeculateFate, DecideFate, Deed, Speculate, Release, Halt, spoken_granted, is_discard, same_id, halted, is_halt, issue, releases}
+use Rattle.dspec_deeds.specs.Words.{present, opened, opens, verdict, ruling, latest, callers, calls_on, joined, solo, solo_of, settled, settles, scan, scanned, opened_since, is_scan, opens_slot}
+use Rattle.dspec_deeds.specs.Words.{owed, author, releaser, same_actor, late, code_at, standing, word_at, ack, acks, issue_of, Facts, facts, FollowsBy, IsSound, HasAuthors, common_spoken}
+use Rattle.dspec_deeds.specs.Words.{common_decided, common_deed, common_deeds, IsSameInCommon, AreSameInCommon, ShowsAlike}
 use Rattle.dspec_word.specs.declared.code.Code.TheVariants.{Inactive}
-use Rattle.dspec_deeds.specs.declared.deed.TraceFate.TheVariants as traced
 use Rattle.dspec_deeds.specs.declared.deed.SpeculateFate.TheVariants as spoken
 use Rattle.dspec_deeds.specs.declared.deed.DecideFate.TheVariants as decided
 
 -- The tests of fates that the common part makes.
 
-trace_stop : (f : TraceFate) → trace_stopped (common_traced f) ≡ trace_stopped f
-trace_stop traced.Kept = refl
-trace_stop f = refl
-
-speculate_stop : (f : SpeculateFate) → spoken_stopped (common_spoken f) ≡ spoken_stopped f
-speculate_stop spoken.Kept = refl
-speculate_stop f = refl
-
 speculate_grant : (f : SpeculateFate) → spoken_granted (common_spoken f) ≡ spoken_granted f
 speculate_grant spoken.Kept = refl
 speculate_grant f = refl
-
-decide_stop : (f : DecideFate) → decided_stopped (common_decided f) ≡ decided_stopped f
-decide_stop (decided.Copied n) = refl
-decide_stop f = refl
-
-decide_commit : (f : DecideFate) → is_commit (common_decided f) ≡ is_commit f
-decide_commit (decided.Copied n) = refl
-decide_commit f = refl
 
 decide_discard : (f : DecideFate) → is_discard (common_decided f) ≡ is_discard f
 decide_discard (decided.Copied n) = refl
@@ -51,9 +35,7 @@ gives id Halt = refl
 gives id d = refl
 
 rules : (id : Speculation) (d : Deed) → ruling id (common_deed d) ≡ ruling id d
-rules id (Commit c j f) = ap (λ b. if b && same_id id j then committed c else undecided) (decide_commit f)
-rules id (Discard c j f) = ap (λ b. if b && same_id id j then discarded c else undecided) (decide_discard f)
-rules id d = refl
+rules id d = grind arith
 
 calls_it : (id : Speculation) (d : Deed) → calls_on id (common_deed d) ≡ calls_on id d
 calls_it id (Speculate c j r f) = ap (λ b. if b && same_id id j then Some c else None) (speculate_grant f)
@@ -127,9 +109,7 @@ author_common (Release n) h = ap releaser (ap (λ j. solo j (common_deeds h)) (p
 author_common d h = refl
 
 owed_common : (h : List Deed) → owed (common_deeds h) ≡ owed h
-owed_common [] = refl
-owed_common (Discard c j f ∷ h) = λ i. if decide_discard f i && is_sole c (callers_common j h i) then j.slot else 0
-owed_common (d ∷ h) = refl
+owed_common h = grind (arith, nat_tests, decide_discard, callers_common)
 
 late_common : (c : ℕ) (h : List Deed) → late c (common_deeds h) ≡ late c h
 late_common c [] = refl
@@ -143,18 +123,7 @@ word_common s h = ap (λ (j : Speculation). record { issue = j.issue; code = cod
     ∙ ap (λ x. record { issue = issue s h; code = x }) (code_common (present s h) h)
 
 facts_common : (k : Config) (h : List Deed) → facts k (common_deeds h) ≡ facts k h
-facts_common k h = λ i. record {
-  halt = halted_common h i;
-  issues = λ s. issue_common s h i;
-  given = λ id. opened_common id h i;
-  ruled = λ id. verdict_common id h i;
-  called = λ id. callers_common id h i;
-  done = λ c id. settled_common c id h i;
-  scans = λ c. scan_common k c h i;
-  since = λ c s. since_common c s h i;
-  tardy = λ c. late_common c h i;
-  debt = owed_common h i;
-}
+facts_common k h = grind (arith, nat_tests, halted_common, issue_common, opened_common, verdict_common, callers_common, settled_common, scan_common, since_common, late_common, owed_common)
 
 -- lists that are the same in common have the same facts
 pub same_facts : (k : Config) (g h : List Deed) → AreSameInCommon g h → facts k g ≡ facts k h
@@ -173,31 +142,12 @@ same_shown g h e = record {
   settling = λ c id. sym (settled_common c id g) ∙ (ap (settled c id) e ∙ settled_common c id h);
 }
 
--- a fate that is the same in common settles the same
-settles_common : (v : Verdict) (f : DecideFate) → (SettlesAs v (common_decided f) → SettlesAs v f) × (SettlesAs v f → SettlesAs v (common_decided f))
-settles_common undecided f = (λ e. e, λ e. e)
-settles_common (committed c) f = (λ e. sym (decide_commit f) ∙ e, λ e. decide_commit f ∙ e)
-settles_common (discarded c) f = (λ e. sym (decide_discard f) ∙ e, λ e. decide_discard f ∙ e)
-
-answers_common : (x : Facts) (c : ℕ) (id : Speculation) (s t a b : Bool) → s ≡ t → a ≡ b → AnswersBy x c id s a → AnswersBy x c id t b
-answers_common x c id s t a b p q = subst (λ (r : Bool × Bool). AnswersBy x c id r.0 r.1) (λ i. (p i, q i))
-
 module _ (k : Config) (x : Facts) where
   to_common : (d : Deed) → FollowsBy k x d → FollowsBy k x (common_deed d)
-  to_common (Trace c r f) e = (e.0, (e.1.0, trace_stop f ∙ e.1.1))
-  to_common (Speculate c id r f) e = (e.0, (e.1.0, answers_common x c id _ _ _ _ (sym (speculate_stop f)) (sym (speculate_grant f)) e.1.1))
-  to_common (Commit c id f) e = (e.0, (e.1.0, decide_discard f ∙ e.1.1, answers_common x c id _ _ _ _ (sym (decide_stop f)) (sym (decide_commit f)) e.1.2))
-  to_common (Discard c id f) e = (e.0, (e.1.0, decide_commit f ∙ e.1.1, answers_common x c id _ _ _ _ (sym (decide_stop f)) (sym (decide_discard f)) e.1.2))
-  to_common (Settle c id f) e = (e.0, (e.1.0, (e.1.1.0, (settles_common (x.ruled id) f).1 e.1.1.1, e.1.1.2, e.1.1.3)))
-  to_common d e = e
+  to_common d h1 = grind arith
 
   from_common : (d : Deed) → FollowsBy k x (common_deed d) → FollowsBy k x d
-  from_common (Trace c r f) e = (e.0, (e.1.0, sym (trace_stop f) ∙ e.1.1))
-  from_common (Speculate c id r f) e = (e.0, (e.1.0, answers_common x c id _ _ _ _ (speculate_stop f) (speculate_grant f) e.1.1))
-  from_common (Commit c id f) e = (e.0, (e.1.0, sym (decide_discard f) ∙ e.1.1, answers_common x c id _ _ _ _ (decide_stop f) (decide_commit f) e.1.2))
-  from_common (Discard c id f) e = (e.0, (e.1.0, sym (decide_commit f) ∙ e.1.1, answers_common x c id _ _ _ _ (decide_stop f) (decide_discard f) e.1.2))
-  from_common (Settle c id f) e = (e.0, (e.1.0, (e.1.1.0, (settles_common (x.ruled id) f).0 e.1.1.1, e.1.1.2, e.1.1.3)))
-  from_common d e = e
+  from_common d h1 = grind arith
 
 -- one deed may come where another may that is the same in common
 pub same_follows : (k : Config) (x : Facts) (d e : Deed) → IsSameInCommon d e → FollowsBy k x d → FollowsBy k x e

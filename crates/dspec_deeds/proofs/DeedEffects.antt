@@ -1,8 +1,9 @@
 -- What a deed does for a CPU: nothing, it offers a record, or it empties a speculative buffer.
-use Rattle.std.proofs.Common.{◌≡◌, ℕ, true, false, ◌==◌, List, [], ◌∷◌, length, Option, refl, sym, ◌∙◌, subst, ⊎_elim, true≢false, arith}
+use Rattle.std.proofs.lemmas.Bool.Decides.{nat_tests}
+use Rattle.std.proofs.Common.{◌≡◌, ℕ, true, false, ◌==◌, List, [], ◌∷◌, length, Option, refl, sym, subst, ⊎_elim, true≢false, arith}
 use Rattle.dspec_record.specs.declared.field.Shape.{Shape}
-use Rattle.dspec_deeds.specs.Words.{Speculation, Config, DecideFate, Deed, Trace, Speculate, Commit, Discard, Settle, Verdict, undecided, committed, ruled_out, verdict, empties, held, accepts}
-use Rattle.dspec_deeds.specs.Words.{SettlesAs, Follows, CpuLegal, IsAllowed, is_commit, is_discard, taken, dropped, first_fate}
+use Rattle.dspec_deeds.specs.Words.{Speculation, Config, DecideFate, Deed, Trace, Speculate, Commit, Discard, Settle, Ruling, verdict, held, SettlesAs, Follows, CpuLegal, IsAllowed, is_commit}
+use Rattle.dspec_deeds.specs.Words.{is_discard, taken, dropped, first_fate}
 use Rattle.dspec_deeds.specs.declared.deed.DecideFate.TheVariants as decided
 use Rattle.dspec_deeds.specs.Fates.{discarded}
 use Rattle.dspec_deeds.proofs.TestLemmas.{either_way, same_number, number_is_itself}
@@ -10,110 +11,39 @@ use Rattle.dspec_deeds.proofs.DeedOffers.{Effect, Empties, Idle, emptying, idle,
 
 -- a decision that decides nothing
 undecided_commit : (c : ℕ) (id : Speculation) (f : DecideFate) (h : List Deed) → is_commit f ≡ false → Idle c (Commit c id f) h
-undecided_commit c id (decided.Copied n) h e = absurd (true≢false e)
-undecided_commit c id (decided.Lost n) h e = absurd (true≢false e)
-undecided_commit c id (decided.Thrown n) h e =
-    record { offered = refl; empty = λ j. refl; holds = λ j. refl; accepted = refl; added = refl; counts = record { accepts = refl; drops = refl; discards = refl; voids = refl } }
-undecided_commit c id decided.Void h e =
-    record { offered = refl; empty = λ j. refl; holds = λ j. refl; accepted = refl; added = refl; counts = record { accepts = refl; drops = refl; discards = refl; voids = refl } }
-undecided_commit c id decided.Stopped h e =
-    record { offered = refl; empty = λ j. refl; holds = λ j. refl; accepted = refl; added = refl; counts = record { accepts = refl; drops = refl; discards = refl; voids = refl } }
+undecided_commit c id f h e = grind arith
 
 -- a discard that decides nothing
 undecided_discard : (c : ℕ) (id : Speculation) (f : DecideFate) (h : List Deed) → is_discard f ≡ false → Idle c (Discard c id f) h
-undecided_discard c id f h e = record {
-  offered = refl;
-  empty = λ j. rw e;
-  holds = λ j. rw e;
-  accepted = refl;
-  added = refl;
-  counts = record
-      { accepts = refl; drops = refl; discards = rw e; voids = refl };
-}
+undecided_discard c id f h e = grind arith
 
 -- the number of records told is the number of those that were held
 pub copied_commit : (c : ℕ) (id : Speculation) (n : ℕ) (h : List Deed) → n ≡ length (held c id h) → Empties c (Commit c id (decided.Copied n)) h id taken
-copied_commit c id n h l = let e = number_is_itself c in record {
-  offered = refl;
-  gone = refl;
-  fates = λ j. refl;
-  empty = λ j. rw e;
-  holds = λ j. rw e;
-  accepted = rw e;
-  added = refl;
-  counts = record { accepts = rw e l; drops = refl; discards = refl; voids = refl };
-}
+copied_commit c id n h l = let e = number_is_itself c in grind arith
 
 -- a commit whose block didn't fit
 pub lost_commit : (c : ℕ) (id : Speculation) (n : ℕ) (h : List Deed) → n ≡ length (held c id h) → Empties c (Commit c id (decided.Lost n)) h id dropped
-lost_commit c id n h l = let e = number_is_itself c in record {
-  offered = refl;
-  gone = refl;
-  fates = λ j. refl;
-  empty = λ j. rw e;
-  holds = λ j. rw e;
-  accepted = refl;
-  added = refl;
-  counts = record { accepts = refl; drops = rw e (omega arith); discards = refl; voids = refl };
-}
+lost_commit c id n h l = let e = number_is_itself c in grind arith
 
 -- a discard that decides
 pub thrown_discard : (c : ℕ) (id : Speculation) (n : ℕ) (h : List Deed) → n ≡ length (held c id h) → Empties c (Discard c id (decided.Thrown n)) h id discarded
-thrown_discard c id n h l = let e = number_is_itself c in record {
-  offered = refl;
-  gone = refl;
-  fates = λ j. refl;
-  empty = λ j. rw e;
-  holds = λ j. rw e;
-  accepted = refl;
-  added = refl;
-  counts = record { accepts = refl; drops = refl; discards = rw e l; voids = refl };
-}
+thrown_discard c id n h l = let e = number_is_itself c in grind arith
 
 -- a settlement after a commit, whose block fits
 pub copied_settle : (c : ℕ) (id : Speculation) (n : ℕ) (h : List Deed) → n ≡ length (held c id h) → Empties c (Settle c id (decided.Copied n)) h id taken
-copied_settle c id n h l = let e = number_is_itself c in record {
-  offered = refl;
-  gone = refl;
-  fates = λ j. refl;
-  empty = λ j. rw e;
-  holds = λ j. rw e;
-  accepted = rw e;
-  added = refl;
-  counts = record { accepts = rw e l; drops = refl; discards = refl; voids = refl };
-}
+copied_settle c id n h l = let e = number_is_itself c in grind arith
 
 -- a settlement after a commit, whose block doesn't fit
 pub lost_settle : (c : ℕ) (id : Speculation) (n : ℕ) (h : List Deed) → n ≡ length (held c id h) → Empties c (Settle c id (decided.Lost n)) h id dropped
-lost_settle c id n h l = let e = number_is_itself c in record {
-  offered = refl;
-  gone = refl;
-  fates = λ j. refl;
-  empty = λ j. rw e;
-  holds = λ j. rw e;
-  accepted = refl;
-  added = refl;
-  counts = record { accepts = refl; drops = rw e (omega arith); discards = refl; voids = refl };
-}
+lost_settle c id n h l = let e = number_is_itself c in grind arith
 
 -- a settlement after a discard
 pub thrown_settle : (c : ℕ) (id : Speculation) (n : ℕ) (h : List Deed) → n ≡ length (held c id h) → Empties c (Settle c id (decided.Thrown n)) h id discarded
-thrown_settle c id n h l = let e = number_is_itself c in record {
-  offered = refl;
-  gone = refl;
-  fates = λ j. refl;
-  empty = λ j. rw e;
-  holds = λ j. rw e;
-  accepted = refl;
-  added = refl;
-  counts = record { accepts = refl; drops = refl; discards = rw e l; voids = refl };
-}
+thrown_settle c id n h l = let e = number_is_itself c in grind arith
 
 -- a settlement settles as some CPU decided
-settles_somehow : (v : Verdict) (f : DecideFate) → SettlesAs v f → is_commit f ≡ false → is_discard f ≡ true
-settles_somehow undecided f s e = absurd s
-settles_somehow (committed c) f s e = absurd (true≢false (sym s ∙ e))
-settles_somehow (ruled_out c) f s e = s
+settles_somehow : (v : Ruling) (f : DecideFate) → SettlesAs v f → is_commit f ≡ false → is_discard f ≡ true
+settles_somehow v f s e = grind arith
 
 -- a legal commit empties or does nothing
 own_commit : (shape : ℕ → Option Shape) (k : Config) (c : ℕ) (id : Speculation) (f : DecideFate) (h : List Deed) → CpuLegal shape k h (Commit c id f) → Effect c (Commit c id f) h
@@ -171,15 +101,7 @@ effect shape k c (Settle a id f) h s o = ⊎_elim
     (λ (t : (c == a) ≡ true). subst (λ x. CpuLegal shape k h (Settle x id f) → Effect c (Settle x id f) h) (same_number c a t) (own_settle shape k c id f h s) o)
     (λ (n : (c == a) ≡ false). idle (other_settle c a id f h n))
     (either_way (c == a))
-effect shape k c d h s o = idle (record {
-  offered = refl;
-  empty = λ id. refl;
-  holds = λ id. refl;
-  accepted = refl;
-  added = refl;
-  counts = record
-      { accepts = refl; drops = refl; discards = refl; voids = refl };
-})
+effect shape k c d h s o = grind (arith, nat_tests)
 
 -- each deed of the list has one of the three effects for the CPU
 abbrev pub Accounts : ℕ → List Deed → Type 0

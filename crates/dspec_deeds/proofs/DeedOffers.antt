@@ -1,11 +1,9 @@
 -- What a deed does for a CPU: nothing, it offers a record, or it empties a speculative buffer; other CPUs' deeds, and the CPU's own offers.
-use Rattle.std.proofs.Common.{◌≡◌, ℕ, ◌+◌, Bool, false, ◌==◌, if◌then◌else◌, List, [], ◌∷◌, length, Option, None, Some, refl}
+use Rattle.std.proofs.Common.{arith, ◌≡◌, ℕ, ◌+◌, Bool, false, ◌==◌, if◌then◌else◌, List, [], ◌∷◌, length, Option, None, Some}
 use Rattle.dspec_deeds.specs.Words.{Record, Speculation, TraceFate, SpeculateFate, DecideFate, Deed, Trace, Speculate, Commit, Discard, Settle, same_id, Offer, offered_by, offers, empties, held}
 use Rattle.dspec_deeds.specs.Words.{accepts, accepts_now, traces_dropped_now, specdrops_now, loses_now, discards_now, voids_now, adds_now, Spoken, Fate, taken, waiting, first_fate, fate_by}
 use Rattle.dspec_deeds.specs.Words.{is_taken, is_dropped, is_discarded, is_void, is_waiting, offered_to}
-use Rattle.dspec_deeds.specs.declared.deed.TraceFate.TheVariants as traced
-use Rattle.dspec_deeds.specs.declared.deed.SpeculateFate.TheVariants as spoken
-use Rattle.dspec_deeds.proofs.TestLemmas.{and_false, number_is_itself}
+use Rattle.dspec_deeds.proofs.TestLemmas.{number_is_itself}
 
 -- the record that the CPU offers next
 abbrev pub next_offer : ℕ → Record → List Deed → Offer
@@ -73,131 +71,28 @@ pub data Effect (c : ℕ) (d : Deed) (h : List Deed) : Type 0 where
 
 -- the deeds of another CPU
 pub other_trace : (c a : ℕ) (r : Record) (f : TraceFate) (h : List Deed) → (c == a) ≡ false → Idle c (Trace a r f) h
-other_trace c a r f h e = record {
-  offered = rw e;
-  empty = λ id. refl;
-  holds = λ id. refl;
-  accepted = simp (e, and_false);
-  added = refl;
-  counts = record { accepts = simp (e, and_false); drops = simp (e, and_false); discards = refl; voids = simp (e, and_false) };
-}
+other_trace c a r f h e = grind arith
 
 -- a speculative record of another CPU
 pub other_speculate : (c a : ℕ) (id : Speculation) (r : Record) (f : SpeculateFate) (h : List Deed) → (c == a) ≡ false → Idle c (Speculate a id r f) h
-other_speculate c a id r f h e = record {
-  offered = rw e;
-  empty = λ j. refl;
-  holds = λ j. simp (e, and_false);
-  accepted = refl;
-  added = simp (e, and_false);
-  counts = record { accepts = refl; drops = simp (e, and_false); discards = refl; voids = simp (e, and_false) };
-}
+other_speculate c a id r f h e = grind arith
 
 -- a commit by another CPU
 pub other_commit : (c a : ℕ) (id : Speculation) (f : DecideFate) (h : List Deed) → (c == a) ≡ false → Idle c (Commit a id f) h
-other_commit c a id f h e = record {
-  offered = refl;
-  empty = λ j. simp (e, and_false);
-  holds = λ j. simp (e, and_false);
-  accepted = simp (e, and_false);
-  added = refl;
-  counts = record { accepts = simp (e, and_false); drops = simp (e, and_false); discards = refl; voids = refl };
-}
+other_commit c a id f h e = grind arith
 
 -- a discard by another CPU
 pub other_discard : (c a : ℕ) (id : Speculation) (f : DecideFate) (h : List Deed) → (c == a) ≡ false → Idle c (Discard a id f) h
-other_discard c a id f h e = record {
-  offered = refl;
-  empty = λ j. simp (e, and_false);
-  holds = λ j. simp (e, and_false);
-  accepted = refl;
-  added = refl;
-  counts = record { accepts = refl; drops = refl; discards = simp (e, and_false); voids = refl };
-}
+other_discard c a id f h e = grind arith
 
 -- a settlement by another CPU
 pub other_settle : (c a : ℕ) (id : Speculation) (f : DecideFate) (h : List Deed) → (c == a) ≡ false → Idle c (Settle a id f) h
-other_settle c a id f h e = record {
-  offered = refl;
-  empty = λ j. rw e;
-  holds = λ j. rw e;
-  accepted = simp (e, and_false);
-  added = refl;
-  counts = record { accepts = simp (e, and_false); drops = simp (e, and_false); discards = simp (e, and_false); voids = refl };
-}
+other_settle c a id f h e = grind arith
 
 -- the deeds of the CPU
 pub own_trace : (c : ℕ) (r : Record) (f : TraceFate) (h : List Deed) → Offers c (Trace c r f) h r (first_fate (Trace c r f))
-own_trace c r traced.Kept h = let e = number_is_itself c in record {
-  offered = rw e;
-  first = refl;
-  sent = refl;
-  empty = λ id. refl;
-  holds = λ id. refl;
-  accepted = rw e;
-  added = refl;
-  counts = record { accepts = rw e; drops = refl; discards = refl; voids = refl };
-}
-own_trace c r traced.Dropped h = let e = number_is_itself c in record {
-  offered = rw e;
-  first = refl;
-  sent = tt;
-  empty = λ id. refl;
-  holds = λ id. refl;
-  accepted = refl;
-  added = refl;
-  counts = record { accepts = refl; drops = rw e; discards = refl; voids = refl };
-}
-own_trace c r traced.Stopped h = let e = number_is_itself c in record {
-  offered = rw e;
-  first = refl;
-  sent = tt;
-  empty = λ id. refl;
-  holds = λ id. refl;
-  accepted = refl;
-  added = refl;
-  counts = record { accepts = refl; drops = refl; discards = refl; voids = rw e };
-}
+own_trace c r f h = let e = number_is_itself c in grind arith
 
 -- the CPU's own speculative record
 pub own_speculate : (c : ℕ) (id : Speculation) (r : Record) (f : SpeculateFate) (h : List Deed) → Offers c (Speculate c id r f) h r (first_fate (Speculate c id r f))
-own_speculate c id r spoken.Kept h = let e = number_is_itself c in record {
-  offered = rw e;
-  first = refl;
-  sent = refl;
-  empty = λ j. refl;
-  holds = λ j. rw e;
-  accepted = refl;
-  added = rw e;
-  counts = record { accepts = refl; drops = refl; discards = refl; voids = refl };
-}
-own_speculate c id r spoken.Dropped h = let e = number_is_itself c in record {
-  offered = rw e;
-  first = refl;
-  sent = tt;
-  empty = λ j. refl;
-  holds = λ j. refl;
-  accepted = refl;
-  added = refl;
-  counts = record { accepts = refl; drops = rw e; discards = refl; voids = refl };
-}
-own_speculate c id r spoken.Void h = let e = number_is_itself c in record {
-  offered = rw e;
-  first = refl;
-  sent = tt;
-  empty = λ j. refl;
-  holds = λ j. refl;
-  accepted = refl;
-  added = refl;
-  counts = record { accepts = refl; drops = refl; discards = refl; voids = rw e };
-}
-own_speculate c id r spoken.Stopped h = let e = number_is_itself c in record {
-  offered = rw e;
-  first = refl;
-  sent = tt;
-  empty = λ j. refl;
-  holds = λ j. refl;
-  accepted = refl;
-  added = refl;
-  counts = record { accepts = refl; drops = refl; discards = refl; voids = rw e };
-}
+own_speculate c id r f h = let e = number_is_itself c in grind arith

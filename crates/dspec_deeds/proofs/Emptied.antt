@@ -2,11 +2,10 @@
 use Rattle.std.proofs.Common.{[], ◌≡◌, ◌≢◌, ◌⊎◌, ℕ, suc, ◌<◌, Bool, true, false, ◌&&◌, ◌==◌, if◌then◌else◌, List, ◌∷◌, Some, None, refl, sym, ap, ◌∙◌, subst, ⊎_elim, inl, inr, arith, true≢false}
 use Rattle.std.proofs.lemmas.Bool.Decides.{nat_tests}
 use Rattle.dspec_deeds.specs.Words.{Speculation, Record, Config, SpeculateFate, Deed, Speculate, Commit, Discard, Settle, Release, spoken_granted, spoken_kept, is_commit, is_discard, same_id}
-use Rattle.dspec_deeds.specs.Words.{is_among, issue, releases, present, opened, Verdict, undecided, committed, discarded, verdict, ruling, latest, is_undecided, is_open, callers, joined, is_sole}
-use Rattle.dspec_deeds.specs.Words.{is_sole_or_none, solo, solo_of, settled, settles, Offer, keeps, empties, held, IsSound}
+use Rattle.dspec_deeds.specs.Words.{is_among, issue, releases, present, Ruling, undecided, committed, discarded, verdict, ruling, latest, is_undecided, is_open, callers, joined, solo, settled}
+use Rattle.dspec_deeds.specs.Words.{settles, keeps, empties, held, IsSound}
 use Rattle.dspec_deeds.specs.declared.deed.SpeculateFate.TheVariants as spoken
 use Rattle.dspec_deeds.proofs.TestLemmas.{either_way, off, and_tells, and_false, or_none, or_tells, same_number, same_id_tells, has_joined}
-use Rattle.dspec_deeds.proofs.SoundLists.{unseen}
 use Rattle.dspec_deeds.proofs.PresentIds.{past_shut, decided_shut}
 use Rattle.dspec_deeds.proofs.WordChanges.{granted_open}
 use Rattle.dspec_deeds.proofs.Acked.{settled_decided}
@@ -16,25 +15,13 @@ kept_granted : (f : SpeculateFate) → spoken_kept f ≡ true → spoken_granted
 kept_granted spoken.Kept e = refl
 kept_granted f e = absurd (true≢false (sym e))
 
--- empty either way
-either_empty : (b : Bool) → ◌≡◌ {A = List Offer} (if b then [] else []) []
-either_empty true = refl
-either_empty false = refl
-
 -- an empty buffer stays empty where the deed keeps no record in it
 unkept : (c : ℕ) (id : Speculation) (d : Deed) (h : List Deed) → keeps c id d ≡ false → held c id h ≡ [] → held c id (d ∷ h) ≡ []
-unkept c id (Speculate a j r f) h miss e = rw miss e
-unkept c id (Commit a j f) h miss e = rw e (either_empty (is_commit f && ((c == a) && same_id id j)))
-unkept c id (Discard a j f) h miss e = rw e (either_empty (is_discard f && ((c == a) && same_id id j)))
-unkept c id (Settle a j f) h miss e = rw e (either_empty ((c == a) && same_id id j))
-unkept c id d h miss e = e
+unkept c id d h h1 h2 = grind arith
 
 -- a deed that empties the buffer
 emptied : (c : ℕ) (id : Speculation) (d : Deed) (h : List Deed) → empties c id d ≡ true → held c id (d ∷ h) ≡ []
-emptied c id (Commit a j f) h e = rw e refl
-emptied c id (Discard a j f) h e = rw e refl
-emptied c id (Settle a j f) h e = rw e refl
-emptied c id d h e = absurd (true≢false (sym e))
+emptied c id d h h1 = grind arith
 
 -- who is no caller has kept no record
 pub callers_hold : (c : ℕ) (id : Speculation) (h : List Deed) → is_among c (callers id h) ≡ false → held c id h ≡ []
@@ -61,10 +48,6 @@ callers_hold c id (d ∷ h) away = let r = go d away in unkept c id d h r.1 (cal
         unspoken a j r f e = refl
     go d away = (away, refl)
 
--- what was not given out has no record
-pub unopened_empty : (k : Config) (c : ℕ) (id : Speculation) (h : List Deed) → IsSound k h → opened id h ≡ false → held c id h ≡ []
-unopened_empty k c id h s un = callers_hold c id h (ap (is_among c) (unseen k h id s un).1)
-
 -- what is not open gets no record
 pub shut_unkept : (k : Config) (c : ℕ) (id : Speculation) (d : Deed) (h : List Deed) → IsSound k (d ∷ h) → is_open id h ≡ false → keeps c id d ≡ false
 shut_unkept k c id (Speculate a j r f) h s shut = ⊎_elim
@@ -81,13 +64,13 @@ pub shut_empty : (k : Config) (c : ℕ) (id : Speculation) (d : Deed) (h : List 
 shut_empty k c id d h s shut e = unkept c id d h (shut_unkept k c id d h s shut) e
 
 -- the CPU's own decision
-abbrev pub ruled_by : ℕ → Verdict → Bool
+abbrev pub ruled_by : ℕ → Ruling → Bool
 ruled_by c undecided = false
 ruled_by c (committed a) = c == a
 ruled_by c (discarded a) = c == a
 
 -- a CPU's own decision is a decision
-ruled_decided : (c : ℕ) (v : Verdict) → ruled_by c v ≡ true → is_undecided v ≡ false
+ruled_decided : (c : ℕ) (v : Ruling) → ruled_by c v ≡ true → is_undecided v ≡ false
 ruled_decided c undecided e = absurd (true≢false (sym e))
 ruled_decided c (committed a) e = refl
 ruled_decided c (discarded a) e = refl
@@ -102,7 +85,7 @@ ruled_empty k c id (d ∷ h) s e = ⊎_elim
     shut_empty k c id d h s (decided_shut id h (ruled_decided c (verdict id h) before)) (ruled_empty k c id h s.0 before))
     (either_way (ruled_by c (ruling id d)))
   where
-    older : (r : Verdict) → ruled_by c r ≡ false → ruled_by c (latest r (verdict id h)) ≡ true → ruled_by c (verdict id h) ≡ true
+    older : (r : Ruling) → ruled_by c r ≡ false → ruled_by c (latest r (verdict id h)) ≡ true → ruled_by c (verdict id h) ≡ true
     older undecided f e = e
     older (committed a) f e = off (c == a) e f
     older (discarded a) f e = off (c == a) e f
@@ -136,39 +119,11 @@ settled_empty k c id (d ∷ h) s e = ⊎_elim
 
 -- what a CPU decided alone is in nobody's buffer
 pub solo_empty : (k : Config) (c : ℕ) (id : Speculation) (h : List Deed) → IsSound k h → solo id h ≢ None → held c id h ≡ []
-solo_empty k c id h s alone = go (verdict id h) (callers id h) refl refl alone
-  where
-    others : (a : ℕ) (cs : List ℕ) → is_sole_or_none a cs ≡ true → (c == a) ≡ false → is_among c cs ≡ false
-    others a [] e n = refl
-    others a (x ∷ []) e n = rw (sym (same_number a x e), n) refl
-    others a (x ∷ y ∷ cs) e n = absurd (true≢false (sym e))
-
-    sole_or_none : (a : ℕ) (cs : List ℕ) → is_sole a cs ≡ true → is_sole_or_none a cs ≡ true
-    sole_or_none a [] e = refl
-    sole_or_none a (x ∷ []) e = e
-    sole_or_none a (x ∷ y ∷ cs) e = e
-
-    if_some : (b : Bool) (a : ℕ) → (if b then Some a else None) ≢ None → b ≡ true
-    if_some true a n = refl
-    if_some false a n = absurd (n refl)
-
-    by : (a : ℕ) (v : Verdict) (cs : List ℕ) → verdict id h ≡ v → callers id h ≡ cs → ruled_by c v ≡ (c == a) → is_sole_or_none a cs ≡ true → held c id h ≡ []
-    by a v cs ev ec r sole = ⊎_elim
-        (λ (t : (c == a) ≡ true). ruled_empty k c id h s (ap (ruled_by c) ev ∙ (r ∙ t)))
-        (λ (f : (c == a) ≡ false). callers_hold c id h (ap (is_among c) ec ∙ others a cs sole f))
-        (either_way (c == a))
-
-    go : (v : Verdict) (cs : List ℕ) → verdict id h ≡ v → callers id h ≡ cs → solo_of (verdict id h) (callers id h) ≢ None → held c id h ≡ []
-    go undecided cs ev ec n = absurd (n (ap (λ v. solo_of v (callers id h)) ev))
-    go (committed a) cs ev ec n = by a (committed a) cs ev ec refl (if_some (is_sole_or_none a cs) a (λ none. n ((λ i. solo_of (ev i) (ec i)) ∙ none)))
-    go (discarded a) cs ev ec n = by a (discarded a) cs ev ec refl (sole_or_none a cs (if_some (is_sole a cs) a (λ none. n ((λ i. solo_of (ev i) (ec i)) ∙ none))))
+solo_empty k c id h s alone = grind (arith, nat_tests, same_number, ruled_empty, callers_hold)
 
 -- what is released is in no CPU's buffer
 pub release_empty : (k : Config) (c s : ℕ) (h : List Deed) → c < k.cpus → IsSound k (Release s ∷ h) → held c (present s h) h ≡ []
-release_empty k c s h lt sound = ⊎_elim
-    (λ (alone : solo (present s h) h ≢ None). solo_empty k c (present s h) h sound.0 alone)
-    (λ (all : (a : ℕ) → a < k.cpus → settled a (present s h) h ≡ true). settled_empty k c (present s h) h sound.0 (all c lt))
-    sound.1.1.0.1
+release_empty k c s h lt sound = grind (arith, nat_tests, solo_empty, settled_empty)
 
 -- what is over is in no CPU's buffer
 pub past_empty : (k : Config) (c : ℕ) (id : Speculation) (h : List Deed) → c < k.cpus → IsSound k h → id.issue < issue id.slot h → held c id h ≡ []

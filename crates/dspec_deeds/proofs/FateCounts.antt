@@ -1,12 +1,12 @@
 -- The numbers of the fates are the counts of the report.
 use Prim.Native.Nat.{zero, suc}
-use Rattle.std.proofs.Common.{◌≡◌, ℕ, ◌+◌, ◌<◌, Bool, true, false, ◌==◌, ltb as nat_lt, if◌then◌else◌, List, [], ◌∷◌, length, refl, ap, ◌∙◌, arith}
+use Rattle.std.proofs.Common.{◌≡◌, ℕ, ◌+◌, ◌<◌, Bool, true, false, ltb as nat_lt, if◌then◌else◌, List, [], ◌∷◌, length, refl, ◌∙◌, arith}
 use Rattle.std.proofs.lemmas.Bool.Decides.{nat_tests}
-use Rattle.dspec_deeds.specs.Words.{Record, Speculation, Deed, Offer, offers, held, total, accepts_now, traces_dropped_now, specdrops_now, loses_now, discards_now, voids_now, Fate, taken, waiting}
-use Rattle.dspec_deeds.specs.Words.{fate, fates, fates_below, is_taken, is_dropped, is_discarded, is_void, is_waiting, times}
+use Rattle.dspec_deeds.specs.Words.{Record, Speculation, Deed, Offer, offers, held, total, accepts_now, traces_dropped_now, specdrops_now, loses_now, discards_now, voids_now, Fate, waiting, fate}
+use Rattle.dspec_deeds.specs.Words.{fates, fates_below, is_taken, is_dropped, is_discarded, is_void, is_waiting, times}
 use Rattle.dspec_deeds.proofs.DeedOffers.{waits_for, Counts, Idle, Offers, Empties, Effect, idle, offering, emptying}
 use Rattle.dspec_deeds.proofs.DeedEffects.{Accounts}
-use Rattle.dspec_deeds.proofs.HeldOffers.{fate_idle, fate_offered, fate_earlier, fate_emptied, tally, emptied_gains, emptied_leaves, times_held}
+use Rattle.dspec_deeds.proofs.HeldOffers.{fate_offered, fate_earlier, fate_emptied, tally, emptied_gains, emptied_leaves, times_held}
 use Rattle.dspec_deeds.proofs.OfferedContents.{AllOffered, held_offered}
 
 -- how often a list has the records below a number
@@ -27,10 +27,7 @@ times_one_more o os (suc j) = grind (arith, nat_tests, times_one_more o os j)
 -- a list of records below a number is as long as they stand in it
 times_all : (c : ℕ) (h : List Deed) (os : List Offer) → AllOffered c h os → times_below os (offers c h) ≡ length os
 times_all c h [] a = times_none (offers c h)
-times_all c h (o ∷ os) a =
-    let first : o.number < offers c h = a.0.number in
-    let here : nat_lt o.number (offers c h) ≡ true = grind (arith, nat_tests) in
-    times_one_more o os (offers c h) ∙ rw (here, times_all c h os a.1) (omega arith)
+times_all c h (o ∷ os) a = grind (arith, nat_tests, times_all c h os a.1, times_one_more)
 
 -- so many records below a number wait as are in the buffer
 waiting_below : (c : ℕ) (id : Speculation) (h : List Deed) (n : ℕ) → Accounts c h → fates_below (waits_for id) c h n ≡ times_below (held c id h) n
@@ -48,30 +45,16 @@ same_below test c d h (suc j) s = rw (same_below test c d h j (λ i lt. s i (ome
 
 -- nothing done leaves the numbers of the fates
 pub fates_idle : (test : Fate → Bool) (c : ℕ) (d : Deed) (h : List Deed) → Idle c d h → fates test c (d ∷ h) ≡ fates test c h
-fates_idle test c d h i =
-    let same : offers c (d ∷ h) ≡ offers c h = rw i.offered (omega arith) in
-    ap (λ m. fates_below test c (d ∷ h) m) same ∙ same_below test c d h (offers c h) (λ j lt. fate_idle c j d h i)
+fates_idle test c d h h1 = grind arith
 
 -- an offer adds one to its fate's number
 pub fates_offered : (test : Fate → Bool) (c : ℕ) (d : Deed) (h : List Deed) (r : Record) (f : Fate) → Offers c d h r f → fates test c (d ∷ h) ≡ fates test c h + (if test f then 1 else 0)
-fates_offered test c d h r f o =
-    let n = offers c h in
-    let one : offers c (d ∷ h) ≡ suc n = rw o.offered (omega arith) in
-    ap (λ m. fates_below test c (d ∷ h) m) one
-    ∙ (ap (λ x. fates_below test c (d ∷ h) n + tally test x) (fate_offered c d h r f o)
-    ∙ ap (λ m. m + (if test f then 1 else 0)) (same_below test c d h n earlier))
-  where
-    earlier : (j : ℕ) → j < offers c h → fate c j (d ∷ h) ≡ fate c j h
-    earlier j lt = let other : (j == offers c h) ≡ false = grind (arith, nat_tests) in fate_earlier c j d h r f o other
+fates_offered test c d h r f o = grind (arith, nat_tests, tally, fate_offered, same_below, fate_earlier)
 
 -- an emptied buffer's records are added to their fate's number
 gained_below : (test : Fate → Bool) → ((i : Speculation) → test (waiting i) ≡ false) → (c : ℕ) (d : Deed) (h : List Deed) (id : Speculation) (f : Fate) → Empties c d h id f → (n : ℕ)
     → fates_below test c (d ∷ h) n ≡ fates_below test c h n + (if test f then fates_below (waits_for id) c h n else 0)
-gained_below test never c d h id f m zero = none (test f)
-  where
-    none : (b : Bool) → ◌≡◌ {A = ℕ} 0 (0 + (if b then 0 else 0))
-    none true = refl
-    none false = refl
+gained_below test never c d h id f m zero = grind (arith, nat_tests)
 gained_below test never c d h id f m (suc j) =
     rw (gained_below test never c d h id f m j, fate_emptied c j d h id f m, emptied_gains test never id f (fate c j h)) (more (test f))
   where
@@ -84,10 +67,7 @@ gained_below test never c d h id f m (suc j) =
 left_below : (c : ℕ) (d : Deed) (h : List Deed) (id : Speculation) (f : Fate) → Empties c d h id f → (n : ℕ)
     → fates_below is_waiting c (d ∷ h) n + fates_below (waits_for id) c h n ≡ fates_below is_waiting c h n
 left_below c d h id f m zero = refl
-left_below c d h id f m (suc j) =
-    let before = left_below c d h id f m j in
-    let here = emptied_leaves id f (fate c j h) m.gone in
-    rw (fate_emptied c j d h id f m) (omega arith)
+left_below c d h id f m (suc j) = grind (arith, nat_tests, left_below c d h id f m j, emptied_leaves id f (fate c j h) m.gone, fate_emptied c j d h id f m)
 
 -- emptying a buffer offers nothing
 emptied_offers : (c : ℕ) (d : Deed) (h : List Deed) (id : Speculation) (f : Fate) → Empties c d h id f → offers c (d ∷ h) ≡ offers c h
@@ -95,11 +75,7 @@ emptied_offers c d h id f m = rw m.offered (omega arith)
 
 -- the waiting records are fewer by those of the emptied buffer
 pub left_waiting : (c : ℕ) (d : Deed) (h : List Deed) (id : Speculation) (f : Fate) → Accounts c h → Empties c d h id f → fates is_waiting c (d ∷ h) + length (held c id h) ≡ fates is_waiting c h
-left_waiting c d h id f l m =
-    let same : fates is_waiting c (d ∷ h) ≡ fates_below is_waiting c (d ∷ h) (offers c h) = ap (λ n. fates_below is_waiting c (d ∷ h) n) (emptied_offers c d h id f m) in
-    let moved = left_below c d h id f m (offers c h) in
-    let count = waiting_count c id h l in
-    omega arith
+left_waiting c d h id f l m = grind (arith, nat_tests, emptied_offers, left_below, waiting_count)
 
 -- a deed gives a fate to so many records, and the report counts them
 pub record Growth (c : ℕ) (d : Deed) (h : List Deed) : Type 0 where
@@ -110,55 +86,24 @@ pub record Growth (c : ℕ) (d : Deed) (h : List Deed) : Type 0 where
 
 -- each legal deed is counted
 growth : (c : ℕ) (d : Deed) (h : List Deed) → Accounts c (d ∷ h) → Growth c d h
-growth c d h l = step (l.1)
-  where
-    step : Effect c d h → Growth c d h
-    step (idle i) = record {
-      fate = taken;
-      number = 0;
-      counts = i.counts;
-      grows = λ test never. fates_idle test c d h i ∙ none (test taken) (fates test c h);
-    }
-      where
-        none : (b : Bool) (n : ℕ) → n ≡ n + (if b then 0 else 0)
-        none true n = omega arith
-        none false n = omega arith
-    step (offering r f o) = record { fate = f; number = 1; counts = o.counts; grows = λ test never. fates_offered test c d h r f o }
-    step (emptying i f m) = record {
-      fate = f;
-      number = length (held c i h);
-      counts = m.counts;
-      grows = λ test never. ap (λ n. fates_below test c (d ∷ h) n) (emptied_offers c d h i f m)
-          ∙ (gained_below test never c d h i f m (offers c h)
-          ∙ ap (λ n. fates test c h + (if test f then n else 0)) (waiting_count c i h l.0));
-    }
+growth c d h l = grind (arith, nat_tests, Effect, idle, fates_idle, offering, fates_offered, emptying, emptied_offers, gained_below, waiting_count)
 
 -- so many were taken as were accepted
 pub taken_count : (c : ℕ) (h : List Deed) → Accounts c h → fates is_taken c h ≡ total (accepts_now c) h
 taken_count c [] l = refl
-taken_count c (d ∷ h) l =
-    let g = growth c d h l in
-    g.grows is_taken (λ i. refl) ∙ rw (taken_count c h l.0, g.counts.accepts) refl
+taken_count c (d ∷ h) l = grind (arith, nat_tests, growth c d h l, taken_count c h l.0)
 
 -- so many were discarded as are counted
 pub discarded_count : (c : ℕ) (h : List Deed) → Accounts c h → fates is_discarded c h ≡ total (discards_now c) h
 discarded_count c [] l = refl
-discarded_count c (d ∷ h) l =
-    let g = growth c d h l in
-    g.grows is_discarded (λ i. refl) ∙ rw (discarded_count c h l.0, g.counts.discards) refl
+discarded_count c (d ∷ h) l = grind (arith, nat_tests, growth c d h l, discarded_count c h l.0)
 
 -- so many were void as are counted
 pub void_count : (c : ℕ) (h : List Deed) → Accounts c h → fates is_void c h ≡ total (voids_now c) h
 void_count c [] l = refl
-void_count c (d ∷ h) l =
-    let g = growth c d h l in
-    g.grows is_void (λ i. refl) ∙ rw (void_count c h l.0, g.counts.voids) refl
+void_count c (d ∷ h) l = grind (arith, nat_tests, growth c d h l, void_count c h l.0)
 
 -- so many were dropped as are counted in the three ways to drop
 pub dropped_count : (c : ℕ) (h : List Deed) → Accounts c h → fates is_dropped c h ≡ total (traces_dropped_now c) h + total (specdrops_now c) h + total (loses_now c) h
 dropped_count c [] l = refl
-dropped_count c (d ∷ h) l =
-    let g = growth c d h l in
-    let before = dropped_count c h l.0 in
-    let now = g.counts.drops in
-    g.grows is_dropped (λ i. refl) ∙ omega arith
+dropped_count c (d ∷ h) l = grind (arith, nat_tests, growth c d h l, dropped_count c h l.0)

@@ -1,4 +1,6 @@
 -- The headline, of every legal list of deeds.
+use Rattle.std.proofs.Common.{arith}
+use Rattle.std.proofs.lemmas.Bool.Decides.{nat_tests}
 use Rattle.std.proofs.Common.{ℕ, List, Option}
 use Rattle.dspec_record.specs.declared.field.Shape.{Shape}
 use Rattle.dspec_deeds.specs.Words.{Config, Deed, IsAllowed, FateLaw, Headline}
@@ -31,8 +33,4 @@ fate_law shape k c h l = accounts_fate_law k c h (legal_accounts shape k c h l)
 
 -- all three laws
 pub headline : (shape : ℕ → Option Shape) (k : Config) (c : ℕ) (h : List Deed) → IsAllowed shape k h → Headline k c h
-headline shape k c h l = record {
-  prefix = prefix_law c h;
-  acceptance = acceptance_law shape k c h l;
-  fates = fate_law shape k c h l;
-}
+headline shape k c h l = grind (arith, nat_tests, prefix_law c h, acceptance_law shape k c h l, fate_law shape k c h l)

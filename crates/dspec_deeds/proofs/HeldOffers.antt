@@ -1,11 +1,11 @@
 -- The fates of a CPU's records, and the records in its buffers.
-use Rattle.std.proofs.Common.{◌≡◌, ℕ, ◌+◌, ◌≤◌, ◌<◌, Bool, true, false, ◌==◌, if◌then◌else◌, List, [], ◌∷◌, ◌++◌, Option, None, Some, IsSome, refl, sym, ap, ◌∙◌, subst, ⊎_elim, arith, true≢false}
+use Rattle.std.proofs.Common.{◌≡◌, ℕ, ◌+◌, ◌≤◌, ◌<◌, Bool, true, false, ◌==◌, if◌then◌else◌, List, [], ◌∷◌, ◌++◌, Option, None, Some, IsSome, refl, sym, ap, ◌∙◌, subst, ⊎_elim, arith}
 use Rattle.std.specs.Option.{option_map}
 use Rattle.std.proofs.lemmas.Bool.Decides.{nat_tests}
 use Rattle.dspec_deeds.specs.Words.{Record, Speculation, Deed, same_id, Offer, offered_by, offers, empties, held, accepted, Fate, taken, dropped, void, waiting, next_fate, fate, is_taken}
 use Rattle.dspec_deeds.specs.Words.{is_waiting, has_fate, times}
 use Rattle.dspec_deeds.specs.Fates.{discarded}
-use Rattle.dspec_deeds.proofs.TestLemmas.{either_way, same_id_tells, number_is_itself, same_number}
+use Rattle.dspec_deeds.proofs.TestLemmas.{either_way, number_is_itself, same_number}
 use Rattle.dspec_deeds.proofs.DeedOffers.{waits_for, next_offer, Idle, Offers, Empties, Effect, idle, offering, emptying}
 use Rattle.dspec_deeds.proofs.DeedEffects.{Accounts}
 
@@ -24,18 +24,7 @@ fate_beyond c j (d ∷ h) le = step (offered_by c d) refl (fate_beyond c j h (om
 -- each offered record has a fate
 pub fate_within : (c j : ℕ) (h : List Deed) → j < offers c h → IsSome (fate c j h)
 fate_within c j [] lt = absurd (omega arith)
-fate_within c j (d ∷ h) lt = step (offered_by c d) refl (fate_within c j h)
-  where
-    still : (x : Option Fate) → IsSome x → IsSome (option_map (next_fate c d) x)
-    still (Some f) i = refl
-    still None i = i
-
-    step : (o : Option Record) → offered_by c d ≡ o → (j < offers c h → IsSome (fate c j h)) → IsSome (fate c j (d ∷ h))
-    step None e i = let below : j < offers c h + 0 = rw e at lt in rw e (still (fate c j h) (i (omega arith)))
-    step (Some r) e i = let below : j < offers c h + 1 = rw e at lt in ⊎_elim
-        (λ (t : (j == offers c h) ≡ true). rw (e, t) refl)
-        (λ (n : (j == offers c h) ≡ false). rw (e, n) (still (fate c j h) (i (grind (arith, nat_tests)))))
-        (either_way (j == offers c h))
+fate_within c j (d ∷ h) lt = grind (arith, nat_tests, fate_within c j h)
 
 -- without an offer a deed changes fates only
 fate_unoffered : (c j : ℕ) (d : Deed) (h : List Deed) → offered_by c d ≡ None → fate c j (d ∷ h) ≡ option_map (next_fate c d) (fate c j h)
@@ -98,14 +87,6 @@ either : (b : Bool) (n : ℕ) → n ≡ (if b then n else n)
 either true n = refl
 either false n = refl
 
--- a fate that is not waiting waits for nothing
-not_waiting : (id : Speculation) (f : Fate) → is_waiting f ≡ false → waits_for id f ≡ false
-not_waiting id taken g = refl
-not_waiting id dropped g = refl
-not_waiting id discarded g = refl
-not_waiting id void g = refl
-not_waiting id (waiting j) g = absurd (true≢false g)
-
 -- nothing is added
 adds : (b : Bool) (n : ℕ) → n ≡ (if b then 0 else 0) + n
 adds true n = omega arith
@@ -118,19 +99,7 @@ emptied_tally id j f (Some taken) g = either (same_id j id) 0
 emptied_tally id j f (Some dropped) g = either (same_id j id) 0
 emptied_tally id j f (Some discarded) g = either (same_id j id) 0
 emptied_tally id j f (Some void) g = either (same_id j id) 0
-emptied_tally id j f (Some (waiting i)) g = ⊎_elim
-    (λ (t : same_id i id ≡ true). rw (t, not_waiting j f g)
-    (subst (λ (x : Speculation). ◌≡◌ {A = ℕ} 0 (if same_id j x then 0 else (if same_id j i then 1 else 0))) (same_id_tells i id t) (none (same_id j i))))
-    (λ (n : same_id i id ≡ false). rw n (other n (same_id j id) refl))
-    (either_way (same_id i id))
-  where
-    none : (b : Bool) → ◌≡◌ {A = ℕ} 0 (if b then 0 else (if b then 1 else 0))
-    none true = refl
-    none false = refl
-
-    other : same_id i id ≡ false → (b : Bool) → same_id j id ≡ b → ◌≡◌ {A = ℕ} (if same_id j i then 1 else 0) (if b then 0 else (if same_id j i then 1 else 0))
-    other n true e = rw (same_id_tells j id e, same_id_back id i, n) refl
-    other n false e = refl
+emptied_tally id j f (Some (waiting i)) g = grind (arith, nat_tests)
 
 -- a record is in the buffer of a speculation, once, exactly where it waits for it
 pub times_held : (c j : ℕ) (id : Speculation) (h : List Deed) → Accounts c h → times j (held c id h) ≡ tally (waits_for id) (fate c j h)
@@ -170,15 +139,7 @@ emptied_gains test never id f (Some taken) = adds (test f) (if test taken then 1
 emptied_gains test never id f (Some dropped) = adds (test f) (if test dropped then 1 else 0)
 emptied_gains test never id f (Some discarded) = adds (test f) (if test discarded then 1 else 0)
 emptied_gains test never id f (Some void) = adds (test f) (if test void then 1 else 0)
-emptied_gains test never id f (Some (waiting j)) = rw (same_id_back id j, never j) (here (same_id j id))
-  where
-    all : (b : Bool) → ◌≡◌ {A = ℕ} (if b then 1 else 0) ((if b then 1 else 0) + 0)
-    all true = refl
-    all false = refl
-
-    here : (b : Bool) → tally test (Some (if b then f else waiting j)) ≡ (if test f then (if b then 1 else 0) else 0) + 0
-    here true = all (test f)
-    here false = rw (never j) (adds (test f) 0)
+emptied_gains test never id f (Some (waiting j)) = grind (arith, nat_tests)
 
 -- none of the emptied buffer waits any more
 pub emptied_leaves : (id : Speculation) (f : Fate) (x : Option Fate) → is_waiting f ≡ false → tally is_waiting (option_map (settled_as id f) x) + tally (waits_for id) x ≡ tally is_waiting x
@@ -187,11 +148,7 @@ emptied_leaves id f (Some taken) g = refl
 emptied_leaves id f (Some dropped) g = refl
 emptied_leaves id f (Some discarded) g = refl
 emptied_leaves id f (Some void) g = refl
-emptied_leaves id f (Some (waiting j)) g = rw (same_id_back id j) (here (same_id j id))
-  where
-    here : (b : Bool) → tally is_waiting (Some (if b then f else waiting j)) + (if b then 1 else 0) ≡ 1
-    here true = rw g refl
-    here false = refl
+emptied_leaves id f (Some (waiting j)) g = grind (arith, nat_tests)
 
 -- what the principal buffers accepted is what is taken, once each
 pub times_taken : (c j : ℕ) (h : List Deed) → Accounts c h → times j (accepted c h) ≡ tally is_taken (fate c j h)

@@ -2,36 +2,15 @@
 use Rattle.std.proofs.Common.{◌≡◌, ℕ, suc, ◌+◌, ◌≤◌, Bool, true, false, ◌&&◌, ◌==◌, List, [], ◌∷◌, Some, None, if◌then◌else◌, refl, sym, ap, ◌∙◌, subst, ⊎_elim, arith, true≢false}
 use Rattle.std.proofs.lemmas.Bool.Decides.{nat_tests}
 use Rattle.dspec_deeds.specs.Words.{Speculation, Config, Deed, Trace, Scan, Opened, Miss, Speculate, Commit, Discard, Settle, Seal, Release, Halt, Cpu, spoken_granted, spoken_stopped, same_id}
-use Rattle.dspec_deeds.specs.Words.{is_among, issue, present, opened, is_open, callers, joined, same_actor, author, part, mark, mark_after, IsSound}
+use Rattle.dspec_deeds.specs.Words.{is_among, issue, present, opened, is_open, callers, joined, part, mark, IsSound}
 use Rattle.dspec_deeds.proofs.TestLemmas.{either_way, off, and_tells, same_number, number_is_itself, other_number, id_is_itself, has_joined}
 use Rattle.dspec_deeds.proofs.SoundLists.{granted_goes, answered_open, unseen, opened_by_now}
 use Rattle.dspec_deeds.proofs.PresentIds.{open_is_present}
 
--- another's deed leaves the mark
-pub mark_other : (c s : ℕ) (d : Deed) (h : List Deed) (m : ℕ) → same_actor (Cpu c) (author d h) ≡ false → mark_after c s d m ≡ m
-mark_other c s (Speculate a j r f) h m e = rw e (go (spoken_granted f))
-  where
-    go : (b : Bool) → (if b && false then j.issue + 1 else m) ≡ m
-    go true = refl
-    go false = refl
-mark_other c s (Trace a r f) h m e = refl
-mark_other c s (Scan a b) h m e = refl
-mark_other c s (Opened a j) h m e = refl
-mark_other c s (Miss a n b) h m e = refl
-mark_other c s (Commit a j f) h m e = refl
-mark_other c s (Discard a j f) h m e = refl
-mark_other c s (Settle a j f) h m e = refl
-mark_other c s (Seal a) h m e = refl
-mark_other c s (Release n) h m e = refl
-mark_other c s Halt h m e = refl
-
 -- it rests on the CPU's own deeds
 pub mark_part : (c s : ℕ) (h : List Deed) → mark c s (part (Cpu c) h) ≡ mark c s h
 mark_part c s [] = refl
-mark_part c s (d ∷ h) = ⊎_elim
-    (λ (t : same_actor (Cpu c) (author d h) ≡ true). rw t (ap (mark_after c s d) (mark_part c s h)))
-    (λ (f : same_actor (Cpu c) (author d h) ≡ false). rw f (mark_part c s h ∙ sym (mark_other c s d h (mark c s h) f)))
-    (either_way (same_actor (Cpu c) (author d h)))
+mark_part c s (d ∷ h) = grind (arith, nat_tests, mark_part c s h)
 
 -- what a mark tells of the present speculation
 pub record Tells (c s i m : ℕ) (cs : List ℕ) : Type 0 where

@@ -1,8 +1,8 @@
 -- The records in a CPU's buffers are those that it offered.
-use Rattle.std.proofs.Common.{◌≡◌, ℕ, ◌<◌, Bool, true, false, ◌==◌, if◌then◌else◌, List, [], ◌∷◌, ◌++◌, Option, None, Some, refl, arith}
+use Rattle.std.proofs.Common.{◌≡◌, ℕ, ◌<◌, List, [], ◌∷◌, ◌++◌, Some, refl, arith}
 use Rattle.std.specs.List.{AllByRecursion}
 use Rattle.std.proofs.lemmas.Bool.Decides.{nat_tests}
-use Rattle.dspec_deeds.specs.Words.{Record, Speculation, Deed, same_id, Offer, offered_by, offers, held, accepts, accepted, is_taken, content_of}
+use Rattle.dspec_deeds.specs.Words.{Record, Speculation, Deed, Offer, offered_by, offers, held, accepted, content_of}
 use Rattle.dspec_deeds.proofs.TestLemmas.{number_is_itself}
 use Rattle.dspec_deeds.proofs.DeedOffers.{waits_for, next_offer, Effect, idle, offering, emptying}
 use Rattle.dspec_deeds.proofs.DeedEffects.{Accounts}
@@ -18,14 +18,7 @@ AllOffered c h os = AllByRecursion (IsOffered c h) os
 
 -- an offered record stays one
 offered_still : (c : ℕ) (d : Deed) (h : List Deed) (o : Offer) → IsOffered c h o → IsOffered c (d ∷ h) o
-offered_still c d h o i = step (offered_by c d) refl
-  where
-    step : (x : Option Record) → offered_by c d ≡ x → IsOffered c (d ∷ h) o
-    step None e = let l = i.number in record { number = rw e (omega arith); content = rw e i.content }
-    step (Some r) e =
-        let l = i.number in
-        let earlier : (o.number == offers c h) ≡ false = grind (arith, nat_tests) in
-        record { number = rw e (omega arith); content = rw (e, earlier) i.content }
+offered_still c d h o i = grind arith
 
 -- offered records stay offered
 all_still : (c : ℕ) (d : Deed) (h : List Deed) (os : List Offer) → AllOffered c h os → AllOffered c (d ∷ h) os
@@ -44,41 +37,12 @@ offered_now c d h r e = record { number = rw e (omega arith); content = rw (e, n
 -- a speculative buffer has offered records only
 pub held_offered : (c : ℕ) (id : Speculation) (h : List Deed) → Accounts c h → AllOffered c h (held c id h)
 held_offered c id [] l = tt
-held_offered c id (d ∷ h) l = step (l.1) (all_still c d h (held c id h) (held_offered c id h l.0))
-  where
-    step : Effect c d h → AllOffered c (d ∷ h) (held c id h) → AllOffered c (d ∷ h) (held c id (d ∷ h))
-    step (idle i) a = rw (i.holds id) a
-    step (offering r f o) a = rw (o.holds id) (more (waits_for id f))
-      where
-        more : (b : Bool) → AllOffered c (d ∷ h) (if b then next_offer c r h ∷ held c id h else held c id h)
-        more true = (offered_now c d h r o.offered, a)
-        more false = a
-    step (emptying i f m) a = rw (m.holds id) (rest (same_id id i))
-      where
-        rest : (b : Bool) → AllOffered c (d ∷ h) (if b then [] else held c id h)
-        rest true = tt
-        rest false = a
+held_offered c id (d ∷ h) l = grind (arith, nat_tests, held_offered c id h l.0, all_still, Effect, idle, offering, waits_for, next_offer, offered_now, emptying)
 
 -- what was accepted was offered
 pub accepted_offered : (c : ℕ) (h : List Deed) → Accounts c h → AllOffered c h (accepted c h)
 accepted_offered c [] l = tt
-accepted_offered c (d ∷ h) l =
-    all_append c (d ∷ h) (accepts c d h) (accepted c h)
-    (step (l.1))
-    (all_still c d h (accepted c h) (accepted_offered c h l.0))
-  where
-    step : Effect c d h → AllOffered c (d ∷ h) (accepts c d h)
-    step (idle i) = rw i.accepted tt
-    step (offering r f o) = rw o.accepted (more (is_taken f))
-      where
-        more : (b : Bool) → AllOffered c (d ∷ h) (if b then next_offer c r h ∷ [] else [])
-        more true = (offered_now c d h r o.offered, tt)
-        more false = tt
-    step (emptying i f m) = rw m.accepted (moved (is_taken f))
-      where
-        moved : (b : Bool) → AllOffered c (d ∷ h) (if b then held c i h else [])
-        moved true = all_still c d h (held c i h) (held_offered c i h l.0)
-        moved false = tt
+accepted_offered c (d ∷ h) l = grind (arith, nat_tests, accepted_offered c h l.0, all_append, all_still, Effect, idle, offering, next_offer, offered_now, emptying, held_offered)
 
 -- offered records have their contents
 contents_only : (c : ℕ) (h : List Deed) (os : List Offer) → AllOffered c h os → AllByRecursion (λ o. content_of c o.number h ≡ Some o.content) os

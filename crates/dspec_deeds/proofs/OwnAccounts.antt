@@ -1,7 +1,9 @@
 -- A CPU's own list accounts for its records: its report balances, each count is at most the calls, and each record has one fate.
+use Rattle.std.proofs.Common.{arith}
+use Rattle.std.proofs.lemmas.Bool.Decides.{nat_tests}
 use Rattle.std.proofs.Common.{◌≡◌, ℕ, true, false, if◌then◌else◌, List, [], ◌∷◌, Option, refl, sym, ◌∙◌, subst, ⊎_elim}
 use Rattle.dspec_record.specs.declared.field.Shape.{Shape}
-use Rattle.dspec_deeds.specs.Words.{Config, Cpu, Deed, Miss, Release, same_actor, author, part, scan, calls, report, CountsWithin, FateLaw, IsSound, is_seal, CpuRow, IsOwn, bare}
+use Rattle.dspec_deeds.specs.Words.{Config, Cpu, Deed, Miss, Release, part, calls, report, CountsWithin, FateLaw, IsSound, is_seal, CpuRow, IsOwn, bare}
 use Rattle.dspec_deeds.proofs.TestLemmas.{either_way, same_number}
 use Rattle.dspec_deeds.proofs.DeedOffers.{Effect, idle}
 use Rattle.dspec_deeds.proofs.DeedEffects.{effect, IsDecisive, decisive, Accounts}
@@ -21,14 +23,7 @@ AreDue k (d ∷ h) = AreDue k h × IsDue k h d
 -- of a list that is legal in its common part
 sound_due : (k : Config) (c : ℕ) (h : List Deed) → IsSound k h → AreDue k (part (Cpu c) h)
 sound_due k c [] s = tt
-sound_due k c (d ∷ h) s = ⊎_elim
-    (λ (t : same_actor (Cpu c) (author d h) ≡ true). rw t (sound_due k c h s.0, (decisive k d h s.1, missed d t s)))
-    (λ (f : same_actor (Cpu c) (author d h) ≡ false). rw f (sound_due k c h s.0))
-    (either_way (same_actor (Cpu c) (author d h)))
-  where
-    missed : (d : Deed) → same_actor (Cpu c) (author d h) ≡ true → IsSound k (d ∷ h) → IsScanned k (part (Cpu c) h) d
-    missed (Miss a n busy) t s = (subst (λ x. scan k x (part (Cpu c) h) ≡ scan k x h) (same_number c a t) (reads k c h).apart.scanning ∙ s.1.1.0, s.1.1.1)
-    missed d t s = tt
+sound_due k c (d ∷ h) s = grind (arith, nat_tests, sound_due k c h s.0, decisive, IsScanned, same_number, reads)
 
 -- and with Seals put in
 bare_due : (k : Config) (p : List Deed) → AreDue k (bare p) → AreDue k p

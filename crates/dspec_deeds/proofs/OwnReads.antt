@@ -1,42 +1,32 @@
 -- What is read off a CPU's own deeds.
-use Rattle.std.proofs.Common.{◌≡◌, ℕ, suc, true, false, not, ◌&&◌, ◌||◌, List, [], ◌∷◌, Option, arith, refl, sym, ap, ◌∙◌, subst, ⊎_elim}
-use Rattle.dspec_deeds.specs.Words.{Speculation, Config, Cpu, Deed, Seal, same_actor, author, part, acks, contents, held, Piece, one, block, piece_fits, is_fill, is_seal, is_empty, fits_principal}
-use Rattle.dspec_deeds.specs.Words.{mark, ReadsApart, ReadsAlike, bare}
+use Rattle.std.proofs.lemmas.Bool.Decides.{nat_tests}
+use Rattle.std.proofs.Common.{◌≡◌, ℕ, suc, true, false, not, ◌&&◌, ◌||◌, List, [], ◌∷◌, Option, arith, sym, ap, ◌∙◌, subst, ⊎_elim}
+use Rattle.dspec_deeds.specs.Words.{Speculation, Config, Cpu, Deed, Seal, same_actor, author, part, contents, held, Piece, block, piece_fits, is_fill, is_seal, is_empty, fits_principal, ReadsApart}
+use Rattle.dspec_deeds.specs.Words.{ReadsAlike, bare}
 use Rattle.dspec_record.specs.declared.field.Shape.{Shape}
 use Rattle.dspec_deeds.proofs.TestLemmas.{either_way, other_number}
-use Rattle.dspec_deeds.proofs.StayingOwn.{scan_other, held_other, dropped_other, offers_other, calls_other, accepted_other, seals_other, active_other, growing_other}
-use Rattle.dspec_deeds.proofs.StayingOwn.{batches_other, full_other, has_other, settled_other, ack_other, missed_other}
+use Rattle.dspec_deeds.proofs.StayingOwn.{scan_other, offers_other, calls_other, accepted_other, seals_other, active_other, growing_other}
+use Rattle.dspec_deeds.proofs.StayingOwn.{batches_other, full_other, missed_other}
 use Rattle.dspec_deeds.proofs.BareReads.{seal_is}
-use Rattle.dspec_deeds.proofs.Marks.{mark_other}
-use Rattle.dspec_deeds.proofs.DeedReads.{alike_on, apart_on, counts_nowhere, nothing_apart, report_other}
+use Rattle.dspec_deeds.proofs.DeedReads.{alike_on, apart_on, counts_nowhere, nothing_apart}
 
 -- another's deed leaves what is read off the CPU's own
 pub apart_other : (k : Config) (c : ℕ) (d : Deed) (h : List Deed) → same_actor (Cpu c) (author d h) ≡ false → ReadsApart k c (d ∷ h) h
-apart_other k c d h other = record {
-  scanning = scan_other k c d h other;
-  offering = offers_other c d h other;
-  calling = calls_other c d h other;
-  buffers = λ id. held_other c id d h other;
-  dropping = λ id. dropped_other c id d h other;
-  taking = accepted_other c d h other;
-  closing = full_other c d h other;
-  called = λ id. has_other c id d h other;
-  settling = λ id. settled_other c id d h other;
-  acks = λ s. ack_other c s d h other;
-  marking = λ s. mark_other c s d h (mark c s h) other;
-  missing = missed_other c d h other;
-  spoken = (counts_nowhere k c d h other).says;
-  reporting = λ worn. report_other k c worn d h other;
-}
+apart_other k c d h other =
+    grind (
+      arith,
+      nat_tests,
+      scan_other k c d h other,
+      offers_other c d h other,
+      calls_other c d h other,
+      accepted_other c d h other,
+      full_other c d h other,
+      missed_other c d h other,
+      counts_nowhere k c d h other,
+    )
 
 pub alike_other : (k : Config) (c : ℕ) (d : Deed) (h : List Deed) → same_actor (Cpu c) (author d h) ≡ false → ReadsAlike k c (d ∷ h) h
-alike_other k c d h other = record {
-  apart = apart_other k c d h other;
-  sealing = seals_other c d h other;
-  principal = active_other c d h other;
-  filling = growing_other c d h other;
-  sealed = batches_other c d h other;
-}
+alike_other k c d h other = grind (arith, nat_tests, apart_other k c d h other, seals_other c d h other, active_other c d h other, growing_other c d h other, batches_other c d h other)
 
 -- a Seal leaves what is read off the CPU's own, Seals apart: none of it looks at whose Seal it is
 pub apart_seal : (k : Config) (c a : ℕ) (h : List Deed) → ReadsApart k c (Seal a ∷ h) h
@@ -79,13 +69,7 @@ apart_back k c g h e = record {
 }
 
 pub alike_back : (k : Config) (c : ℕ) (g h : List Deed) → ReadsAlike k c g h → ReadsAlike k c h g
-alike_back k c g h e = record {
-  apart = apart_back k c g h e.apart;
-  sealing = sym e.sealing;
-  principal = sym e.principal;
-  filling = sym e.filling;
-  sealed = sym e.sealed;
-}
+alike_back k c g h e = grind (arith, nat_tests, apart_back)
 
 pub apart_through : (k : Config) (c : ℕ) (f g h : List Deed) → ReadsApart k c f g → ReadsApart k c g h → ReadsApart k c f h
 apart_through k c f g h to on = record {
@@ -106,23 +90,11 @@ apart_through k c f g h to on = record {
 }
 
 pub alike_through : (k : Config) (c : ℕ) (f g h : List Deed) → ReadsAlike k c f g → ReadsAlike k c g h → ReadsAlike k c f h
-alike_through k c f g h to on = record {
-  apart = apart_through k c f g h to.apart on.apart;
-  sealing = to.sealing ∙ on.sealing;
-  principal = to.principal ∙ on.principal;
-  filling = to.filling ∙ on.filling;
-  sealed = to.sealed ∙ on.sealed;
-}
+alike_through k c f g h to on = grind (arith, nat_tests, apart_through)
 
 -- the list of all and the CPU's own list read alike
 pub reads : (k : Config) (c : ℕ) (h : List Deed) → ReadsAlike k c (part (Cpu c) h) h
-reads k c [] = record {
-  apart = nothing_apart k c;
-  sealing = refl;
-  principal = refl;
-  filling = refl;
-  sealed = refl;
-}
+reads k c [] = grind (arith, nat_tests)
 reads k c (d ∷ h) = ⊎_elim
     (λ (t : same_actor (Cpu c) (author d h) ≡ true). rw t (alike_on k c d (part (Cpu c) h) h (reads k c h)))
     (λ (f : same_actor (Cpu c) (author d h) ≡ false). rw f (alike_through k c (part (Cpu c) h) h (d ∷ h) (reads k c h) (alike_back k c (d ∷ h) h (alike_other k c d h f))))

@@ -1,9 +1,11 @@
 -- A list whose Seals are placed is legal, where it is without them and each CPU's own list is.
+use Rattle.std.proofs.lemmas.Bool.Decides.{nat_tests}
+use Rattle.std.proofs.Common.{arith}
 use Rattle.std.proofs.Common.{◌≡◌, ◌⊎◌, ℕ, ◌<◌, true, false, if◌then◌else◌, List, [], ◌∷◌, Option, refl, sym, ap, ◌∙◌, subst, ⊎_elim, inl, inr, true≢false}
 use Rattle.dspec_record.specs.declared.field.Shape.{Shape}
-use Rattle.dspec_deeds.specs.Words.{Config, Cpu, Deed, Discard, Seal, Release, Halt, halted, is_halt, late, owed, author, part, HasAuthors, CpuLegal, IsSound, IsFitting, IsAllowed, is_seal}
-use Rattle.dspec_deeds.specs.Words.{sealed_last, IsOwn, bare, IsLastOf, MayStand, IsPlaced, ArePlaced}
-use Rattle.dspec_deeds.proofs.TestLemmas.{either_way, off, number_is_itself, cpu_is_itself, or_true}
+use Rattle.dspec_deeds.specs.Words.{Config, Cpu, Deed, Discard, Seal, Release, owed, author, part, HasAuthors, CpuLegal, IsSound, IsFitting, IsAllowed, is_seal, sealed_last, IsOwn, bare, IsLastOf}
+use Rattle.dspec_deeds.specs.Words.{MayStand, IsPlaced, ArePlaced}
+use Rattle.dspec_deeds.proofs.TestLemmas.{either_way, off, number_is_itself}
 use Rattle.dspec_deeds.proofs.OwnParts.{fitting_of_own}
 use Rattle.dspec_deeds.proofs.BareReads.{seal_is, halted_bare, author_bare}
 use Rattle.dspec_deeds.proofs.BareSound.{IsNoLater, MayPut, ArePut, owed_bare, sound_with_seals}
@@ -11,22 +13,11 @@ use Rattle.dspec_deeds.proofs.SoloOwed.{IsOwnRelease, owed_is_own}
 
 -- behind a deed of its own a CPU is late where the session was stopped
 no_later_behind : (c : ℕ) (d : Deed) (h : List Deed) → author d h ≡ Cpu c → IsNoLater c (d ∷ h)
-no_later_behind c d h is = ⊎_elim
-    (λ (stopped : halted h ≡ true). inr (rw (going d is, stopped, is, cpu_is_itself c) (or_true (late c h))))
-    (λ (running : halted h ≡ false). inl (rw (going d is, running) refl))
-    (either_way (halted h))
-  where
-    going : (d : Deed) → author d h ≡ Cpu c → is_halt d ≡ false
-    going Halt is = absurd (cc is)
-    going d is = refl
+no_later_behind c d h is = grind arith
 
 -- where a Seal may stand it makes nobody later
 no_later : (c : ℕ) (h : List Deed) → MayStand c h → IsNoLater c h
-no_later c [] stands = inl refl
-no_later c (d ∷ h) stands = ⊎_elim
-    (λ (front : bare (d ∷ h) ≡ []). inl (halted_bare (d ∷ h) ∙ ap halted front))
-    (λ (last : author d h ≡ Cpu c). no_later_behind c d h last)
-    stands
+no_later c h h1 = grind (arith, nat_tests, halted_bare, no_later_behind)
 
 -- without the Seals, too, the CPU's deed is the latest
 bare_last : (c : ℕ) (h : List Deed) → ArePlaced h → MayStand c h → MayStand c (bare h)
@@ -102,7 +93,4 @@ module _ (shape : ℕ → Option Shape) (k : Config) where
   -- so the list is legal, and owes nothing
   pub placed_legal : (w : List Deed) → ArePlaced w → IsSound k (bare w) → owed (bare w) ≡ 0 → HasAuthors k w → ((c : ℕ) → c < k.cpus → IsOwn shape k c (part (Cpu c) w))
       → IsAllowed shape k w × (owed w ≡ 0)
-  placed_legal w placed sound none authors own =
-      let fitting = fitting_of_own shape k w authors own in
-      let put = put_there w placed sound fitting (inl none) in
-      ((sound_with_seals k w put sound, fitting), owed_bare w put ∙ none)
+  placed_legal w placed sound none authors own = grind (arith, nat_tests, fitting_of_own, put_there, sound_with_seals, owed_bare)

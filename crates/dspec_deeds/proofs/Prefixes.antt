@@ -1,10 +1,12 @@
 -- What was taken from a CPU is a prefix of what its principal buffers accepted.
+use Rattle.std.proofs.Common.{arith}
+use Rattle.std.proofs.lemmas.Bool.Decides.{nat_tests}
 use Rattle.std.proofs.Common.{◌≡◌, ℕ, Bool, true, false, List, [], ◌∷◌, ◌++◌, reverse, take, drop, refl, sym, ap, ◌∙◌, append_assoc, true≢false}
 use Rattle.std.proofs.lemmas.List.{reverse-append, append-nil, take-append-drop}
-use Rattle.dspec_deeds.specs.Words.{Deed, Seal, Offer, contents, accepts, accepted, stream, seals_now, Batch, growing, batches, batch_records, PrefixLaw}
+use Rattle.dspec_deeds.specs.Words.{Deed, Seal, Offer, contents, accepts, accepted, stream, seals_now, Sealing, growing, batches, batch_records, PrefixLaw}
 
 -- the offers of batches, the latest first
-abbrev batch_offers : List Batch → List Offer
+abbrev batch_offers : List Sealing → List Offer
 batch_offers [] = []
 batch_offers (b ∷ bs) = b.offers ++ batch_offers bs
 
@@ -28,12 +30,12 @@ contents_append [] ys = refl
 contents_append (x ∷ xs) ys = ap (λ zs. x.content ∷ zs) (contents_append xs ys)
 
 -- the records of two lists of batches, one after the other
-records_append : (xs ys : List Batch) → batch_records (xs ++ ys) ≡ batch_records xs ++ batch_records ys
+records_append : (xs ys : List Sealing) → batch_records (xs ++ ys) ≡ batch_records xs ++ batch_records ys
 records_append [] ys = refl
 records_append (b ∷ xs) ys = rw (records_append xs ys) (sym (append_assoc (reverse (contents b.offers)) (batch_records xs) (batch_records ys)))
 
 -- the batches in order of time have what they took in, in order of time
-sealed_records : (bs : List Batch) → reverse (contents (batch_offers bs)) ≡ batch_records (reverse bs)
+sealed_records : (bs : List Sealing) → reverse (contents (batch_offers bs)) ≡ batch_records (reverse bs)
 sealed_records [] = refl
 sealed_records (b ∷ bs) =
     rw (
@@ -48,10 +50,7 @@ sealed_records (b ∷ bs) =
 
 -- the stream is the records of all batches, then those of the growing one
 pub stream_in_batches : (c : ℕ) (h : List Deed) → stream c h ≡ batch_records (reverse (batches c h)) ++ reverse (contents (growing c h).offers)
-stream_in_batches c h =
-    let now = (growing c h).offers in
-    let before = batch_offers (batches c h) in
-    rw (accepted_in_batches c h, contents_append now before, reverse-append (contents now) (contents before), sealed_records (batches c h)) refl
+stream_in_batches c h = grind (arith, nat_tests, accepted_in_batches, contents_append, reverse-append, sealed_records)
 
 -- however many batches were taken, they are a prefix of the stream
 pub prefix_law : (c : ℕ) (h : List Deed) → PrefixLaw c h

@@ -2,25 +2,19 @@
 use Rattle.std.proofs.Common.{◌≡◌, ℕ, ◌≤◌, Bool, true, false, not, Option, Some, None, if◌then◌else◌, refl, arith}
 use Rattle.std.specs.Prelude.{nat_le}
 use Rattle.std.proofs.lemmas.Bool.Decides.{nat_tests}
-use Rattle.dspec_deeds.specs.Words.{Config, StartFault, Cpus, Specs, is_between, start_fault}
+use Rattle.dspec_deeds.specs.Words.{Config, StartFault, Cpus, is_between, start_fault}
 use Rattle.dspec_deeds.proofs.TestLemmas.{and_tells}
 
 passed : (b : Bool) (x : StartFault) (rest : Option StartFault) → (if not b then Some x else rest) ≡ None → (b ≡ true) × (rest ≡ None)
 passed true x rest e = (refl, e)
 passed false x rest e = absurd (cc (e))
 
-in_between : (low high n : ℕ) → is_between low high n ≡ true → low ≤ n
-in_between low high n e = let both = and_tells (nat_le low n) (nat_le n high) e in let b = both.0 in grind (arith, nat_tests)
-
 in_between_end : (low high n : ℕ) → is_between low high n ≡ true → n ≤ high
 in_between_end low high n e = let both = and_tells (nat_le low n) (nat_le n high) e in let b = both.1 in grind (arith, nat_tests)
 
 -- a session that starts has a CPU and a speculation
 pub set_up : (k : Config) → start_fault k ≡ None → (1 ≤ k.cpus) × (1 ≤ k.nspec)
-set_up k e =
-    let cpus = passed (is_between 1 64 k.cpus) Cpus _ e in
-    let specs = passed (is_between 1 63 k.nspec) Specs _ cpus.1 in
-    (in_between 1 64 k.cpus cpus.0, in_between 1 63 k.nspec specs.0)
+set_up k h1 = grind arith
 
 -- and 64 CPUs at most
 pub most_cpus : (k : Config) → start_fault k ≡ None → k.cpus ≤ 64

@@ -1,34 +1,21 @@
 -- What a legal list keeps.
-use Rattle.std.proofs.Common.{◌≡◌, ℕ, ◌+◌, ◌≤◌, Bool, true, false, ◌&&◌, ◌==◌, List, [], ◌∷◌, if◌then◌else◌, refl, sym, ◌∙◌, subst, ⊎_elim, arith, true≢false}
+use Rattle.std.proofs.Common.{◌≡◌, ℕ, ◌≤◌, Bool, true, false, ◌&&◌, List, [], ◌∷◌, refl, sym, ◌∙◌, subst, ⊎_elim, arith, true≢false}
 use Rattle.std.proofs.lemmas.Bool.Decides.{nat_tests}
 use Rattle.dspec_deeds.specs.Words.{Speculation, Config, SpeculateFate, DecideFate, Deed, Scan, Opened, Miss, Speculate, Commit, Discard, spoken_granted, spoken_stopped, is_commit, is_discard}
-use Rattle.dspec_deeds.specs.Words.{decided_stopped, same_id, halted, issue, releases, opens, opened, verdict, undecided, is_undecided, is_open, callers, scan, late, is_halt, StopsOrActs, IsSound}
-use Rattle.dspec_deeds.specs.declared.deed.SpeculateFate.TheVariants as spoken
-use Rattle.dspec_deeds.specs.declared.deed.DecideFate.TheVariants as decided
-use Rattle.dspec_deeds.proofs.TestLemmas.{either_way, off, and_tells, or_none, or_tells, same_id_tells}
+use Rattle.dspec_deeds.specs.Words.{decided_stopped, same_id, halted, issue, opens, opened, verdict, undecided, is_open, callers, scan, late, is_halt, StopsOrActs, IsSound}
+use Rattle.dspec_deeds.proofs.TestLemmas.{or_none, or_tells, same_id_tells}
 
 -- a granted record was not stopped
 pub granted_goes : (f : SpeculateFate) → spoken_granted f ≡ true → spoken_stopped f ≡ false
-granted_goes spoken.Kept e = refl
-granted_goes spoken.Dropped e = refl
-granted_goes spoken.Void e = absurd (true≢false (sym e))
-granted_goes spoken.Stopped e = absurd (true≢false (sym e))
+granted_goes f h1 = grind arith
 
 -- a commit that decided was not stopped
 pub commit_goes : (f : DecideFate) → is_commit f ≡ true → decided_stopped f ≡ false
-commit_goes (decided.Copied n) e = refl
-commit_goes (decided.Lost n) e = refl
-commit_goes (decided.Thrown n) e = refl
-commit_goes decided.Void e = refl
-commit_goes decided.Stopped e = absurd (true≢false (sym e))
+commit_goes f h1 = grind arith
 
 -- a discard that decided was not stopped
 pub discard_goes : (f : DecideFate) → is_discard f ≡ true → decided_stopped f ≡ false
-discard_goes (decided.Copied n) e = refl
-discard_goes (decided.Lost n) e = refl
-discard_goes (decided.Thrown n) e = refl
-discard_goes decided.Void e = refl
-discard_goes decided.Stopped e = absurd (true≢false (sym e))
+discard_goes f h1 = grind arith
 
 -- what was done was done to an open speculation
 pub answered_open : (h : List Deed) (c : ℕ) (id : Speculation) (stopped done : Bool) → stopped ≡ false → done ≡ true
@@ -43,26 +30,12 @@ Unseen id h = (verdict id h ≡ undecided) × (callers id h ≡ [])
 -- no record is granted to what was not given out
 not_called : (h : List Deed) (c : ℕ) (id j : Speculation) (f : SpeculateFate) → opened id h ≡ false
     → StopsOrActs (halted h) (late c h) (is_open j h) (spoken_stopped f) (spoken_granted f) → (spoken_granted f && same_id id j) ≡ false
-not_called h c id j f un a = ⊎_elim
-    (λ (t : (spoken_granted f && same_id id j) ≡ true).
-    let both = and_tells (spoken_granted f) (same_id id j) t in
-    let open_j = answered_open h c j (spoken_stopped f) (spoken_granted f) (granted_goes f both.0) both.0 a in
-    let is : opened j h ≡ true = (and_tells (opened j h) (is_undecided (verdict j h)) open_j).0 in
-    off (opened id h) (subst (λ x. opened x h ≡ true) (sym (same_id_tells id j both.1)) is) un)
-    (λ x. x)
-    (either_way (spoken_granted f && same_id id j))
+not_called h c id j f un a = grind arith
 
 -- no decision is made of what was not given out
 not_decided : (h : List Deed) (c : ℕ) (id j : Speculation) (stopped done : Bool) → (done ≡ true → stopped ≡ false) → opened id h ≡ false
     → StopsOrActs (halted h) (late c h) (is_open j h) stopped done → (done && same_id id j) ≡ false
-not_decided h c id j stopped done goes un a = ⊎_elim
-    (λ (t : (done && same_id id j) ≡ true).
-    let both = and_tells done (same_id id j) t in
-    let open_j = answered_open h c j stopped done (goes both.0) both.0 a in
-    let is : opened j h ≡ true = (and_tells (opened j h) (is_undecided (verdict j h)) open_j).0 in
-    off (opened id h) (subst (λ x. opened x h ≡ true) (sym (same_id_tells id j both.1)) is) un)
-    (λ x. x)
-    (either_way (done && same_id id j))
+not_decided h c id j stopped done goes un a = grind arith
 
 -- what was not given out has no caller and no decision
 pub unseen : (k : Config) (h : List Deed) (id : Speculation) → IsSound k h → opened id h ≡ false → Unseen id h
@@ -75,10 +48,7 @@ unseen k (d ∷ h) id s un = unseen k h id s.0 un
 
 -- a slot's issue never falls
 pub issue_grows : (s : ℕ) (d : Deed) (h : List Deed) → issue s h ≤ issue s (d ∷ h)
-issue_grows s d h = ⊎_elim
-    (λ (t : releases s d ≡ true). rw t (omega arith))
-    (λ (f : releases s d ≡ false). rw f (omega arith))
-    (either_way (releases s d))
+issue_grows s d h = grind arith
 
 -- no speculation of a later issue was given out
 pub opened_by_now : (k : Config) (h : List Deed) (id : Speculation) → IsSound k h → opened id h ≡ true → id.issue ≤ issue id.slot h
@@ -98,25 +68,9 @@ running_not_late c (d ∷ h) e = let both = or_none (is_halt d) (halted h) e in 
 -- a call of speculation comes to slots that there are
 pub scan_bound : (k : Config) (h : List Deed) (c : ℕ) → 1 ≤ k.nspec → scan k c h ≤ k.nspec
 scan_bound k [] c n = omega arith
-scan_bound k (Scan a run ∷ h) c n = ⊎_elim
-    (λ (t : (c == a) ≡ true). rw t (scan_start run))
-    (λ (f : (c == a) ≡ false). rw f (scan_bound k h c n))
-    (either_way (c == a))
-  where
-    scan_start : (b : Bool) → (if b then 1 else 0) ≤ k.nspec
-    scan_start true = n
-    scan_start false = omega arith
-scan_bound k (Opened a id ∷ h) c n = ⊎_elim
-    (λ (t : (c == a) ≡ true). rw t (omega arith))
-    (λ (f : (c == a) ≡ false). rw f (scan_bound k h c n))
-    (either_way (c == a))
-scan_bound k (Miss a s b ∷ h) c n = ⊎_elim
-    (λ (t : (c == a) ≡ true). rw t (next (scan k c h) (scan_bound k h c n)))
-    (λ (f : (c == a) ≡ false). rw f (scan_bound k h c n))
-    (either_way (c == a))
-  where
-    next : (m : ℕ) → m ≤ k.nspec → (if m == k.nspec then 0 else m + 1) ≤ k.nspec
-    next m le = grind (arith, nat_tests)
+scan_bound k (Scan a run ∷ h) c n = grind (arith, nat_tests, scan_bound k h c n)
+scan_bound k (Opened a id ∷ h) c n = grind (arith, nat_tests, scan_bound k h c n)
+scan_bound k (Miss a s b ∷ h) c n = grind (arith, nat_tests, scan_bound k h c n)
 scan_bound k (d ∷ h) c n = scan_bound k h c n
 
 -- only speculations of slots that there are were given out

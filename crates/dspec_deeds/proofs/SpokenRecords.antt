@@ -1,12 +1,11 @@
 -- The records in all of a CPU's speculative buffers, and those in one of them.
-use Rattle.std.proofs.Common.{◌≡◌, ℕ, ◌+◌, Bool, true, false, not, if◌then◌else◌, List, [], ◌∷◌, ◌++◌, length, refl, sym, ap, ◌∙◌, subst, arith}
+use Rattle.std.proofs.lemmas.Bool.Decides.{nat_tests}
+use Rattle.std.proofs.Common.{◌≡◌, ℕ, ◌+◌, false, not, if◌then◌else◌, List, [], ◌∷◌, ◌++◌, length, refl, sym, ap, arith}
 use Rattle.std.specs.List.{filter}
 use Rattle.dspec_deeds.specs.Words.{Record, Speculation, Deed, same_id, Offer, empties, held, Spoken, speculative, Fate, taken, dropped, void, waiting, fates, is_waiting}
 use Rattle.dspec_deeds.specs.Fates.{discarded}
-use Rattle.dspec_deeds.proofs.TestLemmas.{same_id_tells}
 use Rattle.dspec_deeds.proofs.DeedOffers.{waits_for, spoken_as, next_offer, Idle, Offers, Empties, Effect, idle, offering, emptying}
 use Rattle.dspec_deeds.proofs.DeedEffects.{Accounts}
-use Rattle.dspec_deeds.proofs.HeldOffers.{same_id_back}
 use Rattle.dspec_deeds.proofs.FateCounts.{fates_idle, fates_offered, left_waiting}
 
 -- those kept into one speculation
@@ -38,43 +37,13 @@ spoken_emptied c d h id f m = rw m.added refl
 -- nothing of an emptied buffer is left, and all of the others
 spoken_left : (c : ℕ) (d : Deed) (i id : Speculation) → ((j : Speculation) → empties c j d ≡ same_id j i) → (ps : List Spoken)
     → spoken_to id (left_by c d ps) ≡ (if same_id id i then [] else spoken_to id ps)
-spoken_left c d i id e [] = empty (same_id id i)
-  where
-    empty : (b : Bool) → ◌≡◌ {A = List Offer} [] (if b then [] else [])
-    empty true = refl
-    empty false = refl
-spoken_left c d i id e (p ∷ ps) = step (same_id p.0 i) refl (same_id id i) refl (spoken_left c d i id e ps)
-  where
-    step : (a : Bool) → same_id p.0 i ≡ a → (b : Bool) → same_id id i ≡ b → spoken_to id (left_by c d ps) ≡ (if same_id id i then [] else spoken_to id ps)
-        → spoken_to id (left_by c d (p ∷ ps)) ≡ (if same_id id i then [] else spoken_to id (p ∷ ps))
-    step true a true b l =
-        let gone : empties c p.0 d ≡ true = e p.0 ∙ a in
-        let rest : spoken_to id (left_by c d ps) ≡ [] = rw b at l in
-        rw (gone, b) rest
-    step true a false b l =
-        let gone : empties c p.0 d ≡ true = e p.0 ∙ a in
-        let apart : same_id id p.0 ≡ false = subst (λ x. same_id id x ≡ false) (sym (same_id_tells p.0 i a)) b in
-        let rest : spoken_to id (left_by c d ps) ≡ spoken_to id ps = rw b at l in
-        rw (gone, b, apart) rest
-    step false a true b l =
-        let stays : empties c p.0 d ≡ false = e p.0 ∙ a in
-        let apart : same_id id p.0 ≡ false = subst (λ x. same_id x p.0 ≡ false) (sym (same_id_tells id i b)) (same_id_back i p.0 ∙ a) in
-        let rest : spoken_to id (left_by c d ps) ≡ [] = rw b at l in
-        rw (stays, b, apart) rest
-    step false a false b l =
-        let stays : empties c p.0 d ≡ false = e p.0 ∙ a in
-        let rest : spoken_to id (left_by c d ps) ≡ spoken_to id ps = rw b at l in
-        rw (stays, b) (ap (λ os. if same_id id p.0 then p.1 ∷ os else os) rest)
+spoken_left c d i id e [] = grind (arith, nat_tests)
+spoken_left c d i id e (p ∷ ps) = grind (arith, nat_tests, spoken_left c d i id e ps)
 
 -- what is left and what is emptied are all
 length_left : (c : ℕ) (d : Deed) (i : Speculation) → ((j : Speculation) → empties c j d ≡ same_id j i) → (ps : List Spoken) → length (left_by c d ps) + length (spoken_to i ps) ≡ length ps
 length_left c d i e [] = refl
-length_left c d i e (p ∷ ps) = rw (e p.0, same_id_back i p.0) (step (same_id p.0 i) (length_left c d i e ps))
-  where
-    step : (a : Bool) → length (left_by c d ps) + length (spoken_to i ps) ≡ length ps
-        → length (if not a then p ∷ left_by c d ps else left_by c d ps) + length (if a then p.1 ∷ spoken_to i ps else spoken_to i ps) ≡ length (p ∷ ps)
-    step true l = omega arith
-    step false l = omega arith
+length_left c d i e (p ∷ ps) = grind (arith, nat_tests, length_left c d i e ps)
 
 -- a CPU's buffer of a speculation has the records kept into it
 pub held_spoken : (c : ℕ) (id : Speculation) (h : List Deed) → Accounts c h → spoken_to id (speculative c h) ≡ held c id h

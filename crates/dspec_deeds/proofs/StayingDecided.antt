@@ -1,11 +1,12 @@
 -- A decided speculation stays as it is until the CPUs that it waits for have settled it.
-use Rattle.std.proofs.Common.{◌≡◌, ◌⊎◌, ℕ, ◌<◌, Bool, true, false, ◌||◌, ◌&&◌, ◌==◌, List, ◌∷◌, Some, None, if◌then◌else◌, refl, sym, ap, ◌∙◌, subst, ⊎_elim, inl, inr, true≢false}
-use Rattle.dspec_deeds.specs.Words.{Speculation, Config, Cpu, Deed, Speculate, Commit, Discard, Release, spoken_granted, spoken_stopped, is_commit, is_discard, decided_stopped, same_id, halted}
-use Rattle.dspec_deeds.specs.Words.{late, issue, releases, present, opens, opened, verdict, is_undecided, is_open, callers, standing, code_at, same_actor, author, releaser, solo, solo_of, settled}
-use Rattle.dspec_deeds.specs.Words.{StopsOrActs, IsSound}
+use Rattle.std.proofs.lemmas.Bool.Decides.{nat_tests}
+use Rattle.std.proofs.Common.{arith}
+use Rattle.std.proofs.Common.{◌≡◌, ℕ, ◌<◌, Bool, true, false, ◌||◌, ◌&&◌, List, ◌∷◌, if◌then◌else◌, refl, sym, ap, ◌∙◌, subst, ⊎_elim}
+use Rattle.dspec_deeds.specs.Words.{Speculation, Config, Cpu, Deed, same_id, halted, late, issue, releases, present, opens, opened, verdict, is_undecided, is_open, callers, standing, code_at}
+use Rattle.dspec_deeds.specs.Words.{same_actor, author, solo, solo_of, StopsOrActs, IsSound}
 use Rattle.dspec_word.specs.declared.code.Code.TheVariants.{Inactive}
 pub use Rattle.dspec_deeds.specs.OthersDeeds.{WaitsFor, StandsAsBefore}
-use Rattle.dspec_deeds.proofs.TestLemmas.{either_way, off, or_true, and_tells, same_number, same_id_tells, cpu_is_itself}
+use Rattle.dspec_deeds.proofs.TestLemmas.{either_way, off, or_true, and_tells, same_id_tells}
 use Rattle.dspec_deeds.proofs.SoundLists.{answered_open, granted_goes, commit_goes, discard_goes}
 use Rattle.dspec_deeds.proofs.PresentIds.{decided_shut}
 use Rattle.dspec_deeds.proofs.StayingOwn.{settled_other}
@@ -23,24 +24,11 @@ not_done h c id j stopped done goes shut a = ⊎_elim
 
 -- what is not open keeps its decision and its callers
 pub shut_stays : (k : Config) (d : Deed) (h : List Deed) (id : Speculation) → IsSound k (d ∷ h) → is_open id h ≡ false → (verdict id (d ∷ h) ≡ verdict id h) × (callers id (d ∷ h) ≡ callers id h)
-shut_stays k (Speculate c j r f) h id s shut = let none = not_done h c id j (spoken_stopped f) (spoken_granted f) (granted_goes f) shut s.1.1.1 in (refl, rw none refl)
-shut_stays k (Commit c j f) h id s shut = let none = not_done h c id j (decided_stopped f) (is_commit f) (commit_goes f) shut s.1.1.2 in (rw none refl, refl)
-shut_stays k (Discard c j f) h id s shut = let none = not_done h c id j (decided_stopped f) (is_discard f) (discard_goes f) shut s.1.1.2 in (rw none refl, refl)
-shut_stays k d h id s shut = (refl, refl)
+shut_stays k d h id h1 h2 = grind (arith, nat_tests, not_done, granted_goes, commit_goes, discard_goes)
 
 -- another's deed does not release what waits for the CPU
 pub waited_unreleased : (k : Config) (c s : ℕ) (d : Deed) (h : List Deed) → c < k.cpus → IsSound k (d ∷ h) → same_actor (Cpu c) (author d h) ≡ false → WaitsFor k c s h → releases s d ≡ false
-waited_unreleased k c s (Release n) h lt sound other held = ⊎_elim
-    (λ (t : (s == n) ≡ true).
-    let at = same_number s n t in
-    let waits = subst (λ x. (solo (present x h) h ≡ Some c) ⊎ ((solo (present x h) h ≡ None) × (settled c (present x h) h ≡ false))) at held.waits in
-    absurd (⊎_elim
-    (λ (alone : solo (present n h) h ≡ Some c). true≢false (sym (subst (λ x. same_actor (Cpu c) (releaser x) ≡ true) (sym alone) (cpu_is_itself c)) ∙ other))
-    (λ (both : (solo (present n h) h ≡ None) × (settled c (present n h) h ≡ false)). ⊎_elim (λ some. some both.0) (λ all. true≢false (sym (all c lt) ∙ both.1)) sound.1.1.0.1)
-    waits))
-    (λ f. f)
-    (either_way (s == n))
-waited_unreleased k c s d h lt sound other held = refl
+waited_unreleased k c s d h h1 h2 h3 h4 = grind arith
 
 -- a decided speculation stands where it is not released
 pub decided_stands : (k : Config) (s : ℕ) (d : Deed) (h : List Deed) → IsSound k (d ∷ h) → opened (present s h) h ≡ true → is_undecided (verdict (present s h) h) ≡ false
@@ -63,14 +51,4 @@ decided_stands k s d h sound given ruled kept =
 -- another's deed leaves what waits for the CPU
 pub waits_stays : (k : Config) (c s : ℕ) (d : Deed) (h : List Deed) → c < k.cpus → IsSound k (d ∷ h) → same_actor (Cpu c) (author d h) ≡ false → WaitsFor k c s h
     → WaitsFor k c s (d ∷ h) × StandsAsBefore s h (d ∷ h)
-waits_stays k c s d h lt sound other held =
-    let id = present s h in
-    let stands = decided_stands k s d h sound held.given held.ruled (waited_unreleased k c s d h lt sound other held) in
-    let p : present s (d ∷ h) ≡ id = λ i. record { issue = stands.issues i; slot = s } in (
-      record {
-        given = subst (λ j. opened j (d ∷ h) ≡ true) (sym p) (ap (λ b. opens id d || b) held.given ∙ or_true (opens id d));
-        ruled = ap is_undecided stands.verdicts ∙ held.ruled;
-        waits = ⊎_elim (λ one. inl (stands.solos ∙ one)) (λ both. inr (stands.solos ∙ both.0, ap (λ j. settled c j (d ∷ h)) p ∙ (settled_other c id d h other ∙ both.1))) held.waits;
-      },
-      stands,
-    )
+waits_stays k c s d h lt sound other held = grind (arith, nat_tests, decided_stands, waited_unreleased, or_true, settled_other)

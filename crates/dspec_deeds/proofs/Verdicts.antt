@@ -1,12 +1,14 @@
 -- A speculation is committed or discarded, and not both.
-use Rattle.std.proofs.Common.{◌≡◌, Bool, true, false, ◌&&◌, ◌||◌, List, [], ◌∷◌, refl, sym, ap, ◌∙◌, subst, ⊎_elim, true≢false}
-use Rattle.dspec_deeds.specs.Words.{Speculation, Config, DecideFate, Deed, Commit, Discard, is_commit, is_discard, decided_stopped, same_id, opened, Verdict, undecided, committed, discarded}
-use Rattle.dspec_deeds.specs.Words.{verdict, is_undecided, is_open, SettlesAs, Follows, IsSound, commits, discards, has_commit, has_discard}
+use Rattle.std.proofs.Common.{arith}
+use Rattle.std.proofs.lemmas.Bool.Decides.{nat_tests}
+use Rattle.std.proofs.Common.{◌≡◌, true, false, ◌||◌, List, [], ◌∷◌, refl, sym, ap, ◌∙◌, ⊎_elim, true≢false}
+use Rattle.dspec_deeds.specs.Words.{Speculation, Config, DecideFate, Deed, Commit, Discard, is_commit, is_discard, decided_stopped, same_id, opened, Ruling, undecided, committed, discarded, verdict}
+use Rattle.dspec_deeds.specs.Words.{is_undecided, is_open, SettlesAs, Follows, IsSound, commits, discards, has_commit, has_discard}
 use Rattle.dspec_deeds.proofs.TestLemmas.{either_way, off, and_tells, or_tells, or_true, same_id_tells}
 use Rattle.dspec_deeds.proofs.SoundLists.{answered_open, commit_goes, discard_goes}
 
 -- what a verdict says of the decisions in the list
-abbrev pub Told : Verdict → Speculation → List Deed → Type 0
+abbrev pub Told : Ruling → Speculation → List Deed → Type 0
 Told undecided id h = (has_commit id h ≡ false) × (has_discard id h ≡ false)
 Told (committed c) id h = has_commit id h ≡ true
 Told (discarded c) id h = has_discard id h ≡ true
@@ -16,7 +18,7 @@ pub commit_stays : (id : Speculation) (d : Deed) (h : List Deed) → has_commit 
 commit_stays id d h t = ap (λ b. commits id d || b) t ∙ or_true (commits id d)
 
 -- a deed that decides nothing here leaves what is told
-told_still : (v : Verdict) (id : Speculation) (d : Deed) (h : List Deed) → commits id d ≡ false → discards id d ≡ false → Told v id h → Told v id (d ∷ h)
+told_still : (v : Ruling) (id : Speculation) (d : Deed) (h : List Deed) → commits id d ≡ false → discards id d ≡ false → Told v id h → Told v id (d ∷ h)
 told_still undecided id d h a b t = (rw a t.0, rw b t.1)
 told_still (committed c) id d h a b t = commit_stays id d h t
 told_still (discarded c) id d h a b t = ap (λ x. discards id d || x) t ∙ or_true (discards id d)
@@ -24,32 +26,16 @@ told_still (discarded c) id d h a b t = ap (λ x. discards id d || x) t ∙ or_t
 -- the verdict tells what was decided
 pub verdict_told : (id : Speculation) (h : List Deed) → Told (verdict id h) id h
 verdict_told id [] = (refl, refl)
-verdict_told id (Commit c j f ∷ h) = step (is_commit f && same_id id j) refl (verdict_told id h)
-  where
-    step : (b : Bool) → (is_commit f && same_id id j) ≡ b → Told (verdict id h) id h → Told (verdict id (Commit c j f ∷ h)) id (Commit c j f ∷ h)
-    step true e t = rw e (rw e refl)
-    step false e t = rw e (told_still (verdict id h) id (Commit c j f) h e refl t)
-verdict_told id (Discard c j f ∷ h) = step (is_discard f && same_id id j) refl (verdict_told id h)
-  where
-    step : (b : Bool) → (is_discard f && same_id id j) ≡ b → Told (verdict id h) id h → Told (verdict id (Discard c j f ∷ h)) id (Discard c j f ∷ h)
-    step true e t = rw e (rw e refl)
-    step false e t = rw e (told_still (verdict id h) id (Discard c j f) h refl e t)
+verdict_told id (Commit c j f ∷ h) = grind (arith, nat_tests, verdict_told id h)
+verdict_told id (Discard c j f ∷ h) = grind (arith, nat_tests, verdict_told id h)
 verdict_told id (d ∷ h) = told_still (verdict id h) id d h refl refl (verdict_told id h)
-
--- what is undecided was neither committed nor discarded
-undecided_told : (v : Verdict) (id : Speculation) (h : List Deed) → is_undecided v ≡ true → Told v id h → (has_commit id h ≡ false) × (has_discard id h ≡ false)
-undecided_told undecided id h u t = t
-undecided_told (committed c) id h u t = absurd (true≢false (sym u))
-undecided_told (discarded c) id h u t = absurd (true≢false (sym u))
 
 -- what is open was neither committed nor discarded
 open_undecided : (id j : Speculation) (h : List Deed) → same_id id j ≡ true → is_open j h ≡ true → (has_commit id h ≡ false) × (has_discard id h ≡ false)
-open_undecided id j h e o =
-    let free : is_undecided (verdict j h) ≡ true = (and_tells (opened j h) (is_undecided (verdict j h)) o).1 in
-    undecided_told (verdict id h) id h (subst (λ x. is_undecided (verdict x h) ≡ true) (sym (same_id_tells id j e)) free) (verdict_told id h)
+open_undecided id j h e o = grind (arith, nat_tests, and_tells (opened j h) (is_undecided (verdict j h)) o, same_id_tells id j e, verdict_told id h)
 
 -- a settlement that is of a commit
-pub settled_commit : (v : Verdict) (id : Speculation) (h : List Deed) (f : DecideFate) → SettlesAs v f → is_discard f ≡ false → Told v id h → has_commit id h ≡ true
+pub settled_commit : (v : Ruling) (id : Speculation) (h : List Deed) (f : DecideFate) → SettlesAs v f → is_discard f ≡ false → Told v id h → has_commit id h ≡ true
 settled_commit undecided id h f s e t = absurd s
 settled_commit (committed c) id h f s e t = t
 settled_commit (discarded c) id h f s e t = absurd (true≢false (sym s ∙ e))
@@ -64,10 +50,7 @@ committed_first k id d h s t = absurd (true≢false (sym t))
 
 -- a discard is of what was not committed
 discarded_first : (k : Config) (id : Speculation) (d : Deed) (h : List Deed) → Follows k h d → discards id d ≡ true → has_commit id h ≡ false
-discarded_first k id (Discard c j f) h s t =
-    let both = and_tells (is_discard f) (same_id id j) t in
-    (open_undecided id j h both.1 (answered_open h c j (decided_stopped f) (is_discard f) (discard_goes f both.0) both.0 s.1.2)).0
-discarded_first k id d h s t = absurd (true≢false (sym t))
+discarded_first k id d h h1 h2 = grind (arith, nat_tests, and_tells, open_undecided, answered_open, discard_goes)
 
 -- no speculation is both committed and discarded
 pub one_decision : (k : Config) (id : Speculation) (h : List Deed) → IsSound k h → has_commit id h ≡ true → has_discard id h ≡ false

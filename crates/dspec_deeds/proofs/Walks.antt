@@ -1,7 +1,7 @@
 -- What a walk over a buffer's records has taken.
 use Rattle.std.proofs.Common.{◌≡◌, ℕ, ◌+◌, List, [], ◌∷◌, ◌++◌, length, sym, ap, ◌∙◌, subst, append_assoc, arith, length-append}
 use Rattle.std.specs.Prelude.{Some}
-use Rattle.dspec_deeds.specs.Words.{Record, Steps}
+use Rattle.dspec_deeds.specs.Words.{Record, StepsAhead}
 
 -- a walk over these records has taken so many of them, and put them behind what was there
 pub record Walked (ahead : ℕ → List Record → Type 0) (before all to : List Record) (place count : ℕ) : Type 0 where
@@ -19,10 +19,10 @@ pub record Grew (before to : List Record) : Type 0 where
 
 -- a walk that goes on
 pub walk_goes : (ahead : ℕ → List Record → Type 0) (before all to new : List Record) (place next count : ℕ) (r : Record) → Walked ahead before all to place count
-    → ((rs : List Record) → ahead place rs → Steps ahead rs (Some (r, next))) → new ≡ to ++ r ∷ [] → Walked ahead before all new next (count + 1)
+    → ((rs : List Record) → ahead place rs → StepsAhead ahead rs (Some (r, next))) → new ≡ to ++ r ∷ [] → Walked ahead before all new next (count + 1)
 walk_goes ahead before all to new place next count r w steps e = go w.rest w.still w.whole (steps w.rest w.still)
   where
-    go : (rest : List Record) → ahead place rest → w.done ++ rest ≡ all → Steps ahead rest (Some (r, next)) → Walked ahead before all new next (count + 1)
+    go : (rest : List Record) → ahead place rest → w.done ++ rest ≡ all → StepsAhead ahead rest (Some (r, next)) → Walked ahead before all new next (count + 1)
     go [] still whole step = absurd (cc (step))
     go (x ∷ rest) still whole step =
         let pair : ◌≡◌ {A = Record × ℕ} (x, step.0) (r, next) = cc in

@@ -1,25 +1,17 @@
 -- What the conditions on the next deed come to over a whole list.
-use Rattle.std.proofs.Common.{◌≡◌, ℕ, ◌+◌, ◌≤◌, ◌<◌, Bool, true, false, not, ◌&&◌, ◌||◌, ◌==◌, List, [], ◌∷◌, None, if◌then◌else◌, refl, sym, ap, ◌∙◌, subst, ⊎_elim, arith, true≢false}
-use Rattle.std.specs.Prelude.{MatchBool, nat_lt}
+use Rattle.std.proofs.Common.{◌≡◌, ℕ, ◌+◌, ◌≤◌, ◌<◌, true, false, not, ◌&&◌, List, [], ◌∷◌, None, refl, sym, ap, ◌∙◌, subst, ⊎_elim, arith, true≢false}
+use Rattle.std.specs.Prelude.{nat_lt}
 use Rattle.std.proofs.lemmas.Bool.Decides.{nat_tests}
-use Rattle.dspec_deeds.specs.Words.{Speculation, Config, Cpu, Deed, Trace, Scan, Opened, Speculate, Commit, Discard, Settle, Seal, Halt, trace_stopped, spoken_stopped, decided_stopped, same_id}
-use Rattle.dspec_deeds.specs.Words.{is_halt, halted, issue, opens, opened, solo, solo_of, settles, settled, late, author, same_actor, IsSound, is_drop, seals_now, growing, batches, total, one_if}
-use Rattle.dspec_deeds.specs.Words.{settlements, SettlesOnce, goes_on, late_calls, IsGivenBelow, drops_of}
-use Rattle.dspec_deeds.proofs.TestLemmas.{either_way, off, and_tells, or_none, or_tells, or_true, same_number, same_id_tells}
+use Rattle.dspec_deeds.specs.Words.{Speculation, Config, Deed, Opened, Settle, is_halt, halted, issue, opens, opened, solo, solo_of, settles, settled, late, IsSound, is_drop, growing, batches}
+use Rattle.dspec_deeds.specs.Words.{total, one_if, settlements, SettlesOnce, goes_on, late_calls, IsGivenBelow, drops_of}
+use Rattle.dspec_deeds.proofs.TestLemmas.{either_way, off, and_tells, or_none, or_tells, same_id_tells}
 use Rattle.dspec_deeds.proofs.PresentIds.{decided_shut}
 use Rattle.dspec_deeds.proofs.StayingDecided.{shut_stays}
 use Rattle.dspec_deeds.proofs.Acked.{settled_decided}
 
 -- a CPU that has settled isn't one that settles now
 settles_new : (k : Config) (c : ℕ) (id : Speculation) (d : Deed) (h : List Deed) → IsSound k (d ∷ h) → settles c id d ≡ true → (settled c id h ≡ false) × (solo id h ≡ None)
-settles_new k c id (Settle a j f) h sound t =
-    let both = and_tells (c == a) (same_id id j) t in
-    let me = same_number c a both.0 in
-    let is = same_id_tells id j both.1 in (
-      subst (λ (p : ℕ × Speculation). settled p.0 p.1 h ≡ false) (λ i. (sym me i, sym is i)) sound.1.1.1.3,
-      subst (λ j. solo j h ≡ None) (sym is) sound.1.1.1.2,
-    )
-settles_new k c id d h sound t = absurd (true≢false (sym t))
+settles_new k c id d h h1 h2 = grind arith
 
 -- none where it hasn't settled
 no_settlement : (c : ℕ) (id : Speculation) (h : List Deed) → settled c id h ≡ false → settlements c id h ≡ 0
@@ -31,16 +23,7 @@ no_settlement c id (d ∷ h) e = let both = or_none (settles c id d) (settled c 
 
 settled_at_most : (k : Config) (c : ℕ) (id : Speculation) (h : List Deed) → IsSound k h → settlements c id h ≤ 1
 settled_at_most k c id [] sound = omega arith
-settled_at_most k c id (d ∷ h) sound = ⊎_elim
-    (λ (t : settles c id d ≡ true).
-    let here : one_if (settles c id d) ≡ 1 = ap one_if t in
-    let rest = no_settlement c id h (settles_new k c id d h sound t).0 in
-    omega arith)
-    (λ (f : settles c id d ≡ false).
-    let here : one_if (settles c id d) ≡ 0 = ap one_if f in
-    let rest = settled_at_most k c id h sound.0 in
-    omega arith)
-    (either_way (settles c id d))
+settled_at_most k c id (d ∷ h) sound = grind (arith, nat_tests, settled_at_most k c id h sound.0, no_settlement, settles_new)
 
 -- a settlement decides nothing, and calls nobody
 settle_leaves : (c : ℕ) (id : Speculation) (d : Deed) (h : List Deed) → settles c id d ≡ true → solo id (d ∷ h) ≡ solo id h
@@ -57,55 +40,15 @@ settled_not_alone k c id (d ∷ h) sound e = ⊎_elim
     (or_tells (settles c id d) (settled c id h) e)
 
 pub settles_once : (k : Config) (c : ℕ) (id : Speculation) (h : List Deed) → IsSound k h → SettlesOnce c id h
-settles_once k c id h sound = record {
-  once = settled_at_most k c id h sound;
-  after_decision = settled_decided k c id h sound;
-  not_alone = settled_not_alone k c id h sound;
-}
+settles_once k c id h sound = grind (arith, nat_tests, settled_at_most, settled_decided, settled_not_alone)
 
 -- a call that goes on after the stop is of a CPU that has done nothing since
 goes_on_early : (k : Config) (c : ℕ) (d : Deed) (h : List Deed) → IsSound k (d ∷ h) → halted h ≡ true → goes_on c d ≡ true → (late c h ≡ false) × (late c (d ∷ h) ≡ true)
-goes_on_early k c d h sound stop goes = go d sound goes
-  where
-    mine : (a : ℕ) → (c == a) ≡ true → (late c h || (halted h && (c == a))) ≡ true
-    mine a t = rw (stop, t) (or_true (late c h))
-
-    early : (a : ℕ) → (c == a) ≡ true → late a h ≡ false → late c h ≡ false
-    early a t e = subst (λ x. late x h ≡ false) (sym (same_number c a t)) e
-
-    running : (b : Bool) (P Q : Type 0) → not b ≡ true → MatchBool b P Q → Q
-    running true P Q e m = absurd (true≢false (sym e))
-    running false P Q e m = m
-
-    go : (d : Deed) → IsSound k (d ∷ h) → goes_on c d ≡ true → (late c h ≡ false) × (late c (d ∷ h) ≡ true)
-    go (Trace a r f) sound g =
-        let both = and_tells (not (trace_stopped f)) (c == a) g in
-        absurd (true≢false (sym both.0 ∙ ap not (sound.1.1.1 ∙ stop)))
-    go (Scan a run) sound g =
-        let both = and_tells run (c == a) g in
-        absurd (true≢false (sym both.0 ∙ (sound.1.1.1 ∙ ap not stop)))
-    go (Speculate a id r f) sound g =
-        let both = and_tells (not (spoken_stopped f)) (c == a) g in
-        (early a both.1 (running (spoken_stopped f) _ _ both.0 sound.1.1.1).0, mine a both.1)
-    go (Commit a id f) sound g =
-        let both = and_tells (not (decided_stopped f)) (c == a) g in
-        (early a both.1 (running (decided_stopped f) _ _ both.0 sound.1.1.2).0, mine a both.1)
-    go (Discard a id f) sound g =
-        let both = and_tells (not (decided_stopped f)) (c == a) g in
-        (early a both.1 (running (decided_stopped f) _ _ both.0 sound.1.1.2).0, mine a both.1)
-    go d sound g = absurd (true≢false (sym g))
+goes_on_early k c d h sound stop goes = grind (arith, nat_tests)
 
 -- who is late stays late
 stays_late : (k : Config) (c : ℕ) (d : Deed) (h : List Deed) → IsSound k (d ∷ h) → halted h ≡ true → late c (d ∷ h) ≡ false → late c h ≡ false
-stays_late k c d h sound stop e = go (is_halt d) refl
-  where
-    no_halt : (d : Deed) → IsSound k (d ∷ h) → is_halt d ≡ true → ⊥
-    no_halt Halt s t = true≢false (sym stop ∙ s.1.1)
-    no_halt d s t = true≢false (sym t)
-
-    go : (b : Bool) → is_halt d ≡ b → late c h ≡ false
-    go true t = absurd (no_halt d sound t)
-    go false f = (or_none (late c h) (halted h && same_actor (Cpu c) (author d h)) (subst (λ b. (if b then false else (late c h || (halted h && same_actor (Cpu c) (author d h)))) ≡ false) f e)).0
+stays_late k c d h sound stop e = grind arith
 
 -- one at most, and none of a CPU that has done nothing since the stop
 record AreFew (c : ℕ) (h : List Deed) : Type 0 where
@@ -160,11 +103,4 @@ given_below k (d ∷ h) sound id e = ⊎_elim (here d sound) (λ t. given_below 
 -- the drops of a CPU's batches, and of what grows, are the CPU's drops
 pub drops_add_up : (c : ℕ) (h : List Deed) → drops_of (batches c h) + (growing c h).drops ≡ total (λ d. one_if (is_drop c d)) h
 drops_add_up c [] = refl
-drops_add_up c (d ∷ h) = let rest = drops_add_up c h in ⊎_elim
-    (λ (t : seals_now c d ≡ true). let none : one_if (is_drop c d) ≡ 0 = ap one_if (seal_no_drop d t) in rw t (omega arith))
-    (λ (f : seals_now c d ≡ false). rw f (omega arith))
-    (either_way (seals_now c d))
-  where
-    seal_no_drop : (d : Deed) → seals_now c d ≡ true → is_drop c d ≡ false
-    seal_no_drop (Seal a) t = refl
-    seal_no_drop d t = absurd (true≢false (sym t))
+drops_add_up c (d ∷ h) = grind (arith, nat_tests, drops_add_up c h)

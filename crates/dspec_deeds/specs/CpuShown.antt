@@ -4,7 +4,7 @@ use Rattle.dspec_deeds.specs.Words.Outside.{Record, Piece, one, Speculation}
 use Rattle.dspec_deeds.specs.declared.config.Config.{Config}
 use Rattle.dspec_deeds.specs.declared.deed.Deed.{Deed}
 use Rattle.dspec_deeds.specs.History.{is_among, callers, issue, present, ack}
-use Rattle.dspec_deeds.specs.Own.{Batch, active, batches, calls, contents, dropped_in, growing, held, seals, stream}
+use Rattle.dspec_deeds.specs.Own.{Sealing, active, batches, calls, contents, dropped_in, growing, held, seals, stream}
 use Rattle.dspec_deeds.specs.Reports.{missed_busy}
 use Rattle.dspec_deeds.specs.Marks.{mark}
 
@@ -26,7 +26,7 @@ pub record OwnState : Type 0 where
   pub active : List Piece
   pub drops : ℕ
   pub accepted : List Record
-  pub batches : List Batch
+  pub batches : List Sealing
 
 abbrev pub own_side : ℕ → List Deed → OwnState
 own_side c p = record {

@@ -53,26 +53,26 @@ opened id [] = false
 opened id (d ∷ h) = opens id d || opened id h
 
 -- whether the speculation was decided, and by which CPU
-pub data Verdict : Type 0 where
-  undecided : Verdict
-  committed : ℕ → Verdict
-  discarded : ℕ → Verdict
+pub data Ruling : Type 0 where
+  undecided : Ruling
+  committed : ℕ → Ruling
+  discarded : ℕ → Ruling
 
-abbrev pub ruling : Speculation → Deed → Verdict
+abbrev pub ruling : Speculation → Deed → Ruling
 ruling id (Commit c j f) = if is_commit f && same_id id j then committed c else undecided
 ruling id (Discard c j f) = if is_discard f && same_id id j then discarded c else undecided
 ruling id d = undecided
 
-abbrev pub latest : Verdict → Verdict → Verdict
+abbrev pub latest : Ruling → Ruling → Ruling
 latest undecided v = v
 latest (committed c) v = committed c
 latest (discarded c) v = discarded c
 
-abbrev pub verdict : Speculation → List Deed → Verdict
+abbrev pub verdict : Speculation → List Deed → Ruling
 verdict id [] = undecided
 verdict id (d ∷ h) = latest (ruling id d) (verdict id h)
 
-abbrev pub is_undecided : Verdict → Bool
+abbrev pub is_undecided : Ruling → Bool
 is_undecided undecided = true
 is_undecided v = false
 
@@ -102,7 +102,7 @@ is_sole_or_none c (x ∷ []) = c == x
 is_sole_or_none c (x ∷ y ∷ cs) = false
 
 -- the CPU that decided it alone: with no other caller after a commit, as the one caller after a discard
-abbrev pub solo_of : Verdict → List ℕ → Option ℕ
+abbrev pub solo_of : Ruling → List ℕ → Option ℕ
 solo_of undecided cs = None
 solo_of (committed c) cs = if is_sole_or_none c cs then Some c else None
 solo_of (discarded c) cs = if is_sole c cs then Some c else None
@@ -197,7 +197,7 @@ active_code [] = Active
 active_code (x ∷ []) = ActiveOne
 active_code (x ∷ y ∷ cs) = ActiveMany
 
-abbrev pub standing : Verdict → List ℕ → Code
+abbrev pub standing : Ruling → List ℕ → Code
 standing undecided cs = active_code cs
 standing (committed c) cs = if is_sole_or_none c cs then Committing else CommittingMany
 standing (discarded c) cs = Discarding

@@ -9,7 +9,7 @@ use Rattle.dspec_deeds.specs.declared.deed.Deed.{Deed}
 use Rattle.dspec_deeds.specs.declared.deed.Deed.TheVariants.{Trace, Scan, Opened, Miss, Speculate, Commit, Discard, Settle, Seal, Release, Halt}
 use Rattle.dspec_deeds.specs.Ranges.{is_fill}
 use Rattle.dspec_deeds.specs.FateKinds.{trace_stopped, trace_kept, spoken_stopped, spoken_granted, spoken_kept, decided_stopped, is_commit, is_discard, is_copied, count_of}
-use Rattle.dspec_deeds.specs.History.{halted, issue, Verdict, undecided, committed, discarded, opened, callers, releaser, solo_of}
+use Rattle.dspec_deeds.specs.History.{halted, issue, Ruling, undecided, committed, discarded, opened, callers, releaser, solo_of}
 use Rattle.dspec_deeds.specs.History.{verdict, is_undecided, settled, scan, opened_since, author, part, late, owed}
 use Rattle.dspec_deeds.specs.Own.{Offer, contents, held, active, full, seals}
 
@@ -21,7 +21,7 @@ abbrev pub StopsOrActs : Bool → Bool → Bool → Bool → Bool → Type 0
 StopsOrActs halt tardy is_open stopped done = MatchBool stopped (halt ≡ true) ((tardy ≡ false) × (done ≡ is_open))
 
 -- a settlement does what the decision says
-abbrev pub SettlesAs : Verdict → DecideFate → Type 0
+abbrev pub SettlesAs : Ruling → DecideFate → Type 0
 SettlesAs undecided f = ⊥
 SettlesAs (committed c) f = is_commit f ≡ true
 SettlesAs (discarded c) f = is_discard f ≡ true
@@ -31,7 +31,7 @@ pub record Facts : Type 0 where
   pub halt : Bool
   pub issues : ℕ → ℕ
   pub given : Speculation → Bool
-  pub ruled : Speculation → Verdict
+  pub ruled : Speculation → Ruling
   pub called : Speculation → List ℕ
   pub done : ℕ → Speculation → Bool
   pub scans : ℕ → ℕ

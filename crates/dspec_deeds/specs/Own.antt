@@ -124,30 +124,30 @@ full c [] = false
 full c (d ∷ h) = is_drop c d || full c h
 
 -- a batch: what was accepted, and the drops counted, between two Seals
-pub record Batch : Type 0 where
+pub record Sealing : Type 0 where
   pub offers : List Offer
   pub drops : ℕ
 
-abbrev pub empty_batch : Batch
+abbrev pub empty_batch : Sealing
 empty_batch = record { offers = []; drops = 0 }
 
 -- the batch that the next Seal seals
-abbrev pub growing_after : ℕ → Deed → List Deed → Batch → Batch
+abbrev pub growing_after : ℕ → Deed → List Deed → Sealing → Sealing
 growing_after c d h b =
     if seals_now c d then empty_batch
     else record { offers = accepts c d h ++ b.offers; drops = b.drops + (if is_drop c d then 1 else 0) }
 
-abbrev pub growing : ℕ → List Deed → Batch
+abbrev pub growing : ℕ → List Deed → Sealing
 growing c [] = empty_batch
 growing c (d ∷ h) = growing_after c d h (growing c h)
 
 -- the batches sealed
-abbrev pub batches : ℕ → List Deed → List Batch
+abbrev pub batches : ℕ → List Deed → List Sealing
 batches c [] = []
 batches c (d ∷ h) = if seals_now c d then growing c h ∷ batches c h else batches c h
 
 -- the records of batches in order of time
-abbrev pub batch_records : List Batch → List Record
+abbrev pub batch_records : List Sealing → List Record
 batch_records [] = []
 batch_records (b ∷ bs) = reverse (contents b.offers) ++ batch_records bs
 

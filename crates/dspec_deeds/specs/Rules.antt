@@ -6,7 +6,7 @@ use Rattle.dspec_deeds.specs.declared.deed.Deed.{Deed}
 use Rattle.dspec_deeds.specs.declared.deed.Deed.TheVariants.{Trace, Scan, Speculate, Commit, Discard}
 use Rattle.dspec_deeds.specs.FateKinds.{trace_stopped, spoken_stopped, decided_stopped}
 use Rattle.dspec_deeds.specs.History.{halted, opened, verdict, is_undecided, solo, settles, settled}
-use Rattle.dspec_deeds.specs.Own.{Batch}
+use Rattle.dspec_deeds.specs.Own.{Sealing}
 use Rattle.dspec_deeds.specs.Reports.{total, one_if}
 
 -- how often the CPU settled the speculation
@@ -38,6 +38,6 @@ abbrev pub IsGivenBelow : Config → List Deed → Type 0
 IsGivenBelow k h = (id : Speculation) → opened id h ≡ true → id.issue < k.max_issues
 
 -- the drops of batches
-abbrev pub drops_of : List Batch → ℕ
+abbrev pub drops_of : List Sealing → ℕ
 drops_of [] = 0
 drops_of (b ∷ bs) = drops_of bs + b.drops

@@ -2,7 +2,7 @@
 pub mod Outside
 unfoldable pub use Outside.*
 pub use Rattle.dspec_deeds.specs.Closes.{CanClose, closed_cpus, closed_slot, closed_slots, closing, is_granted, numbers_below, reports, streams, WaitsUndecided}
-pub use Rattle.dspec_deeds.specs.CommonDeeds.{AreSameInCommon, common_decided, common_deed, common_deeds, common_spoken, common_traced, IsSameInCommon}
+pub use Rattle.dspec_deeds.specs.CommonDeeds.{AreSameInCommon, common_decided, common_deed, common_deeds, common_spoken, IsSameInCommon}
 pub use Rattle.dspec_deeds.specs.CpuShown.{last_called, own_side, OwnState, ShowsOwnState, StateParts, TellsPresent}
 pub use Rattle.dspec_deeds.specs.FateAnswers.{answer_of, id_given}
 pub use Rattle.dspec_deeds.specs.FateKinds.{count_of, decided_stopped, is_commit, is_copied, is_discard, is_lost, spoken_dropped, spoken_granted, spoken_kept, spoken_nowhere, spoken_stopped}
@@ -12,14 +12,14 @@ pub use Rattle.dspec_deeds.specs.Fates.{is_discarded, is_dropped, is_taken, is_v
 pub use Rattle.dspec_deeds.specs.Headline.{AcceptanceLaw, FateLaw, Headline, PrefixLaw}
 pub use Rattle.dspec_deeds.specs.History.{ack, acks, active_code, author, callers, calls_on, code_at, committed, discarded, discarded as ruled_out, halted, in_range, is_among, is_busy, is_free}
 pub use Rattle.dspec_deeds.specs.History.{is_halt, is_open, is_scan, is_sole, is_sole_or_none, is_undecided, issue, issue_of, joined, late, latest, opened, opened_since, opens, opens_slot, owed}
-pub use Rattle.dspec_deeds.specs.History.{owing, part, present, releaser, releases, ruling, same_actor, same_id, scan, scanned, settled, settles, solo, solo_of, standing, undecided, Verdict}
-pub use Rattle.dspec_deeds.specs.History.{verdict, word_at}
-pub use Rattle.dspec_deeds.specs.Legal.{AnswersBy, CopiesOrLoses, CpuLegal, Facts, facts, fits_principal, fits_speculative, Follows, FollowsBy, HasAuthors, is_closed, is_empty, is_seal, IsAllowed}
-pub use Rattle.dspec_deeds.specs.Legal.{IsFitting, IsLegal, IsSound, MayComeBy, Pays, sealed_last, SettlesAs, StopsOrActs}
+pub use Rattle.dspec_deeds.specs.History.{owing, part, present, releaser, releases, Ruling, ruling, same_actor, same_id, scan, scanned, settled, settles, solo, solo_of, standing, undecided, verdict}
+pub use Rattle.dspec_deeds.specs.History.{word_at}
+pub use Rattle.dspec_deeds.specs.Legal.{CopiesOrLoses, CpuLegal, Facts, facts, fits_principal, fits_speculative, Follows, FollowsBy, HasAuthors, is_closed, is_empty, is_seal, IsAllowed, IsFitting}
+pub use Rattle.dspec_deeds.specs.Legal.{IsLegal, IsSound, MayComeBy, Pays, sealed_last, SettlesAs, StopsOrActs}
 pub use Rattle.dspec_deeds.specs.Marks.{mark, mark_after}
-pub use Rattle.dspec_deeds.specs.Own.{accepted, accepts, active, Batch, Batch as Sealing, batch_records, batches, calls, contents, dropped_after, dropped_in, empties, empty_batch, full, growing}
-pub use Rattle.dspec_deeds.specs.Own.{held, held as buffer, is_call, is_drop, keeps, Offer, Offer as Entry, offered_by, offers, offers as offers_of, one_if_record, seals, seals_now, stream}
-pub use Rattle.dspec_deeds.specs.Own.{stream as stream_of, taken as accepted_first, taken as taken_first}
+pub use Rattle.dspec_deeds.specs.Own.{accepted, accepts, active, batch_records, batches, calls, contents, dropped_after, dropped_in, empties, empty_batch, full, growing, held, held as buffer}
+pub use Rattle.dspec_deeds.specs.Own.{is_call, is_drop, keeps, Offer, Offer as Entry, offered_by, offers, offers as offers_of, one_if_record, Sealing, seals, seals_now, stream, stream as stream_of}
+pub use Rattle.dspec_deeds.specs.Own.{taken as accepted_first, taken as taken_first}
 pub use Rattle.dspec_deeds.specs.Owning.{CpuRow, is_of, IsOwn, ReadsAlike, ReadsApart}
 pub use Rattle.dspec_deeds.specs.Ranges.{is_between, is_fill, is_size, start_fault}
 pub use Rattle.dspec_deeds.specs.Reports.{accepts_now, adds_now, busy_fails, CountsWithin, discards_now, fails_now, loses_now, missed_busy, one_if, other_fails, records_of_report, report}
@@ -33,7 +33,7 @@ pub use Rattle.dspec_deeds.specs.declared.calls.Actor.TheVariants.{Consumer, Cpu
 pub use Rattle.dspec_deeds.specs.declared.config.Config.{Config}
 pub use Rattle.dspec_deeds.specs.declared.config.Policy.TheVariants.{Switch}
 pub use Rattle.dspec_deeds.specs.declared.config.StartFault.{StartFault}
-pub use Rattle.dspec_deeds.specs.declared.config.StartFault.TheVariants.{Cpus, Specs}
+pub use Rattle.dspec_deeds.specs.declared.config.StartFault.TheVariants.{Cpus}
 pub use Rattle.dspec_deeds.specs.declared.deed.DecideFate.{DecideFate}
 pub use Rattle.dspec_deeds.specs.declared.deed.Deed.{Deed}
 pub use Rattle.dspec_deeds.specs.declared.deed.Deed.TheVariants.{Commit, Discard, Halt, Miss, Opened, Release, Scan, Seal, Settle, Speculate, Trace}

@@ -1,4 +1,5 @@
 -- What each call makes of what is known of a CPU's files and packets.
+use Rattle.std.proofs.lemmas.Bool.Decides.{nat_tests}
 use Rattle.std.proofs.Common.{◌≡◌, ◌<◌, ◌≤◌, ◌+◌, ◌-◌, ◌^◌, ◌++◌, inl, inr, ℕ, List, [], ◌∷◌, Some, None, ap, sym, subst, ◌∙◌, arith, length, min, take}
 use Rattle.std.specs.Prelude.{slice_range}
 use Rattle.std.proofs.lemmas.List.{append-nil}
@@ -25,23 +26,10 @@ rises_put old room p filled new (inl (to_tell, h)) = ap (λ (f : CpuFiling). f.m
 rises_put old room p filled new (inr x) = ap (λ (f : CpuFiling). f.missed) x.hands.is ∙ ap (λ (f : CpuFiling). f.missed) x.finds.is
 
 rises_none : (old : CpuFiling) (room : List ℕ) (fault : PutFault) (new : CpuFiling) → HandsNone old room fault new → new.missed ≡ old.missed
-rises_none old room fault new (inl (to_tell, why, is)) = ap (λ (f : CpuFiling). f.missed) is
-rises_none old room fault new (inr (inl alone)) = ap (λ (f : CpuFiling). f.missed) alone.finds.is
-rises_none old room fault new (inr (inr none)) = ap (λ (f : CpuFiling). f.missed) none.is
+rises_none = grind (arith, nat_tests)
 
 pub rises : (old : CpuFiling) (call : FilingCall) (new : CpuFiling) → CallMakes old call new → new.missed + 1 < 2 ^ 64 → old.missed ≤ new.missed
-rises old (Opened drops text) new o small = omega (arith, ap (λ (f : CpuFiling). f.missed) o.is)
-rises old (OpenRefused drops text) new (fault, (why, (room, is))) small = omega (arith, ap (λ (f : CpuFiling). f.missed) is)
-rises old (Put p bytes) new (room, (filled, (h, bytes_are))) small = omega (arith, rises_put old room p filled new h)
-rises old NoMore new (room, (handed, same, is)) small = omega (arith, ap (λ (f : CpuFiling). f.missed) is)
-rises old PutRefused new (room, (fault, h)) small = omega (arith, rises_none old room fault new h)
-rises old Lost new is small =
-    let now : new.missed ≡ min (old.missed + unwritten old) (2 ^ 64 - 1) = ap (λ (f : CpuFiling). f.missed) is in
-    omega (arith, now, counted_whole (old.missed + unwritten old) (subst (λ n. n + 1 < 2 ^ 64) now small))
-rises old (Missed count) new is small =
-    let now : new.missed ≡ min (old.missed + count) (2 ^ 64 - 1) = ap (λ (f : CpuFiling). f.missed) is in
-    omega (arith, now, counted_whole (old.missed + count) (subst (λ n. n + 1 < 2 ^ 64) now small))
-rises old Reserved new (room, is) small = omega (arith, ap (λ (f : CpuFiling). f.missed) is)
+rises = grind (arith, nat_tests, rises_put, rises_none, counted_whole)
 
 -- bytes at the front of a room are the first of it
 at_front : (bytes rest filled : List ℕ) (size : ℕ) → size ≡ length bytes → filled ≡ bytes ++ rest → take size filled ≡ bytes
@@ -53,50 +41,12 @@ module _ (uuid : List ℕ) (e : EnabledRows) (names : Names) (hertz cpu : ℕ) w
 
   -- only the room changes
   roomy : (f : CpuFiling) (w : Packets) (texts : List (List ℕ)) (count : ℕ) (new : CpuFiling) → HasAsMuchRoom f new → Stand f w texts count → Stand new w texts count
-  roomy f w texts count new (more, is) s = subst (λ (g : CpuFiling). Stand g w texts count) (sym is) (record {
-    uuid_is = s.uuid_is;
-    schema_is = s.schema_is;
-    cpu_is = s.cpu_is;
-    accepted = s.accepted;
-    from_place = s.from_place;
-    within = s.within;
-    few = s.few;
-    first = s.first;
-    found = s.found;
-    kept = s.kept;
-    lost = s.lost;
-    keeps = s.keeps;
-    counted = s.counted;
-    written = s.written;
-    all = s.all;
-    told = s.told;
-    told_before = s.told_before;
-  })
+  roomy = grind (arith, nat_tests)
 
   -- more was missed
   misses : (f : CpuFiling) (w : Packets) (texts : List (List ℕ)) (count more : ℕ) → min (f.missed + more) (2 ^ 64 - 1) + 1 < 2 ^ 64 → Stand f w texts count
       → Stand (with_more_missed f more) w texts (count + more)
-  misses f w texts count more small s =
-      let whole = counted_whole (f.missed + more) small in
-      record {
-        uuid_is = s.uuid_is;
-        schema_is = s.schema_is;
-        cpu_is = s.cpu_is;
-        accepted = s.accepted;
-        from_place = s.from_place;
-        within = s.within;
-        few = s.few;
-        first = s.first;
-        found = s.found;
-        kept = s.kept;
-        lost = s.lost;
-        keeps = s.keeps;
-        counted = omega (arith, whole, s.counted);
-        written = s.written;
-        all = s.all;
-        told = omega (arith, whole, s.told);
-        told_before = s.told_before;
-      }
+  misses f w texts count more small s = grind (arith, nat_tests, counted_whole)
 
   -- what was handed out last is lost, and the rest of the batch
   loses : (f : CpuFiling) (w : Packets) (texts : List (List ℕ)) (count : ℕ) → min (f.missed + unwritten f) (2 ^ 64 - 1) + 1 < 2 ^ 64 → Stand f w texts count
@@ -199,9 +149,7 @@ module _ (laws : FilesLaws) (uuid : List ℕ) (e : EnabledRows) (names : Names) 
 
   -- a call that opens no batch and tells nothing as missed
   plain : (f : CpuFiling) (w : Packets) (texts : List (List ℕ)) (count : ℕ) → Stands uuid e names hertz cpu f w texts count → Stands uuid e names hertz cpu f w (texts ++ []) (count + 0)
-  plain f w texts count s =
-      let same : count ≡ count + 0 = omega arith in
-      subst (λ ts. Stands uuid e names hertz cpu f w ts (count + 0)) (sym (append-nil texts)) (subst (λ n. Stands uuid e names hertz cpu f w texts n) same s)
+  plain f w texts count s = grind (arith, nat_tests, Stands, append-nil)
 
   pub after : (old : CpuFiling) (w : Packets) (texts : List (List ℕ)) (count : ℕ) (call : FilingCall) (new : CpuFiling) → CallMakes old call new → new.missed + 1 < 2 ^ 64
       → Stands uuid e names hertz cpu old w texts count → Stands uuid e names hertz cpu new (packets_after w call) (texts ++ opened_text call) (count + told_missed call)
@@ -212,12 +160,6 @@ module _ (laws : FilesLaws) (uuid : List ℕ) (e : EnabledRows) (names : Names) 
   after old w texts count NoMore new (room, (handed, same, is)) small s =
       plain new (all_written w) texts count (subst (λ (g : CpuFiling). Stands uuid e names hertz cpu g (all_written w) texts count) (sym is) (settles uuid e names hertz cpu old w texts count s))
   after old w texts count PutRefused new (room, (fault, h)) small s = plain new (all_written w) texts count (puts_none old w texts count room fault new h s)
-  after old w texts count Lost new is small s =
-      let now : new.missed ≡ min (old.missed + unwritten old) (2 ^ 64 - 1) = ap (λ (g : CpuFiling). g.missed) is in
-      plain new (packets_after w Lost) texts count (subst (λ (g : CpuFiling). Stands uuid e names hertz cpu g (packets_after w Lost) texts count) (sym is)
-      (loses uuid e names hertz cpu old w texts count (subst (λ n. n + 1 < 2 ^ 64) now small) s))
-  after old w texts count (Missed more) new is small s =
-      let now : new.missed ≡ min (old.missed + more) (2 ^ 64 - 1) = ap (λ (g : CpuFiling). g.missed) is in
-      subst (λ ts. Stands uuid e names hertz cpu new w ts (count + more)) (sym (append-nil texts))
-      (subst (λ (g : CpuFiling). Stands uuid e names hertz cpu g w texts (count + more)) (sym is) (misses uuid e names hertz cpu old w texts count more (subst (λ n. n + 1 < 2 ^ 64) now small) s))
+  after old w texts count Lost new is small s = grind (arith, nat_tests, plain, Stands, loses)
+  after old w texts count (Missed more) new is small s = grind (arith, nat_tests, Stands, append-nil, misses)
   after old w texts count Reserved new room small s = plain new w texts count (roomy uuid e names hertz cpu old w texts count new room s)

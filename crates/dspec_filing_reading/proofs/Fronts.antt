@@ -1,4 +1,5 @@
 -- First records of texts, and parts of a batch's records.
+use Rattle.std.proofs.lemmas.Bool.Decides.{nat_tests}
 use Rattle.std.proofs.Common.{◌≡◌, ◌≤◌, ◌+◌, ◌-◌, ◌++◌, ℕ, List, [], ◌∷◌, refl, ap, sym, subst, ◌∙◌, arith, append_assoc, drop, length, take, All}
 use Rattle.std.specs.Prelude.{slice_range}
 use Rattle.std.proofs.lemmas.List.{append-nil, length-drop, length-take-le}
@@ -9,9 +10,7 @@ use Rattle.dspec_filing_reading.specs.Words.{AreFrontsKept, Accepts, BufferText,
 
 -- no records stand between a place and itself
 pub none_between : (rs : List Record) (place : ℕ) → slice_range rs place place ≡ []
-none_between rs place =
-    let none : place - place ≡ 0 = omega arith in
-    ap (λ n. take n (drop place rs)) none
+none_between rs place = grind (arith, nat_tests)
 
 -- those up to a place, and then those from there
 pub between : (rs : List Record) (from mid to : ℕ) → from ≤ mid → mid ≤ to → to ≤ length rs → slice_range rs from to ≡ slice_range rs from mid ++ slice_range rs mid to
@@ -54,9 +53,7 @@ module _ (e : EnabledRows) where
   -- those of some texts, and behind them those of others
   pub more_fronts : (texts others : List (List ℕ)) (kept more : List Record) (lost rest : ℕ) → AreFrontsKept e texts kept lost → AreFrontsKept e others more rest
       → AreFrontsKept e (texts ++ others) (kept ++ more) (lost + rest)
-  more_fronts [] others kept more lost rest (none, nothing) are =
-      let sum : rest ≡ lost + rest = omega (arith, nothing) in
-      subst (λ rs. AreFrontsKept e others (rs ++ more) (lost + rest)) (sym none) (subst (λ n. AreFrontsKept e others more n) sum are)
+  more_fronts [] others kept more lost rest (none, nothing) are = grind (arith, nat_tests)
   more_fronts (text ∷ texts) others kept more lost rest (front, back, then, n, is, keeps, kept_is, lost_is) are =
       let sum : lost + rest ≡ length back + (n + rest) = omega (arith, lost_is) in (
         front,

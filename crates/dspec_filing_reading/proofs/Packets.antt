@@ -1,14 +1,13 @@
 -- What is read of packets, where more are written behind them.
-use Rattle.std.proofs.Common.{◌≡◌, ◌<◌, ◌≤◌, ◌^◌, ◌==◌, ◌++◌, ℕ, Bool, true, false, cond, List, [], ◌∷◌, refl, ap, sym, subst, ◌∙◌, arith}
-use Rattle.std.proofs.Common.{length, length-append, map, All}
-use Rattle.std.specs.Prelude.{filter, slice_index, slice_range}
-use Rattle.std.specs.List.{flat_map}
+use Rattle.std.proofs.lemmas.Bool.Decides.{nat_tests}
+use Rattle.std.proofs.Common.{◌≡◌, ◌<◌, ◌≤◌, ◌^◌, ◌==◌, ◌++◌, ℕ, Bool, true, false, List, [], ◌∷◌, refl, ap, sym, subst, ◌∙◌, arith, length, length-append, map, All}
+use Rattle.std.specs.Prelude.{slice_index, slice_range}
 use Rattle.std.proofs.lemmas.Bool.{eqb-true, eqb-false, ne_eqb}
 use Rattle.std.proofs.lemmas.Grind.{flat_map-append}
 use Rattle.std.proofs.lemmas.List.{append-nil, map-append}
 use Rattle.std.proofs.lemmas.List.Elements.{All-append, All-cons, All-nil, All-weaker, filter-append}
 use Rattle.dspec_filing_reading.specs.Words.{Record, EnabledRows, missed_packets, of_file, run_files, run_packet, run_packets, told_by, Accepts, AreRuns, IsFileRun, FileTells, PartTells, file_bytes}
-use Rattle.dspec_filing_reading.specs.Words.{event_of, layout_of, EventRead, PacketRead, ReadsPackets}
+use Rattle.dspec_filing_reading.specs.Words.{event_of, layout_of, EventRead, ReadsPackets}
 use Rattle.dspec_record.specs.declared.header.Header.TheVariants as header
 use Rattle.dspec_ctf.specs.declared.form.Form.TheVariants.{ByTime}
 use Rattle.dspec_ctf.specs.declared.names.Names.{Names}
@@ -24,9 +23,7 @@ AreFew ps = All (λ (p : ℕ × List ℕ). p.0 < 64) ps
 
 -- a file has the bytes of more packets behind what it has
 pub bytes_more : (file : ℕ) (ps qs : List (ℕ × List ℕ)) → file_bytes file (ps ++ qs) ≡ file_bytes file ps ++ file_bytes file qs
-bytes_more file ps qs =
-    ap (flat_map (λ (p : ℕ × List ℕ). p.1)) (filter-append (λ (p : ℕ × List ℕ). p.0 == file) ps qs)
-    ∙ flat_map-append (λ (p : ℕ × List ℕ). p.1) (filter (λ (p : ℕ × List ℕ). p.0 == file) ps) (filter (λ (p : ℕ × List ℕ). p.0 == file) qs)
+bytes_more file ps qs = grind (arith, nat_tests, filter-append, flat_map-append)
 
 one_few : (file : ℕ) (bytes : List ℕ) → file < 64 → AreFew ((file, bytes) ∷ [])
 one_few file bytes few = All-cons (λ (p : ℕ × List ℕ). p.0 < 64) (file, bytes) [] few (All-nil (λ (p : ℕ × List ℕ). p.0 < 64))
@@ -37,25 +34,11 @@ module _ (uuid : List ℕ) (e : EnabledRows) (names : Names) (hertz cpu : ℕ) w
 
   -- no packets and no records
   pub reads_none : Reads [] [] 0
-  reads_none = record {
-    few_files = All-nil (λ (p : ℕ × List ℕ). p.0 < 64);
-    files = [];
-    each = refl;
-    few = All-nil (λ file. file < 64);
-    tells = λ file. record {
-      packets = [];
-      read = refl;
-      has = refl;
-      misses = sym (told_same (file == 0) 0);
-      whose = All-nil (λ (p : PacketRead). (p.uuid ≡ uuid) × (p.cpu ≡ cpu));
-    };
-  }
+  reads_none = grind (arith, nat_tests, All-nil, told_same)
 
   -- no more packets and no more records
   pub reads_same : (ps : List (ℕ × List ℕ)) (stream rs : List Record) (place told : ℕ) → Reads ps stream told → Reads (ps ++ []) (stream ++ slice_range rs place place) told
-  reads_same ps stream rs place told reads =
-      subst (λ qs. Reads qs (stream ++ slice_range rs place place) told) (sym (append-nil ps))
-      (subst (λ qs. Reads ps qs told) (sym (ap (λ qs. stream ++ qs) (none_between rs place) ∙ append-nil stream)) reads)
+  reads_same ps stream rs place told reads = grind (arith, nat_tests, append-nil, none_between)
 
 module _ (laws : FilesLaws) (uuid : List ℕ) (e : EnabledRows) (names : Names) (hertz cpu : ℕ) (low : cpu < 2 ^ 32) (long : length uuid ≡ 16) (stamped : e.header ≡ header.Two) where
   abbrev Tells : ℕ → List ℕ → List EventRead → ℕ → Type 0
@@ -106,13 +89,7 @@ module _ (laws : FilesLaws) (uuid : List ℕ) (e : EnabledRows) (names : Names) 
       (told_more laws.join (layout_of e names (ByTime hertz)) uuid cpu (file_bytes 0 ps) bytes es told missed
       (subst (λ n. Tells n (file_bytes n ps) es told) (eqb-true file 0 is) tells)
       (laws.missed e names hertz uuid told missed cpu lasts stamped long (omega (arith, rises, small)) small low at) (omega (arith, rises))))
-  tells_missed ps lasts told missed es rises small at file tells false is =
-      let p : ℕ × List ℕ = (0, missed_packets uuid told missed cpu lasts) in
-      let other : (0 == file) ≡ false = ne_eqb 0 file (λ s. eqb-false file 0 is (sym s)) in
-      let none : file_bytes file (p ∷ []) ≡ [] = ap (λ b. flat_map (λ (x : ℕ × List ℕ). x.1) (cond b (p ∷ []) [])) other in
-      let stays : file_bytes file (ps ++ p ∷ []) ≡ file_bytes file ps = bytes_more file ps (p ∷ []) ∙ ap (λ xs. file_bytes file ps ++ xs) none ∙ append-nil (file_bytes file ps) in
-      subst (λ xs. Tells file xs es missed) (sym stays)
-      (subst (λ n. FileTells (layout_of e names (ByTime hertz)) uuid cpu (file_bytes file ps) es n) (told_other file told is ∙ sym (told_other file missed is)) tells)
+  tells_missed ps lasts told missed es rises small at file tells false is = grind (arith, nat_tests, ne_eqb, eqb-false, bytes_more, append-nil, told_other)
 
   pub reads_missed : (ps : List (ℕ × List ℕ)) (stream : List Record) (lasts : List ℕ) (told missed : ℕ) → told < missed → missed < 2 ^ 64 → slice_index lasts 0 < 2 ^ 64
       → Reads uuid e names hertz cpu ps stream told → Reads uuid e names hertz cpu (ps ++ (0, missed_packets uuid told missed cpu lasts) ∷ []) stream missed

@@ -1,4 +1,5 @@
 -- Records of a batch that are shared out to the files of their CPU.
+use Rattle.std.proofs.lemmas.Bool.Decides.{nat_tests}
 use Rattle.std.proofs.Common.{◌≡◌, ◌<◌, ◌≤◌, ◌-◌, ◌^◌, ◌==◌, ◌++◌, inl, inr, ℕ, zero, suc, Bool, true, false, cond, IsTrue, List, [], ◌∷◌, refl, ap, sym, subst}
 use Rattle.std.proofs.Common.{arith, drop, length, map, replicate, All}
 use Rattle.std.specs.Prelude.{slice_index, slice_range, slice_set, filter, zip}
@@ -96,10 +97,7 @@ RunsHaveAll = (lasts new : List ℕ) (rs : List Record) (from to : ℕ) (runs : 
 
 module _ (files_law : FilesHaveAll) (runs_law : RunsHaveAll) where
   pub run_few : (lasts : List ℕ) (rs : List Record) (place : ℕ) (run : Run) (new : List ℕ) → length lasts ≤ 64 → IsFileRun lasts rs place run new → (run.file < 64) × (length new ≤ 64)
-  run_few lasts rs place run new few is =
-      let all = files_law lasts (slice_range rs place run.end) (replicate (run.end - place) run.file) new few is.goes in
-      let below : run.file < length new = all_same (run.end - place) run.file (length new) (omega (arith, is.some)) all.2 in
-      (omega (arith, below, all.3), all.3)
+  run_few lasts rs place run new few is = grind (arith, nat_tests, all_same)
 
   runs_few : (lasts : List ℕ) (rs : List Record) (from : ℕ) (runs : List Run) (to : ℕ) (new : List ℕ) → length lasts ≤ 64 → AreRuns lasts rs from runs to new
       → All (λ (run : Run). run.file < 64) runs
@@ -125,7 +123,4 @@ module _ (files_law : FilesHaveAll) (runs_law : RunsHaveAll) where
   -- the last stamps behind one run, also where it isn't written
   pub lasts_after : (lasts : List ℕ) (rs : List Record) (place : ℕ) (run : Run) (new : List ℕ) → length lasts ≤ 64 → slice_index lasts 0 < 2 ^ 64 → All (λ r. r.stamp < 2 ^ 64) rs
       → IsFileRun lasts rs place run new → (length new ≤ 64) × (slice_index new 0 < 2 ^ 64)
-  lasts_after lasts rs place run new few first low is = (
-    (run_few lasts rs place run new few is).1,
-    spread_low lasts (slice_range rs place run.end) (replicate (run.end - place) run.file) new (range_low rs place run.end low) first is.goes,
-  )
+  lasts_after lasts rs place run new few first low is = grind (arith, nat_tests, run_few, spread_low, range_low)

@@ -1,6 +1,7 @@
 -- What is known of a CPU's files and of the packets that were handed out, between two calls.
+use Rattle.std.proofs.lemmas.Bool.Decides.{nat_tests}
 use Rattle.std.proofs.Common.{◌≡◌, ◌<◌, ◌≤◌, ◌+◌, ◌-◌, ◌^◌, ◌++◌, ℕ, List, [], ◌∷◌, Option, Some, None, refl, ap, sym, subst, ◌∙◌, arith, append_assoc, length, All}
-use Rattle.std.specs.Prelude.{slice_index, slice_range, unwrap_or}
+use Rattle.std.specs.Prelude.{slice_index, slice_range}
 use Rattle.dspec_filing_reading.specs.Words.{Record, EnabledRows, Accepts, IsFileRun, IsFoundRun, missed_packets, run_packet, CpuFiling, as_written, AreFrontsKept, Packets, all_written}
 use Rattle.dspec_record.specs.declared.header.Header.TheVariants as header
 use Rattle.dspec_ctf.specs.declared.names.Names.{Names}
@@ -43,64 +44,17 @@ module _ (uuid : List ℕ) (e : EnabledRows) (names : Names) (hertz cpu : ℕ) w
 
   -- what was handed out last counts as written
   pub settles : (f : CpuFiling) (w : Packets) (texts : List (List ℕ)) (count : ℕ) → Stand f w texts count → Stand (as_written f) (all_written w) texts count
-  settles f w texts count s = record {
-    uuid_is = s.uuid_is;
-    schema_is = s.schema_is;
-    cpu_is = s.cpu_is;
-    accepted = s.accepted;
-    from_place = omega arith;
-    within = s.within;
-    few = s.few;
-    first = s.first;
-    found = s.found;
-    kept = s.kept ++ slice_range f.records f.from f.place;
-    lost = s.lost;
-    keeps = λ to low high.
-        subst (λ rs. AreFrontsKept e texts rs (s.lost + (length f.records - to))) (behind s.kept f.records f.from f.place to s.from_place low high)
-        (s.keeps to (omega (arith, s.from_place, low)) high);
-    counted = s.counted;
-    written = s.all;
-    all = reads_same uuid e names hertz cpu (w.written ++ w.last) (s.kept ++ slice_range f.records f.from f.place) f.records f.place f.told s.all;
-    told = s.told;
-    told_before = omega arith;
-  }
+  settles f w texts count s = grind (arith, nat_tests, behind, reads_same)
 
 module _ (laws : FilesLaws) (uuid : List ℕ) (e : EnabledRows) (names : Names) (hertz cpu : ℕ) (low : cpu < 2 ^ 32) (long : length uuid ≡ 16) (stamped : e.header ≡ header.Two) where
   -- the next run is there: it was found before, or is now
   is_found : (f : CpuFiling) (w : Packets) (texts : List (List ℕ)) (count : ℕ) → Stands uuid e names hertz cpu f w texts count → (run : Run) (lasts : List ℕ) (q : Option Run) → f.run ≡ q
       → IsFoundRun q f run lasts → (length lasts ≤ 64) × (slice_index lasts 0 < 2 ^ 64) × WasFound f.records f.place lasts run
-  is_found f w texts count s run lasts (Some was) there (same, same_lasts) = (
-    subst (λ (xs : List ℕ). length xs ≤ 64) (sym same_lasts) s.few,
-    subst (λ (xs : List ℕ). slice_index xs 0 < 2 ^ 64) (sym same_lasts) s.first,
-    subst (λ (xs : List ℕ). WasFound f.records f.place xs run) (sym same_lasts) (s.found run (there ∙ ap Some (sym same))),
-  )
-  is_found f w texts count s run lasts None there is =
-      let after = lasts_after laws.have_all laws.runs_have f.lasts f.records f.place run lasts s.few s.first (stamps_low e f.records s.accepted) is in
-      (after.0, after.1, record { lasts = f.lasts; few = s.few; is_run = is })
+  is_found = grind (arith, nat_tests, lasts_after, stamps_low)
 
   pub finds : (f : CpuFiling) (w : Packets) (texts : List (List ℕ)) (count : ℕ) (run : Run) (lasts : List ℕ) → IsFoundRun f.run f run lasts
       → Stands uuid e names hertz cpu f w texts count → Stands uuid e names hertz cpu (record f { lasts = lasts; run = Some run }) w texts count
-  finds f w texts count run lasts is s =
-      let now = is_found f w texts count s run lasts f.run refl is in
-      record {
-        uuid_is = s.uuid_is;
-        schema_is = s.schema_is;
-        cpu_is = s.cpu_is;
-        accepted = s.accepted;
-        from_place = s.from_place;
-        within = s.within;
-        few = now.0;
-        first = now.1;
-        found = λ other same. subst (λ (r : Run). WasFound f.records f.place lasts r) (ap (λ (o : Option Run). unwrap_or o run) same) now.2;
-        kept = s.kept;
-        lost = s.lost;
-        keeps = s.keeps;
-        counted = s.counted;
-        written = s.written;
-        all = s.all;
-        told = s.told;
-        told_before = s.told_before;
-      }
+  finds f w texts count run lasts is s = grind (arith, nat_tests, is_found f w texts count s run lasts f.run refl is)
 
   -- a run's packet is handed out, where all that was missed is told
   pub hands_run : (f : CpuFiling) (ws : List (ℕ × List ℕ)) (texts : List (List ℕ)) (count : ℕ) (run : Run) → f.missed ≡ f.told → f.run ≡ Some run → f.missed < 2 ^ 64

@@ -1,7 +1,7 @@
 -- What a clean releases, slot by slot, and when a call of the consumer has ended.
 use Prim.Native.Nat.{zero, suc}
-use Rattle.std.proofs.Common.{◌≡◌, ◌≤◌, ◌<◌, ◌+◌, inl, inr, ℕ, Bool, true, false, not, ◌&&◌, ◌==◌, List}
-use Rattle.std.proofs.Common.{◌∷◌, ◌++◌, Option, Some, None, is_none, if◌then◌else◌, refl, sym, ap, ◌∙◌, subst, ⊎_elim, arith, true≢false}
+use Rattle.std.proofs.Common.{◌≡◌, ◌≤◌, ◌<◌, ◌+◌, inl, inr, ℕ, Bool, true, false, ◌&&◌, ◌==◌, List}
+use Rattle.std.proofs.Common.{◌∷◌, ◌++◌, Option, Some, None, is_none, if◌then◌else◌, refl, sym, ap, ◌∙◌, subst, ⊎_elim, arith}
 use Rattle.std.proofs.lemmas.Bool.Decides.{nat_tests}
 use Rattle.dspec_record.specs.declared.field.Shape.{Shape}
 use Rattle.dspec_interleaving.specs.Words.{Speculation, awaits, CpuProgress, ConsumerFlight, ConsumerProgress, present, verdict, is_undecided, solo, settled, is_busy, owed, releaser, word_at}
@@ -11,12 +11,11 @@ use Rattle.dspec_deeds.specs.declared.config.Config.{Config}
 use Rattle.dspec_deeds.specs.declared.calls.Actor.{Actor}
 use Rattle.dspec_deeds.specs.declared.calls.Actor.TheVariants as actor
 use Rattle.dspec_deeds.specs.declared.calls.Answer.{Answer}
-use Rattle.dspec_deeds.specs.declared.calls.Answer.TheVariants as answer
 use Rattle.dspec_deeds.specs.declared.deed.Deed.{Deed}
 use Rattle.dspec_deeds.specs.declared.deed.Deed.TheVariants.{Release}
-use Rattle.dspec_interleaving.specs.declared.flight.ConsumerFlight.TheVariants as consumer
-use Rattle.dspec_deeds.proofs.TestLemmas.{either_way, and_tells}
-use Rattle.dspec_interleaving.proofs.WholeSettling.{awaits_is}
+use Rattle.dspec_deeds.proofs.TestLemmas.{either_way, and_tells, and_false, off}
+use Rattle.dspec_deeds.proofs.Awaiting.{awaits_is}
+use Rattle.dspec_interleaving.proofs.Tests.{is_nothing, not_tells}
 
 -- behind a step that no other call overlaps, no release is owed
 pub record IsQuiet (k : Config) (h : List Deed) : Type 0 where
@@ -24,60 +23,58 @@ pub record IsQuiet (k : Config) (h : List Deed) : Type 0 where
   pub rests : owed h ≡ 0
 
 module _ (shape : ℕ → Option Shape) where
-  pub ended_stays : (n : ℕ) (a : Actor) (st : PlayState) (r : Answer) → on_to_end shape n a st (Some r) ≡ record { state = st; answer = Some r }
-  ended_stays zero a st r = refl
-  ended_stays (suc n) a st r = refl
+  pub answer_stays : (n : ℕ) (a : Actor) (st : PlayState) (r : Answer) → on_to_end shape n a st (Some r) ≡ record { state = st; answer = Some r }
+  answer_stays zero a st r = refl
+  answer_stays (suc n) a st r = refl
 
-  more_steps : (n m : ℕ) (a : Actor) (st : PlayState) (r : Option Answer) (to : PlayState) (x : Answer) → n ≤ m
+  pub more_steps : (n m : ℕ) (a : Actor) (st : PlayState) (r : Option Answer) (to : PlayState) (x : Answer) → n ≤ m
       → on_to_end shape n a st r ≡ record { state = to; answer = Some x } → on_to_end shape m a st r ≡ record { state = to; answer = Some x }
   more_steps zero m a st r to x le e =
       let at : r ≡ Some x = ap (λ (l : Stepped). l.answer) e in
-      ap (on_to_end shape m a st) at ∙ (ended_stays m a st x ∙ (sym (λ i. record { state = st; answer = at i }) ∙ e))
+      ap (on_to_end shape m a st) at ∙ (answer_stays m a st x ∙ (sym (λ i. record { state = st; answer = at i }) ∙ e))
   more_steps (suc n) zero a st r to x le e = absurd (omega arith)
   more_steps (suc n) (suc m) a st (Some r) to x le e = e
   more_steps (suc n) (suc m) a st None to x le e = more_steps n m a (step shape a st).state (step shape a st).answer to x (omega arith) e
+
+-- the consumer's side behind a call, and one step later
+abbrev pub at_rest : ConsumerProgress
+at_rest = record { flight = None; steps = 0 }
+
+abbrev pub later_side : ConsumerProgress → ConsumerFlight → ConsumerProgress
+later_side side f = record { flight = Some f; steps = side.steps + 1 }
 
 module _ (shape : ℕ → Option Shape) (st : PlayState) where
   -- the consumer's side, the CPUs' and the list
   abbrev pub stands_at : ConsumerProgress → List CpuProgress → List Deed → PlayState
   stands_at side all h = record { config = st.config; deeds = h; progresses = all; side = side }
 
-  abbrev pub at_rest : ConsumerProgress
-  at_rest = record { flight = None; steps = 0 }
-
   -- what the state becomes behind a whole call of the consumer
   abbrev pub left_by : WholeConsumer → Stepped
   left_by w = record { state = stands_at at_rest w.progresses w.list; answer = Some w.answer }
 
-  -- behind a step, so many more steps of the call lead to what the whole call leaves
-  pub record Clears (n : ℕ) (h : List Deed) (m : ConsumerStep) (w : WholeConsumer) : Type 0 where
-    pub is : on_to_end shape n actor.Consumer (stands_at m.side m.progresses (m.deeds ++ h)) m.answer ≡ left_by w
+  -- behind a step, more steps of the call lead to what the whole call leaves
+  pub record Clears (h : List Deed) (m : ConsumerStep) (w : WholeConsumer) : Type 0 where
+    pub steps : ℕ
+    pub is : on_to_end shape steps actor.Consumer (stands_at m.side m.progresses (m.deeds ++ h)) m.answer ≡ left_by w
 
-  pub clear_ended : (n : ℕ) (h : List Deed) (side : ConsumerProgress) (all : List CpuProgress) (ds : List Deed) (a : Answer)
-      → Clears n h (stops st.config h side all ds a) record { list = ds ++ h; progresses = all; answer = a }
-  clear_ended n h side all ds a = record { is = ended_stays shape n actor.Consumer _ a }
+module _ {shape : ℕ → Option Shape} {st : PlayState} {h : List Deed} {all : List CpuProgress} where
+  pub clear_ended : {ds : List Deed} {a : Answer} (side : ConsumerProgress) → Clears shape st h (stops st.config h side all ds a) record { list = ds ++ h; progresses = all; answer = a }
+  clear_ended side = record { steps = 0; is = refl }
 
-  abbrev pub later_side : ConsumerProgress → ConsumerFlight → ConsumerProgress
-  later_side side f = record { flight = Some f; steps = side.steps + 1 }
+  pub clear_goes : {ds : List Deed} {f : ConsumerFlight} {w : WholeConsumer} (side : ConsumerProgress)
+      → Clears shape st (ds ++ h) (consumer_step st.config (ds ++ h) (later_side side f) all f) w → Clears shape st h (keeps_on st.config h side all ds f) w
+  clear_goes side l = record { steps = suc l.steps; is = l.is }
 
-  pub clear_goes : (n : ℕ) (h : List Deed) (side : ConsumerProgress) (all : List CpuProgress) (ds : List Deed) (f : ConsumerFlight) (w : WholeConsumer)
-      → Clears n (ds ++ h) (consumer_step st.config (ds ++ h) (later_side side f) all f) w → Clears (suc n) h (keeps_on st.config h side all ds f) w
-  clear_goes n h side all ds f w l = record { is = l.is }
+module _ {shape : ℕ → Option Shape} {st : PlayState} {h : List Deed} where
+  pub clear_test : (b : Bool) {x y : ConsumerStep} {w : WholeConsumer} → (b ≡ true → Clears shape st h x w) → (b ≡ false → Clears shape st h y w) → Clears shape st h (if b then x else y) w
+  clear_test true t f = t refl
+  clear_test false t f = f refl
 
-  pub clear_more : (n m : ℕ) (h : List Deed) (to : ConsumerStep) (w : WholeConsumer) → n ≤ m → Clears n h to w → Clears m h to w
-  clear_more n m h to w le l = record { is = more_steps shape n m actor.Consumer _ _ _ _ le l.is }
+  pub clear_true : (b : Bool) {x : ConsumerStep} (y : ConsumerStep) {w : WholeConsumer} → b ≡ true → Clears shape st h x w → Clears shape st h (if b then x else y) w
+  clear_true b y e l = clear_test b (λ t. l) (λ f. off b e f)
 
-  pub clear_true : (n : ℕ) (h : List Deed) (b : Bool) (x y : ConsumerStep) (w : WholeConsumer) → b ≡ true → Clears n h x w → Clears n h (if b then x else y) w
-  clear_true n h true x y w e l = l
-  clear_true n h false x y w e l = absurd (true≢false (sym e))
-
-  pub clear_false : (n : ℕ) (h : List Deed) (b : Bool) (x y : ConsumerStep) (w : WholeConsumer) → b ≡ false → Clears n h y w → Clears n h (if b then x else y) w
-  clear_false n h true x y w e l = absurd (true≢false e)
-  clear_false n h false x y w e l = l
-
-  pub clear_test : (n : ℕ) (h : List Deed) (b : Bool) (x y : ConsumerStep) (w : WholeConsumer) → (b ≡ true → Clears n h x w) → (b ≡ false → Clears n h y w) → Clears n h (if b then x else y) w
-  clear_test n h true x y w t f = t refl
-  clear_test n h false x y w t f = f refl
+  pub clear_false : (b : Bool) (x : ConsumerStep) {y : ConsumerStep} {w : WholeConsumer} → b ≡ false → Clears shape st h y w → Clears shape st h (if b then x else y) w
+  clear_false b x e l = clear_test b (λ t. off b t e) (λ f. l)
 
 assoc : (x y z : Bool) → ((x && y) && z) ≡ (x && (y && z))
 assoc true y z = refl
@@ -101,7 +98,7 @@ module _ (k : Config) where
   -- one CPU's settlement that is missing
   pub one_missing : (n j : ℕ) (id : Speculation) (h : List Deed) → settled n id h ≡ false → all_settled k (suc n + j) id h ≡ false
   one_missing n zero id h e = let same : suc n + 0 ≡ suc n =
-      omega arith in ap (λ m. all_settled k m id h) same ∙ (ap (λ b. all_settled k n id h && b) e ∙ Rattle.dspec_deeds.proofs.TestLemmas.and_false (all_settled k n id h))
+      omega arith in ap (λ m. all_settled k m id h) same ∙ (ap (λ b. all_settled k n id h && b) e ∙ and_false (all_settled k n id h))
   one_missing n (suc j) id h e = let up : suc n + suc j ≡ suc (suc n + j) = omega arith in ap (λ m. all_settled k m id h) up ∙ ap (λ b. b && settled (suc n + j) id h) (one_missing n j id h e)
 
   -- a slot that can be released may be, by the consumer
@@ -109,26 +106,18 @@ module _ (k : Config) where
   release_rests s h q e =
       let a = and_tells (is_busy s h) _ e in
       let b = and_tells (is_none (solo (present s h) h)) _ a.1 in
-      let alone = none_is (solo (present s h) h) b.0 in
+      let alone = is_nothing (solo (present s h) h) b.0 in
       record {
         sound = (
           q.sound,
           (
             inl q.rests,
-            ((unnot (is_undecided (verdict (present s h) h)) a.0, inr (each_settled k.cpus (present s h) h b.1)), λ c by. absurd (consumer_no c (ap releaser (sym alone) ∙ by))),
+            ((not_tells (is_undecided (verdict (present s h) h)) a.0, inr (each_settled k.cpus (present s h) h b.1)), λ c by. absurd (consumer_no c (ap releaser (sym alone) ∙ by))),
           ),
         );
         rests = refl;
       }
     where
-      unnot : (b : Bool) → not b ≡ true → b ≡ false
-      unnot true e = absurd (true≢false (sym e))
-      unnot false e = refl
-
-      none_is : (x : Option ℕ) → is_none x ≡ true → x ≡ None
-      none_is None e = refl
-      none_is (Some a) e = absurd (true≢false (sym e))
-
       consumer_no : (c : ℕ) → ◌≡◌ {A = Actor} actor.Consumer (actor.Cpu c) → ⊥
       consumer_no c e = cc (e)
 

@@ -1,23 +1,42 @@
--- What the close of a list adds to its parts.
-use Rattle.std.proofs.Common.{◌≡◌, ℕ, zero, suc, ◌<◌, ◌≤◌, Bool, true, false, ◌==◌, if◌then◌else◌, List, ◌∷◌, Option, None, refl, sym, ap, ◌∙◌, subst, ⊎_elim, length, arith}
-use Rattle.std.proofs.lemmas.Bool.Decides.{nat_tests}
+-- What the close of a session enters is of its CPUs, and what it adds to the parts of a list.
+use Rattle.std.proofs.Common.{◌≡◌, ℕ, zero, suc, ◌<◌, ◌≤◌, Bool, true, false, if◌then◌else◌, List, ◌∷◌, Option, subst, arith, ◌==◌, None, refl, sym, ap, ◌∙◌, ⊎_elim, length}
 use Rattle.dspec_record.specs.declared.field.Shape.{Shape}
-use Rattle.dspec_interleaving.specs.Words.{Speculation, settle_at, SlotState, part, ack, present, scan, word_at, same_actor, CanClose, is_granted, closed_slot, closed_slots, closed_cpus, closing}
-use Rattle.dspec_interleaving.specs.Words.{Headline, IsLegal, settle_fate, start_fault, ReadsAlike, IsWoven, own_closed_slot, own_closed, IsCloseOf}
-use Rattle.dspec_word.specs.declared.code.Code.{Code}
-use Rattle.dspec_word.specs.declared.code.Code.TheVariants.{Discarding}
+use Rattle.dspec_interleaving.specs.Words.{Speculation, settle_at, ack, present, word_at, HasAuthors, settle_fate, is_granted, closed_slots, closed_cpus, closing, SlotState, part, scan, same_actor}
+use Rattle.dspec_interleaving.specs.Words.{CanClose, closed_slot, Headline, IsLegal, start_fault, ReadsAlike, IsWoven, own_closed_slot, own_closed, IsCloseOf}
 use Rattle.dspec_deeds.specs.declared.config.Config.{Config}
-use Rattle.dspec_deeds.specs.declared.calls.Actor.{Actor}
-use Rattle.dspec_deeds.specs.declared.calls.Actor.TheVariants.{Cpu, Consumer}
 use Rattle.dspec_deeds.specs.declared.deed.DecideFate.{DecideFate}
-use Rattle.dspec_deeds.specs.declared.deed.DecideFate.TheVariants as decided
 use Rattle.dspec_deeds.specs.declared.deed.Deed.{Deed}
 use Rattle.dspec_deeds.specs.declared.deed.Deed.TheVariants.{Settle}
+use Rattle.std.proofs.lemmas.Bool.Decides.{nat_tests}
+use Rattle.dspec_word.specs.declared.code.Code.{Code}
+use Rattle.dspec_word.specs.declared.code.Code.TheVariants.{Discarding}
+use Rattle.dspec_deeds.specs.declared.calls.Actor.{Actor}
+use Rattle.dspec_deeds.specs.declared.calls.Actor.TheVariants.{Cpu, Consumer}
+use Rattle.dspec_deeds.specs.declared.deed.DecideFate.TheVariants as decided
 use Rattle.dspec_deeds.proofs.TestLemmas.{either_way, same_number, cpu_is_itself, other_number}
 use Rattle.dspec_interleaving.proofs.Closing.{closing_closes}
-use Rattle.dspec_interleaving.proofs.ClosedAuthors.{closing_authors}
 use Rattle.dspec_deeds.proofs.BareReads.{scan_bare}
 use Rattle.dspec_deeds.proofs.OwnReads.{block_alike, reads}
+
+module _ (shape : ℕ → Option Shape) (k : Config) where
+  -- what the close enters is of CPUs of the session
+  slots_authors : (c n : ℕ) (g : List Deed) → c < k.cpus → HasAuthors k g → HasAuthors k (closed_slots shape k c n g)
+  slots_authors c zero g lt authors = authors
+  slots_authors c (suc n) g lt authors =
+      let f = closed_slots shape k c n g in
+      either (is_granted (settle_at (word_at (suc n) f) (ack c (suc n) f))) (present (suc n) f) (settle_fate shape k c f (present (suc n) f) (word_at (suc n) f).code) (slots_authors c n g lt authors)
+    where
+      either : (b : Bool) (id : Speculation) (x : DecideFate) → HasAuthors k (closed_slots shape k c n g)
+          → HasAuthors k (if b then Settle c id x ∷ closed_slots shape k c n g else closed_slots shape k c n g)
+      either true id x all = (all, λ a by. let same : c ≡ a = cc in subst (λ y. y < k.cpus) same lt)
+      either false id x all = all
+
+  cpus_authors : (n : ℕ) (g : List Deed) → n ≤ k.cpus → HasAuthors k g → HasAuthors k (closed_cpus shape k n g)
+  cpus_authors zero g le authors = authors
+  cpus_authors (suc n) g le authors = slots_authors n k.nspec (closed_cpus shape k n g) (omega arith) (cpus_authors n g (omega arith) authors)
+
+  pub closing_authors : (g : List Deed) → HasAuthors k g → HasAuthors k (closing shape k g)
+  closing_authors g = cpus_authors k.cpus g (omega arith)
 
 -- all words that a list shows
 abbrev words_of : List Deed → ℕ → SlotState

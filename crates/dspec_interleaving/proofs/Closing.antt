@@ -26,6 +26,7 @@ use Rattle.dspec_deeds.proofs.Emptied.{settled_empty, solo_empty, past_empty}
 use Rattle.dspec_deeds.proofs.Going.{GoesOn}
 use Rattle.dspec_interleaving.proofs.StepDeeds.{served_deeds}
 use Rattle.dspec_interleaving.proofs.CpuSteps.{cpu_step_stands}
+use Rattle.dspec_interleaving.proofs.Tests.{not_tells}
 
 -- a play with no call of a CPU in flight can close
 pub can_close : (shape : ℕ → Option Shape) (st : PlayState) → IsCoherent shape st → ((c : ℕ) → c < st.config.cpus → (progress_of st.progresses c).flight ≡ None) → CanClose shape st.config st.deeds
@@ -83,7 +84,7 @@ module _ (shape : ℕ → Option Shape) (k : Config) (fine : start_fault k ≡ N
   slot_settles c s h rest lt slot = ⊎_elim
       (λ (t : (awaits (word_at s h).code && nat_le (ack c s h) (issue s h)) ≡ true).
       let both = and_tells (awaits (word_at s h).code) (nat_le (ack c s h) (issue s h)) t in
-      let not_yet : settled c (present s h) h ≡ false = not_true (settled c (present s h) h) (sym (ack_tells k c s h rest.legal.0) ∙ both.1) in
+      let not_yet : settled c (present s h) h ≡ false = not_tells (settled c (present s h) h) (sym (ack_tells k c s h rest.legal.0) ∙ both.1) in
       let goes = settles_legally c s h rest lt slot both.0 not_yet in
       rw (granted_is (awaits (word_at s h).code && nat_le (ack c s h) (issue s h)), t) (
         record {
@@ -100,10 +101,6 @@ module _ (shape : ℕ → Option Shape) (k : Config) (fine : start_fault k ≡ N
       (none_settled h rest, λ waits. before (awaits (word_at s h).code) (nat_le (ack c s h) (issue s h)) (settled c (present s h) h) waits f (ack_tells k c s h rest.legal.0)))
       (either_way (awaits (word_at s h).code && nat_le (ack c s h) (issue s h)))
     where
-      not_true : (b : Bool) → not b ≡ true → b ≡ false
-      not_true true e = sym e
-      not_true false e = refl
-
       before : (a b x : Bool) → a ≡ true → (a && b) ≡ false → b ≡ not x → x ≡ true
       before a b true w f e = refl
       before true b false w f e = sym f ∙ e

@@ -16,7 +16,8 @@ use Rattle.dspec_interleaving.proofs.OthersStand.{others_stand}
 use Rattle.dspec_deeds.proofs.Going.{authors_go_on}
 use Rattle.dspec_interleaving.proofs.CpuSteps.{cpu_step_stands}
 use Rattle.dspec_interleaving.proofs.StateStands.{side_stands}
-use Rattle.dspec_interleaving.proofs.ConsumerSteps.{set_stands, consumer_keeps}
+use Rattle.dspec_interleaving.proofs.ConsumerSteps.{consumer_keeps}
+use Rattle.dspec_interleaving.proofs.Replacing.{put}
 
 -- a CPU of the session, or the consumer
 abbrev pub IsActor : Config → Actor → Type 0
@@ -47,11 +48,8 @@ start_coherent shape k fine = record {
 
 -- where no call is in flight no sealed batch waits for its push
 pushes_any : (place : Spare) (next : Option CallPlace) → PushesNext place None → PushesNext place next
-pushes_any spare.InHand next p = tt
 pushes_any spare.Sealed next p = absurd (cc (p))
-pushes_any spare.Handed next p = tt
-pushes_any spare.Out next p = tt
-pushes_any spare.GivenBack next p = tt
+pushes_any place next p = tt
 
 -- a call of a CPU that begins
 pub begin_cpu_coherent : (shape : ℕ → Option Shape) (st : PlayState) (c : ℕ) (o : CpuOp) → IsCoherent shape st → c < st.config.cpus → (progress_of st.progresses c).flight ≡ None
@@ -72,7 +70,7 @@ begin_cpu_coherent shape st c o ok lt idle =
       legal = ok.legal;
       authors = ok.authors;
       rests = ok.rests;
-      stands = set_stands st.config st.deeds st.progresses c _ ok.count (λ b less apart. ok.stands b less) (λ less. now);
+      stands = put st.config.cpus (λ b x. ProgressStands st.config b st.deeds x) st.progresses c _ ok.count (λ b less apart. ok.stands b less) (λ less. now);
       side = ok.side;
     }
 
@@ -108,7 +106,7 @@ module _ (shape : ℕ → Option Shape) where
         legal = did.goes.legal;
         authors = authors_go_on k (actor.Cpu c) m.deeds h (λ a e. let same : c ≡ a = cc in subst (λ x. x < k.cpus) same lt) ok.authors did.goes.by;
         rests = did.goes.rests;
-        stands = set_stands k (m.deeds ++ h) st.progresses c m.progress ok.count
+        stands = put k.cpus (λ b x. ProgressStands k b (m.deeds ++ h) x) st.progresses c m.progress ok.count
             (λ b less apart. others_stand shape k (actor.Cpu c) b m.deeds h (progress_of st.progresses b) ok.rests did.goes apart less (ok.stands b less)) (λ less. did.stands);
         side = side_stands shape k c m.deeds h ok.rests did.goes st.side st.side.flight ok.side;
       }
@@ -133,9 +131,13 @@ module _ (shape : ℕ → Option Shape) where
   step_coherent (actor.Cpu c) st ok there = step_cpu_coherent st c (progress_of st.progresses c).flight ok there refl
   step_coherent actor.Consumer st ok there = step_consumer_coherent st st.side.flight ok refl
 
-  -- a whole call, or as much of it as the number of steps allows
+  -- what each step of an actor keeps, a whole call keeps, or as much of it as the number of steps allows
+  pub to_end_keeps : (P : PlayState → Type 0) (a : Actor) → ((st : PlayState) → IsCoherent shape st → IsActor st.config a → P st → P (step shape a st).state)
+      → (n : ℕ) (st : PlayState) (r : Option Answer) → IsCoherent shape st → IsActor st.config a → P st → P (on_to_end shape n a st r).state
+  to_end_keeps P a keeps zero st r ok there p = p
+  to_end_keeps P a keeps (suc n) st (Some r) ok there p = p
+  to_end_keeps P a keeps (suc n) st None ok there p =
+      to_end_keeps P a keeps n (step shape a st).state (step shape a st).answer (step_coherent a st ok there) (subst (λ k. IsActor k a) (sym (step_config a st)) there) (keeps st ok there p)
+
   pub on_to_end_coherent : (n : ℕ) (a : Actor) (st : PlayState) (r : Option Answer) → IsCoherent shape st → IsActor st.config a → IsCoherent shape (on_to_end shape n a st r).state
-  on_to_end_coherent zero a st r ok there = ok
-  on_to_end_coherent (suc n) a st (Some r) ok there = ok
-  on_to_end_coherent (suc n) a st None ok there =
-      on_to_end_coherent n a (step shape a st).state (step shape a st).answer (step_coherent a st ok there) (subst (λ k. IsActor k a) (sym (step_config a st)) there)
+  on_to_end_coherent n a st r ok there = to_end_keeps (IsCoherent shape) a (λ x now lt p. step_coherent a x now lt) n st r ok there ok

@@ -1,12 +1,12 @@
 -- A step of the consumer keeps its own side and every CPU's side.
-use Rattle.std.proofs.Common.{◌≡◌, ℕ, ◌+◌, ◌-◌, ◌*◌, ◌<◌, ◌≤◌, true, false, ◌==◌, List, [], ◌∷◌, ◌++◌, length, slice_set, Option, Some, None, refl, sym, ap, ◌∙◌, subst, ⊎_elim, inl, inr, arith}
+use Rattle.std.proofs.Common.{◌≡◌, ℕ, ◌+◌, ◌-◌, ◌*◌, ◌<◌, ◌≤◌, true, false, ◌==◌, List, [], ◌∷◌, ◌++◌, length, Option, Some, None, refl, sym, ap, ◌∙◌, subst, ⊎_elim, inl, inr, arith}
 use Rattle.std.specs.Prelude.{nat_lt}
 use Rattle.std.proofs.lemmas.Bool.Decides.{nat_tests}
-use Rattle.std.proofs.lemmas.List.{length-set, get_or-set_same, get_or-set_other}
+use Rattle.std.proofs.lemmas.List.{length-set}
 use Rattle.dspec_record.specs.declared.field.Shape.{Shape}
 use Rattle.dspec_interleaving.specs.Words.{awaits, SlotState, CpuProgress, ConsumerFlight, ConsumerProgress, CallPlace, Spare, halted, issue, present, settled, releaser, author, owed, word_at, ack}
 use Rattle.dspec_interleaving.specs.Words.{seals, IsAllowed, ConsumerStep, same_word, consumer_step, consumer_begun, changes, stops, takes_at, gives_at, next_slot, loads_slot, loads_ack, reaps}
-use Rattle.dspec_interleaving.specs.Words.{start_fault, IsSlot, StandsProgress, SettledBelow, StandsConsumer, StandsState, SpareCounts, ProgressStands, progress_of, idle_progress}
+use Rattle.dspec_interleaving.specs.Words.{start_fault, IsSlot, StandsProgress, SettledBelow, StandsConsumer, StandsState, SpareCounts, ProgressStands, progress_of}
 use Rattle.dspec_deeds.specs.declared.config.Config.{Config}
 use Rattle.dspec_deeds.specs.declared.calls.Actor.TheVariants.{Consumer}
 use Rattle.dspec_deeds.specs.declared.calls.Answer.{Answer}
@@ -24,25 +24,13 @@ use Rattle.dspec_deeds.proofs.Acked.{acked}
 use Rattle.dspec_deeds.proofs.Awaiting.{awaiting}
 use Rattle.dspec_deeds.proofs.Going.{GoesOn}
 use Rattle.dspec_interleaving.proofs.OthersStand.{others_stand}
+use Rattle.dspec_interleaving.proofs.Replacing.{put}
 
 -- a side's flight stands where it keeps its steps, and a sealed buffer stays one
 reseated : (k : Config) (c : ℕ) (h : List Deed) (me : CpuProgress) (p : Spare) (n t : ℕ) (f : Option CallPlace) → (me.spare ≡ spare.Sealed → p ≡ spare.Sealed) → StandsProgress k c h me f
     → StandsProgress k c h (record me { spare = p; want = n; takes = t }) f
-reseated k c h me p n t None keeps st = st
 reseated k c h me p n t (Some cpu.ServicePush) keeps st = (st.0, st.1, keeps st.2)
-reseated k c h me p n t (Some (cpu.Begun o)) keeps st = st
-reseated k c h me p n t (Some (cpu.ScanLoad s)) keeps st = st
-reseated k c h me p n t (Some (cpu.ScanTry s w)) keeps st = st
-reseated k c h me p n t (Some (cpu.SpeculateLoad id r)) keeps st = st
-reseated k c h me p n t (Some (cpu.SpeculateTry id r w)) keeps st = st
-reseated k c h me p n t (Some (cpu.CommitLoad id)) keeps st = st
-reseated k c h me p n t (Some (cpu.CommitTry id w)) keeps st = st
-reseated k c h me p n t (Some (cpu.CommitRelease id d)) keeps st = st
-reseated k c h me p n t (Some (cpu.DiscardLoad id)) keeps st = st
-reseated k c h me p n t (Some (cpu.DiscardTry id w)) keeps st = st
-reseated k c h me p n t (Some cpu.ServicePop) keeps st = st
-reseated k c h me p n t (Some (cpu.ServiceLoad s sum)) keeps st = st
-reseated k c h me p n t (Some (cpu.ServiceStore s w sum)) keeps st = st
+reseated k c h me p n t f keeps st = st
 
 -- a CPU's progress once the consumer has asked, taken or given back
 module _ (k : Config) (c : ℕ) (h : List Deed) (me : CpuProgress) (st : ProgressStands k c h me) where
@@ -74,20 +62,6 @@ module _ (k : Config) (c : ℕ) (h : List Deed) (me : CpuProgress) (st : Progres
 abbrev pub AllStand : Config → List Deed → List CpuProgress → Type 0
 AllStand k h all = (c : ℕ) → c < k.cpus → ProgressStands k c h (progress_of all c)
 
--- one side replaced by one that stands; a number past the last replaces none
-pub set_stands : (k : Config) (h : List Deed) (all : List CpuProgress) (a : ℕ) (me : CpuProgress) → length all ≡ k.cpus
-    → ((c : ℕ) → c < k.cpus → (c == a) ≡ false → ProgressStands k c h (progress_of all c)) → (a < k.cpus → ProgressStands k a h me) → AllStand k h (slice_set all a me)
-set_stands k h all a me count stand st c lt = ⊎_elim
-    (λ (t : (c == a) ≡ true).
-    let is = same_number c a t in
-    let lt' : a < k.cpus = omega arith in
-    let here : progress_of (slice_set all a me) a ≡ me = get_or-set_same all a me idle_progress (omega arith) in
-    subst (λ x. ProgressStands k x h (progress_of (slice_set all a me) x)) (sym is) (subst (ProgressStands k a h) (sym here) (st lt')))
-    (λ (f : (c == a) ≡ false).
-    let there : progress_of (slice_set all a me) c ≡ progress_of all c = get_or-set_other all a c me idle_progress (numbers_differ c a f) in
-    subst (ProgressStands k c h) (sym there) (stand c lt f))
-    (either_way (c == a))
-
 -- what a step of the consumer keeps
 pub record ConsumerKeeps (shape : ℕ → Option Shape) (k : Config) (h : List Deed) (m : ConsumerStep) : Type 0 where
   pub goes : GoesOn shape k Consumer m.deeds h
@@ -114,21 +88,15 @@ module _ (shape : ℕ → Option Shape) (k : Config) (h : List Deed) (side : Con
   ended ds a goes = record { goes = goes; side = refl; count = count; stand = all_stand ds goes }
 
   changed : (c : ℕ) (me : CpuProgress) (a : Answer) → (c < k.cpus → ProgressStands k c h me) → ConsumerKeeps shape k h (changes k h side all c me a)
-  changed c me a st = record { goes = none; side = refl; count = length-set all c me ∙ count; stand = set_stands k h all c me count (λ b lt apart. stand b lt) st }
+  changed c me a st = record { goes = none; side = refl; count = length-set all c me ∙ count; stand = put k.cpus (λ b x. ProgressStands k b h x) all c me count (λ b lt apart. stand b lt) st }
 
   took : (c : ℕ) (p : Spare) → (progress_of all c).spare ≡ p → ConsumerKeeps shape k h (takes_at k h side all c (progress_of all c) p)
   took c spare.Handed e = changed c _ _ (λ lt. taken_stands k c h (progress_of all c) (stand c lt) e)
-  took c spare.InHand e = ended [] answer.TookNone none
-  took c spare.Sealed e = ended [] answer.TookNone none
-  took c spare.Out e = ended [] answer.TookNone none
-  took c spare.GivenBack e = ended [] answer.TookNone none
+  took c place e = ended [] answer.TookNone none
 
   gave : (c : ℕ) (p : Spare) → (progress_of all c).spare ≡ p → ConsumerKeeps shape k h (gives_at k h side all c (progress_of all c) p)
   gave c spare.Out e = changed c _ _ (λ lt. given_stands k c h (progress_of all c) (stand c lt) e)
-  gave c spare.InHand e = ended [] (answer.GaveBack false) none
-  gave c spare.Sealed e = ended [] (answer.GaveBack false) none
-  gave c spare.Handed e = ended [] (answer.GaveBack false) none
-  gave c spare.GivenBack e = ended [] (answer.GaveBack false) none
+  gave c place e = ended [] (answer.GaveBack false) none
 
   stopped : ConsumerKeeps shape k h (consumer_begun k h side all consumer_op.Stop)
   stopped = ⊎_elim

@@ -1,18 +1,16 @@
 -- The counters of a side fit: each is at most the number of the deeds. The issue of what was given out fits a word.
-use Rattle.std.proofs.Common.{◌≡◌, ℕ, ◌+◌, ◌<◌, ◌≤◌, ◌^◌, Bool, true, false, not, Option, Some, None, true≢false, List}
+use Rattle.std.proofs.Common.{◌≡◌, ℕ, ◌+◌, ◌<◌, ◌≤◌, ◌^◌, Bool, true, false, not, None, true≢false, List}
 use Rattle.std.proofs.Common.{[], ◌∷◌, ◌++◌, length, reverse, if◌then◌else◌, refl, ap, ◌∙◌, sym, subst, ⊎_elim, arith, length-append}
-use Rattle.std.specs.Prelude.{nat_lt, nat_le}
+use Rattle.std.specs.Prelude.{nat_lt}
 use Rattle.std.proofs.lemmas.Bool.Decides.{nat_tests}
 use Rattle.std.proofs.lemmas.List.{length-reverse}
-use Rattle.dspec_interleaving.specs.Words.{Speculation, is_between, is_size, start_fault, opens, opened, issue, present, Spare, SpareCounts, is_call, calls, seals_now, seals, is_drop, growing}
-use Rattle.dspec_interleaving.specs.Words.{IsSound, Follows}
+use Rattle.dspec_interleaving.specs.Words.{Speculation, start_fault, opens, opened, issue, present, Spare, SpareCounts, is_call, calls, seals_now, seals, is_drop, growing, IsSound, Follows}
 use Rattle.dspec_deeds.specs.declared.config.Config.{Config}
 use Rattle.dspec_deeds.specs.declared.deed.Deed.{Deed}
 use Rattle.dspec_deeds.specs.declared.deed.Deed.TheVariants.{Opened}
-use Rattle.dspec_deeds.specs.declared.config.StartFault.{StartFault}
-use Rattle.dspec_deeds.specs.declared.config.StartFault.TheVariants.{Cpus, Specs, BufSize, SpecSize, Issues}
 use Rattle.dspec_interleaving.specs.declared.flight.Spare.TheVariants as spare
 use Rattle.dspec_deeds.proofs.TestLemmas.{or_tells, and_tells, same_id_tells}
+use Rattle.dspec_interleaving.proofs.Tests.{all_fit}
 
 -- one at the most
 one_at_most : (b : Bool) → (if b then 1 else 0) ≤ 1
@@ -63,27 +61,11 @@ issue_below k (d ∷ h) id s e = ⊎_elim
     go d f t = absurd (true≢false (sym t))
 issue_below k [] id s e = absurd (true≢false (sym e))
 
--- what a configuration's ranges say of the issues
-most_issues : (b0 b1 b2 b3 b4 : Bool) (rest : Option StartFault)
-    → (if not b0 then Some Cpus else (if not b1 then Some Specs else (if not b2 then Some BufSize else (if not b3 then Some SpecSize else (if not b4 then Some Issues else rest))))) ≡ None → b4 ≡ true
-most_issues true true true true true rest e = refl
-most_issues true true true true false rest e = absurd (cc (e))
-most_issues true true true false b4 rest e = absurd (cc (e))
-most_issues true true false b3 b4 rest e = absurd (cc (e))
-most_issues true false b2 b3 b4 rest e = absurd (cc (e))
-most_issues false b1 b2 b3 b4 rest e = absurd (cc (e))
-
 -- no more issues than a word has room for
 pub issues_fit : (k : Config) → start_fault k ≡ None → k.max_issues ≤ 2 ^ 57
-issues_fit k e =
-    let in_range = most_issues (is_between 1 64 k.cpus) (is_between 1 63 k.nspec) (is_size k.bufsize) (is_size k.specsize) (is_between 1 (2 ^ 57) k.max_issues) _ e in
-    let least = (and_tells (nat_le 1 k.max_issues) (nat_le k.max_issues (2 ^ 57)) in_range).1 in
-    grind (arith, nat_tests)
+issues_fit k e = (all_fit k e).1
 
 -- no more batches taken than sealed
 pub takes_sealed : (sealed takes : ℕ) (place : Spare) → SpareCounts sealed takes place → takes ≤ sealed
 takes_sealed sealed takes spare.InHand counts = let a = counts.1 in omega arith
-takes_sealed sealed takes spare.Sealed counts = omega arith
-takes_sealed sealed takes spare.Handed counts = omega arith
-takes_sealed sealed takes spare.Out counts = omega arith
-takes_sealed sealed takes spare.GivenBack counts = omega arith
+takes_sealed sealed takes place counts = omega arith

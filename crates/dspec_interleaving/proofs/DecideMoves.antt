@@ -6,9 +6,9 @@ use Rattle.dspec_interleaving.specs.Words.{block, is_inactive, Speculation, Slot
 use Rattle.dspec_interleaving.specs.Words.{held, IsSound, fits_principal, ends, shown_commit, shown_discard, discarded_by, commit_fate, discard_fate, answer_of, measured}
 use Rattle.dspec_word.specs.contracts.code.Code.{the_type}
 use Rattle.dspec_word.specs.declared.act.Act.{Act}
-use Rattle.dspec_word.specs.declared.act.Act.TheVariants.{Void, Granted, Attempt, Idle}
+use Rattle.dspec_word.specs.declared.act.Act.TheVariants.{Attempt}
 use Rattle.dspec_word.specs.declared.code.Code.{Code}
-use Rattle.dspec_word.specs.declared.code.Code.TheVariants.{Inactive, Active, ActiveOne, ActiveMany, Committing, CommittingMany, Discarding}
+use Rattle.dspec_word.specs.declared.code.Code.TheVariants.{Inactive, Discarding}
 use Rattle.dspec_deeds.specs.declared.config.Config.{Config}
 use Rattle.dspec_deeds.specs.declared.calls.Answer.{Answer}
 use Rattle.dspec_deeds.specs.declared.calls.Answer.TheVariants as answer
@@ -24,28 +24,19 @@ use Rattle.dspec_deeds.proofs.WordChanges.{committed_word, discarded_word, relea
 -- whether a code is Inactive
 inactive_test : (code : Code) → sameb the_type code Inactive ≡ is_inactive code
 inactive_test Inactive = refl
-inactive_test Active = refl
-inactive_test ActiveOne = refl
-inactive_test ActiveMany = refl
-inactive_test Committing = refl
-inactive_test CommittingMany = refl
-inactive_test Discarding = refl
+inactive_test code = refl
 
 module _ (shape : ℕ → Option Shape) (k : Config) (c : ℕ) (h : List Deed) (me : CpuProgress) (id : Speculation) (w : SlotState) where
   -- the table attempts nothing
   pub commit_voids : (act : Act) → ((to : SlotState) → act ≢ Attempt to)
       → shown_commit k c (measured shape k c h) me id w act ≡ ends me (Commit c id decided.Void ∷ []) (answer.Decided decided_answer.Void)
-  commit_voids Void none = refl
-  commit_voids Granted none = refl
   commit_voids (Attempt to) none = absurd (none to refl)
-  commit_voids Idle none = refl
+  commit_voids act none = refl
 
   pub discard_voids : (act : Act) → ((to : SlotState) → act ≢ Attempt to)
       → shown_discard k c (measured shape k c h) me id w act ≡ ends me (Discard c id decided.Void ∷ []) (answer.Decided decided_answer.Void)
-  discard_voids Void none = refl
-  discard_voids Granted none = refl
   discard_voids (Attempt to) none = absurd (none to refl)
-  discard_voids Idle none = refl
+  discard_voids act none = refl
 
   -- the table attempts an exchange, which is next
   pub commit_next : (v to : SlotState) (act : Act) (a : Option Answer) → v ≡ w → act ≡ Attempt to → a ≡ None

@@ -1,15 +1,15 @@
 -- A step leaves its call in flight, or none.
-use Rattle.std.proofs.Common.{⊎_elim, ◌≡◌, ℕ, ◌<◌, true, false, ◌==◌, List, length, slice_set, Option, Some, None, sym, ap, ◌∙◌, subst, arith}
-use Rattle.std.proofs.lemmas.List.{get_or-set_same, get_or-set_other}
+use Rattle.std.proofs.Common.{⊎_elim, ◌≡◌, ℕ, ◌<◌, List, length, slice_set, Option, Some, None, sym, subst}
 use Rattle.dspec_record.specs.declared.field.Shape.{Shape}
-use Rattle.dspec_interleaving.specs.Words.{CpuProgress, ConsumerFlight, ConsumerProgress, CallPlace, op_of, consumer_op_of, cpu_step, consumer_step, progress_of, idle_progress}
+use Rattle.dspec_interleaving.specs.Words.{CpuProgress, ConsumerFlight, ConsumerProgress, CallPlace, op_of, consumer_op_of, cpu_step, consumer_step, progress_of}
 use Rattle.dspec_deeds.specs.declared.config.Config.{Config}
 use Rattle.dspec_deeds.specs.declared.calls.ConsumerOp.{ConsumerOp}
 use Rattle.dspec_deeds.specs.declared.calls.CpuOp.{CpuOp}
 use Rattle.dspec_deeds.specs.declared.deed.Deed.{Deed}
 use Rattle.dspec_interleaving.proofs.WornCpuSteps.{cpu_advances}
-use Rattle.dspec_interleaving.proofs.StepEnds.{HasEnded, HasGoneOn, HasClosed, HasKeptOn, clean_advances}
-use Rattle.dspec_deeds.proofs.TestLemmas.{either_way, same_number, numbers_differ}
+use Rattle.dspec_interleaving.proofs.StepEnds.{HasEnded, HasGoneOn, HasClosed, HasKeptOn}
+use Rattle.dspec_interleaving.proofs.FlightsStay.{clean_advances}
+use Rattle.dspec_interleaving.proofs.Replacing.{put}
 
 module _ (P : CpuOp → Type 0) where
   -- what is said of a call holds of the one in flight, if there is one
@@ -28,13 +28,7 @@ module _ (P : CpuOp → Type 0) where
 
   -- one CPU's progress replaced
   pub set_passes : (n : ℕ) (all : List CpuProgress) (a : ℕ) (me : CpuProgress) → length all ≡ n → AllPass n all → Passes me.flight → AllPass n (slice_set all a me)
-  set_passes n all a me count was own c f lt is = ⊎_elim
-      (λ (t : (c == a) ≡ true).
-      let same = same_number c a t in
-      let here : progress_of (slice_set all a me) a ≡ me = get_or-set_same all a me idle_progress (omega arith) in
-      own f (ap (λ (y : CpuProgress). y.flight) (sym here) ∙ subst (λ b. (progress_of (slice_set all a me) b).flight ≡ Some f) same is))
-      (λ (t : (c == a) ≡ false). was c f lt (ap (λ (y : CpuProgress). y.flight) (sym (get_or-set_other all a c me idle_progress (numbers_differ c a t))) ∙ is))
-      (either_way (c == a))
+  set_passes n all a me count was own c f lt is = put n (λ b (x : CpuProgress). Passes x.flight) all a me count (λ b less apart g e. was b g less e) (λ less. own) c lt f is
 
   -- a step of a CPU leaves its call in flight, or none
   pub step_passes : (shape : ℕ → Option Shape) (k : Config) (c : ℕ) (h : List Deed) (me : CpuProgress) (f : CallPlace) → P (op_of f) → Passes (cpu_step shape k c h me f).progress.flight

@@ -1,13 +1,13 @@
 -- Each ended call of a play answers what is read off its own deeds, and the worn calls are counted.
-use Rattle.std.proofs.Common.{◌≡◌, ℕ, ◌+◌, ◌-◌, ◌^◌, ◌<◌, Bool, true, false, ◌==◌, ◌&&◌, List, [], ◌∷◌, ◌++◌, length, Option, Some, None, if◌then◌else◌, refl, sym, ap, ◌∙◌, subst, ⊎_elim, arith}
-use Rattle.std.specs.Prelude.{min, map, reverse, slice_set}
+use Rattle.std.proofs.Common.{◌≡◌, ℕ, ◌+◌, ◌-◌, ◌^◌, ◌<◌, Bool, true, false, ◌==◌, ◌&&◌, List, [], ◌∷◌, ◌++◌, Option, Some, None, if◌then◌else◌, refl, sym, ap, ◌∙◌, subst, arith}
+use Rattle.std.specs.Prelude.{min, map, reverse}
 use Rattle.std.specs.List.{AllByRecursion}
 use Rattle.std.proofs.lemmas.Bool.Decides.{nat_tests}
-use Rattle.std.proofs.lemmas.List.{get_or-set_same, get_or-set_other, reverse-append, map-append}
+use Rattle.std.proofs.lemmas.List.{reverse-append, map-append}
 use Rattle.dspec_record.specs.declared.field.Shape.{Shape}
-use Rattle.dspec_interleaving.specs.Words.{Record, CpuProgress, ConsumerFlight, CallPlace, op_of, consumer_op_of, is_about, StandsState, PlayState, progress_of, idle_progress, CpuStep, ConsumerStep}
-use Rattle.dspec_interleaving.specs.Words.{cpu_step, consumer_step, start_fault, EndedCall, Noted, ended, read_off, IsReadOff, Playing, with_note, with_entered, playing_at_start, begun_cpu}
-use Rattle.dspec_interleaving.specs.Words.{begun_consumer, played, answers_of, play_fault, is_worn_answer, is_by, worn_answers, worn_count}
+use Rattle.dspec_interleaving.specs.Words.{Record, CpuProgress, ConsumerFlight, CallPlace, op_of, consumer_op_of, is_about, StandsState, PlayState, progress_of, CpuStep, ConsumerStep, cpu_step}
+use Rattle.dspec_interleaving.specs.Words.{consumer_step, start_fault, EndedCall, Noted, ended, read_off, IsReadOff, Playing, with_note, with_entered, playing_at_start, begun_cpu, begun_consumer}
+use Rattle.dspec_interleaving.specs.Words.{played, answers_of, play_fault, is_worn_answer, is_by, worn_answers, worn_count, same_actor, is_told_worn, entered_calls, AreWornRightly}
 use Rattle.dspec_deeds.specs.declared.config.Config.{Config}
 use Rattle.dspec_deeds.specs.declared.calls.Actor.{Actor}
 use Rattle.dspec_deeds.specs.declared.calls.Actor.TheVariants as actor
@@ -19,24 +19,33 @@ use Rattle.dspec_deeds.specs.declared.calls.Op.TheVariants as op
 use Rattle.dspec_deeds.specs.declared.calls.Turn.{Turn}
 use Rattle.dspec_deeds.specs.declared.deed.Deed.{Deed}
 use Rattle.dspec_interleaving.specs.declared.flight.CallPlace.TheVariants as cpu
-use Rattle.dspec_deeds.proofs.TestLemmas.{either_way, number_is_itself, same_number, numbers_differ}
+use Rattle.dspec_deeds.proofs.TestLemmas.{number_is_itself}
 use Rattle.dspec_interleaving.proofs.Coherence.{idle_at, start_coherent}
 use Rattle.dspec_interleaving.proofs.CpuSteps.{cpu_step_stands}
 use Rattle.dspec_interleaving.proofs.ConsumerSteps.{consumer_keeps}
-use Rattle.dspec_interleaving.proofs.FlightsStay.{flights_stay}
+use Rattle.dspec_interleaving.proofs.FlightsStay.{OwnsClean, CleanReads, consumer_unworn, flights_stay, worn_stays, consumer_step_reads}
+pub use Rattle.dspec_interleaving.proofs.Replacing.{put}
 use Rattle.dspec_interleaving.proofs.OwnTelling.{OwnsCall, Tells, worn_behind, ReadsOff, others_own}
-use Rattle.dspec_interleaving.proofs.OwnAnswers.{cpu_step_reads}
-use Rattle.dspec_interleaving.proofs.OwnAnswersClean.{OwnsClean, CleanReads, consumer_step_reads}
+use Rattle.dspec_interleaving.proofs.WornCpuSteps.{ahead, cpu_step_reads, cpu_step_wears}
 use Rattle.dspec_interleaving.proofs.PlaysCarry.{behind_cpu_step, behind_consumer_step, PlayInvariant, play_carries}
 use Rattle.dspec_interleaving.proofs.PlaysEnd.{IsCoherentPlay, coherence_carried, coherence_kept}
+use Rattle.dspec_interleaving.proofs.WornCounts.{HasEntered, calls_stay, entered_beside, entered_now, note_beside, note_right, same_test}
+use Rattle.dspec_deeds.proofs.Going.{AllBy}
 
--- a play whose ended calls answer what is read off their deeds
+-- what is known of a CPU's calls: what the one in flight has entered, and how many were worn, and entered
+pub record Knows (k : Config) (h : List Deed) (es : List EndedCall) (c : ℕ) (x : Option CallPlace) (n : ℕ) (own : List Deed) : Type 0 where
+  pub owns : OwnsCall c h x own
+  pub worn : n ≡ worn_count es c
+  pub entered : HasEntered k c h x es
+
+-- a play whose ended calls answer what is read off their deeds, and are worn where they have to be
 pub record IsRead (shape : ℕ → Option Shape) (k : Config) (p : Playing) : Type 0 where
   pub play : IsCoherentPlay shape k p
   pub noted : AllByRecursion IsReadOff p.noted
-  pub own : (c : ℕ) → c < p.state.config.cpus → OwnsCall c p.state.deeds (progress_of p.state.progresses c).flight (p.entered c)
+  pub right : AreWornRightly p.state.config (map ended p.noted)
+  pub each : (c : ℕ) → c < p.state.config.cpus
+      → Knows p.state.config p.state.deeds (map ended p.noted) c (progress_of p.state.progresses c).flight (progress_of p.state.progresses c).worn (p.entered c)
   pub cleaned : OwnsClean p.state.config p.state.side.flight p.cleaned
-  pub worn : (c : ℕ) → c < p.state.config.cpus → (progress_of p.state.progresses c).worn ≡ worn_count (map ended p.noted) c
 
 -- a call that is noted where it ended
 noted_reads : (a : Actor) (o : Op) (ds : List Deed) (st : PlayState) (r : Option Answer) (ns : List Noted) → Tells r (read_off o ds st) → AllByRecursion IsReadOff ns
@@ -70,59 +79,58 @@ worn_beside c a o ds st (Some x) ns other =
     subst (λ (b : Bool). min (worn_answers c (map ended ns)) (2 ^ 64 - 1) ≡ min (worn_answers c (map ended ns) + (if b && is_worn_answer x then 1 else 0)) (2 ^ 64 - 1)) (sym other)
     (ap (λ n. min n (2 ^ 64 - 1)) (let same : worn_answers c (map ended ns) ≡ worn_answers c (map ended ns) + 0 = omega arith in same))
 
--- of each CPU, where one CPU's side is replaced
-pub put : (n : ℕ) (P : ℕ → CpuProgress → Type 0) (all : List CpuProgress) (c : ℕ) (me : CpuProgress) → length all ≡ n → ((b : ℕ) → b < n → (b == c) ≡ false → P b (progress_of all b))
-    → (c < n → P c me) → (b : ℕ) → b < n → P b (progress_of (slice_set all c me) b)
-put n P all c me count others now b lt = ⊎_elim
-    (λ (t : (b == c) ≡ true).
-    let is = same_number b c t in
-    let within : c < n = omega arith in
-    let here : progress_of (slice_set all c me) c ≡ me = get_or-set_same all c me idle_progress (omega arith) in
-    subst (λ x. P x (progress_of (slice_set all c me) x)) (sym is) (subst (P c) (sym here) (now within)))
-    (λ (f : (b == c) ≡ false).
-    let there : progress_of (slice_set all c me) b ≡ progress_of all b = get_or-set_other all c b me idle_progress (numbers_differ b c f) in
-    subst (P b) (sym there) (others b lt f))
-    (either_way (b == c))
-
 -- what the CPU's call has entered, where it was written
-put_here : (c : ℕ) (h : List Deed) (x : Option CallPlace) (ds : List Deed) (before : ℕ → List Deed) → OwnsCall c h x ds → OwnsCall c h x (with_entered c ds before c)
-put_here c h x ds before owns = subst (λ (b : Bool). OwnsCall c h x (if b then ds else before c)) (sym (number_is_itself c)) owns
+entered_here : (c : ℕ) (ds : List Deed) (before : ℕ → List Deed) → with_entered c ds before c ≡ ds
+entered_here c ds before = rw (number_is_itself c) refl
 
-put_beside : (c b : ℕ) (h : List Deed) (x : Option CallPlace) (ds : List Deed) (before : ℕ → List Deed) → (b == c) ≡ false → OwnsCall b h x (before b) → OwnsCall b h x (with_entered c ds before b)
-put_beside c b h x ds before other owns = subst (λ (t : Bool). OwnsCall b h x (if t then ds else before b)) (sym other) owns
+entered_there : (c b : ℕ) (ds : List Deed) (before : ℕ → List Deed) → (b == c) ≡ false → with_entered c ds before b ≡ before b
+entered_there c b ds before other = rw other refl
+
+-- what is known of a CPU stays behind another's step
+knows_beside : (k : Config) (b : ℕ) (w : Actor) (o : Op) (new : List Deed) (st : PlayState) (r : Option Answer) (ns : List Noted) (ds h : List Deed) (x : Option CallPlace) (n : ℕ) (own : List Deed)
+    → same_actor (actor.Cpu b) w ≡ false → is_by b w ≡ false → AllBy w ds h → Knows k h (map ended ns) b x n own → Knows k (ds ++ h) (map ended (with_note w o new st r ns)) b x n own
+knows_beside k b w o new st r ns ds h x n own other apart by was = record {
+  owns = others_own b w other ds h by x own was.owns;
+  worn = was.worn ∙ worn_beside b w o new st r ns apart;
+  entered = entered_beside k b h (ds ++ h) x (map ended ns) _ (calls_stay b w other ds h by) (note_beside b w o new st r ns apart) was.entered;
+}
 
 module _ (shape : ℕ → Option Shape) (k : Config) where
   start_read : start_fault k ≡ None → IsRead shape k (playing_at_start k)
   start_read fine = record {
     play = record { config = refl; coherent = start_coherent shape k fine };
     noted = tt;
-    own = λ c lt. subst (λ (me : CpuProgress). OwnsCall c [] me.flight []) (sym (idle_at k.cpus c)) tt;
+    right = tt;
+    each = λ c lt. subst (λ (me : CpuProgress). Knows k [] [] c me.flight me.worn []) (sym (idle_at k.cpus c))
+        record { owns = tt; worn = refl; entered = record { counts = refl; unworn = λ on. absurd (cc (on)) } };
     cleaned = tt;
-    worn = λ c lt. ap (λ (me : CpuProgress). me.worn) (idle_at k.cpus c);
   }
 
   cpu_begins : (c : ℕ) (o : CpuOp) (p : Playing) → IsRead shape k p → c < k.cpus → (progress_of p.state.progresses c).flight ≡ None → IsRead shape k (begun_cpu c o p)
   cpu_begins c o p was lt idle =
       let me : CpuProgress = record (progress_of p.state.progresses c) { flight = Some (cpu.Begun o); steps = 0 } in
-      let count = was.play.coherent.count in
-      let within : c < p.state.config.cpus = subst (λ (x : Config). c < x.cpus) (sym was.play.config) lt in
+      let es = map ended p.noted in
       record {
         play = (coherence_kept shape k).cpu_begins c o p was.play lt idle;
         noted = was.noted;
-        own = put p.state.config.cpus (λ b (x : CpuProgress). OwnsCall b p.state.deeds x.flight (with_entered c [] p.entered b)) p.state.progresses c me count
-            (λ b less other. put_beside c b p.state.deeds (progress_of p.state.progresses b).flight [] p.entered other (was.own b less))
-            (λ less. put_here c p.state.deeds (Some (cpu.Begun o)) [] p.entered refl);
+        right = was.right;
+        each = put p.state.config.cpus (λ b (x : CpuProgress). Knows p.state.config p.state.deeds es b x.flight x.worn (with_entered c [] p.entered b)) p.state.progresses c me was.play.coherent.count
+            (λ b less other. subst (Knows p.state.config p.state.deeds es b _ _) (sym (entered_there c b [] p.entered other)) (was.each b less))
+            (λ less.
+            let old = was.each c less in
+            let counts = old.entered.counts ∙ ap (λ x. entered_calls c es + ahead x) idle in
+            subst (Knows p.state.config p.state.deeds es c me.flight me.worn) (sym (entered_here c [] p.entered))
+            record { owns = refl; worn = old.worn; entered = record { counts = counts; unworn = λ on. absurd (cc (on)) } });
         cleaned = was.cleaned;
-        worn = put p.state.config.cpus (λ b (x : CpuProgress). x.worn ≡ worn_count (map ended p.noted) b) p.state.progresses c me count (λ b less other. was.worn b less) (λ less. was.worn c within);
       }
 
   consumer_begins : (o : ConsumerOp) (p : Playing) → IsRead shape k p → is_about k o ≡ true → p.state.side.flight ≡ None → IsRead shape k (begun_consumer o p)
   consumer_begins o p was about idle = record {
     play = (coherence_kept shape k).consumer_begins o p was.play about idle;
     noted = was.noted;
-    own = was.own;
+    right = was.right;
+    each = was.each;
     cleaned = (refl, subst (λ (x : Config). is_about x o ≡ true) (sym was.play.config) about);
-    worn = was.worn;
   }
 
   cpu_steps : (c : ℕ) (p : Playing) (f : CallPlace) → IsRead shape k p → c < k.cpus → (progress_of p.state.progresses c).flight ≡ Some f → IsRead shape k (behind_cpu_step shape c p f)
@@ -132,21 +140,28 @@ module _ (shape : ℕ → Option Shape) (k : Config) where
       let within : c < st.config.cpus = subst (λ (x : Config). c < x.cpus) (sym was.play.config) lt in
       let me : CpuProgress = progress_of st.progresses c in
       let m : CpuStep = cpu_step shape st.config c st.deeds me f in
+      let o : Op = op.Cpu (op_of f) in
       let ds : List Deed = m.deeds ++ p.entered c in
       let did = cpu_step_stands shape st.config c st.deeds me ok.ranges ok.legal ok.rests (ok.stands c within) f is in
-      let reads : ReadsOff c st.deeds me (op_of f) (p.entered c) m =
-      cpu_step_reads shape st.config c st.deeds me f (p.entered c) (subst (λ (x : Option CallPlace). OwnsCall c st.deeds x (p.entered c)) is (was.own c within)) in
+      let old : Knows st.config st.deeds (map ended p.noted) c (Some f) me.worn (p.entered c) =
+      subst (λ x. Knows st.config st.deeds (map ended p.noted) c x me.worn (p.entered c)) is (was.each c within) in
+      let reads : ReadsOff c st.deeds me (op_of f) (p.entered c) m = cpu_step_reads shape st.config c st.deeds me f (p.entered c) old.owns in
+      let told = (cpu_step_wears shape st.config c st.deeds me f).told in
+      let es = map ended (with_note (actor.Cpu c) o ds st m.answer p.noted) in
       record {
         play = (coherence_carried shape k).cpu_steps c p f was.play lt is;
-        noted = noted_reads (actor.Cpu c) (op.Cpu (op_of f)) ds st m.answer p.noted reads.reads was.noted;
-        own = put st.config.cpus (λ b (x : CpuProgress). OwnsCall b (m.deeds ++ st.deeds) x.flight (with_entered c ds p.entered b)) st.progresses c m.progress ok.count
-            (λ b less other. put_beside c b (m.deeds ++ st.deeds) (progress_of st.progresses b).flight ds p.entered other
-            (others_own b (actor.Cpu c) other m.deeds st.deeds did.goes.by (progress_of st.progresses b).flight (p.entered b) (was.own b less)))
-            (λ less. put_here c (m.deeds ++ st.deeds) m.progress.flight ds p.entered reads.holds);
+        noted = noted_reads (actor.Cpu c) o ds st m.answer p.noted reads.reads was.noted;
+        right = note_right st.config (actor.Cpu c) o ds st m.answer p.noted
+            (λ x e. ap is_told_worn (sym e) ∙ (told ∙ same_test st.config c st.deeds f (map ended p.noted) old.entered)) was.right;
+        each = put st.config.cpus (λ b (x : CpuProgress). Knows st.config (m.deeds ++ st.deeds) es b x.flight x.worn (with_entered c ds p.entered b)) st.progresses c m.progress ok.count
+            (λ b less other. subst (Knows st.config (m.deeds ++ st.deeds) es b _ _) (sym (entered_there c b ds p.entered other))
+            (knows_beside st.config b (actor.Cpu c) o ds st m.answer p.noted m.deeds st.deeds _ _ (p.entered b) other other did.goes.by (was.each b less)))
+            (λ less. subst (Knows st.config (m.deeds ++ st.deeds) es c m.progress.flight m.progress.worn) (sym (entered_here c ds p.entered)) record {
+              owns = reads.holds;
+              worn = reads.wears ∙ worn_noted c o ds st m.answer p.noted me.worn old.worn;
+              entered = entered_now shape st.config c st.deeds me f ds st p.noted old.entered;
+            });
         cleaned = was.cleaned;
-        worn = put st.config.cpus (λ b (x : CpuProgress). x.worn ≡ worn_count (map ended (with_note (actor.Cpu c) (op.Cpu (op_of f)) ds st m.answer p.noted)) b) st.progresses c m.progress ok.count
-            (λ b less other. was.worn b less ∙ worn_beside b (actor.Cpu c) (op.Cpu (op_of f)) ds st m.answer p.noted other)
-            (λ less. reads.wears ∙ worn_noted c (op.Cpu (op_of f)) ds st m.answer p.noted me.worn (was.worn c within));
       }
 
   consumer_steps : (p : Playing) (f : ConsumerFlight) → IsRead shape k p → p.state.side.flight ≡ Some f → IsRead shape k (behind_consumer_step shape p f)
@@ -154,17 +169,22 @@ module _ (shape : ℕ → Option Shape) (k : Config) where
       let st : PlayState = p.state in
       let ok = was.play.coherent in
       let m : ConsumerStep = consumer_step st.config st.deeds st.side st.progresses f in
+      let o : Op = op.Consumer (consumer_op_of f) in
       let ds : List Deed = m.deeds ++ p.cleaned in
       let did = consumer_keeps shape st.config st.deeds st.side st.progresses ok.ranges ok.legal ok.rests ok.count ok.stands f (subst (StandsState st.config st.deeds st.side) is ok.side) in
-      let reads : CleanReads st ok.count ok.stands (consumer_op_of f) p.cleaned m =
-      consumer_step_reads st ok.count ok.stands f p.cleaned (subst (λ (x : Option ConsumerFlight). OwnsClean st.config x p.cleaned) is was.cleaned) in
+      let reads : CleanReads st (consumer_op_of f) p.cleaned m =
+      consumer_step_reads st f p.cleaned (λ c lt. (ok.stands c lt).counts) (subst (λ (x : Option ConsumerFlight). OwnsClean st.config x p.cleaned) is was.cleaned) in
+      let es = map ended (with_note actor.Consumer o ds st m.answer p.noted) in
       record {
         play = (coherence_carried shape k).consumer_steps p f was.play is;
-        noted = noted_reads actor.Consumer (op.Consumer (consumer_op_of f)) ds st m.answer p.noted reads.reads was.noted;
-        own = λ b less. subst (λ (x : Option CallPlace). OwnsCall b (m.deeds ++ st.deeds) x (p.entered b)) (sym (flights_stay st.config st.deeds st.side st.progresses ok.count f b less))
-            (others_own b actor.Consumer refl m.deeds st.deeds did.goes.by (progress_of st.progresses b).flight (p.entered b) (was.own b less));
+        noted = noted_reads actor.Consumer o ds st m.answer p.noted reads.reads was.noted;
+        right = note_right st.config actor.Consumer o ds st m.answer p.noted (λ x e. ap is_told_worn (sym e) ∙ consumer_unworn st.config st.deeds st.side st.progresses f) was.right;
+        each = λ b less.
+            let flight = flights_stay st.config st.deeds st.side st.progresses ok.count f b less in
+            let worn = worn_stays st.config st.deeds st.side st.progresses ok.count f b less in
+            subst (λ (x : Option CallPlace × ℕ). Knows st.config (m.deeds ++ st.deeds) es b x.0 x.1 (p.entered b)) (λ i. (sym flight i, sym worn i))
+            (knows_beside st.config b actor.Consumer o ds st m.answer p.noted m.deeds st.deeds _ _ (p.entered b) refl refl did.goes.by (was.each b less));
         cleaned = reads.holds;
-        worn = λ b less. reads.wears_not b less ∙ (was.worn b less ∙ worn_beside b actor.Consumer (op.Consumer (consumer_op_of f)) ds st m.answer p.noted refl);
       }
 
   reads_kept : PlayInvariant shape k (IsRead shape k)
@@ -201,4 +221,18 @@ pub played_wears : (shape : ℕ → Option Shape) (accepts : Record → Bool) (k
     → (progress_of (played shape k ts).state.progresses c).worn ≡ worn_count (answers_of shape k ts) c
 played_wears shape accepts k ts c e lt =
     let read = play_reads shape accepts k ts e in
-    read.worn c (subst (λ (x : Config). c < x.cpus) (sym read.play.config) lt) ∙ ap (λ n. min n (2 ^ 64 - 1)) (sym (worn_reversed c (played shape k ts).noted))
+    (read.each c (subst (λ (x : Config). c < x.cpus) (sym read.play.config) lt)).worn ∙ ap (λ n. min n (2 ^ 64 - 1)) (sym (worn_reversed c (played shape k ts).noted))
+
+-- the ended calls in order of ending, turned round, are the noted ones
+turned_back : (ns : List Noted) → reverse (map ended (reverse ns)) ≡ map ended ns
+turned_back [] = refl
+turned_back (n ∷ ns) =
+    ap (λ (xs : List Noted). reverse (map ended xs)) (reverse-append (n ∷ []) ns)
+    ∙ (ap reverse (map-append ended (reverse ns) (n ∷ []))
+    ∙ (reverse-append (map ended (reverse ns)) (ended n ∷ []) ∙ ap (λ xs. ended n ∷ xs) (turned_back ns)))
+
+-- of a play's calls exactly those are worn that have to be
+pub played_worn : (shape : ℕ → Option Shape) (accepts : Record → Bool) (k : Config) (ts : List Turn) → play_fault shape accepts k ts ≡ None → AreWornRightly k (reverse (answers_of shape k ts))
+played_worn shape accepts k ts e =
+    let read = play_reads shape accepts k ts e in
+    subst (AreWornRightly k) (sym (turned_back (played shape k ts).noted)) (subst (λ x. AreWornRightly x (map ended (played shape k ts).noted)) read.play.config read.right)

@@ -1,9 +1,7 @@
 -- What a call holds of its own deeds, and that other actors' deeds leave it.
 use Rattle.std.proofs.Common.{◌≡◌, ℕ, ◌+◌, ◌-◌, ◌^◌, Bool, true, false, List, [], ◌∷◌, ◌++◌, Option, Some, None, if◌then◌else◌, refl, sym, ◌∙◌, subst}
 use Rattle.std.specs.Prelude.{min}
-use Rattle.dspec_interleaving.specs.Words.{one, CpuProgress, CallPlace, is_busy_among, has_seal, settle_count, answer_of_cpu, author, same_actor, CpuStep, wears, answer_of, is_worn_answer}
-use Rattle.dspec_interleaving.specs.Words.{missed_busy}
-use Rattle.dspec_word.specs.declared.act.Act.TheVariants.{Void}
+use Rattle.dspec_interleaving.specs.Words.{CpuProgress, CallPlace, is_busy_among, has_seal, settle_count, answer_of_cpu, author, same_actor, CpuStep, answer_of, is_worn_answer, missed_busy}
 use Rattle.dspec_deeds.specs.declared.calls.Actor.{Actor}
 use Rattle.dspec_deeds.specs.declared.calls.Actor.TheVariants.{Cpu}
 use Rattle.dspec_deeds.specs.declared.calls.Answer.{Answer}
@@ -26,20 +24,13 @@ HasServed sum ds = (has_seal ds ≡ sum.sealed) × (settle_count ds ≡ sum.sett
 
 -- what a CPU's call in flight has entered, the latest first
 abbrev pub OwnDeeds : ℕ → List Deed → CallPlace → List Deed → Type 0
-OwnDeeds c h (cpu.Begun o) ds = ds ≡ []
 OwnDeeds c h (cpu.ScanLoad s) ds = is_busy_among ds ≡ missed_busy c h
 OwnDeeds c h (cpu.ScanTry s w) ds = is_busy_among ds ≡ missed_busy c h
-OwnDeeds c h (cpu.SpeculateLoad id r) ds = ds ≡ []
-OwnDeeds c h (cpu.SpeculateTry id r w) ds = ds ≡ []
-OwnDeeds c h (cpu.CommitLoad id) ds = ds ≡ []
-OwnDeeds c h (cpu.CommitTry id w) ds = ds ≡ []
 OwnDeeds c h (cpu.CommitRelease id f) ds = ds ≡ Commit c id f ∷ []
-OwnDeeds c h (cpu.DiscardLoad id) ds = ds ≡ []
-OwnDeeds c h (cpu.DiscardTry id w) ds = ds ≡ []
-OwnDeeds c h cpu.ServicePop ds = ds ≡ []
 OwnDeeds c h cpu.ServicePush ds = ds ≡ Seal c ∷ []
 OwnDeeds c h (cpu.ServiceLoad s sum) ds = HasServed sum ds
 OwnDeeds c h (cpu.ServiceStore s w sum) ds = HasServed sum ds
+OwnDeeds c h f ds = ds ≡ []
 
 -- the same, if a call is in flight
 abbrev pub OwnsCall : ℕ → List Deed → Option CallPlace → List Deed → Type 0
@@ -87,7 +78,4 @@ fails_unworn false = refl
 -- no decision's fate is a Worn
 pub told_unworn : (f : DecideFate) → is_worn_answer (answer_of f) ≡ false
 told_unworn (decided.Copied n) = refl
-told_unworn (decided.Lost n) = refl
-told_unworn (decided.Thrown n) = refl
-told_unworn decided.Void = refl
-told_unworn decided.Stopped = refl
+told_unworn f = refl

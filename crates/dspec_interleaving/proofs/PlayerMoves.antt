@@ -24,6 +24,11 @@ with_answer a o None answers = answers
 with_answer a o (Some r) answers = answers ++ (a, o, r) ∷ []
 
 module _ (shape : ℕ → Option Shape) where
+  -- where no call of the actor is in flight, there is nothing to run
+  pub ended_stays : (n : ℕ) (a : Actor) (p : Playing) → is_idle a p.state ≡ true → to_end shape n a p ≡ p
+  ended_stays zero a p idle = refl
+  ended_stays (suc n) a p idle = rw idle refl
+
   noted_last : (a : Actor) (o : Op) (ds : List _) (st : PlayState) (r : Option Answer) (ns : List Noted) → with_answer a o r (map ended (reverse ns)) ≡ map ended (reverse (with_note a o ds st r ns))
   noted_last a o ds st None ns = refl
   noted_last a o ds st (Some r) ns = sym (put_last record { by = a; call = o; answer = r; deeds = ds; found = st } ns)
@@ -76,13 +81,9 @@ module _ (shape : ℕ → Option Shape) (a : Actor) (total : ℕ) where
       let one : to_end shape (suc (total - (done + 1))) a q.0 ≡ to_end shape (total - (done + 1)) a (stepped shape a q.0) = rw busy_there refl in
       (stepped shape a q.0, (next q.0 q.1.0, sym one ∙ (ap (λ n. to_end shape n a q.0) (sym more) ∙ q.1.1)))
 
-  idle_stays : (n : ℕ) (q : Playing) → is_idle a q.state ≡ true → to_end shape n a q ≡ q
-  idle_stays zero q idle = refl
-  idle_stays (suc n) q idle = rw idle refl
-
   -- where no call of the actor is in flight, its run has come to its end
   pub runs_idle : (done : ℕ) (st : PlayState) (before : List EndedCall) (now : PlayState) (answers : List EndedCall) → is_idle a now ≡ true
       → RunsOn shape a total done st before now answers → (p : Playing) → IsPlayingAt st before p → IsPlayingAt now answers (to_end shape total a p)
   runs_idle done st before now answers idle runs p at =
       let q = runs p at in
-      subst (λ x. IsPlayingAt now answers x) (sym (idle_stays (total - done) q.0 (subst (λ s. is_idle a s ≡ true) q.1.0.state idle)) ∙ q.1.1) q.1.0
+      subst (λ x. IsPlayingAt now answers x) (sym (ended_stays shape (total - done) a q.0 (subst (λ s. is_idle a s ≡ true) q.1.0.state idle)) ∙ q.1.1) q.1.0

@@ -4,9 +4,9 @@ use Rattle.std.specs.Prelude.{nat_lt, is_none}
 use Rattle.std.proofs.lemmas.Bool.Decides.{nat_tests}
 use Rattle.dspec_record.specs.declared.field.Shape.{Shape}
 use Rattle.dspec_interleaving.specs.Words.{Record, ConsumerFlight, CallPlace, PlayFault, BeginFault, most_steps, op_of, consumer_op_of, record_passes, is_about, is_actor, is_idle, begin_cpu_fault}
-use Rattle.dspec_interleaving.specs.Words.{begin_consumer_fault, PlayState, progress_of, cpu_step, consumer_step, start_fault, moved_to, cleaned_to, step_cpu, step_consumer, Playing, with_note}
-use Rattle.dspec_interleaving.specs.Words.{with_entered, playing_at_start, begun_cpu, begun_consumer, cpu_stepped, consumer_stepped, stepped, to_end, ran, turned, all_turned, cpus_ran, all_ran}
-use Rattle.dspec_interleaving.specs.Words.{played, begin_refusal, step_refusal, or_else, setup_fault, refusal, turn_fault, play_fault}
+use Rattle.dspec_interleaving.specs.Words.{begin_consumer_fault, PlayState, progress_of, cpu_step, consumer_step, start_fault, moved_to, cleaned_to, step_cpu, Playing, with_note, with_entered}
+use Rattle.dspec_interleaving.specs.Words.{playing_at_start, begun_cpu, begun_consumer, cpu_stepped, stepped, to_end, ran, turned, all_turned, cpus_ran, all_ran, played, begin_refusal, step_refusal}
+use Rattle.dspec_interleaving.specs.Words.{or_else, setup_fault, refusal, turn_fault, play_fault}
 use Rattle.dspec_deeds.specs.declared.config.Config.{Config}
 use Rattle.dspec_deeds.specs.declared.config.StartFault.{StartFault}
 use Rattle.dspec_deeds.specs.declared.calls.Actor.{Actor}
@@ -18,6 +18,7 @@ use Rattle.dspec_deeds.specs.declared.calls.Turn.{Turn}
 use Rattle.dspec_deeds.specs.declared.calls.Turn.TheVariants.{BeginCpu, BeginConsumer, Step, RunCpu, RunConsumer}
 use Rattle.dspec_interleaving.specs.declared.refusal.BeginFault.TheVariants as begin_fault
 use Rattle.dspec_interleaving.specs.declared.refusal.StepFault.TheVariants as step_fault
+use Rattle.dspec_interleaving.proofs.Tests.{is_nothing, passes}
 
 module _ (shape : ℕ → Option Shape) where
   -- a play behind a step of a CPU's call in flight
@@ -54,28 +55,12 @@ module _ (shape : ℕ → Option Shape) where
 
   -- a step of the consumer's call in flight
   pub consumer_stepped_is : (p : Playing) (f : ConsumerFlight) → p.state.side.flight ≡ Some f → stepped shape actor.Consumer p ≡ behind_consumer_step p f
-  consumer_stepped_is p f is =
-      ap (λ (x : Option ConsumerFlight). consumer_stepped shape p x) is
-      ∙ ap (λ (x : Option ConsumerFlight).
-      let m = consumer_step p.state.config p.state.deeds p.state.side p.state.progresses f in
-      record p {
-        state = (step_consumer shape p.state x).state;
-        cleaned = m.deeds ++ p.cleaned;
-        noted = with_note actor.Consumer (op.Consumer (consumer_op_of f)) (m.deeds ++ p.cleaned) p.state (step_consumer shape p.state x).answer p.noted;
-      }) is
+  consumer_stepped_is p f is = rw is refl
 
   -- a step of an actor with no call in flight
   pub idle_stepped : (a : Actor) (p : Playing) → is_idle a p.state ≡ true → stepped shape a p ≡ p
-  idle_stepped (actor.Cpu c) p idle = go (progress_of p.state.progresses c).flight idle
-    where
-      go : (x : Option CallPlace) → is_none x ≡ true → cpu_stepped shape c p x ≡ p
-      go None e = refl
-      go (Some f) e = absurd (cc (e))
-  idle_stepped actor.Consumer p idle = go p.state.side.flight idle
-    where
-      go : (x : Option ConsumerFlight) → is_none x ≡ true → consumer_stepped shape p x ≡ p
-      go None e = refl
-      go (Some f) e = absurd (cc (e))
+  idle_stepped (actor.Cpu c) p idle = rw (is_nothing (progress_of p.state.progresses c).flight idle) refl
+  idle_stepped actor.Consumer p idle = rw (is_nothing p.state.side.flight idle) refl
 
   -- what each step keeps
   pub record IsCarried (k : Config) (P : Playing → Type 0) : Type 0 where
@@ -97,23 +82,12 @@ taken (Some f) y e = absurd (cc (e))
 -- a begin or a setup with no refusal has no fault
 begins : (i : ℕ) (x : Option BeginFault) → begin_refusal i x ≡ None → x ≡ None
 begins i None e = refl
-begins i (Some begin_fault.NoSuchActor) e = absurd (cc (e))
 begins i (Some begin_fault.Busy) e = absurd (cc (e))
-begins i (Some begin_fault.BadRecord) e = absurd (cc (e))
+begins i (Some fault) e = absurd (cc (e))
 
 starts : (x : Option StartFault) → setup_fault x ≡ None → x ≡ None
 starts None e = refl
 starts (Some f) e = absurd (cc (e))
-
--- a fault that isn't met
-passes : {X : Type 0} (b : Bool) (x : X) (rest : Option X) → (if not b then Some x else rest) ≡ None → (b ≡ true) × (rest ≡ None)
-passes true x rest e = (refl, e)
-passes false x rest e = absurd (cc (e))
-
--- nothing is there
-pub is_nothing : {X : Type 0} (x : Option X) → is_none x ≡ true → x ≡ None
-is_nothing None e = refl
-is_nothing (Some f) e = absurd (cc (e))
 
 -- a number that passes the test is below
 below : (a b : ℕ) → nat_lt a b ≡ true → a < b

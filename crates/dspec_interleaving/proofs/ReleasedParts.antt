@@ -50,14 +50,15 @@ unreleased k id h sound ruled =
     (λ (f : (issue id.slot h == id.issue) ≡ false). let past : id.issue < issue id.slot h = grind (arith, nat_tests) in inl past)
     (either_way (issue id.slot h == id.issue))
 
+-- a list with a deed more, or as it is
+grows_if : (b : Bool) (d : Deed) (h : List Deed) → Grows h (if b then d ∷ h else h)
+grows_if true d h = record { deeds = d ∷ []; is = refl }
+grows_if false d h = record { deeds = []; is = refl }
+
 module _ (shape : ℕ → Option Shape) (k : Config) (c : ℕ) (id : Speculation) where
   -- what a service leaves of a slot
   settled_at_grows : (s : ℕ) (h : List Deed) → Grows h (settled_at shape k c s h)
-  settled_at_grows s h = go (owes shape k c s h)
-    where
-      go : (b : Bool) → Grows h (if b then Settle c (present s h) (settles_as shape k c (verdict (present s h) h) (present s h) h) ∷ h else h)
-      go true = record { deeds = Settle c (present s h) (settles_as shape k c (verdict (present s h) h) (present s h) h) ∷ []; is = refl }
-      go false = record { deeds = []; is = refl }
+  settled_at_grows s h = grows_if (owes shape k c s h) _ h
 
   settled_at_issue : (t s : ℕ) (h : List Deed) → issue t (settled_at shape k c s h) ≡ issue t h
   settled_at_issue t s h = go (owes shape k c s h)
@@ -101,11 +102,7 @@ module _ (shape : ℕ → Option Shape) (k : Config) (c : ℕ) (id : Speculation
 
 module _ (k : Config) (id : Speculation) where
   cleaned_at_grows : (s : ℕ) (h : List Deed) → Grows h (cleaned_at k s h)
-  cleaned_at_grows s h = go (is_reapable k s h)
-    where
-      go : (b : Bool) → Grows h (if b then Release s ∷ h else h)
-      go true = record { deeds = Release s ∷ []; is = refl }
-      go false = record { deeds = []; is = refl }
+  cleaned_at_grows s h = grows_if (is_reapable k s h) _ h
 
   cleaned_up_grows : (n : ℕ) (h : List Deed) → Grows h (cleaned_up k n h)
   cleaned_up_grows zero h = record { deeds = []; is = refl }

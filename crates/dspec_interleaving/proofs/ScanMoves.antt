@@ -2,7 +2,7 @@
 use Rattle.std.proofs.Common.{◌≡◌, ℕ, ◌+◌, true, List, [], ◌∷◌, Option, Some, None, refl}
 use Rattle.dspec_record.specs.declared.field.Shape.{Shape}
 use Rattle.dspec_word.specs.declared.act.Act.{Act}
-use Rattle.dspec_word.specs.declared.act.Act.TheVariants.{Void, Granted, Attempt, Idle}
+use Rattle.dspec_word.specs.declared.act.Act.TheVariants.{Attempt}
 use Rattle.dspec_interleaving.specs.Words.{Speculation, SlotState, CpuProgress, word_at, missed, shown_scan, same_word, cpu_step, measured}
 use Rattle.dspec_deeds.specs.declared.config.Config.{Config}
 use Rattle.dspec_deeds.specs.declared.calls.Answer.{Answer}
@@ -15,10 +15,8 @@ use Rattle.dspec_interleaving.specs.declared.flight.CallPlace.TheVariants as cpu
 module _ (shape : ℕ → Option Shape) (k : Config) (c : ℕ) (h : List Deed) (me : CpuProgress) (s : ℕ) where
   -- the table opens nothing
   pub shown_misses : (w : SlotState) (act : Act) → ((to : SlotState) → act ≡ Attempt to → ⊥) → shown_scan k c (measured shape k c h) me s w act ≡ missed k c (measured shape k c h) me s w
-  shown_misses w Void none = refl
-  shown_misses w Granted none = refl
   shown_misses w (Attempt to) none = absurd (none to refl)
-  shown_misses w Idle none = refl
+  shown_misses w act none = refl
 
   -- the table attempts an exchange, which is next
   pub scan_tried : (w now to : SlotState) (act : Act) (a : Option Answer) → w ≡ now → act ≡ Attempt to → a ≡ None

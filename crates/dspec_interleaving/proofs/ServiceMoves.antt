@@ -4,7 +4,7 @@ use Rattle.std.specs.Prelude.{nat_lt}
 use Rattle.std.proofs.lemmas.Bool.Decides.{nat_tests}
 use Rattle.dspec_record.specs.declared.field.Shape.{Shape}
 use Rattle.dspec_word.specs.declared.act.Act.{Act}
-use Rattle.dspec_word.specs.declared.act.Act.TheVariants.{Void, Granted, Attempt, Idle}
+use Rattle.dspec_word.specs.declared.act.Act.TheVariants.{Granted}
 use Rattle.dspec_interleaving.specs.Words.{SlotState, CpuProgress, Spare, is_fill, seals, asked, begun, served, shown_service, measured}
 use Rattle.dspec_deeds.specs.declared.config.Config.{Config}
 use Rattle.dspec_deeds.specs.declared.calls.Answer.{Answer}
@@ -46,10 +46,7 @@ module _ (shape : ℕ → Option Shape) (k : Config) (c : ℕ) (h : List Deed) (
   pub asks_spare : (place : Spare) (asks : Bool) (a : Option Answer) → place ≢ spare.InHand → asks ≡ true → a ≡ None
       → record { progress = record me { flight = Some cpu.ServicePop; steps = me.steps + 1 }; deeds = []; answer = a } ≡ asked k c (measured shape k c h) me asks place
   asks_spare spare.InHand asks a out e none = absurd (out refl)
-  asks_spare spare.Sealed asks a out e none = rw (e, none) refl
-  asks_spare spare.Handed asks a out e none = rw (e, none) refl
-  asks_spare spare.Out asks a out e none = rw (e, none) refl
-  asks_spare spare.GivenBack asks a out e none = rw (e, none) refl
+  asks_spare place asks a out e none = rw (e, none) refl
 
   -- the table grants a settlement, whose store is next
   pub store_next : (s : ℕ) (sum : Served) (w now : SlotState) (act : Act) (a : Option Answer) → w ≡ now → act ≡ Granted → a ≡ None
@@ -58,7 +55,5 @@ module _ (shape : ℕ → Option Shape) (k : Config) (c : ℕ) (h : List Deed) (
 
   -- the table grants nothing
   pub passed_by : (s : ℕ) (sum : Served) (w : SlotState) (act : Act) → act ≢ Granted → shown_service k c (measured shape k c h) me s sum w act ≡ served k c (measured shape k c h) me s [] sum
-  passed_by s sum w Void bare = refl
   passed_by s sum w Granted bare = absurd (bare refl)
-  passed_by s sum w (Attempt to) bare = refl
-  passed_by s sum w Idle bare = refl
+  passed_by s sum w act bare = refl

@@ -1,6 +1,6 @@
 -- A play with no call in flight can close, and what its close leaves, told of the deeds in order of time.
-use Rattle.std.proofs.Common.{◌≡◌, ℕ, ◌<◌, true, List, Option, Some, None, refl, sym, ap, ◌∙◌, subst, arith}
-use Rattle.std.specs.Prelude.{Result, Ok, Err, IfOk, is_none, reverse}
+use Rattle.std.proofs.Common.{◌≡◌, ℕ, ◌<◌, true, List, Option, sym, ap, ◌∙◌, subst, arith}
+use Rattle.std.specs.Prelude.{Result, Ok, Err, IfOk, reverse}
 use Rattle.std.proofs.lemmas.Bool.Decides.{nat_tests}
 use Rattle.std.proofs.lemmas.List.{reverse-reverse}
 use Rattle.dspec_record.specs.declared.field.Shape.{Shape}
@@ -9,19 +9,16 @@ use Rattle.dspec_deeds.specs.declared.calls.Actor.TheVariants as actor
 use Rattle.dspec_deeds.specs.declared.config.Config.{Config}
 use Rattle.dspec_deeds.specs.declared.deed.Deed.{Deed}
 use Rattle.dspec_interleaving.specs.Words.{Close, is_actor, is_idle, CanClose, closing, progress_of, PlayState, IsCoherent, IsLegal}
-use Rattle.dspec_interleaving.proofs.ClosedAuthors.{closing_authors}
+use Rattle.dspec_interleaving.proofs.ClosedParts.{closing_authors}
 use Rattle.dspec_interleaving.proofs.Closing.{can_close, closing_closes}
+use Rattle.dspec_interleaving.proofs.Tests.{is_nothing}
 
 is_there : (k : Config) (c : ℕ) → c < k.cpus → is_actor k (actor.Cpu c) ≡ true
 is_there k c lt = grind (arith, nat_tests)
 
-none_is : {T : Type 0} (o : Option T) → is_none o ≡ true → o ≡ None
-none_is None e = refl
-none_is (Some x) e = absurd (cc (e))
-
 -- where every actor is idle
 pub idle_closes : (shape : ℕ → Option Shape) (st : PlayState) → IsCoherent shape st → ((a : Actor) → is_actor st.config a ≡ true → is_idle a st ≡ true) → CanClose shape st.config st.deeds
-idle_closes shape st ok idle = can_close shape st ok (λ c lt. none_is (progress_of st.progresses c).flight (idle (actor.Cpu c) (is_there st.config c lt)))
+idle_closes shape st ok idle = can_close shape st ok (λ c lt. is_nothing (progress_of st.progresses c).flight (idle (actor.Cpu c) (is_there st.config c lt)))
 
 -- what is so of the list at the close is so of the deeds that are handed out
 pub told_in_order : {E : Type 0} (P : List Deed → Close → Type 0) (ds : List Deed) (r : Result Close E) → IfOk r (λ close. close.deeds ≡ reverse ds) → IfOk r (P ds)

@@ -8,7 +8,7 @@ use Rattle.dspec_interleaving.specs.Words.{IsReleasing, ReleasesLast, DecidesNot
 use Rattle.dspec_deeds.specs.declared.calls.Actor.TheVariants.{Cpu, Consumer}
 use Rattle.dspec_deeds.specs.declared.deed.DecideFate.{DecideFate}
 use Rattle.dspec_deeds.specs.declared.deed.Deed.{Deed}
-use Rattle.dspec_deeds.specs.declared.deed.Deed.TheVariants.{Trace, Scan, Opened, Miss, Speculate, Commit, Discard, Settle, Seal, Release, Halt}
+use Rattle.dspec_deeds.specs.declared.deed.Deed.TheVariants.{Release, Halt}
 use Rattle.dspec_interleaving.specs.declared.flight.CallPlace.TheVariants as cpu
 use Rattle.dspec_deeds.proofs.Going.{AllBy}
 use Rattle.dspec_interleaving.proofs.WornCpuSteps.{goes_untold}
@@ -17,34 +17,11 @@ use Rattle.dspec_interleaving.proofs.CpuSteps.{cpu_step_stands}
 use Rattle.dspec_interleaving.proofs.StepsAlone.{ReleasedNow, ReleasesNext}
 
 -- the consumer's deeds decide nothing
-pub consumer_decides_not : (id : Speculation) (ds h : List Deed) → AllBy Consumer ds h → solo id (ds ++ h) ≡ solo id h
-consumer_decides_not id [] h by = refl
-consumer_decides_not id (Trace c r f ∷ ds) h by = absurd (true≢false (sym by.1))
-consumer_decides_not id (Scan c run ∷ ds) h by = absurd (true≢false (sym by.1))
-consumer_decides_not id (Opened c j ∷ ds) h by = absurd (true≢false (sym by.1))
-consumer_decides_not id (Miss c s b ∷ ds) h by = absurd (true≢false (sym by.1))
-consumer_decides_not id (Speculate c j r f ∷ ds) h by = absurd (true≢false (sym by.1))
-consumer_decides_not id (Commit c j f ∷ ds) h by = absurd (true≢false (sym by.1))
-consumer_decides_not id (Discard c j f ∷ ds) h by = absurd (true≢false (sym by.1))
-consumer_decides_not id (Settle c j f ∷ ds) h by = absurd (true≢false (sym by.1))
-consumer_decides_not id (Seal c ∷ ds) h by = absurd (true≢false (sym by.1))
+consumer_decides_not : (id : Speculation) (ds h : List Deed) → AllBy Consumer ds h → (verdict id (ds ++ h) ≡ verdict id h) × (solo id (ds ++ h) ≡ solo id h)
+consumer_decides_not id [] h by = (refl, refl)
 consumer_decides_not id (Release s ∷ ds) h by = consumer_decides_not id ds h by.0
 consumer_decides_not id (Halt ∷ ds) h by = consumer_decides_not id ds h by.0
-
--- the consumer's deeds rule nothing
-consumer_rules_not : (id : Speculation) (ds h : List Deed) → AllBy Consumer ds h → verdict id (ds ++ h) ≡ verdict id h
-consumer_rules_not id [] h by = refl
-consumer_rules_not id (Trace c r f ∷ ds) h by = absurd (true≢false (sym by.1))
-consumer_rules_not id (Scan c run ∷ ds) h by = absurd (true≢false (sym by.1))
-consumer_rules_not id (Opened c j ∷ ds) h by = absurd (true≢false (sym by.1))
-consumer_rules_not id (Miss c s b ∷ ds) h by = absurd (true≢false (sym by.1))
-consumer_rules_not id (Speculate c j r f ∷ ds) h by = absurd (true≢false (sym by.1))
-consumer_rules_not id (Commit c j f ∷ ds) h by = absurd (true≢false (sym by.1))
-consumer_rules_not id (Discard c j f ∷ ds) h by = absurd (true≢false (sym by.1))
-consumer_rules_not id (Settle c j f ∷ ds) h by = absurd (true≢false (sym by.1))
-consumer_rules_not id (Seal c ∷ ds) h by = absurd (true≢false (sym by.1))
-consumer_rules_not id (Release s ∷ ds) h by = consumer_rules_not id ds h by.0
-consumer_rules_not id (Halt ∷ ds) h by = consumer_rules_not id ds h by.0
+consumer_decides_not id d h by = absurd (true≢false (sym by.1))
 
 module _ (shape : ℕ → Option Shape) (st : PlayState) (ok : IsCoherent shape st) where
   -- the side that a step of the CPU leaves
@@ -77,7 +54,7 @@ module _ (shape : ℕ → Option Shape) (st : PlayState) (ok : IsCoherent shape 
       go None is = record { verdicts = λ id. refl; solos = λ id. refl }
       go (Some f) is =
           let did = consumer_keeps shape st.config st.deeds st.side st.progresses ok.ranges ok.legal ok.rests ok.count ok.stands f (subst (StandsState st.config st.deeds st.side) is ok.side) in
-          record { verdicts = λ id. consumer_rules_not id _ st.deeds did.goes.by; solos = λ id. consumer_decides_not id _ st.deeds did.goes.by }
+          record { verdicts = λ id. (consumer_decides_not id _ st.deeds did.goes.by).0; solos = λ id. (consumer_decides_not id _ st.deeds did.goes.by).1 }
 
   -- the step behind such a commit releases the slot, and is the call's last
   pub released_next : (c : ℕ) → c < st.config.cpus → (id : Speculation) (f : DecideFate) → (progress_of st.progresses c).flight ≡ Some (cpu.CommitRelease id f)

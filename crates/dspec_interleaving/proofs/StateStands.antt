@@ -52,10 +52,9 @@ module _ (shape : ℕ → Option Shape) (k : Config) (a : ℕ) (ds h : List Deed
       (now.shown, st.1, now.below)
 
   stands_consumer : (side : ConsumerProgress) (f : ConsumerFlight) → StandsConsumer k h side f → StandsConsumer k (ds ++ h) side f
-  stands_consumer side (consumer.Begun o) st = st
-  stands_consumer side (consumer.CleanLoad s n) st = st
   stands_consumer side (consumer.CleanAck s w c n) st = (st.0, st.1, st.2, settled_below c s w st.3, st.4)
   stands_consumer side (consumer.CleanReap s w n) st = (st.0, st.1, settled_below k.cpus s w st.2, st.3)
+  stands_consumer side f st = st
 
   -- a CPU's deeds leave the consumer's side standing
   pub side_stands : (side : ConsumerProgress) (f : Option ConsumerFlight) → StandsState k h side f → StandsState k (ds ++ h) side f

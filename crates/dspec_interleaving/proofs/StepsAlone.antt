@@ -8,7 +8,7 @@ use Rattle.dspec_deeds.specs.declared.calls.Answer.{Answer}
 use Rattle.dspec_deeds.specs.declared.deed.DecideFate.{DecideFate}
 use Rattle.dspec_deeds.specs.declared.deed.DecideFate.TheVariants as decided
 use Rattle.dspec_deeds.specs.declared.deed.Deed.{Deed}
-use Rattle.dspec_deeds.specs.declared.deed.Deed.TheVariants.{Trace, Scan, Opened, Miss, Speculate, Commit, Discard, Settle, Seal, Release, Halt}
+use Rattle.dspec_deeds.specs.declared.deed.Deed.TheVariants.{Speculate, Commit, Discard, Release}
 use Rattle.dspec_interleaving.specs.declared.flight.CallPlace.TheVariants as cpu
 use Rattle.dspec_deeds.proofs.TestLemmas.{either_way, and_tells, same_id_tells}
 use Rattle.dspec_deeds.proofs.PresentIds.{open_present}
@@ -34,17 +34,8 @@ DecidesBeside d h next = Unit {0}
 
 -- no release is owed behind such a deed
 pub beside_rests : (d : Deed) (h : List Deed) (next : Option CallPlace) → DecidesBeside d h next → owing d h ≡ 0
-beside_rests (Trace c r f) h next e = refl
-beside_rests (Scan c run) h next e = refl
-beside_rests (Opened c id) h next e = refl
-beside_rests (Miss c s b) h next e = refl
-beside_rests (Speculate c id r f) h next e = refl
-beside_rests (Commit c id f) h next e = refl
 beside_rests (Discard c id f) h next e = rw e refl
-beside_rests (Settle c id f) h next e = refl
-beside_rests (Seal c) h next e = refl
-beside_rests (Release s) h next e = refl
-beside_rests Halt h next e = refl
+beside_rests d h next e = refl
 
 -- a step of no deed decides nothing
 pub none_rules : (c : ℕ) (h : List Deed) (next : Option CallPlace) (told : Option Answer) → KeepsSoloRule c h [] next told
@@ -52,10 +43,6 @@ none_rules c h next told id before after = absurd (after before)
 
 pub one_rules : (k : Config) (c : ℕ) (d : Deed) (h : List Deed) (next : Option CallPlace) (told : Option Answer) → IsSound k (d ∷ h) → author d h ≡ Cpu c
     → DecidesBeside d h next → KeepsSoloRule c h (d ∷ []) next told
-one_rules k c (Trace a r f) h next told s by beside id before after = absurd (after before)
-one_rules k c (Scan a run) h next told s by beside id before after = absurd (after before)
-one_rules k c (Opened a j) h next told s by beside id before after = absurd (after before)
-one_rules k c (Miss a n b) h next told s by beside id before after = absurd (after before)
 one_rules k c (Speculate a j r f) h next told s by beside id before after = ⊎_elim
     (λ (t : (spoken_granted f && same_id id j) ≡ true).
     let both = and_tells (spoken_granted f) (same_id id j) t in
@@ -86,10 +73,7 @@ one_rules k c (Discard a j f) h next told s by beside id before after = ⊎_elim
     absurd (after (ap (λ b. solo_of (latest (if b then discarded a else undecided) (verdict id h)) (callers id h)) t ∙ ap (λ b. if b then Some a else None) others)))
     (λ (e : (is_discard f && same_id id j) ≡ false). absurd (after (ap (λ b. solo_of (latest (if b then discarded a else undecided) (verdict id h)) (callers id h)) e ∙ before)))
     (either_way (is_discard f && same_id id j))
-one_rules k c (Settle a j f) h next told s by beside id before after = absurd (after before)
-one_rules k c (Seal a) h next told s by beside id before after = absurd (after before)
-one_rules k c (Release n) h next told s by beside id before after = absurd (after before)
-one_rules k c Halt h next told s by beside id before after = absurd (after before)
+one_rules k c d h next told s by beside id before after = absurd (after before)
 
 -- a discard that releases the slot
 pub released_rules : (c n : ℕ) (id : Speculation) (h : List Deed) → KeepsSoloRule c h (Release id.slot ∷ Discard c id (decided.Thrown n) ∷ []) None (Some (answer_of (decided.Thrown n)))

@@ -1,11 +1,14 @@
 -- What the steps of a CPU's calls have in common.
-use Rattle.std.proofs.Common.{◌≡◌, ◌≢◌, ◌≤◌, ◌+◌, ℕ, true, false, List, [], ◌∷◌, ◌++◌, Option, Some, None, refl, sym, ap, ◌∙◌, subst, ⊎_elim, arith}
+use Rattle.std.proofs.Common.{◌≡◌, ◌≢◌, ◌≤◌, ◌+◌, ℕ, Bool, true, false, if◌then◌else◌, List, [], ◌∷◌, ◌++◌, Option, Some, None, refl, sym, ap, ◌∙◌, subst, ⊎_elim, arith}
 use Rattle.std.specs.Prelude.{nat_le}
 use Rattle.std.proofs.lemmas.Bool.Decides.{nat_tests}
 use Rattle.dspec_record.specs.declared.field.Shape.{Shape}
 use Rattle.dspec_interleaving.specs.Words.{Speculation, CpuProgress, CallPlace, Spare, start_fault, author, same_actor, owed, owing, scan, in_range, opened, is_undecided, verdict, is_open, releaser}
 use Rattle.dspec_interleaving.specs.Words.{seals, seals_now, IsSound, IsAllowed, CpuLegal, MayComeBy, Pays, facts, CpuStep, call_goes_on, ends, wears, IsSlot, StandsCpu, SpareCounts, PushesNext}
-use Rattle.dspec_interleaving.specs.Words.{ProgressStands}
+use Rattle.dspec_interleaving.specs.Words.{ProgressStands, halted, is_worn, late, OnItsWay, Expects, TriedBy, SlotState, word_at, callers, is_among, code_number, same_word}
+use Rattle.dspec_word.specs.declared.act.Act.{Act}
+use Rattle.dspec_word.specs.declared.act.Act.TheVariants.{Attempt}
+use Rattle.dspec_interleaving.proofs.StepsWords.{same_word_tells, code_rises}
 use Rattle.dspec_deeds.specs.declared.config.Config.{Config}
 use Rattle.dspec_deeds.specs.declared.calls.Actor.TheVariants.{Cpu}
 use Rattle.dspec_deeds.specs.declared.calls.Answer.{Answer}
@@ -13,7 +16,7 @@ use Rattle.dspec_deeds.specs.declared.deed.Deed.{Deed}
 use Rattle.dspec_interleaving.specs.declared.flight.CallPlace.TheVariants as cpu
 use Rattle.dspec_interleaving.specs.declared.flight.Spare.TheVariants as spare
 use Rattle.dspec_deeds.proofs.TestLemmas.{either_way, off, and_tells, cpu_is_itself}
-use Rattle.dspec_deeds.proofs.SoundLists.{opened_in_range}
+use Rattle.dspec_deeds.proofs.SoundLists.{opened_in_range, running_not_late}
 use Rattle.dspec_deeds.proofs.SetUp.{set_up}
 use Rattle.dspec_deeds.proofs.Going.{GoesOn}
 use Rattle.dspec_interleaving.proofs.StepsAlone.{KeepsSoloRule, DecidesBeside, beside_rests, none_rules, one_rules}
@@ -39,17 +42,20 @@ pub record StepStands (shape : ℕ → Option Shape) (k : Config) (c : ℕ) (h :
 
 -- no sealed batch waits for its push outside the step that pushes it
 pub pushes_not : (place : Spare) (f : CallPlace) (flight : Option CallPlace) → flight ≡ Some f → f ≢ cpu.ServicePush → PushesNext place flight → (next : Option CallPlace) → PushesNext place next
-pushes_not spare.InHand f flight is other p next = tt
 pushes_not spare.Sealed f flight is other p next = absurd (other (cc (p, is)))
-pushes_not spare.Handed f flight is other p next = tt
-pushes_not spare.Out f flight is other p next = tt
-pushes_not spare.GivenBack f flight is other p next = tt
+pushes_not place f flight is other p next = tt
 
 -- a deed that seals nothing
 seals_stay : (c : ℕ) (d : Deed) (h : List Deed) → seals_now c d ≡ false → seals c (d ∷ h) ≡ seals c h
 seals_stay c d h e = rw e (omega arith)
 
-module _ (shape : ℕ → Option Shape) (k : Config) (c : ℕ) (h : List Deed) (me : CpuProgress) (play : IsUnderWay shape k c h me) where
+-- whichever way a test falls
+pub either_stands : {shape : ℕ → Option Shape} {k : Config} {c : ℕ} {h : List Deed} {x y : CpuStep} (b : Bool) → (b ≡ true → StepStands shape k c h x) → (b ≡ false → StepStands shape k c h y)
+    → StepStands shape k c h (if b then x else y)
+either_stands true p q = p refl
+either_stands false p q = q refl
+
+module _ {shape : ℕ → Option Shape} {k : Config} {c : ℕ} {h : List Deed} {me : CpuProgress} (play : IsUnderWay shape k c h me) where
   none_comes : GoesOn shape k (Cpu c) [] h
   none_comes = record { legal = play.legal; rests = play.rests; by = tt }
 
@@ -99,6 +105,11 @@ module _ (shape : ℕ → Option Shape) (k : Config) (c : ℕ) (h : List Deed) (
     solo_rule = none_rules c h None (Some a);
   }
 
+  -- a call that counts begins: it is worn, or the session is stopped, or it goes on
+  pub begins_stand : (a b : Answer) (d : Deed) (x : CpuStep) → scan k c h ≡ 0 → (halted h ≡ true → StepStands shape k c h (ends me (d ∷ []) b)) → (halted h ≡ false → StepStands shape k c h x)
+      → StepStands shape k c h (if is_worn k c h then wears me a else if halted h then ends me (d ∷ []) b else x)
+  begins_stand a b d x idle stopped on = either_stands (is_worn k c h) (λ t. wears_stand a idle) (λ f. either_stands (halted h) stopped on)
+
 -- an identifier out of range is not open
 pub out_not_open : (k : Config) (h : List Deed) (id : Speculation) → start_fault k ≡ None → IsSound k h → in_range k id ≡ false → is_open id h ≡ false
 out_not_open k h id ranges s out = ⊎_elim
@@ -111,6 +122,42 @@ out_not_open k h id ranges s out = ⊎_elim
     off (in_range k id) is out)
     (λ f. f)
     (either_way (is_open id h))
+
+-- what a table attempts at a word tells of it
+abbrev pub Tells : ℕ → (SlotState → Speculation → Bool → Act) → Type 0
+Tells most table = (w to : SlotState) (id : Speculation) (mine : Bool) → table w id mine ≡ Attempt to → (w.issue ≡ id.issue) × (1 ≤ code_number w.code) × (code_number w.code ≤ most)
+
+module _ {shape : ℕ → Option Shape} {k : Config} {c : ℕ} {h : List Deed} {me : CpuProgress} (play : IsUnderWay shape k c h me) where
+  -- the first step of a call on an identifier: where the slot is in range its word is loaded next
+  pub asks_stand : (id : Speculation) (load : CallPlace) (a b : Answer) (d : Deed) (y : CpuStep) → scan k c h ≡ 0 → (halted h ≡ true → StepStands shape k c h (ends me (d ∷ []) b))
+      → (OnItsWay k c h id → StandsCpu k c h (record me { flight = Some load; steps = me.steps + 1 }) load) → (late c h ≡ false → is_open id h ≡ false → StepStands shape k c h y)
+      → StepStands shape k c h (if is_worn k c h then wears me a else if halted h then ends me (d ∷ []) b else if in_range k id then call_goes_on me [] load else y)
+  asks_stand id load a b d y idle stopped loads void = begins_stand play a b d _ idle stopped (λ run. either_stands (in_range k id)
+      (λ t. goes_by_none play load (loads record { in_range = t; scans_not = idle; early = running_not_late c h run }))
+      (λ out. void (running_not_late c h run) (out_not_open k h id play.ranges play.legal.0 out)))
+
+  -- so few steps were made that an exchange that the table attempts now is in time
+  abbrev pub IsEarly : (SlotState → Speculation → Bool → Act) → Speculation → Type 0
+  IsEarly table id = (to : SlotState) → table (word_at id.slot h) id (is_among c (callers id h)) ≡ Attempt to → me.steps ≤ code_number (word_at id.slot h).code
+
+  pub load_early : {most : ℕ} (table : SlotState → Speculation → Bool → Act) → Tells most table → (id : Speculation) → me.steps ≡ 1 → IsEarly table id
+  load_early table tells id first to e = let least = (tells (word_at id.slot h) to id (is_among c (callers id h)) e).1 in omega arith
+
+  -- an exchange that finds the word that it expects, or another
+  pub try_stands : {most : ℕ} (table : SlotState → Speculation → Bool → Act) → Tells most table → (id : Speculation) (from : SlotState) (x y : CpuStep)
+      → Expects (table from id (is_among c (callers id h))) from id h × TriedBy me.steps from
+      → ((to : SlotState) → table from id (is_among c (callers id h)) ≡ Attempt to → table (word_at id.slot h) id (is_among c (callers id h)) ≡ Attempt to → StepStands shape k c h x)
+      → (IsEarly table id → StepStands shape k c h y) → StepStands shape k c h (if same_word (word_at id.slot h) from then x else y)
+  try_stands table tells id from x y at hit other =
+      let mine = is_among c (callers id h) in
+      either_stands (same_word (word_at id.slot h) from)
+      (λ e. hit at.0.to at.0.attempts (subst (λ w. table w id mine ≡ Attempt at.0.to) (sym (same_word_tells (word_at id.slot h) from e)) at.0.attempts))
+      (λ e. other (λ to now.
+      let was = (tells from at.0.to id mine at.0.attempts).0 in
+      let is = (tells (word_at id.slot h) to id mine now).0 in
+      let greater = code_rises from (word_at id.slot h) id.issue was is at.0.rises e in
+      let steps = at.1 in
+      omega arith))
 
 pub slot_in_range : (k : Config) (id : Speculation) → in_range k id ≡ true → IsSlot k id.slot
 slot_in_range k id e =

@@ -7,7 +7,7 @@ use Rattle.dspec_word.specs.declared.act.Act.TheVariants.{Void, Granted, Attempt
 use Rattle.dspec_word.specs.declared.code.Code.{Code}
 use Rattle.dspec_word.specs.declared.code.Code.TheVariants.{Inactive, Active, ActiveOne, ActiveMany, Committing, CommittingMany, Discarding}
 use Rattle.dspec_interleaving.specs.Words.{code_number, is_inactive, awaits, Speculation, SlotState, word_number, speculate_at, speculate_act, commit_at, commit_act, discard_at, discard_act}
-use Rattle.dspec_interleaving.specs.Words.{open_at, settle_at, same_word, is_alone}
+use Rattle.dspec_interleaving.specs.Words.{open_at, settle_at, same_word, is_alone, is_release, released}
 use Rattle.dspec_word.proofs.Numbers.{one_code, one_word}
 use Rattle.dspec_deeds.proofs.TestLemmas.{either_way, off, and_tells, same_number, number_is_itself}
 
@@ -42,31 +42,41 @@ code_rises from w n a b le other = ⊎_elim
     omega arith)
     (either_way (code_number w.code == code_number from.code))
 
--- a table that attempts nothing at an inactive word
-attempts_tell : (w to : SlotState) (id : Speculation) (table : Code → Act) → table Inactive ≡ Void → (if w.issue == id.issue then table w.code else Void) ≡ Attempt to
-    → (w.issue ≡ id.issue) × (1 ≤ code_number w.code)
-attempts_tell w to id table none e = ⊎_elim
-    (λ (t : (w.issue == id.issue) ≡ true). (same_number w.issue id.issue t, go w.code (subst (λ b. (if b then table w.code else Void) ≡ Attempt to) t e)))
+-- what a table attempts at a word of the identifier's issue, and at some codes
+attempts_tell : (w to : SlotState) (id : Speculation) (most : ℕ) (table : Code → Act) → ((code : Code) → table code ≡ Attempt to → (1 ≤ code_number code) × (code_number code ≤ most))
+    → (if w.issue == id.issue then table w.code else Void) ≡ Attempt to → (w.issue ≡ id.issue) × (1 ≤ code_number w.code) × (code_number w.code ≤ most)
+attempts_tell w to id most table codes e = ⊎_elim
+    (λ (t : (w.issue == id.issue) ≡ true).
+    let code = codes w.code (subst (λ b. (if b then table w.code else Void) ≡ Attempt to) t e) in
+    (same_number w.issue id.issue t, code.0, code.1))
     (λ (f : (w.issue == id.issue) ≡ false). absurd (cc (subst (λ b. (if b then table w.code else Void) ≡ Attempt to) f e)))
     (either_way (w.issue == id.issue))
+
+pub speculate_tells : (w to : SlotState) (id : Speculation) (mine : Bool) → speculate_at w id mine ≡ Attempt to → (w.issue ≡ id.issue) × (1 ≤ code_number w.code) × (code_number w.code ≤ 2)
+speculate_tells w to id mine e = attempts_tell w to id 2 (speculate_act w.issue mine) codes e
   where
-    go : (code : Code) → table code ≡ Attempt to → 1 ≤ code_number code
-    go Inactive e = absurd (cc (none, e))
-    go Active e = omega arith
-    go ActiveOne e = omega arith
-    go ActiveMany e = omega arith
-    go Committing e = omega arith
-    go CommittingMany e = omega arith
-    go Discarding e = omega arith
+    codes : (code : Code) → speculate_act w.issue mine code ≡ Attempt to → (1 ≤ code_number code) × (code_number code ≤ 2)
+    codes Active e = (omega arith, omega arith)
+    codes ActiveOne e = (omega arith, omega arith)
+    codes code e = absurd (cc (e))
 
-pub speculate_tells : (w to : SlotState) (id : Speculation) (mine : Bool) → speculate_at w id mine ≡ Attempt to → (w.issue ≡ id.issue) × (1 ≤ code_number w.code)
-speculate_tells w to id mine e = attempts_tell w to id (speculate_act w.issue mine) refl e
+pub commit_tells : (w to : SlotState) (id : Speculation) (mine : Bool) → commit_at w id mine ≡ Attempt to → (w.issue ≡ id.issue) × (1 ≤ code_number w.code) × (code_number w.code ≤ 3)
+commit_tells w to id mine e = attempts_tell w to id 3 (commit_act w.issue mine) codes e
+  where
+    codes : (code : Code) → commit_act w.issue mine code ≡ Attempt to → (1 ≤ code_number code) × (code_number code ≤ 3)
+    codes Active e = (omega arith, omega arith)
+    codes ActiveOne e = (omega arith, omega arith)
+    codes ActiveMany e = (omega arith, omega arith)
+    codes code e = absurd (cc (e))
 
-pub commit_tells : (w to : SlotState) (id : Speculation) (mine : Bool) → commit_at w id mine ≡ Attempt to → (w.issue ≡ id.issue) × (1 ≤ code_number w.code)
-commit_tells w to id mine e = attempts_tell w to id (commit_act w.issue mine) refl e
-
-pub discard_tells : (w to : SlotState) (id : Speculation) (mine : Bool) → discard_at w id mine ≡ Attempt to → (w.issue ≡ id.issue) × (1 ≤ code_number w.code)
-discard_tells w to id mine e = attempts_tell w to id (discard_act w.issue mine) refl e
+pub discard_tells : (w to : SlotState) (id : Speculation) (mine : Bool) → discard_at w id mine ≡ Attempt to → (w.issue ≡ id.issue) × (1 ≤ code_number w.code) × (code_number w.code ≤ 3)
+discard_tells w to id mine e = attempts_tell w to id 3 (discard_act w.issue mine) codes e
+  where
+    codes : (code : Code) → discard_act w.issue mine code ≡ Attempt to → (1 ≤ code_number code) × (code_number code ≤ 3)
+    codes Active e = (omega arith, omega arith)
+    codes ActiveOne e = (omega arith, omega arith)
+    codes ActiveMany e = (omega arith, omega arith)
+    codes code e = absurd (cc (e))
 
 -- a call of speculate is never idle
 pub speculate_not_idle : (w : SlotState) (id : Speculation) (mine : Bool) → speculate_at w id mine ≢ Idle
@@ -74,14 +84,9 @@ speculate_not_idle w id mine = go (w.issue == id.issue) mine w.code
   where
     go : (b m : Bool) (code : Code) → (if b then speculate_act w.issue m code else Void) ≢ Idle
     go false m code e = cc (e)
-    go true m Inactive e = cc (e)
-    go true m Active e = cc (e)
     go true true ActiveOne e = cc (e)
     go true false ActiveOne e = cc (e)
-    go true m ActiveMany e = cc (e)
-    go true m Committing e = cc (e)
-    go true m CommittingMany e = cc (e)
-    go true m Discarding e = cc (e)
+    go true m code e = cc (e)
 
 -- the other tables attempt an exchange or do nothing
 abbrev pub is_plain : Act → Bool
@@ -94,28 +99,18 @@ commit_plain w id mine = go (w.issue == id.issue) mine w.code
   where
     go : (b m : Bool) (code : Code) → is_plain (if b then commit_act w.issue m code else Void) ≡ true
     go false m code = refl
-    go true m Inactive = refl
-    go true m Active = refl
     go true true ActiveOne = refl
     go true false ActiveOne = refl
-    go true m ActiveMany = refl
-    go true m Committing = refl
-    go true m CommittingMany = refl
-    go true m Discarding = refl
+    go true m code = refl
 
 pub discard_plain : (w : SlotState) (id : Speculation) (mine : Bool) → is_plain (discard_at w id mine) ≡ true
 discard_plain w id mine = go (w.issue == id.issue) mine w.code
   where
     go : (b m : Bool) (code : Code) → is_plain (if b then discard_act w.issue m code else Void) ≡ true
     go false m code = refl
-    go true m Inactive = refl
-    go true m Active = refl
     go true true ActiveOne = refl
     go true false ActiveOne = refl
-    go true m ActiveMany = refl
-    go true m Committing = refl
-    go true m CommittingMany = refl
-    go true m Discarding = refl
+    go true m code = refl
 
 pub open_plain : (w : SlotState) (most : ℕ) → is_plain (open_at w most) ≡ true
 open_plain w most = go (is_inactive w.code && nat_lt w.issue most)
@@ -133,14 +128,19 @@ pub alone_early : (w : SlotState) (id : Speculation) (mine : Bool) → is_alone 
 alone_early w id mine e = go (w.issue == id.issue) mine w.code e
   where
     go : (b m : Bool) (code : Code) → is_alone (if b then commit_act w.issue m code else Void) ≡ true → code_number code ≤ 2
-    go false m code e = absurd (true≢false (sym e))
     go true m Inactive e = omega arith
     go true m Active e = omega arith
     go true m ActiveOne e = omega arith
-    go true m ActiveMany e = absurd (true≢false (sym e))
-    go true m Committing e = absurd (true≢false (sym e))
-    go true m CommittingMany e = absurd (true≢false (sym e))
-    go true m Discarding e = absurd (true≢false (sym e))
+    go b m code e = absurd (true≢false (sym e))
+
+-- the tests of the words that a commit and a discard attempt
+pub code_alone : (i : ℕ) (b : Bool) → is_alone (Attempt record { issue = i; code = if b then Committing else CommittingMany }) ≡ b
+code_alone i true = refl
+code_alone i false = refl
+
+pub word_releases : (i : ℕ) (b : Bool) → is_release (Attempt (if b then released i else record { issue = i; code = Discarding })) ≡ b
+word_releases i true = refl
+word_releases i false = refl
 
 -- what a settlement is granted at
 pub settle_tells : (w : SlotState) (acked : ℕ) → settle_at w acked ≡ Granted → (awaits w.code ≡ true) × (acked ≤ w.issue)

@@ -1,6 +1,6 @@
 -- A whole call that runs alone, step by step, does what the definition of whole calls says.
 use Prim.Native.Nat.{zero, suc}
-use Rattle.std.proofs.Common.{◌≡◌, ◌≢◌, ◌≤◌, ◌<◌, ◌+◌, ◌*◌, ℕ, Bool, true, false, List, [], ◌∷◌, length, Option, Some, None, if◌then◌else◌, refl, sym, ap, ◌∙◌, subst, arith}
+use Rattle.std.proofs.Common.{◌≡◌, ◌≢◌, ◌≤◌, ◌<◌, ◌+◌, ℕ, Bool, true, false, List, [], ◌∷◌, length, Option, Some, None, if◌then◌else◌, refl, sym, ap, ◌∙◌, subst, arith}
 use Rattle.std.specs.Prelude.{nat_lt, slice_set}
 use Rattle.std.proofs.lemmas.Bool.Decides.{nat_tests}
 use Rattle.dspec_record.specs.declared.field.Shape.{Shape}
@@ -15,20 +15,21 @@ use Rattle.dspec_deeds.specs.declared.deed.Deed.{Deed}
 use Rattle.dspec_deeds.specs.declared.deed.Deed.TheVariants.{Halt}
 use Rattle.dspec_interleaving.specs.Words.{CpuProgress, ConsumerProgress, CallPlace, Spare, halted, scan, seals, PlayState, IsCoherent, StandsProgress, SpareCounts, PushesNext, ProgressStands}
 use Rattle.dspec_interleaving.specs.Words.{progress_of, consumer_begun, takes_at, gives_at, stops, took, begin_cpu, begin_consumer, on_to_end, whole_cpu, is_out, behind_cpu, behind_consumer}
-use Rattle.dspec_interleaving.specs.Words.{cpu_call, consumer_call, IsApart, op_bound, consumer_bound}
+use Rattle.dspec_interleaving.specs.Words.{cpu_call, consumer_call, IsApart, op_bound, consumer_bound, is_worn, fits_principal, one}
 use Rattle.dspec_interleaving.specs.declared.flight.ConsumerFlight.TheVariants as consumer
 use Rattle.dspec_interleaving.specs.declared.flight.CallPlace.TheVariants as cpu
 use Rattle.dspec_interleaving.specs.declared.flight.Spare.TheVariants as spare
 use Rattle.dspec_deeds.proofs.SetUp.{set_up}
-use Rattle.dspec_interleaving.proofs.WholeRuns.{whole, runs, runs_more, call_alone}
-use Rattle.dspec_interleaving.proofs.WholeTrace.{begins, idle, trace_alone}
-use Rattle.dspec_interleaving.proofs.WholeSpeculate.{speculate_alone}
-use Rattle.dspec_interleaving.proofs.WholeCommit.{commit_alone, discard_alone}
-use Rattle.dspec_interleaving.proofs.WholeScan.{double, double_is, speculation_alone}
+use Rattle.dspec_interleaving.proofs.WholeLeads.{call_alone}
+use Rattle.dspec_interleaving.proofs.WholeLeads.{begins, idle, RunsTo, starts, worn, ended, both}
+use Rattle.dspec_interleaving.proofs.WholeAsks.{speculate_alone, commit_alone, discard_alone}
+use Rattle.dspec_interleaving.proofs.WholeScan.{speculation_alone}
 use Rattle.dspec_interleaving.proofs.WholeSettling.{IsAtRest}
 use Rattle.dspec_interleaving.proofs.WholeService.{service_alone}
-use Rattle.dspec_interleaving.proofs.CleanedParts.{Clears, clear_ended, clear_more}
-use Rattle.dspec_interleaving.proofs.WholeClean.{plus, plus_is, steps_for, clean_leads}
+use Rattle.dspec_interleaving.proofs.CleanedParts.{Clears, clear_ended}
+use Rattle.dspec_interleaving.proofs.WholeClean.{clean_leads}
+use Rattle.dspec_interleaving.proofs.Coherence.{begin_consumer_coherent}
+use Rattle.dspec_interleaving.proofs.WholeEnds.{bare, same_end, ends_as, cpu_ends_as}
 
 -- one less
 pub less : (n : ℕ) → 1 ≤ n → (j : ℕ) × (suc j ≡ n)
@@ -37,24 +38,15 @@ less (suc j) le = (j, refl)
 
 module _ (shape : ℕ → Option Shape) (k : Config) (c : ℕ) (h : List Deed) (at : IsAtRest k c h) (some : 1 ≤ k.nspec) (me : CpuProgress)
     (counts : SpareCounts (seals c h) me.takes me.spare) (unsealed : me.spare ≢ spare.Sealed) where
-  -- each call's steps, within its bound
-  runs_whole : (o : CpuOp) → runs shape k c (op_bound k o) (begins me o) h None ≡ whole (whole_cpu shape k c (idle me) h o)
-  runs_whole (cpu_op.Trace r) = trace_alone shape k c h me r
-  runs_whole cpu_op.Speculation =
-      let j = less k.nspec some in
-      let d = double_is j.0 in
-      let last = j.1 in
-      let bound : suc (suc (suc (double j.0))) ≤ 1 + 2 * k.nspec = omega arith in
-      runs_more shape k c (suc (suc (suc (double j.0)))) (1 + 2 * k.nspec) (begins me cpu_op.Speculation) h None _ bound (speculation_alone shape k c h at.sound at.rests at.still j.0 me j.1)
-  runs_whole (cpu_op.Speculate id r) = let bound : 3 ≤ 4 = omega arith in runs_more shape k c 3 4 (begins me (cpu_op.Speculate id r)) h None _ bound (speculate_alone shape k c h at.sound some id r me)
-  runs_whole (cpu_op.Commit id) = let bound : 4 ≤ 5 = omega arith in runs_more shape k c 4 5 (begins me (cpu_op.Commit id)) h None _ bound (commit_alone shape k c h at.sound some id me)
-  runs_whole (cpu_op.Discard id) = let bound : 3 ≤ 5 = omega arith in runs_more shape k c 3 5 (begins me (cpu_op.Discard id)) h None _ bound (discard_alone shape k c h at.sound some id me)
-  runs_whole cpu_op.Service =
-      let j = less k.nspec some in
-      let d = double_is j.0 in
-      let last = j.1 in
-      let bound : suc (suc (suc (suc (suc (double j.0))))) ≤ 3 + 2 * k.nspec = omega arith in
-      runs_more shape k c (suc (suc (suc (suc (suc (double j.0)))))) (3 + 2 * k.nspec) (begins me cpu_op.Service) h None _ bound (service_alone shape k c h at j.0 j.1 me counts unsealed)
+  -- each call's steps
+  runs_whole : (o : CpuOp) → RunsTo shape k c h (begins me o) (whole_cpu shape k c (idle me) h o)
+  runs_whole (cpu_op.Trace r) = starts me (cpu_op.Trace r)
+      (both (is_worn k c h) (λ t. worn me) (λ f. both (halted h) (λ t. ended me) (λ g. both (fits_principal shape k c (one r) h) (λ t. ended me) (λ o. ended me))))
+  runs_whole cpu_op.Speculation = let j = less k.nspec some in speculation_alone shape k c h at.sound at.rests at.still j.0 me j.1
+  runs_whole (cpu_op.Speculate id r) = speculate_alone shape k c h at.sound some id r me
+  runs_whole (cpu_op.Commit id) = commit_alone shape k c h at.sound some id me
+  runs_whole (cpu_op.Discard id) = discard_alone shape k c h at.sound some id me
+  runs_whole cpu_op.Service = let j = less k.nspec some in service_alone shape k c h at j.0 j.1 me counts unsealed
 
 -- no batch waits for its push where no call is in flight
 pub none_sealed : (place : Spare) (f : Option CallPlace) → f ≡ None → PushesNext place f → place ≢ spare.Sealed
@@ -63,30 +55,20 @@ none_sealed place f none pushes is = let push : f ≡ Some cpu.ServicePush = sub
 module _ (shape : ℕ → Option Shape) (st : PlayState) (side : ConsumerProgress) where
   -- a take finds a batch exactly where one was sealed that was not taken
   take_leads : (c : ℕ) (me : CpuProgress) (place : Spare) → SpareCounts (seals c st.deeds) me.takes place → place ≢ spare.Sealed
-      → Clears shape st 0 st.deeds (takes_at st.config st.deeds side st.progresses c me place)
+      → Clears shape st st.deeds (takes_at st.config st.deeds side st.progresses c me place)
       (if nat_lt me.takes (seals c st.deeds) then record
       { list = st.deeds; progresses = slice_set st.progresses c (record me { spare = spare.Out; takes = me.takes + 1 }); answer = took me.takes c st.deeds }
       else record { list = st.deeds; progresses = st.progresses; answer = answer.TookNone })
-  take_leads c me spare.InHand n u = let no : nat_lt me.takes (seals c st.deeds) ≡ false = grind (arith, nat_tests) in rw no (clear_ended shape st 0 st.deeds side st.progresses [] answer.TookNone)
   take_leads c me spare.Sealed n u = absurd (u refl)
-  take_leads c me spare.Handed n u = let more : nat_lt me.takes (seals c st.deeds) ≡ true = grind (arith, nat_tests) in rw more record { is = refl }
-  take_leads c me spare.Out n u = let no : nat_lt me.takes (seals c st.deeds) ≡ false = grind (arith, nat_tests) in rw no (clear_ended shape st 0 st.deeds side st.progresses [] answer.TookNone)
-  take_leads c me spare.GivenBack n u = let no : nat_lt me.takes (seals c st.deeds) ≡ false = grind (arith, nat_tests) in rw no (clear_ended shape st 0 st.deeds side st.progresses [] answer.TookNone)
+  take_leads c me spare.Handed n u = let more : nat_lt me.takes (seals c st.deeds) ≡ true = grind (arith, nat_tests) in rw more record { steps = 0; is = refl }
+  take_leads c me place n u = let no : nat_lt me.takes (seals c st.deeds) ≡ false = grind (arith, nat_tests) in rw no (clear_ended side)
 
   give_leads : (c : ℕ) (me : CpuProgress) (place : Spare)
-      → Clears shape st 0 st.deeds (gives_at st.config st.deeds side st.progresses c me place)
+      → Clears shape st st.deeds (gives_at st.config st.deeds side st.progresses c me place)
       (if is_out place then record { list = st.deeds; progresses = slice_set st.progresses c (record me { spare = spare.GivenBack }); answer = answer.GaveBack true }
       else record { list = st.deeds; progresses = st.progresses; answer = answer.GaveBack false })
-  give_leads c me spare.InHand = clear_ended shape st 0 st.deeds side st.progresses [] (answer.GaveBack false)
-  give_leads c me spare.Sealed = clear_ended shape st 0 st.deeds side st.progresses [] (answer.GaveBack false)
-  give_leads c me spare.Handed = clear_ended shape st 0 st.deeds side st.progresses [] (answer.GaveBack false)
-  give_leads c me spare.Out = record { is = refl }
-  give_leads c me spare.GivenBack = clear_ended shape st 0 st.deeds side st.progresses [] (answer.GaveBack false)
-
--- the steps of a clean are its bound's
-steps_of : (cpus j : ℕ) → steps_for cpus j ≡ j * (cpus + 2)
-steps_of cpus zero = omega arith
-steps_of cpus (suc j) = let e = plus_is cpus (steps_for cpus j) in let r = steps_of cpus j in omega arith
+  give_leads c me spare.Out = record { steps = 0; is = refl }
+  give_leads c me place = clear_ended side
 
 module _ (shape : ℕ → Option Shape) (st : PlayState) (ok : IsCoherent shape st) where
   -- a whole call of a CPU
@@ -100,59 +82,41 @@ module _ (shape : ℕ → Option Shape) (st : PlayState) (ok : IsCoherent shape 
       let count = ok.count in
       let there : c < length st.progresses = omega arith in
       let rest : IsAtRest st.config c st.deeds = record { sound = ok.legal.0; rests = ok.rests; still = still.0 } in
-      call_alone shape c st there o (op_bound st.config o) n _ le
-      (runs_whole shape st.config c st.deeds rest (set_up st.config ok.ranges).1 me stands.counts (none_sealed me.spare me.flight none stands.pushes) o)
+      let l = runs_whole shape st.config c st.deeds rest (set_up st.config ok.ranges).1 me stands.counts (none_sealed me.spare me.flight none stands.pushes) o in
+      same_end shape l.steps n (actor.Cpu c) (begin_cpu c o st) _ _ _ (call_alone shape c st there o l.steps _ l.is)
+      (cpu_ends_as shape n c o [] st (bare st) record { state = refl; told = refl } ok lt none le).answers
       ∙ ap (λ (x : CpuProgress). record { state = behind_cpu c (whole_cpu shape st.config c x st.deeds o) st; answer = Some (whole_cpu shape st.config c x st.deeds o).answer }) is_idle
 
   -- the steps of a call of the consumer
   abbrev begun_side : ConsumerOp → ConsumerProgress
   begun_side o = record { flight = Some (consumer.Begun o); steps = 0 }
 
-  one_step : (o : ConsumerOp) → Clears shape st 0 st.deeds (consumer_begun st.config st.deeds (begun_side o) st.progresses o) (consumer_call shape o st)
-      → (n : ℕ) → 1 ≤ n → on_to_end shape n actor.Consumer (begin_consumer o st) None
-      ≡ record { state = behind_consumer (consumer_call shape o st) st; answer = Some (consumer_call shape o st).answer }
-  one_step o l zero le = absurd (omega arith)
-  one_step o l (suc n) le = let more : 0 ≤ n = omega arith in (clear_more shape st 0 n _ _ _ more l).is
+  clears : (o : ConsumerOp) → IsApart o st → Clears shape st st.deeds (consumer_begun st.config st.deeds (begun_side o) st.progresses o) (consumer_call shape o st)
+  clears (consumer_op.Ask c) apart = record { steps = 0; is = refl }
+  clears (consumer_op.Take c) apart =
+      let me : CpuProgress = progress_of st.progresses c in
+      let stands : ProgressStands st.config c st.deeds me = ok.stands c apart.0 in
+      take_leads shape st (begun_side (consumer_op.Take c)) c me me.spare stands.counts (none_sealed me.spare me.flight apart.1 stands.pushes)
+  clears (consumer_op.GiveBack c) apart = give_leads shape st (begun_side (consumer_op.GiveBack c)) c (progress_of st.progresses c) (progress_of st.progresses c).spare
+  clears consumer_op.Clean apart =
+      let i = less st.config.cpus (set_up st.config ok.ranges).0 in
+      let j = less st.config.nspec (set_up st.config ok.ranges).1 in
+      let all : suc (zero + j.0) ≡ st.config.nspec = let e = j.1 in omega arith in
+      clean_leads shape st st.progresses st.deeds record { sound = ok.legal.0; rests = ok.rests } i.0 i.1 j.0 zero (begun_side consumer_op.Clean) all
+  clears consumer_op.Stop apart = stop_leads (halted st.deeds)
+    where
+      stop_leads : (b : Bool) → Clears shape st st.deeds
+          (if b then stops st.config st.deeds (begun_side consumer_op.Stop) st.progresses [] answer.StopDone else stops st.config st.deeds (begun_side consumer_op.Stop)
+          st.progresses (Halt ∷ []) answer.StopDone)
+          record { list = if b then st.deeds else Halt ∷ st.deeds; progresses = st.progresses; answer = answer.StopDone }
+      stop_leads true = clear_ended (begun_side consumer_op.Stop)
+      stop_leads false = clear_ended (begun_side consumer_op.Stop)
 
   -- a whole call of the consumer
   pub consumer_whole : (o : ConsumerOp) (n : ℕ) → IsApart o st → consumer_bound st.config o ≤ n
       → on_to_end shape n actor.Consumer (begin_consumer o st) None ≡ record { state = behind_consumer (consumer_call shape o st) st; answer = Some (consumer_call shape o st).answer }
-  consumer_whole (consumer_op.Ask c) n apart le = one_step (consumer_op.Ask c) record { is = refl } n le
-  consumer_whole (consumer_op.Take c) n apart le =
-      let me : CpuProgress = progress_of st.progresses c in
-      let stands : ProgressStands st.config c st.deeds me = ok.stands c apart.0 in
-      one_step (consumer_op.Take c) (take_leads shape st (begun_side (consumer_op.Take c)) c me me.spare stands.counts (none_sealed me.spare me.flight apart.1 stands.pushes)) n le
-  consumer_whole (consumer_op.GiveBack c) n apart le =
-      one_step (consumer_op.GiveBack c) (give_leads shape st (begun_side (consumer_op.GiveBack c)) c (progress_of st.progresses c) (progress_of st.progresses c).spare) n le
-  consumer_whole consumer_op.Clean n apart le = go n le
-    where
-      i : (i : ℕ) × (suc i ≡ st.config.cpus)
-      i = less st.config.cpus (set_up st.config ok.ranges).0
-
-      j : (j : ℕ) × (suc j ≡ st.config.nspec)
-      j = less st.config.nspec (set_up st.config ok.ranges).1
-
-      go : (n : ℕ) → st.config.nspec * (st.config.cpus + 2) ≤ n
-          → on_to_end shape n actor.Consumer (begin_consumer consumer_op.Clean st) None
-          ≡ record { state = behind_consumer (consumer_call shape consumer_op.Clean st) st; answer = Some (consumer_call shape consumer_op.Clean st).answer }
-      go n le =
-          let most : steps_for st.config.cpus st.config.nspec ≤ n = let e = steps_of st.config.cpus st.config.nspec in omega arith in
-          let all : suc (zero + j.0) ≡ st.config.nspec = let e = j.1 in omega arith in
-          at n (subst (λ m. steps_for st.config.cpus m ≤ n) (sym j.1) most)
-          (clean_leads shape st st.progresses st.deeds record { sound = ok.legal.0; rests = ok.rests } i.0 i.1 j.0 zero (begun_side consumer_op.Clean) all)
-        where
-          at : (n : ℕ) → suc (suc (plus st.config.cpus (steps_for st.config.cpus j.0))) ≤ n
-              → Clears shape st (suc (plus st.config.cpus (steps_for st.config.cpus j.0))) st.deeds
-              (consumer_begun st.config st.deeds (begun_side consumer_op.Clean) st.progresses consumer_op.Clean) (consumer_call shape consumer_op.Clean st)
-              → on_to_end shape n actor.Consumer (begin_consumer consumer_op.Clean st) None
-              ≡ record { state = behind_consumer (consumer_call shape consumer_op.Clean st) st; answer = Some (consumer_call shape consumer_op.Clean st).answer }
-          at zero le l = absurd (omega arith)
-          at (suc n) le l = let less : suc (plus st.config.cpus (steps_for st.config.cpus j.0)) ≤ n = omega arith in (clear_more shape st _ n _ _ _ less l).is
-  consumer_whole consumer_op.Stop n apart le = one_step consumer_op.Stop (stop_leads (halted st.deeds)) n le
-    where
-      stop_leads : (b : Bool) → Clears shape st 0 st.deeds
-          (if b then stops st.config st.deeds (begun_side consumer_op.Stop) st.progresses [] answer.StopDone else stops st.config st.deeds (begun_side consumer_op.Stop)
-          st.progresses (Halt ∷ []) answer.StopDone)
-          record { list = if b then st.deeds else Halt ∷ st.deeds; progresses = st.progresses; answer = answer.StopDone }
-      stop_leads true = clear_ended shape st 0 st.deeds (begun_side consumer_op.Stop) st.progresses [] answer.StopDone
-      stop_leads false = clear_ended shape st 0 st.deeds (begun_side consumer_op.Stop) st.progresses (Halt ∷ []) answer.StopDone
+  consumer_whole o n apart le =
+      let l = clears o apart in
+      same_end shape (suc l.steps) n actor.Consumer (begin_consumer o st) _ _ _ l.is
+      (ends_as shape n actor.Consumer [] (begin_consumer o st) (bare (begin_consumer o st)) record { state = refl; told = refl } (begin_consumer_coherent shape st o ok) refl refl
+      (omega arith)).answers

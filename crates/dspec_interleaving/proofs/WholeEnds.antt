@@ -1,120 +1,83 @@
--- A call that a play runs to its end is noted once, with the answer and the state that its steps one by one leave.
-use Rattle.std.proofs.Common.{◌≡◌, ℕ, zero, suc, ◌+◌, ◌<◌, ◌≤◌, Bool, true, List, ◌∷◌, ◌++◌, Option, Some, None, if◌then◌else◌, refl, sym, ap, ◌∙◌, subst, ⊎_elim, arith}
+-- A call that a play runs to its end is put down once, with the answer and the state that its steps one by one leave.
+use Rattle.std.proofs.Common.{◌≡◌, ℕ, zero, suc, ◌+◌, ◌<◌, ◌≤◌, Bool, true, false, List, [], ◌∷◌, ◌++◌, Option, Some, None, if◌then◌else◌, refl, sym, ap, subst, ⊎_elim, arith}
 use Rattle.std.specs.Prelude.{is_none}
+use Rattle.std.proofs.lemmas.Bool.Decides.{nat_tests}
 use Rattle.std.proofs.lemmas.List.{get_or-set_same}
 use Rattle.dspec_record.specs.declared.field.Shape.{Shape}
 use Rattle.dspec_deeds.specs.declared.calls.Actor.{Actor}
 use Rattle.dspec_deeds.specs.declared.calls.Actor.TheVariants as actor
 use Rattle.dspec_deeds.specs.declared.calls.Answer.{Answer}
-use Rattle.dspec_deeds.specs.declared.calls.ConsumerOp.{ConsumerOp}
 use Rattle.dspec_deeds.specs.declared.calls.CpuOp.{CpuOp}
 use Rattle.dspec_deeds.specs.declared.calls.Op.{Op}
 use Rattle.dspec_deeds.specs.declared.calls.Op.TheVariants as op
-use Rattle.dspec_interleaving.specs.Words.{CpuProgress, ConsumerFlight, CallPlace, flight_bound, clean_bound, op_of, consumer_op_of, is_idle, StandsProgress, StandsState, IsCoherent, progress_of}
-use Rattle.dspec_interleaving.specs.Words.{idle_progress, CpuStep, ConsumerStep, cpu_step, consumer_step, Stepped, step_cpu, step_consumer, on_to_end, Noted, Playing, ended, with_note, stepped}
-use Rattle.dspec_interleaving.specs.Words.{to_end}
-use Rattle.dspec_deeds.proofs.SetUp.{set_up}
-use Rattle.dspec_interleaving.proofs.WornCpuSteps.{cpu_advances}
-use Rattle.dspec_interleaving.proofs.Bounded.{cpu_below, clean_below}
-use Rattle.dspec_interleaving.proofs.Coherence.{step_cpu_coherent, step_consumer_coherent}
-use Rattle.dspec_interleaving.proofs.KeptCalls.{step_passes, clean_goes}
-use Rattle.dspec_interleaving.proofs.PlaysCarry.{behind_cpu_step, behind_consumer_step, cpu_stepped_is, consumer_stepped_is}
-use Rattle.dspec_interleaving.proofs.PlaysEnd.{ended_stays}
-use Rattle.dspec_interleaving.proofs.StepEnds.{HasEnded, HasGoneOn, HasClosed, HasKeptOn, clean_advances}
+use Rattle.dspec_interleaving.specs.Words.{CpuProgress, CallPlace, op_bound, steps_limit, steps_of, cpu_limit, cpu_call_of, call_of, is_actor, is_idle, IsCoherent, PlayState, progress_of}
+use Rattle.dspec_interleaving.specs.Words.{idle_progress, Stepped, begin_cpu, step, on_to_end, EndedCall, IsPlayingAt, Playing, begun_cpu, stepped, to_end}
+use Rattle.dspec_interleaving.specs.declared.flight.CallPlace.TheVariants as cpu
+use Rattle.dspec_interleaving.proofs.CleanedParts.{answer_stays, more_steps}
+use Rattle.dspec_interleaving.proofs.Coherence.{IsActor, begin_cpu_coherent, step_config, step_coherent}
+use Rattle.dspec_interleaving.proofs.PlayerMoves.{with_answer, ended_stays, step_at}
+use Rattle.dspec_interleaving.proofs.StepCounts.{Ends, StaysOn, is_below, steps_below, step_ends}
+use Rattle.std.proofs.Common.{◌∙◌}
 
--- behind the run of a call one more is noted, as the steps one by one leave and answer it
-pub record EndsAs (a : Actor) (o : Op) (before : List Noted) (q : Playing) (s : Stepped) : Type 0 where
-  pub last : Noted
-  pub noted : q.noted ≡ last ∷ before
-  pub answers : s.answer ≡ Some last.answer
-  pub is : ended last ≡ (a, o, last.answer)
-  pub state : q.state ≡ s.state
+-- behind the run of a call one more is put down, as the steps one by one leave and answer it
+pub record EndsAs (a : Actor) (o : Op) (es : List EndedCall) (q : Playing) (s : Stepped) : Type 0 where
+  pub told : Answer
+  pub answers : s.answer ≡ Some told
+  pub idle : is_idle a q.state ≡ true
+  pub at : IsPlayingAt s.state (es ++ (a, o, told) ∷ []) q
+
+-- a play in that state, of which nothing was told yet
+abbrev pub bare : PlayState → Playing
+bare st = record { state = st; entered = λ c. []; cleaned = []; noted = [] }
 
 module _ (shape : ℕ → Option Shape) where
-  -- a call that has ended stays so
-  finished : (n : ℕ) (a : Actor) (o : Op) (before : List Noted) (q : Playing) (last : Noted) → is_idle a q.state ≡ true → q.noted ≡ last ∷ before → ended last ≡ (a, o, last.answer)
-      → EndsAs a o before (to_end shape n a q) (on_to_end shape n a q.state (Some last.answer))
-  finished n a o before q last idle noted is =
-      subst (λ (p : Playing). EndsAs a o before p (on_to_end shape n a q.state (Some last.answer))) (sym (ended_stays shape n a q idle)) (go n)
-    where
-      go : (n : ℕ) → EndsAs a o before q (on_to_end shape n a q.state (Some last.answer))
-      go zero = record { last = last; noted = noted; answers = refl; is = is; state = refl }
-      go (suc n) = record { last = last; noted = noted; answers = refl; is = is; state = refl }
+  -- a call that ends within some steps ends so within all in which it ends
+  pub same_end : (n m : ℕ) (a : Actor) (st to : PlayState) (x y : Answer) → on_to_end shape n a st None ≡ record { state = to; answer = Some x } → (on_to_end shape m a st None).answer ≡ Some y
+      → on_to_end shape m a st None ≡ record { state = to; answer = Some x }
+  same_end n m a st to x y one two =
+      let new : Stepped = on_to_end shape m a st None in
+      let is : new ≡ record { state = new.state; answer = Some y } = λ i. record { state = new.state; answer = two i } in
+      is ∙ (sym (more_steps shape m (n + m) a st None new.state y (omega arith) is) ∙ more_steps shape n (n + m) a st None to x (omega arith) one)
 
-  -- a CPU's call in flight
-  pub cpu_ends_as : (n c : ℕ) (o : CpuOp) (before : List Noted) (p : Playing) (f : CallPlace) → IsCoherent shape p.state → c < p.state.config.cpus
-      → (progress_of p.state.progresses c).flight ≡ Some f → op_of f ≡ o → p.noted ≡ before
-      → flight_bound p.state.config f ≤ n + (progress_of p.state.progresses c).steps
-      → EndsAs (actor.Cpu c) (op.Cpu o) before (to_end shape n (actor.Cpu c) p) (on_to_end shape n (actor.Cpu c) p.state None)
-  cpu_ends_as zero c o before p f ok lt is call was most =
-      let low = cpu_below p.state.config c p.state.deeds (progress_of p.state.progresses c) (set_up p.state.config ok.ranges).1 f
-      (subst (StandsProgress p.state.config c p.state.deeds (progress_of p.state.progresses c)) is (ok.stands c lt).flight) in
-      absurd (omega arith)
-  cpu_ends_as (suc n) c o before p f ok lt is call was most =
-      subst (λ (b : Bool). EndsAs (actor.Cpu c) (op.Cpu o) before (if b then p else to_end shape n (actor.Cpu c) (stepped shape (actor.Cpu c) p))
-      (on_to_end shape (suc n) (actor.Cpu c) p.state None)) (sym (ap (λ (x : Option CallPlace). is_none x) is))
-      (subst (λ (q : Playing). EndsAs (actor.Cpu c) (op.Cpu o) before (to_end shape n (actor.Cpu c) q) (on_to_end shape (suc n) (actor.Cpu c) p.state None)) (sym (cpu_stepped_is shape c p f is))
-      (subst (λ x. EndsAs (actor.Cpu c) (op.Cpu o) before (to_end shape n (actor.Cpu c) new)
-      (on_to_end shape n (actor.Cpu c) (step_cpu shape c p.state x).state (step_cpu shape c p.state x).answer)) (sym is)
+  is_there : (st : PlayState) (a : Actor) → is_actor st.config a ≡ true → IsActor st.config a
+  is_there st (actor.Cpu c) there = is_below st.config c there
+  is_there st actor.Consumer there = tt
+
+  -- a call in flight
+  pub ends_as : (n : ℕ) (a : Actor) (es : List EndedCall) (st : PlayState) (p : Playing) → IsPlayingAt st es p → IsCoherent shape st → is_actor st.config a ≡ true → is_idle a st ≡ false
+      → steps_limit a st ≤ n + steps_of a st → EndsAs a (call_of a st) es (to_end shape n a p) (on_to_end shape n a st None)
+  ends_as zero a es st p at ok there busy most = let low = steps_below shape st a ok there in absurd (omega arith)
+  ends_as (suc n) a es st p at ok there busy most =
+      let new : Stepped = step shape a st in
+      let next : (r : Option Answer) → new.answer ≡ r → IsPlayingAt new.state (with_answer a (call_of a st) r es) (stepped shape a p) =
+      λ r is. step_at shape a st new.state es (with_answer a (call_of a st) r es) r busy refl is refl p at in
+      subst (λ (b : Bool). EndsAs a (call_of a st) es (if b then p else to_end shape n a (stepped shape a p)) (on_to_end shape n a new.state new.answer))
+      (sym (subst (λ s. is_idle a s ≡ false) at.state busy))
       (⊎_elim
-      (λ (e : HasEnded m).
-      let idle : is_idle (actor.Cpu c) new.state ≡ true = ap (λ (x : Option CallPlace). is_none x) (ap (λ (x : CpuProgress). x.flight) here ∙ e.idle) in
-      let last : Noted = record { by = actor.Cpu c; call = op.Cpu (op_of f); answer = e.told; deeds = m.deeds ++ p.entered c; found = p.state } in
-      let noted : new.noted ≡ last ∷ before = ap (λ (r : Option Answer). with_note (actor.Cpu c) (op.Cpu (op_of f)) (m.deeds ++ p.entered c) p.state r p.noted) e.answers
-      ∙ ap (λ (l : List Noted). last ∷ l) was in
-      subst (λ r. EndsAs (actor.Cpu c) (op.Cpu o) before (to_end shape n (actor.Cpu c) new) (on_to_end shape n (actor.Cpu c) new.state r)) (sym e.answers)
-      (finished n (actor.Cpu c) (op.Cpu o) before new last idle noted (ap (λ (x : CpuOp). (actor.Cpu c, op.Cpu x, e.told)) call)))
-      (λ (g : HasGoneOn p.state.config (progress_of p.state.progresses c) (flight_bound p.state.config f) _ m).
-      let steps : (progress_of new.state.progresses c).steps ≡ (progress_of p.state.progresses c).steps + 1 = ap (λ (x : CpuProgress). x.steps) here ∙ g.counted in
-      let bound = g.bound in
-      let noted : new.noted ≡ before = ap (λ (r : Option Answer). with_note (actor.Cpu c) (op.Cpu (op_of f)) (m.deeds ++ p.entered c) p.state r p.noted) g.answers ∙ was in
-      subst (λ r. EndsAs (actor.Cpu c) (op.Cpu o) before (to_end shape n (actor.Cpu c) new) (on_to_end shape n (actor.Cpu c) new.state r)) (sym g.answers)
-      (cpu_ends_as n c o before new g.next (step_cpu_coherent shape p.state c (Some f) ok lt is) lt (ap (λ (x : CpuProgress). x.flight) here ∙ g.flight)
-      (step_passes (λ x. x ≡ o) shape p.state.config c p.state.deeds (progress_of p.state.progresses c) f call g.next g.flight) noted (omega arith)))
-      (cpu_advances shape p.state.config c p.state.deeds (progress_of p.state.progresses c) f))))
-    where
-      m : CpuStep
-      m = cpu_step shape p.state.config c p.state.deeds (progress_of p.state.progresses c) f
-
-      new : Playing
-      new = behind_cpu_step shape c p f
-
-      here : progress_of new.state.progresses c ≡ m.progress
-      here = get_or-set_same p.state.progresses c m.progress idle_progress (let count = ok.count in omega arith)
-
-  -- the consumer's call in flight
-  pub consumer_ends_as : (n : ℕ) (o : ConsumerOp) (before : List Noted) (p : Playing) (f : ConsumerFlight) → IsCoherent shape p.state → p.state.side.flight ≡ Some f
-      → consumer_op_of f ≡ o → p.noted ≡ before
-      → clean_bound p.state.config f ≤ n + p.state.side.steps → EndsAs actor.Consumer (op.Consumer o) before (to_end shape n actor.Consumer p) (on_to_end shape n actor.Consumer p.state None)
-  consumer_ends_as zero o before p f ok is call was most =
-      let low = clean_below p.state.config p.state.deeds p.state.side (set_up p.state.config ok.ranges).1 f (subst (StandsState p.state.config p.state.deeds p.state.side) is ok.side) in
-      absurd (omega arith)
-  consumer_ends_as (suc n) o before p f ok is call was most =
-      subst (λ (b : Bool). EndsAs actor.Consumer (op.Consumer o) before (if b then p else to_end shape n actor.Consumer (stepped shape actor.Consumer p))
-      (on_to_end shape (suc n) actor.Consumer p.state None)) (sym (ap (λ (x : Option ConsumerFlight). is_none x) is))
-      (subst (λ (q : Playing). EndsAs actor.Consumer (op.Consumer o) before (to_end shape n actor.Consumer q) (on_to_end shape (suc n) actor.Consumer p.state None))
-      (sym (consumer_stepped_is shape p f is))
-      (subst (λ x. EndsAs actor.Consumer (op.Consumer o) before (to_end shape n actor.Consumer new)
-      (on_to_end shape n actor.Consumer (step_consumer shape p.state x).state (step_consumer shape p.state x).answer)) (sym is)
-      (⊎_elim
-      (λ (e : HasClosed m).
-      let idle : is_idle actor.Consumer new.state ≡ true = ap (λ (x : Option ConsumerFlight). is_none x) e.idle in
-      let last : Noted = record { by = actor.Consumer; call = op.Consumer (consumer_op_of f); answer = e.told; deeds = m.deeds ++ p.cleaned; found = p.state } in
-      let noted : new.noted ≡ last ∷ before = ap (λ (r : Option Answer). with_note actor.Consumer (op.Consumer (consumer_op_of f)) (m.deeds ++ p.cleaned) p.state r p.noted)
-      e.answers ∙ ap (λ (l : List Noted). last ∷ l) was in
-      subst (λ r. EndsAs actor.Consumer (op.Consumer o) before (to_end shape n actor.Consumer new) (on_to_end shape n actor.Consumer new.state r)) (sym e.answers)
-      (finished n actor.Consumer (op.Consumer o) before new last idle noted (ap (λ (x : ConsumerOp). (actor.Consumer, op.Consumer x, e.told)) call)))
-      (λ (g : HasKeptOn p.state.config p.state.side (clean_bound p.state.config f) _ m).
+      (λ (e : Ends a new).
+      let last = next (Some e.told) e.answers in
+      let idle : is_idle a (stepped shape a p).state ≡ true = subst (λ s. is_idle a s ≡ true) last.state e.idle in
+      subst (λ r. EndsAs a (call_of a st) es (to_end shape n a (stepped shape a p)) (on_to_end shape n a new.state r)) (sym e.answers)
+      (subst (λ q. EndsAs a (call_of a st) es q (on_to_end shape n a new.state (Some e.told))) (sym (ended_stays shape n a (stepped shape a p) idle))
+      (subst (λ s. EndsAs a (call_of a st) es (stepped shape a p) s) (sym (answer_stays shape n a new.state e.told)) record { told = e.told; answers = refl; idle = idle; at = last })))
+      (λ (g : StaysOn a st new).
       let steps = g.counted in
-      let bound = g.bound in
-      let noted : new.noted ≡ before = ap (λ (r : Option Answer). with_note actor.Consumer (op.Consumer (consumer_op_of f)) (m.deeds ++ p.cleaned) p.state r p.noted) g.answers ∙ was in
-      subst (λ r. EndsAs actor.Consumer (op.Consumer o) before (to_end shape n actor.Consumer new) (on_to_end shape n actor.Consumer new.state r)) (sym g.answers)
-      (consumer_ends_as n o before new g.next (step_consumer_coherent shape p.state (Some f) ok is) g.flight
-      (clean_goes (λ x. x ≡ o) p.state.config p.state.deeds p.state.side p.state.progresses f call g.next g.flight) noted (omega arith)))
-      (clean_advances p.state.config p.state.deeds p.state.side p.state.progresses f))))
-    where
-      m : ConsumerStep
-      m = consumer_step p.state.config p.state.deeds p.state.side p.state.progresses f
+      let limit = g.limit in
+      subst (λ r. EndsAs a (call_of a st) es (to_end shape n a (stepped shape a p)) (on_to_end shape n a new.state r)) (sym g.answers)
+      (subst (λ o. EndsAs a o es (to_end shape n a (stepped shape a p)) (on_to_end shape n a new.state None)) g.call
+      (ends_as n a es new.state (stepped shape a p) (next None g.answers) (step_coherent shape a st ok (is_there st a there))
+      (subst (λ k. is_actor k a ≡ true) (sym (step_config shape a st)) there) g.busy (omega arith))))
+      (step_ends shape st a ok there busy))
 
-      new : Playing
-      new = behind_consumer_step shape p f
+  -- a call of a CPU that begins
+  pub cpu_ends_as : (n c : ℕ) (o : CpuOp) (es : List EndedCall) (st : PlayState) (p : Playing) → IsPlayingAt st es p → IsCoherent shape st → c < st.config.cpus
+      → (progress_of st.progresses c).flight ≡ None → op_bound st.config o ≤ n
+      → EndsAs (actor.Cpu c) (op.Cpu o) es (to_end shape n (actor.Cpu c) (begun_cpu c o p)) (on_to_end shape n (actor.Cpu c) (begin_cpu c o st) None)
+  cpu_ends_as n c o es st p at ok lt idle most =
+      let first : CpuProgress = record (progress_of st.progresses c) { flight = Some (cpu.Begun o); steps = 0 } in
+      let here : progress_of (begin_cpu c o st).progresses c ≡ first = get_or-set_same st.progresses c first idle_progress (let count = ok.count in omega arith) in
+      let flight = ap (λ (x : CpuProgress). x.flight) here in
+      let limit : steps_limit (actor.Cpu c) (begin_cpu c o st) ≡ op_bound st.config o = ap (cpu_limit st.config) flight in
+      subst (λ x. EndsAs (actor.Cpu c) x es (to_end shape n (actor.Cpu c) (begun_cpu c o p)) (on_to_end shape n (actor.Cpu c) (begin_cpu c o st) None)) (ap cpu_call_of flight)
+      (ends_as n (actor.Cpu c) es (begin_cpu c o st) (begun_cpu c o p) record { state = ap (begin_cpu c o) at.state; told = at.told } (begin_cpu_coherent shape st c o ok lt idle)
+      (grind (arith, nat_tests)) (ap (λ (y : Option CallPlace). is_none y) flight) (omega arith))

@@ -1,15 +1,15 @@
 -- What a service settles, slot by slot, in a session at rest.
 use Prim.Native.Nat.{zero, suc}
-use Rattle.std.proofs.Common.{◌≡◌, ◌≢◌, ◌≤◌, ◌<◌, ◌+◌, ℕ, Bool, true, false, not, ◌&&◌, ◌==◌, List, []}
-use Rattle.std.proofs.Common.{◌∷◌, ◌++◌, Option, Some, None, is_none, if◌then◌else◌, refl, sym, ap, ◌∙◌, subst, arith, true≢false}
+use Rattle.std.proofs.Common.{◌≡◌, ◌<◌, ◌+◌, ℕ, Bool, true, false, not, ◌&&◌, ◌==◌, List, []}
+use Rattle.std.proofs.Common.{◌∷◌, ◌++◌, Option, None, is_none, if◌then◌else◌, refl, sym, ap, ◌∙◌, subst, arith, true≢false}
 use Rattle.std.specs.Prelude.{nat_le}
 use Rattle.std.proofs.lemmas.Bool.Decides.{nat_tests}
 use Rattle.dspec_record.specs.declared.field.Shape.{Shape}
 use Rattle.dspec_word.specs.declared.act.Act.TheVariants.{Granted, Idle}
 use Rattle.dspec_word.specs.declared.code.Code.TheVariants.{Inactive, Committing, CommittingMany}
-use Rattle.dspec_interleaving.specs.Words.{awaits, CpuProgress, is_commit, issue, present, opened, Verdict, undecided, committed, discarded, verdict, is_undecided, callers, active_code, standing}
-use Rattle.dspec_interleaving.specs.Words.{is_sole, is_sole_or_none, solo, solo_of, settled, is_busy, owed, scan, ack, word_at, IsSound, SettlesAs, cpu_step, shown_service, served, call_goes_on}
-use Rattle.dspec_interleaving.specs.Words.{ends, commit_fate, settle_fate, WholeCpu, enters, owes, settles_as, settled_at, settled_up, settlements_up_to, whole_service, measured}
+use Rattle.dspec_interleaving.specs.Words.{awaits, CpuProgress, is_commit, issue, present, opened, Ruling, undecided, committed, discarded, verdict, is_undecided, callers, standing, is_sole_or_none}
+use Rattle.dspec_interleaving.specs.Words.{solo, settled, is_busy, owed, scan, ack, word_at, IsSound, SettlesAs, cpu_step, shown_service, served, call_goes_on, ends, commit_fate, settle_fate}
+use Rattle.dspec_interleaving.specs.Words.{WholeCpu, enters, owes, settles_as, settled_at, settled_up, settlements_up_to, whole_service, measured}
 use Rattle.dspec_deeds.specs.declared.config.Config.{Config}
 use Rattle.dspec_deeds.specs.declared.calls.Answer.TheVariants as answer
 use Rattle.dspec_deeds.specs.declared.calls.Served.{Served}
@@ -18,35 +18,11 @@ use Rattle.dspec_deeds.specs.declared.deed.Deed.{Deed}
 use Rattle.dspec_deeds.specs.declared.deed.Deed.TheVariants.{Settle}
 use Rattle.dspec_interleaving.specs.declared.flight.CallPlace.TheVariants as cpu
 use Rattle.dspec_deeds.proofs.TestLemmas.{and_tells, number_is_itself}
-use Rattle.dspec_deeds.proofs.SoundLists.{unseen}
 use Rattle.dspec_deeds.proofs.Acked.{ack_tells}
-use Rattle.dspec_deeds.proofs.Debtless.{debtless}
 use Rattle.dspec_deeds.proofs.PresentIds.{decided_given}
-use Rattle.dspec_interleaving.proofs.WholeTrace.{later, idle, Leads, ended, goes, on_true, on_false, leads_more}
-use Rattle.dspec_interleaving.proofs.WholeScan.{double}
-
--- a word waits for settlements exactly where its slot's speculation was decided, and by no CPU alone
-pub awaits_is : (k : Config) (s : ℕ) (h : List Deed) → IsSound k h → owed h ≡ 0 → awaits (word_at s h).code ≡ (is_busy s h && is_none (solo (present s h) h))
-awaits_is k s h sound rests = go (opened (present s h) h) (verdict (present s h) h) (callers (present s h) h)
-    (λ e. (unseen k h (present s h) sound e).0) (λ a e. debtless k h s a sound rests e)
-  where
-    active_no : (cs : List ℕ) → awaits (active_code cs) ≡ false
-    active_no [] = refl
-    active_no (x ∷ []) = refl
-    active_no (x ∷ y ∷ cs) = refl
-
-    commits : (a : ℕ) (b : Bool) → awaits (if b then Committing else CommittingMany) ≡ is_none (if b then Some a else None)
-    commits a true = refl
-    commits a false = refl
-
-    go : (o : Bool) (v : Verdict) (cs : List ℕ) → (o ≡ false → v ≡ undecided) → ((a : ℕ) → v ≡ discarded a → is_sole a cs ≡ false)
-        → awaits (if o then standing v cs else Inactive) ≡ (not (is_undecided v) && is_none (solo_of v cs))
-    go false undecided cs un deb = refl
-    go false (committed a) cs un deb = absurd (cc (un refl))
-    go false (discarded a) cs un deb = absurd (cc (un refl))
-    go true undecided cs un deb = active_no cs
-    go true (committed a) cs un deb = commits a (is_sole_or_none a cs)
-    go true (discarded a) cs un deb = rw (deb a refl) refl
+use Rattle.dspec_deeds.proofs.Awaiting.{awaits_is}
+use Rattle.dspec_interleaving.proofs.WholeLeads.{later, idle, Leads, ended, goes, on_true, on_false}
+use Rattle.dspec_interleaving.proofs.Tests.{is_nothing, not_tells}
 
 -- between two calls of the CPU
 pub record IsAtRest (k : Config) (c : ℕ) (h : List Deed) : Type 0 where
@@ -73,15 +49,7 @@ module _ (shape : ℕ → Option Shape) (k : Config) (c : ℕ) where
   owes_tells s h e =
       let a = and_tells (is_busy s h) _ e in
       let b = and_tells (is_none (solo (present s h) h)) _ a.1 in
-      record { ruled = unnot (is_undecided (verdict (present s h) h)) a.0; shared = none_is (solo (present s h) h) b.0; unsettled = unnot (settled c (present s h) h) b.1 }
-    where
-      unnot : (b : Bool) → not b ≡ true → b ≡ false
-      unnot true e = absurd (true≢false (sym e))
-      unnot false e = refl
-
-      none_is : (x : Option ℕ) → is_none x ≡ true → x ≡ None
-      none_is None e = refl
-      none_is (Some a) e = absurd (true≢false (sym e))
+      record { ruled = not_tells (is_undecided (verdict (present s h) h)) a.0; shared = is_nothing (solo (present s h) h) b.0; unsettled = not_tells (settled c (present s h) h) b.1 }
 
   -- the fate of a settlement goes by the decision
   fate_is : (h : List Deed) (me : CpuProgress) (s : ℕ) → opened (present s h) h ≡ true → is_undecided (verdict (present s h) h) ≡ false
@@ -92,7 +60,7 @@ module _ (shape : ℕ → Option Shape) (k : Config) (c : ℕ) where
       commits true = refl
       commits false = refl
 
-      go : (o : Bool) (v : Verdict) (cs : List ℕ) → o ≡ true → is_undecided v ≡ false
+      go : (o : Bool) (v : Ruling) (cs : List ℕ) → o ≡ true → is_undecided v ≡ false
           → settle_fate shape k c h (present s h) (if o then standing v cs else Inactive) ≡ settles_as shape k c v (present s h) h
       go false v cs e u = absurd (true≢false (sym e))
       go true undecided cs e u = absurd (true≢false u)
@@ -108,7 +76,7 @@ module _ (shape : ℕ → Option Shape) (k : Config) (c : ℕ) where
       is_commit_if true n = refl
       is_commit_if false n = refl
 
-      may : (v : Verdict) → is_undecided v ≡ false → SettlesAs v (settles_as shape k c v (present s h) h)
+      may : (v : Ruling) → is_undecided v ≡ false → SettlesAs v (settles_as shape k c v (present s h) h)
       may undecided e = absurd (true≢false e)
       may (committed a) e = is_commit_if _ _
       may (discarded a) e = refl
@@ -130,45 +98,45 @@ module _ (shape : ℕ → Option Shape) (k : Config) (c : ℕ) where
 
   module _ (h : List Deed) (at : IsAtRest k c h) (b : Bool) where
     -- behind the last slot
-    serves_last : (f n : ℕ) (me : CpuProgress) (ds : List Deed) (sum : Served) → suc n ≡ k.nspec → (ds ++ settled_up shape k c n h) ≡ settled_up shape k c (suc n) h → sum ≡ sum_at b (suc n) h
-        → Leads shape k c f (settled_up shape k c n h) (served k c (measured shape k c (settled_up shape k c n h)) me (suc n) ds sum) (whole_service shape k c (idle me) h b)
-    serves_last f n me ds sum last list is =
+    serves_last : (n : ℕ) (me : CpuProgress) (ds : List Deed) (sum : Served) → suc n ≡ k.nspec → (ds ++ settled_up shape k c n h) ≡ settled_up shape k c (suc n) h → sum ≡ sum_at b (suc n) h
+        → Leads shape k c (settled_up shape k c n h) (served k c (measured shape k c (settled_up shape k c n h)) me (suc n) ds sum) (whole_service shape k c (idle me) h b)
+    serves_last n me ds sum last list is =
         let list' : (ds ++ settled_up shape k c n h) ≡ settled_up shape k c k.nspec h = list ∙ ap (λ m. settled_up shape k c m h) last in
         let is' : sum ≡ sum_at b k.nspec h = is ∙ ap (λ m. sum_at b m h) last in
         let left : enters shape k c (idle me) (ds ++ settled_up shape k c n h) (answer.Served sum) ≡ whole_service shape k c (idle me) h b =
         λ i. record { list = list' i; progress = idle me; answer = answer.Served (is' i) } in
-        on_true shape k c f _ (suc n == k.nspec) _ _ _ (subst (λ m. (suc n == m) ≡ true) last (number_is_itself (suc n)))
-        (subst (λ (w : WholeCpu). Leads shape k c f (settled_up shape k c n h) (ends me ds (answer.Served sum)) w) left
-        (ended shape k c f (settled_up shape k c n h) me ds _))
+        on_true (suc n == k.nspec) _ (subst (λ m. (suc n == m) ≡ true) last (number_is_itself (suc n)))
+        (subst (λ (w : WholeCpu). Leads shape k c (settled_up shape k c n h) (ends me ds (answer.Served sum)) w) left
+        (ended me))
 
     -- behind another slot
-    serves_next : (f n : ℕ) (me : CpuProgress) (ds : List Deed) (sum : Served) → suc n < k.nspec → (ds ++ settled_up shape k c n h) ≡ settled_up shape k c (suc n) h → sum ≡ sum_at b (suc n) h
-        → Leads shape k c f (settled_up shape k c (suc n) h)
+    serves_next : (n : ℕ) (me : CpuProgress) (ds : List Deed) (sum : Served) → suc n < k.nspec → (ds ++ settled_up shape k c n h) ≡ settled_up shape k c (suc n) h → sum ≡ sum_at b (suc n) h
+        → Leads shape k c (settled_up shape k c (suc n) h)
         (cpu_step shape k c (settled_up shape k c (suc n) h) (later me (cpu.ServiceLoad (suc (suc n)) (sum_at b (suc n) h)))
         (cpu.ServiceLoad (suc (suc n)) (sum_at b (suc n) h))) (whole_service shape k c (idle me) h b)
-        → Leads shape k c (suc f) (settled_up shape k c n h) (served k c (measured shape k c (settled_up shape k c n h)) me (suc n) ds sum) (whole_service shape k c (idle me) h b)
-    serves_next f n me ds sum more list is l =
+        → Leads shape k c (settled_up shape k c n h) (served k c (measured shape k c (settled_up shape k c n h)) me (suc n) ds sum) (whole_service shape k c (idle me) h b)
+    serves_next n me ds sum more list is l =
         let other : (suc n == k.nspec) ≡ false = grind (arith, nat_tests) in
         let next : suc (suc n) ≡ suc n + 1 = omega arith in
-        on_false shape k c (suc f) _ (suc n == k.nspec) _ _ _ other
-        (goes shape k c f (settled_up shape k c n h) me ds _ _
-        (subst (λ (p : List Deed × ℕ × Served). Leads shape k c f p.0 (cpu_step shape k c p.0 (later me (cpu.ServiceLoad p.1 p.2)) (cpu.ServiceLoad p.1 p.2)) (whole_service shape k c (idle me) h b))
+        on_false (suc n == k.nspec) _ other
+        (goes me
+        (subst (λ (p : List Deed × ℕ × Served). Leads shape k c p.0 (cpu_step shape k c p.0 (later me (cpu.ServiceLoad p.1 p.2)) (cpu.ServiceLoad p.1 p.2)) (whole_service shape k c (idle me) h b))
         (λ i. (sym list i, next i, sym is i)) l))
 
     -- the load of a slot's word goes by whether the slot waits for the CPU
-    load_serves : (f n : ℕ) (me : CpuProgress) (sum : Served) (w : WholeCpu)
+    load_serves : (n : ℕ) (me : CpuProgress) (sum : Served) (w : WholeCpu)
         → (owes shape k c (suc n) (settled_up shape k c n h) ≡ true
-        → Leads shape k c f (settled_up shape k c n h) (call_goes_on me [] (cpu.ServiceStore (suc n) (word_at (suc n) (settled_up shape k c n h)) sum)) w)
-        → (owes shape k c (suc n) (settled_up shape k c n h) ≡ false → Leads shape k c f (settled_up shape k c n h) (served k c (measured shape k c (settled_up shape k c n h)) me (suc n) [] sum) w)
-        → Leads shape k c f (settled_up shape k c n h) (cpu_step shape k c (settled_up shape k c n h) me (cpu.ServiceLoad (suc n) sum)) w
-    load_serves f n me sum w waits goes_by =
-        subst (λ (t : Bool). Leads shape k c f (settled_up shape k c n h)
+        → Leads shape k c (settled_up shape k c n h) (call_goes_on me [] (cpu.ServiceStore (suc n) (word_at (suc n) (settled_up shape k c n h)) sum)) w)
+        → (owes shape k c (suc n) (settled_up shape k c n h) ≡ false → Leads shape k c (settled_up shape k c n h) (served k c (measured shape k c (settled_up shape k c n h)) me (suc n) [] sum) w)
+        → Leads shape k c (settled_up shape k c n h) (cpu_step shape k c (settled_up shape k c n h) me (cpu.ServiceLoad (suc n) sum)) w
+    load_serves n me sum w waits goes_by =
+        subst (λ (t : Bool). Leads shape k c (settled_up shape k c n h)
         (shown_service k c (measured shape k c (settled_up shape k c n h)) me (suc n) sum (word_at (suc n) (settled_up shape k c n h)) (if t then Granted else Idle)) w)
         (sym (owes_is (suc n) (settled_up shape k c n h) (settled_up_rests n h at)))
         (go (owes shape k c (suc n) (settled_up shape k c n h)) refl)
       where
         go : (t : Bool) → owes shape k c (suc n) (settled_up shape k c n h) ≡ t
-            → Leads shape k c f (settled_up shape k c n h)
+            → Leads shape k c (settled_up shape k c n h)
             (shown_service k c (measured shape k c (settled_up shape k c n h)) me (suc n) sum (word_at (suc n) (settled_up shape k c n h)) (if t then Granted else Idle)) w
         go true e = waits e
         go false e = goes_by e
@@ -200,23 +168,22 @@ module _ (shape : ℕ → Option Shape) (k : Config) (c : ℕ) where
 
     -- the slots from one to the last
     pub serve_leads : (j n : ℕ) (me : CpuProgress) → suc (n + j) ≡ k.nspec
-        → Leads shape k c (suc (double j)) (settled_up shape k c n h) (cpu_step shape k c (settled_up shape k c n h) me (cpu.ServiceLoad (suc n) (sum_at b n h)))
+        → Leads shape k c (settled_up shape k c n h) (cpu_step shape k c (settled_up shape k c n h) me (cpu.ServiceLoad (suc n) (sum_at b n h)))
         (whole_service shape k c (idle me) h b)
     serve_leads zero n me last =
         let at_last : suc n ≡ k.nspec = omega arith in
-        load_serves 1 n me (sum_at b n h) _
+        load_serves n me (sum_at b n h) _
         (λ e. let stored : CpuProgress = later me (cpu.ServiceStore (suc n) (word_at (suc n) (settled_up shape k c n h)) (sum_at b n h)) in
-        goes shape k c 0 _ me [] _ _ (serves_last 0 n stored _ _ at_last (settles_here n stored e) (sum_more n true e)))
-        (λ e. serves_last 1 n me [] _ at_last (passes_here n e) (sum_same n e))
+        goes me (serves_last n stored _ _ at_last (settles_here n stored e) (sum_more n true e)))
+        (λ e. serves_last n me [] _ at_last (passes_here n e) (sum_same n e))
     serve_leads (suc j) n me last =
         let more : suc n < k.nspec = omega arith in
         let rest : suc (suc n + j) ≡ k.nspec = omega arith in
-        let fits : suc (double j) ≤ suc (suc (double j)) = omega arith in
         let l : List Deed = settled_up shape k c n h in
-        load_serves (suc (double (suc j))) n me (sum_at b n h) _
+        load_serves n me (sum_at b n h) _
         (λ e. let stored : CpuProgress = later me (cpu.ServiceStore (suc n) (word_at (suc n) (settled_up shape k c n h)) (sum_at b n h)) in
-        goes shape k c (double (suc j)) _ me [] _ _
-        (serves_next (suc (double j)) n stored _ _ more (settles_here n stored e) (sum_more n true e)
+        goes me
+        (serves_next n stored _ _ more (settles_here n stored e) (sum_more n true e)
         (serve_leads j (suc n) (later stored (cpu.ServiceLoad (suc (suc n)) (sum_at b (suc n) h))) rest)))
-        (λ e. serves_next (suc (suc (double j))) n me [] _ more (passes_here n e) (sum_same n e)
-        (leads_more shape k c (suc (double j)) _ _ _ _ fits (serve_leads j (suc n) (later me (cpu.ServiceLoad (suc (suc n)) (sum_at b (suc n) h))) rest)))
+        (λ e. serves_next n me [] _ more (passes_here n e) (sum_same n e)
+        ((serve_leads j (suc n) (later me (cpu.ServiceLoad (suc (suc n)) (sum_at b (suc n) h))) rest)))

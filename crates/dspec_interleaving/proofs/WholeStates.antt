@@ -1,15 +1,13 @@
 -- What holds between two whole calls.
-use Prim.Native.Nat.{zero, suc}
-use Rattle.std.proofs.Common.{◌≡◌, ◌≢◌, ◌≤◌, ◌<◌, ◌⊎◌, inl, inr, ℕ, Bool, true, false, ◌==◌, List, [], ◌∷◌}
+use Rattle.std.proofs.Common.{◌≡◌, ◌≢◌, ◌≤◌, ◌<◌, ◌⊎◌, inl, inr, ℕ, Bool, true, false, List, [], ◌∷◌}
 use Rattle.std.proofs.Common.{◌++◌, length, Option, Some, None, if◌then◌else◌, refl, sym, ap, ◌∙◌, subst, ⊎_elim, arith, append_assoc}
 use Rattle.std.specs.Prelude.{nat_lt, slice_set}
-use Rattle.std.proofs.lemmas.List.{get_or-set_same, get_or-set_other}
-use Rattle.std.proofs.lemmas.Bool.Decides.{nat_tests}
+use Rattle.std.proofs.lemmas.List.{get_or-set_same}
 use Rattle.dspec_record.specs.declared.field.Shape.{Shape}
 use Rattle.dspec_interleaving.specs.Words.{Speculation, CpuProgress, ConsumerFlight, CallPlace, issue, solo, start_fault, seals, IsSound, IsLegal, PlayState, IsCoherent, StandsProgress, progress_of}
-use Rattle.dspec_interleaving.specs.Words.{idle_progress, answer_of, IsLast, ReleasesThen, Stepped, at_start, begin_cpu, begin_consumer, step, step_cpu, step_consumer, on_to_end, WholeConsumer}
-use Rattle.dspec_interleaving.specs.Words.{is_out, Call, of_cpu, of_consumer, behind_call, behind_all, cpu_call, consumer_call, behind_cpu, behind_consumer, IsApart, IsCall, AreCalls, IsReleased}
-use Rattle.dspec_interleaving.specs.Words.{op_bound, consumer_bound}
+use Rattle.dspec_interleaving.specs.Words.{is_idle, idle_progress, answer_of, IsLast, ReleasesThen, Stepped, at_start, begin_cpu, begin_consumer, step, step_cpu, step_consumer, on_to_end}
+use Rattle.dspec_interleaving.specs.Words.{WholeConsumer, is_out, Call, of_cpu, of_consumer, behind_call, behind_all, cpu_call, consumer_call, behind_cpu, behind_consumer, IsApart, IsCall, AreCalls}
+use Rattle.dspec_interleaving.specs.Words.{IsReleased, op_bound, consumer_bound}
 use Rattle.dspec_deeds.specs.declared.config.Config.{Config}
 use Rattle.dspec_deeds.specs.declared.calls.Actor.{Actor}
 use Rattle.dspec_deeds.specs.declared.calls.Actor.TheVariants as actor
@@ -22,14 +20,16 @@ use Rattle.dspec_deeds.specs.declared.deed.DecideFate.TheVariants as decided
 use Rattle.dspec_deeds.specs.declared.deed.Deed.{Deed}
 use Rattle.dspec_deeds.specs.declared.deed.Deed.TheVariants.{Commit, Discard, Release}
 use Rattle.dspec_interleaving.specs.declared.flight.CallPlace.TheVariants as cpu
-use Rattle.dspec_deeds.proofs.TestLemmas.{either_way, number_is_itself, numbers_differ}
+use Rattle.dspec_deeds.proofs.TestLemmas.{number_is_itself}
 use Rattle.dspec_deeds.proofs.PresentIds.{open_is_now}
 use Rattle.dspec_deeds.proofs.WordChanges.{discard_open}
 use Rattle.dspec_deeds.proofs.SoundLists.{issue_grows}
-use Rattle.dspec_interleaving.proofs.Coherence.{idle_at, start_coherent, begin_cpu_coherent, begin_consumer_coherent, step_config, step_coherent, on_to_end_coherent}
-use Rattle.dspec_interleaving.proofs.CallsEnd.{cpu_call_answers}
+use Rattle.dspec_interleaving.proofs.Coherence.{IsActor, idle_at, start_coherent, begin_cpu_coherent, begin_consumer_coherent, step_config, step_coherent, to_end_keeps, on_to_end_coherent}
+use Rattle.dspec_interleaving.proofs.WholeEnds.{bare, cpu_ends_as}
 use Rattle.dspec_interleaving.proofs.SoloRelease.{decided_alone, consumer_decides_none, released_next}
 use Rattle.dspec_interleaving.proofs.WholeCalls.{cpu_whole, consumer_whole}
+use Rattle.dspec_interleaving.proofs.Replacing.{put}
+use Rattle.dspec_interleaving.proofs.Tests.{is_nothing}
 
 -- a list goes on from another
 pub record Grows (h now : List Deed) : Type 0 where
@@ -59,10 +59,9 @@ module _ (shape : ℕ → Option Shape) where
       go None = record { deeds = []; is = refl }
       go (Some f) = record { deeds = _; is = refl }
 
-  to_end_grows : (n : ℕ) (a : Actor) (st : PlayState) (r : Option Answer) → Grows st.deeds (on_to_end shape n a st r).state.deeds
-  to_end_grows zero a st r = record { deeds = []; is = refl }
-  to_end_grows (suc n) a st (Some r) = record { deeds = []; is = refl }
-  to_end_grows (suc n) a st None = grows_twice _ _ _ (step_grows a st) (to_end_grows n a (step shape a st).state (step shape a st).answer)
+  to_end_grows : (n : ℕ) (a : Actor) (st : PlayState) (r : Option Answer) → IsCoherent shape st → IsActor st.config a → Grows st.deeds (on_to_end shape n a st r).state.deeds
+  to_end_grows n a st r ok there =
+      to_end_keeps shape (λ (x : PlayState). Grows st.deeds x.deeds) a (λ x now lt g. grows_twice _ _ _ g (step_grows a x)) n st r ok there record { deeds = []; is = refl }
 
 -- between two whole calls: no call is in flight, and what was decided alone is released
 pub record IsResting (shape : ℕ → Option Shape) (st : PlayState) : Type 0 where
@@ -102,28 +101,10 @@ module _ (shape : ℕ → Option Shape) where
       (all id some))
       (none_or (solo id st.deeds))
 
-  to_end_releases : (n c : ℕ) (st : PlayState) (r : Option Answer) → IsCoherent shape st → c < st.config.cpus → Releases c st → Releases c (on_to_end shape n (actor.Cpu c) st r).state
-  to_end_releases zero c st r ok lt all = all
-  to_end_releases (suc n) c st (Some r) ok lt all = all
-  to_end_releases (suc n) c st None ok lt all =
-      to_end_releases n c (step shape (actor.Cpu c) st).state (step shape (actor.Cpu c) st).answer (step_coherent shape (actor.Cpu c) st ok lt)
-      (subst (λ k. c < k.cpus) (sym (step_config shape (actor.Cpu c) st)) lt) (step_releases c st ok lt all)
-
-  to_end_decides_none : (n : ℕ) (st : PlayState) (r : Option Answer) (id : Speculation) → IsCoherent shape st → solo id (on_to_end shape n actor.Consumer st r).state.deeds ≡ solo id st.deeds
-  to_end_decides_none zero st r id ok = refl
-  to_end_decides_none (suc n) st (Some r) id ok = refl
-  to_end_decides_none (suc n) st None id ok =
-      to_end_decides_none n (step shape actor.Consumer st).state (step shape actor.Consumer st).answer id (step_coherent shape actor.Consumer st ok tt)
-      ∙ (consumer_decides_none shape st ok).solos id
-
 module _ (shape : ℕ → Option Shape) (st : PlayState) (rest : IsResting shape st) where
-  -- the other CPUs' sides stay
-  set_idle : (all : List CpuProgress) (c d : ℕ) (x : CpuProgress) → c < length all → x.flight ≡ None → (progress_of all d).flight ≡ None → (progress_of (slice_set all c x) d).flight ≡ None
-  set_idle all c d x lt none there = ⊎_elim
-      (λ (t : (d == c) ≡ true). let same : d ≡ c = grind (arith, nat_tests) in subst (λ e. (progress_of (slice_set all c x) e).flight ≡ None) (sym same)
-      (ap (λ (y : CpuProgress). y.flight) (get_or-set_same all c x idle_progress lt) ∙ none))
-      (λ (f : (d == c) ≡ false). let other : d ≢ c = numbers_differ d c f in ap (λ (y : CpuProgress). y.flight) (get_or-set_other all c d x idle_progress other) ∙ there)
-      (either_way (d == c))
+  -- no call is in flight where one CPU's side is replaced by an idle one
+  set_idle : (c : ℕ) (x : CpuProgress) → x.flight ≡ None → (d : ℕ) → d < st.config.cpus → (progress_of (slice_set st.progresses c x) d).flight ≡ None
+  set_idle c x none = put st.config.cpus (λ b (y : CpuProgress). y.flight ≡ None) st.progresses c x rest.coherent.count (λ b less other. rest.idle b less) (λ less. none)
 
   -- behind a whole call of a CPU
   cpu_rests : (c : ℕ) (o : CpuOp) → c < st.config.cpus → IsResting shape (behind_cpu c (cpu_call shape c o st) st) × Grows st.deeds (cpu_call shape c o st).list
@@ -134,21 +115,22 @@ module _ (shape : ℕ → Option Shape) (st : PlayState) (rest : IsResting shape
       let there : c < length st.progresses = omega arith in
       let begun : IsCoherent shape (begin_cpu c o st) = begin_cpu_coherent shape st c o ok lt (rest.idle c lt) in
       let is = ap (λ (x : Stepped). x.state) (cpu_whole shape st ok c o (op_bound st.config o) lt (rest.idle c lt) bound) in
-      let answered = cpu_call_answers shape c o st ok lt (rest.idle c lt) in
-      let own : (progress_of (behind_cpu c (cpu_call shape c o st) st).progresses c).flight ≡ None = subst (λ (x : PlayState). (progress_of x.progresses c).flight ≡ None) is answered.idle in
+      let ends = cpu_ends_as shape (op_bound st.config o) c o [] st (bare st) record { state = refl; told = refl } ok lt (rest.idle c lt) bound in
+      let own : (progress_of (behind_cpu c (cpu_call shape c o st) st).progresses c).flight ≡ None =
+      is_nothing (progress_of (behind_cpu c (cpu_call shape c o st) st).progresses c).flight (subst (λ (x : PlayState). is_idle (actor.Cpu c) x ≡ true) (sym ends.at.state ∙ is) ends.idle) in
       let left : (cpu_call shape c o st).progress.flight
       ≡ None = ap (λ (x : CpuProgress). x.flight) (sym (get_or-set_same st.progresses c (cpu_call shape c o st).progress idle_progress there)) ∙ own in
       let releases : Releases c (behind_cpu c (cpu_call shape c o st) st) =
-      subst (Releases c) is (to_end_releases shape (op_bound st.config o) c (begin_cpu c o st) None begun lt (λ id some. inl (rest.alone id some))) in (
+      subst (Releases c) is (to_end_keeps shape (Releases c) (actor.Cpu c) (step_releases shape c) (op_bound st.config o) (begin_cpu c o st) None begun lt (λ id some. inl (rest.alone id some))) in (
         record {
           coherent = subst (IsCoherent shape) is (on_to_end_coherent shape (op_bound st.config o) (actor.Cpu c) (begin_cpu c o st) None begun lt);
-          idle = λ d below. set_idle st.progresses c d (cpu_call shape c o st).progress there left (rest.idle d below);
+          idle = set_idle c (cpu_call shape c o st).progress left;
           side = rest.side;
           alone = λ id some. ⊎_elim (λ (r : IsReleased id (cpu_call shape c o st).list). r)
               (λ (r : (f : DecideFate) × ((progress_of (behind_cpu c (cpu_call shape c o st) st).progresses c).flight ≡ Some (cpu.CommitRelease id f))). absurd (some_not (sym own ∙ r.1)))
               (releases id some);
         },
-        subst (λ (x : PlayState). Grows st.deeds x.deeds) is (to_end_grows shape (op_bound st.config o) (actor.Cpu c) (begin_cpu c o st) None),
+        subst (λ (x : PlayState). Grows st.deeds x.deeds) is (to_end_grows shape (op_bound st.config o) (actor.Cpu c) (begin_cpu c o st) None begun lt),
       )
     where
       some_not : {f : CallPlace} → ◌≡◌ {A = Option CallPlace} None (Some f) → ⊥
@@ -160,25 +142,16 @@ module _ (shape : ℕ → Option Shape) (st : PlayState) (rest : IsResting shape
 
   -- no call of the consumer puts a CPU's call in flight
   consumer_idle : (o : ConsumerOp) → IsCall st.config (of_consumer o) → (d : ℕ) → d < st.config.cpus → (progress_of (consumer_call shape o st).progresses d).flight ≡ None
-  consumer_idle (consumer_op.Ask c) there d below =
-      let count = rest.coherent.count in let lt : c < length st.progresses = omega arith in set_idle st.progresses c d _ lt (rest.idle c there) (rest.idle d below)
+  consumer_idle (consumer_op.Ask c) there d below = set_idle c _ (rest.idle c there) d below
   consumer_idle (consumer_op.Take c) there d below =
-      let count = rest.coherent.count in let lt : c < length st.progresses = omega arith in
-      progresses_if (λ all. (progress_of all d).flight ≡ None) (nat_lt (progress_of st.progresses c).takes (seals c st.deeds)) _ _
-      (set_idle st.progresses c d _ lt (rest.idle c there) (rest.idle d below)) (rest.idle d below)
+      progresses_if (λ all. (progress_of all d).flight ≡ None) (nat_lt (progress_of st.progresses c).takes (seals c st.deeds)) _ _ (set_idle c _ (rest.idle c there) d below) (rest.idle d below)
   consumer_idle (consumer_op.GiveBack c) there d below =
-      let count = rest.coherent.count in let lt : c < length st.progresses = omega arith in
-      progresses_if (λ all. (progress_of all d).flight ≡ None) (is_out (progress_of st.progresses c).spare) _ _ (set_idle st.progresses c d _ lt (rest.idle c there) (rest.idle d below))
-      (rest.idle d below)
-  consumer_idle consumer_op.Clean there d below = rest.idle d below
-  consumer_idle consumer_op.Stop there d below = rest.idle d below
+      progresses_if (λ all. (progress_of all d).flight ≡ None) (is_out (progress_of st.progresses c).spare) _ _ (set_idle c _ (rest.idle c there) d below) (rest.idle d below)
+  consumer_idle o there d below = rest.idle d below
 
   pub apart : (o : ConsumerOp) → IsCall st.config (of_consumer o) → IsApart o st
-  apart (consumer_op.Ask c) there = tt
   apart (consumer_op.Take c) there = (there, rest.idle c there)
-  apart (consumer_op.GiveBack c) there = tt
-  apart consumer_op.Clean there = tt
-  apart consumer_op.Stop there = tt
+  apart o there = tt
 
   -- behind a whole call of the consumer
   consumer_rests : (o : ConsumerOp) → IsCall st.config (of_consumer o) → IsResting shape (behind_consumer (consumer_call shape o st) st) × Grows st.deeds (consumer_call shape o st).list
@@ -188,13 +161,14 @@ module _ (shape : ℕ → Option Shape) (st : PlayState) (rest : IsResting shape
       let begun : IsCoherent shape (begin_consumer o st) = begin_consumer_coherent shape st o ok in
       let is = ap (λ (x : Stepped). x.state) (consumer_whole shape st ok o (consumer_bound st.config o) (apart o there) bound) in
       let grows : Grows st.deeds (consumer_call shape o st).list =
-      subst (λ (x : PlayState). Grows st.deeds x.deeds) is (to_end_grows shape (consumer_bound st.config o) actor.Consumer (begin_consumer o st) None) in (
+      subst (λ (x : PlayState). Grows st.deeds x.deeds) is (to_end_grows shape (consumer_bound st.config o) actor.Consumer (begin_consumer o st) None begun tt) in (
         record {
           coherent = subst (IsCoherent shape) is (on_to_end_coherent shape (consumer_bound st.config o) actor.Consumer (begin_consumer o st) None begun tt);
           idle = consumer_idle o there;
           side = refl;
           alone = λ id some. released_stays id st.deeds _ grows
-              (rest.alone id (λ none. some (subst (λ (x : PlayState). solo id x.deeds ≡ None) is (to_end_decides_none shape (consumer_bound st.config o) (begin_consumer o st) None id begun ∙ none))));
+              (rest.alone id (λ none. some (subst (λ (x : PlayState). solo id x.deeds ≡ None) is
+              (to_end_keeps shape (λ (x : PlayState). solo id x.deeds ≡ None) actor.Consumer (λ x now lt e. (consumer_decides_none shape x now).solos id ∙ e) _ _ None begun tt none))));
         },
         grows,
       )

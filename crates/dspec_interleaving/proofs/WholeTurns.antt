@@ -1,14 +1,14 @@
 -- A schedule of whole calls, one after another, plays what the definition of whole calls says.
-use Rattle.std.proofs.Common.{◌≡◌, ℕ, zero, suc, ◌+◌, ◌*◌, ◌<◌, ◌≤◌, Bool, true, not, List, [], ◌∷◌}
-use Rattle.std.proofs.Common.{◌++◌, map, reverse, Option, Some, None, if◌then◌else◌, refl, sym, ap, ◌∙◌, subst, arith, append_assoc}
+use Rattle.std.proofs.Common.{◌≡◌, ℕ, zero, suc, ◌+◌, ◌<◌, ◌≤◌, Bool, true, not, List, [], ◌∷◌}
+use Rattle.std.proofs.Common.{◌++◌, map, Option, Some, None, if◌then◌else◌, refl, sym, ap, ◌∙◌, subst, arith, append_assoc}
 use Rattle.std.specs.Prelude.{nat_lt, is_none}
 use Rattle.std.proofs.lemmas.Bool.Decides.{nat_tests}
-use Rattle.std.proofs.lemmas.List.{append-nil, map-append, reverse-append, get_or-set_same}
+use Rattle.std.proofs.lemmas.List.{append-nil}
 use Rattle.dspec_record.specs.declared.field.Shape.{Shape}
-use Rattle.dspec_interleaving.specs.Words.{Record, CpuProgress, ConsumerFlight, CallPlace, PlayFault, op_bound, consumer_bound, most_steps, record_passes, is_about, PlayState, progress_of}
-use Rattle.dspec_interleaving.specs.Words.{idle_progress, start_fault, Stepped, at_start, EndedCall, Noted, Playing, IsPlayingAt, ended, begun_cpu, begun_consumer, playing_at_start, ran, turned}
-use Rattle.dspec_interleaving.specs.Words.{all_turned, cpus_ran, all_ran, played, begin_refusal, or_else, setup_fault, refusal, turn_fault, play_fault, Call, of_cpu, of_consumer, behind_call}
-use Rattle.dspec_interleaving.specs.Words.{behind_all, whole_answer, IsCall, AreCalls, turn_of, actor_of, operation_of, HasAcceptedRecord, AreAccepted, all_ended}
+use Rattle.dspec_interleaving.specs.Words.{Record, ConsumerFlight, CallPlace, PlayFault, op_bound, consumer_bound, most_steps, record_passes, is_about, PlayState, progress_of, start_fault, Stepped}
+use Rattle.dspec_interleaving.specs.Words.{begin_consumer, at_start, EndedCall, Playing, IsPlayingAt, begun_consumer, playing_at_start, ran, turned, all_turned, cpus_ran, all_ran, played}
+use Rattle.dspec_interleaving.specs.Words.{begin_refusal, or_else, setup_fault, refusal, turn_fault, play_fault, Call, of_cpu, of_consumer, behind_call, behind_all, whole_answer, IsCall, AreCalls}
+use Rattle.dspec_interleaving.specs.Words.{turn_of, actor_of, operation_of, HasAcceptedRecord, AreAccepted, all_ended}
 use Rattle.dspec_deeds.specs.declared.config.Config.{Config}
 use Rattle.dspec_deeds.specs.declared.config.StartFault.{StartFault}
 use Rattle.dspec_deeds.specs.declared.calls.Actor.TheVariants as actor
@@ -16,14 +16,14 @@ use Rattle.dspec_deeds.specs.declared.calls.Answer.{Answer}
 use Rattle.dspec_deeds.specs.declared.calls.ConsumerOp.{ConsumerOp}
 use Rattle.dspec_deeds.specs.declared.calls.ConsumerOp.TheVariants as consumer_op
 use Rattle.dspec_interleaving.specs.declared.flight.ConsumerFlight.TheVariants as consumer
-use Rattle.dspec_interleaving.specs.declared.flight.CallPlace.TheVariants as cpu
 use Rattle.dspec_interleaving.specs.declared.refusal.BeginFault.TheVariants as begin_fault
 use Rattle.dspec_deeds.proofs.SetUp.{set_up}
-use Rattle.dspec_interleaving.proofs.Coherence.{begin_cpu_coherent, begin_consumer_coherent}
-use Rattle.dspec_interleaving.proofs.PlaysEnd.{ended_stays, op_within, clean_within}
+use Rattle.dspec_interleaving.proofs.Coherence.{begin_consumer_coherent}
+use Rattle.dspec_interleaving.proofs.Bounded.{op_within, clean_within}
+use Rattle.dspec_interleaving.proofs.PlayerMoves.{ended_stays}
 use Rattle.dspec_interleaving.proofs.WholeCalls.{cpu_whole, consumer_whole}
 use Rattle.dspec_interleaving.proofs.WholeStates.{IsResting, still_calls, rest_all, behind_rests, start_rests, apart}
-use Rattle.dspec_interleaving.proofs.WholeEnds.{EndsAs, cpu_ends_as, consumer_ends_as}
+use Rattle.dspec_interleaving.proofs.WholeEnds.{EndsAs, ends_as, cpu_ends_as}
 
 -- a call with its answer
 abbrev pub ended_as : (ℕ → Option Shape) → Call → PlayState → EndedCall
@@ -35,49 +35,29 @@ same_answer a b e = cc (e)
 
 module _ (shape : ℕ → Option Shape) where
   -- a play whose last call has ended so
-  noted_at : (x : Call) (p q : Playing) (s : Stepped) → EndsAs (actor_of x) (operation_of x) p.noted q s
-      → s ≡ record { state = behind_call shape x p.state; answer = Some (whole_answer shape x p.state) }
-      → IsPlayingAt (behind_call shape x p.state) (map ended (reverse p.noted) ++ (ended_as shape x p.state ∷ [])) q
-  noted_at x p q s e is =
-      let answer : e.last.answer ≡ whole_answer shape x p.state = same_answer _ _ (sym e.answers ∙ ap (λ (t : Stepped). t.answer) is) in
-      let last : ended e.last ≡ ended_as shape x p.state = e.is ∙ ap (λ (a : Answer). (actor_of x, operation_of x, a)) answer in
-      record {
-        state = sym (e.state ∙ ap (λ (t : Stepped). t.state) is);
-        told = sym (ap (λ (l : List Noted). map ended (reverse l)) e.noted
-            ∙ (ap (map ended) (reverse-append (e.last ∷ []) p.noted) ∙ map-append ended (reverse p.noted) (e.last ∷ []) ∙ ap (λ (y : EndedCall). map ended (reverse p.noted) ++ (y ∷ [])) last));
-      }
+  noted_at : (x : Call) (st : PlayState) (es : List EndedCall) (q : Playing) (s : Stepped) → EndsAs (actor_of x) (operation_of x) es q s
+      → s ≡ record { state = behind_call shape x st; answer = Some (whole_answer shape x st) } → IsPlayingAt (behind_call shape x st) (es ++ (ended_as shape x st ∷ [])) q
+  noted_at x st es q s e is = record {
+    state = sym (ap (λ (t : Stepped). t.state) is) ∙ e.at.state;
+    told = ap (λ (a : Answer). es ++ ((actor_of x, operation_of x, a) ∷ [])) (same_answer _ _ (sym (ap (λ (t : Stepped). t.answer) is) ∙ e.answers)) ∙ e.at.told;
+  }
 
   -- one turn
-  turn_plays : (x : Call) (p : Playing) → IsResting shape p.state → IsCall p.state.config x
-      → IsPlayingAt (behind_call shape x p.state) (map ended (reverse p.noted) ++ (ended_as shape x p.state ∷ [])) (turned shape (turn_of x) p)
-  turn_plays (of_cpu c o) p rest lt =
-      let ok = rest.coherent in
-      let count = ok.count in
-      let k : Config = p.state.config in
-      let first : CpuProgress = record (progress_of p.state.progresses c) { flight = Some (cpu.Begun o); steps = 0 } in
-      let here : progress_of (begun_cpu c o p).state.progresses c ≡ first = get_or-set_same p.state.progresses c first idle_progress (omega arith) in
-      let within : op_bound k o ≤ 3 + 2 * k.nspec = op_within k (set_up k ok.ranges).1 o in
-      let most : op_bound k o ≤ (3 + 2 * k.nspec) + (progress_of (begun_cpu c o p).state.progresses c).steps = omega arith in
-      noted_at (of_cpu c o) p _ _
-      (cpu_ends_as shape (3 + 2 * k.nspec) c o p.noted (begun_cpu c o p) (cpu.Begun o) (begin_cpu_coherent shape p.state c o ok lt (rest.idle c lt)) lt
-      (ap (λ (x : CpuProgress). x.flight) here) refl refl most)
-      (cpu_whole shape p.state ok c o (3 + 2 * k.nspec) lt (rest.idle c lt) within)
-  turn_plays (of_consumer o) p rest there =
-      let ok = rest.coherent in
-      let k : Config = p.state.config in
-      let within : consumer_bound k o ≤ k.nspec * (k.cpus + 2) = clean_within k (set_up k ok.ranges).1 (consumer.Begun o) in
-      let most : consumer_bound k o ≤ k.nspec * (k.cpus + 2) + 0 = omega arith in
-      noted_at (of_consumer o) p _ _
-      (consumer_ends_as shape (k.nspec * (k.cpus + 2)) o p.noted (begun_consumer o p) (consumer.Begun o) (begin_consumer_coherent shape p.state o ok) refl refl refl most)
-      (consumer_whole shape p.state ok o (k.nspec * (k.cpus + 2)) (apart shape p.state rest o there) within)
-
-  -- the same, of a play that is known to be there
   turn_at : (x : Call) (st : PlayState) (es : List EndedCall) (p : Playing) → IsPlayingAt st es p → IsResting shape st → IsCall st.config x
       → IsPlayingAt (behind_call shape x st) (es ++ (ended_as shape x st ∷ [])) (turned shape (turn_of x) p)
-  turn_at x st es p at rest there =
-      let now = turn_plays x p (subst (λ s. IsResting shape s) at.state rest) (subst (λ (s : PlayState). IsCall s.config x) at.state there) in
-      subst (λ s. IsPlayingAt (behind_call shape x s) (es ++ (ended_as shape x s ∷ [])) (turned shape (turn_of x) p)) (sym at.state)
-      (subst (λ l. IsPlayingAt (behind_call shape x p.state) (l ++ (ended_as shape x p.state ∷ [])) (turned shape (turn_of x) p)) (sym at.told) now)
+  turn_at (of_cpu c o) st es p at rest lt =
+      let most : op_bound st.config o ≤ most_steps p.state.config (actor.Cpu c) =
+      subst (λ (s : PlayState). op_bound st.config o ≤ most_steps s.config (actor.Cpu c)) at.state (op_within st.config (set_up st.config rest.coherent.ranges).1 o) in
+      noted_at (of_cpu c o) st es _ _ (cpu_ends_as shape (most_steps p.state.config (actor.Cpu c)) c o es st p at rest.coherent lt (rest.idle c lt) most)
+      (cpu_whole shape st rest.coherent c o (most_steps p.state.config (actor.Cpu c)) lt (rest.idle c lt) most)
+  turn_at (of_consumer o) st es p at rest there =
+      let most : consumer_bound st.config o ≤ most_steps p.state.config actor.Consumer =
+      subst (λ (s : PlayState). consumer_bound st.config o ≤ most_steps s.config actor.Consumer) at.state
+      (clean_within st.config (set_up st.config rest.coherent.ranges).1 (Some (consumer.Begun o))) in
+      noted_at (of_consumer o) st es _ _
+      (ends_as shape (most_steps p.state.config actor.Consumer) actor.Consumer es (begin_consumer o st) (begun_consumer o p) record { state = ap (begin_consumer o) at.state; told = at.told }
+      (begin_consumer_coherent shape st o rest.coherent) refl refl (omega arith))
+      (consumer_whole shape st rest.coherent o (most_steps p.state.config actor.Consumer) (apart shape st rest o there) most)
 
   -- turns, one after another
   turns_at : (xs : List Call) (st : PlayState) (es : List EndedCall) (p : Playing) → IsPlayingAt st es p → IsResting shape st → AreCalls st.config xs
@@ -121,8 +101,7 @@ module _ (shape : ℕ → Option Shape) (accepts : Record → Bool) where
   about k (consumer_op.Ask c) lt = grind (arith, nat_tests)
   about k (consumer_op.Take c) lt = grind (arith, nat_tests)
   about k (consumer_op.GiveBack c) lt = grind (arith, nat_tests)
-  about k consumer_op.Clean lt = refl
-  about k consumer_op.Stop lt = refl
+  about k o lt = refl
 
   -- a call may begin where none is in flight
   unrefused : (i : ℕ) (x : Call) (st : PlayState) → IsResting shape st → IsCall st.config x → HasAcceptedRecord accepts x → refusal shape accepts i (turn_of x) st ≡ None

@@ -1,5 +1,5 @@
 -- How many calls of a CPU were entered, and how many told Worn, by what was noted.
-use Rattle.std.proofs.Common.{◌≡◌, ℕ, ◌+◌, ◌<◌, Bool, true, false, ◌&&◌, List, [], ◌∷◌, ◌++◌, Option, Some, None, refl, sym, ap, ◌∙◌, subst, ⊎_elim, arith}
+use Rattle.std.proofs.Common.{◌≡◌, ℕ, ◌+◌, Bool, true, false, ◌&&◌, List, [], ◌∷◌, ◌++◌, Option, Some, None, refl, sym, ap, ◌∙◌, subst, ⊎_elim, arith}
 use Rattle.std.specs.Prelude.{map, nat_le}
 use Rattle.dspec_record.specs.declared.field.Shape.{Shape}
 use Rattle.dspec_deeds.specs.declared.config.Config.{Config}
@@ -10,17 +10,16 @@ use Rattle.dspec_deeds.specs.declared.calls.CpuOp.{CpuOp}
 use Rattle.dspec_deeds.specs.declared.calls.Op.{Op}
 use Rattle.dspec_deeds.specs.declared.calls.Op.TheVariants as op
 use Rattle.dspec_deeds.specs.declared.deed.Deed.{Deed}
-use Rattle.dspec_interleaving.specs.Words.{CpuProgress, ConsumerFlight, CallPlace, author, same_actor, calls, op_of, PlayState, progress_of, cpu_step, EndedCall, Noted, ended, Playing, with_note}
-use Rattle.dspec_interleaving.specs.Words.{is_by, is_worn_answer, step_cpu, step_consumer, step, is_counted, is_first, is_told_worn, entered_calls, is_worn_behind, AreWornRightly}
+use Rattle.dspec_interleaving.specs.Words.{CpuProgress, ConsumerFlight, CallPlace, author, same_actor, calls, op_of, PlayState, progress_of, cpu_step, EndedCall, Noted, ended, with_note, is_by}
+use Rattle.dspec_interleaving.specs.Words.{is_worn_answer, step_cpu, step_consumer, step, is_counted, is_first, is_told_worn, entered_calls, is_worn_behind, AreWornRightly}
 use Rattle.dspec_interleaving.specs.declared.flight.CallPlace.TheVariants as cpu
 use Rattle.dspec_deeds.proofs.Going.{AllBy}
 use Rattle.dspec_deeds.proofs.StayingOwn.{calls_other}
 use Rattle.dspec_deeds.proofs.TestLemmas.{number_is_itself, same_actor_tells}
 use Rattle.dspec_interleaving.proofs.KeptCalls.{step_passes}
-use Rattle.dspec_interleaving.proofs.PlaysEnd.{IsCoherentPlay}
 use Rattle.dspec_interleaving.proofs.StepEnds.{HasEnded, HasGoneOn}
 use Rattle.dspec_interleaving.proofs.WornCpuSteps.{ahead, enters, cpu_step_wears, cpu_advances}
-use Rattle.dspec_interleaving.proofs.WornSteps.{consumer_unworn}
+use Rattle.dspec_interleaving.proofs.FlightsStay.{consumer_unworn}
 
 -- a step of a CPU answers Worn exactly where it is the first of a call that counts, and the CPU has entered as many as it may
 pub step_wears : (shape : ℕ → Option Shape) (st : PlayState) (c : ℕ)
@@ -56,36 +55,16 @@ same_test k c h (cpu.Begun o) es was =
     let counts = was.counts in
     let same : calls c h ≡ entered_calls c es = omega arith in
     ap (λ n. is_counted (op.Cpu o) && nat_le k.max_calls n) same
-same_test k c h (cpu.ScanLoad s) es was = sym (was.unworn refl)
-same_test k c h (cpu.ScanTry s w) es was = sym (was.unworn refl)
-same_test k c h (cpu.SpeculateLoad id r) es was = sym (was.unworn refl)
-same_test k c h (cpu.SpeculateTry id r w) es was = sym (was.unworn refl)
-same_test k c h (cpu.CommitLoad id) es was = sym (was.unworn refl)
-same_test k c h (cpu.CommitTry id w) es was = sym (was.unworn refl)
-same_test k c h (cpu.CommitRelease id d) es was = sym (was.unworn refl)
-same_test k c h (cpu.DiscardLoad id) es was = sym (was.unworn refl)
-same_test k c h (cpu.DiscardTry id w) es was = sym (was.unworn refl)
 same_test k c h cpu.ServicePop es was = refl
 same_test k c h cpu.ServicePush es was = refl
 same_test k c h (cpu.ServiceLoad s sum) es was = refl
 same_test k c h (cpu.ServiceStore s w sum) es was = refl
+same_test k c h f es was = sym (was.unworn refl)
 
 -- a call that counts and goes on is past its first step, whatever its step was
 is_counted_on : (o : CpuOp) (x : CallPlace) → op_of x ≡ o → is_on (Some x) ≡ true → is_counted (op.Cpu o) ≡ true
 is_counted_on o (cpu.Begun p) is now = absurd (cc (now))
-is_counted_on o (cpu.ScanLoad s) is now = ap (λ y. is_counted (op.Cpu y)) (sym is)
-is_counted_on o (cpu.ScanTry s w) is now = ap (λ y. is_counted (op.Cpu y)) (sym is)
-is_counted_on o (cpu.SpeculateLoad id r) is now = ap (λ y. is_counted (op.Cpu y)) (sym is)
-is_counted_on o (cpu.SpeculateTry id r w) is now = ap (λ y. is_counted (op.Cpu y)) (sym is)
-is_counted_on o (cpu.CommitLoad id) is now = ap (λ y. is_counted (op.Cpu y)) (sym is)
-is_counted_on o (cpu.CommitTry id w) is now = ap (λ y. is_counted (op.Cpu y)) (sym is)
-is_counted_on o (cpu.CommitRelease id d) is now = ap (λ y. is_counted (op.Cpu y)) (sym is)
-is_counted_on o (cpu.DiscardLoad id) is now = ap (λ y. is_counted (op.Cpu y)) (sym is)
-is_counted_on o (cpu.DiscardTry id w) is now = ap (λ y. is_counted (op.Cpu y)) (sym is)
-is_counted_on o cpu.ServicePop is now = absurd (cc (now))
-is_counted_on o cpu.ServicePush is now = absurd (cc (now))
-is_counted_on o (cpu.ServiceLoad s sum) is now = absurd (cc (now))
-is_counted_on o (cpu.ServiceStore s w sum) is now = absurd (cc (now))
+is_counted_on o x is now = ap (λ y. is_counted (op.Cpu y)) (sym is) ∙ now
 
 -- a call that isn't worn at a step isn't worn behind it, where it counts
 unworn_on : (k : Config) (c : ℕ) (o : CpuOp) (es : List EndedCall) → is_counted (op.Cpu o) ≡ true → is_worn_behind k (actor.Cpu c) (op.Cpu o) es ≡ false
@@ -147,9 +126,3 @@ entered_now shape k c h me f ds st ns was =
           (unworn_on k c (op_of f) (map ended ns) counted unworn))
           (cpu_advances shape k c h me f);
     }
-
--- a play whose ended calls are worn where they have to be
-pub record IsWornPlay (shape : ℕ → Option Shape) (k : Config) (p : Playing) : Type 0 where
-  pub play : IsCoherentPlay shape k p
-  pub right : AreWornRightly k (map ended p.noted)
-  pub entered : (c : ℕ) → c < p.state.config.cpus → HasEntered k c p.state.deeds (progress_of p.state.progresses c).flight (map ended p.noted)

@@ -1,37 +1,31 @@
--- A step of a CPU ends its call, or the call goes on with one step more and the same bound; which tells Worn, and what it adds to the
--- calls.
-use Rattle.std.proofs.Common.{◌*◌, ⊎_elim, inl, inr, ◌≡◌, ℕ, ◌+◌, Bool, true, false, ◌==◌, ◌&&◌, List, [], ◌∷◌, ◌++◌, Option, Some, None, if◌then◌else◌, refl, arith}
+-- What a step of a CPU's call makes of it: it ends the call, or the call goes on with one step more and the same bound; whether it tells
+-- Worn, and what it adds to the calls; and the answer is read off what the call has entered.
+use Rattle.std.proofs.Common.{◌*◌, ⊎_elim, inl, inr, ap, sym, ◌≡◌, not, ℕ, ◌+◌, Bool, true, false, ◌==◌, ◌&&◌, List, [], ◌∷◌, ◌++◌, Option, Some, None, if◌then◌else◌, refl, arith}
 use Rattle.std.specs.Prelude.{nat_lt, nat_le}
 use Rattle.dspec_record.specs.declared.field.Shape.{Shape}
-use Rattle.dspec_interleaving.specs.Words.{Record, one, is_decided, Speculation, SlotState, speculate_at, commit_at, discard_at, open_at, settle_at, CpuProgress, CallPlace, Spare, op_of, is_fill}
-use Rattle.dspec_interleaving.specs.Words.{halted, in_range, word_at, ack, calls, seals, fits_principal, fits_speculative, missed_busy, commit_fate, discard_fate, settle_fate, answer_of, CpuStep}
-use Rattle.dspec_interleaving.specs.Words.{same_word, is_alone, is_release, is_worn, ends, wears, call_goes_on, spoken_at, shown_speculate, shown_commit, shown_discard, missed, shown_scan, asked}
-use Rattle.dspec_interleaving.specs.Words.{begun, popped, served, shown_service, cpu_step, is_worn_answer, is_counted, is_first, is_told_worn, enters_call, measured, is_among, callers, flight_bound}
-use Rattle.dspec_interleaving.specs.Words.{sealed_by}
+use Rattle.dspec_interleaving.specs.Words.{Record, one, is_decided, Speculation, SlotState, commit_at, discard_at, open_at, settle_at, CpuProgress, CallPlace, Spare, op_of, is_fill, halted}
+use Rattle.dspec_interleaving.specs.Words.{in_range, word_at, ack, calls, seals, fits_principal, fits_speculative, missed_busy, commit_fate, discard_fate, CpuStep, same_word, is_alone, is_release}
+use Rattle.dspec_interleaving.specs.Words.{is_worn, ends, wears, call_goes_on, spoken_at, shown_speculate, shown_commit, shown_discard, missed, shown_scan, asked, begun, popped, served}
+use Rattle.dspec_interleaving.specs.Words.{shown_service, cpu_step, is_worn_answer, is_counted, is_first, is_told_worn, enters_call, measured, is_among, callers, flight_bound, sealed_by}
+use Rattle.dspec_interleaving.specs.Words.{answer_of_cpu, is_busy_among}
 use Rattle.dspec_word.specs.declared.act.Act.{Act}
-use Rattle.dspec_word.specs.declared.act.Act.TheVariants.{Void, Granted, Attempt, Idle}
+use Rattle.dspec_word.specs.declared.act.Act.TheVariants.{Granted, Attempt}
 use Rattle.dspec_deeds.specs.declared.config.Config.{Config}
 use Rattle.dspec_deeds.specs.declared.calls.Answer.{Answer}
 use Rattle.dspec_deeds.specs.declared.calls.Answer.TheVariants as answer
 use Rattle.dspec_deeds.specs.declared.calls.CpuOp.{CpuOp}
 use Rattle.dspec_deeds.specs.declared.calls.CpuOp.TheVariants as cpu_op
-use Rattle.dspec_deeds.specs.declared.calls.Decided.TheVariants as decided_answer
 use Rattle.dspec_deeds.specs.declared.calls.Op.{Op}
 use Rattle.dspec_deeds.specs.declared.calls.Op.TheVariants as op
 use Rattle.dspec_deeds.specs.declared.calls.Opening.TheVariants as opening
 use Rattle.dspec_deeds.specs.declared.calls.Served.{Served}
-use Rattle.dspec_deeds.specs.declared.calls.Spoken.TheVariants as spoken_answer
-use Rattle.dspec_deeds.specs.declared.calls.Traced.TheVariants as traced_answer
-use Rattle.dspec_deeds.specs.declared.deed.DecideFate.TheVariants as decided
-use Rattle.dspec_deeds.specs.declared.deed.SpeculateFate.TheVariants as spoken
-use Rattle.dspec_deeds.specs.declared.deed.TraceFate.TheVariants as traced
 use Rattle.dspec_deeds.specs.declared.deed.Deed.{Deed}
-use Rattle.dspec_deeds.specs.declared.deed.Deed.TheVariants.{Trace, Scan, Opened, Miss, Speculate, Commit, Discard, Settle, Release}
+use Rattle.dspec_deeds.specs.declared.deed.Deed.TheVariants.{Miss}
 use Rattle.dspec_interleaving.specs.declared.flight.CallPlace.TheVariants as cpu
 use Rattle.dspec_interleaving.specs.declared.flight.Spare.TheVariants as spare
 use Rattle.dspec_deeds.proofs.TestLemmas.{number_is_itself}
 use Rattle.dspec_interleaving.proofs.StepEnds.{HasEnded, HasGoneOn, Advances}
-use Rattle.dspec_interleaving.proofs.OwnTelling.{fails_unworn, told_unworn}
+use Rattle.dspec_interleaving.proofs.OwnTelling.{HasServed, OwnDeeds, ReadsOff, busy_now, fails_unworn, told_unworn}
 
 -- how many deeds that count the call in flight has entered
 abbrev pub ahead : Option CallPlace → ℕ
@@ -55,173 +49,164 @@ pub record Wears (c : ℕ) (h : List Deed) (worn : Bool) (n : ℕ) (o : CpuOp) (
   pub counts : calls c (m.deeds ++ h) + n ≡ (calls c h + ahead m.progress.flight) + enters (op.Cpu o) m.answer
 
 module _ (shape : ℕ → Option Shape) (k : Config) (c : ℕ) (h : List Deed) (me : CpuProgress) where
-  abbrev Does : ℕ → Bool → ℕ → CpuOp → CpuStep → Type 0
-  Does most worn n o m = Wears c h worn n o m × Advances k me most o m
+  -- what a step makes of a call whose bound is most, and which had entered n deeds that count; where Q says so, its deeds were own
+  abbrev Does : Type 0 → List Deed → ℕ → Bool → ℕ → CpuOp → CpuStep → Type 0
+  Does Q own most worn n o m = Wears c h worn n o m × Advances k me most o m × (Q → ReadsOff c h me o own m)
 
   -- the call is worn, or not
-  opens : (most : ℕ) (o : CpuOp) (b : Bool) (x y : CpuStep) → Does most true 0 o x → Does most false 0 o y → Does most b 0 o (if b then x else y)
-  opens most o true x y p q = p
-  opens most o false x y p q = q
+  opens : {Q : Type 0} {own : List Deed} {most : ℕ} {o : CpuOp} (b : Bool) {x y : CpuStep} → Does Q own most true 0 o x → Does Q own most false 0 o y → Does Q own most b 0 o (if b then x else y)
+  opens true p q = p
+  opens false p q = q
 
-  either : (most n : ℕ) (o : CpuOp) (b : Bool) (x y : CpuStep) → Does most false n o x → Does most false n o y → Does most false n o (if b then x else y)
-  either most n o true x y p q = p
-  either most n o false x y p q = q
+  either : {Q : Type 0} {own : List Deed} {most n : ℕ} {o : CpuOp} (b : Bool) {x y : CpuStep} → Does Q own most false n o x → Does Q own most false n o y
+      → Does Q own most false n o (if b then x else y)
+  either true p q = p
+  either false p q = q
 
-  worn_out : (most : ℕ) (o : CpuOp) (a : Answer) → is_worn_answer a ≡ true → Does most true 0 o (wears me a)
-  worn_out most o a worn = (record { told = worn; counts = rw (worn, none_enters (is_counted (op.Cpu o))) (omega arith) }, inl record { told = a; answers = refl; idle = refl })
+  worn_out : {most : ℕ} {own : List Deed} {o : CpuOp} {a : Answer} → a ≡ answer_of_cpu o [] → is_worn_answer a ≡ true → Does (own ≡ []) own most true 0 o (wears me a)
+  worn_out {o = o} {a = a} is worn = (
+    record { told = worn; counts = rw (worn, none_enters (is_counted (op.Cpu o))) (omega arith) },
+    inl record { told = a; answers = refl; idle = refl },
+    λ e. record { holds = tt; reads = rw e is; wears = rw worn refl },
+  )
 
-  -- a call that counts ends, unworn
-  done : (most n : ℕ) (o : CpuOp) (ds : List Deed) (a : Answer) → is_counted (op.Cpu o) ≡ true → is_worn_answer a ≡ false → calls c (ds ++ h) + n ≡ calls c h + 1 → Does most false n o (ends me ds a)
-  done most n o ds a counted unworn e = (record { told = unworn; counts = rw (counted, unworn) (omega arith) }, inl record { told = a; answers = refl; idle = refl })
+  -- a call ends, unworn
+  done : {Q : Type 0} {own : List Deed} {most n : ℕ} {o : CpuOp} {ds : List Deed} {a : Answer} → is_worn_answer a ≡ false
+      → calls c (ds ++ h) + n ≡ calls c h + (if is_counted (op.Cpu o) && not false then 1 else 0) → (Q → a ≡ answer_of_cpu o (ds ++ own)) → Does Q own most false n o (ends me ds a)
+  done {a = a} unworn e is = (
+    record { told = unworn; counts = rw unworn (omega arith) },
+    inl record { told = a; answers = refl; idle = refl },
+    λ q. record { holds = tt; reads = is q; wears = rw unworn refl },
+  )
 
   -- a call goes on
-  on : (most n : ℕ) (o : CpuOp) (ds : List Deed) (f : CallPlace) → flight_bound k f ≡ most → op_of f ≡ o → calls c (ds ++ h) + n ≡ calls c h + ahead (Some f)
-      → Does most false n o (call_goes_on me ds f)
-  on most n o ds f bound call e = (record { told = refl; counts = omega arith }, inr record { next = f; call = call; answers = refl; flight = refl; bound = bound; counted = refl })
+  on : {Q : Type 0} {own : List Deed} {n : ℕ} {ds : List Deed} (f : CallPlace) → calls c (ds ++ h) + n ≡ calls c h + ahead (Some f) → (Q → OwnDeeds c (ds ++ h) f (ds ++ own))
+      → Does Q own (flight_bound k f) false n (op_of f) (call_goes_on me ds f)
+  on f e owns = (
+    record { told = refl; counts = omega arith },
+    inr record { next = f; call = refl; answers = refl; flight = refl; bound = refl; counted = refl },
+    λ q. record { holds = owns q; reads = tt; wears = refl },
+  )
 
   -- the seal and the push of a batch
-  seals_on : Does (3 + 2 * k.nspec) false 0 cpu_op.Service (sealed_by me c)
-  seals_on = (record { told = refl; counts = omega arith }, inr record { next = cpu.ServicePush; call = refl; answers = refl; flight = refl; bound = refl; counted = refl })
+  seals_on : {own : List Deed} → Does (own ≡ []) own (3 + 2 * k.nspec) false 0 cpu_op.Service (sealed_by me c)
+  seals_on = (
+    record { told = refl; counts = omega arith },
+    inr record { next = cpu.ServicePush; call = refl; answers = refl; flight = refl; bound = refl; counted = refl },
+    λ e. record { holds = rw e refl; reads = tt; wears = refl },
+  )
 
   -- a deed that counts is entered now, or was before
   now : (calls c h + (if c == c then 1 else 0)) + 0 ≡ calls c h + 1
   now = rw (number_is_itself c) (omega arith)
 
-  released : ((calls c h + (if c == c then 1 else 0)) + 0) + 0 ≡ calls c h + 1
-  released = rw (number_is_itself c) (omega arith)
-
   before : (calls c h + 0) + 1 ≡ calls c h + 1
   before = omega arith
 
-  spoken_wears : (id : Speculation) (r : Record) → Does 4 false 0 (cpu_op.Speculate id r) (spoken_at k c (measured shape k c h) me id r)
-  spoken_wears id r = either _ 0 _ (fits_speculative shape k c id r h) _ _ (done _ 0 _ _ _ refl refl now) (done _ 0 _ _ _ refl refl now)
+  -- a call that counts begins
+  begins : {own : List Deed} {o : CpuOp} {a b : Answer} (ds : List Deed) {x : CpuStep} → a ≡ answer_of_cpu o [] → is_worn_answer a ≡ true
+      → is_worn_answer b ≡ false → calls c (ds ++ h) + 0 ≡ calls c h + (if is_counted (op.Cpu o) && not false then 1 else 0) → b ≡ answer_of_cpu o (ds ++ [])
+      → Does (own ≡ []) own (flight_bound k (cpu.Begun o)) false 0 o x
+      → Does (own ≡ []) own (flight_bound k (cpu.Begun o)) (is_worn k c h) 0 o (if is_worn k c h then wears me a else if halted h then ends me ds b else x)
+  begins ds worn is unworn e stops rest = opens (is_worn k c h) (worn_out worn is) (either (halted h) (done unworn e (λ q. rw q stops)) rest)
 
-  speculate_wears : (id : Speculation) (r : Record) (w : SlotState) (a : Act) → Does 4 false 0 (cpu_op.Speculate id r) (shown_speculate k c (measured shape k c h) me id r w a)
-  speculate_wears id r w Void = done _ 0 _ _ _ refl refl now
-  speculate_wears id r w Granted = spoken_wears id r
-  speculate_wears id r w (Attempt to) = on _ 0 _ [] _ refl refl refl
-  speculate_wears id r w Idle = done _ 0 _ _ _ refl refl now
+  spoken_does : {own : List Deed} (id : Speculation) (r : Record) → Does (own ≡ []) own 4 false 0 (cpu_op.Speculate id r) (spoken_at k c (measured shape k c h) me id r)
+  spoken_does id r = either (fits_speculative shape k c id r h) (done refl now (λ e. refl)) (done refl now (λ e. refl))
 
-  commit_wears : (id : Speculation) (w : SlotState) (a : Act) → Does 5 false 0 (cpu_op.Commit id) (shown_commit k c (measured shape k c h) me id w a)
-  commit_wears id w Void = done _ 0 _ _ _ refl refl now
-  commit_wears id w Granted = done _ 0 _ _ _ refl refl now
-  commit_wears id w (Attempt to) = on _ 0 _ [] _ refl refl refl
-  commit_wears id w Idle = done _ 0 _ _ _ refl refl now
+  speculate_does : {own : List Deed} (id : Speculation) (r : Record) (w : SlotState) (a : Act)
+      → Does (own ≡ []) own 4 false 0 (cpu_op.Speculate id r) (shown_speculate k c (measured shape k c h) me id r w a)
+  speculate_does id r w Granted = spoken_does id r
+  speculate_does id r w (Attempt to) = on (cpu.SpeculateTry id r w) refl (λ e. e)
+  speculate_does id r w act = done refl now (λ e. refl)
 
-  discard_wears : (id : Speculation) (w : SlotState) (a : Act) → Does 5 false 0 (cpu_op.Discard id) (shown_discard k c (measured shape k c h) me id w a)
-  discard_wears id w Void = done _ 0 _ _ _ refl refl now
-  discard_wears id w Granted = done _ 0 _ _ _ refl refl now
-  discard_wears id w (Attempt to) = on _ 0 _ [] _ refl refl refl
-  discard_wears id w Idle = done _ 0 _ _ _ refl refl now
+  commit_does : {own : List Deed} (id : Speculation) (w : SlotState) (a : Act) → Does (own ≡ []) own 5 false 0 (cpu_op.Commit id) (shown_commit k c (measured shape k c h) me id w a)
+  commit_does id w (Attempt to) = on (cpu.CommitTry id w) refl (λ e. e)
+  commit_does id w act = done refl now (λ e. refl)
 
-  missed_wears : (s : ℕ) (w : SlotState) → Does (1 + 2 * k.nspec) false 1 cpu_op.Speculation (missed k c (measured shape k c h) me s w)
-  missed_wears s w =
-      either _ 1 _ (s == k.nspec) _ _
-      (done _ 1 _ (Miss c s (is_decided w.code) ∷ []) _ refl (fails_unworn (missed_busy c (Miss c s (is_decided w.code) ∷ h))) before)
-      (on _ 1 _ (Miss c s (is_decided w.code) ∷ []) (cpu.ScanLoad (s + 1)) refl refl before)
+  discard_does : {own : List Deed} (id : Speculation) (w : SlotState) (a : Act) → Does (own ≡ []) own 5 false 0 (cpu_op.Discard id) (shown_discard k c (measured shape k c h) me id w a)
+  discard_does id w (Attempt to) = on (cpu.DiscardTry id w) refl (λ e. e)
+  discard_does id w act = done refl now (λ e. refl)
 
-  scan_wears : (s : ℕ) (w : SlotState) (a : Act) → Does (1 + 2 * k.nspec) false 1 cpu_op.Speculation (shown_scan k c (measured shape k c h) me s w a)
-  scan_wears s w Void = missed_wears s w
-  scan_wears s w Granted = missed_wears s w
-  scan_wears s w (Attempt to) = on _ 1 _ [] (cpu.ScanTry s w) refl refl refl
-  scan_wears s w Idle = missed_wears s w
+  missed_does : {own : List Deed} (s : ℕ) (w : SlotState)
+      → Does (is_busy_among own ≡ missed_busy c h) own (1 + 2 * k.nspec) false 1 cpu_op.Speculation (missed k c (measured shape k c h) me s w)
+  missed_does {own = own} s w = either (s == k.nspec)
+      (done (fails_unworn (missed_busy c (Miss c s (is_decided w.code) ∷ h))) before
+      (λ e. ap (λ (b : Bool). answer.Opening (if b then opening.Busy else opening.Unavailable)) (sym (busy_now c s (is_decided w.code) h own e))))
+      (on (cpu.ScanLoad (s + 1)) before (busy_now c s (is_decided w.code) h own))
 
-  asked_wears : (b : Bool) (p : Spare) → Does (3 + 2 * k.nspec) false 0 cpu_op.Service (asked k c (measured shape k c h) me b p)
-  asked_wears false p = on _ 0 _ [] _ refl refl refl
-  asked_wears true spare.InHand = seals_on
-  asked_wears true spare.Sealed = on _ 0 _ [] _ refl refl refl
-  asked_wears true spare.Handed = on _ 0 _ [] _ refl refl refl
-  asked_wears true spare.Out = on _ 0 _ [] _ refl refl refl
-  asked_wears true spare.GivenBack = on _ 0 _ [] _ refl refl refl
+  scan_does : {own : List Deed} (s : ℕ) (w : SlotState) (a : Act)
+      → Does (is_busy_among own ≡ missed_busy c h) own (1 + 2 * k.nspec) false 1 cpu_op.Speculation (shown_scan k c (measured shape k c h) me s w a)
+  scan_does s w (Attempt to) = on (cpu.ScanTry s w) refl (λ e. e)
+  scan_does s w act = missed_does s w
 
-  popped_wears : (p : Spare) → Does (3 + 2 * k.nspec) false 0 cpu_op.Service (popped k c (measured shape k c h) me p)
-  popped_wears spare.InHand = on _ 0 _ [] _ refl refl refl
-  popped_wears spare.Sealed = on _ 0 _ [] _ refl refl refl
-  popped_wears spare.Handed = on _ 0 _ [] _ refl refl refl
-  popped_wears spare.Out = on _ 0 _ [] _ refl refl refl
-  popped_wears spare.GivenBack = seals_on
+  asked_does : {own : List Deed} (b : Bool) (p : Spare) → Does (own ≡ []) own (3 + 2 * k.nspec) false 0 cpu_op.Service (asked k c (measured shape k c h) me b p)
+  asked_does false p = on (cpu.ServiceLoad 1 record { sealed = false; settled = 0 }) refl (λ e. rw e (refl, refl))
+  asked_does true spare.InHand = seals_on
+  asked_does true place = on cpu.ServicePop refl (λ e. e)
 
-  served_wears : (s : ℕ) (ds : List Deed) (sum : Served) → calls c (ds ++ h) ≡ calls c h → Does (3 + 2 * k.nspec) false 0 cpu_op.Service (served k c (measured shape k c h) me s ds sum)
-  served_wears s ds sum same = either _ 0 _ (s == k.nspec) _ _ (record { told = refl; counts = omega arith }, inl record { told = answer.Served sum; answers = refl; idle = refl })
-      (on _ 0 _ ds (cpu.ServiceLoad (s + 1) sum) refl refl (omega arith))
+  popped_does : {own : List Deed} (p : Spare) → Does (own ≡ []) own (3 + 2 * k.nspec) false 0 cpu_op.Service (popped k c (measured shape k c h) me p)
+  popped_does spare.GivenBack = seals_on
+  popped_does place = on (cpu.ServiceLoad 1 record { sealed = false; settled = 0 }) refl (λ e. rw e (refl, refl))
 
-  service_wears : (s : ℕ) (sum : Served) (w : SlotState) (a : Act) → Does (3 + 2 * k.nspec) false 0 cpu_op.Service (shown_service k c (measured shape k c h) me s sum w a)
-  service_wears s sum w Void = served_wears s [] sum refl
-  service_wears s sum w Granted = on _ 0 _ [] (cpu.ServiceStore s w sum) refl refl refl
-  service_wears s sum w (Attempt to) = served_wears s [] sum refl
-  service_wears s sum w Idle = served_wears s [] sum refl
+  served_does : {Q : Type 0} {own : List Deed} (s : ℕ) (ds : List Deed) (sum : Served) → calls c (ds ++ h) ≡ calls c h → (Q → HasServed sum (ds ++ own))
+      → Does Q own (3 + 2 * k.nspec) false 0 cpu_op.Service (served k c (measured shape k c h) me s ds sum)
+  served_does s ds sum same has = either (s == k.nspec)
+      (done refl (omega arith) (λ q i. answer.Served record { sealed = sym (has q).0 i; settled = sym (has q).1 i }))
+      (on (cpu.ServiceLoad (s + 1) sum) (omega arith) has)
+
+  service_does : {Q : Type 0} {own : List Deed} (s : ℕ) (sum : Served) (w : SlotState) (a : Act) → (Q → HasServed sum own)
+      → Does Q own (3 + 2 * k.nspec) false 0 cpu_op.Service (shown_service k c (measured shape k c h) me s sum w a)
+  service_does s sum w Granted has = on (cpu.ServiceStore s w sum) refl has
+  service_does s sum w act has = served_does s [] sum refl has
 
   -- the first step of a call
-  begun_wears : (o : CpuOp) → Does (flight_bound k (cpu.Begun o)) (is_counted (op.Cpu o) && nat_le k.max_calls (calls c h)) 0 o (begun k c (measured shape k c h) me o)
-  begun_wears (cpu_op.Trace r) =
-      let o = cpu_op.Trace r in
-      opens _ o (is_worn k c h) _ _ (worn_out _ o (answer.Traced traced_answer.Worn) refl)
-      (either _ 0 o (halted h) _ _ (done _ 0 o (Trace c r traced.Stopped ∷ []) _ refl refl now)
-      (either _ 0 o (fits_principal shape k c (one r) h) _ _ (done _ 0 o (Trace c r traced.Kept ∷ []) _ refl refl now) (done _ 0 o (Trace c r traced.Dropped ∷ []) _ refl refl now)))
-  begun_wears cpu_op.Speculation =
-      let o = cpu_op.Speculation in
-      opens _ o (is_worn k c h) _ _ (worn_out _ o (answer.Opening opening.Worn) refl)
-      (either _ 0 o (halted h) _ _ (done _ 0 o (Scan c false ∷ []) _ refl refl now) (on _ 0 o (Scan c true ∷ []) (cpu.ScanLoad 1) refl refl now))
-  begun_wears (cpu_op.Speculate id r) =
-      let o = cpu_op.Speculate id r in
-      opens _ o (is_worn k c h) _ _ (worn_out _ o (answer.Spoken spoken_answer.Worn) refl)
-      (either _ 0 o (halted h) _ _ (done _ 0 o (Speculate c id r spoken.Stopped ∷ []) _ refl refl now)
-      (either _ 0 o (in_range k id) _ _ (on _ 0 o [] (cpu.SpeculateLoad id r) refl refl refl) (done _ 0 o (Speculate c id r spoken.Void ∷ []) _ refl refl now)))
-  begun_wears (cpu_op.Commit id) =
-      let o = cpu_op.Commit id in
-      opens _ o (is_worn k c h) _ _ (worn_out _ o (answer.Decided decided_answer.Worn) refl)
-      (either _ 0 o (halted h) _ _ (done _ 0 o (Commit c id decided.Stopped ∷ []) _ refl refl now)
-      (either _ 0 o (in_range k id) _ _ (on _ 0 o [] (cpu.CommitLoad id) refl refl refl) (done _ 0 o (Commit c id decided.Void ∷ []) _ refl refl now)))
-  begun_wears (cpu_op.Discard id) =
-      let o = cpu_op.Discard id in
-      opens _ o (is_worn k c h) _ _ (worn_out _ o (answer.Decided decided_answer.Worn) refl)
-      (either _ 0 o (halted h) _ _ (done _ 0 o (Discard c id decided.Stopped ∷ []) _ refl refl now)
-      (either _ 0 o (in_range k id) _ _ (on _ 0 o [] (cpu.DiscardLoad id) refl refl refl) (done _ 0 o (Discard c id decided.Void ∷ []) _ refl refl now)))
-  begun_wears cpu_op.Service =
-      either _ 0 cpu_op.Service (is_fill k.policy) _ _
-      (service_wears 1 record { sealed = false; settled = 0 } (word_at 1 h) (settle_at (word_at 1 h) (ack c 1 h)))
-      (asked_wears (nat_lt (seals c h) me.want && nat_lt (seals c h) k.max_calls) me.spare)
+  begun_does : {own : List Deed} (o : CpuOp) → Does (own ≡ []) own (flight_bound k (cpu.Begun o)) (is_counted (op.Cpu o) && nat_le k.max_calls (calls c h)) 0 o (begun k c (measured shape k c h) me o)
+  begun_does (cpu_op.Trace r) = begins _ refl refl refl now refl (either (fits_principal shape k c (one r) h) (done refl now (λ e. refl)) (done refl now (λ e. refl)))
+  begun_does cpu_op.Speculation = begins _ refl refl refl now refl (on (cpu.ScanLoad 1) now (λ e. rw (e, number_is_itself c) refl))
+  begun_does (cpu_op.Speculate id r) = begins _ refl refl refl now refl (either (in_range k id) (on (cpu.SpeculateLoad id r) refl (λ e. e)) (done refl now (λ e. refl)))
+  begun_does (cpu_op.Commit id) = begins _ refl refl refl now refl (either (in_range k id) (on (cpu.CommitLoad id) refl (λ e. e)) (done refl now (λ e. refl)))
+  begun_does (cpu_op.Discard id) = begins _ refl refl refl now refl (either (in_range k id) (on (cpu.DiscardLoad id) refl (λ e. e)) (done refl now (λ e. refl)))
+  begun_does cpu_op.Service = either (is_fill k.policy)
+      (service_does 1 record { sealed = false; settled = 0 } (word_at 1 h) (settle_at (word_at 1 h) (ack c 1 h)) (λ e. rw e (refl, refl)))
+      (asked_does (nat_lt (seals c h) me.want && nat_lt (seals c h) k.max_calls) me.spare)
 
   -- a step of a CPU's call in flight
-  cpu_step_does : (f : CallPlace) → Does (flight_bound k f) (is_first (Some f) && nat_le k.max_calls (calls c h)) (ahead (Some f)) (op_of f) (cpu_step shape k c h me f)
-  cpu_step_does (cpu.Begun o) = begun_wears o
-  cpu_step_does (cpu.ScanLoad s) = scan_wears s (word_at s h) (open_at (word_at s h) k.max_issues)
-  cpu_step_does (cpu.ScanTry s w) =
-      either _ 1 cpu_op.Speculation (same_word (word_at s h) w) _ _ (done _ 1 _ (Opened c record { issue = w.issue; slot = s } ∷ []) _ refl refl before) (missed_wears s (word_at s h))
-  cpu_step_does (cpu.SpeculateLoad id r) = speculate_wears id r (word_at id.slot h) (speculate_at (word_at id.slot h) id (is_among c (callers id h)))
-  cpu_step_does (cpu.SpeculateTry id r w) =
-      either _ 0 (cpu_op.Speculate id r) (same_word (word_at id.slot h) w) _ _ (spoken_wears id r)
-      (speculate_wears id r (word_at id.slot h) (speculate_at (word_at id.slot h) id (is_among c (callers id h))))
-  cpu_step_does (cpu.CommitLoad id) = commit_wears id (word_at id.slot h) (commit_at (word_at id.slot h) id (is_among c (callers id h)))
-  cpu_step_does (cpu.CommitTry id w) =
-      let f = commit_fate shape k c h id in
-      either _ 0 (cpu_op.Commit id) (same_word (word_at id.slot h) w) _ _
-      (either _ 0 (cpu_op.Commit id) (is_alone (commit_at w id (is_among c (callers id h)))) _ _ (on _ 0 _ (Commit c id f ∷ []) (cpu.CommitRelease id f) refl refl now)
-      (done _ 0 _ (Commit c id f ∷ []) (answer_of f) refl (told_unworn f) now))
-      (commit_wears id (word_at id.slot h) (commit_at (word_at id.slot h) id (is_among c (callers id h))))
-  cpu_step_does (cpu.CommitRelease id f) = done _ 1 (cpu_op.Commit id) (Release id.slot ∷ []) (answer_of f) refl (told_unworn f) before
-  cpu_step_does (cpu.DiscardLoad id) = discard_wears id (word_at id.slot h) (discard_at (word_at id.slot h) id (is_among c (callers id h)))
-  cpu_step_does (cpu.DiscardTry id w) =
-      let f = discard_fate shape k c h id in
-      either _ 0 (cpu_op.Discard id) (same_word (word_at id.slot h) w) _ _
-      (either _ 0 (cpu_op.Discard id) (is_release (discard_at w id (is_among c (callers id h)))) _ _
-      (done _ 0 _ (Release id.slot ∷ Discard c id f ∷ []) (answer_of f) refl (told_unworn f) released) (done _ 0 _ (Discard c id f ∷ []) (answer_of f) refl (told_unworn f) now))
-      (discard_wears id (word_at id.slot h) (discard_at (word_at id.slot h) id (is_among c (callers id h))))
-  cpu_step_does cpu.ServicePop = popped_wears me.spare
-  cpu_step_does cpu.ServicePush = (
+  cpu_step_does : (f : CallPlace) (own : List Deed)
+      → Does (OwnDeeds c h f own) own (flight_bound k f) (is_first (Some f) && nat_le k.max_calls (calls c h)) (ahead (Some f)) (op_of f) (cpu_step shape k c h me f)
+  cpu_step_does (cpu.Begun o) own = begun_does o
+  cpu_step_does (cpu.ScanLoad s) own = scan_does s (word_at s h) (open_at (word_at s h) k.max_issues)
+  cpu_step_does (cpu.ScanTry s w) own = either (same_word (word_at s h) w) (done refl before (λ e. refl)) (missed_does s (word_at s h))
+  cpu_step_does (cpu.SpeculateLoad id r) own = speculate_does id r (word_at id.slot h) _
+  cpu_step_does (cpu.SpeculateTry id r w) own = either (same_word (word_at id.slot h) w) (spoken_does id r) (speculate_does id r (word_at id.slot h) _)
+  cpu_step_does (cpu.CommitLoad id) own = commit_does id (word_at id.slot h) _
+  cpu_step_does (cpu.CommitTry id w) own = either (same_word (word_at id.slot h) w)
+      (either (is_alone (commit_at w id (is_among c (callers id h)))) (on (cpu.CommitRelease id _) now (λ e. rw e refl)) (done (told_unworn (commit_fate shape k c h id)) now (λ e. refl)))
+      (commit_does id (word_at id.slot h) _)
+  cpu_step_does (cpu.CommitRelease id f) own = done (told_unworn f) before (λ e. rw e refl)
+  cpu_step_does (cpu.DiscardLoad id) own = discard_does id (word_at id.slot h) _
+  cpu_step_does (cpu.DiscardTry id w) own = either (same_word (word_at id.slot h) w)
+      (either (is_release (discard_at w id (is_among c (callers id h)))) (done (told_unworn (discard_fate shape k c h id)) (rw (number_is_itself c) (omega arith)) (λ e. refl))
+      (done (told_unworn (discard_fate shape k c h id)) now (λ e. refl)))
+      (discard_does id (word_at id.slot h) _)
+  cpu_step_does cpu.ServicePop own = popped_does me.spare
+  cpu_step_does cpu.ServicePush own = (
     record { told = refl; counts = omega arith },
     inr record { next = cpu.ServiceLoad 1 record { sealed = true; settled = 0 }; call = refl; answers = refl; flight = refl; bound = refl; counted = refl },
+    λ e. record { holds = rw e (refl, refl); reads = tt; wears = refl },
   )
-  cpu_step_does (cpu.ServiceLoad s sum) = service_wears s sum (word_at s h) (settle_at (word_at s h) (ack c s h))
-  cpu_step_does (cpu.ServiceStore s w sum) =
-      served_wears s (Settle c record { issue = w.issue; slot = s } (settle_fate shape k c h record { issue = w.issue; slot = s } w.code) ∷ []) _ (omega arith)
+  cpu_step_does (cpu.ServiceLoad s sum) own = service_does s sum (word_at s h) _ (λ e. e)
+  cpu_step_does (cpu.ServiceStore s w sum) own = served_does s _ _ (omega arith) (λ e. (e.0, ap (λ n. n + 1) e.1))
 
   pub cpu_step_wears : (f : CallPlace) → Wears c h (is_first (Some f) && nat_le k.max_calls (calls c h)) (ahead (Some f)) (op_of f) (cpu_step shape k c h me f)
-  cpu_step_wears f = (cpu_step_does f).0
+  cpu_step_wears f = (cpu_step_does f []).0
 
   -- a step of a CPU ends its call, or the call goes on
   pub cpu_advances : (f : CallPlace) → Advances k me (flight_bound k f) (op_of f) (cpu_step shape k c h me f)
-  cpu_advances f = (cpu_step_does f).1
+  cpu_advances f = (cpu_step_does f []).1
+
+  -- a step of a CPU's call in flight goes on so, and its answer is read off what the call entered
+  pub cpu_step_reads : (f : CallPlace) (own : List Deed) → OwnDeeds c h f own → ReadsOff c h me (op_of f) own (cpu_step shape k c h me f)
+  cpu_step_reads f own was = (cpu_step_does f own).2 was
 
   -- a step behind which its call is in flight has no answer
   pub goes_untold : (f next : CallPlace) → (cpu_step shape k c h me f).progress.flight ≡ Some next → (cpu_step shape k c h me f).answer ≡ None

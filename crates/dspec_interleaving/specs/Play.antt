@@ -2,7 +2,7 @@
 -- Every word, acknowledgement and activity that a step is shown is read off the list.
 use Rattle.std.specs.Prelude.{ℕ, ◌+◌, ◌==◌, nat_le, nat_lt, Bool, true, false, List, [], ◌∷◌, length, reverse, slice_index_or, slice_set, Option, Some, None, if◌then◌else◌}
 use Rattle.dspec_record.specs.declared.field.Shape.{Shape}
-use Rattle.dspec_interleaving.specs.Words.Outside.{one, awaits, SlotState, halted, is_among, callers, word_at, ack, calls, seals, batches, taken, Batch, empty_batch, fits_principal}
+use Rattle.dspec_interleaving.specs.Words.Outside.{one, awaits, SlotState, halted, is_among, callers, word_at, ack, calls, seals, batches, taken, Sealing, empty_batch, fits_principal}
 use Rattle.dspec_interleaving.specs.Words.Outside.{fits_speculative, missed_busy, fits_held, held}
 use Rattle.dspec_deeds.specs.declared.config.Config.{Config}
 use Rattle.dspec_deeds.specs.declared.calls.Answer.{Answer}
@@ -54,7 +54,7 @@ pub record ConsumerStep : Type 0 where
   pub answer : Option Answer
 
 -- the batch that the consumer takes of the CPU next, once so many are taken
-abbrev pub batch_at : ℕ → ℕ → List Deed → Batch
+abbrev pub batch_at : ℕ → ℕ → List Deed → Sealing
 batch_at c n h = slice_index_or (reverse (batches c h)) n empty_batch
 
 abbrev pub took : ℕ → ℕ → List Deed → Answer

@@ -2,7 +2,7 @@
 use Prim.Native.Nat.{zero, suc}
 use Rattle.std.specs.Prelude.{ℕ, ◌≡◌, ◌<◌, ◌⊎◌, ◌+◌, ◌-◌, ◌==◌, ◌^◌, nat_lt, min, Bool, true, false, not, ◌&&◌, ◌||◌, is_none, List, [], ◌∷◌, slice_set, if◌then◌else◌, Option, Some, None}
 use Rattle.dspec_record.specs.declared.field.Shape.{Shape}
-use Rattle.dspec_interleaving.specs.Words.Outside.{one, Speculation, is_fill, halted, issue, present, Verdict, discarded, verdict, is_open, callers, is_sole, is_sole_or_none, solo, settled, is_free}
+use Rattle.dspec_interleaving.specs.Words.Outside.{one, Speculation, is_fill, halted, issue, present, Ruling, discarded, verdict, is_open, callers, is_sole, is_sole_or_none, solo, settled, is_free}
 use Rattle.dspec_interleaving.specs.Words.Outside.{is_busy, seals, fits_principal, fits_speculative, commit_fate, discard_fate, answer_of}
 use Rattle.dspec_deeds.specs.declared.config.Config.{Config}
 use Rattle.dspec_deeds.specs.declared.calls.Answer.{Answer}
@@ -73,7 +73,7 @@ module _ (shape : ℕ → Option Shape) (k : Config) (c : ℕ) where
   abbrev pub owes : ℕ → List Deed → Bool
   owes s h = is_busy s h && (is_none (solo (present s h) h) && not (settled c (present s h) h))
 
-  abbrev pub settles_as : Verdict → Speculation → List Deed → DecideFate
+  abbrev pub settles_as : Ruling → Speculation → List Deed → DecideFate
   settles_as (discarded a) id h = discard_fate shape k c h id
   settles_as v id h = commit_fate shape k c h id
 

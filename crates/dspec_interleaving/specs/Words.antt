@@ -13,7 +13,7 @@ pub use Rattle.dspec_interleaving.specs.Plays.{all_ran, all_turned, answers_of, 
 pub use Rattle.dspec_interleaving.specs.Plays.{is_worn_answer, IsPlayingAt, IsReadOff, Noted, or_else, play_fault, played, Playing, playing_at_start, ran, read_off, refusal, setup_fault}
 pub use Rattle.dspec_interleaving.specs.Plays.{step_refusal, stepped, to_end, turn_fault, turned, with_entered, with_note, worn_answers, worn_count}
 pub use Rattle.dspec_interleaving.specs.Promised.{HasHeadline}
-pub use Rattle.dspec_interleaving.specs.ReadOff.{answer_of_consumer, answer_of_cpu, has_seal, is_busy_among, is_unpushed, release_count, settle_count}
+pub use Rattle.dspec_interleaving.specs.ReadOff.{answer_of_consumer, answer_of_cpu, has_seal, is_busy_among, release_count, settle_count}
 pub use Rattle.dspec_interleaving.specs.SoloRule.{DecidesNothing, IsLast, IsReleasing, ReleasesLast, ReleasesThen}
 pub use Rattle.dspec_interleaving.specs.Step.{asked, begun, call_goes_on, call_step, committed_by, CpuStep, discarded_by, ends, is_alone, is_release, loads_service, Measured, missed, popped}
 pub use Rattle.dspec_interleaving.specs.Step.{same_word, sealed_by, served, shown_commit, shown_discard, shown_scan, shown_service, shown_speculate, spoken_at, wears}

@@ -12,8 +12,8 @@
 //! | `specs/`: Plays, ReadOff, Wearing, Calls | a whole schedule; an answer read off the call's own deeds; which calls are Worn; refusals |
 //! | `specs/`: SoloRule, Whole, WholePlays, Promised, CpuClose | the solo rule; whole calls, said of the list that they find; what is promised of every state; the close by the CPUs' own lists |
 //! | `proofs/`, each step keeps a play coherent | Steps.., CpuSteps, OthersStand, StateStands, ConsumerSteps, Coherence |
-//! | `proofs/`, bounds and the close | Bounded, StepDeeds, StepEnds, CallsEnd, Closing, ClosedAuthors, ClosedParts |
-//! | `proofs/`, whole calls and plays | Whole.., PlayerMoves, PlayerRuns, PlaysCarry, PlaysEnd, OwnTelling, OwnAnswers.., WornCpuSteps, WornSteps, WornCounts, WornCalls |
+//! | `proofs/`, bounds and the close | Bounded, StepDeeds, StepEnds, StepCounts, Closing, ClosedParts |
+//! | `proofs/`, whole calls and plays | Whole.., PlayerMoves, PlayerRuns, PlaysCarry, PlaysEnd, OwnTelling, OwnAnswersPlay, WornCpuSteps, FlightsStay (one walk of each table, for what every step does), WornCounts |
 #![tactic(auto)]
 
 pub mod flight;

@@ -12,7 +12,7 @@ use std::alloc::{AllocError, Global};
 
 /// What was decided of a speculation, and by which CPU.
 #[derive(Clone, Copy, Debug, PartialEq, Eq)]
-pub(crate) enum Ruling {
+pub(crate) enum BarRuling {
     /// Nothing yet.
     Undecided,
     /// This CPU committed it.
@@ -67,17 +67,17 @@ fn opened(id: SpecId, deeds: &[Deed]) -> bool {
 }
 
 /// What is decided after one more deed.
-fn next_ruling(id: SpecId, deed: &Deed, before: Ruling) -> Ruling {
+fn next_ruling(id: SpecId, deed: &Deed, before: BarRuling) -> BarRuling {
     match *deed {
         Deed::Commit(by, other, fate) => {
             if commits(fate) && same_id(id, other) {
-                return Ruling::Committed(by);
+                return BarRuling::Committed(by);
             }
             before
         }
         Deed::Discard(_, other, fate) => {
             if discards(fate) && same_id(id, other) {
-                return Ruling::Discarded;
+                return BarRuling::Discarded;
             }
             before
         }
@@ -86,8 +86,8 @@ fn next_ruling(id: SpecId, deed: &Deed, before: Ruling) -> Ruling {
 }
 
 /// What was decided of the speculation.
-fn ruled(id: SpecId, deeds: &[Deed]) -> Ruling {
-    let mut ruled = Ruling::Undecided;
+fn ruled(id: SpecId, deeds: &[Deed]) -> BarRuling {
+    let mut ruled = BarRuling::Undecided;
     for deed in deeds {
         ruled = next_ruling(id, deed, ruled);
     }
@@ -156,11 +156,11 @@ fn committed_code(by: u32, callers: Callers) -> Code {
 }
 
 /// The code of a speculation that was given out.
-fn standing(ruled: Ruling, callers: Callers) -> Code {
+fn standing(ruled: BarRuling, callers: Callers) -> Code {
     match ruled {
-        Ruling::Undecided => active_code(callers),
-        Ruling::Committed(by) => committed_code(by, callers),
-        Ruling::Discarded => Code::Discarding,
+        BarRuling::Undecided => active_code(callers),
+        BarRuling::Committed(by) => committed_code(by, callers),
+        BarRuling::Discarded => Code::Discarding,
     }
 }
 

@@ -1,22 +1,19 @@
 -- A decision in the list of deeds is one that a CPU of the session made, and the other way round.
-use Rattle.std.proofs.Common.{◌≡◌, ℕ, Bool, true, false, ◌||◌, ◌==◌, if◌then◌else◌, List, [], ◌∷◌, ◌++◌, refl, sym, ap, ◌∙◌, ⊎_elim, true≢false}
+use Rattle.std.proofs.Common.{arith, ◌≡◌, ℕ, Bool, true, false, ◌||◌, if◌then◌else◌, List, [], ◌∷◌, ◌++◌, refl, sym, ap, ◌∙◌, ⊎_elim, true≢false}
+use Rattle.std.proofs.lemmas.Bool.Decides.{nat_tests}
 use Rattle.dspec_promise.specs.Words.{Speculation, HasAuthors, done_by, did, all_did, commit, discard, Did, emptied, is_commit_of, is_discard_of, some, Happened}
 use Rattle.dspec_deeds.specs.declared.config.Config.{Config}
 use Rattle.dspec_deeds.specs.declared.deed.DecideFate.{DecideFate}
 use Rattle.dspec_deeds.specs.declared.deed.DecideFate.TheVariants as decide
 use Rattle.dspec_deeds.specs.declared.deed.Deed.{Deed}
-use Rattle.dspec_deeds.specs.declared.deed.Deed.TheVariants.{Trace, Speculate, Commit, Discard, Settle}
+use Rattle.dspec_deeds.specs.declared.deed.Deed.TheVariants.{Commit, Discard}
 use Rattle.dspec_deeds.specs.Fates as told
-use Rattle.dspec_deeds.proofs.TestLemmas.{either_way, off, or_tells, or_true, number_is_itself}
+use Rattle.dspec_deeds.proofs.TestLemmas.{off, or_tells, or_true, number_is_itself}
 
 -- of two lists, one has it
 some_append : (test : Did → Bool) (xs ys : List Did) → some test (xs ++ ys) ≡ (some test xs || some test ys)
 some_append test [] ys = refl
-some_append test (x ∷ xs) ys = by (test x) (some_append test xs ys)
-  where
-    by : (b : Bool) → some test (xs ++ ys) ≡ (some test xs || some test ys) → (b || some test (xs ++ ys)) ≡ ((b || some test xs) || some test ys)
-    by true e = refl
-    by false e = e
+some_append test (x ∷ xs) ys = grind (arith, nat_tests, some_append test xs ys)
 
 -- what was done before is still there
 some_behind : (test : Did → Bool) (c : ℕ) (d : Deed) (h : List Deed) → some test (did c h) ≡ true → some test (did c (d ∷ h)) ≡ true
@@ -24,9 +21,7 @@ some_behind test c d h t = some_append test (done_by c d) (did c h) ∙ (ap (λ 
 
 -- the page's test of a decision is the list's
 commit_same : (a : ℕ) (id j : Speculation) (f : DecideFate) → is_commit_of id (emptied commit j f) ≡ told.commits id (Commit a j f)
-commit_same a id j (decide.Copied n) = refl
-commit_same a id j (decide.Lost n) = refl
-commit_same a id j f = refl
+commit_same a id j f = grind (arith, nat_tests)
 
 discard_same : (a : ℕ) (id j : Speculation) (f : DecideFate) → is_discard_of id (emptied discard j f) ≡ told.discards id (Discard a j f)
 discard_same a id j (decide.Thrown n) = refl
@@ -57,28 +52,14 @@ discarded_by k id (d ∷ h) a t = ⊎_elim
 
 -- if a CPU did it, and nobody else
 only : (test : Did → Bool) (b : Bool) (x : Did) → some test (if b then x ∷ [] else []) ≡ true → test x ≡ true
-only test true x t = alone (test x) t
-  where
-    alone : (b : Bool) → (b || false) ≡ true → b ≡ true
-    alone true e = refl
-    alone false e = e
+only test true x t = grind (arith, nat_tests)
 only test false x t = absurd (true≢false (sym t))
 
 commit_now : (c : ℕ) (id : Speculation) (d : Deed) → some (is_commit_of id) (done_by c d) ≡ true → told.commits id d ≡ true
-commit_now c id (Commit a j f) t = sym (commit_same a id j f) ∙ only (is_commit_of id) (c == a) (emptied commit j f) t
-commit_now c id (Trace a r f) t = absurd (true≢false (sym (only (is_commit_of id) (c == a) _ t)))
-commit_now c id (Speculate a j r f) t = absurd (true≢false (sym (only (is_commit_of id) (c == a) _ t)))
-commit_now c id (Discard a j f) t = absurd (true≢false (sym (only (is_commit_of id) (c == a) _ t)))
-commit_now c id (Settle a j f) t = absurd (true≢false (sym (only (is_commit_of id) (c == a) _ t)))
-commit_now c id d t = absurd (true≢false (sym t))
+commit_now = grind (arith, nat_tests, commit_same, only)
 
 discard_now : (c : ℕ) (id : Speculation) (d : Deed) → some (is_discard_of id) (done_by c d) ≡ true → told.discards id d ≡ true
-discard_now c id (Discard a j f) t = sym (discard_same a id j f) ∙ only (is_discard_of id) (c == a) (emptied discard j f) t
-discard_now c id (Trace a r f) t = absurd (true≢false (sym (only (is_discard_of id) (c == a) _ t)))
-discard_now c id (Speculate a j r f) t = absurd (true≢false (sym (only (is_discard_of id) (c == a) _ t)))
-discard_now c id (Commit a j f) t = absurd (true≢false (sym (only (is_discard_of id) (c == a) _ t)))
-discard_now c id (Settle a j f) t = absurd (true≢false (sym (only (is_discard_of id) (c == a) _ t)))
-discard_now c id d t = absurd (true≢false (sym t))
+discard_now = grind (arith, nat_tests, discard_same, only)
 
 -- what a CPU did is in the list
 pub has_committed : (c : ℕ) (id : Speculation) (h : List Deed) → some (is_commit_of id) (did c h) ≡ true → told.has_commit id h ≡ true
@@ -97,13 +78,7 @@ has_discarded c id (d ∷ h) t = ⊎_elim
 
 -- and what is not in the list no CPU did
 pub never_committed : (c : ℕ) (id : Speculation) (h : List Deed) → told.has_commit id h ≡ false → some (is_commit_of id) (did c h) ≡ false
-never_committed c id h n = ⊎_elim
-    (λ (t : some (is_commit_of id) (did c h) ≡ true). off (told.has_commit id h) (has_committed c id h t) n)
-    (λ (f : some (is_commit_of id) (did c h) ≡ false). f)
-    (either_way (some (is_commit_of id) (did c h)))
+never_committed c id h n = grind (arith, nat_tests, off, has_committed)
 
 pub never_discarded : (c : ℕ) (id : Speculation) (h : List Deed) → told.has_discard id h ≡ false → some (is_discard_of id) (did c h) ≡ false
-never_discarded c id h n = ⊎_elim
-    (λ (t : some (is_discard_of id) (did c h) ≡ true). off (told.has_discard id h) (has_discarded c id h t) n)
-    (λ (f : some (is_discard_of id) (did c h) ≡ false). f)
-    (either_way (some (is_discard_of id) (did c h)))
+never_discarded c id h n = grind (arith, nat_tests, off, has_discarded)

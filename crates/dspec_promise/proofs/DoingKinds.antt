@@ -1,7 +1,8 @@
 -- What a deed may do for a CPU, as the page tells it, and that the deeds of others do nothing.
-use Rattle.std.proofs.Common.{◌≡◌, ◌⊎◌, ℕ, true, false, if◌then◌else◌, List, [], ◌∷◌, ◌++◌, map, length, Option, None, Some, refl, sym, ◌∙◌, ⊎_elim}
+use Rattle.std.proofs.Common.{arith, ◌≡◌, ◌⊎◌, ℕ, true, false, if◌then◌else◌, List, [], ◌∷◌, ◌++◌, map, length, Option, None, Some}
+use Rattle.std.proofs.lemmas.Bool.Decides.{nat_tests}
 use Rattle.dspec_promise.specs.Words.{Speculation, offered_by, empties, buffer, traces_dropped_now, specdrops_now, done_by, By, Did, emptied, RecordFate, taken, dropped, specdropped, lost}
-use Rattle.dspec_promise.specs.Words.{discarded, void, held, emptied_fate, same_fate, Handed, once_emptied, handed, held_for, cpu_stream, TellNumbers, IsFate}
+use Rattle.dspec_promise.specs.Words.{discarded, void, held, emptied_fate, same_fate, HandedRecord, once_emptied, handed, held_for, cpu_stream, TellNumbers, IsFate}
 use Rattle.dspec_deeds.specs.declared.deed.DecideFate.{DecideFate}
 use Rattle.dspec_deeds.specs.declared.deed.DecideFate.TheVariants as decide
 use Rattle.dspec_deeds.specs.declared.deed.Deed.{Deed}
@@ -38,7 +39,7 @@ pub record DoesNothing (c : ℕ) (d : Deed) (h : List Deed) : Type 0 where
   pub specdrops : specdrops_now c d ≡ 0
 
 -- it offers this record
-pub record DoesOffer (c : ℕ) (d : Deed) (h : List Deed) (o : Handed) : Type 0 where
+pub record DoesOffer (c : ℕ) (d : Deed) (h : List Deed) (o : HandedRecord) : Type 0 where
   pub offering : Offers c d h o.content (as_told o.fate o.to)
   pub fate : IsFate o.fate o.to (as_told o.fate o.to)
   pub to : told.offered_to d ≡ o.to
@@ -64,38 +65,19 @@ pub record DoesEmpty (c : ℕ) (d : Deed) (h : List Deed) (id : Speculation) (f 
 
 pub data Does (c : ℕ) (d : Deed) (h : List Deed) : Type 0 where
   nothing : DoesNothing c d h → Does c d h
-  offers_one : (o : Handed) → DoesOffer c d h o → Does c d h
+  offers_one : (o : HandedRecord) → DoesOffer c d h o → Does c d h
   empties_one : (id : Speculation) (f : DecideFate) → DoesEmpty c d h id f → Does c d h
 
 -- a deed that neither offers nor empties is idle
 idle_of : (c : ℕ) (d : Deed) (h : List Deed) → Effect c d h → offered_by c d ≡ None → ((id : Speculation) → empties c id d ≡ false) → Idle c d h
-idle_of c d h (idle i) none never = i
-idle_of c d h (offering r f o) none never = let clash : Some r ≡ None = sym o.offered ∙ none in absurd (cc)
-idle_of c d h (emptying id f m) none never = off (empties c id d) (m.empty id ∙ id_is_itself id) (never id)
+idle_of = grind (arith, nat_tests, idle, offering, emptying, off, id_is_itself)
 
 -- a deed of another CPU
 pub does_not : (c : ℕ) (d : Deed) (h : List Deed) → Effect c d h → offered_by c d ≡ None → ((id : Speculation) → empties c id d ≡ false) → done_by c d ≡ []
     → traces_dropped_now c d ≡ 0 → specdrops_now c d ≡ 0 → DoesNothing c d h
-does_not c d h e none never is drops specdrops = record {
-  idle = idle_of c d h e none never;
-  made = λ ds. rw is refl;
-  streamed = λ ds. rw is refl;
-  numbers = λ ds t. rw is t;
-  drops = drops;
-  specdrops = specdrops;
-}
+does_not c d h e none never is drops specdrops = grind (arith, nat_tests, idle, idle_of)
 
 -- a decision that decides nothing
 pub does_not_decide : (c : ℕ) (d : Deed) (h : List Deed) (b : By) (id : Speculation) (f : DecideFate) → Effect c d h → offered_by c d ≡ None → ((id : Speculation) → empties c id d ≡ false)
     → done_by c d ≡ emptied b id f ∷ [] → (f ≡ decide.Void) ⊎ (f ≡ decide.Stopped) → traces_dropped_now c d ≡ 0 → specdrops_now c d ≡ 0 → DoesNothing c d h
-does_not_decide c d h b id f e none never is which drops specdrops = record {
-  idle = idle_of c d h e none never;
-  made = λ ds. rw is (⊎_elim
-      (λ (v : f ≡ decide.Void). rw v (nothing_emptied id decide.Void refl (handed ds)))
-      (λ (s : f ≡ decide.Stopped). rw s (nothing_emptied id decide.Stopped refl (handed ds)))
-      which);
-  streamed = λ ds. rw is (⊎_elim (λ (v : f ≡ decide.Void). rw v refl) (λ (s : f ≡ decide.Stopped). rw s refl) which);
-  numbers = λ ds t. rw is (⊎_elim (λ (v : f ≡ decide.Void). rw v (t, tt)) (λ (s : f ≡ decide.Stopped). rw s (t, tt)) which);
-  drops = drops;
-  specdrops = specdrops;
-}
+does_not_decide c d h b id f e none never is which drops specdrops = grind (arith, nat_tests, idle, idle_of, nothing_emptied)

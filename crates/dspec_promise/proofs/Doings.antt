@@ -1,13 +1,12 @@
 -- What each deed of a legal list does for a CPU, as the page tells it: nothing, it offers a record, or it empties a buffer.
-use Rattle.std.proofs.Common.{◌≡◌, ℕ, true, false, ◌==◌, List, [], ◌∷◌, length, Option, None, Some, refl, sym, ◌∙◌, subst, inl, inr, ⊎_elim, true≢false}
+use Rattle.std.proofs.Common.{arith, ◌≡◌, ℕ, true, false, ◌==◌, List, [], ◌∷◌, length, Option, None, Some, refl, sym, ◌∙◌, subst, inl, inr, ⊎_elim, true≢false}
+use Rattle.std.proofs.lemmas.Bool.Decides.{nat_tests}
 use Rattle.dspec_record.specs.declared.field.Shape.{Shape}
-use Rattle.dspec_promise.specs.Words.{Record, Speculation, is_commit, is_discard, Verdict, undecided, committed, ruled_out, verdict, buffer, SettlesAs, IsAllowed, traces_dropped_now, specdrops_now}
+use Rattle.dspec_promise.specs.Words.{Record, Speculation, is_commit, is_discard, Ruling, undecided, committed, ruled_out, verdict, buffer, SettlesAs, IsAllowed, traces_dropped_now, specdrops_now}
 use Rattle.dspec_promise.specs.Words.{done_by, By, commit, discard, service, emptied, traced_fate, speculated_fate}
 use Rattle.dspec_deeds.specs.declared.config.Config.{Config}
 use Rattle.dspec_deeds.specs.declared.deed.TraceFate.{TraceFate}
-use Rattle.dspec_deeds.specs.declared.deed.TraceFate.TheVariants as trace
 use Rattle.dspec_deeds.specs.declared.deed.SpeculateFate.{SpeculateFate}
-use Rattle.dspec_deeds.specs.declared.deed.SpeculateFate.TheVariants as speculate
 use Rattle.dspec_deeds.specs.declared.deed.DecideFate.{DecideFate}
 use Rattle.dspec_deeds.specs.declared.deed.DecideFate.TheVariants as decide
 use Rattle.dspec_deeds.specs.declared.deed.Deed.{Deed}
@@ -15,151 +14,42 @@ use Rattle.dspec_deeds.specs.declared.deed.Deed.TheVariants.{Trace, Speculate, C
 use Rattle.dspec_deeds.specs.Fates as told
 use Rattle.dspec_deeds.proofs.TestLemmas.{either_way, and_false, same_number, number_is_itself, id_is_itself}
 use Rattle.dspec_deeds.proofs.Verdicts.{Told, verdict_told}
-use Rattle.dspec_deeds.proofs.DeedOffers.{Empties, own_trace}
-use Rattle.dspec_deeds.proofs.DeedOffers.{own_speculate}
+use Rattle.dspec_deeds.proofs.DeedOffers.{Empties, own_trace, own_speculate}
 use Rattle.dspec_deeds.proofs.DeedEffects.{copied_commit, lost_commit, thrown_discard, copied_settle, lost_settle, thrown_settle, legal_effect}
 use Rattle.dspec_promise.proofs.DoingKinds.{Does, DoesEmpty, DoesOffer, does_not, does_not_decide, empties_one, nothing, offers_one}
 
 -- the CPU's own offers
 traced_own : (c : ℕ) (r : Record) (f : TraceFate) (h : List Deed) → DoesOffer c (Trace c r f) h record { content = r; to = None; fate = traced_fate f }
-traced_own c r trace.Kept h = let e = number_is_itself c in record {
-  offering = own_trace c r trace.Kept h;
-  fate = refl;
-  to = refl;
-  made = λ ds. rw e refl;
-  streamed = λ ds. rw e refl;
-  numbers = λ ds t. rw e t;
-  drops = refl;
-  specdrops = refl;
-  follows = λ id clash. absurd (cc);
-}
-traced_own c r trace.Dropped h = let e = number_is_itself c in record {
-  offering = own_trace c r trace.Dropped h;
-  fate = refl;
-  to = refl;
-  made = λ ds. rw e refl;
-  streamed = λ ds. rw e refl;
-  numbers = λ ds t. rw e t;
-  drops = rw e refl;
-  specdrops = refl;
-  follows = λ id clash. tt;
-}
-traced_own c r trace.Stopped h = let e = number_is_itself c in record {
-  offering = own_trace c r trace.Stopped h;
-  fate = refl;
-  to = refl;
-  made = λ ds. rw e refl;
-  streamed = λ ds. rw e refl;
-  numbers = λ ds t. rw e t;
-  drops = refl;
-  specdrops = refl;
-  follows = λ id clash. tt;
-}
+traced_own c r f h = grind (arith, nat_tests, number_is_itself, own_trace)
 
 spoken_own : (c : ℕ) (id : Speculation) (r : Record) (f : SpeculateFate) (h : List Deed) → DoesOffer c (Speculate c id r f) h record { content = r; to = Some id; fate = speculated_fate f }
-spoken_own c id r speculate.Kept h = let e = number_is_itself c in record {
-  offering = own_speculate c id r speculate.Kept h;
-  fate = refl;
-  to = refl;
-  made = λ ds. rw e refl;
-  streamed = λ ds. rw e refl;
-  numbers = λ ds t. rw e t;
-  drops = refl;
-  specdrops = refl;
-  follows = λ j same. tt;
-}
-spoken_own c id r speculate.Dropped h = let e = number_is_itself c in record {
-  offering = own_speculate c id r speculate.Dropped h;
-  fate = refl;
-  to = refl;
-  made = λ ds. rw e refl;
-  streamed = λ ds. rw e refl;
-  numbers = λ ds t. rw e t;
-  drops = refl;
-  specdrops = rw e refl;
-  follows = λ j same. tt;
-}
-spoken_own c id r speculate.Void h = let e = number_is_itself c in record {
-  offering = own_speculate c id r speculate.Void h;
-  fate = refl;
-  to = refl;
-  made = λ ds. rw e refl;
-  streamed = λ ds. rw e refl;
-  numbers = λ ds t. rw e t;
-  drops = refl;
-  specdrops = refl;
-  follows = λ j same. tt;
-}
-spoken_own c id r speculate.Stopped h = let e = number_is_itself c in record {
-  offering = own_speculate c id r speculate.Stopped h;
-  fate = refl;
-  to = refl;
-  made = λ ds. rw e refl;
-  streamed = λ ds. rw e refl;
-  numbers = λ ds t. rw e t;
-  drops = refl;
-  specdrops = refl;
-  follows = λ j same. tt;
-}
+spoken_own c id r f h = grind (arith, nat_tests, number_is_itself, own_speculate)
 
 -- the emptying of one of the CPU's buffers
 copied : (c : ℕ) (d : Deed) (h : List Deed) (b : By) (id : Speculation) (n : ℕ) → n ≡ length (buffer c id h) → Empties c d h id told.taken → done_by c d ≡ emptied b id (decide.Copied n) ∷ []
     → traces_dropped_now c d ≡ 0 → specdrops_now c d ≡ 0 → told.has_commit id (d ∷ h) ≡ true → DoesEmpty c d h id (decide.Copied n)
-copied c d h b id n long m is drops specdrops ruled = record {
-  emptying = m;
-  gone = refl;
-  fate = λ x. refl;
-  made = λ ds. rw is refl;
-  streamed = λ ds. rw is refl;
-  numbers = λ ds t same. rw is (t, long ∙ same);
-  drops = drops;
-  specdrops = specdrops;
-  fresh = (refl, refl);
-  follows = ruled;
-}
+copied c d h b id n long m is drops specdrops ruled = grind (arith, nat_tests)
 
 lost_whole : (c : ℕ) (d : Deed) (h : List Deed) (b : By) (id : Speculation) (n : ℕ) → n ≡ length (buffer c id h) → Empties c d h id told.dropped → done_by c d ≡ emptied b id (decide.Lost n) ∷ []
     → traces_dropped_now c d ≡ 0 → specdrops_now c d ≡ 0 → told.has_commit id (d ∷ h) ≡ true → DoesEmpty c d h id (decide.Lost n)
-lost_whole c d h b id n long m is drops specdrops ruled = record {
-  emptying = m;
-  gone = refl;
-  fate = λ x. refl;
-  made = λ ds. rw is refl;
-  streamed = λ ds. rw is refl;
-  numbers = λ ds t same. rw is (t, long ∙ same);
-  drops = drops;
-  specdrops = specdrops;
-  fresh = (refl, refl);
-  follows = ruled;
-}
+lost_whole c d h b id n long m is drops specdrops ruled = grind (arith, nat_tests)
 
 thrown : (c : ℕ) (d : Deed) (h : List Deed) (b : By) (id : Speculation) (n : ℕ) → n ≡ length (buffer c id h) → Empties c d h id told.discarded → done_by c d ≡ emptied b id (decide.Thrown n) ∷ []
     → traces_dropped_now c d ≡ 0 → specdrops_now c d ≡ 0 → told.has_discard id (d ∷ h) ≡ true → DoesEmpty c d h id (decide.Thrown n)
-thrown c d h b id n long m is drops specdrops ruled = record {
-  emptying = m;
-  gone = refl;
-  fate = λ x. refl;
-  made = λ ds. rw is refl;
-  streamed = λ ds. rw is refl;
-  numbers = λ ds t same. rw is (t, long ∙ same);
-  drops = drops;
-  specdrops = specdrops;
-  fresh = (refl, refl);
-  follows = ruled;
-}
+thrown c d h b id n long m is drops specdrops ruled = grind (arith, nat_tests)
 
 -- a settlement follows a decision
-settled_commit : (v : Verdict) (id : Speculation) (h : List Deed) (f : DecideFate) → SettlesAs v f → is_discard f ≡ false → Told v id h → told.has_commit id h ≡ true
+settled_commit : (v : Ruling) (id : Speculation) (h : List Deed) (f : DecideFate) → SettlesAs v f → is_discard f ≡ false → Told v id h → told.has_commit id h ≡ true
 settled_commit undecided id h f s e t = absurd s
 settled_commit (committed c) id h f s e t = t
 settled_commit (ruled_out c) id h f s e t = absurd (true≢false (sym s ∙ e))
 
-settled_discard : (v : Verdict) (id : Speculation) (h : List Deed) (f : DecideFate) → SettlesAs v f → is_commit f ≡ false → Told v id h → told.has_discard id h ≡ true
+settled_discard : (v : Ruling) (id : Speculation) (h : List Deed) (f : DecideFate) → SettlesAs v f → is_commit f ≡ false → Told v id h → told.has_discard id h ≡ true
 settled_discard undecided id h f s e t = absurd s
 settled_discard (committed c) id h f s e t = absurd (true≢false (sym s ∙ e))
 settled_discard (ruled_out c) id h f s e t = t
 
-pub never_settles : (v : Verdict) (f : DecideFate) → SettlesAs v f → is_commit f ≡ false → is_discard f ≡ false → ⊥
+pub never_settles : (v : Ruling) (f : DecideFate) → SettlesAs v f → is_commit f ≡ false → is_discard f ≡ false → ⊥
 never_settles undecided f s a b = s
 never_settles (committed c) f s a b = true≢false (sym s ∙ a)
 never_settles (ruled_out c) f s a b = true≢false (sym s ∙ b)

@@ -1,10 +1,10 @@
 -- The page's offers are the CPU's records, with their fates.
 use Prim.Native.Nat.{suc}
-use Rattle.std.proofs.Common.{◌≡◌, ℕ, ◌<◌, Bool, true, false, ◌&&◌, ◌==◌, List, [], ◌∷◌, map, length, Option, None, Some, refl, sym, ap, ◌∙◌, subst, ⊎_elim, true≢false, arith}
+use Rattle.std.proofs.Common.{◌≡◌, ℕ, ◌<◌, Bool, true, false, ◌&&◌, ◌==◌, List, [], ◌∷◌, map, length, Option, None, Some, refl, sym, ap, ◌∙◌, subst, ⊎_elim, arith}
 use Rattle.std.proofs.lemmas.Bool.Decides.{nat_tests}
 use Rattle.dspec_record.specs.declared.field.Shape.{Shape}
-use Rattle.dspec_promise.specs.Words.{Speculation, offers_of, IsAllowed, did, RecordFate, taken, dropped, specdropped, lost, discarded, void, held, emptied_fate, same_fate, is_same_id, Handed}
-use Rattle.dspec_promise.specs.Words.{is_for, waits_for, once_emptied, handed, number, IsFate, IsOffer, AreOffers}
+use Rattle.dspec_promise.specs.Words.{Speculation, offers_of, IsAllowed, did, RecordFate, taken, dropped, specdropped, lost, discarded, void, held, emptied_fate, same_fate, HandedRecord, is_for}
+use Rattle.dspec_promise.specs.Words.{waits_for, once_emptied, handed, number, IsFate, IsOffer, AreOffers}
 use Rattle.dspec_deeds.specs.declared.config.Config.{Config}
 use Rattle.dspec_deeds.specs.declared.deed.DecideFate.{DecideFate}
 use Rattle.dspec_deeds.specs.declared.deed.Deed.{Deed}
@@ -17,7 +17,7 @@ use Rattle.dspec_promise.proofs.DoingKinds.{as_told, DoesEmpty, Does, nothing, o
 use Rattle.dspec_promise.proofs.Doings.{does}
 
 -- a deed that offers none of these, and changes none of their fates
-kept_offers : (c : ℕ) (d : Deed) (h : List Deed) (n : ℕ) (os : List Handed) → ((j : ℕ) → j < n → told.is_offer c j d h ≡ false)
+kept_offers : (c : ℕ) (d : Deed) (h : List Deed) (n : ℕ) (os : List HandedRecord) → ((j : ℕ) → j < n → told.is_offer c j d h ≡ false)
     → ((j : ℕ) → j < n → told.fate c j (d ∷ h) ≡ told.fate c j h) → AreOffers c h n os → AreOffers c (d ∷ h) n os
 kept_offers c d h n [] none same a = a
 kept_offers c d h n (o ∷ os) none same a =
@@ -44,15 +44,11 @@ unwaited id f specdropped x t is n = rw is refl
 unwaited id f lost x t is n = rw is refl
 unwaited id f discarded x t is n = rw is refl
 unwaited id f void x t is n = rw is refl
-unwaited id f held (Some j) t is n = rw (is, same_id_back j id, other (is_same_id id j) n) refl
-  where
-    other : (b : Bool) → (b && true) ≡ false → b ≡ false
-    other true e = absurd (true≢false e)
-    other false e = refl
+unwaited id f held (Some j) t is n = grind (arith, nat_tests, same_id_back)
 unwaited id f held None t is n = absurd is
 
 -- an offer once a buffer is emptied
-emptied_offer : (c : ℕ) (d : Deed) (h : List Deed) (id : Speculation) (f : DecideFate) → DoesEmpty c d h id f → (j : ℕ) (o : Handed) → IsOffer c h j o → IsOffer c (d ∷ h) j (once_emptied id f o)
+emptied_offer : (c : ℕ) (d : Deed) (h : List Deed) (id : Speculation) (f : DecideFate) → DoesEmpty c d h id f → (j : ℕ) (o : HandedRecord) → IsOffer c h j o → IsOffer c (d ∷ h) j (once_emptied id f o)
 emptied_offer c d h id f m j o was = ⊎_elim
     (λ (t : waits_for id o ≡ true). subst (IsOffer c (d ∷ h) j) (sym (emptied_one id f o t)) (record {
       fate = as_told (emptied_fate f) None;
@@ -82,7 +78,7 @@ emptied_offer c d h id f m j o was = ⊎_elim
         let is : was.fate ≡ told.waiting id = subst (λ x. IsFate held x was.fate) both.0 (subst (λ g. IsFate g o.to was.fate) both.1 was.same) in
         rw (is, id_is_itself id) refl
 
-emptied_offers : (c : ℕ) (d : Deed) (h : List Deed) (id : Speculation) (f : DecideFate) → DoesEmpty c d h id f → (n : ℕ) (os : List Handed) → AreOffers c h n os
+emptied_offers : (c : ℕ) (d : Deed) (h : List Deed) (id : Speculation) (f : DecideFate) → DoesEmpty c d h id f → (n : ℕ) (os : List HandedRecord) → AreOffers c h n os
     → AreOffers c (d ∷ h) n (map (once_emptied id f) os)
 emptied_offers c d h id f m n [] a = a
 emptied_offers c d h id f m n (o ∷ os) a = (a.0, a.1, emptied_offer c d h id f m a.0 o a.2, emptied_offers c d h id f m a.0 os a.3)
@@ -117,13 +113,13 @@ are_offers shape k c (d ∷ h) l = step (does shape k c d h l) (are_offers shape
         rw (same, m.made (did c h)) (emptied_offers c d h id f m (offers_of c h) (handed (did c h)) a)
 
 -- they are as many
-pub as_many : (c : ℕ) (h : List Deed) (n : ℕ) (os : List Handed) → AreOffers c h n os → n ≡ length os
+pub as_many : (c : ℕ) (h : List Deed) (n : ℕ) (os : List HandedRecord) → AreOffers c h n os → n ≡ length os
 as_many c h n [] a = a
 as_many c h n (o ∷ os) a = let rest = as_many c h a.0 os a.3 in let is = a.1 in omega arith
 
 -- as many have a fate as the list of deeds has
-pub same_number_fated : (test : told.Fate → Bool) (p : Handed → Bool) → ((o : Handed) (f : told.Fate) → IsFate o.fate o.to f → test f ≡ p o)
-    → (c : ℕ) (h : List Deed) (n : ℕ) (os : List Handed) → AreOffers c h n os → told.fates_below test c h n ≡ number p os
+pub same_number_fated : (test : told.Fate → Bool) (p : HandedRecord → Bool) → ((o : HandedRecord) (f : told.Fate) → IsFate o.fate o.to f → test f ≡ p o)
+    → (c : ℕ) (h : List Deed) (n : ℕ) (os : List HandedRecord) → AreOffers c h n os → told.fates_below test c h n ≡ number p os
 same_number_fated test p same c h n [] a = rw a refl
 same_number_fated test p same c h n (o ∷ os) a =
     rw (a.1, a.2.has, same o a.2.fate a.2.same, same_number_fated test p same c h a.0 os a.3) refl

@@ -1,10 +1,10 @@
 -- The page's promise, of every legal list.
-use Rattle.std.proofs.Common.{◌≡◌, ℕ, ◌+◌, ◌<◌, Bool, true, false, ◌&&◌, ◌||◌, List, [], ◌∷◌, ◌++◌}
-use Rattle.std.proofs.Common.{map, reverse, Option, None, Some, refl, sym, ap, ◌∙◌, arith}
+use Rattle.std.proofs.lemmas.Bool.Decides.{nat_tests}
+use Rattle.std.proofs.Common.{◌≡◌, ℕ, ◌+◌, ◌<◌, Bool, true, false, ◌&&◌, ◌||◌, List, [], ◌∷◌, ◌++◌, map, reverse, Option, refl, sym, ap, ◌∙◌, arith}
 use Rattle.std.proofs.lemmas.List.{append-nil}
 use Rattle.dspec_record.specs.declared.field.Shape.{Shape}
 use Rattle.dspec_promise.specs.Words.{Record, Speculation, WaitsUndecided, FateLaw, IsAllowed, IsLegal, stream_of, taken_first, offers_of, report, total, traces_dropped_now, specdrops_now, did}
-use Rattle.dspec_promise.specs.Words.{all_did, AtEachMoment, DecidedSoFar, RecordFate, taken, dropped, specdropped, lost, discarded, void, held, emptied_fate, same_fate, Handed, once_emptied}
+use Rattle.dspec_promise.specs.Words.{all_did, AtEachMoment, DecidedSoFar, RecordFate, taken, dropped, specdropped, lost, discarded, void, held, emptied_fate, same_fate, HandedRecord, once_emptied}
 use Rattle.dspec_promise.specs.Words.{handed, cpu_stream, number, of, KeepsPromise, Promise, IsFate}
 use Rattle.dspec_deeds.specs.declared.config.Config.{Config}
 use Rattle.dspec_deeds.specs.declared.deed.DecideFate.{DecideFate}
@@ -22,7 +22,7 @@ use Rattle.dspec_promise.proofs.Fated.{are_offers, as_many, same_number_fated}
 use Rattle.dspec_promise.proofs.KeptFates.{accepted_stream, all_decided, all_follow, all_wait, numbers_told}
 
 -- equal tests count alike
-number_alike : (p q : Handed → Bool) → ((o : Handed) → p o ≡ q o) → (os : List Handed) → number p os ≡ number q os
+number_alike : (p q : HandedRecord → Bool) → ((o : HandedRecord) → p o ≡ q o) → (os : List HandedRecord) → number p os ≡ number q os
 number_alike p q same [] = refl
 number_alike p q same (o ∷ os) = rw (same o, number_alike p q same os) refl
 
@@ -31,7 +31,7 @@ plain true = refl
 plain false = refl
 
 -- no emptied buffer adds to a fate that only offers give
-not_emptied : (g : RecordFate) → same_fate g held ≡ false → (id : Speculation) (f : DecideFate) → same_fate g (emptied_fate f) ≡ false → (os : List Handed)
+not_emptied : (g : RecordFate) → same_fate g held ≡ false → (id : Speculation) (f : DecideFate) → same_fate g (emptied_fate f) ≡ false → (os : List HandedRecord)
     → number (of g) (map (once_emptied id f) os) ≡ number (of g) os
 not_emptied g never id f other os =
     number_alike (of g) (λ o. of g o && true) (λ o. plain (of g o)) (map (once_emptied id f) os)
@@ -41,106 +41,35 @@ not_emptied g never id f other os =
 
 drops_counted : (shape : ℕ → Option Shape) (k : Config) (c : ℕ) (h : List Deed) → IsAllowed shape k h → total (traces_dropped_now c) h ≡ number (of dropped) (handed (did c h))
 drops_counted shape k c [] l = refl
-drops_counted shape k c (d ∷ h) l = step (does shape k c d h l) (drops_counted shape k c h (legal_before shape k d h l))
-  where
-    step : Does c d h → total (traces_dropped_now c) h ≡ number (of dropped) (handed (did c h)) → total (traces_dropped_now c) (d ∷ h) ≡ number (of dropped) (handed (did c (d ∷ h)))
-    step (nothing m) e = rw (m.made (did c h), m.drops, e) (omega arith)
-    step (offers_one o m) e = rw (m.made (did c h), m.drops, e) refl
-    step (empties_one id f m) e = rw (m.made (did c h), m.drops, e, not_emptied dropped refl id f m.fresh.0 (handed (did c h))) (omega arith)
+drops_counted shape k c (d ∷ h) l = grind (arith, nat_tests, drops_counted shape k c h (legal_before shape k d h l), does, legal_before, Does, nothing, offers_one, empties_one, not_emptied)
 
 specdrops_counted : (shape : ℕ → Option Shape) (k : Config) (c : ℕ) (h : List Deed) → IsAllowed shape k h → total (specdrops_now c) h ≡ number (of specdropped) (handed (did c h))
 specdrops_counted shape k c [] l = refl
-specdrops_counted shape k c (d ∷ h) l = step (does shape k c d h l) (specdrops_counted shape k c h (legal_before shape k d h l))
-  where
-    step : Does c d h → total (specdrops_now c) h ≡ number (of specdropped) (handed (did c h)) → total (specdrops_now c) (d ∷ h) ≡ number (of specdropped) (handed (did c (d ∷ h)))
-    step (nothing m) e = rw (m.made (did c h), m.specdrops, e) (omega arith)
-    step (offers_one o m) e = rw (m.made (did c h), m.specdrops, e) refl
-    step (empties_one id f m) e = rw (m.made (did c h), m.specdrops, e, not_emptied specdropped refl id f m.fresh.1 (handed (did c h))) (omega arith)
+specdrops_counted shape k c (d ∷ h) l = grind (arith, nat_tests, specdrops_counted shape k c h (legal_before shape k d h l), does, legal_before, Does, nothing, offers_one, empties_one, not_emptied)
 
 -- the fates of both are counted alike
-taken_test : (o : Handed) (f : told.Fate) → IsFate o.fate o.to f → told.is_taken f ≡ of taken o
-taken_test o f is = by o.fate o.to f is
-  where
-    by : (g : RecordFate) (x : Option Speculation) (f : told.Fate) → IsFate g x f → told.is_taken f ≡ same_fate taken g
-    by held (Some id) f is = rw is refl
-    by held None f is = absurd is
-    by taken x f is = rw is refl
-    by dropped x f is = rw is refl
-    by specdropped x f is = rw is refl
-    by lost x f is = rw is refl
-    by discarded x f is = rw is refl
-    by void x f is = rw is refl
+taken_test : (o : HandedRecord) (f : told.Fate) → IsFate o.fate o.to f → told.is_taken f ≡ of taken o
+taken_test o f is = grind (arith, nat_tests)
 
-discarded_test : (o : Handed) (f : told.Fate) → IsFate o.fate o.to f → told.is_discarded f ≡ of discarded o
-discarded_test o f is = by o.fate o.to f is
-  where
-    by : (g : RecordFate) (x : Option Speculation) (f : told.Fate) → IsFate g x f → told.is_discarded f ≡ same_fate discarded g
-    by held (Some id) f is = rw is refl
-    by held None f is = absurd is
-    by taken x f is = rw is refl
-    by dropped x f is = rw is refl
-    by specdropped x f is = rw is refl
-    by lost x f is = rw is refl
-    by discarded x f is = rw is refl
-    by void x f is = rw is refl
+discarded_test : (o : HandedRecord) (f : told.Fate) → IsFate o.fate o.to f → told.is_discarded f ≡ of discarded o
+discarded_test o f is = grind (arith, nat_tests)
 
-void_test : (o : Handed) (f : told.Fate) → IsFate o.fate o.to f → told.is_void f ≡ of void o
-void_test o f is = by o.fate o.to f is
-  where
-    by : (g : RecordFate) (x : Option Speculation) (f : told.Fate) → IsFate g x f → told.is_void f ≡ same_fate void g
-    by held (Some id) f is = rw is refl
-    by held None f is = absurd is
-    by taken x f is = rw is refl
-    by dropped x f is = rw is refl
-    by specdropped x f is = rw is refl
-    by lost x f is = rw is refl
-    by discarded x f is = rw is refl
-    by void x f is = rw is refl
+void_test : (o : HandedRecord) (f : told.Fate) → IsFate o.fate o.to f → told.is_void f ≡ of void o
+void_test o f is = grind (arith, nat_tests)
 
-held_test : (o : Handed) (f : told.Fate) → IsFate o.fate o.to f → told.is_waiting f ≡ of held o
-held_test o f is = by o.fate o.to f is
-  where
-    by : (g : RecordFate) (x : Option Speculation) (f : told.Fate) → IsFate g x f → told.is_waiting f ≡ same_fate held g
-    by held (Some id) f is = rw is refl
-    by held None f is = absurd is
-    by taken x f is = rw is refl
-    by dropped x f is = rw is refl
-    by specdropped x f is = rw is refl
-    by lost x f is = rw is refl
-    by discarded x f is = rw is refl
-    by void x f is = rw is refl
+held_test : (o : HandedRecord) (f : told.Fate) → IsFate o.fate o.to f → told.is_waiting f ≡ of held o
+held_test o f is = grind (arith, nat_tests)
 
 -- dropped in one of three ways
-abbrev any_drop : Handed → Bool
+abbrev any_drop : HandedRecord → Bool
 any_drop o = of dropped o || (of specdropped o || of lost o)
 
-dropped_test : (o : Handed) (f : told.Fate) → IsFate o.fate o.to f → told.is_dropped f ≡ any_drop o
-dropped_test o f is = by o.fate o.to f is
-  where
-    by : (g : RecordFate) (x : Option Speculation) (f : told.Fate) → IsFate g x f → told.is_dropped f ≡ (same_fate dropped g || (same_fate specdropped g || same_fate lost g))
-    by held (Some id) f is = rw is refl
-    by held None f is = absurd is
-    by taken x f is = rw is refl
-    by dropped x f is = rw is refl
-    by specdropped x f is = rw is refl
-    by lost x f is = rw is refl
-    by discarded x f is = rw is refl
-    by void x f is = rw is refl
+dropped_test : (o : HandedRecord) (f : told.Fate) → IsFate o.fate o.to f → told.is_dropped f ≡ any_drop o
+dropped_test o f is = grind (arith, nat_tests)
 
-three_drops : (os : List Handed) → number any_drop os ≡ number (of dropped) os + number (of specdropped) os + number (of lost) os
+three_drops : (os : List HandedRecord) → number any_drop os ≡ number (of dropped) os + number (of specdropped) os + number (of lost) os
 three_drops [] = refl
-three_drops (o ∷ os) = let e = three_drops os in by o.fate e
-  where
-    by : (g : RecordFate) → number any_drop os ≡ number (of dropped) os + number (of specdropped) os + number (of lost) os
-        → number any_drop os + one (same_fate dropped g || (same_fate specdropped g || same_fate lost g))
-        ≡ (number (of dropped) os + one (same_fate dropped g)) + (number (of specdropped) os + one (same_fate specdropped g)) + (number (of lost) os + one (same_fate lost g))
-    by taken e = omega arith
-    by dropped e = omega arith
-    by specdropped e = omega arith
-    by lost e = omega arith
-    by discarded e = omega arith
-    by void e = omega arith
-    by held e = omega arith
+three_drops (o ∷ os) = grind (arith, nat_tests, three_drops os, one)
 
 -- the stream of the list is the page's
 same_stream : (shape : ℕ → Option Shape) (k : Config) (c : ℕ) (h : List Deed) → IsAllowed shape k h → stream_of c h ≡ reverse (cpu_stream (did c h))

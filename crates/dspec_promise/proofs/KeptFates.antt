@@ -1,16 +1,16 @@
 -- That the fates which a list tells are those of the page, and each follows its decision.
-use Rattle.std.proofs.Common.{◌≡◌, ℕ, ◌<◌, Bool, true, false, ◌&&◌, ◌||◌, if◌then◌else◌, List, [], ◌∷◌, ◌++◌}
-use Rattle.std.proofs.Common.{map, length, Option, None, Some, refl, sym, ap, ◌∙◌, subst, ⊎_elim, true≢false, arith}
+use Rattle.std.proofs.lemmas.Bool.Decides.{nat_tests}
+use Rattle.std.proofs.Common.{◌≡◌, ℕ, ◌<◌, Bool, true, false, ◌&&◌, ◌||◌, if◌then◌else◌, List, [], ◌∷◌, ◌++◌, map, length, Option, None, Some, refl, sym, ap, ◌∙◌, subst, true≢false, arith}
 use Rattle.std.specs.List.{AllByRecursion}
 use Rattle.dspec_record.specs.declared.field.Shape.{Shape}
-use Rattle.dspec_promise.specs.Words.{Speculation, WaitsUndecided, Verdict, undecided, committed, ruled_out, verdict, is_undecided, IsAllowed, HasAuthors, Entry, contents, buffer, accepted}
-use Rattle.dspec_promise.specs.Words.{offers_of, did, all_did, RecordFate, taken, dropped, specdropped, lost, discarded, void, held, emptied_fate, same_fate, is_same_id, Handed, is_for, waits_for}
+use Rattle.dspec_promise.specs.Words.{Speculation, WaitsUndecided, Ruling, undecided, committed, ruled_out, verdict, is_undecided, IsAllowed, HasAuthors, Entry, contents, buffer, accepted}
+use Rattle.dspec_promise.specs.Words.{offers_of, did, all_did, RecordFate, taken, dropped, specdropped, lost, discarded, void, held, same_fate, is_same_id, HandedRecord, is_for, waits_for}
 use Rattle.dspec_promise.specs.Words.{once_emptied, handed, held_for, cpu_stream, is_commit_of, is_discard_of, TellNumbers, Never, AllDecided, WasDecided, IsFate, AreOffers}
 use Rattle.dspec_deeds.specs.declared.config.Config.{Config}
 use Rattle.dspec_deeds.specs.declared.deed.DecideFate.{DecideFate}
 use Rattle.dspec_deeds.specs.declared.deed.Deed.{Deed}
 use Rattle.dspec_deeds.specs.Fates as told
-use Rattle.dspec_deeds.proofs.TestLemmas.{either_way, or_true}
+use Rattle.dspec_deeds.proofs.TestLemmas.{or_true}
 use Rattle.dspec_deeds.proofs.Verdicts.{Told, verdict_told, commit_stays}
 use Rattle.dspec_deeds.proofs.DeedOffers.{waits_for as waits_told}
 use Rattle.dspec_deeds.proofs.DeedEffects.{legal_before}
@@ -22,42 +22,14 @@ use Rattle.dspec_promise.proofs.Decisions.{committed_by, discarded_by, never_com
 -- a fate waits in both alike, and is taken in both alike
 waits_alike : (id : Speculation) (g : RecordFate) (x : Option Speculation) → waits_told id (as_told g x) ≡ (is_for id x && same_fate held g)
 waits_alike id taken None = refl
-waits_alike id taken (Some j) = none (is_same_id id j)
-  where
-    none : (b : Bool) → false ≡ (b && false)
-    none true = refl
-    none false = refl
+waits_alike id taken (Some j) = grind (arith, nat_tests)
 waits_alike id held None = refl
-waits_alike id held (Some j) = all (is_same_id id j)
-  where
-    all : (b : Bool) → b ≡ (b && true)
-    all true = refl
-    all false = refl
-waits_alike id dropped x = none (is_for id x)
-  where
-    none : (b : Bool) → false ≡ (b && false)
-    none true = refl
-    none false = refl
-waits_alike id specdropped x = none (is_for id x)
-  where
-    none : (b : Bool) → false ≡ (b && false)
-    none true = refl
-    none false = refl
-waits_alike id lost x = none (is_for id x)
-  where
-    none : (b : Bool) → false ≡ (b && false)
-    none true = refl
-    none false = refl
-waits_alike id discarded x = none (is_for id x)
-  where
-    none : (b : Bool) → false ≡ (b && false)
-    none true = refl
-    none false = refl
-waits_alike id void x = none (is_for id x)
-  where
-    none : (b : Bool) → false ≡ (b && false)
-    none true = refl
-    none false = refl
+waits_alike id held (Some j) = grind (arith, nat_tests)
+waits_alike id dropped x = grind (arith, nat_tests)
+waits_alike id specdropped x = grind (arith, nat_tests)
+waits_alike id lost x = grind (arith, nat_tests)
+waits_alike id discarded x = grind (arith, nat_tests)
+waits_alike id void x = grind (arith, nat_tests)
 
 taken_alike : (g : RecordFate) (x : Option Speculation) → told.is_taken (as_told g x) ≡ same_fate taken g
 taken_alike taken x = refl
@@ -100,31 +72,14 @@ contents_length (x ∷ xs) = omega (arith, contents_length xs)
 -- what was accepted is the stream
 pub accepted_stream : (shape : ℕ → Option Shape) (k : Config) (c : ℕ) (h : List Deed) → IsAllowed shape k h → contents (accepted c h) ≡ cpu_stream (did c h)
 accepted_stream shape k c [] l = refl
-accepted_stream shape k c (d ∷ h) l = step (does shape k c d h l) (accepted_stream shape k c h (legal_before shape k d h l))
-  where
-    step : Does c d h → contents (accepted c h) ≡ cpu_stream (did c h) → contents (accepted c (d ∷ h)) ≡ cpu_stream (did c (d ∷ h))
-    step (nothing m) e = rw (m.idle.accepted, m.streamed (did c h)) e
-    step (offers_one o m) e = rw (m.offering.accepted, m.streamed (did c h), taken_alike o.fate o.to) (more (same_fate taken o.fate))
-      where
-        more : (b : Bool) → contents ((if b then record { number = offers_of c h; content = o.content } ∷ [] else []) ++ accepted c h)
-            ≡ (if b then o.content ∷ cpu_stream (did c h) else cpu_stream (did c h))
-        more true = ap (λ rs. o.content ∷ rs) e
-        more false = e
-    step (empties_one id f m) e = rw (m.emptying.accepted, m.streamed (did c h), taken_alike (emptied_fate f) None) (more (same_fate taken (emptied_fate f)))
-      where
-        more : (b : Bool) → contents ((if b then buffer c id h else []) ++ accepted c h) ≡ (if b then held_for id (handed (did c h)) ++ cpu_stream (did c h) else cpu_stream (did c h))
-        more true = contents_append (buffer c id h) (accepted c h) ∙ rw (buffer_waits shape k c id h (legal_before shape k d h l), e) refl
-        more false = e
+accepted_stream shape k c (d ∷ h) l =
+    grind (arith, nat_tests, accepted_stream shape k c h (legal_before shape k d h l), does, legal_before, Does, nothing, offers_one, taken_alike, empties_one, contents_append, buffer_waits)
 
 -- the numbers told are those in the buffers
 pub numbers_told : (shape : ℕ → Option Shape) (k : Config) (c : ℕ) (h : List Deed) → IsAllowed shape k h → TellNumbers (did c h)
 numbers_told shape k c [] l = tt
-numbers_told shape k c (d ∷ h) l = step (does shape k c d h l) (numbers_told shape k c h (legal_before shape k d h l))
-  where
-    step : Does c d h → TellNumbers (did c h) → TellNumbers (did c (d ∷ h))
-    step (nothing m) t = m.numbers (did c h) t
-    step (offers_one o m) t = m.numbers (did c h) t
-    step (empties_one id f m) t = m.numbers (did c h) t (contents_length (buffer c id h) ∙ ap length (buffer_waits shape k c id h (legal_before shape k d h l)))
+numbers_told shape k c (d ∷ h) l =
+    grind (arith, nat_tests, numbers_told shape k c h (legal_before shape k d h l), does, legal_before, Does, nothing, offers_one, empties_one, contents_length, buffer_waits)
 
 -- what was decided stays so
 discard_stays : (id : Speculation) (d : Deed) (h : List Deed) → told.has_discard id h ≡ true → told.has_discard id (d ∷ h) ≡ true
@@ -140,25 +95,17 @@ due_still d h id void t = tt
 due_still d h id held t = tt
 
 -- each record's fate follows a decision
-abbrev pub IsDecided : List Deed → Handed → Type 0
+abbrev pub IsDecided : List Deed → HandedRecord → Type 0
 IsDecided h o = (id : Speculation) → o.to ≡ Some id → IsDue h id o.fate
 
-all_still : (d : Deed) (h : List Deed) (os : List Handed) → AllByRecursion (IsDecided h) os → AllByRecursion (IsDecided (d ∷ h)) os
+all_still : (d : Deed) (h : List Deed) (os : List HandedRecord) → AllByRecursion (IsDecided h) os → AllByRecursion (IsDecided (d ∷ h)) os
 all_still d h [] a = tt
 all_still d h (o ∷ os) a = (λ id e. due_still d h id o.fate (a.0 id e), all_still d h os a.1)
 
-all_emptied : (c : ℕ) (d : Deed) (h : List Deed) (id : Speculation) (f : DecideFate) → DoesEmpty c d h id f → (os : List Handed) → AllByRecursion (IsDecided h) os
+all_emptied : (c : ℕ) (d : Deed) (h : List Deed) (id : Speculation) (f : DecideFate) → DoesEmpty c d h id f → (os : List HandedRecord) → AllByRecursion (IsDecided h) os
     → AllByRecursion (IsDecided (d ∷ h)) (map (once_emptied id f) os)
 all_emptied c d h id f m [] a = tt
-all_emptied c d h id f m (o ∷ os) a = (
-  ⊎_elim
-      (λ (t : waits_for id o ≡ true). subst (IsDecided (d ∷ h)) (sym (emptied_one id f o t)) (λ j e.
-      let same : j ≡ id = let is : Some j ≡ Some id = sym e ∙ (waits_tells id o t).0 in cc in
-      subst (λ x. IsDue (d ∷ h) x (emptied_fate f)) (sym same) m.follows))
-      (λ (n : waits_for id o ≡ false). subst (IsDecided (d ∷ h)) (sym (emptied_other id f o n)) (λ j e. due_still d h j o.fate (a.0 j e)))
-      (either_way (waits_for id o)),
-  all_emptied c d h id f m os a.1,
-)
+all_emptied c d h id f m (o ∷ os) a = grind (arith, nat_tests, all_emptied c d h id f m os a.1, emptied_one, waits_tells, IsDue, emptied_other, due_still)
 
 pub all_decided : (shape : ℕ → Option Shape) (k : Config) (c : ℕ) (h : List Deed) → IsAllowed shape k h → AllByRecursion (IsDecided h) (handed (did c h))
 all_decided shape k c [] l = tt
@@ -179,18 +126,18 @@ follows k h id specdropped a t = tt
 follows k h id void a t = tt
 follows k h id held a t = tt
 
-pub all_follow : (k : Config) (h : List Deed) → HasAuthors k h → (os : List Handed) → AllByRecursion (IsDecided h) os
+pub all_follow : (k : Config) (h : List Deed) → HasAuthors k h → (os : List HandedRecord) → AllByRecursion (IsDecided h) os
     → AllDecided k.cpus (all_did h) os
 all_follow k h a [] t = tt
 all_follow k h a (o ∷ os) t = (λ id e. follows k h id o.fate a (t.0 id e), all_follow k h a os t.1)
 
 -- what waits is undecided, once the session is closed
-neither : (v : Verdict) (id : Speculation) (h : List Deed) → is_undecided v ≡ true → Told v id h → (told.has_commit id h ≡ false) × (told.has_discard id h ≡ false)
+neither : (v : Ruling) (id : Speculation) (h : List Deed) → is_undecided v ≡ true → Told v id h → (told.has_commit id h ≡ false) × (told.has_discard id h ≡ false)
 neither undecided id h u t = t
 neither (committed c) id h u t = absurd (true≢false (sym u))
 neither (ruled_out c) id h u t = absurd (true≢false (sym u))
 
-pub all_wait : (k : Config) (c : ℕ) (h : List Deed) → WaitsUndecided k h → c < k.cpus → (n : ℕ) (os : List Handed) → AreOffers c h n os
+pub all_wait : (k : Config) (c : ℕ) (h : List Deed) → WaitsUndecided k h → c < k.cpus → (n : ℕ) (os : List HandedRecord) → AreOffers c h n os
     → AllByRecursion (λ o. (id : Speculation) → o.to ≡ Some id → o.fate ≡ held → Never k.cpus (all_did h) (is_commit_of id) × Never k.cpus (all_did h) (is_discard_of id)) os
 all_wait k c h w lt n [] a = tt
 all_wait k c h w lt n (o ∷ os) a = (

@@ -70,7 +70,7 @@ same_fate held held = true
 same_fate f g = false
 
 -- 3. THE RECORDS. Each record that a CPU's calls were handed, the speculation that it was for, and what has become of it.
-pub record Handed : Type 0 where
+pub record HandedRecord : Type 0 where
   pub content : Record
   pub to : Option Speculation
   pub fate : RecordFate
@@ -85,15 +85,15 @@ is_for id None = false
 is_for id (Some j) = is_same_id id j
 
 -- the record stands in the buffer of the speculation
-abbrev pub waits_for : Speculation → Handed → Bool
+abbrev pub waits_for : Speculation → HandedRecord → Bool
 waits_for id o = is_for id o.to && same_fate held o.fate
 
 -- what becomes of a record where the buffer of the speculation is emptied: in the buffer it gets its fate, elsewhere it stays
-abbrev pub once_emptied : Speculation → DecideFate → Handed → Handed
+abbrev pub once_emptied : Speculation → DecideFate → HandedRecord → HandedRecord
 once_emptied id f o = if waits_for id o then record o { fate = emptied_fate f } else o
 
 -- all records that were handed over, with their fates: a call hands one over, or changes what has become of earlier ones
-abbrev pub handed : List Did → List Handed
+abbrev pub handed : List Did → List HandedRecord
 handed [] = []
 handed (traced r f ∷ ds) = record { content = r; to = None; fate = traced_fate f } ∷ handed ds
 handed (speculated id r f ∷ ds) = record { content = r; to = Some id; fate = speculated_fate f } ∷ handed ds
@@ -101,7 +101,7 @@ handed (emptied b id f ∷ ds) = map (once_emptied id f) (handed ds)
 
 -- 4. THE ORDER. A kept record enters the CPU's stream as it is traced, a copied buffer as it is emptied, its records as they were handed.
 -- the records in the buffer of the speculation
-abbrev pub held_for : Speculation → List Handed → List Record
+abbrev pub held_for : Speculation → List HandedRecord → List Record
 held_for id [] = []
 held_for id (o ∷ os) = if waits_for id o then o.content ∷ held_for id os else held_for id os
 
@@ -132,7 +132,7 @@ abbrev pub number : {X : Type 0} → (X → Bool) → List X → ℕ
 number test [] = 0
 number test (x ∷ xs) = number test xs + (if test x then 1 else 0)
 
-abbrev pub of : RecordFate → Handed → Bool
+abbrev pub of : RecordFate → HandedRecord → Bool
 of f o = same_fate f o.fate
 
 -- the answer tells this number, if it tells one
@@ -166,7 +166,7 @@ module _ (cpus : ℕ) (all : ℕ → List Did) where
   WasDecided id f = Unit {0}
 
   -- of these records each has a fate of which that has been decided
-  abbrev pub AllDecided : List Handed → Type 0
+  abbrev pub AllDecided : List HandedRecord → Type 0
   AllDecided os = AllByRecursion (λ o. (id : Speculation) → o.to ≡ Some id → WasDecided id o.fate) os
 
   -- 7. AT EVERY MOMENT, of CPU c: `seen` are its records that came out so far, the first one first.

@@ -3,7 +3,7 @@ use Rattle.std.specs.Prelude.{ℕ, ◌≡◌, suc, List, [], ◌∷◌, Option, 
 use Rattle.dspec_promise.specs.Words.Outside.{Speculation}
 use Rattle.dspec_deeds.specs.declared.deed.Deed.{Deed}
 use Rattle.dspec_deeds.specs.Fates as told
-use Rattle.dspec_promise.specs.Promise.{RecordFate, taken, dropped, specdropped, lost, discarded, void, held, Handed}
+use Rattle.dspec_promise.specs.Promise.{RecordFate, taken, dropped, specdropped, lost, discarded, void, held, HandedRecord}
 
 -- the fate is the same but for what it waits for, which is what it was offered to, and for where it was dropped
 abbrev pub IsFate : RecordFate → Option Speculation → told.Fate → Type 0
@@ -17,7 +17,7 @@ IsFate held (Some id) f = f ≡ told.waiting id
 IsFate held None f = ⊥
 
 -- the CPU's record of that number
-pub record IsOffer (c : ℕ) (h : List Deed) (j : ℕ) (o : Handed) : Type 0 where
+pub record IsOffer (c : ℕ) (h : List Deed) (j : ℕ) (o : HandedRecord) : Type 0 where
   pub fate : told.Fate
   pub has : told.fate c j h ≡ Some fate
   pub same : IsFate o.fate o.to fate
@@ -25,6 +25,6 @@ pub record IsOffer (c : ℕ) (h : List Deed) (j : ℕ) (o : Handed) : Type 0 whe
   pub to : told.destination c j h ≡ o.to
 
 -- these are the CPU's first records, so many of them, the latest at the head
-abbrev pub AreOffers : ℕ → List Deed → ℕ → List Handed → Type 0
+abbrev pub AreOffers : ℕ → List Deed → ℕ → List HandedRecord → Type 0
 AreOffers c h n [] = n ≡ 0
 AreOffers c h n (o ∷ os) = (j : ℕ) × (n ≡ suc j) × IsOffer c h j o × AreOffers c h j os

@@ -1,4 +1,5 @@
 -- Values that are added to words, each at its field's place.
+use Rattle.std.proofs.lemmas.Bool.Decides.{nat_tests}
 use Rattle.std.proofs.Common.{◌≡◌, ◌≤◌, ◌<◌, ◌+◌, ◌*◌, ◌/◌, ◌%◌, ◌^◌, ℕ, zero, suc, All, List, [], ◌∷◌, length, get_or, set, refl, sym, ◌∙◌, ap, subst, arith}
 use Rattle.std.proofs.Math.Nat.{mul_assoc, pow-le-pow_right}
 use Rattle.std.proofs.lemmas.Nat.{pow-add, shr_below, shr-shr, mul-add-lt}
@@ -58,10 +59,7 @@ sum-in-word f v end n word place holds below at held =
 
 -- a value that is shifted to its bits, and its word to its place, stands at its place
 pub at-place : (v place : ℕ) → v * 2 ^ (place % 8 * 8) * 2 ^ (64 * (place / 8)) ≡ v * 256 ^ place
-at-place v place =
-    let all_bits : place % 8 * 8 + 64 * (place / 8) ≡ 8 * place = omega arith in
-    mul_assoc v (2 ^ (place % 8 * 8)) (2 ^ (64 * (place / 8)))
-    ∙ ap (λ p. v * p) (sym (pow-add 2 (place % 8 * 8) (64 * (place / 8))) ∙ ap (λ b. 2 ^ b) all_bits ∙ sym (pow256 place))
+at-place v place = grind (arith, nat_tests, mul_assoc v (2 ^ (place % 8 * 8)) (2 ^ (64 * (place / 8))), pow-add 2 (place % 8 * 8) (64 * (place / 8)), pow256 place)
 
 -- with a value the number has no more bytes than up to the field's end
 pub sum-below : (f : Field) (v end n place : ℕ) → v < 256 ^ width f → n < 256 ^ end → place ≡ rounded_up end (width f) → n + v * 256 ^ place < 256 ^ (place + width f)
@@ -117,6 +115,4 @@ value-shifted f v end place holds at = omega (arith, sum-in-word f v end 0 0 pla
 -- and with it the words are the number with the value at the field's place
 pub value-added : (f : Field) (v end place : ℕ) (ws : List ℕ) → length ws ≡ 9 → rounded_up end 8 ≤ 64 → place ≡ rounded_up end (width f)
     → number_of_words (set ws (place / 8) (get_or ws (place / 8) 0 + v * 2 ^ (place % 8 * 8))) ≡ number_of_words ws + v * 256 ^ rounded_up end (width f)
-value-added f v end place ws nine near at =
-    number_of_words-add (place / 8) (v * 2 ^ (place % 8 * 8)) ws (omega (arith, nine, word-within f end place near at))
-    ∙ ap (λ n. number_of_words ws + n) (at-place v place ∙ ap (λ p. v * 256 ^ p) at)
+value-added f v end place ws nine near at = grind (arith, nat_tests, number_of_words-add, word-within, at-place)

@@ -1,37 +1,16 @@
 -- A value that is written in eight bytes, with the zeros behind it.
+use Rattle.std.proofs.lemmas.Bool.Decides.{nat_tests}
 use Rattle.std.proofs.Common.{◌≡◌, ◌≤◌, ◌<◌, ◌+◌, ◌-◌, ◌++◌, ◌^◌, ℕ, zero, suc, List, [], ◌∷◌, length, take, drop, get_or, replicate, sym, ◌∙◌, ap, arith, refl}
-use Rattle.std.proofs.lemmas.List.{append_assoc, length-append, length-take-le, length-drop, get_or-append_right, get_or-replicate, get_or-take}
-use Rattle.std.proofs.lemmas.List.{get_or-drop, take-take, drop-take, take-append-drop}
+use Rattle.std.proofs.lemmas.List.{append_assoc, length-append, length-take-le, length-drop, get_or-append_right, get_or-replicate, get_or-take, get_or-drop, take-take, drop-take, take-append-drop}
 use Rattle.std.proofs.Math.Seq.{take-append-add}
-use Rattle.std.specs.Int.{byte_at}
-use Rattle.dspec_record.specs.Words.{width, rounded_up, little_endian, gap, IsClearBehind, rounded_up-ge, length-little_endian, Field, One, Two, Four, Eight}
+use Rattle.dspec_record.specs.Words.{width, rounded_up, little_endian, gap, IsClearBehind, rounded_up-ge, Field, One, Two, Four, Eight}
 use Rattle.dspec_record.proofs.LittleEndian.{take-little_endian}
 
 -- a value is known from its field's bytes; those above are zero
 eight_bytes : (f : Field) (v : ℕ) → v < 256 ^ width f → little_endian 8 v ≡ little_endian (width f) v ++ replicate (8 - width f) 0
-eight_bytes One v h =
-    let e1 : byte_at 1 v ≡ 0 = omega arith in
-    let e2 : byte_at 2 v ≡ 0 = omega arith in
-    let e3 : byte_at 3 v ≡ 0 = omega arith in
-    let e4 : byte_at 4 v ≡ 0 = omega arith in
-    let e5 : byte_at 5 v ≡ 0 = omega arith in
-    let e6 : byte_at 6 v ≡ 0 = omega arith in
-    let e7 : byte_at 7 v ≡ 0 = omega arith in
-    λ i. byte_at 0 v ∷ e1 i ∷ e2 i ∷ e3 i ∷ e4 i ∷ e5 i ∷ e6 i ∷ e7 i ∷ []
-eight_bytes Two v h =
-    let e2 : byte_at 2 v ≡ 0 = omega arith in
-    let e3 : byte_at 3 v ≡ 0 = omega arith in
-    let e4 : byte_at 4 v ≡ 0 = omega arith in
-    let e5 : byte_at 5 v ≡ 0 = omega arith in
-    let e6 : byte_at 6 v ≡ 0 = omega arith in
-    let e7 : byte_at 7 v ≡ 0 = omega arith in
-    λ i. byte_at 0 v ∷ byte_at 1 v ∷ e2 i ∷ e3 i ∷ e4 i ∷ e5 i ∷ e6 i ∷ e7 i ∷ []
-eight_bytes Four v h =
-    let e4 : byte_at 4 v ≡ 0 = omega arith in
-    let e5 : byte_at 5 v ≡ 0 = omega arith in
-    let e6 : byte_at 6 v ≡ 0 = omega arith in
-    let e7 : byte_at 7 v ≡ 0 = omega arith in
-    λ i. byte_at 0 v ∷ byte_at 1 v ∷ byte_at 2 v ∷ byte_at 3 v ∷ e4 i ∷ e5 i ∷ e6 i ∷ e7 i ∷ []
+eight_bytes One v h = grind (arith, nat_tests)
+eight_bytes Two v h = grind (arith, nat_tests)
+eight_bytes Four v h = grind (arith, nat_tests)
 eight_bytes Eight v h = refl
 
 -- bytes that are zero one by one
@@ -96,15 +75,5 @@ ends-within Eight end place k at near = omega arith
 -- and what is behind it is clear
 pub written-clear : (f : Field) (v end place : ℕ) (out new : List ℕ) → take (place + 8) new ≡ take place out ++ little_endian 8 v → v < 256 ^ width f → place ≡ rounded_up end (width f)
     → place + 8 ≤ length out → IsClearBehind (place + width f) new
-written-clear f v end place out new put holds at room k past near =
-    let few : width f ≤ 8 = width-le f in
-    let inside : k < place + 8 = ends-within f end place k at near in
-    let bytes : List ℕ = little_endian (width f) v in
-    let zs : List ℕ = replicate (8 - width f) 0 in
-    let front : List ℕ = take place out ++ bytes in
-    let long : length front ≡ place + width f =
-    omega (arith, length-append (take place out) bytes, length-take-le place out (omega arith), length-little_endian f v) in
-    sym (get_or-take (place + 8) new k 0 inside)
-    ∙ ap (λ xs. get_or xs k 0) (put ∙ ap (λ t. take place out ++ t) (eight_bytes f v holds) ∙ sym (append_assoc (take place out) bytes zs))
-    ∙ get_or-append_right front zs (place + width f) k 0 long past
-    ∙ get_or-replicate (8 - width f) (k - (place + width f)) 0 0 (omega arith)
+written-clear f v end place out new put holds at room =
+    grind (arith, nat_tests, width-le, ends-within, length-append, length-take-le, get_or-take, eight_bytes, append_assoc, get_or-append_right, get_or-replicate)

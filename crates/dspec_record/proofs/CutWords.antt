@@ -1,4 +1,5 @@
 -- Fields that are cut out of words one by one.
+use Rattle.std.proofs.lemmas.Bool.Decides.{nat_tests}
 use Rattle.std.proofs.Common.{◌≡◌, ◌≤◌, ◌<◌, ◌+◌, ◌-◌, ◌*◌, ◌/◌, ◌%◌, ◌^◌, ◌++◌, ℕ, zero, suc, All, List, [], ◌∷◌, length, get_or, drop, refl, sym, ◌∙◌, ap, arith}
 use Rattle.std.proofs.Math.Pow.{mod-mod-pow}
 use Rattle.std.proofs.lemmas.Nat.{shr-shr, field_of, and_mask}
@@ -11,9 +12,7 @@ use Rattle.dspec_record.proofs.Masking.{pow256, ends-within}
 -- a word of a number
 word-at : (ws : List ℕ) (j : ℕ) → All (λ w. w < 2 ^ 64) ws → j < length ws → number_of_words ws / 2 ^ (64 * j) % 2 ^ 64 ≡ get_or ws j 0
 word-at [] j small within = absurd (omega arith)
-word-at (w ∷ ws) zero small within =
-    let below : w < 2 ^ 64 = All-head (λ x. x < 2 ^ 64) w ws small in
-    omega (arith, below)
+word-at (w ∷ ws) zero small within = grind (arith, nat_tests, All-head)
 word-at (w ∷ ws) (suc j) small within =
     let P : ℕ → Type 0 = λ x. x < 2 ^ 64 in
     let n : ℕ = number_of_words ws in
@@ -84,17 +83,7 @@ AreCut-start fs n = record { cut = refl; many = refl; ends = refl }
 pub AreCut-next : (i end : ℕ) (vs : List ℕ) (fs : List Field) (n v : ℕ) → i < length fs → AreCut i end vs fs n
     → v ≡ n / 256 ^ rounded_up end (width (get_or fs i One)) % 256 ^ width (get_or fs i One)
     → AreCut (i + 1) (after end (width (get_or fs i One)) (width (get_or fs i One))) (vs ++ v ∷ []) fs n
-AreCut-next i end vs fs n v within is value =
-    let f : Field = get_or fs i One in
-    let next : ℕ = after end (width f) (width f) in
-    let rest : List ℕ = cuts next (drop (i + 1) fs) n in
-    let here : ℕ = n / 256 ^ rounded_up end (width f) % 256 ^ width f in
-    let more : cuts end (drop i fs) n ≡ here ∷ rest = ap (λ gs. cuts end gs n) (drop_more fs i One within) in
-    record {
-      cut = append_assoc vs (v ∷ []) rest ∙ ap (λ u. vs ++ u ∷ rest) value ∙ ap (λ us. vs ++ us) (sym more) ∙ is.cut;
-      many = omega (arith, length-append vs (v ∷ []), is.many);
-      ends = sym (ap (fields_end end) (drop_more fs i One within)) ∙ is.ends;
-    }
+AreCut-next i end vs fs n v within is value = grind (arith, nat_tests, drop_more, append_assoc, length-append)
 
 words-hold : (fs : List Field) → 0 < length fs → fields_end 4 fs ≤ 8 * words_in fs
 words-hold [] some = absurd (omega arith)
@@ -109,14 +98,7 @@ next-ends i end vs fs n within is =
 
 -- the next field stands in one of the words
 pub AreCut-place : (i end : ℕ) (vs : List ℕ) (fs : List Field) (n : ℕ) → i < length fs → AreCut i end vs fs n → rounded_up end (width (get_or fs i One)) / 8 < words_in fs
-AreCut-place i end vs fs n within is =
-    omega (arith, next-ends i end vs fs n within is, some-width (get_or fs i One), words-hold fs (omega arith))
-  where
-    some-width : (f : Field) → 1 ≤ width f
-    some-width One = omega arith
-    some-width Two = omega arith
-    some-width Four = omega arith
-    some-width Eight = omega arith
+AreCut-place i end vs fs n within is = grind (arith, nat_tests, next-ends i end vs fs n within is)
 
 pub AreCut-near : (i end : ℕ) (vs : List ℕ) (fs : List Field) (n : ℕ) → length fs ≤ 8 → AreCut i end vs fs n → end ≤ 72
 AreCut-near i end vs fs n few is = omega (arith, is.ends, fields_end-ge end (drop i fs), ends-within fs few)
@@ -125,9 +107,7 @@ AreCut-near i end vs fs n few is = omega (arith, is.ends, fields_end-ge end (dro
 pub AreCut-value : (i end : ℕ) (vs ws : List ℕ) (fs : List Field) → i < length fs → All (λ w. w < 2 ^ 64) ws → length ws ≡ words_in fs → AreCut i end vs fs (number_of_words ws)
     → bit_and (get_or ws (rounded_up end (width (get_or fs i One)) / 8) 0 / 2 ^ (rounded_up end (width (get_or fs i One)) % 8 * 8)) (limit (get_or fs i One))
     ≡ number_of_words ws / 256 ^ rounded_up end (width (get_or fs i One)) % 256 ^ width (get_or fs i One)
-AreCut-value i end vs ws fs within small count is =
-    let f : Field = get_or fs i One in
-    cut-word ws (rounded_up end (width f)) f small (place-whole f end) (omega (arith, count, AreCut-place i end vs fs (number_of_words ws) within is))
+AreCut-value i end vs ws fs within small count is = grind (arith, nat_tests, cut-word, place-whole, AreCut-place)
 
 -- behind the last field they are all
 pub AreCut-end : (i end : ℕ) (vs : List ℕ) (fs : List Field) (n : ℕ) → length fs ≤ i → AreCut i end vs fs n → vs ≡ cuts 4 fs n

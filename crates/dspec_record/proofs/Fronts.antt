@@ -1,18 +1,14 @@
 -- The EPID at the front of some bytes, as a number and as its four bytes.
+use Rattle.std.proofs.lemmas.Bool.Decides.{nat_tests}
 use Rattle.std.proofs.Common.{◌≡◌, ◌≤◌, ◌<◌, ◌^◌, ℕ, zero, suc, List, [], ◌∷◌, length, take, get_or, sym, ◌∙◌, ap, arith}
 use Rattle.std.specs.Int.{w32, from_le_bytes}
 use Rattle.std.proofs.lemmas.List.{length-take-le, get_or-take}
-use Rattle.std.proofs.lemmas.Nat.{le_bytes_4, from_le_bytes-to_le_bytes_4}
+use Rattle.std.proofs.lemmas.Nat.{from_le_bytes-to_le_bytes_4}
 use Rattle.dspec_record.specs.Words.{little_endian, front_epid}
 
 -- only the first four bytes count for an EPID
 pub front_epid-take : (bytes : List ℕ) → front_epid (take 4 bytes) ≡ front_epid bytes
-front_epid-take bytes =
-    let at0 : get_or (take 4 bytes) 0 0 ≡ get_or bytes 0 0 = get_or-take 4 bytes 0 0 (omega arith) in
-    let at1 : get_or (take 4 bytes) 1 0 ≡ get_or bytes 1 0 = get_or-take 4 bytes 1 0 (omega arith) in
-    let at2 : get_or (take 4 bytes) 2 0 ≡ get_or bytes 2 0 = get_or-take 4 bytes 2 0 (omega arith) in
-    let at3 : get_or (take 4 bytes) 3 0 ≡ get_or bytes 3 0 = get_or-take 4 bytes 3 0 (omega arith) in
-    omega arith
+front_epid-take bytes = grind (arith, nat_tests, get_or-take)
 
 -- and they are the number that they write
 pub front_epid-is : (bytes : List ℕ) (e : ℕ) → e < 2 ^ 32 → take 4 bytes ≡ little_endian 4 e → front_epid bytes ≡ e
@@ -27,14 +23,7 @@ take-small (suc n) (b ∷ bytes) small (suc i) = take-small n bytes (λ k. small
 
 -- the number has the bytes
 pub little_endian-front_epid : (bytes : List ℕ) → 4 ≤ length bytes → ((i : ℕ) → get_or bytes i 0 < 256) → take 4 bytes ≡ little_endian 4 (front_epid bytes)
-little_endian-front_epid bytes long small =
-    let four : length (take 4 bytes) ≡ 4 = length-take-le 4 bytes long in
-    sym (le_bytes_4 (take 4 bytes) (front_epid bytes) four (take-small 4 bytes small) (sym (front_epid-take bytes)))
+little_endian-front_epid bytes long small = grind (arith, nat_tests, length-take-le 4 bytes long, take-small 4 bytes small, front_epid-take bytes)
 
 pub front_epid-lt : (bytes : List ℕ) → ((i : ℕ) → get_or bytes i 0 < 256) → front_epid bytes < 2 ^ 32
-front_epid-lt bytes small =
-    let b0 : get_or bytes 0 0 < 256 = small 0 in
-    let b1 : get_or bytes 1 0 < 256 = small 1 in
-    let b2 : get_or bytes 2 0 < 256 = small 2 in
-    let b3 : get_or bytes 3 0 < 256 = small 3 in
-    omega arith
+front_epid-lt bytes small = grind (arith, nat_tests)

@@ -1,10 +1,11 @@
 -- What `get` answers for a table of fields.
+use Rattle.std.proofs.lemmas.Bool.Decides.{nat_tests}
 use Rattle.std.proofs.Common.{◌≡◌, ◌≢◌, ◌≤◌, ◌<◌, ◌^◌, ◌&&◌, ℕ, Bool, false, cond, IsTrue, List, [], length, take, Option, Some, None, sym, ◌∙◌, ap, arith}
 use Rattle.std.specs.Prelude.{unwrap_or, option_and_then}
 use Rattle.std.specs.Option.{option_map_or}
 use Rattle.std.proofs.lemmas.Bool.{lt-ltb, le-leb}
 use Rattle.dspec_record.specs.Words.{Record, layout, little_endian, record_text, stamp_fits, fits, IsRead, BeginsWith, FieldTable, table_accepts, table_text, within_limit, enabling_of, enabled}
-use Rattle.dspec_record.specs.Words.{little_endian-same, length-record_text, IsAccepted, accepted-parts, table-texts_fit, Field, Four, Header}
+use Rattle.dspec_record.specs.Words.{length-record_text, Field, Header}
 
 enabled-is : (rows : List (List Field)) (epid : ℕ) (fs : List Field) → enabling_of rows epid ≡ Some fs → length fs ≤ 8 → enabled rows epid ≡ Some fs
 enabled-is rows epid fs is few =
@@ -36,21 +37,13 @@ BeginsWith-read h fields fs epid bytes r size is fits32 size_is read =
     }
 
 pub fits-accepted : (h : Header) (fields : FieldTable) (fs : List Field) (r : Record) → fields r.epid ≡ Some fs → IsTrue (table_accepts h fields r) → IsTrue (fits fs r.values)
-fits-accepted h fields fs r row accepted =
-    let parts : IsAccepted h r (fields r.epid) = accepted-parts h fields r accepted in
-    sym (row-accepts (fields r.epid) fs r row) ∙ parts.values
+fits-accepted h fields fs r row accepted = grind (arith, nat_tests, row-accepts)
 
 -- where no record of the EPID's fields has the text, no accepted record has it
 pub no_text-unread : (h : Header) (fields : FieldTable) (fs : List Field) (epid : ℕ) (text : List ℕ) → fields epid ≡ Some fs → epid < 2 ^ 32
     → take 4 text ≡ little_endian 4 epid → ((r : Record) → IsTrue (stamp_fits h r.stamp) → IsTrue (fits fs r.values) → text ≢ record_text h fs r) → (r : Record)
     → IsTrue (table_accepts h fields r) → text ≢ table_text h fields r
-no_text-unread h fields fs epid text is fits32 front unread r accepted e =
-    let of = table-texts_fit h fields r accepted in
-    let same : r.epid ≡ epid =
-    little_endian-same Four r.epid epid of.epid_fits fits32 (sym of.epid ∙ sym (ap (take 4) e) ∙ front) in
-    let row : fields r.epid ≡ Some fs = ap fields same ∙ is in
-    let parts : IsAccepted h r (fields r.epid) = accepted-parts h fields r accepted in
-    unread r parts.stamp (fits-accepted h fields fs r row accepted) (e ∙ table_text-is h fields fs r row)
+no_text-unread h fields fs epid text is fits32 front unread r accepted = grind (arith, nat_tests, fits-accepted, table_text-is)
 
 pub length-accepted : (h : Header) (fields : FieldTable) (fs : List Field) (r : Record) → fields r.epid ≡ Some fs → IsTrue (table_accepts h fields r)
     → length (table_text h fields r) ≡ (layout h fs).size

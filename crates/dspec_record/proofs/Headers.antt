@@ -1,4 +1,5 @@
 -- What stands before the fields, written in words of eight bytes.
+use Rattle.std.proofs.lemmas.Bool.Decides.{nat_tests}
 use Rattle.std.proofs.Common.{◌≡◌, ◌≤◌, ◌<◌, ◌+◌, ◌*◌, ◌/◌, ◌%◌, ◌^◌, ◌++◌, ℕ, List, length, take, sym, ◌∙◌, ap, subst, arith}
 use Rattle.std.proofs.lemmas.List.{take-take}
 use Rattle.std.proofs.Math.Seq.{take-append-add}
@@ -16,32 +17,18 @@ front-one epid out put =
 front-two : (epid stamp word : ℕ) (begun out : List ℕ) → epid < 2 ^ 32 → word ≡ epid + stamp % 2 ^ 32 * 2 ^ 32 → length (take 8 begun) ≡ 8 → take 8 begun ≡ little_endian 8 word
     → take 16 out ≡ take 8 begun ++ little_endian 8 (stamp / 2 ^ 32)
     → take 12 out ≡ little_endian 4 epid ++ (little_endian 4 (stamp % 2 ^ 32) ++ little_endian 4 (stamp / 2 ^ 32))
-front-two epid stamp word begun out small is long first put =
-    let high : ℕ = stamp / 2 ^ 32 in
-    let turned : word ≡ stamp % 2 ^ 32 * 256 ^ 4 + epid = omega (arith, is) in
-    sym (take-take 12 16 out (omega arith)) ∙ ap (take 12) put
-    ∙ ap (λ n. take (n + 4) (take 8 begun ++ little_endian 8 high)) (sym long)
-    ∙ take-append-add (take 8 begun) (little_endian 8 high) 4
-    ∙ ap (λ t. take 8 begun ++ t) (take-little_endian 4 8 high (omega arith))
-    ∙ ap (λ t. t ++ little_endian 4 high) (first ∙ ap (little_endian 8) turned ∙ little_endian-parts 4 4 (stamp % 2 ^ 32) epid (omega arith))
+front-two epid stamp word begun out small is long first put = grind (arith, nat_tests, take-take, take-append-add, take-little_endian, little_endian-parts)
 
 -- the same under a header that is one of the two, with the zeros behind it
 pub one-put : (h : Header) (r : Record) (word : ℕ) (out : List ℕ) → h ≡ header.One → word ≡ r.epid → take 8 out ≡ little_endian 8 word → take (fields_start h) out ≡ header_text h r
-one-put h r word out is same put =
-    let Put : Header → Type 0 = λ k. take (fields_start k) out ≡ header_text k r in
-    subst Put (sym is) (front-one r.epid out (put ∙ ap (little_endian 8) same))
+one-put h r word out is same put = grind (arith, nat_tests, front-one)
 
 pub one-clear : (h : Header) (word : ℕ) (old out : List ℕ) → h ≡ header.One → word < 2 ^ 32 → 8 ≤ length old → take 8 out ≡ little_endian 8 word → IsClearBehind (fields_start h) out
-one-clear h word old out is small room put =
-    let Clear : Header → Type 0 = λ k. IsClearBehind (fields_start k) out in
-    subst Clear (sym is) (written-clear Four word 0 0 old out put (omega arith) (omega arith) (omega arith))
+one-clear h word old out is small room put = grind (arith, nat_tests, written-clear)
 
 pub two-put : (h : Header) (r : Record) (epid stamp word : ℕ) (begun out : List ℕ) → h ≡ header.Two → epid ≡ r.epid → stamp ≡ r.stamp → epid < 2 ^ 32 → word ≡ epid + stamp % 2 ^ 32 * 2 ^ 32
     → length (take 8 begun) ≡ 8 → take 8 begun ≡ little_endian 8 word → take 16 out ≡ take 8 begun ++ little_endian 8 (stamp / 2 ^ 32) → take (fields_start h) out ≡ header_text h r
-two-put h r epid stamp word begun out is same_epid same_stamp small made long first put =
-    let Put : Header → Type 0 = λ k. take (fields_start k) out ≡ header_text k r in
-    let Of : ℕ → ℕ → Type 0 = λ e s. take 12 out ≡ little_endian 4 e ++ (little_endian 4 (s % 2 ^ 32) ++ little_endian 4 (s / 2 ^ 32)) in
-    subst Put (sym is) (subst (Of r.epid) same_stamp (subst (λ e. Of e stamp) same_epid (front-two epid stamp word begun out small made long first put)))
+two-put h r epid stamp word begun out is same_epid same_stamp small made long first put = grind (arith, nat_tests, front-two)
 
 pub two-clear : (h : Header) (stamp : ℕ) (begun out : List ℕ) → h ≡ header.Two → stamp < 2 ^ 64 → 16 ≤ length begun → take 16 out ≡ take 8 begun ++ little_endian 8 (stamp / 2 ^ 32)
     → IsClearBehind (fields_start h) out

@@ -1,4 +1,5 @@
 -- The greatest value of each field.
+use Rattle.std.proofs.lemmas.Bool.Decides.{nat_tests}
 use Rattle.std.proofs.Common.{[], ◌≡◌, ◌≤◌, ◌<◌, ◌+◌, ◌-◌, ◌^◌, ◌++◌, ℕ, ◌&&◌, false, leb, ltb, List, ◌∷◌, length, map, get_or, take, drop, set, replicate, refl, sym, ◌∙◌, ap, arith}
 use Rattle.std.proofs.lemmas.List.{take_at, take_more_set, append_assoc, drop_more, drop-drop, drop-replicate, drop-set-lt, length-set, length-map, get_or-map}
 use Rattle.dspec_record.specs.Words.{width, limit, fits, padded_limits, Field, One, Two, Four, Eight}
@@ -48,21 +49,12 @@ ltb-limit Eight v = leb-suc-suc v 18446744073709551615
 -- what is left fits if its first value does, and those behind it
 fits-more : (i : ℕ) (fs : List Field) (vs : List ℕ) → i < length fs → i < length vs
     → fits (drop i fs) (drop i vs) ≡ (leb (get_or vs i 0) (limit (get_or fs i One)) && fits (drop (i + 1) fs) (drop (i + 1) vs))
-fits-more i fs vs field value =
-    ap (λ gs. fits gs (drop i vs)) (drop_more fs i One field)
-    ∙ ap (λ us. fits (get_or fs i One ∷ drop (i + 1) fs) us) (drop_more vs i 0 value)
-    ∙ ap (λ b. b && fits (drop (i + 1) fs) (drop (i + 1) vs)) (ltb-limit (get_or fs i One) (get_or vs i 0))
+fits-more i fs vs field value = grind (arith, nat_tests, drop_more, ltb-limit)
 
 pub fits-above : (i : ℕ) (fs : List Field) (limits vs : List ℕ) → i < length fs → i < length vs → limits ≡ map limit fs → get_or limits i 0 < get_or vs i 0
     → fits (drop i fs) (drop i vs) ≡ false
-fits-above i fs limits vs field value is above =
-    let over : limit (get_or fs i One) < get_or vs i 0 = omega (arith, limit-at fs limits i field is) in
-    fits-more i fs vs field value
-    ∙ ap (λ b. b && fits (drop (i + 1) fs) (drop (i + 1) vs)) (lt-leb (get_or vs i 0) (limit (get_or fs i One)) over)
+fits-above i fs limits vs field value is above = grind (arith, nat_tests, limit-at, fits-more, lt-leb)
 
 pub fits-within : (i : ℕ) (fs : List Field) (limits vs : List ℕ) → i < length fs → i < length vs → limits ≡ map limit fs → get_or vs i 0 ≤ get_or limits i 0
     → fits (drop i fs) (drop i vs) ≡ fits (drop (i + 1) fs) (drop (i + 1) vs)
-fits-within i fs limits vs field value is below =
-    let under : get_or vs i 0 ≤ limit (get_or fs i One) = omega (arith, limit-at fs limits i field is) in
-    fits-more i fs vs field value
-    ∙ ap (λ b. b && fits (drop (i + 1) fs) (drop (i + 1) vs)) (le-leb (get_or vs i 0) (limit (get_or fs i One)) under)
+fits-within i fs limits vs field value is below = grind (arith, nat_tests, limit-at, fits-more, le-leb)

@@ -1,4 +1,5 @@
 -- The bytes of a number that is put together of a low part and a rest, in bytes.
+use Rattle.std.proofs.lemmas.Bool.Decides.{nat_tests}
 use Rattle.std.proofs.Common.{◌≡◌, ◌≤◌, ◌<◌, ◌+◌, ◌*◌, ◌/◌, ◌%◌, ◌^◌, ◌++◌, ℕ, zero, suc, ◌∷◌, take, replicate, refl, sym, ◌∙◌, ap, arith}
 use Rattle.std.proofs.Math.Nat.{one-le-pow, pow-suc, mul_assoc, mul_comm, div-div-eq-div-mul, mul-div_cancel}
 use Rattle.std.proofs.lemmas.Nat.{pow-add, div-mul-add}
@@ -28,10 +29,7 @@ byte_at-above (suc i) n =
 
 bytes-above : (i k n : ℕ) → bytes_low_first (suc i) k n ≡ bytes_low_first i k (n / 256)
 bytes-above i zero n = refl
-bytes-above i (suc k) n =
-    let first : byte_at (suc i) n ≡ byte_at i (n / 256) = byte_at-above i n in
-    let rest : bytes_low_first (suc (suc i)) k n ≡ bytes_low_first (suc i) k (n / 256) = bytes-above (suc i) k n in
-    λ d. first d ∷ rest d
+bytes-above i (suc k) n = grind (arith, nat_tests, bytes-above (suc i) k n, byte_at-above)
 
 pub little_endian-more : (k n : ℕ) → little_endian (suc k) n ≡ n % 256 ∷ little_endian k (n / 256)
 little_endian-more k n = ap (λ bs. n % 256 ∷ bs) (bytes-above 0 k n)
@@ -57,10 +55,7 @@ little_endian-low (suc k) high low =
 
 -- so many bytes, and those of the rest
 pub little_endian-append : (j k n : ℕ) → little_endian (j + k) n ≡ little_endian j n ++ little_endian k (n / 256 ^ j)
-little_endian-append zero k n =
-    let count : 0 + k ≡ k = omega arith in
-    let same : n ≡ n / 256 ^ 0 = omega arith in
-    ap (λ m. little_endian m n) count ∙ ap (little_endian k) same
+little_endian-append zero k n = grind (arith, nat_tests)
 little_endian-append (suc j) k n =
     let count : suc j + k ≡ suc (j + k) = omega arith in
     let left : n / 256 / 256 ^ j ≡ n / 256 ^ suc j =
@@ -72,10 +67,7 @@ little_endian-append (suc j) k n =
     ∙ ap (λ bs. bs ++ little_endian k (n / 256 ^ suc j)) (sym (little_endian-more j n))
 
 pub little_endian-parts : (j k high low : ℕ) → low < 256 ^ j → little_endian (j + k) (high * 256 ^ j + low) ≡ little_endian j low ++ little_endian k high
-little_endian-parts j k high low below =
-    little_endian-append j k (high * 256 ^ j + low)
-    ∙ ap (λ bs. bs ++ little_endian k ((high * 256 ^ j + low) / 256 ^ j)) (little_endian-low j high low)
-    ∙ ap (λ n. little_endian j low ++ little_endian k n) (div-mul-add high (256 ^ j) low below)
+little_endian-parts j k high low below = grind (arith, nat_tests, little_endian-append, little_endian-low, div-mul-add)
 
 take-bytes : (i n k x : ℕ) → n ≤ k → take n (bytes_low_first i k x) ≡ bytes_low_first i n x
 take-bytes i zero k x within = refl

@@ -1,4 +1,5 @@
 -- The masks of fields while they are made, field by field.
+use Rattle.std.proofs.lemmas.Bool.Decides.{nat_tests}
 use Rattle.std.proofs.Common.{◌≡◌, ◌≤◌, ◌<◌, ◌+◌, ◌*◌, ◌/◌, ◌%◌, ◌^◌, ℕ, zero, suc, List, ◌∷◌, length, get_or, drop, set, replicate, refl, sym, ◌∙◌, ap, subst, arith}
 use Rattle.std.proofs.Math.Nat.{mul_assoc}
 use Rattle.std.proofs.lemmas.Nat.{pow-add, shr-shr}
@@ -11,10 +12,7 @@ use Rattle.dspec_record.proofs.AddingValues.{next-near, place-near, width-some, 
 words_of_number-add : (k j n x : ℕ) → j < k → get_or (words_of_number k n) j 0 + x < 2 ^ 64
     → words_of_number k (n + x * 2 ^ (64 * j)) ≡ set (words_of_number k n) j (get_or (words_of_number k n) j 0 + x)
 words_of_number-add zero j n x within holds = absurd (omega arith)
-words_of_number-add (suc k) zero n x within holds =
-    let first : (n + x * 2 ^ (64 * 0)) % 2 ^ 64 ≡ n % 2 ^ 64 + x = omega (arith, holds) in
-    let rest : (n + x * 2 ^ (64 * 0)) / 2 ^ 64 ≡ n / 2 ^ 64 = omega (arith, holds) in
-    λ i. first i ∷ words_of_number k (rest i)
+words_of_number-add (suc k) zero n x within holds = grind (arith, nat_tests)
 words_of_number-add (suc k) (suc j) n x within holds =
     let q : ℕ = x * 2 ^ (64 * j) in
     let bits : 64 * suc j ≡ 64 * j + 64 = omega arith in
@@ -48,9 +46,7 @@ AreMasked-start fs = record { so_far = 0; masks_are = refl; whole = omega arith;
 
 -- a field's place is in one of the nine words
 pub AreMasked-place : (i end place : ℕ) (masks : List ℕ) (fs : List Field) → i < length fs → length fs ≤ 8 → AreMasked i end masks fs → place ≡ rounded_up end (width (get_or fs i One)) → place / 8 < 9
-AreMasked-place i end place masks fs within few is at =
-    let f : Field = get_or fs i One in
-    omega (arith, at, is.near, place-near f end, width-some f)
+AreMasked-place i end place masks fs within few is at = grind (arith, nat_tests, place-near, width-some)
 
 -- with this field's mask its word still holds the sum
 sum-fits : (f : Field) (end n place : ℕ) → n < 256 ^ end → place ≡ rounded_up end (width f)
@@ -100,7 +96,4 @@ AreMasked-next i end place masks fs within few is at =
 
 -- behind the last field they are whole
 pub AreMasked-end : (i end : ℕ) (masks : List ℕ) (fs : List Field) → length fs ≤ i → AreMasked i end masks fs → masks ≡ words_of_number 9 (mask_number 4 fs)
-AreMasked-end i end masks fs past is =
-    let none : mask_number end (drop i fs) ≡ 0 = ap (mask_number end) (drop_all i fs past) in
-    let all : is.so_far ≡ mask_number 4 fs = omega (arith, is.whole, none) in
-    is.masks_are ∙ ap (words_of_number 9) all
+AreMasked-end i end masks fs past is = grind (arith, nat_tests, drop_all)

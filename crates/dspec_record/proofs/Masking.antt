@@ -1,5 +1,6 @@
 -- Words of which a mask has cleared what is no field: they are clean, and stand for the same record.
-use Rattle.std.proofs.Common.{◌≡◌, ◌≤◌, ◌<◌, ◌+◌, ◌-◌, ◌*◌, ◌/◌, ◌%◌, ◌^◌, ◌&&◌, ℕ, zero, suc, IsTrue, All, List, [], ◌∷◌, length, map, get_or, refl, sym, ◌∙◌, ap, ap₂, subst, arith}
+use Rattle.std.proofs.lemmas.Bool.Decides.{nat_tests}
+use Rattle.std.proofs.Common.{◌≡◌, ◌≤◌, ◌<◌, ◌+◌, ◌-◌, ◌*◌, ◌/◌, ◌%◌, ◌^◌, ℕ, zero, suc, IsTrue, All, List, [], ◌∷◌, length, map, get_or, refl, sym, ◌∙◌, ap, ap₂, subst, arith}
 use Rattle.std.proofs.Math.Nat.{div-add-mod', mod-lt, mod-mod, pow-suc, pow-le-pow_right}
 use Rattle.std.proofs.lemmas.Nat.{pow_pos, and_block, and_mask, and_comm, pow-add, shr_below}
 use Rattle.std.proofs.lemmas.Bool.{lt-ltb}
@@ -82,10 +83,7 @@ pow256 (suc k) =
 
 -- a mask in blocks of so many bits
 and-block_mask : (k n m low : ℕ) → low < 2 ^ k → bit_and n (m * 2 ^ k + low) ≡ bit_and (n / 2 ^ k) m * 2 ^ k + bit_and (n % 2 ^ k) low
-and-block_mask k n m low below =
-    let split : n ≡ n / 2 ^ k * 2 ^ k + n % 2 ^ k = sym (div-add-mod' n (2 ^ k)) in
-    ap (λ x. bit_and x (m * 2 ^ k + low)) split
-    ∙ and_block k (n / 2 ^ k) m (n % 2 ^ k) low (mod-lt n (pow_pos k)) below
+and-block_mask k n m low below = grind (arith, nat_tests, div-add-mod' n (2 ^ k), and_block k (n / 2 ^ k) m (n % 2 ^ k) low (mod-lt n (pow_pos k)) below, mod-lt n (pow_pos k), pow_pos k)
 
 abbrev AboveMask : ℕ → Type 0
 AboveMask p = (n m : ℕ) → bit_and n (m * p) ≡ bit_and (n / p) m * p
@@ -104,15 +102,7 @@ and-above k =
 
 -- what a mask has whole is kept
 and-field : (k n m : ℕ) → bit_and n (m * 256 ^ k + (256 ^ k - 1)) ≡ bit_and (n / 256 ^ k) m * 256 ^ k + n % 256 ^ k
-and-field k n m =
-    let Field_mask : ℕ → Type 0 = λ p. bit_and n (m * p + (p - 1)) ≡ bit_and (n / p) m * p + n % p in
-    subst Field_mask (sym (pow256 k)) (in_bits (8 * k))
-  where
-    in_bits : (b : ℕ) → bit_and n (m * 2 ^ b + (2 ^ b - 1)) ≡ bit_and (n / 2 ^ b) m * 2 ^ b + n % 2 ^ b
-    in_bits b =
-        let below : 2 ^ b - 1 < 2 ^ b = omega (arith, pow_pos b) in
-        let same : bit_and (n % 2 ^ b) (2 ^ b - 1) ≡ n % 2 ^ b = and_mask (n % 2 ^ b) b ∙ mod-mod n (2 ^ b) in
-        and-block_mask b n m (2 ^ b - 1) below ∙ ap (λ x. bit_and (n / 2 ^ b) m * 2 ^ b + x) same
+and-field k n m = grind (arith, nat_tests, pow256, pow_pos, and_mask, mod-mod, and-block_mask)
 
 -- a number under the mask of the fields is the number of the fields that are cut out of it
 masked : (start : ℕ) (fs : List Field) (n : ℕ) → bit_and (n / 256 ^ start) (packed start fs (map limit fs)) ≡ packed start fs (cuts start fs n)
@@ -135,18 +125,14 @@ masked start (f ∷ fs) n =
 
 limits_fit : (fs : List Field) → IsTrue (fits fs (map limit fs))
 limits_fit [] = refl
-limits_fit (f ∷ fs) =
-    let below : limit f < 256 ^ width f = omega (arith, pow_pos256 (width f)) in
-    ap (λ b. b && fits fs (map limit fs)) (lt-ltb (limit f) (256 ^ width f) below) ∙ limits_fit fs
+limits_fit (f ∷ fs) = grind (arith, nat_tests, limits_fit fs, pow_pos256, lt-ltb)
 
 -- eight fields end within nine words
 pub ends-within : (fs : List Field) → length fs ≤ 8 → fields_end 4 fs ≤ 72
 ends-within fs few = omega (arith, fields_end-le 4 fs)
 
 pub mask_number-below : (fs : List Field) → length fs ≤ 8 → mask_number 4 fs < 2 ^ (64 * 9)
-mask_number-below fs few =
-    let most : 256 ^ fields_end 4 fs ≤ 256 ^ 72 = pow-le-pow_right (omega arith) (ends-within fs few) in
-    omega (arith, value_number-below fs (map limit fs) (limits_fit fs), most)
+mask_number-below fs few = grind (arith, nat_tests, pow-le-pow_right, ends-within, value_number-below, limits_fit)
 
 -- ---- masked words
 

@@ -1,5 +1,6 @@
 -- A packed record while it is made and while it is written: the masked words, the words in their places, and the text that they begin with.
-use Rattle.std.proofs.Common.{◌≡◌, ◌≤◌, ◌<◌, ◌+◌, ◌*◌, ◌/◌, ◌%◌, ◌^◌, ◌++◌, ◌⊎◌, inl, inr, ℕ, suc, zero, All, List, [], ◌∷◌, length, take, drop, get_or, set, sym, ◌∙◌, ap, subst, arith}
+use Rattle.std.proofs.lemmas.Bool.Decides.{nat_tests}
+use Rattle.std.proofs.Common.{◌≡◌, ◌≤◌, ◌<◌, ◌+◌, ◌*◌, ◌/◌, ◌%◌, ◌^◌, ◌++◌, ℕ, suc, zero, All, List, [], ◌∷◌, length, take, drop, get_or, set, sym, ◌∙◌, ap, subst, arith}
 use Rattle.std.proofs.lemmas.List.{length-take-le, length-append, get_or-take, get_or-set_same, get_or-set_other, take_at, append_assoc}
 use Rattle.std.proofs.lemmas.Bool.{cases_lt}
 use Rattle.std.specs.Int.RustNames.{bit_and}
@@ -13,16 +14,7 @@ use Rattle.dspec_record.proofs.Storing.{bytes_of_words-more, stored-words, store
 -- one word more is masked
 pub masked-more : (ws ms kept : List ℕ) (i : ℕ) → i < length kept → ((k : ℕ) → k < i → get_or kept k 0 ≡ bit_and (get_or ws k 0) (get_or ms k 0))
     → (k : ℕ) → k < i + 1 → get_or (set kept i (bit_and (get_or ws i 0) (get_or ms i 0))) k 0 ≡ bit_and (get_or ws k 0) (get_or ms k 0)
-masked-more ws ms kept i room each k within = by_order (cases_lt k i)
-  where
-    by_order : (k < i) ⊎ (i ≤ k) → get_or (set kept i (bit_and (get_or ws i 0) (get_or ms i 0))) k 0 ≡ bit_and (get_or ws k 0) (get_or ms k 0)
-    by_order (inl before) =
-        get_or-set_other kept i k (bit_and (get_or ws i 0) (get_or ms i 0)) 0 (λ same. absurd (omega (arith, same, before))) ∙ each k before
-    by_order (inr here) =
-        let same : k ≡ i = omega arith in
-        ap (λ j. get_or (set kept i (bit_and (get_or ws i 0) (get_or ms i 0))) j 0) same
-        ∙ get_or-set_same kept i (bit_and (get_or ws i 0) (get_or ms i 0)) 0 room
-        ∙ ap (λ j. bit_and (get_or ws j 0) (get_or ms j 0)) (sym same)
+masked-more ws ms kept i room each k within = grind (arith, nat_tests, cases_lt, get_or-set_other, get_or-set_same)
 
 -- words of which each is masked
 pub kept-masked : (ws ms kept : List ℕ) (n : ℕ) → n ≡ length ws → n ≤ length ms → n ≤ length kept → ((k : ℕ) → k < n → get_or kept k 0 ≡ bit_and (get_or ws k 0) (get_or ms k 0))
@@ -33,34 +25,21 @@ kept-masked ws ms kept n is masks room each =
 
 -- a word that is written behind what stands before
 pub word-put : (at : ℕ) (out bytes rest : List ℕ) → at ≤ length out → length bytes ≡ 8 → take (at + 8) (take at out ++ (bytes ++ rest)) ≡ take at out ++ bytes
-word-put at out bytes rest room long =
-    ap (take (at + 8)) (sym (append_assoc (take at out) bytes rest))
-    ∙ take_at (take at out ++ bytes) rest (at + 8) (length-append (take at out) bytes ∙ omega (arith, length-take-le at out room, long))
+word-put at out bytes rest room long = grind (arith, nat_tests, append_assoc, take_at, length-append, length-take-le)
 
 -- one word more
 pub words-put : (at i place end : ℕ) (ws initial out new : List ℕ) → i < length ws → place ≡ at + 8 * i → end ≡ at + 8 * (i + 1)
     → take (place + 8) new ≡ take place out ++ little_endian 8 (get_or ws i 0)
     → take (at + 8 * i) out ≡ take at initial ++ bytes_of_words (take i ws)
     → take end new ≡ take at initial ++ bytes_of_words (take (i + 1) ws)
-words-put at i place end ws initial out new within at_word at_end put so_far =
-    let behind : end ≡ place + 8 = omega arith in
-    ap (λ k. take k new) behind ∙ put
-    ∙ ap (λ k. take k out ++ little_endian 8 (get_or ws i 0)) at_word
-    ∙ ap (λ t. t ++ little_endian 8 (get_or ws i 0)) so_far
-    ∙ append_assoc (take at initial) (bytes_of_words (take i ws)) (little_endian 8 (get_or ws i 0))
-    ∙ ap (λ t. take at initial ++ t) (sym (bytes_of_words-more ws i within))
+words-put at i place end ws initial out new within at_word at_end put so_far = grind (arith, nat_tests, append_assoc, bytes_of_words-more)
 
 -- the first word, and the others behind it
 pub all-put : (at low : ℕ) (ws out first new : List ℕ) → 0 < length ws
     → take (at + 8) first ≡ take at out ++ little_endian 8 (get_or ws 0 0 + low)
     → take (at + 8 + 8 * length (drop 1 ws)) new ≡ take (at + 8) first ++ bytes_of_words (drop 1 ws)
     → take (at + 8 * length ws) new ≡ take at out ++ bytes_of_words (with_low low ws)
-all-put at low [] out first new some one others = absurd (omega arith)
-all-put at low (w ∷ ws) out first new some one others =
-    let behind : at + 8 * length (w ∷ ws) ≡ at + 8 + 8 * length ws = omega arith in
-    ap (λ k. take k new) behind ∙ others
-    ∙ ap (λ t. t ++ bytes_of_words ws) one
-    ∙ append_assoc (take at out) (little_endian 8 (w + low)) (bytes_of_words ws)
+all-put = grind (arith, nat_tests, append_assoc)
 
 -- the lower half of the first of clean words is zero
 pub first-zeros : (fs : List Field) (ws : List ℕ) → 0 < length ws → IsClean fs ws → get_or ws 0 0 % 2 ^ 32 ≡ 0
@@ -125,10 +104,7 @@ text-put_two h epid stamp word id fs ws begun out two is epid_is fits stamp_fits
 -- bytes that begin with the text of all fields whose words are clean begin with that of the record which the words stand for
 pub text-put : (h k : Header) (epid stamp : ℕ) (fs : List Field) (ws out : List ℕ) (r : Record) → k ≡ h → packed_record epid stamp fs ws ≡ r → IsClean fs ws
     → (layout header.One fs).size ≤ 8 * length ws → BeginsWithWords k epid stamp ws out → take (length (record_text h fs r)) out ≡ record_text h fs r
-text-put h k epid stamp fs ws out r is same clean room put =
-    let Text : Header → Type 0 = λ d. take (layout d fs).size out ≡ record_text d fs (packed_record epid stamp fs ws) in
-    let Done : Record → Type 0 = λ q. take (length (record_text h fs q)) out ≡ record_text h fs q in
-    subst Done same (ap (λ n. take n out) (size-of_text h epid stamp fs ws) ∙ subst Text is (put fs clean room))
+text-put h k epid stamp fs ws out r is same clean room put = grind (arith, nat_tests, size-of_text h epid stamp fs ws)
 
 -- whole words have room for the text, and no more room than it rounds up to
 pub rounds-up : (fs : List Field) (n : ℕ) → 0 < n → n ≡ words_in fs → rounded_up (layout header.One fs).size 8 ≡ 8 * n

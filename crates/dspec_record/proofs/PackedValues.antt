@@ -1,8 +1,9 @@
 -- Values of fields at their places, as one number, and words whose number it is.
+use Rattle.std.proofs.lemmas.Bool.Decides.{nat_tests}
 use Rattle.std.proofs.Common.{◌≡◌, ◌≤◌, ◌<◌, ◌+◌, ◌-◌, ◌*◌, ◌/◌, ◌^◌, ◌++◌, ℕ, zero, suc, IsTrue, List, [], ◌∷◌, length, take, refl, sym, ◌∙◌, ap, subst, arith}
 use Rattle.std.proofs.Math.Nat.{mul_assoc, add-mul, mul-lt-mul_of_pos_right}
 use Rattle.std.proofs.lemmas.Nat.{shr_below}
-use Rattle.dspec_record.specs.Words.{width, rounded_up, after, fields_end, layout, little_endian, fields_text, fits, number_of_words, cuts, packed_record, value_number, IsClean, rounded_up-ge}
+use Rattle.dspec_record.specs.Words.{width, rounded_up, after, fields_end, layout, little_endian, fields_text, fits, number_of_words, packed_record, value_number, IsClean, rounded_up-ge}
 use Rattle.dspec_record.specs.Words.{fields_end-ge, Field, Four}
 use Rattle.dspec_record.proofs.LittleEndian.{pow_pos256, pow-add256, shifted-back, little_endian-parts, take-little_endian}
 use Rattle.dspec_record.proofs.Cutting.{packed, cuts-packed, packed-text, packed-below}
@@ -41,9 +42,7 @@ value_number-below fs vs fit =
 -- words whose number is that of values stand for these
 pub record-of_number : (epid stamp : ℕ) (fs : List Field) (vs ws : List ℕ) → IsTrue (fits fs vs) → number_of_words ws ≡ packed 4 fs vs * 256 ^ 4
     → packed_record epid stamp fs ws ≡ record { epid = epid; stamp = stamp; values = vs }
-record-of_number epid stamp fs vs ws fit is =
-    let same : cuts 4 fs (number_of_words ws) ≡ vs = cuts-packed 4 fs vs (number_of_words ws) fit (ap (λ n. n / 256 ^ 4) is ∙ shifted-back 4 (packed 4 fs vs)) in
-    λ i. record { epid = epid; stamp = stamp; values = same i }
+record-of_number epid stamp fs vs ws fit is = grind (arith, nat_tests, cuts-packed, shifted-back, packed)
 
 -- and hold nothing else
 pub clean-of_number : (fs : List Field) (vs ws : List ℕ) → IsTrue (fits fs vs) → (layout header.One fs).size ≤ 8 * length ws → number_of_words ws ≡ packed 4 fs vs * 256 ^ 4

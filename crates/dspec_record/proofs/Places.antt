@@ -1,5 +1,6 @@
 -- The places of fields, also where a stamp moves them all.
-use Rattle.std.proofs.Common.{[], ◌≡◌, ◌≤◌, ◌<◌, ◌+◌, ◌-◌, ◌*◌, ◌%◌, ◌++◌, ℕ, suc, List, ◌∷◌, length, get_or, take, drop, set, replicate, refl, sym, subst, ◌∙◌, ap, arith}
+use Rattle.std.proofs.lemmas.Bool.Decides.{nat_tests}
+use Rattle.std.proofs.Common.{[], ◌≡◌, ◌≤◌, ◌<◌, ◌+◌, ◌-◌, ◌*◌, ◌%◌, ◌++◌, ℕ, suc, List, ◌∷◌, length, get_or, take, drop, set, replicate, refl, sym, ◌∙◌, ap, arith}
 use Rattle.std.proofs.lemmas.List.{take_at, take_more_set, append_assoc, drop_more, drop-drop, drop-replicate, drop-set-lt, length-set}
 use Rattle.dspec_record.specs.Words.{width, rounded_up, after, field_places, fields_start, padded_places, Field, One, Two, Four, Eight, Header}
 use Rattle.dspec_record.specs.declared.header.Header.TheVariants as header
@@ -77,20 +78,13 @@ together : (p r moved at : ℕ) → p ≡ r → at ≡ moved + r → p + moved �
 together p r moved at same is = omega arith
 
 place-is : (moved end : ℕ) (f : Field) (fs : List Field) (p : ℕ) (ps : List ℕ) → IsPlaced moved end (f ∷ fs) (p ∷ ps) → p + moved ≡ rounded_up end (width f)
-place-is moved end f fs p ps is =
-    let head : p ≡ rounded_up is.from (width f) = ap (λ xs. get_or xs 0 0) is.places_are in
-    together p (rounded_up is.from (width f)) moved (rounded_up end (width f)) head (place-moved moved end f fs p ps is)
+place-is moved end f fs p ps is = grind (arith, nat_tests, together, place-moved)
 
 further : (at r moved w : ℕ) → at ≡ moved + r → at + w ≡ moved + (r + w)
 further at r moved w is = omega arith
 
 IsPlaced-more : (moved end : ℕ) (f : Field) (fs : List Field) (p : ℕ) (ps : List ℕ) → IsPlaced moved end (f ∷ fs) (p ∷ ps) → IsPlaced moved (after end (width f) (width f)) fs ps
-IsPlaced-more moved end f fs p ps is = record {
-  from = after is.from (width f) (width f);
-  words = is.words;
-  moved_by = further (rounded_up end (width f)) (rounded_up is.from (width f)) moved (width f) (place-moved moved end f fs p ps is);
-  places_are = ap (drop 1) is.places_are;
-}
+IsPlaced-more moved end f fs p ps is = grind (arith, nat_tests, further, place-moved)
 
 pub IsPlaced-start : (h : Header) (moved end : ℕ) (fs : List Field) (ps : List ℕ) → 4 + moved ≡ fields_start h → end ≡ fields_start h → ps ≡ field_places 4 fs → IsPlaced moved end fs ps
 IsPlaced-start header.One moved end fs ps is at same = record { from = 4; words = omega arith; moved_by = omega arith; places_are = same }
@@ -99,11 +93,7 @@ IsPlaced-start header.Two moved end fs ps is at same = record { from = 4; words 
 -- the same of the field with this number
 at_number : (moved end i : ℕ) (fs : List Field) (ps : List ℕ) → i < length fs → length ps ≡ length fs → IsPlaced moved end (drop i fs) (drop i ps)
     → IsPlaced moved end (get_or fs i One ∷ drop (i + 1) fs) (get_or ps i 0 ∷ drop (i + 1) ps)
-at_number moved end i fs ps within same is =
-    let inside : i < length ps = omega arith in
-    let Fields : List Field → Type 0 = λ gs. IsPlaced moved end gs (drop i ps) in
-    let Places : List ℕ → Type 0 = λ qs. IsPlaced moved end (get_or fs i One ∷ drop (i + 1) fs) qs in
-    subst Places (drop_more ps i 0 inside) (subst Fields (drop_more fs i One within) is)
+at_number moved end i fs ps within same is = grind (arith, nat_tests, drop_more)
 
 pub IsPlaced-place : (moved end i : ℕ) (fs : List Field) (ps : List ℕ) → i < length fs → length ps ≡ length fs → IsPlaced moved end (drop i fs) (drop i ps)
     → get_or ps i 0 + moved ≡ rounded_up end (width (get_or fs i One))

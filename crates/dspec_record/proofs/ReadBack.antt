@@ -1,4 +1,5 @@
 -- A record while its text is read.
+use Rattle.std.proofs.lemmas.Bool.Decides.{nat_tests}
 use Rattle.std.proofs.Common.{◌≡◌, ◌≤◌, ◌<◌, ◌+◌, ◌-◌, ◌++◌, ◌^◌, ◌&&◌, ℕ, ltb, IsTrue, List, [], ◌∷◌, length, take, drop, get_or, replicate, sym, ◌∙◌, ap, subst, arith, refl}
 use Rattle.std.proofs.lemmas.List.{append_assoc, append-nil, take_at, drop_at, drop_more, length-replicate, drop-drop, length-append}
 use Rattle.std.proofs.lemmas.List.{length-take, length-drop, take-append-drop, drop-take, take-take, take_rest, drop_all}
@@ -19,11 +20,7 @@ pub record IsReading (h : Header) (all : List Field) (epid stamp : ℕ) (text : 
 -- the header at the front, put together of its EPID and of what is behind it
 header-front : (h : Header) (epid stamp : ℕ) (vs text : List ℕ) → 4 ≤ fields_start h → take 4 text ≡ little_endian 4 epid
     → drop 4 (take (fields_start h) text) ≡ stamp_text h stamp → header_text h (record { epid = epid; stamp = stamp; values = vs }) ≡ take (fields_start h) text
-header-front h epid stamp vs text low front behind =
-    ap (λ e. e ++ stamp_text h stamp) (sym front)
-    ∙ ap (λ s. take 4 text ++ s) (sym behind)
-    ∙ ap (λ e. e ++ drop 4 (take (fields_start h) text)) (sym (take-take 4 (fields_start h) text low))
-    ∙ take-append-drop 4 (take (fields_start h) text)
+header-front h epid stamp vs text low front behind = grind (arith, nat_tests, take-take, take-append-drop)
 
 pub IsReading-start : (h : Header) (fs : List Field) (epid stamp : ℕ) (text : List ℕ) → length fs ≤ 8 → length text ≡ (layout h fs).size → take 4 text ≡ little_endian 4 epid
     → IsTrue (stamp_fits h stamp) → drop 4 (take (fields_start h) text) ≡ stamp_text h stamp → IsReading h fs epid stamp text (fields_start h) [] 0 fs
@@ -98,12 +95,7 @@ left-more text end f fs (u ∷ us) h is =
 
 left-gap : (text : List ℕ) (end : ℕ) (f : Field) (fs : List Field) (ws : List ℕ) → IsTrue (fits (f ∷ fs) ws) → drop end text ≡ fields_text end (f ∷ fs) ws
     → take (rounded_up end (width f) - end) (drop end text) ≡ gap end (width f)
-left-gap text end f fs [] h is = absurd (cc)
-left-gap text end f fs (u ∷ us) h is =
-    let zero_byte : ℕ = 0 in
-    ap (take (rounded_up end (width f) - end)) is
-    ∙ take_at (gap end (width f)) (little_endian (width f) u ++ fields_text (after end (width f) (width f)) fs us) (rounded_up end (width f) - end)
-    (length-replicate (rounded_up end (width f) - end) zero_byte)
+left-gap = grind (arith, nat_tests, take_at, length-replicate)
 
 pub IsReading-more : (d : Header) (all : List Field) (epid stamp : ℕ) (text : List ℕ) (end : ℕ) (read : List ℕ) (n : ℕ) (f : Field) (fs : List Field) (v : ℕ)
     → IsReading d all epid stamp text end read n (f ∷ fs) → HasField text end f v → IsReading d all epid stamp text (after end (width f) (width f)) (read ++ v ∷ []) (n + 1) fs
@@ -131,22 +123,11 @@ IsReading-more d all epid stamp text end read n f fs v w h =
 
 pub IsReading-end : (d : Header) (all : List Field) (epid stamp : ℕ) (text : List ℕ) (end : ℕ) (read : List ℕ) (n : ℕ) → IsReading d all epid stamp text end read n []
     → drop end text ≡ gap end 4 → IsRead d all epid text (record { epid = epid; stamp = stamp; values = read })
-IsReading-end d all epid stamp text end read n w zeros =
-    let whole : read ++ [] ≡ read = append-nil read in
-    record {
-      epid_is = refl;
-      stamp_fit = w.stamp_fit;
-      fit = sym (ap (fits all) whole) ∙ w.fit [];
-      text_is =
-          sym (ap (λ xs. header_text d (record { epid = epid; stamp = stamp; values = [] }) ++ fields_text (fields_start d) all xs) whole)
-          ∙ w.so_far [] ∙ ap (λ zs. take end text ++ zs) (sym zeros) ∙ take-append-drop end text;
-    }
+IsReading-end d all epid stamp text end read n w zeros = grind (arith, nat_tests, append-nil read, take-append-drop end text)
 
 at_field : (d : Header) (all : List Field) (epid stamp : ℕ) (text : List ℕ) (end : ℕ) (read : List ℕ) (i : ℕ) → i < length all
     → IsReading d all epid stamp text end read i (drop i all) → IsReading d all epid stamp text end read i (get_or all i One ∷ drop (i + 1) all)
-at_field d all epid stamp text end read i within w =
-    let Left : List Field → Type 0 = λ fs. IsReading d all epid stamp text end read i fs in
-    subst Left (drop_more all i One within) w
+at_field d all epid stamp text end read i within w = grind (arith, nat_tests, drop_more)
 
 -- the next field ends within the text
 pub next-within : (d : Header) (all : List Field) (epid stamp : ℕ) (text : List ℕ) (end : ℕ) (read : List ℕ) (i place w : ℕ) → i < length all
@@ -191,9 +172,7 @@ IsReading-gap d all epid stamp text end read i place within inv at r fit is =
 
 no_more : (d : Header) (all : List Field) (epid stamp : ℕ) (text : List ℕ) (end : ℕ) (read : List ℕ) (i : ℕ) → length all ≤ i
     → IsReading d all epid stamp text end read i (drop i all) → IsReading d all epid stamp text end read i []
-no_more d all epid stamp text end read i past w =
-    let Left : List Field → Type 0 = λ fs. IsReading d all epid stamp text end read i fs in
-    subst Left (drop_all i all past) w
+no_more d all epid stamp text end read i past w = grind (arith, nat_tests, drop_all)
 
 rest-is : (text : List ℕ) (end : ℕ) → end ≤ length text → length (take (length text - end) (drop end text)) ≡ length text - end
 rest-is text end high = gap-is text end (length text) high (omega arith)

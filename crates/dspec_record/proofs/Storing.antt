@@ -1,10 +1,11 @@
 -- The bytes of clean words where they are stored with an EPID, and behind it a stamp, in place of the zeros before the fields.
+use Rattle.std.proofs.lemmas.Bool.Decides.{nat_tests}
 use Rattle.std.proofs.Common.{◌≡◌, ◌≤◌, ◌<◌, ◌+◌, ◌-◌, ◌*◌, ◌/◌, ◌%◌, ◌^◌, ◌++◌, ℕ, All, List, [], ◌∷◌, length, take, get_or, refl, sym, ◌∙◌, ap, arith}
 use Rattle.std.proofs.Math.Seq.{take-append-add, take-take}
 use Rattle.std.proofs.lemmas.List.{length-append, append_assoc, append-nil, take_more}
 use Rattle.std.proofs.lemmas.List.Elements.{All-head, All-tail}
 use Rattle.dspec_record.specs.Words.{fields_end, layout, little_endian, fields_text, record_text, number_of_words, cuts, packed_record, bytes_of_words, IsClean, rounded_up-ge, fields_end-ge}
-use Rattle.dspec_record.specs.Words.{size-stamped, append-same, Field, Four}
+use Rattle.dspec_record.specs.Words.{size-stamped, Field, Four}
 use Rattle.dspec_record.proofs.LittleEndian.{little_endian-append, little_endian-parts}
 use Rattle.dspec_record.proofs.Cutting.{moved}
 use Rattle.dspec_record.specs.declared.header.Header.TheVariants as header
@@ -36,22 +37,10 @@ take-behind_four size x t is =
     ap (λ k. take k (little_endian 4 x ++ t)) is ∙ take-append-add (little_endian 4 x) t (size - 4)
 
 clean-parts : (fs : List Field) (ws : List ℕ) (left : ℕ) → 8 * length ws ≡ 4 + left → IsClean fs ws → CleanParts fs ws left
-clean-parts fs ws left count clean =
-    let n : ℕ = number_of_words ws in
-    let size : ℕ = (layout header.One fs).size in
-    let cut : little_endian (8 * length ws) n ≡ little_endian 4 n ++ little_endian left (n / 256 ^ 4) =
-    ap (λ k. little_endian k n) count ∙ little_endian-append 4 left n in
-    let both = append-same (little_endian 4 n) (little_endian 4 0) (take (size - 4) (little_endian left (n / 256 ^ 4))) (fields_text 4 fs (cuts 4 fs n)) refl (
-    sym (take-behind_four size n (little_endian left (n / 256 ^ 4)) (size-from_four fs)) ∙ ap (take size) (sym cut) ∙ clean) in
-    record { zeros = both.0; fields = both.1 }
+clean-parts fs ws left count clean = grind (arith, nat_tests, little_endian-append, take-behind_four, size-from_four)
 
 zero-low : (n : ℕ) → little_endian 4 n ≡ little_endian 4 0 → n % 2 ^ 32 ≡ 0
-zero-low n is =
-    let at0 : n % 256 ≡ 0 = ap (λ bs. get_or bs 0 0) is in
-    let at1 : n / 256 ^ 1 % 256 ≡ 0 = ap (λ bs. get_or bs 1 0) is in
-    let at2 : n / 256 ^ 2 % 256 ≡ 0 = ap (λ bs. get_or bs 2 0) is in
-    let at3 : n / 256 ^ 3 % 256 ≡ 0 = ap (λ bs. get_or bs 3 0) is in
-    omega (arith, at0, at1, at2, at3)
+zero-low n is = grind (arith, nat_tests)
 
 -- the first four bytes of clean words are zero
 pub clean-first : (fs : List Field) (w : ℕ) (rest : List ℕ) → IsClean fs (w ∷ rest) → w % 2 ^ 32 ≡ 0
@@ -114,9 +103,7 @@ stored-stamped epid stamp fs w rest small fits stamp_fits clean =
 
 pub length-bytes_of_words : (ws : List ℕ) → length (bytes_of_words ws) ≡ 8 * length ws
 length-bytes_of_words [] = refl
-length-bytes_of_words (w ∷ ws) =
-    let rest : length (bytes_of_words ws) ≡ 8 * length ws = length-bytes_of_words ws in
-    omega (arith, length-append (little_endian 8 w) (bytes_of_words ws), rest)
+length-bytes_of_words (w ∷ ws) = grind (arith, nat_tests, length-bytes_of_words ws, length-append)
 
 pub bytes_of_words-more : (ws : List ℕ) (i : ℕ) → i < length ws → bytes_of_words (take (i + 1) ws) ≡ bytes_of_words (take i ws) ++ little_endian 8 (get_or ws i 0)
 bytes_of_words-more ws i within = ap bytes_of_words (take_more ws i 0 within) ∙ appended (take i ws) (get_or ws i 0)

@@ -1,8 +1,9 @@
 -- A record's text while it is written.
-use Rattle.std.proofs.Common.{◌≡◌, ◌≤◌, ◌-◌, ◌++◌, ◌+◌, ◌^◌, ℕ, ltb, IsTrue, List, [], ◌∷◌, length, take, drop, replicate, refl, sym, ◌∙◌, ap, arith}
+use Rattle.std.proofs.lemmas.Bool.Decides.{nat_tests}
+use Rattle.std.proofs.Common.{◌≡◌, ◌≤◌, ◌-◌, ◌++◌, ◌+◌, ℕ, IsTrue, List, [], ◌∷◌, length, take, drop, replicate, refl, sym, ◌∙◌, ap, arith}
 use Rattle.std.proofs.lemmas.List.{append_assoc}
 use Rattle.dspec_record.specs.Words.{Record, width, rounded_up, after, fields_start, fields_end, layout, little_endian, gap, header_text, fields_text, record_text, fits, IsClearBehind}
-use Rattle.dspec_record.specs.Words.{rounded_up-ge, fields_end-ge, layout-IsShape, both, Field, Four, Header}
+use Rattle.dspec_record.specs.Words.{rounded_up-ge, fields_end-ge, layout-IsShape, Field, Four, Header}
 use Rattle.dspec_record.proofs.Clearing.{clear-part, take-add}
 
 -- `out` holds the text up to `end`, with zeros behind it, and these fields and values are still to be written
@@ -45,17 +46,7 @@ regroup a b c d = simp append_assoc
 pub IsWriting-next : (text : List ℕ) (size end : ℕ) (out out' : List ℕ) (f : Field) (fs : List Field) (v : ℕ) (vs : List ℕ) → IsWriting text size end out (f ∷ fs) (v ∷ vs)
     → length out' ≡ length out → take (after end (width f) (width f)) out' ≡ take end out ++ (gap end (width f) ++ little_endian (width f) v)
     → IsClearBehind (after end (width f) (width f)) out' → IsWriting text size (after end (width f) (width f)) out' fs vs
-IsWriting-next text size end out out' f fs v vs w same put clear =
-    let next : ℕ = after end (width f) (width f) in
-    record {
-      laid = ap (λ t. t ++ fields_text next fs vs) put
-          ∙ regroup (take end out) (gap end (width f)) (little_endian (width f) v) (fields_text next fs vs) ∙ w.laid;
-      exact = w.exact;
-      short = w.short;
-      room = omega (arith, w.room, same);
-      fit = (both (ltb v (256 ^ width f)) (fits fs vs) w.fit).1;
-      clear = clear;
-    }
+IsWriting-next text size end out out' f fs v vs w same put clear = grind (arith, nat_tests, regroup)
 
 -- with the zeros behind the last field the text is whole
 pub IsWriting-end : (text : List ℕ) (size end : ℕ) (out : List ℕ) (vs : List ℕ) → IsWriting text size end out [] vs → take size out ≡ text

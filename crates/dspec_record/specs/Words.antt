@@ -1,5 +1,4 @@
 -- Serves proofs. The words of this crate for its proofs and for the crates above, in one place. Declares nothing.
-pub use Rattle.dspec_record.specs.Borrowed.{borrowed_record}
 pub use Rattle.dspec_record.specs.EnablingFields.{IsLaidOut, padded_limits, padded_places}
 pub use Rattle.dspec_record.specs.EnablingRows.{EnabledRows, IsFilled}
 pub use Rattle.dspec_record.specs.FirstWords.{with_low}
@@ -24,4 +23,3 @@ pub use Rattle.dspec_record.specs.declared.field.Field.TheVariants.{Eight, Four,
 pub use Rattle.dspec_record.specs.declared.field.Shape.{Shape}
 pub use Rattle.dspec_record.specs.declared.header.Header.{Header}
 pub use Rattle.dspec_record.specs.declared.reading.ReadKind.{ReadKind}
-pub use Rattle.dspec_record.specs.declared.reading.ReadKind.TheVariants.{GapNotZero, Misaligned, Padding, Truncated, UnknownEpid}

@@ -1,5 +1,5 @@
 -- Four CPUs of a session, taken out and put back.
-use Rattle.std.proofs.Common.{◌≡◌, ℕ, ◌+◌, Bool, true, false, List, [], ◌∷◌, ◌&&◌, length, Some, Option, refl, sym, ap, ◌∙◌, subst, arith}
+use Rattle.std.proofs.Common.{◌≡◌, ℕ, ◌+◌, Bool, true, List, [], ◌∷◌, ◌&&◌, length, Some, Option, refl, sym, ap, ◌∙◌, subst, arith}
 use Rattle.std.specs.Prelude.{slice_get}
 use Rattle.dspec_session.specs.Words.{EnabledRows, offers, Pair, words_of, identity, Consuming, pairs_of, Stays, Four, AllCanWork, AllWorked, Has, IsCpuOf, CanWork, CpuRounds, demonstrated, IsBack}
 use Rattle.dspec_session.specs.Words.{Worked, HaveMade, HaveOffered, HaveRoom, IsDemonstrated, all_finished}
@@ -35,9 +35,7 @@ cpu_back shared c was is x y same back there =
 
 each_finished : (a b c d : Bool) → (a && (b && (c && d))) ≡ true → (a ≡ true) × (b ≡ true) × (c ≡ true) × (d ≡ true)
 each_finished true true true d e = (refl, refl, refl, e)
-each_finished true true false d e = absurd (cc (e))
-each_finished true false c d e = absurd (cc (e))
-each_finished false b c d e = absurd (cc (e))
+each_finished a b c d e = absurd (cc (e))
 
 module _ (session : Session EnabledRows) (f : Four (Cpu EnabledRows)) (back : Four (Cpu EnabledRows × Bool)) (is : IsDemonstrated session)
     (e : session.cpus.items ≡ f.first ∷ f.second ∷ f.third ∷ f.fourth ∷ [])

@@ -1,6 +1,7 @@
 -- What is left of the session of the demonstration.
-use Rattle.std.proofs.Common.{◌≡◌, ℕ, zero, suc, ◌<◌, ◌==◌, Bool, true, false, List, [], ◌∷◌, length, Some, None, Option, refl, sym, ap, ◌∙◌, subst, arith}
+use Rattle.std.proofs.Common.{◌≡◌, ℕ, zero, suc, ◌<◌, ◌==◌, Bool, true, false, List, [], length, Some, None, Option, refl, sym, ap, ◌∙◌, subst, arith}
 use Rattle.std.specs.Prelude.{slice_get}
+use Rattle.std.proofs.lemmas.Option.{slice_get_within}
 use Rattle.dspec_session.specs.Words.{Record, EnabledRows, SlotState, settle_at, is_granted, ack, word_at, offers, records_of_report, own_closed, own_closed_slot, IsClosedBy, IsLeftBy, Consuming}
 use Rattle.dspec_session.specs.Words.{IsConsumerOf, IsSameConsumer, Has, HasAt, words_of, DemoLine, AllTold, HaveOffered, IsDemonstrated}
 use Rattle.dspec_record.specs.declared.field.Shape.{Shape}
@@ -12,6 +13,7 @@ use Rattle.dspec_ring.specs.declared.batch.Batch.{Batch}
 use Rattle.dspec_cpu.specs.declared.cpu.Cpu.{Cpu}
 use Rattle.dspec_session_core.specs.declared.session.Session.{Session}
 use Rattle.dspec_session_core.specs.declared.left.Left.{Left}
+use Rattle.dspec_session_core.proofs.PromisedBy.{there_is}
 
 -- the settlements of the close offer nothing
 slot_offers : (shape : ℕ → Option Shape) (k : Config) (words : ℕ → SlotState) (c s : ℕ) (p : List Deed) (b : Bool) → is_granted (settle_at (words s) (ack c s p)) ≡ b
@@ -43,17 +45,6 @@ list_had : (n c : ℕ) (o : Option (Cpu EnabledRows)) (f : (cpu : Cpu EnabledRow
 list_had n c None f cpu e = absurd (cc (e))
 list_had n c (Some x) f cpu e = let is : x ≡ cpu = cc (e) in (subst (λ y. Has y (f x refl).0) is (f x refl).1, (f x refl).2)
 
--- there is one at each place of a list
-one_there : {A : Type 0} (xs : List A) (c : ℕ) → c < length xs → (x : A) × (slice_get xs c ≡ Some x)
-one_there [] c lt = absurd (omega arith)
-one_there (x ∷ xs) zero lt = (x, refl)
-one_there (x ∷ xs) (suc c) lt = one_there xs c (omega arith)
-
-place_of : (ls : List Left) (c : ℕ) (l : Left) → slice_get ls c ≡ Some l → c < length ls
-place_of [] c l e = absurd (cc (e))
-place_of (x ∷ xs) zero l e = omega arith
-place_of (x ∷ xs) (suc c) l e = let lt = place_of xs c l e in omega arith
-
 pub all_told : (shape : ℕ → Option Shape) (accepted : Record → Bool) (text : Record → List ℕ) (k : Config) (cpus : List (Cpu EnabledRows)) (worn : ℕ → ℕ) (taken : ℕ
     → List Batch) (consumer : List Deed) (ls : List Left) (n : ℕ)
     → IsClosedBy shape accepted text k (HasAt Has cpus) worn taken consumer ls → HaveOffered n cpus → length cpus ≡ length ls → AllTold n ls
@@ -61,8 +52,8 @@ all_told shape accepted text k cpus worn taken consumer ls n closed offered all 
     let f : (c : ℕ) (cpu : Cpu EnabledRows) → slice_get cpus c ≡ Some cpu → Offered n c cpu = offered in
     let p : ℕ → List Deed = λ c. list_at n c (slice_get cpus c) (f c) in
     let (g, closes) = closed p (λ c lt cpu e. (list_had n c (slice_get cpus c) (f c) cpu e).0) in
-    let lt = place_of ls c l at in
-    let there = one_there cpus c (omega arith) in
+    let lt = slice_get_within ls c l at in
+    let there = there_is cpus c (omega arith) in
     left_told shape accepted text k g c (worn c) n (taken c) (p c) l (closes.each c l at) (list_had n c (slice_get cpus c) (f c) there.0 there.1).1
 
 -- a stop leaves the session
@@ -78,6 +69,6 @@ still_session session consumer is at same = record {
 pub line_told : (ls : List Left) (n c : ℕ) (line : DemoLine) → c < length ls → AllTold n ls → line.cpu ≡ c → ((l : Left) → slice_get ls c ≡ Some l → line.offered ≡ l.report.offered)
     → ((l : Left) → slice_get ls c ≡ Some l → line.balanced ≡ (records_of_report l.report == l.report.offered)) → (line.cpu ≡ c) × (line.offered ≡ n) × (line.balanced ≡ true)
 line_told ls n c line lt told cpu offered balanced =
-    let (l, at) = one_there ls c lt in
+    let (l, at) = there_is ls c lt in
     let (count, sum) = told c l at in
     (cpu, offered l at ∙ count, balanced l at ∙ (ap (λ m. m == l.report.offered) sum ∙ (ap (λ m. n == m) count ∙ number_is_itself n)))

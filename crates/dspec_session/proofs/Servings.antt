@@ -1,5 +1,5 @@
 -- A call of service counts as no call, and offers nothing.
-use Rattle.std.proofs.Common.{◌≡◌, ℕ, zero, suc, ◌+◌, Bool, true, false, List, [], ◌∷◌, ◌++◌, ◌∙◌, ap, arith}
+use Rattle.std.proofs.Common.{◌≡◌, ℕ, zero, suc, ◌+◌, Bool, true, false, List, ◌++◌, ◌∙◌, ap, arith, append_assoc}
 use Rattle.dspec_session.specs.Words.{SlotState, offers, calls, SettledBehind, SettledSlots, with_seal}
 use Rattle.dspec_deeds.specs.declared.deed.Deed.{Deed}
 use Rattle.dspec_table.specs.declared.rule.View.{View}
@@ -20,14 +20,10 @@ one_slot false c slot shown v w ds q b = as_is c (ds ++ q) q (ap (λ l. l ++ q) 
 one_slot true c slot shown v w ds q (doing, op, is, settled) =
     both c (ds ++ q) _ q (as_is c (ds ++ q) _ (ap (λ l. l ++ q) is)) (record { offered = omega arith; called = omega arith })
 
-joined : (xs ys zs : List Deed) → (xs ++ ys) ++ zs ≡ xs ++ (ys ++ zs)
-joined [] ys zs = λ i. ys ++ zs
-joined (x ∷ xs) ys zs = ap (λ l. x ∷ l) (joined xs ys zs)
-
 all_slots : (n c : ℕ) (v w : View) (ds q : List Deed) → SettledSlots c v n ds w → ReadsAs c (ds ++ q) q
 all_slots zero c v w ds q s = as_is c (ds ++ q) q (ap (λ l. l ++ q) s.0)
 all_slots (suc n) c v w ds q (before, u, hit, here, slots, slot, is) =
-    both c (ds ++ q) _ q (as_is c (ds ++ q) _ (ap (λ l. l ++ q) is ∙ joined here before q))
+    both c (ds ++ q) _ q (as_is c (ds ++ q) _ (ap (λ l. l ++ q) is ∙ append_assoc here before q))
     (both c (here ++ (before ++ q)) (before ++ q) q (one_slot hit c (suc n) slot.shown slot.loaded w here (before ++ q) slot.behind) (all_slots n c v u before q slots))
 
 seal_reads : (sealed : Bool) (c : ℕ) (p : List Deed) → ReadsAs c (with_seal sealed c p) p

@@ -1,6 +1,6 @@
 -- Calls of one CPU, one behind the other.
 use Rattle.std.proofs.Common.{◌≡◌, ℕ, ◌+◌, ◌*◌, true, ◌∙◌, ap, refl, subst, arith}
-use Rattle.dspec_session.specs.Words.{EnabledRows, offers, Identity, Called, IsBack, Offers, WorkerServed, Worked}
+use Rattle.dspec_session.specs.Words.{EnabledRows, offers, CpuIdentity, Called, IsBack, Offers, WorkerServed, Worked}
 use Rattle.dspec_cpu.specs.declared.cpu.Cpu.{Cpu}
 
 back_again : (x y z : Cpu EnabledRows) → IsBack x y → IsBack y z → IsBack x z
@@ -10,7 +10,7 @@ offers_more : (m n : ℕ) (x y z : Cpu EnabledRows) → IsBack x y → Offers m 
 offers_more m n x y z back a b p had =
     let (q, has, count) = a p had in
     let (r, now, more) = b q has in
-    let number : y.cpu ≡ x.cpu = ap (λ (i : Identity EnabledRows). i.number) back.same in
+    let number : y.cpu ≡ x.cpu = ap (λ (i : CpuIdentity EnabledRows). i.number) back.same in
     let same : offers x.cpu r ≡ offers x.cpu q + n = subst (λ c. offers c r ≡ offers c q + n) number more in
     (r, now, omega arith)
 

@@ -1,5 +1,7 @@
 -- What a clean's loads and exchanges leave its seat.
 use Rattle.std.proofs.Common.{true≢false, ◌≡◌, ℕ, zero, suc, ◌+◌, ◌*◌, ◌<◌, ◌≤◌, ◌==◌, Bool, true, false, if◌then◌else◌, List, [], ◌∷◌, ◌++◌, length, map, refl, sym, ap, ◌∙◌, subst, arith}
+use Rattle.std.proofs.Common.{append_assoc}
+use Rattle.std.proofs.lemmas.List.{map-append}
 use Rattle.std.specs.Prelude.{Result, Ok, Err, MatchResult, IsOk, is_ok}
 use Rattle.dspec_session_core.specs.Words.{SlotState, awaits, word_at, ack, of_consumer, Since, MayReap, acted, LookedWord, LoadedAck, ReapedWord, Acknowledged, MissesOne, CleanedSlot}
 use Rattle.dspec_session_core.specs.Words.{waits_for_none, waits_for_one, released, CleanedSlots, Cleaned}
@@ -109,21 +111,21 @@ pub record Done (most : ℕ) (slots : List ℕ) (v w : View) : Type 0 where
 idled_done : (n most : ℕ) (v w : View) → n ≤ most → Idled n v w → Done most [] v w
 idled_done n most v w le i = record { who = i.who; config = i.config; own = i.own; asks = i.asks; steps = let e = i.steps in omega arith }
 
+-- steps behind steps
+done_on : {m n : ℕ} {ss ts : List ℕ} (most : ℕ) (v u w : View) → m + n ≤ most → Done m ss v u → Done n ts u w → Done most (ts ++ ss) v w
+done_on {ss = ss} {ts = ts} most v u w le a b = record {
+  who = b.who ∙ a.who;
+  config = b.config ∙ a.config;
+  own = b.own ∙ (ap (λ l. map Release ts ++ l) a.own ∙ (sym (append_assoc (map Release ts) (map Release ss) v.own) ∙ ap (λ l. l ++ v.own) (sym (map-append Release ts ss))));
+  asks = b.asks ∙ a.asks;
+  steps = let f = a.steps in let g = b.steps in omega arith;
+}
+
 missed_done : (k : Config) (slot : ℕ) (v u w : View) (shown : SlotState) → LookedWord slot v shown u → MissesOne k slot shown.issue u w → Done (k.cpus + 2) [] v w
 missed_done k slot v u w shown step m =
-    let one = idled_load slot v u shown step in
-    let c = m.0 in
-    let x = m.2 in
-    let acks = idled_acks slot shown.issue c u x m.4 in
-    let last = m.5 in
-    let now = idled_more c u x w last.0 acks last.3 in
-    record {
-      who = now.who ∙ one.who;
-      config = now.config ∙ one.config;
-      own = now.own ∙ one.own;
-      asks = now.asks ∙ one.asks;
-      steps = let a = now.steps in let b = one.steps in let lt = m.3 in omega arith;
-    }
+    let lt = m.3 in
+    let now = idled_more m.0 u m.2 w m.5.0 (idled_acks slot shown.issue m.0 u m.2 m.4) m.5.3 in
+    done_on (k.cpus + 2) v u w (omega arith) (idled_done 1 1 v u (omega arith) (idled_load slot v u shown step)) (idled_done (suc m.0) (k.cpus + 1) u w (omega arith) now)
 
 reaped_done : (k : Config) (slot : ℕ) (v u x w : View) (shown : SlotState) → LookedWord slot v shown u → Acknowledged slot shown.issue u k.cpus x
     → ReapedWord slot x shown true w → Done (k.cpus + 2) (slot ∷ []) v w
@@ -150,40 +152,17 @@ slots_done k v zero slots w h =
     subst (λ ss. Done (0 * (k.cpus + 2)) ss v w × (length ss ≤ 0)) (sym h.0)
     (subst (λ (x : View). Done (0 * (k.cpus + 2)) [] v x × (0 ≤ 0)) h.1 (idled_done 0 (0 * (k.cpus + 2)) v v (omega arith) (idled_none v), omega arith))
 slots_done k v (suc n) slots w h =
-    let before = h.0 in
-    let u = h.1 in
-    let was = slots_done k v n before u h.3 in
-    let now = slot_done k (suc n) u w h.2 h.4 in
-    subst (λ ss. Done (suc n * (k.cpus + 2)) ss v w × (length ss ≤ suc n)) (sym h.5) (go h.2 u before was now)
+    let was = slots_done k v n h.0 h.1 h.3 in
+    let m : ℕ = k.cpus + 2 in
+    let p : ℕ = n * m in
+    let e : suc n * m ≡ p + m = omega arith in
+    subst (λ ss. Done (suc n * m) ss v w × (length ss ≤ suc n)) (sym h.5)
+    (go h.2 h.0 (done_on (suc n * m) v h.1 w (omega arith) was.0 (slot_done k (suc n) h.1 w h.2 h.4)) was.1)
   where
-    go : (hit : Bool) (u : View) (before : List ℕ) → Done (n * (k.cpus + 2)) before v u × (length before ≤ n) → Done (k.cpus + 2) (if hit then suc n ∷ [] else []) u w
-        → Done (suc n * (k.cpus + 2)) (if hit then suc n ∷ before else before) v w × (length (if hit then suc n ∷ before else before) ≤ suc n)
-    go true u before was now = (
-      record {
-        who = now.who ∙ was.0.who;
-        config = now.config ∙ was.0.config;
-        own = now.own ∙ ap (λ l. Release (suc n) ∷ l) was.0.own;
-        asks = now.asks ∙ was.0.asks;
-        steps = more (k.cpus + 2) u now.steps was.0.steps;
-      },
-      (let l = was.1 in omega arith),
-    )
-      where
-        more : (m : ℕ) (u : View) → w.steps ≤ u.steps + m → u.steps ≤ v.steps + n * m → w.steps ≤ v.steps + suc n * m
-        more m u a b = let p : ℕ = n * m in let e : suc n * m ≡ p + m = omega arith in omega arith
-    go false u before was now = (
-      record {
-        who = now.who ∙ was.0.who;
-        config = now.config ∙ was.0.config;
-        own = now.own ∙ was.0.own;
-        asks = now.asks ∙ was.0.asks;
-        steps = more (k.cpus + 2) u now.steps was.0.steps;
-      },
-      (let l = was.1 in omega arith),
-    )
-      where
-        more : (m : ℕ) (u : View) → w.steps ≤ u.steps + m → u.steps ≤ v.steps + n * m → w.steps ≤ v.steps + suc n * m
-        more m u a b = let p : ℕ = n * m in let e : suc n * m ≡ p + m = omega arith in omega arith
+    go : (hit : Bool) (before : List ℕ) {m : ℕ} → Done m ((if hit then suc n ∷ [] else []) ++ before) v w → length before ≤ n
+        → Done m (if hit then suc n ∷ before else before) v w × (length (if hit then suc n ∷ before else before) ≤ suc n)
+    go true before done le = (done, omega arith)
+    go false before done le = (done, omega arith)
 
 -- a whole clean
 pub all_cleaned : (v : View) (k : Config) (count : ℕ) (slots : List ℕ) (w : View) → v.config ≡ k → count ≡ length slots → CleanedSlots k v k.nspec slots w → Cleaned count v w

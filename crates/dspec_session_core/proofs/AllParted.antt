@@ -22,9 +22,8 @@ module _ {S : Type 0} (shape_of : S → ℕ → Option Shape) (accepted : S → 
   pub parted_more : (cpus : List (Cpu S)) (xs : List Parted) (cpu : Cpu S) (x : Parted) → AllParted shape_of accepted text cpus xs → HasParted shape_of accepted text cpu x
       → AllParted shape_of accepted text (cpus ++ cpu ∷ []) (xs ++ x ∷ [])
   parted_more [] [] cpu x all one = (one, tt)
-  parted_more [] (y ∷ ys) cpu x all one = absurd all
-  parted_more (c ∷ cs) [] cpu x all one = absurd all
   parted_more (c ∷ cs) (y ∷ ys) cpu x all one = (all.0, parted_more cs ys cpu x all.1 one)
+  parted_more cpus xs cpu x all one = absurd all
 
   -- the last of them
   pub record LastParted (cpus : List (Cpu S)) (xs : List Parted) (x : Parted) : Type 0 where
@@ -36,9 +35,9 @@ module _ {S : Type 0} (shape_of : S → ℕ → Option Shape) (accepted : S → 
 
   pub last_parted : (cpus : List (Cpu S)) (xs : List Parted) (x : Parted) → AllParted shape_of accepted text cpus (xs ++ x ∷ []) → LastParted cpus xs x
   last_parted [] [] x all = absurd all
+  last_parted [] (y ∷ ys) x all = absurd all
   last_parted (c ∷ []) [] x all = record { before = []; cpu = c; split = refl; others = tt; has = all.0 }
   last_parted (c ∷ d ∷ cs) [] x all = absurd all.1
-  last_parted [] (y ∷ ys) x all = absurd all
   last_parted (c ∷ cs) (y ∷ ys) x all =
       let rest = last_parted cs ys x all.1 in
       record { before = c ∷ rest.before; cpu = rest.cpu; split = ap (λ zs. c ∷ zs) rest.split; others = (all.0, rest.others); has = rest.has }
@@ -46,9 +45,8 @@ module _ {S : Type 0} (shape_of : S → ℕ → Option Shape) (accepted : S → 
   -- there are as many
   pub as_many : (cpus : List (Cpu S)) (xs : List Parted) → AllParted shape_of accepted text cpus xs → length xs ≡ length cpus
   as_many [] [] all = refl
-  as_many [] (y ∷ ys) all = absurd all
-  as_many (c ∷ cs) [] all = absurd all
   as_many (c ∷ cs) (y ∷ ys) all = let more = as_many cs ys all.1 in omega arith
+  as_many cpus xs all = absurd all
 
   pub none_parted_yet : (cpus : List (Cpu S)) (xs : List Parted) → AllParted shape_of accepted text cpus xs → xs ≡ [] → cpus ≡ []
   none_parted_yet [] xs all none = refl
@@ -70,11 +68,10 @@ module _ {S : Type 0} (shape_of : S → ℕ → Option Shape) (accepted : S → 
         → AreParting shape_of accepted text schema words p seats (before ++ after) (es ++ fs)
         → AreParting shape_of accepted text schema words p (seats ++ map (λ (x : Cpu S). seat_of x) before) after fs
     behind [] after [] fs seats n are = subst (λ ss. AreParting shape_of accepted text schema words p ss after fs) (sym (append-nil seats)) are
-    behind [] after (e ∷ es) fs seats n are = absurd (omega arith)
-    behind (c ∷ cs) after [] fs seats n are = absurd (omega arith)
     behind (c ∷ cs) after (e ∷ es) fs seats n are =
         subst (λ ss. AreParting shape_of accepted text schema words p ss after fs) (append_assoc seats (seat_of c ∷ []) (map (λ (x : Cpu S). seat_of x) cs))
         (behind cs after es fs (seats ++ seat_of c ∷ []) (omega arith) (one_parted shape_of accepted text schema words p seats c (cs ++ after) e (es ++ fs) are))
+    behind before after es fs seats n are = absurd (omega arith)
 
     -- all have parted
     pub all_seats : (seats new : List CpuSeat) (cpus : List (Cpu S)) (ends : List ConsumerKnows) → AreParting shape_of accepted text schema words p seats cpus ends

@@ -1,5 +1,5 @@
 -- A session stays one where a CPU of it is called, or its consumer, or where both meet.
-use Rattle.std.proofs.Common.{◌≡◌, ℕ, zero, suc, ◌<◌, ◌⊎◌, inl, inr, ⊎_elim, List, [], ◌∷◌, length, length-set, refl, sym, ap, ◌∙◌, subst}
+use Rattle.std.proofs.Common.{◌≡◌, ℕ, zero, suc, ◌<◌, ◌⊎◌, inl, inr, ⊎_elim, List, ◌∷◌, length, length-set, refl, sym, ap, ◌∙◌, subst}
 use Rattle.std.specs.Prelude.{Some, slice_get, slice_set, slice_index_or}
 use Rattle.std.proofs.lemmas.Option.{slice_get_read}
 use Rattle.dspec_session_core.specs.Words.{start_fault, set_up, words_of, identity, Session, IsConsumerOf, IsSameConsumer, pairs_of, IsCpuOf, IsSession}
@@ -8,11 +8,9 @@ use Rattle.dspec_cpu.specs.declared.shared.Shared.{Shared}
 
 -- what stands in a list in which one element was set
 set_there : {A : Type 0} (xs : List A) (i j : ℕ) (y x : A) → slice_get (slice_set xs i y) j ≡ Some x → ((j ≡ i) × (y ≡ x)) ⊎ (slice_get xs j ≡ Some x)
-set_there [] i j y x e = inr e
 set_there (z ∷ xs) zero zero y x e = inl (refl, cc (e))
-set_there (z ∷ xs) zero (suc j) y x e = inr e
-set_there (z ∷ xs) (suc i) zero y x e = inr e
 set_there (z ∷ xs) (suc i) (suc j) y x e = ⊎_elim (λ h. inl (ap suc h.0, h.1)) (λ h. inr h) (set_there xs i j y x e)
+set_there xs i j y x e = inr e
 
 module _ {S : Type 0} (schema : S) where
   -- the CPU at a place of a session

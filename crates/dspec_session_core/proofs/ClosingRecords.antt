@@ -61,23 +61,20 @@ module _ (shape : ℕ → Option Shape) (accepted : Record → Bool) (text : Rec
   -- one by one
   abbrev Match : List Batch → List Sealing → Type 0
   Match [] [] = Unit {0}
-  Match [] (s ∷ ss) = ⊥
-  Match (b ∷ bs) [] = ⊥
   Match (b ∷ bs) (s ∷ ss) = Fills b s × Match bs ss
+  Match x y = ⊥
 
   match_both : (bs cs : List Batch) (ss ts : List Sealing) → Match bs ss → Match cs ts → Match (bs ++ cs) (ss ++ ts)
   match_both [] cs [] ts m n = n
-  match_both [] cs (s ∷ ss) ts m n = absurd m
-  match_both (b ∷ bs) cs [] ts m n = absurd m
   match_both (b ∷ bs) cs (s ∷ ss) ts m n = (m.0, match_both bs cs ss ts m.1 n)
+  match_both bs cs ss ts m n = absurd m
 
   match_reverse : (bs : List Batch) (ss : List Sealing) → Match bs ss → Match (reverse bs) (reverse ss)
   match_reverse [] [] m = tt
-  match_reverse [] (s ∷ ss) m = absurd m
-  match_reverse (b ∷ bs) [] m = absurd m
   match_reverse (b ∷ bs) (s ∷ ss) m =
       subst₂ Match (sym (reverse-append (b ∷ []) bs)) (sym (reverse-append (s ∷ []) ss))
       (match_both (reverse bs) (b ∷ []) (reverse ss) (s ∷ []) (match_reverse bs ss m.1) (m.0, tt))
+  match_reverse bs ss m = absurd m
 
   match_first : (bs cs : List Batch) (ss : List Sealing) → Match (bs ++ cs) ss → Match bs (take (length bs) ss)
   match_first [] cs ss m = tt
@@ -86,8 +83,6 @@ module _ (shape : ℕ → Option Shape) (accepted : Record → Bool) (text : Rec
 
   match_hold : (bs : List Batch) (ss : List Sealing) → Match bs ss → HoldInOrder shape accepted text bs (batch_records ss)
   match_hold [] [] m = refl
-  match_hold [] (s ∷ ss) m = absurd m
-  match_hold (b ∷ bs) [] m = absurd m
   match_hold (b ∷ bs) (s ∷ ss) m = (
     m.0.pieces,
     batch_records ss,
@@ -95,6 +90,7 @@ module _ (shape : ℕ → Option Shape) (accepted : Record → Bool) (text : Rec
     ap (λ rs. reverse rs ++ batch_records ss) (sym m.0.same),
     match_hold bs ss m.1,
   )
+  match_hold bs ss m = absurd m
 
   module _ (k : Config) (c : ℕ) where
     -- what the active buffer was then

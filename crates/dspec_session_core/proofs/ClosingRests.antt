@@ -22,8 +22,7 @@ rest_told : (x : Option Batch) (taken drained : List Batch) → length (waiting 
     → reverse (taken ++ waiting (rest_of x drained)) ≡ waiting x ++ reverse (taken ++ drained)
 rest_told x taken [] le = held_back_last taken x ∙ ap (λ bs. waiting x ++ reverse bs) (sym (append-nil taken))
 rest_told None taken (b ∷ []) le = refl
-rest_told (Some a) taken (b ∷ []) le = absurd (omega arith)
-rest_told x taken (b ∷ d ∷ drained) le = absurd (omega arith)
+rest_told x taken drained le = absurd (omega arith)
 
 -- The batches sealed and the spare in hand are one more, at most, than the spares that came, and these no more than were given
 -- back, thus than were taken.

@@ -1,5 +1,5 @@
 -- The end of a session, from what is left of its CPUs.
-use Rattle.std.proofs.Common.{◌≡◌, ℕ, zero, suc, ◌+◌, ◌<◌, List, [], ◌∷◌, ◌++◌, length, map, reverse, Option, Some, None, refl, sym, ap, ◌∙◌, subst, arith}
+use Rattle.std.proofs.Common.{◌≡◌, ℕ, ◌+◌, ◌<◌, List, [], ◌++◌, length, map, reverse, Option, Some, None, refl, sym, ap, ◌∙◌, subst, arith}
 use Rattle.std.specs.Prelude.{Bool, slice_get}
 use Rattle.std.specs.Option.{option_map_or}
 use Rattle.std.proofs.lemmas.List.{length-reverse}
@@ -15,13 +15,8 @@ use Rattle.dspec_table.specs.declared.seats.Words.{Words}
 use Rattle.dspec_cpu.specs.declared.cpu.Cpu.{Cpu}
 use Rattle.dspec_session_core.specs.Leaving.{Has}
 use Rattle.dspec_session_core.proofs.ClosingLists.{closes_as}
+use Rattle.dspec_session_core.proofs.PromisedBy.{there_is}
 use Rattle.dspec_session_core.proofs.Partings.{all_at_rest, seats_all, closings}
-
--- what stands at a place below the length
-pub some_there : {A : Type 0} (xs : List A) (i : ℕ) → i < length xs → (x : A) × (slice_get xs i ≡ Some x)
-some_there [] i lt = absurd (omega arith)
-some_there (x ∷ xs) zero lt = (x, refl)
-some_there (x ∷ xs) (suc i) lt = some_there xs i (omega arith)
 
 module _ {S : Type 0} (shape_of : S → ℕ → Option Shape) (accepted : S → Record → Bool) (text : S → Record → List ℕ) where
   -- one list of each CPU
@@ -78,8 +73,8 @@ module _ {S : Type 0} (shape_of : S → ℕ → Option Shape) (accepted : S → 
             rests = all_at_rest shape_of accepted text schema (words_of session.shared) p [] cpus ends parting;
             shows = λ c l there.
                 let lt : c < k.cpus = subst (λ n. c < n) count (slice_get_within left c l there) in
-                let cpu = some_there cpus c (subst (λ n. c < n) (sym is.all) lt) in
-                let end = some_there ends c (subst (λ n. c < n) (sym all) lt) in
+                let cpu = there_is cpus c (subst (λ n. c < n) (sym is.all) lt) in
+                let end = there_is ends c (subst (λ n. c < n) (sym all) lt) in
                 let z : 0 + c ≡ c = omega arith in
                 let one = (is.each c cpu.0 cpu.1).one in
                 let closing : IsClosing (shape_of schema) k last c (p c) ended.log found.0 = subst (λ n. IsClosing (shape_of schema) k last n (p n) ended.log found.0) z (found.1 c cpu.0 cpu.1) in

@@ -1,5 +1,5 @@
 -- One CPU parts from its seat, before those behind it.
-use Rattle.std.proofs.Common.{◌≡◌, ℕ, ◌+◌, ◌<◌, ◌≤◌, List, [], ◌∷◌, ◌++◌, length, map, reverse, Option, Some, None, refl, sym, ap, ◌∙◌, subst, append_assoc, if◌then◌else◌, arith}
+use Rattle.std.proofs.Common.{◌≡◌, ℕ, ◌+◌, ◌<◌, ◌≤◌, List, [], ◌∷◌, ◌++◌, length, map, reverse, Option, Some, None, refl, sym, ap, ◌∙◌, subst, if◌then◌else◌, arith}
 use Rattle.std.specs.Prelude.{Bool, Result, Ok, is_ok, slice_get}
 use Rattle.std.proofs.lemmas.List.{length-append}
 use Rattle.dspec_session_core.specs.Words.{Record, start_fault, Ended, last_set_up, set_up, CpuKnows, ConsumerKnows, config_of, end_of, number_in, seat_of, worn_of, AreItsWords, RestHasList}
@@ -15,7 +15,7 @@ use Rattle.dspec_cpu.specs.declared.cpu.Cpu.{Cpu}
 use Rattle.dspec_cpu.specs.declared.rest.CpuRest.{CpuRest}
 use Rattle.dspec_session_core.specs.Leaving.{Has}
 use Rattle.dspec_session_core.proofs.Leavings.{closing_same, leaves_same}
-use Rattle.dspec_session_core.proofs.Partings.{closings, one_parted, one_left_more}
+use Rattle.dspec_session_core.proofs.Partings.{closings, one_left_more}
 
 -- what a push that was unwrapped left
 pub pushed_is : {A T E : Type 0} (r : Result T E) (u : T) (new more old : A) → r ≡ Ok u → new ≡ (if is_ok r then more else old) → new ≡ more
@@ -33,9 +33,6 @@ module _ {S : Type 0} (shape_of : S → ℕ → Option Shape) (accepted : S → 
   split =
       subst (λ xs. AreParting shape_of accepted text schema words p seats xs (other ∷ others)) (sym cpus_are)
       (subst (λ es. AreParting shape_of accepted text schema words p seats cpus es) (sym ends_are) are)
-
-  pub next_parting : (new : List CpuSeat) → new ≡ seats ++ seat_of cpu ∷ [] → AreParting shape_of accepted text schema words p new rest others
-  next_parting new is = subst (λ ss. AreParting shape_of accepted text schema words p ss rest others) (sym is) (one_parted shape_of accepted text schema words p seats cpu rest other others split)
 
   pub next_pair : other.pair ≡ (end_of cpu).pair
   next_pair = let it = (split.each 0 cpu refl).0.pair in cc (it)
@@ -66,12 +63,6 @@ module _ {S : Type 0} (shape_of : S → ℕ → Option Shape) (accepted : S → 
       let number : x.cpu ≡ length seats = is.number ∙ next_number in
       let lt : length seats < (set_up words).cpus = let a = split.all in omega arith in
       record { set_up = same ∙ sym config; one = subst (λ (k : Config). x.cpu < k.cpus) (sym config) (subst (λ n. n < (set_up words).cpus) (sym number) lt) }
-
-  -- the seats of all, before and behind
-  pub same_seats : (new : List CpuSeat) → new ≡ seats ++ seat_of cpu ∷ [] → new ++ map (λ (x : Cpu S). seat_of x) rest ≡ seats ++ map (λ (x : Cpu S). seat_of x) cpus
-  same_seats new is =
-      ap (λ ss. ss ++ map (λ (x : Cpu S). seat_of x) rest) is
-      ∙ (append_assoc seats (seat_of cpu ∷ []) (map (λ (x : Cpu S). seat_of x) rest) ∙ ap (λ xs. seats ++ map (λ (x : Cpu S). seat_of x) xs) cpus_are)
 
   -- what the close knows of the CPU's list
   pub next_closing : (last : List ℕ) (consumer : View) (e : Ended (set_up words) last (seats ++ map (λ (x : Cpu S). seat_of x) cpus) consumer) (end : CpuKnows) (x : CpuRest S) → IsRestOf cpu end x

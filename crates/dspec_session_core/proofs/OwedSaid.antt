@@ -4,7 +4,7 @@ use Rattle.std.specs.Prelude.{is_none, nat_le}
 use Rattle.dspec_record.specs.declared.field.Shape.{Shape}
 use Rattle.dspec_word.specs.declared.act.Act.TheVariants.{Granted, Idle}
 use Rattle.dspec_word.specs.declared.code.Code.TheVariants.{Inactive, Committing, CommittingMany}
-use Rattle.dspec_session_core.specs.Words.{awaits, Speculation, settle_at, CanClose, is_granted, closed_slot, closed_slots, closed_cpus, closing, Verdict, undecided, committed, discarded, verdict}
+use Rattle.dspec_session_core.specs.Words.{awaits, Speculation, settle_at, CanClose, is_granted, closed_slot, closed_slots, closed_cpus, closing, Ruling, undecided, committed, discarded, verdict}
 use Rattle.dspec_session_core.specs.Words.{is_undecided, callers, is_busy, is_sole_or_none, standing, issue, present, owed, settled, solo, word_at, ack, IsSound, start_fault, settle_fate}
 use Rattle.dspec_session_core.specs.Words.{owes_settlement, owed_fate, owed_more, owed_in, owed_up, settle_deeds}
 use Rattle.dspec_deeds.specs.declared.config.Config.{Config}
@@ -42,7 +42,7 @@ module _ (shape : ℕ → Option Shape) (k : Config) where
       by a true = refl
       by a false = refl
 
-      go : (v : Verdict) (cs : List ℕ) → is_undecided v ≡ false → settle_fate shape k c h (present s h) (standing v cs) ≡ owed_fate shape k c (present s h) h v
+      go : (v : Ruling) (cs : List ℕ) → is_undecided v ≡ false → settle_fate shape k c h (present s h) (standing v cs) ≡ owed_fate shape k c (present s h) h v
       go undecided cs r = absurd (true≢false r)
       go (committed a) cs r = by a (is_sole_or_none a cs)
       go (discarded a) cs r = refl

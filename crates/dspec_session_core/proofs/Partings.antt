@@ -1,8 +1,8 @@
 -- The CPUs part from their seats, one by one, and say what is left once all seats are back.
 use Rattle.std.proofs.Common.{◌≡◌, ℕ, zero, suc, ◌+◌, ◌<◌, ◌⊎◌, inl, inr, ⊎_elim, List, [], ◌∷◌, ◌++◌, length, map, reverse, Option, Some, None, refl, sym, ap, ◌∙◌, subst, arith}
-use Rattle.std.specs.Prelude.{Bool, slice_get}
+use Rattle.std.specs.Prelude.{Bool, option_map, slice_get}
 use Rattle.std.proofs.lemmas.List.{length-append, length-map, reverse-append}
-use Rattle.std.proofs.lemmas.Option.{slice_get_within}
+use Rattle.std.proofs.lemmas.Option.{slice_get_within, slice_get-map}
 use Rattle.dspec_session_core.specs.Words.{Record, scan, IsOwn, start_fault, AreSeats, Ended, known, set_up, ConsumerKnows, seat_of, config_of, number_in, schema_of, identity, Left, IsAtRest}
 use Rattle.dspec_session_core.specs.Words.{IsClosing, IsParted, Steady, IsLeft, AreLeft, AreParting, IsCpuOf}
 use Rattle.dspec_record.specs.declared.field.Shape.{Shape}
@@ -35,9 +35,7 @@ mapped_there f (x ∷ xs) zero y e = (x, refl, cc (e))
 mapped_there f (x ∷ xs) (suc i) y e = mapped_there f xs i y e
 
 pub map_there : {A B : Type 0} (f : A → B) (xs : List A) (i : ℕ) (x : A) → slice_get xs i ≡ Some x → slice_get (map f xs) i ≡ Some (f x)
-map_there f [] i x e = absurd (cc (e))
-map_there f (y ∷ xs) zero x e = let is : y ≡ x = cc (e) in ap (λ z. Some (f z)) is
-map_there f (y ∷ xs) (suc i) x e = map_there f xs i x e
+map_there f xs i x e = slice_get-map f xs i ∙ ap (option_map f) e
 
 module _ {S : Type 0} (shape_of : S → ℕ → Option Shape) (accepted : S → Record → Bool) (text : S → Record → List ℕ) where
   -- a CPU no call of which is under way parts at rest

@@ -1,4 +1,4 @@
--- Believed. What the close of a session promises.
+-- Cited by calls. What the close of a session promises.
 use Rattle.std.specs.Prelude.{ℕ, ◌≡◌, ◌<◌, Bool, false, List, [], ◌∷◌, ◌++◌, length, reverse, slice_get, Option, Some, None}
 use Rattle.dspec_session_core.specs.Words.Outside.{Record, Piece, records, HasPieces, Speculation, part, scan, verdict, is_undecided, word_at, CanClose, WaitsUndecided, closing, Headline, IsLegal}
 use Rattle.dspec_session_core.specs.Words.Outside.{HasAuthors, held, stream, accepted_first, IsOwn, start_fault, report, bare, own_closed, Ended, known, IsSealed, AreSealed, waiting}

@@ -1,7 +1,7 @@
 -- Cited by calls. What each CPU owes where a session is closed, by decisions and settlements.
 use Rattle.std.specs.Prelude.{ℕ, zero, suc, not, ◌&&◌, Bool, List, [], ◌∷◌, ◌++◌, length, Option, is_none, if◌then◌else◌}
 use Rattle.dspec_record.specs.declared.field.Shape.{Shape}
-use Rattle.dspec_session_core.specs.Words.Outside.{block, Speculation, Verdict, discarded, verdict, present, is_busy, solo, settled, contents, held, fits_principal}
+use Rattle.dspec_session_core.specs.Words.Outside.{block, Speculation, Ruling, discarded, verdict, present, is_busy, solo, settled, contents, held, fits_principal}
 use Rattle.dspec_deeds.specs.declared.config.Config.{Config}
 use Rattle.dspec_deeds.specs.declared.deed.DecideFate.{DecideFate}
 use Rattle.dspec_deeds.specs.declared.deed.DecideFate.TheVariants as decide
@@ -14,7 +14,7 @@ owes_settlement c s h = (is_busy s h && is_none (solo (present s h) h)) && not (
 
 module _ (shape : ℕ → Option Shape) (k : Config) where
   -- what becomes of its buffer: behind a discard it is thrown away; behind a commit it is copied where its block fits, else lost
-  abbrev pub owed_fate : ℕ → Speculation → List Deed → Verdict → DecideFate
+  abbrev pub owed_fate : ℕ → Speculation → List Deed → Ruling → DecideFate
   owed_fate c id h (discarded a) = decide.Thrown (length (held c id h))
   owed_fate c id h v =
       if fits_principal shape k c (block (contents (held c id h))) h then decide.Copied (length (held c id h))

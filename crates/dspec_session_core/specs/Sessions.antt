@@ -2,7 +2,7 @@
 use Rattle.std.specs.Prelude.{ℕ, ◌≡◌, List, [], length, Option, Some, None, IsSome, slice_get}
 use Rattle.std.specs.Option.{option_map_or}
 use Rattle.dspec_session_core.specs.Words.Outside.{EnabledRows, enabled, table_shape, table_accepts, table_text, start_fault, Pair, ConsumerKnows, IsUnusedCpu, set_up, HasList, end_of, spare_of}
-use Rattle.dspec_session_core.specs.Words.Outside.{words_of, worn_of, Belongs, Identity, identity}
+use Rattle.dspec_session_core.specs.Words.Outside.{words_of, worn_of, Belongs, CpuIdentity, identity}
 use Rattle.dspec_ring.specs.declared.batch.Batch.{Batch}
 use Rattle.dspec_deeds.specs.declared.deed.Deed.{Deed}
 use Rattle.dspec_table.specs.declared.seats.Words.{Words}
@@ -12,7 +12,7 @@ use Rattle.dspec_session_core.specs.declared.session.Session.{Session}
 
 -- Such a CPU has this number in the session: it belongs to the words, its schema is the one of all, and its rings are the pair
 -- whose other end the consumer has there.
-pub record IsCpuOf {S : Type 0} (schema : S) (words : Words) (c : ℕ) (there : Option Pair) (i : Identity S) : Type 0 where
+pub record IsCpuOf {S : Type 0} (schema : S) (words : Words) (c : ℕ) (there : Option Pair) (i : CpuIdentity S) : Type 0 where
   pub belongs : Belongs words i
   pub number : i.number ≡ c
   pub one : i.schema ≡ schema

@@ -1,14 +1,14 @@
 -- The load of activity.
-use Rattle.std.proofs.Common.{◌≡◌, ℕ, ◌≤◌, Bool, true, false, ◌==◌, not, if◌then◌else◌, List, [], ◌++◌, Some, refl, sym, ap, ◌∙◌, subst, ⊎_elim, arith}
+use Rattle.std.proofs.Common.{◌≡◌, ℕ, ◌≤◌, Bool, true, false, ◌==◌, not, if◌then◌else◌, List, [], ◌++◌, Some, refl, sym, ap, ◌∙◌, subst, arith}
 use Rattle.std.specs.Prelude.{slice_index}
 use Rattle.std.proofs.lemmas.Bool.Decides.{nat_tests}
 use Rattle.atomic_table.specs.Table.{keeps, Allows, Me}
-use Rattle.dspec_table.specs.Words.{Speculation, CpuStep, Holder, of_cpu, halted, late, scan, owed, is_open, opened, is_undecided, verdict, in_range, IsSound, View, Doing, WordsRule, activity}
-use Rattle.dspec_table.specs.Words.{activity_place, flight_after, calling, acted, Entered, LoadedActivity, at_activity, number_of}
+use Rattle.dspec_table.specs.Words.{Speculation, CpuStep, Holder, of_cpu, halted, late, scan, owed, is_open, in_range, IsSound, View, Doing, WordsRule, activity, activity_place, flight_after}
+use Rattle.dspec_table.specs.Words.{calling, acted, Entered, LoadedActivity, at_activity, number_of}
 use Rattle.dspec_deeds.specs.declared.config.Config.{Config}
 use Rattle.dspec_deeds.specs.declared.deed.Deed.{Deed}
 use Rattle.dspec_word.specs.declared.code.Code.TheVariants.{Inactive}
-use Rattle.dspec_deeds.proofs.TestLemmas.{either_way, off, and_tells}
+use Rattle.dspec_deeds.proofs.TestLemmas.{off, and_tells}
 use Rattle.dspec_deeds.proofs.SoundLists.{opened_in_range, running_not_late}
 use Rattle.dspec_deeds.specs.declared.calls.CpuOp.{CpuOp}
 use Rattle.dspec_table.proofs.InFlight.{activity_of, service_begins}
@@ -18,16 +18,7 @@ use Rattle.dspec_table.proofs.Keeps.{Owes, none_owed, acts_owed, finds, idle_log
 use Rattle.dspec_deeds.specs.declared.calls.CpuOp.TheVariants as op
 
 not_open : (k : Config) (log : List Deed) (id : Speculation) → 1 ≤ k.nspec → IsSound k log → in_range k id ≡ false → false ≡ is_open id log
-not_open k log id n s out = ⊎_elim
-    (λ (t : is_open id log ≡ true).
-    let given = (and_tells (opened id log) (is_undecided (verdict id log)) t).0 in
-    let r = opened_in_range k log id n s given in
-    let low : 1 ≤ id.slot = r.0 in
-    let high : id.slot ≤ k.nspec = r.1 in
-    let is : in_range k id ≡ true = grind (arith, nat_tests) in
-    off (in_range k id) is out)
-    sym
-    (either_way (is_open id log))
+not_open k log id n s out = grind (arith, nat_tests, and_tells, opened_in_range, off)
 
 module _ (k : Config) (c : ℕ) (log : List Deed) (doing : Doing) (n : 1 ≤ k.nspec) (s : IsSound k log) (rests : owed log ≡ 0) (idle : scan k c log ≡ 0) where
   abbrev Does : List Deed → Type 0
@@ -49,27 +40,15 @@ module _ (k : Config) (c : ℕ) (log : List Deed) (doing : Doing) (n : 1 ≤ k.n
   owes (op.Speculate id r) false e = void id _ _ refl
       (λ early shut. record { adds = (tt, (rests, (idle, (early, shut))), refl); rests = refl; quiet = record { active = refl; slots = λ s. refl; acks = λ a s. refl } }) (sym e)
   owes (op.Commit id) true e = record { adds = (tt, (rests, (idle, refl, sym e)), refl); rests = refl; quiet = record { active = refl; slots = λ s. refl; acks = λ a s. refl } }
-  owes (op.Commit id) false e = void id _ _ refl (λ early shut. record {
-    adds =
-        (tt, (rests, (idle, refl, (early, shut))), refl);
-    rests = refl;
-    quiet = record { active = refl; slots = λ s. refl; acks = λ a s. refl };
-  }) (sym e)
+  owes (op.Commit id) false e = void id _ _ refl
+      (λ early shut. record { adds = (tt, (rests, (idle, refl, (early, shut))), refl); rests = refl; quiet = record { active = refl; slots = λ s. refl; acks = λ a s. refl } }) (sym e)
   owes (op.Discard id) true e = record { adds = (tt, (rests, (idle, refl, sym e)), refl); rests = refl; quiet = record { active = refl; slots = λ s. refl; acks = λ a s. refl } }
-  owes (op.Discard id) false e = void id _ _ refl (λ early shut. record {
-    adds =
-        (tt, (rests, (idle, refl, (early, shut))), refl);
-    rests = refl;
-    quiet = record { active = refl; slots = λ s. refl; acks = λ a s. refl };
-  }) (sym e)
+  owes (op.Discard id) false e = void id _ _ refl
+      (λ early shut. record { adds = (tt, (rests, (idle, refl, (early, shut))), refl); rests = refl; quiet = record { active = refl; slots = λ s. refl; acks = λ a s. refl } }) (sym e)
   owes op.Service b e = subst Does (sym (service_begins k c doing b (λ s. record { issue = 0; code = Inactive }) (λ s from. false))) (none_owed k (of_cpu c) log rests)
 
 stopped_is : (log : List Deed) (m : ℕ) → m ≡ activity log → (m == 1) ≡ halted log
-stopped_is log m e = ap (λ (x : ℕ). x == 1) e ∙ shown (halted log)
-  where
-    shown : (b : Bool) → ((if b then 1 else 0) == 1) ≡ b
-    shown true = refl
-    shown false = refl
+stopped_is log m e = grind (arith, nat_tests)
 
 pub loads_activity : (k : Config) (slots id c : ℕ) (me : Me ℕ View) (doing : Doing) → 1 ≤ k.nspec → me.0.who ≡ of_cpu c → me.0.also ≡ [] → scan k c me.0.own ≡ 0
     → Allows (WordsRule k) slots id me activity_place (λ n. n) (λ n w. LoadedActivity doing me.0 (n == 1) w.0 × (w.1 ≡ me.1))

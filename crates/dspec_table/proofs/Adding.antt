@@ -1,4 +1,5 @@
 -- What deeds that are added to the list of all leave of what each seat has seen.
+use Rattle.std.proofs.lemmas.Bool.Decides.{nat_tests}
 use Rattle.std.proofs.Common.{◌≡◌, ◌≢◌, ℕ, ◌+◌, ◌≤◌, ◌<◌, true, false, if◌then◌else◌, List}
 use Rattle.std.proofs.Common.{[], ◌∷◌, ◌++◌, set, refl, sym, ap, ◌∙◌, subst, ⊎_elim, arith, Option, Some}
 use Rattle.std.specs.Prelude.{slice_set}
@@ -11,8 +12,7 @@ use Rattle.dspec_deeds.specs.declared.calls.CpuOp.{CpuOp}
 use Rattle.dspec_deeds.specs.declared.deed.Deed.{Deed}
 use Rattle.dspec_table.specs.Words.{Holder, of_cpu, of_nobody, doer, part_of, same_holder, owed, IsSound, Follows, HasAuthors, View, Shows, Since, here, more, Past, holdings, times_among, Parts}
 use Rattle.dspec_table.specs.Words.{Each, Remembers, Knows, KnowsAsks, WordsRule, with_asks}
-use Rattle.dspec_deeds.proofs.TestLemmas.{either_way}
-use Rattle.dspec_table.proofs.HolderTests.{same_holder_tells, part_next}
+use Rattle.dspec_table.proofs.HolderTests.{same_holder_tells}
 use Rattle.dspec_table.proofs.Pasts.{each_map}
 use Rattle.dspec_table.proofs.Totals.{total_two, total_set, one_seat, same_seats, of_session}
 
@@ -27,15 +27,11 @@ sound_adds k w log (d ∷ ds) s a = (sound_adds k w log ds s a.0, a.1)
 
 pub part_adds : (k : Config) (w : Holder) (log ds : List Deed) → same_holder w w ≡ true → Adds k w log ds → part_of w (ds ++ log) ≡ ds ++ part_of w log
 part_adds k w log [] me a = refl
-part_adds k w log (d ∷ ds) me a =
-    let mine : same_holder w (doer d (ds ++ log)) ≡ true = subst (λ x. same_holder w x ≡ true) (sym a.2) me in
-    part_next w d (ds ++ log) ∙ rw mine (ap (λ l. d ∷ l) (part_adds k w log ds me a.0))
+part_adds k w log (d ∷ ds) me a = grind (arith, nat_tests, part_adds k w log ds me a.0)
 
 pub part_others : (k : Config) (x w : Holder) (log ds : List Deed) → same_holder x w ≡ false → Adds k w log ds → part_of x (ds ++ log) ≡ part_of x log
 part_others k x w log [] free a = refl
-part_others k x w log (d ∷ ds) free a =
-    let not_mine : same_holder x (doer d (ds ++ log)) ≡ false = subst (λ y. same_holder x y ≡ false) (sym a.2) free in
-    part_next x d (ds ++ log) ∙ rw not_mine (part_others k x w log ds free a.0)
+part_others k x w log (d ∷ ds) free a = grind (arith, nat_tests, part_others k x w log ds free a.0)
 
 pub since_adds : (k : Config) (x w : Holder) (seen log ds : List Deed) → same_holder x w ≡ false → Adds k w log ds → Since x seen log → Since x seen (ds ++ log)
 since_adds k x w seen log [] free a s = s
@@ -55,10 +51,7 @@ same_turned v w e = let p = same_holder_tells v w e in subst (λ x. same_holder 
 
 -- whom the others do not hold is another
 not_held : (w x : Holder) (n : ℕ) → (if same_holder w x then 1 else 0) + n ≡ 0 → same_holder x w ≡ false
-not_held w x n free = ⊎_elim
-    (λ (t : same_holder x w ≡ true). let back = same_turned x w t in absurd (let m : 1 + n ≡ 0 = subst (λ b. (if b then 1 else 0) + n ≡ 0) back free in omega arith))
-    (λ f. f)
-    (either_way (same_holder x w))
+not_held w x n free = grind (arith, nat_tests)
 
 parts_others : (k : Config) (w : Holder) (log ds : List Deed) (ps : List (Holder × List Deed)) → Adds k w log ds → times_among w ps ≡ 0 → Parts log ps → Parts (ds ++ log) ps
 parts_others k w log ds [] a free p = tt

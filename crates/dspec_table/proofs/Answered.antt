@@ -1,4 +1,6 @@
 -- What a call answers, from the number that its exchange found.
+use Rattle.std.proofs.Common.{arith}
+use Rattle.std.proofs.lemmas.Bool.Decides.{nat_tests}
 use Rattle.std.proofs.Common.{◌≡◌, ◌≢◌, ℕ, true, false, ◌==◌, sym, ◌∙◌, subst}
 use Rattle.dspec_table.specs.Words.{SlotState, word_number, View, Doing, TriedNumber, TriedWord, ReapedNumber, ReapedWord}
 use Rattle.dspec_word.proofs.Numbers.{one_word}
@@ -6,9 +8,7 @@ use Rattle.dspec_deeds.proofs.TestLemmas.{number_is_itself, other_number}
 
 pub tried_hit : (doing : Doing) (slot : ℕ) (v w : View) (new n : ℕ) (from : SlotState) → n ≡ word_number from → TriedNumber doing slot v new n (n == word_number from) w
     → TriedWord doing slot v from true w
-tried_hit doing slot v w new n from is t =
-    let hit : (n == word_number from) ≡ true = subst (λ m. (m == word_number from) ≡ true) (sym is) (number_is_itself (word_number from)) in
-    subst (λ (x : SlotState). TriedWord doing slot v x true w) (one_word t.0 from (sym t.1 ∙ is)) (subst (λ b. TriedWord doing slot v t.0 b w) hit t.2)
+tried_hit doing slot v w new n from is t = grind (arith, nat_tests, number_is_itself (word_number from), one_word t.0 from (sym t.1 ∙ is))
 
 pub tried_miss : (doing : Doing) (slot : ℕ) (v w : View) (new n : ℕ) (from got : SlotState) → n ≢ word_number from → word_number got ≡ n
     → TriedNumber doing slot v new n (n == word_number from) w → TriedWord doing slot v got false w
@@ -17,11 +17,7 @@ tried_miss doing slot v w new n from got no_hit is t =
 
 -- an exchange that succeeded has left its word
 pub left_word : (n : ℕ) (from to shown : SlotState) → n ≡ word_number from → ((n == word_number from) ≡ true → word_number to ≡ word_number shown) → shown ≡ to
-left_word n from to shown is left =
-    let hit : (n == word_number from) ≡ true = subst (λ m. (m == word_number from) ≡ true) (sym is) (number_is_itself (word_number from)) in
-    one_word shown to (sym (left hit))
+left_word n from to shown h1 h2 = grind (arith, nat_tests)
 
 pub reaped_hit : (slot : ℕ) (v w : View) (n old : ℕ) (from : SlotState) → n ≡ old → old ≡ word_number from → ReapedNumber slot v n (n == old) w → ReapedWord slot v from true w
-reaped_hit slot v w n old from is at t =
-    let hit : (n == old) ≡ true = subst (λ m. (m == old) ≡ true) (sym is) (number_is_itself old) in
-    subst (λ (x : SlotState). ReapedWord slot v x true w) (one_word t.0 from (sym t.1 ∙ (is ∙ at))) (subst (λ b. ReapedWord slot v t.0 b w) hit t.2)
+reaped_hit slot v w n old from is at t = grind (arith, nat_tests, number_is_itself, one_word)

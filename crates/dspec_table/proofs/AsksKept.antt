@@ -1,5 +1,5 @@
 -- The asks: the consumer stores them, and a CPU loads its own.
-use Rattle.std.proofs.Common.{◌≡◌, ◌≢◌, ℕ, zero, suc, ◌≤◌, ◌<◌, true, false, ◌==◌, List, [], ◌∷◌, length, refl, sym, ap, ◌∙◌, subst, ⊎_elim, arith, true≢false}
+use Rattle.std.proofs.Common.{◌≡◌, ◌≢◌, ℕ, zero, suc, ◌≤◌, ◌<◌, true, List, [], ◌∷◌, length, refl, sym, ap, ◌∙◌, subst, arith, true≢false}
 use Rattle.std.specs.Prelude.{slice_index, slice_set}
 use Rattle.std.proofs.lemmas.List.{get_or-set_same, get_or-set_other}
 use Rattle.std.proofs.lemmas.Bool.Decides.{nat_tests}
@@ -9,11 +9,9 @@ use Rattle.dspec_deeds.specs.declared.config.Config.{Config}
 use Rattle.dspec_deeds.specs.declared.deed.Deed.{Deed}
 use Rattle.dspec_table.specs.Words.{of_cpu, of_consumer, same_holder, View, WordsRule, Least, KnowsAsks, Shows, slot_place, activity_place, ack_place, ask_place, with_asks, with_ask, StoredAskAt}
 use Rattle.dspec_table.specs.Words.{LoadedAsk, number_of}
-use Rattle.dspec_deeds.proofs.TestLemmas.{either_way, same_number}
-use Rattle.dspec_table.proofs.Quiet.{same_words}
 use Rattle.dspec_table.proofs.Pasts.{each_map}
 use Rattle.dspec_table.proofs.Adding.{acts_asking}
-use Rattle.dspec_table.proofs.Keeps.{finds, is_cpu, its_config}
+use Rattle.dspec_table.proofs.Keeps.{same_words, finds, is_cpu, its_config}
 use Rattle.dspec_table.proofs.Places.{before_groups, ask_within, one_ask, no_ask}
 
 pub with_ask_same : (xs : List ℕ) (c n : ℕ) → slice_index (with_ask xs c n) c ≡ n
@@ -34,10 +32,7 @@ with_ask_other (x ∷ xs) (suc c) (suc d) n apart = with_ask_other xs c d n (λ 
 
 -- one CPU's ask, and all others
 at_ask : (P : ℕ → Type 0) (c : ℕ) → P c → ((d : ℕ) → d ≢ c → P d) → (d : ℕ) → P d
-at_ask P c here there d = ⊎_elim
-    (λ (t : (d == c) ≡ true). subst P (sym (same_number d c t)) here)
-    (λ (f : (d == c) ≡ false). let apart : d ≢ c = grind (arith, nat_tests) in there d apart)
-    (either_way (d == c))
+at_ask P c here there d = grind (arith, nat_tests)
 
 -- an ask is no other word
 ask_shows : (k : Config) (words : List ℕ) (c n : ℕ) (log : List Deed) → Shows k words log → Shows k (slice_set words (ask_place k c) n) log

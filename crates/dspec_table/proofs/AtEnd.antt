@@ -1,4 +1,5 @@
 -- All seats are back.
+use Rattle.std.proofs.lemmas.Bool.Decides.{nat_tests}
 use Rattle.std.proofs.Common.{◌≡◌, ◌⊎◌, ◌≤◌, ◌<◌, ◌^◌, arith, ℕ, zero, suc, List, [], ◌∷◌, ◌++◌, length, Some, refl, sym, ap, ◌∙◌, subst, ⊎_elim, inl, inr}
 use Rattle.std.specs.Prelude.{slice_get, slice_index}
 use mathlib.Core.Option.{some, some-injective, some-ne-none}
@@ -106,9 +107,7 @@ module _ (z : TableId) (items left : List CpuSeat) (next : CpuSeat) (popped : it
   taken_rest : {A : Type 0} (f : CpuSeat → A) (all : List CpuSeat) (also more there : List A) → there ≡ also ++ f next ∷ more
       → ((c : ℕ) (s : CpuSeat) → slice_get all c ≡ Some s → (slice_get items c ≡ Some s) ⊎ In (f s) also)
       → (c : ℕ) (s : CpuSeat) → slice_get all c ≡ Some s → (slice_get left c ≡ Some s) ⊎ In (f s) there
-  taken_rest f all also more there is before c s e =
-      subst (λ l. (slice_get left c ≡ Some s) ⊎ In (f s) l) (sym is)
-      (joined_more f all left next also more (λ c s e. subst (λ l. (slice_get l c ≡ Some s) ⊎ In (f s) also) popped (before c s e)) c s e)
+  taken_rest f all also more there is before c s e = grind (arith, nat_tests, joined_more)
 
   pub joined_rest : (all : List CpuSeat) (v w : View) → w.also ≡ v.also ++ holdings (known next)
       → ((c : ℕ) (s : CpuSeat) → slice_get all c ≡ Some s → (slice_get items c ≡ Some s) ⊎ In ((known s).who, (known s).own) v.also)

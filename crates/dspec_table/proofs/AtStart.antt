@@ -9,7 +9,7 @@ use Rattle.atomic_table.specs.Table.{opening}
 use Rattle.dspec_deeds.specs.declared.config.Config.{Config}
 use Rattle.dspec_table.specs.Words.{of_cpu, of_consumer, View, here, times_among, Parts, HaveSeats, Knows, KnowsAsks, WordsRule, cpus_from, newcomer, slot_place, word_count, activity_place}
 use Rattle.dspec_table.specs.Words.{ack_place, ask_place}
-use Rattle.dspec_deeds.proofs.TestLemmas.{either_way, same_number}
+use Rattle.dspec_deeds.proofs.TestLemmas.{either_way, same_number, numbers_differ}
 
 zeros_at : (n i : ℕ) → slice_index (replicate n 0) i ≡ 0
 zeros_at zero i = refl
@@ -27,11 +27,8 @@ cpu_once : (c a n : ℕ) → a ≤ c → c < a + n → times_among (of_cpu c) (c
 cpu_once c a zero le lt = absurd (omega arith)
 cpu_once c a (suc n) le lt = ⊎_elim
     (λ (t : (c == a) ≡ true). let e = same_number c a t in let r = none_below c (suc a) n (omega arith) in rw (t, r) (omega arith))
-    (λ (f : (c == a) ≡ false). let apart : c ≢ a = numbers_apart c a f in let r = cpu_once c (suc a) n (omega arith) (omega arith) in rw f (omega arith))
+    (λ (f : (c == a) ≡ false). let apart : c ≢ a = numbers_differ c a f in let r = cpu_once c (suc a) n (omega arith) (omega arith) in rw f (omega arith))
     (either_way (c == a))
-  where
-    numbers_apart : (c a : ℕ) → (c == a) ≡ false → c ≢ a
-    numbers_apart c a f = grind (arith, nat_tests)
 
 none_beyond : (c a n : ℕ) → a + n ≤ c → times_among (of_cpu c) (cpus_from a n) ≡ 0
 none_beyond c a zero le = refl
@@ -45,11 +42,7 @@ no_consumer a zero = refl
 no_consumer a (suc n) = let r = no_consumer (suc a) n in omega arith
 
 new_seats : (k : Config) → HaveSeats k (newcomer k ∷ [])
-new_seats k = record {
-  cpus = λ c lt. let r = cpu_once c 0 k.cpus (omega arith) (omega arith) in omega arith;
-  consumer = let r = no_consumer 0 k.cpus in omega arith;
-  beyond = λ c le. let r = none_beyond c 0 k.cpus (omega arith) in omega arith;
-}
+new_seats k = grind (arith, nat_tests, cpu_once, no_consumer, none_beyond)
 
 no_parts : (a n : ℕ) → Parts [] (cpus_from a n)
 no_parts a zero = tt

@@ -1,5 +1,5 @@
 -- Deeds that change the word of one slot.
-use Rattle.std.proofs.Common.{◌≡◌, ◌≢◌, ℕ, ◌+◌, ◌*◌, ◌≤◌, ◌<◌, Bool, true, false, ◌==◌, List, [], ◌++◌, length, refl, sym, ◌∙◌, subst, ⊎_elim, arith}
+use Rattle.std.proofs.Common.{◌≡◌, ◌≢◌, ℕ, ◌≤◌, ◌<◌, Bool, true, false, ◌==◌, List, [], ◌∷◌, ◌++◌, refl, sym, ap, ◌∙◌, subst, ⊎_elim, arith, true≢false}
 use Rattle.std.specs.Prelude.{slice_index, slice_set}
 use Rattle.std.proofs.lemmas.List.{get_or-set_same, get_or-set_other}
 use Rattle.std.proofs.Math.ListN.{length-set}
@@ -10,12 +10,15 @@ use prog.Atomic.{either}
 use Rattle.atomic_table.specs.Table.{State, keeps, Allows, Me, stepped}
 use Rattle.dspec_deeds.specs.declared.config.Config.{Config}
 use Rattle.dspec_deeds.specs.declared.deed.Deed.{Deed}
-use Rattle.dspec_table.specs.Words.{Holder, same_holder, ack, owed, View, WordsRule, Shows, activity, word, slot_place, activity_place, group_width, group_place, ack_place, ask_place, AreOf}
-use Rattle.dspec_table.specs.Words.{flight_after, acted, Entered}
+use Rattle.dspec_table.specs.Words.{SlotState, word_number, word_at, Follows, Holder, of_cpu, doer, same_holder, ack, owed, View, WordsRule, Shows, activity, word, slot_place, group_place, AreOf}
+use Rattle.dspec_table.specs.Words.{Doing, Found, number_of, at_exchange, flight_after, acted, Entered}
 use Rattle.dspec_deeds.proofs.TestLemmas.{either_way, same_number}
+use Rattle.dspec_deeds.proofs.WordChanges.{slot_of}
 use Rattle.dspec_table.proofs.Places.{slot_within}
 use Rattle.dspec_table.proofs.Adding.{Adds}
-use Rattle.dspec_table.proofs.Keeps.{Owes, LeavesAsks, acts, acts_owed, enters, enters_owed}
+use Rattle.dspec_table.proofs.Keeps.{Owes, LeavesAsks, acts, acts_owed, enters, enters_owed, finds, is_cpu, its_config}
+use Rattle.dspec_word.proofs.Numbers.{one_word}
+use Rattle.dspec_deeds.specs.declared.calls.CpuOp.{CpuOp}
 
 -- only the word of this slot changes
 pub record IsChange (s : ℕ) (log new : List Deed) : Type 0 where
@@ -25,27 +28,11 @@ pub record IsChange (s : ℕ) (log new : List Deed) : Type 0 where
 
 pub change_shows : (k : Config) (words : List ℕ) (s n : ℕ) (log new : List Deed) → 1 ≤ s → s ≤ k.nspec → n ≡ word s new → IsChange s log new → Shows k words log
     → Shows k (slice_set words (slot_place s) n) new
-change_shows k words s n log new one most is ch sh = record {
-  count = length-set words (slot_place s) n ∙ sh.count;
-  active = (let apart : activity_place ≢ slot_place s = (λ e. omega arith) in get_or-set_other words (slot_place s) activity_place n 0 apart) ∙ (sh.active ∙ sym ch.active);
-  slots = λ t a b. ⊎_elim
-      (λ (e : (t == s) ≡ true).
-      let same = same_number t s e in
-      let long : slot_place s < length words = (let within = slot_within k s most in let count = sh.count in subst (λ (m : ℕ). slot_place s < m) (sym count) within) in
-      subst (λ x. slice_index (slice_set words (slot_place s) n) (slot_place x) ≡ word x new) (sym same) (get_or-set_same words (slot_place s) n 0 long ∙ is))
-      (λ (e : (t == s) ≡ false). let apart : t ≢ s = grind (arith, nat_tests) in let far : slot_place t ≢ slot_place s = (λ q. apart (omega arith)) in
-      get_or-set_other words (slot_place s) (slot_place t) n 0 far ∙ (sh.slots t a b ∙ sym (ch.others t apart)))
-      (either_way (t == s));
-  acks = λ c t x a b.
-      let apart : ack_place k c t ≢ slot_place s = (λ e. let x : ℕ = c * group_width k in let e' : k.nspec * 8 + 16 + x + t ≡ (s + 1) * 8 = e in let most' : s ≤ k.nspec = most in omega arith) in
-      get_or-set_other words (slot_place s) (ack_place k c t) n 0 apart ∙ (sh.acks c t x a b ∙ sym (ch.acks c t));
-}
+change_shows k words s n log new one most is ch sh = grind (arith, nat_tests, length-set, get_or-set_other, same_number, slot_within, get_or-set_same)
 
 -- a word before the asks is none of them
 pub leaves_asks : (k : Config) (words : List ℕ) (i n : ℕ) → i < group_place k 0 → LeavesAsks k words (slice_set words i n)
-leaves_asks k words i n before c lt =
-    let apart : ask_place k c ≢ i = (λ e. omega arith) in
-    get_or-set_other words i (ask_place k c) n 0 apart
+leaves_asks k words i n before = grind (arith, nat_tests, get_or-set_other)
 
 -- what deeds owe that change one word
 pub record Changes (k : Config) (w : Holder) (s n : ℕ) (log ds : List Deed) : Type 0 where
@@ -53,6 +40,11 @@ pub record Changes (k : Config) (w : Holder) (s n : ℕ) (log ds : List Deed) : 
   pub rests : owed (ds ++ log) ≡ 0
   pub now : n ≡ word s (ds ++ log)
   pub change : IsChange s log (ds ++ log)
+
+-- one deed of a CPU changes the word of its slot alone
+pub one_change : (k : Config) (c : ℕ) (log : List Deed) (d : Deed) (new : SlotState) → Follows k log d → doer d log ≡ of_cpu c → owed (d ∷ log) ≡ 0 → new ≡ word_at (slot_of d) (d ∷ log)
+    → activity (d ∷ log) ≡ activity log → ((a t : ℕ) → ack a t (d ∷ log) ≡ ack a t log) → Changes k (of_cpu c) (slot_of d) (word_number new) log (d ∷ [])
+one_change k c log d new follows by rests is active acks = grind (arith, nat_tests)
 
 -- an exchange of a slot's word keeps the rule: where it hits, the deeds change that word, and else they change none
 pub exchanges : (k : Config) (slots id s old new : ℕ) (me : Me ℕ View) (T : ℕ → Bool → View → Type 0) → same_holder me.0.who me.0.who ≡ true → me.0.also ≡ [] → 1 ≤ s → s ≤ k.nspec
@@ -94,3 +86,36 @@ exchanges k slots id s old new me T who alone one most hit miss st kept homes at
     ) in
     subst Goal (sym f) done)
     (either_way (n == old))
+
+-- what an exchange in a call of that kind shows, and leaves
+abbrev IsExchanged : Doing → CpuOp → ℕ → View → ℕ → ℕ → Bool → View → Type 0
+IsExchanged doing o slot v new n hit w =
+    (shown : SlotState) × (n ≡ word_number shown)
+    × ((log : List Deed) × Found v log × (shown ≡ word_at slot log) × Entered (slot_place slot) v log (at_exchange v.config (number_of v.who) doing slot shown hit o) w)
+    × (hit ≡ true → new ≡ word_number (word_at slot w.seen))
+
+-- an exchange in a call of a CPU, by what the table of steps enters at the word that is shown
+pub exchanges_in_call : (k : Config) (slots id c slot : ℕ) (me : Me ℕ View) (doing : Doing) (o : CpuOp) (from to : SlotState) → 1 ≤ slot → slot ≤ k.nspec → me.0.who ≡ of_cpu c → me.0.also ≡ []
+    → ((st : State ℕ View) (kept : WordsRule k st) → get_elem? st.views id ≡ some me.0 → word_at slot kept.log ≡ from
+    → Changes k (of_cpu c) slot (word_number to) kept.log (at_exchange k c doing slot (word_at slot kept.log) true o))
+    → ((st : State ℕ View) (kept : WordsRule k st) → get_elem? st.views id ≡ some me.0 → word_at slot kept.log ≢ from
+    → Owes k (of_cpu c) kept.log (at_exchange k c doing slot (word_at slot kept.log) false o))
+    → ((w : SlotState) (hit : Bool) → AreOf me.0.flight (at_exchange me.0.config (number_of me.0.who) doing slot w hit o))
+    → Allows (WordsRule k) slots id me (slot_place slot) (λ n. either (n == word_number from) (word_number to) n)
+    (λ n w. IsExchanged doing o slot me.0 (word_number to) n (n == word_number from) w.0 × (w.1 ≡ me.1))
+exchanges_in_call k slots id c slot me doing o from to one most who alone hits misses calls =
+    exchanges k slots id slot (word_number from) (word_number to) me (IsExchanged doing o slot me.0 (word_number to)) (is_cpu me.0 c who) alone one most
+    (λ st kept at found.
+    let x = word_at slot kept.log in
+    let same : x ≡ from = one_word x from (sym (kept.shows.slots slot one most) ∙ found) in
+    let does = its st kept at (λ j w a. Changes k w slot (word_number to) kept.log (at_exchange j a doing slot x true o)) (hits st kept at same) in
+    (_, does, calls x true, (λ left. (x, kept.shows.slots slot one most, (kept.log, finds k st kept id me.0 at (is_cpu me.0 c who), refl, left), λ hit. does.now))))
+    (λ st kept at other.
+    let x = word_at slot kept.log in
+    let apart : x ≢ from = (λ e. other (kept.shows.slots slot one most ∙ ap word_number e)) in
+    let owe = its st kept at (λ j w a. Owes k w kept.log (at_exchange j a doing slot x false o)) (misses st kept at apart) in
+    (_, owe, calls x false, (λ left. (x, kept.shows.slots slot one most, (kept.log, finds k st kept id me.0 at (is_cpu me.0 c who), refl, left), λ hit. absurd (true≢false (sym hit))))))
+  where
+    -- the seat has the configuration, and is the CPU's
+    its : (st : State ℕ View) (kept : WordsRule k st) → get_elem? st.views id ≡ some me.0 → (P : Config → Holder → ℕ → Type 0) → P k (of_cpu c) c → P me.0.config me.0.who (number_of me.0.who)
+    its st kept at P = subst (λ (p : Config × Holder). P p.0 p.1 (number_of p.1)) (λ i. (sym (its_config k kept.log me.0 (is_cpu me.0 c who) (kept.knows id me.0 at)) i, sym who i))

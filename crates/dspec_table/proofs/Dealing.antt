@@ -1,5 +1,6 @@
 -- The seats of the CPUs, dealt out one by one.
-use Rattle.std.proofs.Common.{◌≡◌, ◌⊎◌, ℕ, zero, suc, ◌+◌, ◌-◌, ◌<◌, List, [], ◌∷◌, ◌++◌, length, Some, None, refl, sym, ap, ◌∙◌, subst, ⊎_elim, inl, inr, add-one, arith}
+use Rattle.std.proofs.lemmas.Bool.Decides.{nat_tests}
+use Rattle.std.proofs.Common.{◌≡◌, ◌⊎◌, ℕ, zero, suc, ◌+◌, ◌-◌, ◌<◌, List, [], ◌∷◌, ◌++◌, length, Some, refl, sym, ap, subst, ⊎_elim, inl, inr, arith}
 use Rattle.std.specs.Prelude.{slice_get}
 use Rattle.atomic_table.specs.Table.{Splits}
 use Rattle.atomic_table.specs.Seated.{TableId}
@@ -8,9 +9,7 @@ use Rattle.dspec_table.specs.Words.{of_cpu, View, CpuSeat, WordsRule, cpus_from,
 use Rattle.dspec_table.proofs.Joining.{deals}
 
 more_cpus : (c n : ℕ) → c < n → cpus_from c (n - c) ≡ (of_cpu c, []) ∷ cpus_from (c + 1) (n - (c + 1))
-more_cpus c n lt =
-    let one_more : n - c ≡ suc (n - (c + 1)) = omega arith in
-    ap (cpus_from c) one_more ∙ ap (λ (m : ℕ). (of_cpu c, []) ∷ cpus_from m (n - (c + 1))) (sym (add-one c))
+more_cpus c n h1 = grind (arith, nat_tests)
 
 pub dealt_one : (k : Config) (c : ℕ) → c < k.cpus → dealt (dealing k c) ≡ fresh_seat k c
 dealt_one k c lt = ap (λ l. first_of_those k l) (more_cpus c k.cpus lt)
@@ -30,8 +29,4 @@ got_pushed (z ∷ zs) x y (suc c) e = ⊎_elim (λ t. inl t) (λ t. inr (ap suc 
 
 pub dealt_push : (z : TableId) (k : Config) (seats : List CpuSeat) (s : CpuSeat) → DealtSeats z k seats → s.seat.table_id ≡ z → s.cpu ≡ length seats
     → known s ≡ fresh_seat k (length seats) → DealtSeats z k (seats ++ s ∷ [])
-dealt_push z k seats s all at cpu view c t e = ⊎_elim
-    (λ (old : slice_get seats c ≡ Some t). all c t old)
-    (λ (new : (c ≡ length seats) × (s ≡ t)). subst (λ (x : CpuSeat). (x.seat.table_id ≡ z) × (x.cpu ≡ c) × (known x ≡ fresh_seat k c)) new.1
-    (at, cpu ∙ sym new.0, view ∙ ap (λ m. fresh_seat k m) (sym new.0)))
-    (got_pushed seats s t c e)
+dealt_push z k seats s all at cpu view = grind (arith, nat_tests, got_pushed)

@@ -1,5 +1,6 @@
 -- A slot's word only grows, so an exchange that fails shows a greater one.
-use Rattle.std.proofs.Common.{◌≡◌, ◌≢◌, ℕ, ◌≤◌, ◌<◌, List, ◌∷◌, ap, arith}
+use Rattle.std.proofs.lemmas.Bool.Decides.{nat_tests}
+use Rattle.std.proofs.Common.{◌≡◌, ◌≢◌, ℕ, ◌≤◌, ◌<◌, List, ◌∷◌, arith}
 use Rattle.dspec_table.specs.Words.{SlotState, word_number, Holder, word_at, IsSound, View, Since, here, more, Found}
 use Rattle.dspec_word.proofs.Numbers.{one_word}
 use Rattle.dspec_deeds.specs.declared.config.Config.{Config}
@@ -12,13 +13,4 @@ word_rises k w seen (d ∷ h) s sound (more rest other) = let a = word_rises k w
 
 -- another word than the one last seen is greater
 pub shown_greater : (v : View) (log : List Deed) (s : ℕ) (from shown : SlotState) → from ≡ word_at s v.seen → Found v log → shown ≡ word_at s log → shown ≢ from → word_number from < word_number shown
-shown_greater v log s from shown was found is apart =
-    let up = word_rises v.config v.who v.seen log s found.sound found.since in
-    let a : word_number from ≡ word_number (word_at s v.seen) = ap word_number was in
-    let b : word_number shown ≡ word_number (word_at s log) = ap word_number is in
-    let other : word_number shown ≢ word_number from = λ e. apart (one_word shown from e) in
-    let m : ℕ = word_number from in
-    let n : ℕ = word_number shown in
-    let le : m ≤ n = omega arith in
-    let other' : n ≢ m = other in
-    omega arith
+shown_greater v log s from shown was found is apart = grind (arith, nat_tests, word_rises, one_word)

@@ -1,12 +1,13 @@
 -- The consumer stops the session.
-use Rattle.std.proofs.Common.{◌≡◌, ◌≢◌, ℕ, Bool, true, false, List, [], ◌++◌, Option, refl, sym, ◌∙◌, subst, arith}
+use Rattle.std.proofs.lemmas.Bool.Decides.{nat_tests}
+use Rattle.std.proofs.Common.{◌≡◌, ℕ, Bool, true, false, List, [], ◌++◌, Option, refl, sym, subst, arith}
 use Rattle.std.specs.Prelude.{slice_set}
 use Rattle.std.proofs.lemmas.List.{get_or-set_same, get_or-set_other}
 use Rattle.std.proofs.Math.ListN.{length-set}
 use Rattle.atomic_table.specs.Table.{keeps, Allows, Me}
 use Rattle.dspec_deeds.specs.declared.config.Config.{Config}
 use Rattle.dspec_deeds.specs.declared.deed.Deed.{Deed}
-use Rattle.dspec_table.specs.Words.{of_consumer, same_holder, halted, owed, View, WordsRule, Shows, slot_place, activity_place, ack_place, acted, StoredActivity, at_stop, AreOf}
+use Rattle.dspec_table.specs.Words.{of_consumer, same_holder, halted, owed, View, WordsRule, Shows, activity_place, acted, StoredActivity, at_stop, AreOf}
 use Rattle.dspec_table.proofs.Places.{before_groups}
 use Rattle.dspec_deeds.specs.declared.calls.CpuOp.{CpuOp}
 use Rattle.dspec_table.proofs.Adding.{Adds}
@@ -14,27 +15,7 @@ use Rattle.dspec_table.proofs.Keeps.{acts, enters, finds}
 use Rattle.dspec_table.proofs.Changes.{leaves_asks}
 
 stop_shows : (k : Config) (words : List ℕ) (log : List Deed) (b : Bool) → halted log ≡ b → Shows k words log → Shows k (slice_set words activity_place 1) (at_stop b ++ log)
-stop_shows k words log b is sh = record {
-  count = length-set words activity_place 1 ∙ sh.count;
-  active = get_or-set_same words activity_place 1 0 (let count = sh.count in omega arith) ∙ stopped b is;
-  slots = λ s a m. let apart : slot_place s ≢ activity_place = (λ e. omega arith) in get_or-set_other words activity_place (slot_place s) 1 0 apart ∙ (sh.slots s a m ∙ same_word b s);
-  acks = λ c s x a m.
-      let after = before_groups k c in
-      let apart : ack_place k c s ≢ activity_place = (λ e. omega arith) in
-      get_or-set_other words activity_place (ack_place k c s) 1 0 apart ∙ (sh.acks c s x a m ∙ same_ack b c s);
-}
-  where
-    stopped : (b : Bool) → halted log ≡ b → 1 ≡ Rattle.dspec_table.specs.Showing.activity (at_stop b ++ log)
-    stopped true e = rw e refl
-    stopped false e = refl
-
-    same_word : (b : Bool) (s : ℕ) → Rattle.dspec_table.specs.Showing.word s log ≡ Rattle.dspec_table.specs.Showing.word s (at_stop b ++ log)
-    same_word true s = refl
-    same_word false s = refl
-
-    same_ack : (b : Bool) (c s : ℕ) → Rattle.dspec_deeds.specs.History.ack c s log ≡ Rattle.dspec_deeds.specs.History.ack c s (at_stop b ++ log)
-    same_ack true c s = refl
-    same_ack false c s = refl
+stop_shows k words log b is sh = grind (arith, nat_tests, length-set, get_or-set_same, get_or-set_other, before_groups)
 
 stops_log : (k : Config) (log : List Deed) (b : Bool) → halted log ≡ b → owed log ≡ 0 → Adds k of_consumer log (at_stop b) × (owed (at_stop b ++ log) ≡ 0)
 stops_log k log true e rests = (tt, rests)

@@ -1,4 +1,5 @@
 -- Cutting a seat in two, and joining two, keeps the rule.
+use Rattle.std.proofs.lemmas.Bool.Decides.{nat_tests}
 use Rattle.std.proofs.Common.{◌≡◌, ◌≢◌, ℕ, zero, suc, ◌+◌, ◌≤◌, true, false, if◌then◌else◌, List, [], ◌∷◌, ◌++◌, set, refl, sym, ap, ◌∙◌, subst, ⊎_elim, inl, inr, arith, true≢false}
 use Rattle.std.specs.Prelude.{slice_index}
 use mathlib.Core.Option.{some}
@@ -10,10 +11,8 @@ use Rattle.dspec_deeds.specs.declared.deed.Deed.{Deed}
 use Rattle.dspec_table.specs.Words.{Holder, of_cpu, of_consumer, of_nobody, doer, part_of, same_holder, View, Since, here, more, holdings, times_among, held_in_all, Parts, Each, Remembers, Least}
 use Rattle.dspec_table.specs.Words.{Knows, KnowsAsks, WordsRule, ask_place, nobody, without, dealt, greater, note, heard, answered, past_of, gathered}
 use Rattle.dspec_deeds.proofs.TestLemmas.{either_way}
-use Rattle.std.specs.Prelude.{Some, None}
-use Rattle.dspec_deeds.specs.declared.calls.Actor.TheVariants.{Cpu, Consumer}
 use Rattle.dspec_table.proofs.HolderTests.{part_next}
-use Rattle.dspec_table.proofs.Totals.{total_set, total_snoc, same_seats}
+use Rattle.dspec_table.proofs.Totals.{total_set, total_snoc}
 use Rattle.dspec_table.proofs.Adding.{since_nothing}
 use Rattle.dspec_table.proofs.Keeps.{its_config}
 use Rattle.dspec_table.proofs.Pasts.{each_append, since_part}
@@ -23,16 +22,7 @@ with_views : (k : Config) (st : State ℕ View) (kept : WordsRule k st) (views :
     → ((w : Holder) → held_in_all w views ≡ held_in_all w st.views)
     → ((j : ℕ) (u : View) → get_elem? views j ≡ some u → KnowsAsks k st.words u)
     → WordsRule k record { words = st.words; homes = st.homes; views = views }
-with_views k st kept views knows same asks = record {
-  log = kept.log;
-  sound = kept.sound;
-  rests = kept.rests;
-  shows = kept.shows;
-  knows = knows;
-  authors = kept.authors;
-  seats = same_seats k st.views views same kept.seats;
-  asks = asks;
-}
+with_views k st kept views knows same asks = grind (arith, nat_tests)
 
 -- who is nobody knows what he was told of the asks
 nobody_asks : (k : Config) (words : List ℕ) (v : View) → v.who ≡ of_nobody → Least k words v.asks → Each (λ p. Least k words p.asks) v.past → KnowsAsks k words v
@@ -45,24 +35,12 @@ no_asks k words v who none past = record
 -- what holds of all views, and of the two that a seat is cut into
 split_all : (P : View → Type 0) (views : List View) (id : ℕ) (left right : View) → P left → P right → ((j : ℕ) (u : View) → get_elem? views j ≡ some u → P u)
     → (j : ℕ) (u : View) → get_elem? (set views id left ++ right ∷ []) j ≡ some u → P u
-split_all P views id left right l r all j u e = ⊎_elim
-    (λ (was : get_elem? (set views id left) j ≡ some u). ⊎_elim
-    (λ (t : (j ≡ id) × (left ≡ u)). subst P t.1 l)
-    (λ (t : (j ≢ id) × (get_elem? views j ≡ some u)). all j u t.1)
-    (at_set views id j left u was))
-    (λ (new : right ≡ u). subst P new r)
-    (at_snoc (set views id left) right u j e)
+split_all P views id left right l r all j u e = grind (arith, nat_tests, at_set, at_snoc)
 
 -- what holds of all views, and of one that took in another, and of the other then
 join_all : (P : View → Type 0) (views : List View) (id other : ℕ) (both spent : View) → P both → P spent → ((j : ℕ) (u : View) → get_elem? views j ≡ some u → P u)
     → (j : ℕ) (u : View) → get_elem? (set (set views id both) other spent) j ≡ some u → P u
-join_all P views id other both spent b n all j u e = ⊎_elim
-    (λ (t : (j ≡ other) × (spent ≡ u)). subst P t.1 n)
-    (λ (t : (j ≢ other) × (get_elem? (set views id both) j ≡ some u)). ⊎_elim
-    (λ (s : (j ≡ id) × (both ≡ u)). subst P s.1 b)
-    (λ (s : (j ≢ id) × (get_elem? views j ≡ some u)). all j u s.1)
-    (at_set views id j both u t.1))
-    (at_set (set views id both) other j spent u e)
+join_all P views id other both spent b n all j u e = grind (arith, nat_tests, at_set)
 
 since_of_part : (w : Holder) (log : List Deed) → part_of w log ≡ [] → Since w [] log
 since_of_part w [] e = here
@@ -118,9 +96,7 @@ deals k id v c rest me also st kept at =
     (split_all (KnowsAsks k st.words) st.views id (without v) (dealt v) left_asks right_asks kept.asks)
 
 nobody_times : (x : Holder) → times_among x ((of_nobody, []) ∷ []) ≡ 0
-nobody_times (Some (Cpu c)) = omega arith
-nobody_times (Some Consumer) = omega arith
-nobody_times None = omega arith
+nobody_times x = grind (arith, nat_tests)
 
 -- a note of what a seat has seen
 pub tells : (k : Config) (id : ℕ) (v : View) → Splits (WordsRule k) id v v (note v)
@@ -169,29 +145,13 @@ greater_least (x ∷ xs) (y ∷ ys) zero n a b = omega arith
 greater_least (x ∷ xs) (y ∷ ys) (suc c) n a b = greater_least xs ys c n a b
 
 note_times : (x : Holder) (w : View) → w.who ≡ of_nobody → w.also ≡ [] → times_among x (holdings w) ≡ 0
-note_times x w who also =
-    subst (λ (y : Holder). (if same_holder x y then 1 else 0) + times_among x w.also ≡ 0) (sym who)
-    (subst (λ l. (if same_holder x of_nobody then 1 else 0) + times_among x l ≡ 0) (sym also) (nobody_times x))
+note_times x w h1 h2 = grind (arith, nat_tests)
 
 pub hears : (k : Config) (id : ℕ) (v : View) (other : ℕ) (w : View) → w.who ≡ of_nobody → w.also ≡ [] → Joins (WordsRule k) id v other w (heard v w) nobody
-hears k id v other w who also = joining k id v other w (heard v w)
-    (λ log mine theirs. record { config = mine.config; parts = mine.parts; since = mine.since; told = since_nobody w.who w.seen log theirs.since; calm = mine.calm; past = mine.past })
-    (λ words mine theirs. record {
-      past = mine.past;
-      least = λ c lt. greater_least v.asks w.asks c (slice_index words (ask_place k c)) (mine.least c lt) (theirs.least c lt);
-      exact = λ is c lt.
-          let low = greater_left v.asks w.asks c in
-          let high = greater_least v.asks w.asks c (slice_index words (ask_place k c)) (mine.least c lt) (theirs.least c lt) in
-          let same = mine.exact is c lt in
-          omega arith;
-    })
-    (λ x. let none = note_times x w who also in omega arith)
+hears k id v other w who also = grind (arith, nat_tests, joining, since_nobody, greater_least, greater_left, note_times)
 
 pub answers : (k : Config) (id : ℕ) (v : View) (other : ℕ) (w : View) → w.who ≡ of_nobody → w.also ≡ [] → Joins (WordsRule k) id v other w (answered v w) nobody
-answers k id v other w who also = joining k id v other w (answered v w)
-    (λ log mine theirs. record { config = mine.config; parts = mine.parts; since = mine.since; told = since_nobody w.who w.seen log theirs.since; calm = mine.calm; past = mine.past })
-    (λ words mine theirs. record { least = mine.least; past = mine.past; exact = mine.exact })
-    (λ x. let none = note_times x w who also in omega arith)
+answers k id v other w who also = grind (arith, nat_tests, joining, since_nobody, note_times)
 
 parts_append : (log : List Deed) (ps qs : List (Holder × List Deed)) → Parts log ps → Parts log qs → Parts log (ps ++ qs)
 parts_append log [] qs p q = q

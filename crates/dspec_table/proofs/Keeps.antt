@@ -1,5 +1,7 @@
 -- A seat's own deeds, added to the list, keep the rule, where the words show the longer list.
-use Rattle.std.proofs.Common.{◌≡◌, ◌≢◌, ℕ, ◌+◌, ◌≤◌, ◌<◌, Bool, true, false, if◌then◌else◌, ◌&&◌, List}
+use Rattle.std.proofs.Common.{arith}
+use Rattle.std.proofs.lemmas.Bool.Decides.{nat_tests}
+use Rattle.std.proofs.Common.{◌≡◌, ℕ, ◌≤◌, ◌<◌, true, false, List}
 use Rattle.std.proofs.Common.{[], ◌∷◌, ◌++◌, refl, sym, ap, ◌∙◌, subst, ⊎_elim, Option, true≢false}
 use Rattle.std.specs.Prelude.{slice_index, slice_set}
 use mathlib.Core.Option.{some}
@@ -8,13 +10,25 @@ use Rattle.atomic_table.specs.Table.{State, keeps, Allows, Me, stepped}
 use Rattle.dspec_deeds.specs.declared.config.Config.{Config}
 use Rattle.dspec_deeds.specs.declared.calls.CpuOp.{CpuOp}
 use Rattle.dspec_deeds.specs.declared.deed.Deed.{Deed}
-use Rattle.dspec_table.specs.Words.{Holder, of_cpu, of_nobody, part_of, same_holder, owed, scan, late, halted, is_halt, IsSound, View, Shows, Since, here, more, Past, Each, Least, Knows, KnowsAsks}
-use Rattle.dspec_table.specs.Words.{WordsRule, ask_place, AreOf, flight_after, acted, Found, Entered}
+use Rattle.dspec_table.specs.Words.{Holder, of_cpu, of_nobody, part_of, same_holder, owed, scan, late, IsSound, View, Shows, Since, here, more, Past, Each, Least, Knows, KnowsAsks, activity, word}
+use Rattle.dspec_table.specs.Words.{ack, WordsRule, ask_place, AreOf, flight_after, acted, Found, Entered}
 use Rattle.dspec_table.proofs.OwnReading.{scan_part}
 use Rattle.dspec_deeds.proofs.TestLemmas.{number_is_itself}
-use Rattle.dspec_table.proofs.Quiet.{IsQuiet, quiet_shows, same_words}
+use Rattle.std.proofs.lemmas.List.{set-get_or}
 use Rattle.dspec_table.proofs.Pasts.{each_map}
 use Rattle.dspec_table.proofs.Adding.{Adds, acts_asking, flying, part_adds, sound_adds}
+
+-- the longer list shows in the same words
+pub record IsQuiet (log new : List Deed) : Type 0 where
+  pub active : activity new ≡ activity log
+  pub slots : (s : ℕ) → word s new ≡ word s log
+  pub acks : (c s : ℕ) → ack c s new ≡ ack c s log
+
+quiet_shows : (k : Config) (words : List ℕ) (log new : List Deed) → IsQuiet log new → Shows k words log → Shows k words new
+quiet_shows k words log new q sh = grind (arith, nat_tests)
+
+pub same_words : (words : List ℕ) (i : ℕ) → slice_set words i (slice_index words i) ≡ words
+same_words words i = set-get_or words i 0
 
 -- the step moves no ask
 abbrev pub LeavesAsks : Config → List ℕ → List ℕ → Type 0
@@ -27,11 +41,7 @@ past_left : (k : Config) (words new : List ℕ) (ps : List Past) → LeavesAsks 
 past_left k words new ps left all = each_map (λ p. Least k words p.asks) (λ p. Least k new p.asks) (λ p least. least_left k words new p.asks left least) ps all
 
 pub same_asks : (k : Config) (words new : List ℕ) (u : View) → LeavesAsks k words new → KnowsAsks k words u → KnowsAsks k new u
-same_asks k words new u left knows = record {
-  least = least_left k words new u.asks left knows.least;
-  past = past_left k words new u.past left knows.past;
-  exact = λ is c lt. knows.exact is c lt ∙ sym (left c lt);
-}
+same_asks k words new u left knows = grind (arith, nat_tests, least_left, past_left)
 
 -- the same where it knows the asks that it knew
 acts_flying : (k : Config) (st : State ℕ View) (kept : WordsRule k st) (by : ℕ) (v : View) (carried : List (ℕ × ℕ)) → get_elem? st.views by ≡ some v → v.also ≡ [] → same_holder v.who v.who ≡ true
@@ -87,13 +97,7 @@ none_owed k w log rests = record { adds = tt; rests = rests; quiet = record { ac
 -- what a step on the word i leaves
 pub enters : (k : Config) (st : State ℕ View) (kept : WordsRule k st) (by : ℕ) (v : View) → get_elem? st.views by ≡ some v → same_holder v.who v.who ≡ true
     → (ds : List Deed) (i : ℕ) → Adds k v.who kept.log ds → owed (ds ++ kept.log) ≡ 0 → AreOf v.flight ds → Entered i v kept.log ds (acted i v kept.log ds)
-enters k st kept by v at who ds i adds rests call = record {
-  sound = subst (λ (x : Config). IsSound x (ds ++ kept.log)) (sym (its_config k kept.log v who (kept.knows by v at))) (sound_adds k v.who kept.log ds kept.sound adds);
-  rests = rests;
-  own = part_adds k v.who kept.log ds who adds ∙ ap (λ l. ds ++ l) (kept.knows by v at).parts.0;
-  call = call;
-  view = refl;
-}
+enters k st kept by v at who ds i adds rests call = grind (arith, nat_tests, its_config, sound_adds, part_adds)
 
 pub enters_owed : (k : Config) (st : State ℕ View) (kept : WordsRule k st) (by : ℕ) (v : View) → get_elem? st.views by ≡ some v → same_holder v.who v.who ≡ true
     → (ds : List Deed) (i : ℕ) → Owes k v.who kept.log ds → AreOf v.flight ds → Entered i v kept.log ds (acted i v kept.log ds)
@@ -115,12 +119,7 @@ idle_log k st kept by v c at who {n} idle =
 
 pub late_since : (c : ℕ) (seen log : List Deed) → late c seen ≡ false → Since (of_cpu c) seen log → late c log ≡ false
 late_since c seen _ e here = e
-late_since c seen (d ∷ h) e (more s other) = rw (late_since c seen h e s, other) (go (is_halt d) (halted h))
-  where
-    go : (a b : Bool) → (if a then false else (b && false)) ≡ false
-    go true b = refl
-    go false true = refl
-    go false false = refl
+late_since c seen (d ∷ h) e (more s other) = grind (arith, nat_tests, late_since c seen h e s)
 
 -- a load keeps the rule, where what it adds moves no word
 pub loads : (k : Config) (slots id c i : ℕ) (me : Me ℕ View) (T : ℕ → View → Type 0) → me.0.who ≡ of_cpu c → me.0.also ≡ []

@@ -1,7 +1,6 @@
 pub mod HolderTests
 pub mod OwnReading
 pub mod Pasts
-pub mod Quiet
 pub mod Totals
 pub mod Adding
 pub mod Keeps

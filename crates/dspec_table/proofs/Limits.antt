@@ -1,11 +1,9 @@
 -- The issues that a list shows are within the configuration's limit, and so fit a word.
-use Rattle.std.proofs.Common.{◌≡◌, ℕ, suc, ◌+◌, ◌*◌, ◌<◌, ◌≤◌, ◌^◌, true, false, not, true≢false, List, [], ◌∷◌, if◌then◌else◌, refl, ap, ◌∙◌, sym, subst, ⊎_elim, inl, inr, arith}
+use Rattle.std.proofs.Common.{◌≡◌, ℕ, suc, ◌<◌, ◌≤◌, ◌^◌, true, false, not, true≢false, List, [], ◌∷◌, refl, ap, ◌∙◌, sym, subst, ⊎_elim, arith}
 use Rattle.std.specs.Prelude.{nat_lt}
 use Rattle.std.proofs.lemmas.Bool.Decides.{nat_tests}
-use Rattle.dspec_table.specs.Words.{Speculation, SlotState, word_number, CanBeReleased, opens, opened, issue, present, releases, verdict, is_undecided, callers, standing, word_at, IsSound, Follows}
-use Rattle.dspec_table.specs.Words.{View, Found, IsWordNumber, code_number}
-use Rattle.dspec_word.specs.declared.code.Code.{Code}
-use Rattle.dspec_word.specs.declared.code.Code.TheVariants.{Inactive, Active, ActiveOne, ActiveMany, Committing, CommittingMany, Discarding}
+use Rattle.dspec_table.specs.Words.{Speculation, SlotState, word_number, CanBeReleased, opens, opened, issue, present, releases, verdict, is_undecided, word_at, IsSound, Follows, View, Found}
+use Rattle.dspec_table.specs.Words.{IsWordNumber}
 use Rattle.dspec_deeds.specs.declared.config.Config.{Config}
 use Rattle.dspec_deeds.specs.declared.deed.Deed.{Deed}
 use Rattle.dspec_deeds.specs.declared.deed.Deed.TheVariants.{Opened, Release}
@@ -49,35 +47,14 @@ issue_within k s (d ∷ h) sound = ⊎_elim
 
 -- the word that is shown can be released
 pub released_yet : (k : Config) (s : ℕ) (h : List Deed) → k.max_issues ≤ 2 ^ 57 → IsSound k h → CanBeReleased (word_at s h)
-released_yet k s h most sound = ⊎_elim
-    (λ (t : opened (present s h) h ≡ true). let less = issue_below k h (present s h) sound t in inl (omega arith))
-    (λ (f : opened (present s h) h ≡ false). inr (ap (λ b. if b then standing (verdict (present s h) h) (callers (present s h) h) else Inactive) f))
-    (either_way (opened (present s h) h))
+released_yet k s h most sound = grind (arith, nat_tests, issue_below)
 
 -- the number of the word that is shown
 pub shown_number : (k : Config) (s : ℕ) (h : List Deed) → k.max_issues ≤ 2 ^ 57 → IsSound k h → IsWordNumber (word_number (word_at s h))
-shown_number k s h most sound =
-    let w = word_at s h in
-    let below = code_below w.code in
-    let within = issue_within k s h sound in (
-      omega arith,
-      ⊎_elim
-          (λ (less : w.issue < 2 ^ 57). let goal : w.issue * 8 + code_number w.code ≤ 2 ^ 60 = omega arith in goal)
-          (λ (e : w.code ≡ Inactive). let none : code_number w.code ≡ 0 = ap code_number e in let goal : w.issue * 8 + code_number w.code ≤ 2 ^ 60 = omega arith in goal)
-          (released_yet k s h most sound),
-    )
+shown_number k s h most sound = grind (arith, nat_tests, code_below, issue_within, released_yet)
 
 pub limit_of : (w : SlotState) → word_number w ≤ 2 ^ 60 → CanBeReleased w
-limit_of w small = go w.code refl
-  where
-    go : (x : Code) → w.code ≡ x → CanBeReleased w
-    go Inactive e = inr e
-    go Active e = inl (let n = ap code_number e in omega arith)
-    go ActiveOne e = inl (let n = ap code_number e in omega arith)
-    go ActiveMany e = inl (let n = ap code_number e in omega arith)
-    go Committing e = inl (let n = ap code_number e in omega arith)
-    go CommittingMany e = inl (let n = ap code_number e in omega arith)
-    go Discarding e = inl (let n = ap code_number e in omega arith)
+limit_of w small = grind (arith, nat_tests)
 
 -- the number that a step found is that of a word
 pub finds_word : (v : View) (log : List Deed) (s n : ℕ) (shown : SlotState) → v.config.max_issues ≤ 2 ^ 57 → Found v log → n ≡ word_number shown → shown ≡ word_at s log → IsWordNumber n

@@ -1,20 +1,23 @@
 -- The load of a slot's word.
-use Rattle.std.proofs.Common.{◌≡◌, ℕ, ◌≤◌, ◌+◌, ◌==◌, Bool, true, false, if◌then◌else◌, List, [], ◌∷◌, Some, refl, sym, ap, ◌∙◌, subst, ⊎_elim, inl}
+use Rattle.std.proofs.Common.{arith}
+use Rattle.std.proofs.lemmas.Bool.Decides.{nat_tests}
+use Rattle.std.proofs.Common.{◌≡◌, ℕ, ◌≤◌, ◌+◌, ◌==◌, Bool, true, false, if◌then◌else◌, List, [], ◌∷◌, Some, refl, sym, ap, ◌∙◌, subst, inl, true≢false}
 use mathlib.Core.Option.{some}
 use lib.ListN.{get_elem?}
 use Rattle.atomic_table.specs.Table.{State, Allows, Me}
-use Rattle.dspec_table.specs.Words.{Speculation, word_number, speculate_at, speculate_act, commit_at, commit_act, discard_at, discard_act, open_at, spoken_granted, Record, slot_place, Holder}
-use Rattle.dspec_table.specs.Words.{of_cpu, part_of, same_id, issue, scan, owed, late, present, code_at, word_at, is_among, callers, joined, verdict, opened, standing, is_open, IsSound, mark, View}
-use Rattle.dspec_table.specs.Words.{Doing, WordsRule, Since, number_of, at_word, IsInFlight, MayLoad, LoadedNumber, Measured, idle_progress, settle_at, shown, shown_scan, shown_speculate}
-use Rattle.dspec_table.specs.Words.{shown_commit, shown_discard}
+use Rattle.dspec_table.specs.Words.{Speculation, SlotState, halted, word_number, speculate_at, speculate_act, commit_at, commit_act, discard_at, discard_act, open_at, spoken_granted, Record}
+use Rattle.dspec_table.specs.Words.{slot_place, Holder, of_cpu, part_of, issue, scan, owed, late, present, code_at, word_at, is_among, callers, joined, verdict, standing, is_open, IsSound, mark}
+use Rattle.dspec_table.specs.Words.{View, Doing, WordsRule, Since, number_of, at_word, IsInFlight, MayLoad, LoadedNumber, Measured, idle_progress, settle_at, shown, shown_scan, shown_speculate}
+use Rattle.dspec_table.specs.Words.{shown_commit, shown_discard, StopsOrActs}
 use Rattle.dspec_word.specs.declared.act.Act.{Act}
+use Rattle.dspec_word.specs.declared.code.Code.{Code}
+use Rattle.dspec_deeds.proofs.SoundLists.{granted_goes}
 use Rattle.dspec_word.specs.declared.act.Act.TheVariants.{Void, Granted, Attempt, Idle}
-use Rattle.dspec_word.specs.declared.code.Code.TheVariants.{Inactive}
 use Rattle.dspec_deeds.specs.declared.config.Config.{Config}
 use Rattle.dspec_deeds.specs.declared.deed.SpeculateFate.{SpeculateFate}
 use Rattle.dspec_deeds.specs.declared.deed.Deed.{Deed}
 use Rattle.dspec_deeds.specs.declared.deed.Deed.TheVariants.{Speculate}
-use Rattle.dspec_deeds.proofs.TestLemmas.{either_way, same_id_tells, same_number}
+use Rattle.dspec_deeds.proofs.TestLemmas.{same_number}
 use Rattle.dspec_deeds.proofs.Marks.{mark_tells, mark_part}
 use Rattle.dspec_table.proofs.OwnReading.{has_part}
 use Rattle.dspec_deeds.proofs.WordActs.{speculate_void, speculate_granted, commit_void, discard_void}
@@ -22,7 +25,7 @@ use Rattle.dspec_deeds.proofs.WordCodes.{busy_is, open_void}
 use Rattle.dspec_deeds.specs.declared.calls.CpuOp.{CpuOp}
 use Rattle.dspec_table.proofs.InFlight.{word_of, looks}
 use Rattle.dspec_interleaving.proofs.StepDeeds.{by_test, missed_deeds}
-use Rattle.dspec_interleaving.proofs.StepsWords.{speculate_not_idle, commit_plain, discard_plain, open_plain, not_plain}
+use Rattle.dspec_interleaving.proofs.StepsWords.{is_plain, speculate_not_idle, commit_plain, discard_plain, open_plain}
 use Rattle.dspec_table.proofs.Keeps.{Owes, none_owed, loads, finds, idle_log, late_since, enters_owed, is_cpu, its_config}
 use Rattle.dspec_deeds.specs.declared.deed.SpeculateFate.TheVariants as spoken
 use Rattle.dspec_deeds.specs.declared.calls.CpuOp.TheVariants as op
@@ -31,11 +34,7 @@ use Rattle.dspec_deeds.specs.declared.calls.CpuOp.TheVariants as op
 granted_quiet : (h : List Deed) (c : ℕ) (id : Speculation) (r : Record) (f : SpeculateFate) → spoken_granted f ≡ true
     → standing (verdict id h) (joined (Some c) (callers id h)) ≡ standing (verdict id h) (callers id h)
     → (j : Speculation) → code_at j (Speculate c id r f ∷ h) ≡ code_at j h
-granted_quiet h c id r f is same j = rw is (⊎_elim
-    (λ (t : same_id j id ≡ true). rw t (ap (λ x. if opened j h then x else Inactive)
-    (subst (λ i. standing (verdict i h) (joined (Some c) (callers i h)) ≡ standing (verdict i h) (callers i h)) (sym (same_id_tells j id t)) same)))
-    (λ (n : same_id j id ≡ false). rw n refl)
-    (either_way (same_id j id)))
+granted_quiet h c id r f is same j = grind (arith, nat_tests)
 
 -- what is known of a call in flight on an identifier
 pub record Flies (k : Config) (log : List Deed) (c slot : ℕ) (doing : Doing) (id : Speculation) : Type 0 where
@@ -48,27 +47,30 @@ module _ (k : Config) (c : ℕ) (log : List Deed) (doing : Doing) (s : IsSound k
   abbrev its : Measured
   its = shown doing (word_at slot log) false
 
-  missed : (one : 1 ≤ slot) → scan k c log ≡ slot → (a : Act) → open_at (word_at slot log) k.max_issues ≡ a → Owes k (of_cpu c) log (shown_scan k c its idle_progress slot (word_at slot log) a).deeds
-  missed one at Void e = subst (Owes k (of_cpu c) log) (sym (missed_deeds k c its idle_progress slot (word_at slot log)))
-      (record { adds = (tt, (rests, (at, one, inl (open_void k log slot e), busy_is k log slot s)), refl); rests = refl; quiet = record { active = refl; slots = λ s. refl; acks = λ a s. refl } })
-  missed one at Granted e = not_plain (open_at (word_at slot log) k.max_issues) Granted (open_plain (word_at slot log) k.max_issues) e refl
-  missed one at (Attempt w) e = none_owed k (of_cpu c) log rests
-  missed one at Idle e = not_plain (open_at (word_at slot log) k.max_issues) Idle (open_plain (word_at slot log) k.max_issues) e refl
+  -- what is done to an open speculation may be done
+  pub acts : (id : Speculation) (stopped done : Bool) → Flies k log c slot doing id → is_open id log ≡ true → stopped ≡ false → done ≡ true
+      → StopsOrActs (halted log) (late c log) (is_open id log) stopped done
+  acts id true done f now goes does = absurd (true≢false goes)
+  acts id false done f now goes does = (f.early, does ∙ sym now)
 
-  granted : (id : Speculation) (r : Record) (b : Bool) → Flies k log c slot doing id → is_open id log ≡ true
-      → standing (verdict id log) (joined (Some c) (callers id log)) ≡ standing (verdict id log) (callers id log)
-      → Owes k (of_cpu c) log (Speculate c id r (if b then spoken.Kept else spoken.Dropped) ∷ [])
-  granted id r true f now same = record {
-    adds = (tt, (rests, (f.idle, (f.early, sym now))), refl);
+  -- a table that ends a call, or attempts, enters nothing where it attempts
+  plain : (F : Act → List Deed) (a : Act) → is_plain a ≡ true → ((w : SlotState) → F (Attempt w) ≡ []) → (a ≡ Void → Owes k (of_cpu c) log (F Void)) → Owes k (of_cpu c) log (F a)
+  plain F Void is none void = void refl
+  plain F (Attempt w) is none void = subst (Owes k (of_cpu c) log) (sym (none w)) (none_owed k (of_cpu c) log rests)
+  plain F a is none void = absurd (true≢false (sym is))
+
+  missed : 1 ≤ slot → scan k c log ≡ slot → Owes k (of_cpu c) log (shown_scan k c its idle_progress slot (word_at slot log) (open_at (word_at slot log) k.max_issues)).deeds
+  missed one at = plain (λ a. (shown_scan k c its idle_progress slot (word_at slot log) a).deeds) (open_at (word_at slot log) k.max_issues) (open_plain _ k.max_issues) (λ w. refl)
+      (λ e. subst (Owes k (of_cpu c) log) (sym (missed_deeds k c its idle_progress slot (word_at slot log)))
+      (record { adds = (tt, (rests, (at, one, inl (open_void k log slot e), busy_is k log slot s)), refl); rests = refl; quiet = record { active = refl; slots = λ s. refl; acks = λ a s. refl } }))
+
+  granted : (id : Speculation) (r : Record) (f : SpeculateFate) → spoken_granted f ≡ true → Flies k log c slot doing id → is_open id log ≡ true
+      → standing (verdict id log) (joined (Some c) (callers id log)) ≡ standing (verdict id log) (callers id log) → Owes k (of_cpu c) log (Speculate c id r f ∷ [])
+  granted id r f grants flies now same = record {
+    adds = (tt, (rests, (flies.idle, acts id _ _ flies now (granted_goes f grants) grants)), refl);
     rests = refl;
     quiet = record
-        { active = refl; slots = λ t. ap (λ x. word_number record { issue = issue t log; code = x }) (granted_quiet log c id r spoken.Kept refl same (present t log)); acks = λ a s. refl };
-  }
-  granted id r false f now same = record {
-    adds = (tt, (rests, (f.idle, (f.early, sym now))), refl);
-    rests = refl;
-    quiet = record
-        { active = refl; slots = λ t. ap (λ x. word_number record { issue = issue t log; code = x }) (granted_quiet log c id r spoken.Dropped refl same (present t log)); acks = λ a s. refl };
+        { active = refl; slots = λ t. ap (λ x. word_number record { issue = issue t log; code = x }) (granted_quiet log c id r f grants same (present t log)); acks = λ a s. refl };
   }
 
   spoken_at : (id : Speculation) (r : Record) → Flies k log c slot doing id → (a : Act) → speculate_at (word_at id.slot log) id (is_among c (callers id log)) ≡ a
@@ -80,58 +82,38 @@ module _ (k : Config) (c : ℕ) (log : List Deed) (doing : Doing) (s : IsSound k
   }
   spoken_at id r f Granted e =
       let g = speculate_granted k log id c s e in
-      by_test (Owes k (of_cpu c) log) doing.fits _ _ (λ t. granted id r true f g.0 g.1) (λ t. granted id r false f g.0 g.1)
+      by_test (Owes k (of_cpu c) log) doing.fits _ _ (λ t. granted id r spoken.Kept refl f g.0 g.1) (λ t. granted id r spoken.Dropped refl f g.0 g.1)
   spoken_at id r f (Attempt w) e = none_owed k (of_cpu c) log rests
   spoken_at id r f Idle e = absurd (speculate_not_idle (word_at id.slot log) id (is_among c (callers id log)) e)
 
-  commit_at_word : (id : Speculation) → Flies k log c slot doing id → (a : Act) → commit_at (word_at id.slot log) id (is_among c (callers id log)) ≡ a
-      → Owes k (of_cpu c) log (shown_commit k c its idle_progress id (word_at slot log) a).deeds
-  commit_at_word id f Void e = record {
-    adds = (tt, (rests, (f.idle, refl, (f.early, sym (commit_void k log id (is_among c (callers id log)) s e)))), refl);
-    rests = refl;
-    quiet = record { active = refl; slots = λ s. refl; acks = λ a s. refl };
-  }
-  commit_at_word id f Granted e = not_plain (commit_at (word_at id.slot log) id (is_among c (callers id log))) Granted (commit_plain (word_at id.slot log) id (is_among c (callers id log))) e refl
-  commit_at_word id f (Attempt w) e = none_owed k (of_cpu c) log rests
-  commit_at_word id f Idle e = not_plain (commit_at (word_at id.slot log) id (is_among c (callers id log))) Idle (commit_plain (word_at id.slot log) id (is_among c (callers id log))) e refl
+  commit_at_word : (id : Speculation) → Flies k log c slot doing id
+      → Owes k (of_cpu c) log (shown_commit k c its idle_progress id (word_at slot log) (commit_at (word_at id.slot log) id (is_among c (callers id log)))).deeds
+  commit_at_word id f = plain (λ a. (shown_commit k c its idle_progress id (word_at slot log) a).deeds) (commit_at (word_at id.slot log) id _) (commit_plain _ id _) (λ w. refl)
+      (λ e. record { adds = (tt, (rests, (f.idle, refl, (f.early, sym (commit_void k log id _ s e)))), refl); rests = refl; quiet = record { active = refl; slots = λ s. refl; acks = λ a s. refl } })
 
-  discard_at_word : (id : Speculation) → Flies k log c slot doing id → (a : Act) → discard_at (word_at id.slot log) id (is_among c (callers id log)) ≡ a
-      → Owes k (of_cpu c) log (shown_discard k c its idle_progress id (word_at slot log) a).deeds
-  discard_at_word id f Void e = record {
-    adds = (tt, (rests, (f.idle, refl, (f.early, sym (discard_void k log id (is_among c (callers id log)) s e)))), refl);
-    rests = refl;
-    quiet = record { active = refl; slots = λ s. refl; acks = λ a s. refl };
-  }
-  discard_at_word id f Granted e = not_plain (discard_at (word_at id.slot log) id (is_among c (callers id log))) Granted (discard_plain (word_at id.slot log) id (is_among c (callers id log))) e refl
-  discard_at_word id f (Attempt w) e = none_owed k (of_cpu c) log rests
-  discard_at_word id f Idle e = not_plain (discard_at (word_at id.slot log) id (is_among c (callers id log))) Idle (discard_plain (word_at id.slot log) id (is_among c (callers id log))) e refl
+  discard_at_word : (id : Speculation) → Flies k log c slot doing id
+      → Owes k (of_cpu c) log (shown_discard k c its idle_progress id (word_at slot log) (discard_at (word_at id.slot log) id (is_among c (callers id log)))).deeds
+  discard_at_word id f = plain (λ a. (shown_discard k c its idle_progress id (word_at slot log) a).deeds) (discard_at (word_at id.slot log) id _) (discard_plain _ id _) (λ w. refl)
+      (λ e. record { adds = (tt, (rests, (f.idle, refl, (f.early, sym (discard_void k log id _ s e)))), refl); rests = refl; quiet = record { active = refl; slots = λ s. refl; acks = λ a s. refl } })
 
 -- at a word of another issue it doesn't matter who the callers are
 pub like : {A : Type 0} (b : Bool) (f : Bool → A) (v : A) (m n : Bool) → (b ≡ true → m ≡ n) → (if b then f m else v) ≡ (if b then f n else v)
 like true f v m n e = ap f (e refl)
 like false f v m n e = refl
 
-module _ (k : Config) (log : List Deed) (c slot : ℕ) (doing : Doing) (id : Speculation) (f : Flies k log c slot doing id) where
-  pub speculate_like : speculate_at (word_at slot log) id doing.mine ≡ speculate_at (word_at id.slot log) id (is_among c (callers id log))
-  speculate_like = ap (λ t. speculate_at (word_at t log) id doing.mine) (sym f.at) ∙ like (issue id.slot log == id.issue)
-      (λ m. speculate_act (issue id.slot log) m (word_at id.slot log).code) Void doing.mine (is_among c (callers id log)) (λ t. f.mine (same_number (issue id.slot log) id.issue t))
-
-  pub commit_like : commit_at (word_at slot log) id doing.mine ≡ commit_at (word_at id.slot log) id (is_among c (callers id log))
-  commit_like = ap (λ t. commit_at (word_at t log) id doing.mine) (sym f.at) ∙ like (issue id.slot log == id.issue)
-      (λ m. commit_act (issue id.slot log) m (word_at id.slot log).code) Void doing.mine (is_among c (callers id log)) (λ t. f.mine (same_number (issue id.slot log) id.issue t))
-
-  pub discard_like : discard_at (word_at slot log) id doing.mine ≡ discard_at (word_at id.slot log) id (is_among c (callers id log))
-  discard_like = ap (λ t. discard_at (word_at t log) id doing.mine) (sym f.at) ∙ like (issue id.slot log == id.issue)
-      (λ m. discard_act (issue id.slot log) m (word_at id.slot log).code) Void doing.mine (is_among c (callers id log)) (λ t. f.mine (same_number (issue id.slot log) id.issue t))
+pub at_like : (k : Config) (log : List Deed) (c slot : ℕ) (doing : Doing) (id : Speculation) (act : ℕ → Bool → Code → Act) → Flies k log c slot doing id
+    → (if issue slot log == id.issue then act (issue slot log) doing.mine (word_at slot log).code else Void)
+    ≡ (if issue id.slot log == id.issue then act (issue id.slot log) (is_among c (callers id log)) (word_at id.slot log).code else Void)
+at_like k log c slot doing id act f = ap (λ t. if issue t log == id.issue then act (issue t log) doing.mine (word_at t log).code else Void) (sym f.at)
+    ∙ like (issue id.slot log == id.issue) (λ m. act (issue id.slot log) m (word_at id.slot log).code) Void _ _ (λ t. f.mine (same_number (issue id.slot log) id.issue t))
 
 -- what a call may load a word for, said of the log
 abbrev pub IsReady : Config → ℕ → List Deed → Doing → ℕ → CpuOp → Type 0
-IsReady k c log doing slot (op.Trace r) = Unit {0}
 IsReady k c log doing slot op.Speculation = scan k c log ≡ slot
 IsReady k c log doing slot (op.Speculate id r) = Flies k log c slot doing id
 IsReady k c log doing slot (op.Commit id) = Flies k log c slot doing id
 IsReady k c log doing slot (op.Discard id) = Flies k log c slot doing id
-IsReady k c log doing slot op.Service = Unit {0}
+IsReady k c log doing slot o = Unit {0}
 
 looked : (k : Config) (c : ℕ) (log : List Deed) (doing : Doing) (slot : ℕ) → owed log ≡ 0 → Owes k (of_cpu c) log (at_word k c doing slot (word_at slot log) op.Service)
 looked k c log doing slot rests =
@@ -140,18 +122,17 @@ looked k c log doing slot rests =
 
 pub owes : (k : Config) (c : ℕ) (log : List Deed) (doing : Doing) (slot : ℕ) → IsSound k log → owed log ≡ 0 → 1 ≤ slot → (o : CpuOp) → IsReady k c log doing slot o
     → Owes k (of_cpu c) log (at_word k c doing slot (word_at slot log) o)
-owes k c log doing slot s rests one (op.Trace r) f = looked k c log doing slot rests
-owes k c log doing slot s rests one op.Speculation f = missed k c log doing s rests slot one f (open_at (word_at slot log) k.max_issues) refl
+owes k c log doing slot s rests one op.Speculation f = missed k c log doing s rests slot one f
 owes k c log doing slot s rests one (op.Speculate id r) f =
-    subst (λ a. Owes k (of_cpu c) log (shown_speculate k c (shown doing (word_at slot log) false) idle_progress id r (word_at slot log) a).deeds) (sym (speculate_like k log c slot doing id f))
+    subst (λ a. Owes k (of_cpu c) log (shown_speculate k c (shown doing (word_at slot log) false) idle_progress id r (word_at slot log) a).deeds) (sym (at_like k log c slot doing id speculate_act f))
     (spoken_at k c log doing s rests slot id r f (speculate_at (word_at id.slot log) id (is_among c (callers id log))) refl)
 owes k c log doing slot s rests one (op.Commit id) f =
-    subst (λ a. Owes k (of_cpu c) log (shown_commit k c (shown doing (word_at slot log) false) idle_progress id (word_at slot log) a).deeds) (sym (commit_like k log c slot doing id f))
-    (commit_at_word k c log doing s rests slot id f (commit_at (word_at id.slot log) id (is_among c (callers id log))) refl)
+    subst (λ a. Owes k (of_cpu c) log (shown_commit k c (shown doing (word_at slot log) false) idle_progress id (word_at slot log) a).deeds) (sym (at_like k log c slot doing id commit_act f))
+    (commit_at_word k c log doing s rests slot id f)
 owes k c log doing slot s rests one (op.Discard id) f =
-    subst (λ a. Owes k (of_cpu c) log (shown_discard k c (shown doing (word_at slot log) false) idle_progress id (word_at slot log) a).deeds) (sym (discard_like k log c slot doing id f))
-    (discard_at_word k c log doing s rests slot id f (discard_at (word_at id.slot log) id (is_among c (callers id log))) refl)
-owes k c log doing slot s rests one op.Service f = looked k c log doing slot rests
+    subst (λ a. Owes k (of_cpu c) log (shown_discard k c (shown doing (word_at slot log) false) idle_progress id (word_at slot log) a).deeds) (sym (at_like k log c slot doing id discard_act f))
+    (discard_at_word k c log doing s rests slot id f)
+owes k c log doing slot s rests one o f = looked k c log doing slot rests
 
 -- what a seat knows of its call holds of the log
 pub flies : (k : Config) (st : State ℕ View) (kept : WordsRule k st) (by : ℕ) (v : View) (c slot : ℕ) (doing : Doing) (id : Speculation) → get_elem? st.views by ≡ some v
@@ -173,12 +154,7 @@ flies k st kept by v c slot doing id at who f =
 
 pub ready : (k : Config) (st : State ℕ View) (kept : WordsRule k st) (by : ℕ) (v : View) (c slot : ℕ) (doing : Doing) → get_elem? st.views by ≡ some v → v.who ≡ of_cpu c
     → (o : CpuOp) → MayLoad k v c doing slot o → IsReady k c kept.log doing slot o
-ready k st kept by v c slot doing at who (op.Trace r) m = tt
-ready k st kept by v c slot doing at who op.Speculation m = idle_log k st kept by v c at who m.0
-ready k st kept by v c slot doing at who (op.Speculate id r) m = flies k st kept by v c slot doing id at who m
-ready k st kept by v c slot doing at who (op.Commit id) m = flies k st kept by v c slot doing id at who m
-ready k st kept by v c slot doing at who (op.Discard id) m = flies k st kept by v c slot doing id at who m
-ready k st kept by v c slot doing at who op.Service m = tt
+ready k st kept by v c slot doing h1 h2 o h3 = grind (arith, nat_tests, idle_log, flies)
 
 pub loads_word : (k : Config) (slots id c slot : ℕ) (me : Me ℕ View) (doing : Doing) → 1 ≤ slot → slot ≤ k.nspec → me.0.who ≡ of_cpu c → me.0.also ≡ [] → MayLoad k me.0 c doing slot doing.op
     → Allows (WordsRule k) slots id me (slot_place slot) (λ n. n) (λ n w. LoadedNumber doing slot me.0 n w.0 × (w.1 ≡ me.1))

@@ -1,4 +1,5 @@
 -- What seats knew when they were joined.
+use Rattle.std.proofs.lemmas.Bool.Decides.{nat_tests}
 use Rattle.std.proofs.Common.{◌≡◌, ◌≤◌, arith, true, false, List, [], ◌∷◌, ◌++◌, length, refl, sym, ap, ◌∙◌, subst, ⊎_elim}
 use Rattle.dspec_deeds.specs.declared.deed.Deed.{Deed}
 use Rattle.dspec_deeds.proofs.TestLemmas.{either_way}
@@ -24,12 +25,7 @@ since_part w seen (d ∷ h) (more s other) = since_part w seen h s ∙ sym (part
 
 part_grows : (w : Holder) (seen log : List Deed) → Since of_nobody seen log → length (part_of w seen) ≤ length (part_of w log)
 part_grows w seen _ here = omega arith
-part_grows w seen (d ∷ h) (more s other) =
-    let r = part_grows w seen h s in
-    ⊎_elim
-    (λ (t : same_holder w (doer d h) ≡ true). let e : part_of w (d ∷ h) ≡ d ∷ part_of w h = part_next w d h ∙ rw t refl in let l = ap (length {A = Deed}) e in omega arith)
-    (λ (f : same_holder w (doer d h) ≡ false). let e : part_of w (d ∷ h) ≡ part_of w h = part_next w d h ∙ rw f refl in let l = ap (length {A = Deed}) e in omega arith)
-    (either_way (same_holder w (doer d h)))
+part_grows w seen (d ∷ h) (more s other) = grind (arith, nat_tests, part_grows w seen h s)
 
 -- where a part stays as it is, the list goes on by deeds of others
 pub others_since : (w : Holder) (seen log : List Deed) → part_of w seen ≡ part_of w log → Since of_nobody seen log → Since w seen log

@@ -1,10 +1,10 @@
 -- The consumer releases what every CPU has settled.
+use Rattle.std.proofs.lemmas.Bool.Decides.{nat_tests}
 use Rattle.std.proofs.Common.{◌≡◌, ℕ, ◌≤◌, ◌<◌, true, ◌==◌, List, [], ◌∷◌, refl, sym, ap, ◌∙◌, subst, inl, inr, arith}
 use prog.Atomic.{either}
 use Rattle.atomic_table.specs.Table.{Allows, Me}
 use Rattle.dspec_table.specs.Words.{SlotState, word_number, released, slot_place, Holder, of_consumer, same_holder, issue, ack, present, settled, releaser, word_at, View, WordsRule, Since, here}
 use Rattle.dspec_table.specs.Words.{more, MayReap, ReapedNumber, IsSound, CanBeReleased, awaits}
-use Rattle.dspec_word.specs.declared.code.Code.TheVariants.{Inactive}
 use Rattle.dspec_word.proofs.Numbers.{one_word}
 use Rattle.dspec_deeds.specs.declared.config.Config.{Config}
 use Rattle.dspec_deeds.specs.declared.deed.Deed.{Deed}
@@ -13,7 +13,7 @@ use Rattle.dspec_deeds.proofs.Awaiting.{awaiting}
 use Rattle.dspec_table.proofs.Keeps.{finds, none_owed}
 use Rattle.dspec_table.proofs.Changes.{Changes, exchanges}
 use Rattle.dspec_deeds.proofs.WordChanges.{released_word, elsewhere}
-use Rattle.std.proofs.Common.{◌^◌, ⊎_elim, true≢false}
+use Rattle.std.proofs.Common.{◌^◌}
 use Rattle.dspec_deeds.proofs.Acked.{acked, acks_rise}
 use Rattle.std.specs.Prelude.{Some}
 
@@ -23,10 +23,7 @@ acked_since k w c s seen (d ∷ h) sound (more rest other) = let a = acked_since
 
 -- a word that waits for every CPU is within the limit
 pub awaited_below : (w : SlotState) → CanBeReleased w → awaits w.code ≡ true → w.issue < 2 ^ 57
-awaited_below w can waits = ⊎_elim
-    (λ (less : w.issue < 2 ^ 57). less)
-    (λ (e : w.code ≡ Inactive). absurd (true≢false (sym waits ∙ ap awaits e)))
-    can
+awaited_below w can waits = grind (arith, nat_tests)
 
 pub reaps : (k : Config) (slots id slot : ℕ) (me : Me ℕ View) (from : SlotState) → me.0.who ≡ of_consumer → me.0.also ≡ [] → MayReap k me.0 slot from
     → Allows (WordsRule k) slots id me (slot_place slot) (λ n. either (n == word_number from) (word_number (released from.issue)) n)

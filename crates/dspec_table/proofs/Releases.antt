@@ -4,8 +4,8 @@ use mathlib.Core.Option.{some}
 use lib.ListN.{get_elem?}
 use prog.Atomic.{either}
 use Rattle.atomic_table.specs.Table.{State, Allows, Me}
-use Rattle.dspec_table.specs.Words.{Speculation, SlotState, word_number, slot_place, of_cpu, issue, scan, present, opened, releaser, verdict, is_undecided, callers, solo, solo_of, Verdict}
-use Rattle.dspec_table.specs.Words.{undecided, committed, discarded, IsSound, View, WordsRule, Since, here, more, ReleasedWord, OwnCommit, released}
+use Rattle.dspec_table.specs.Words.{Speculation, SlotState, word_number, slot_place, of_cpu, issue, scan, present, opened, releaser, verdict, is_undecided, callers, solo, solo_of, Ruling, undecided}
+use Rattle.dspec_table.specs.Words.{committed, discarded, IsSound, View, WordsRule, Since, here, more, ReleasedWord, OwnCommit, released}
 use Rattle.dspec_word.specs.declared.code.Code.TheVariants.{Inactive, Committing}
 use Rattle.dspec_deeds.specs.declared.config.Config.{Config}
 use Rattle.dspec_deeds.specs.declared.deed.Deed.{Deed}
@@ -32,7 +32,7 @@ held_since k c s seen (d ∷ h) lt sound (more rest other) held =
       },
     )
 
-decided_word : (v : Verdict) (cs : List ℕ) (c : ℕ) → solo_of v cs ≡ Some c → is_undecided v ≡ false
+decided_word : (v : Ruling) (cs : List ℕ) (c : ℕ) → solo_of v cs ≡ Some c → is_undecided v ≡ false
 decided_word undecided cs c e = absurd (cc (e))
 decided_word (committed a) cs c e = refl
 decided_word (discarded a) cs c e = refl

@@ -1,11 +1,10 @@
 -- Case by case, the deeds of a step of a play are those of the seat's step: both read the table of steps, by measures that agree.
-use Rattle.std.proofs.Common.{◌≡◌, ◌+◌, ◌==◌, ℕ, Bool, true, false, List, [], ◌∷◌, Option, Some, if◌then◌else◌, length, refl, sym, ap, ◌∙◌, subst, arith}
-use Rattle.std.specs.Prelude.{map}
+use Rattle.std.proofs.lemmas.Bool.Decides.{nat_tests}
+use Rattle.std.proofs.Common.{◌≡◌, ◌==◌, ℕ, Bool, true, false, List, [], Option, Some, if◌then◌else◌, refl, sym, ap, ◌∙◌, subst, arith}
 use Rattle.dspec_record.specs.declared.field.Shape.{Shape}
-use Rattle.dspec_table.specs.Words.{Record, one, piece_fits, Speculation, speculate_at, speculate_act, commit_at, commit_act, discard_at, discard_act, open_at, settle_at, halted, is_among, callers}
-use Rattle.dspec_table.specs.Words.{word_at, ack, mark, part, IsSound, bare, is_fill, contents, settled_fate, is_told_worn, is_worn_answer, is_counted, same_word, CpuStep, Measured, measured}
-use Rattle.dspec_table.specs.Words.{idle_progress, cpu_step, wears, asked, popped, begun, is_worn, Doing, deeds_at, seen, seat_reads, IsMine, Measures, IsSameCall, shown_speculate, shown_commit}
-use Rattle.dspec_table.specs.Words.{shown_discard, committed_by, discarded_by}
+use Rattle.dspec_table.specs.Words.{Record, Speculation, speculate_at, speculate_act, commit_at, commit_act, discard_at, discard_act, open_at, settle_at, halted, is_among, callers, word_at, ack}
+use Rattle.dspec_table.specs.Words.{mark, part, IsSound, bare, is_told_worn, is_worn_answer, is_counted, same_word, CpuStep, Measured, measured, idle_progress, cpu_step, wears, popped, begun}
+use Rattle.dspec_table.specs.Words.{is_worn, Doing, deeds_at, seen, seat_reads, IsMine, Measures, IsSameCall, shown_speculate, shown_commit, shown_discard, committed_by, discarded_by}
 use Rattle.dspec_word.specs.declared.act.Act.{Act}
 use Rattle.dspec_word.specs.declared.act.Act.TheVariants.{Void}
 use Rattle.dspec_deeds.specs.declared.config.Config.{Config}
@@ -14,46 +13,28 @@ use Rattle.dspec_deeds.specs.declared.calls.CpuOp.{CpuOp}
 use Rattle.dspec_deeds.specs.declared.calls.CpuOp.TheVariants as cpu_op
 use Rattle.dspec_deeds.specs.declared.calls.Op.TheVariants as op
 use Rattle.dspec_deeds.specs.declared.deed.Deed.{Deed}
-use Rattle.dspec_deeds.specs.declared.deed.Deed.TheVariants.{Settle}
 use Rattle.dspec_deeds.proofs.BareReads.{shows_bare}
 use Rattle.dspec_deeds.proofs.Marks.{mark_tells}
 use Rattle.dspec_deeds.specs.declared.calls.Actor.TheVariants.{Cpu}
-use Rattle.dspec_deeds.proofs.OwnReads.{reads, fits_alike, block_alike}
-use Rattle.dspec_deeds.proofs.TestLemmas.{same_number, off}
+use Rattle.dspec_deeds.proofs.OwnReads.{reads}
+use Rattle.dspec_deeds.proofs.TestLemmas.{off}
 use Rattle.dspec_interleaving.specs.declared.flight.CpuProgress.{CpuProgress}
 use Rattle.dspec_interleaving.specs.declared.flight.CallPlace.{CallPlace}
 use Rattle.dspec_interleaving.specs.declared.flight.CallPlace.TheVariants as cpu
 use Rattle.dspec_interleaving.specs.declared.flight.Spare.{Spare}
 use Rattle.dspec_interleaving.specs.declared.flight.Spare.TheVariants as spare
-use Rattle.dspec_interleaving.proofs.StepDeeds.{by_test, served_deeds}
 use Rattle.dspec_interleaving.proofs.StepsWords.{same_word_tells}
 use Rattle.dspec_table.proofs.InFlight as rows
-use Rattle.dspec_table.proofs.Loads.{like}
 
 -- whether the CPU is a caller is asked at a word of the identifier's issue alone, and there the seat knows it
 mine_alike : (k : Config) (c : ℕ) (h : List Deed) (id : Speculation) (doing : Doing) (table : Bool → Act) → IsSound k h → IsMine c h id doing
     → (if (word_at id.slot h).issue == id.issue then table doing.mine else Void) ≡ (if (word_at id.slot h).issue == id.issue then table (is_among c (callers id h)) else Void)
-mine_alike k c h id doing table sound mine = like ((word_at id.slot h).issue == id.issue) table Void doing.mine (is_among c (callers id h))
-    (λ t.
-    let same = same_number (word_at id.slot h).issue id.issue t in
-    let least = (mark_tells k c id.slot h sound).bound in
-    mine (omega arith))
+mine_alike k c h id doing table sound mine = grind (arith, nat_tests, mark_tells k c id.slot h sound)
 
 -- what was measured by the CPU's own list is what the whole list has
 measured_alike : (shape : ℕ → Option Shape) (k : Config) (c : ℕ) (h : List Deed) (doing : Doing) (f : CallPlace)
     → Measures (measured shape k c (part (Cpu c) h)) (λ s. mark c s (part (Cpu c) h)) doing f → Measures (measured shape k c h) (λ s. mark c s h) doing f
-measured_alike shape k c h doing f =
-    let alike = reads k c h in
-    subst (λ (p : Measured × (ℕ → ℕ)). Measures p.0 p.1 doing f) (λ i. (
-      record (measured shape k c h) {
-        traces = λ r. fits_alike shape k c (one r) (part (Cpu c) h) h alike i;
-        keeps = λ id r. piece_fits shape (map one (contents (alike.apart.buffers id i))) (one r) k.specsize;
-        copies = λ id. block_alike shape k c id (part (Cpu c) h) h alike i;
-        count = λ id. length (alike.apart.buffers id i);
-        mine = λ id. alike.apart.called id i;
-      },
-      λ s. alike.apart.marking s i,
-    ))
+measured_alike shape k c h doing f h1 = grind (arith, nat_tests, reads k c h)
 
 -- a call that isn't told worn
 unworn : (w : Bool) (me : CpuProgress) (a : Answer) (x : CpuStep) → is_told_worn (if w then wears me a else x).answer ≡ false → is_worn_answer a ≡ true → w ≡ false
@@ -67,30 +48,16 @@ module _ (shape : ℕ → Option Shape) (k : Config) (c : ℕ) (h : List Deed) (
   abbrev n : Measured
   n = seat_reads doing h
 
-  -- what comes before the slots of a service enters a Seal at most
-  asks : (b : Bool) (place : Spare) → bare (asked k c m me b place).deeds ≡ []
-  asks false place = refl
-  asks true spare.InHand = refl
-  asks true spare.Sealed = refl
-  asks true spare.Handed = refl
-  asks true spare.Out = refl
-  asks true spare.GivenBack = refl
-
   pops : (place : Spare) → bare (popped k c m me place).deeds ≡ []
   pops spare.InHand = refl
-  pops spare.Sealed = refl
-  pops spare.Handed = refl
-  pops spare.Out = refl
-  pops spare.GivenBack = refl
+  pops place = refl
 
   begins : (o : CpuOp) → is_counted (op.Cpu o) ≡ true → is_worn k c h ≡ false → ((r : Record) → o ≡ cpu_op.Trace r → m.traces r ≡ doing.fits) → bare (begun k c m me o).deeds
       ≡ (begun k c n idle_progress o).deeds
   begins o counts worn fits = (rows.begins k c m me doing (halted h) n.word n.hits (Some o) o refl counts worn refl fits).0
 
   service_begins : bare (begun k c m me cpu_op.Service).deeds ≡ []
-  service_begins =
-      by_test (λ ds. bare ds ≡ []) (is_fill k.policy) _ _
-      (λ t. ap bare (rows.looks k c m me 1 record { sealed = false; settled = 0 } (word_at 1 h) (settle_at (word_at 1 h) (ack c 1 h)))) (λ f. asks _ me.spare)
+  service_begins = grind (arith, nat_tests)
 
   -- a word that is shown: the tables may ask whether the CPU is a caller
   speculates : (id : Speculation) (r : Record) → doing.fits ≡ m.keeps id r → IsSound k h → IsMine c h id doing
@@ -107,9 +74,7 @@ module _ (shape : ℕ → Option Shape) (k : Config) (c : ℕ) (h : List Deed) (
   commits : (id : Speculation) → IsSound k h → IsMine c h id doing
       → bare (shown_commit k c m me id (word_at id.slot h) (commit_at (word_at id.slot h) id (m.mine id))).deeds
       ≡ (shown_commit k c n idle_progress id (word_at id.slot h) (commit_at (word_at id.slot h) id doing.mine)).deeds
-  commits id sound mine =
-      (rows.commits k c m me doing (halted h) n.word n.hits (Some (cpu_op.Commit id)) id refl (word_at id.slot h) (commit_at (word_at id.slot h) id (m.mine id))).0
-      ∙ ap (λ a. (shown_commit k c n idle_progress id (word_at id.slot h) a).deeds) (commit_like id sound mine)
+  commits id h1 h2 = grind (arith, nat_tests)
 
   discard_like : (id : Speculation) → IsSound k h → IsMine c h id doing → discard_at (word_at id.slot h) id (m.mine id) ≡ discard_at (word_at id.slot h) id doing.mine
   discard_like id sound mine = sym (mine_alike k c h id doing (λ t. discard_act (word_at id.slot h).issue t (word_at id.slot h).code) sound mine)
@@ -117,9 +82,7 @@ module _ (shape : ℕ → Option Shape) (k : Config) (c : ℕ) (h : List Deed) (
   discards : (id : Speculation) → IsSound k h → IsMine c h id doing
       → bare (shown_discard k c m me id (word_at id.slot h) (discard_at (word_at id.slot h) id (m.mine id))).deeds
       ≡ (shown_discard k c n idle_progress id (word_at id.slot h) (discard_at (word_at id.slot h) id doing.mine)).deeds
-  discards id sound mine =
-      (rows.discards k c m me doing (halted h) n.word n.hits (Some (cpu_op.Discard id)) id refl (word_at id.slot h) (discard_at (word_at id.slot h) id (m.mine id))).0
-      ∙ ap (λ a. (shown_discard k c n idle_progress id (word_at id.slot h) a).deeds) (discard_like id sound mine)
+  discards id h1 h2 = grind (arith, nat_tests)
 
   -- an exchange
   tries : (b : Bool) (x y u w : CpuStep) → (b ≡ true → bare x.deeds ≡ u.deeds) → bare y.deeds ≡ w.deeds → bare (if b then x else y).deeds ≡ (if b then u else w).deeds
@@ -129,11 +92,8 @@ module _ (shape : ℕ → Option Shape) (k : Config) (c : ℕ) (h : List Deed) (
   -- each place of a call, by what the list of the play shows
   by_place : (f : CallPlace) → IsSameCall shape k c h me f doing → Measures m (λ s. mark c s h) doing f → bare (cpu_step shape k c h me f).deeds ≡ deeds_at k c (seat_reads doing h) f
   by_place (cpu.Begun (cpu_op.Trace r)) same fits = begins (cpu_op.Trace r) refl (unworn _ me _ _ same.worn refl) (λ x e. let it : x ≡ r = cc (e) in ap m.traces it ∙ sym fits)
-  by_place (cpu.Begun cpu_op.Speculation) same fits = begins cpu_op.Speculation refl (unworn _ me _ _ same.worn refl) (λ x e. absurd (cc (e)))
-  by_place (cpu.Begun (cpu_op.Speculate id r)) same fits = begins (cpu_op.Speculate id r) refl (unworn _ me _ _ same.worn refl) (λ x e. absurd (cc (e)))
-  by_place (cpu.Begun (cpu_op.Commit id)) same fits = begins (cpu_op.Commit id) refl (unworn _ me _ _ same.worn refl) (λ x e. absurd (cc (e)))
-  by_place (cpu.Begun (cpu_op.Discard id)) same fits = begins (cpu_op.Discard id) refl (unworn _ me _ _ same.worn refl) (λ x e. absurd (cc (e)))
   by_place (cpu.Begun cpu_op.Service) same fits = service_begins ∙ sym (rows.service_begins k c doing (halted h) n.word n.hits)
+  by_place (cpu.Begun o) same fits = begins o refl (unworn _ me _ _ same.worn refl) (λ x e. absurd (cc (e)))
   by_place (cpu.ScanLoad s) same fits = (rows.scans k c m me doing (halted h) n.word n.hits (Some cpu_op.Speculation) refl s (word_at s h) (open_at (word_at s h) k.max_issues)).0
   by_place (cpu.ScanTry s from) same fits =
       tries (same_word (word_at s h) from) _ _ _ _ (λ t. refl) (rows.misses k c m me doing (halted h) n.word n.hits (Some cpu_op.Speculation) refl s (word_at s h)).0
@@ -164,10 +124,7 @@ module _ (shape : ℕ → Option Shape) (k : Config) (c : ℕ) (h : List Deed) (
   by_place cpu.ServicePush same fits = refl
   by_place (cpu.ServiceLoad s sum) same fits =
       ap bare (rows.looks k c m me s sum (word_at s h) (settle_at (word_at s h) (ack c s h))) ∙ sym (rows.looks k c n idle_progress s sum (word_at s h) (settle_at (word_at s h) 0))
-  by_place (cpu.ServiceStore s w sum) same fits =
-      ap bare (served_deeds k c m me s _ record { sealed = sum.sealed; settled = sum.settled + 1 })
-      ∙ (λ i. Settle c record { issue = w.issue; slot = s } (settled_fate w.code (sym fits.0 i) (sym fits.1 i)) ∷ [])
-      ∙ sym (served_deeds k c n idle_progress s _ record { sealed = sum.sealed; settled = sum.settled + 1 })
+  by_place (cpu.ServiceStore s w sum) same fits = grind (arith, nat_tests)
 
   -- and by what the words show
   pub same_deeds : (f : CallPlace) → IsSameCall shape k c h me f doing → bare (cpu_step shape k c h me f).deeds ≡ deeds_at k c (seat_reads doing (bare h)) f

@@ -1,23 +1,19 @@
 -- What the relations of the steps at the words say, place by place, is the list of deeds that the places name.
-use Rattle.std.proofs.Common.{◌≡◌, ◌≤◌, ◌+◌, ◌==◌, arith, ℕ, Bool, true, false, List, [], ◌∷◌, ◌++◌, Option, inl, inr, refl, sym, ap, ◌∙◌, subst, ⊎_elim}
+use Rattle.std.proofs.Common.{◌≡◌, arith, ℕ, Bool, true, false, List, [], ◌∷◌, ◌++◌, Option, inl, inr, refl, sym, ap, ◌∙◌, subst}
 use Rattle.dspec_record.specs.declared.field.Shape.{Shape}
-use Rattle.dspec_table.specs.Words.{SlotState, word_number, is_seal, halted, word_at, settle_at, is_among, callers, mark, Speculation, IsInFlight, bare, op_of, same_word, cpu_step, idle_progress}
-use Rattle.dspec_table.specs.Words.{Doing, View, nothing, shown, deeds_at, trying, at_activity, at_word, at_exchange, settled_fate, number_of, slot_place, calling, Found, Entered, LoadedActivity}
-use Rattle.dspec_table.specs.Words.{LoadedWord, IsSameCall, seat_reads, IsMine, SeatStep, Exchanges, IsStepOfPlay, activity_place}
+use Rattle.dspec_table.specs.Words.{SlotState, halted, word_at, Speculation, IsInFlight, bare, op_of, same_word, cpu_step, Doing, View, nothing, shown, deeds_at, trying, at_activity, at_word}
+use Rattle.dspec_table.specs.Words.{at_exchange, number_of, slot_place, Found, Entered, LoadedActivity, LoadedWord, IsSameCall, seat_reads, IsMine, SeatStep, Exchanges, IsStepOfPlay}
 use Rattle.dspec_deeds.specs.declared.config.Config.{Config}
 use Rattle.dspec_deeds.specs.declared.calls.CpuOp.{CpuOp}
 use Rattle.dspec_deeds.specs.declared.calls.CpuOp.TheVariants as cpu_op
 use Rattle.dspec_deeds.specs.declared.deed.Deed.{Deed}
 use Rattle.dspec_deeds.proofs.OwnReads.{apart_bare}
 use Rattle.std.proofs.lemmas.Bool.Decides.{nat_tests}
-use Rattle.dspec_deeds.proofs.TestLemmas.{either_way}
 use Rattle.dspec_interleaving.specs.declared.flight.CpuProgress.{CpuProgress}
 use Rattle.dspec_interleaving.specs.declared.flight.CallPlace.{CallPlace}
 use Rattle.dspec_interleaving.specs.declared.flight.CallPlace.TheVariants as cpu
-use Rattle.dspec_interleaving.proofs.StepsWords.{word_is_itself, words_test, same_word_tells}
-use Rattle.dspec_deeds.specs.declared.deed.Deed.TheVariants.{Settle}
-use Rattle.dspec_table.proofs.InFlight.{looks, service_begins}
-use Rattle.dspec_interleaving.proofs.StepDeeds.{served_deeds}
+use Rattle.dspec_interleaving.proofs.StepsWords.{same_word_tells}
+use Rattle.dspec_table.proofs.InFlight.{service_begins}
 use Rattle.dspec_table.proofs.SameDeeds.{same_deeds}
 
 -- the deeds ds behind the seat's own list p, and behind the list that the step found
@@ -28,55 +24,32 @@ pub record IsBehind (ds p log : List Deed) (w : View) : Type 0 where
 -- Seals are left out of each part alone
 pub bare_joined : (ds h : List Deed) → bare (ds ++ h) ≡ bare ds ++ bare h
 bare_joined [] h = refl
-bare_joined (d ∷ ds) h = ⊎_elim
-    (λ (t : is_seal d ≡ true). rw t (bare_joined ds h))
-    (λ (f : is_seal d ≡ false). rw f (ap (λ x. d ∷ x) (bare_joined ds h)))
-    (either_way (is_seal d))
+bare_joined (d ∷ ds) h = grind (arith, nat_tests, bare_joined ds h)
 
 -- a step of that call entered what a table says of the thing shown
 pub did : {A : Type 0} {place : ℕ} (F : A → List Deed) (shown is : A) (v w : View) (log : List Deed) → shown ≡ is → Entered place v log (F shown) w → IsBehind (F is) v.own log w
-did F shown is v w log e entered = record {
-  own = ap (λ (x : View). x.own) entered.view ∙ ap (λ x. F x ++ v.own) e;
-  seen = ap (λ (x : View). x.seen) entered.view ∙ ap (λ x. F x ++ log) e;
-}
+did F shown is v w log e entered = grind (arith, nat_tests)
 
 abbrev Did : Doing → CpuOp → (List Deed → List Deed) → View → View → Type 0
 Did doing o ds v w = (log : List Deed) × Found v log × (doing.op ≡ o → IsBehind (ds log) v.own log w)
 
 begins_as : (doing : Doing) (o : CpuOp) (v w : View) → (stopped : Bool) × LoadedActivity doing v stopped w → Did doing o (λ log. at_activity v.config (number_of v.who) doing o (halted log)) v w
-begins_as doing o v w (stopped, (log, found, is, entered)) = (
-  log,
-  found,
-  λ op. did (λ b. at_activity v.config (number_of v.who) doing o b) stopped (halted log) (calling doing.op v) w log is
-      (subst (λ x. Entered activity_place (calling doing.op v) log (at_activity v.config (number_of v.who) doing x stopped) w) op entered),
-)
+begins_as doing o v w h1 = grind (arith, nat_tests)
 
 loads_as : (doing : Doing) (o : CpuOp) (slot : ℕ) (v w : View) → (x : SlotState) × LoadedWord doing slot v x w
     → Did doing o (λ log. at_word v.config (number_of v.who) doing slot (word_at slot log) o) v w
-loads_as doing o slot v w (x, (log, found, is, entered)) = (
-  log,
-  found,
-  λ op. did (λ y. at_word v.config (number_of v.who) doing slot y o) x (word_at slot log) v w log is
-      (subst (λ p. Entered (slot_place slot) v log (at_word v.config (number_of v.who) doing slot x p) w) op entered),
-)
+loads_as doing o slot v w h1 = grind (arith, nat_tests)
 
 -- an exchange hits exactly where plays find the words the same
 exchanged : (P : SlotState → Bool → Type 0) (from : SlotState) → Exchanges P from → (shown : SlotState) × P shown (same_word shown from)
-exchanged P from (inl hit) = (from, subst (P from) (sym (word_is_itself from)) hit)
-exchanged P from (inr (shown, greater, missed)) =
-    let apart : (word_number shown == word_number from) ≡ false = grind (arith, nat_tests) in
-    (shown, subst (P shown) (sym apart ∙ words_test shown from) missed)
+exchanged P from h1 = grind (arith, nat_tests)
 
 -- the word that it expects is read where it hits alone, and is the one shown there
 expected : (k : Config) (c slot : ℕ) (doing : Doing) (w from : SlotState) (o : CpuOp) (b : Bool) → same_word w from ≡ b → at_exchange k c doing slot w b o
     ≡ deeds_at k c (shown doing w b) (trying slot from o)
 expected k c slot doing w from o true e = ap (λ x. deeds_at k c (shown doing w true) (trying slot x o)) (same_word_tells w from e)
 expected k c slot doing w from (cpu_op.Trace r) false e = refl
-expected k c slot doing w from cpu_op.Speculation false e = refl
-expected k c slot doing w from (cpu_op.Speculate id r) false e = refl
-expected k c slot doing w from (cpu_op.Commit id) false e = refl
-expected k c slot doing w from (cpu_op.Discard id) false e = refl
-expected k c slot doing w from cpu_op.Service false e = refl
+expected k c slot doing w from o false e = refl
 
 abbrev TriedAs : Doing → CpuOp → ℕ → View → View → SlotState → Bool → Type 0
 TriedAs doing o slot v w x hit = (log : List Deed) × Found v log × (x ≡ word_at slot log) × Entered (slot_place slot) v log (at_exchange v.config (number_of v.who) doing slot x hit o) w
@@ -97,22 +70,14 @@ tries_as doing known o p slot from v w of step = go (exchanged (TriedAs known p 
     )
 
 seat_did : (doing : Doing) (v w : View) (f : CallPlace) → SeatStep doing v f w → Did doing (op_of f) (λ log. deeds_at v.config (number_of v.who) (seat_reads doing log) f) v w
-seat_did doing v w (cpu.Begun cpu_op.Service) (inl step) =
-    let d = loads_as doing cpu_op.Service 1 v w step in
-    let same = looks v.config (number_of v.who) (shown doing (word_at 1 d.0) false) idle_progress 1 record { sealed = false; settled = 0 } (word_at 1 d.0) (settle_at (word_at 1 d.0) 0)
-    ∙ sym (service_begins v.config (number_of v.who) doing (halted d.0) (seat_reads doing d.0).word (seat_reads doing d.0).hits) in
-    (d.0, d.1, λ op. subst (λ ds. IsBehind ds v.own d.0 w) same (d.2 op))
+seat_did doing v w (cpu.Begun cpu_op.Service) (inl step) = grind (arith, nat_tests)
 seat_did doing v w (cpu.Begun cpu_op.Service) (inr (n, (log, found, least, view))) = (
   log,
   found,
   λ op. subst (λ ds. IsBehind ds v.own log w) (sym (service_begins v.config (number_of v.who) doing (halted log) (seat_reads doing log).word (seat_reads doing log).hits))
       (record { own = ap (λ (x : View). x.own) view; seen = ap (λ (x : View). x.seen) view }),
 )
-seat_did doing v w (cpu.Begun (cpu_op.Trace r)) step = begins_as doing (cpu_op.Trace r) v w step
-seat_did doing v w (cpu.Begun cpu_op.Speculation) step = begins_as doing cpu_op.Speculation v w step
-seat_did doing v w (cpu.Begun (cpu_op.Speculate id r)) step = begins_as doing (cpu_op.Speculate id r) v w step
-seat_did doing v w (cpu.Begun (cpu_op.Commit id)) step = begins_as doing (cpu_op.Commit id) v w step
-seat_did doing v w (cpu.Begun (cpu_op.Discard id)) step = begins_as doing (cpu_op.Discard id) v w step
+seat_did doing v w (cpu.Begun o) step = begins_as doing o v w step
 seat_did doing v w (cpu.ScanLoad s) step = loads_as doing cpu_op.Speculation s v w step
 seat_did doing v w (cpu.ScanTry s from) step = tries_as doing nothing cpu_op.Speculation cpu_op.Speculation s from v w (λ op. refl) step
 seat_did doing v w (cpu.SpeculateLoad id r) step = loads_as doing (cpu_op.Speculate id r) id.slot v w step
@@ -124,36 +89,15 @@ seat_did doing v w (cpu.DiscardLoad id) step = loads_as doing (cpu_op.Discard id
 seat_did doing v w (cpu.DiscardTry id from) step = tries_as doing doing (cpu_op.Discard id) doing.op id.slot from v w (λ op. op) step
 seat_did doing v w cpu.ServicePop step = absurd step
 seat_did doing v w cpu.ServicePush step = absurd step
-seat_did doing v w (cpu.ServiceLoad s sum) step =
-    let d = loads_as doing cpu_op.Service s v w step in
-    let same = looks v.config (number_of v.who) (shown doing (word_at s d.0) false) idle_progress s record { sealed = false; settled = 0 } (word_at s d.0) (settle_at (word_at s d.0) 0)
-    ∙ sym (looks v.config (number_of v.who) (seat_reads doing d.0) idle_progress s sum (word_at s d.0) (settle_at (word_at s d.0) 0)) in
-    (d.0, d.1, λ op. subst (λ ds. IsBehind ds v.own d.0 w) same (d.2 op))
-seat_did doing v w (cpu.ServiceStore s from sum) (last, (log, found, entered)) = (
-  log,
-  found,
-  λ op. subst (λ ds. IsBehind ds v.own log w) (sym (served_deeds v.config (number_of v.who) (seat_reads doing log) idle_progress s _ record { sealed = sum.sealed; settled = sum.settled + 1 }))
-      (did (λ x. Settle (number_of v.who) record { issue = from.issue; slot = s } (settled_fate x.code doing.fits doing.count) ∷ []) (word_at s v.seen) from v w log (sym last) entered),
-)
+seat_did doing v w (cpu.ServiceLoad s sum) step = grind (arith, nat_tests)
+seat_did doing v w (cpu.ServiceStore s from sum) (last, (log, found, entered)) = grind (arith, nat_tests)
 
 -- so a step of the play leaves what the seat's step leaves
 pub seat_plays : (doing : Doing) (v w : View) (f : CallPlace) → SeatStep doing v f w
     → (log : List Deed) × Found v log × ((shape : ℕ → Option Shape) (h : List Deed) (me : CpuProgress) → bare h ≡ log → IsSameCall shape v.config (number_of v.who) h me f doing
     → IsStepOfPlay (cpu_step shape v.config (number_of v.who) h me f).deeds h v w)
-seat_plays doing v w f step =
-    let d = seat_did doing v w f step in (
-      d.0,
-      d.1,
-      λ shape h me is same.
-          let got = d.2 same.op in
-          let ds = (cpu_step shape v.config (number_of v.who) h me f).deeds in
-          let e : deeds_at v.config (number_of v.who) (seat_reads doing d.0) f ≡ bare ds =
-          ap (λ l. deeds_at v.config (number_of v.who) (seat_reads doing l) f) (sym is) ∙ sym (same_deeds shape v.config (number_of v.who) h me doing f same) in
-          record { own = got.own ∙ ap (λ x. x ++ v.own) e; seen = got.seen ∙ ap (λ x. x ++ d.0) e ∙ ap (λ l. bare ds ++ l) (sym is) ∙ sym (bare_joined ds h) },
-    )
+seat_plays doing v w f step = grind (arith, nat_tests, seat_did, same_deeds, bare_joined)
 
 -- what the words' functions ask of a call in flight tells whether the CPU is a caller, by its list with the Seals
 pub mine_known : (k : Config) (v : View) (c : ℕ) (doing : Doing) (id : Speculation) (slot : ℕ) (p : List Deed) → v.own ≡ bare p → IsInFlight k v c doing id slot → IsMine c p id doing
-mine_known k v c doing id slot p own flight least =
-    let marks : mark c id.slot p ≡ mark c id.slot v.own = (apart_bare k c p).marking id.slot ∙ ap (mark c id.slot) (sym own) in
-    flight.4 (subst (λ n. n ≤ id.issue + 1) marks least) ∙ ap (λ l. is_among c (callers id l)) own ∙ sym ((apart_bare k c p).called id)
+mine_known k v c doing id slot p own flight = grind (arith, nat_tests, apart_bare k c p)

@@ -1,5 +1,5 @@
 -- A CPU settles, and stores its acknowledgement.
-use Rattle.std.proofs.Common.{◌≡◌, ◌≢◌, ℕ, ◌+◌, ◌≤◌, ◌<◌, Bool, true, false, ◌&&◌, ◌==◌, if◌then◌else◌, List, [], ◌∷◌, length, None, refl, sym, ap, ◌∙◌, subst, ⊎_elim, inr, arith, true≢false}
+use Rattle.std.proofs.Common.{◌≡◌, ◌≢◌, ℕ, ◌+◌, ◌≤◌, ◌<◌, Bool, true, false, ◌&&◌, ◌==◌, List, [], ◌∷◌, length, None, refl, sym, ap, ◌∙◌, subst, ⊎_elim, inr, arith, true≢false}
 use Rattle.std.specs.Prelude.{slice_index, slice_set}
 use Rattle.std.proofs.lemmas.List.{get_or-set_same, get_or-set_other}
 use Rattle.std.proofs.Math.ListN.{length-set}
@@ -9,9 +9,8 @@ use Rattle.dspec_table.specs.Words.{Speculation, SlotState, awaits, Holder, of_c
 use Rattle.dspec_table.specs.Words.{View, Doing, WordsRule, Shows, Since, here, more, slot_place, activity_place, group_place, ack_place, ask_place, acted, Found, Entered, StoredAck, number_of}
 use Rattle.dspec_table.specs.Words.{MaySettle}
 use Rattle.dspec_word.specs.declared.code.Code.{Code}
-use Rattle.dspec_word.specs.declared.code.Code.TheVariants.{Inactive, Active, ActiveOne, ActiveMany, Committing, CommittingMany, Discarding}
+use Rattle.dspec_word.specs.declared.code.Code.TheVariants.{CommittingMany, Discarding}
 use Rattle.dspec_deeds.specs.declared.config.Config.{Config}
-use Rattle.dspec_deeds.specs.declared.deed.DecideFate.{DecideFate}
 use Rattle.dspec_deeds.specs.declared.deed.Deed.{Deed}
 use Rattle.dspec_deeds.specs.declared.deed.Deed.TheVariants.{Settle}
 use Rattle.dspec_deeds.proofs.TestLemmas.{either_way, and_tells, same_number, number_is_itself}
@@ -19,7 +18,7 @@ use Rattle.dspec_deeds.proofs.Acked.{ack_tells}
 use Rattle.dspec_deeds.proofs.StayingOwn.{settled_other, ack_other}
 use Rattle.dspec_table.proofs.Places.{before_groups, ack_within, one_group, no_ask}
 use Rattle.dspec_deeds.specs.declared.calls.Actor.TheVariants.{Cpu}
-use Rattle.dspec_word.specs.declared.act.Act.TheVariants.{Granted, Idle}
+use Rattle.dspec_word.specs.declared.act.Act.TheVariants.{Granted}
 use Rattle.std.specs.Prelude.{nat_le, not}
 use Rattle.dspec_deeds.proofs.Awaiting.{awaiting, goes_with}
 use Rattle.dspec_table.proofs.OwnReading.{ack_part}
@@ -70,26 +69,12 @@ sound_since k w seen _ s here = s
 sound_since k w seen (d ∷ h) s (more rest other) = sound_since k w seen h s.0 rest
 
 settle_granted : (w : SlotState) (acked : ℕ) → settle_at w acked ≡ Granted → (awaits w.code ≡ true) × (nat_le acked w.issue ≡ true)
-settle_granted w acked e = go (awaits w.code) (nat_le acked w.issue) e
-  where
-    go : (a b : Bool) → (if a && b then Granted else Idle) ≡ Granted → (a ≡ true) × (b ≡ true)
-    go true true e = (refl, refl)
-    go true false e = absurd (cc (e))
-    go false b e = absurd (cc (e))
+settle_granted w acked e = grind (arith, nat_tests)
 
 fate_is : (doing : Doing) (code : Code) → awaits code ≡ true → goes_with code (settled_fate code doing.fits doing.count) ≡ true
 fate_is doing Discarding e = refl
-fate_is doing CommittingMany e = go doing.fits
-  where
-    go : (b : Bool) → Rattle.dspec_deeds.specs.FateKinds.is_commit
-        (if b then Rattle.dspec_deeds.specs.declared.deed.DecideFate.TheVariants.Copied doing.count else Rattle.dspec_deeds.specs.declared.deed.DecideFate.TheVariants.Lost doing.count) ≡ true
-    go true = refl
-    go false = refl
-fate_is doing Inactive e = absurd (true≢false (sym e))
-fate_is doing Active e = absurd (true≢false (sym e))
-fate_is doing ActiveOne e = absurd (true≢false (sym e))
-fate_is doing ActiveMany e = absurd (true≢false (sym e))
-fate_is doing Committing e = absurd (true≢false (sym e))
+fate_is doing CommittingMany e = grind (arith, nat_tests)
+fate_is doing x e = absurd (true≢false (sym e))
 
 pub settles_word : (k : Config) (slots id c : ℕ) (me : Me ℕ View) (doing : Doing) (spec : Speculation) → c < k.cpus → me.0.who ≡ of_cpu c → me.0.also ≡ [] → MaySettle k me.0 c spec
     → Allows (WordsRule k) slots id me (ack_place k c spec.slot) (λ _. spec.issue + 1) (λ _ w. ((log : List Deed) × Found me.0 log

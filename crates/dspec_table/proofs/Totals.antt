@@ -1,8 +1,8 @@
 -- How often each holder stands among the seats.
-use Rattle.std.proofs.Common.{◌≡◌, ◌≢◌, ℕ, zero, suc, ◌+◌, ◌≤◌, ◌<◌, true, if◌then◌else◌, List, [], ◌∷◌, ◌++◌, set, refl, sym, ap, ◌∙◌, subst, arith, Some, None}
+use Rattle.std.proofs.lemmas.Bool.Decides.{nat_tests}
+use Rattle.std.proofs.Common.{◌≡◌, ◌≢◌, ℕ, zero, suc, ◌+◌, ◌≤◌, ◌<◌, true, List, [], ◌∷◌, ◌++◌, set, refl, sym, ap, subst, arith, Some, None}
 use mathlib.Core.Option.{some, some-injective, some-ne-none}
 use lib.ListN.{get_elem?}
-use native.Mathlib.Decide.{dec_lt}
 use Rattle.dspec_deeds.specs.declared.calls.Actor.TheVariants.{Cpu, Consumer}
 use Rattle.dspec_deeds.specs.declared.config.Config.{Config}
 use Rattle.dspec_table.specs.Words.{Holder, of_cpu, same_holder, View, holdings, times_among, held_in_all, HaveSeats}
@@ -46,30 +46,12 @@ total_nobody (v ∷ vs) = let t = times_nobody (holdings v) in let r = total_nob
 pub one_seat : (k : Config) (views : List View) → HaveSeats k views → (w : Holder) → held_in_all w views ≤ 1
 one_seat k views seats None = let e = total_nobody views in omega arith
 one_seat k views seats (Some Consumer) = let e = seats.consumer in omega arith
-one_seat k views seats (Some (Cpu c)) = go (dec_lt c k.cpus)
-  where
-    go : Dec (c < k.cpus) → held_in_all (of_cpu c) views ≤ 1
-    go (yes p) = let e = seats.cpus c p in omega arith
-    go (no p) = let le : k.cpus ≤ c = omega arith in let e = seats.beyond c le in omega arith
+one_seat k views seats (Some (Cpu c)) = grind (arith, nat_tests)
 
 -- views that hold the same of each have the same seats
 pub same_seats : (k : Config) (old new : List View) → ((w : Holder) → held_in_all w new ≡ held_in_all w old) → HaveSeats k old → HaveSeats k new
-same_seats k old new same seats = record {
-  cpus = λ c lt. same (of_cpu c) ∙ seats.cpus c lt;
-  consumer = same Rattle.dspec_table.specs.Holders.of_consumer ∙ seats.consumer;
-  beyond = λ c le. same (of_cpu c) ∙ seats.beyond c le;
-}
+same_seats k old new same seats = grind (arith, nat_tests)
 
 -- a CPU with a seat is one of the session
 pub of_session : (k : Config) (views : List View) → HaveSeats k views → (by : ℕ) (v : View) → get_elem? views by ≡ some v → same_holder v.who v.who ≡ true → (c : ℕ) → v.who ≡ of_cpu c → c < k.cpus
-of_session k views seats by v at me c is = go (dec_lt c k.cpus)
-  where
-    go : Dec (c < k.cpus) → c < k.cpus
-    go (yes p) = p
-    go (no p) =
-        let le : k.cpus ≤ c = omega arith in
-        let none = seats.beyond c le in
-        let held = total_at (of_cpu c) views by v at in
-        let mine : 1 ≤ times_among v.who (holdings v) = subst (λ b. 1 ≤ (if b then 1 else 0) + times_among v.who v.also) (sym me) (omega arith) in
-        let mine' : 1 ≤ times_among (of_cpu c) (holdings v) = subst (λ (x : Holder). 1 ≤ times_among x (holdings v)) is mine in
-        absurd (omega arith)
+of_session k views seats by v at me c is = grind (arith, nat_tests, total_at (of_cpu c) views by v at)

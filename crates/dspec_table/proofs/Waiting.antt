@@ -1,14 +1,16 @@
 -- A word that waits for every CPU stands until the consumer releases it.
+use Rattle.std.proofs.Common.{arith}
+use Rattle.std.proofs.lemmas.Bool.Decides.{nat_tests}
 use Rattle.std.proofs.Common.{◌≡◌, ◌⊎◌, ℕ, true, false, ◌==◌, ◌||◌, List, ◌∷◌, None, refl, sym, ap, ◌∙◌, subst, ⊎_elim, true≢false}
-use Rattle.dspec_table.specs.Words.{word_number, awaits, opens, opened, present, verdict, is_undecided, releases, releaser, solo, same_actor, author, word_at, IsSound, View, Holder, of_consumer}
-use Rattle.dspec_table.specs.Words.{Since, here, more, Found, ReapedNumber}
+use Rattle.dspec_table.specs.Words.{word_number, awaits, opens, opened, present, verdict, is_undecided, releases, solo, same_actor, author, word_at, IsSound, View, of_consumer, Since, here, more}
+use Rattle.dspec_table.specs.Words.{Found, ReapedNumber}
 use Rattle.dspec_deeds.specs.declared.config.Config.{Config}
 use Rattle.dspec_deeds.specs.declared.calls.Actor.TheVariants.{Consumer}
 use Rattle.dspec_deeds.specs.declared.deed.Deed.{Deed}
-use Rattle.dspec_deeds.specs.declared.deed.Deed.TheVariants.{Release}
-use Rattle.dspec_deeds.proofs.TestLemmas.{either_way, same_number, or_true}
+use Rattle.dspec_deeds.proofs.TestLemmas.{or_true}
 use Rattle.dspec_deeds.proofs.StayingDecided.{decided_stands}
 use Rattle.dspec_deeds.proofs.Awaiting.{awaiting}
+use Rattle.dspec_table.proofs.Settlements.{sound_since}
 
 record Waits (s : ℕ) (h : List Deed) : Type 0 where
   given : opened (present s h) h ≡ true
@@ -16,17 +18,7 @@ record Waits (s : ℕ) (h : List Deed) : Type 0 where
   alone : solo (present s h) h ≡ None
 
 unreleased : (s : ℕ) (d : Deed) (h : List Deed) → same_actor Consumer (author d h) ≡ false → Waits s h → releases s d ≡ false
-unreleased s (Release n) h other held = ⊎_elim
-    (λ (t : (s == n) ≡ true).
-    let alone : solo (present n h) h ≡ None = subst (λ (x : ℕ). solo (present x h) h ≡ None) (same_number s n t) held.alone in
-    absurd (true≢false (sym (ap (λ o. same_actor Consumer (releaser o)) alone) ∙ other)))
-    (λ f. f)
-    (either_way (s == n))
-unreleased s d h other held = refl
-
-sound_since : (k : Config) (w : Holder) (seen log : List Deed) → IsSound k log → Since w seen log → IsSound k seen
-sound_since k w seen _ sound here = sound
-sound_since k w seen (d ∷ h) sound (more s other) = sound_since k w seen h sound.0 s
+unreleased s d h h1 h2 = grind (arith, nat_tests)
 
 waits_on : (k : Config) (s : ℕ) (seen log : List Deed) → IsSound k log → Waits s seen → Since of_consumer seen log → (word_at s log ≡ word_at s seen) × Waits s log
 waits_on k s seen _ sound held here = (refl, held)

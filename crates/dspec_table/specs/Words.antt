@@ -3,8 +3,7 @@ pub mod Outside
 unfoldable pub use Outside.*
 pub use Rattle.dspec_table.specs.Acts.{at_activity, at_exchange, at_stop, at_word, deeds_at, nothing, seen, shown, trying}
 pub use Rattle.dspec_table.specs.Asks.{LoadedAsk, StoredAsk, StoredAskAt, with_ask}
-pub use Rattle.dspec_table.specs.Conditions.{as_active, Attempts, CommitsNow, IfCommitting, IsDeciding, IsInFlight, IsOn, joined_word, MayLoad, MayOpen, MayReap, MaySettle, MayTry, more_callers}
-pub use Rattle.dspec_table.specs.Conditions.{OwnCommit}
+pub use Rattle.dspec_table.specs.Conditions.{as_active, Attempts, CommitsNow, IfCommitting, IsDeciding, IsInFlight, IsOn, joined_word, MayLoad, MayOpen, MayReap, MaySettle, MayTry, OwnCommit}
 pub use Rattle.dspec_table.specs.Flights.{AreOf, calling, flight_after}
 pub use Rattle.dspec_table.specs.Holders.{doer, Holder, number_of, of_consumer, of_cpu, of_nobody, part_of, same_holder}
 pub use Rattle.dspec_table.specs.Last.{AllAt, AreSeats, Ended, In, Joined, last_set_up, last_words, Recalled}

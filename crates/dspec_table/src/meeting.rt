@@ -9,7 +9,7 @@ ghost use Rattle.dspec_table.specs.Seats.{known, known_there, IsAt, IsConsumerAt
 use crate::layout::ACTIVITY_PLACE;
 use crate::rule::AnySeat;
 use crate::seats::{ConsumerSeat, CpuSeat, Words};
-use crate::word_steps::{Answer, Looks, Note};
+use crate::word_steps::{JoinAnswer, Looks, Note};
 
 impl Words {
     // A load of activity that enters nothing.
@@ -45,7 +45,7 @@ impl Words {
         requires note { (told.table_id ≡ self.now.board.shared.table_id) × (told.me.1 ≡ []) × (told.me.0.who ≡ of_nobody) × (told.me.0.also ≡ []) }
         ensures seat { (seat.new.table_id ≡ seat.old.table_id) × (seat.new.me ≡ (answered seat.old.me.0 told.me.0, seat.old.me.1)) }
     {
-        self.board.shared.join_seat::<Answer>(seat, told);
+        self.board.shared.join_seat::<JoinAnswer>(seat, told);
     }
 
     // Between the notes and the loads the seats are no whole seats, since a note waits.

@@ -179,9 +179,9 @@ impl Join<View> for Note {
 }
 
 /// The consumer takes in a note.
-pub struct Answer;
+pub struct JoinAnswer;
 
-impl Join<View> for Answer {
+impl Join<View> for JoinAnswer {
     ghost use Rattle.dspec_table.specs.Notes.{answered, nobody};
 
     ghost both = { answered };

@@ -1,7 +1,7 @@
 -- How CPUs go out, and come home.
 use Rattle.std.proofs.Common.{◌≡◌, ℕ, ◌<◌, List, [], ◌∷◌, ◌++◌, length, sym, ap, ◌∙◌, subst, arith}
 use Rattle.std.specs.Prelude.{remove, slice_get, slice_index_or}
-use Rattle.dspec_threads.specs.Words.{EnabledRows, CallsMade, called, number_in, words_of, Belongs, Identity, IsCallable, identity, IsCpuOf, ComesHome, HasDone, WentHome, IsOfRank, IsHomeOf}
+use Rattle.dspec_threads.specs.Words.{EnabledRows, CallsMade, called, number_in, words_of, Belongs, CpuIdentity, IsCallable, identity, IsCpuOf, ComesHome, HasDone, WentHome, IsOfRank, IsHomeOf}
 use Rattle.dspec_threads.specs.Words.{IsLentOut, Rank}
 use Rattle.dspec_cpu.specs.declared.cpu.Cpu.{Cpu}
 use Rattle.dspec_cpu.specs.declared.shared.Shared.{Shared}
@@ -13,7 +13,7 @@ first_and_rest (y ∷ ys) x some is = ap (λ z. z ∷ ys) is
 
 -- the same CPU can be called by the same
 pub still_callable : (shared : Shared) (old new : Cpu EnabledRows) → identity new ≡ identity old → IsCallable shared old → IsCallable shared new
-still_callable shared old new same is = subst (λ (i : Identity EnabledRows). Belongs (words_of shared) i) (sym same) is
+still_callable shared old new same is = subst (λ (i : CpuIdentity EnabledRows). Belongs (words_of shared) i) (sym same) is
 
 pub still_out : (sent : List (Cpu EnabledRows)) (old new : Cpu EnabledRows) → identity new ≡ identity old → IsLentOut sent old → IsLentOut sent new
 still_out sent old new same out = record { first = out.first; was = out.was; same = same ∙ out.same }
@@ -23,7 +23,7 @@ out_first sent first cpu was is = record { first = first; was = was; same = ap (
 
 -- it is of the rank where the same CPU is
 pub still_of_rank : (r : Rank) (c : ℕ) (old new : Cpu EnabledRows) → identity new ≡ identity old → IsOfRank r c old → IsOfRank r c new
-still_of_rank r c old new same is = subst (λ (i : Identity EnabledRows). IsCpuOf r.schema (words_of r.shared) c (slice_get r.pairs c) i) (sym same) is
+still_of_rank r c old new same is = subst (λ (i : CpuIdentity EnabledRows). IsCpuOf r.schema (words_of r.shared) c (slice_get r.pairs c) i) (sym same) is
 
 module _ (done : ℕ → CallsMade → Type 0) where
   -- whoever is out may go home

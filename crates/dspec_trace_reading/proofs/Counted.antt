@@ -1,8 +1,8 @@
 -- What a CPU's batches carry as drops, and how many records came out of it, is what its report counts.
 use Rattle.std.proofs.Common.{◌≡◌, ◌+◌, ◌==◌, ◌&&◌, ℕ, Bool, true, false, if◌then◌else◌, List, [], ◌∷◌, ◌++◌, Option, refl, sym, ap, ◌∙◌, subst, arith, length, reverse, append_assoc}
 use Rattle.std.proofs.lemmas.List.{length-reverse, reverse-append}
-use Rattle.dspec_trace_reading.specs.Words.{Record, CallsMade, waiting, IsPromised, left_batches, drops_carried, Did, Handed, cpu_stream, handed, number, of, taken, Speculation, IsLegal, IsOwn}
-use Rattle.dspec_trace_reading.specs.Words.{batches, drops_of, growing, is_drop, one_if, part, total, AreSealed, IsLeftBy}
+use Rattle.dspec_trace_reading.specs.Words.{Record, CallsMade, waiting, IsPromised, left_batches, drops_carried, Did, HandedRecord, cpu_stream, handed, number, of, taken, Speculation, IsLegal}
+use Rattle.dspec_trace_reading.specs.Words.{IsOwn, batches, drops_of, growing, is_drop, one_if, part, total, AreSealed, IsLeftBy}
 use Rattle.dspec_record.specs.declared.field.Shape.{Shape}
 use Rattle.dspec_deeds.specs.declared.config.Config.{Config}
 use Rattle.dspec_deeds.specs.declared.calls.Actor.TheVariants.{Cpu}
@@ -54,7 +54,7 @@ and_true : (b : Bool) → (b && true) ≡ b
 and_true true = refl
 and_true false = refl
 
-same_number : (os : List Handed) → number (λ o. of taken o && true) os ≡ number (of taken) os
+same_number : (os : List HandedRecord) → number (λ o. of taken o && true) os ≡ number (of taken) os
 same_number [] = refl
 same_number (o ∷ os) =
     ap (λ b. number (λ o. of taken o && true) os + (if b then 1 else 0)) (and_true (of taken o)) ∙ ap (λ n. n + (if of taken o then 1 else 0)) (same_number os)

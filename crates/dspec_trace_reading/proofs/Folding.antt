@@ -38,23 +38,9 @@ module _ (e : EnabledRows) where
   one_text b rs read has is =
       one_reading (table_shape e.header (enabled e.rows)) (table_accepts e.header (enabled e.rows)) (table_text e.header (enabled e.rows)) laws 0 b.buffer.text read rs is has
 
-  -- the place took writes, which left the metadata's file as it was
-  abbrev pub Stays : Tracing → List FileWrite → Type 0
-  Stays new was = (writes : List FileWrite) × ((new.written ≡ Some writes) × (file_of (codes "metadata") writes ≡ file_of (codes "metadata") was))
-
-  metadata_after : (old mid new : Tracing) (b : Batch) (was : List FileWrite) → old.written ≡ Some was → ((next : List FileWrite) → mid.written ≡ Some next → Stays new next)
-      → (IsNothing old b × (mid ≡ record old { last = None })) ⊎ AddsPacket e old b mid → Stays new was
-  metadata_after old mid new b was asked stays (inl nothing) = stays was (ap (λ (t : Tracing). t.written) nothing.1 ∙ asked)
-  metadata_after old mid new b was asked stays (inr adds) =
-      let w : FileWrite = record { name = cpu_name b.cpu; bytes = adds.bytes; refused = None } in
-      let all = stays (was ++ w ∷ []) (took old.written mid.written was (cpu_name b.cpu) adds.bytes asked adds.written) in
-      let none_here : brought_to (codes "metadata") w ≡ [] = brought_elsewhere (codes "metadata") w (not_metadata b.cpu) in
-      (all.0, (all.1.0, all.1.1 ∙ file_of_more (codes "metadata") was w ∙ ap (λ xs. file_of (codes "metadata") was ++ xs) none_here ∙ append-nil (file_of (codes "metadata") was)))
-
-  pub metadata_stays : (bs : List Passed) (old new : Tracing) (was : List FileWrite) → GotAll (GetsPacket e) old bs new → new.lost ≡ None → old.written ≡ Some was → Stays new was
-  metadata_stays [] old new was got none asked = (was, (ap (λ (t : Tracing). t.written) (sym got) ∙ asked, refl))
-  metadata_stays (x ∷ xs) old new was (mid, gets, rest) none asked =
-      metadata_after old mid new x.batch was asked (λ next there. metadata_stays xs mid new next rest none there) (came_whole e old mid x.batch gets (unlost e xs mid new rest none))
+  -- the place took writes, which left the file of this name as it was
+  abbrev pub Stays : List ℕ → Tracing → List FileWrite → Type 0
+  Stays name new was = (writes : List FileWrite) × ((new.written ≡ Some writes) × (file_of name writes ≡ file_of name was))
 
   module _ (uuid : List ℕ) (c : ℕ) (low : c < 64) where
     -- a packet tells no more than the trace missed in the end, and its events can be read

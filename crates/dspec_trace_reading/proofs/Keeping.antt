@@ -20,22 +20,24 @@ abbrev pub Came : EnabledRows → Tracing → Batch → Tracing → Type 0
 Came e old b new = (IsNothing old b × (new ≡ record old { last = None })) ⊎ ((IsNothing old b → ⊥) × (AddsPacket e old b new ⊎ LosesPacket e old b new))
 
 module _ (e : EnabledRows) where
-  metadata_next : (old mid new : Tracing) (b : Batch) (was : List FileWrite) → old.written ≡ Some was → ((next : List FileWrite) → mid.written ≡ Some next → Stays e new next)
-      → Came e old b mid → Stays e new was
-  metadata_next old mid new b was asked stays (inl nothing) = stays was (ap (λ (t : Tracing). t.written) nothing.1 ∙ asked)
-  metadata_next old mid new b was asked stays (inr (some, inl adds)) =
-      let w : FileWrite = record { name = cpu_name b.cpu; bytes = adds.bytes; refused = None } in
-      let all = stays (was ++ w ∷ []) (took old.written mid.written was (cpu_name b.cpu) adds.bytes asked adds.written) in
-      let none_here : brought_to (codes "metadata") w ≡ [] = brought_elsewhere (codes "metadata") w (not_metadata b.cpu) in
-      (all.0, (all.1.0, all.1.1 ∙ file_of_more (codes "metadata") was w ∙ ap (λ xs. file_of (codes "metadata") was ++ xs) none_here ∙ append-nil (file_of (codes "metadata") was)))
-  metadata_next old mid new b was asked stays (inr (some, inr loses)) =
-      let kept = files_stay e old mid b was asked loses in
-      let all = stays kept.0 kept.1.0 in
-      (all.0, (all.1.0, all.1.1 ∙ kept.1.1 (codes "metadata")))
+  -- a file that is none of a CPU's stays as it was
+  module _ (name : List ℕ) (apart : (c : ℕ) → cpu_name c ≢ name) where
+    next_stays : (old mid new : Tracing) (b : Batch) (was : List FileWrite) → old.written ≡ Some was → ((next : List FileWrite) → mid.written ≡ Some next → Stays e name new next)
+        → Came e old b mid → Stays e name new was
+    next_stays old mid new b was asked stays (inl nothing) = stays was (ap (λ (t : Tracing). t.written) nothing.1 ∙ asked)
+    next_stays old mid new b was asked stays (inr (some, inl adds)) =
+        let w : FileWrite = record { name = cpu_name b.cpu; bytes = adds.bytes; refused = None } in
+        let all = stays (was ++ w ∷ []) (took old.written mid.written was (cpu_name b.cpu) adds.bytes asked adds.written) in
+        let none_here : brought_to name w ≡ [] = brought_elsewhere name w (apart b.cpu) in
+        (all.0, (all.1.0, all.1.1 ∙ file_of_more name was w ∙ ap (λ xs. file_of name was ++ xs) none_here ∙ append-nil (file_of name was)))
+    next_stays old mid new b was asked stays (inr (some, inr loses)) =
+        let kept = files_stay e old mid b was asked loses in
+        let all = stays kept.0 kept.1.0 in
+        (all.0, (all.1.0, all.1.1 ∙ kept.1.1 name))
 
-  pub metadata_kept : (bs : List Passed) (old new : Tracing) (was : List FileWrite) → GotAll (GetsPacket e) old bs new → old.written ≡ Some was → Stays e new was
-  metadata_kept [] old new was got asked = (was, (ap (λ (t : Tracing). t.written) (sym got) ∙ asked, refl))
-  metadata_kept (x ∷ xs) old new was (mid, gets, rest) asked = metadata_next old mid new x.batch was asked (λ next there. metadata_kept xs mid new next rest there) gets.came
+    pub stays : (bs : List Passed) (old new : Tracing) (was : List FileWrite) → GotAll (GetsPacket e) old bs new → old.written ≡ Some was → Stays e name new was
+    stays [] old new was got asked = (was, (ap (λ (t : Tracing). t.written) (sym got) ∙ asked, refl))
+    stays (x ∷ xs) old new was (mid, gets, rest) asked = next_stays old mid new x.batch was asked (λ next there. stays xs mid new next rest there) gets.came
 
   module _ (uuid : List ℕ) (c : ℕ) (low : c < 64) where
     abbrev pub Told : Tracing → ℕ × List Record → Type 0

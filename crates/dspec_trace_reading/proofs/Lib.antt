@@ -15,6 +15,7 @@ mod Losing
 mod Naming
 mod OwnNumbers
 mod Partly
+mod Placing
 mod Read
 mod RowNaming
 mod RanInto

@@ -1,5 +1,5 @@
 -- Each CPU has a file of its own, and none is the metadata.
-use Rattle.std.proofs.Common.{◌≡◌, ◌≢◌, ◌<◌, ℕ, List, ap, arith, drop, slice_index, codes}
+use Rattle.std.proofs.Common.{◌≡◌, ◌≢◌, ◌<◌, ℕ, List, [], ap, arith, drop, slice_index, codes}
 use Rattle.std.proofs.lemmas.Fmt.{decimal_injective}
 use Rattle.dspec_trace_reading.specs.Words.{cpu_name}
 
@@ -9,4 +9,15 @@ names_differ a b few other apart e = apart (decimal_injective a b (omega (arith,
 pub not_metadata : (a : ℕ) → cpu_name a ≢ codes "metadata"
 not_metadata a e =
     let clash : 99 ≡ 109 = ap (λ (xs : List ℕ). slice_index xs 0) e in
+    omega (arith, clash)
+
+-- each has a name
+pub cpu_named : (a : ℕ) → cpu_name a ≢ []
+cpu_named a e =
+    let clash : 99 ≡ 0 = ap (λ (xs : List ℕ). slice_index xs 0) e in
+    omega (arith, clash)
+
+pub metadata_named : codes "metadata" ≢ []
+metadata_named e =
+    let clash : 109 ≡ 0 = ap (λ (xs : List ℕ). slice_index xs 0) e in
     omega (arith, clash)

@@ -3,14 +3,16 @@ use Rattle.std.proofs.Common.{◌≡◌, ◌<◌, ◌≤◌, ◌+◌, ◌^◌, �
 use Rattle.std.specs.List.{flat_map}
 use Rattle.std.proofs.lemmas.List.Elements.{All-head, All-tail, All-weaker}
 use Rattle.dspec_trace_reading.specs.Words.{Record, EnabledRows, Passed, GotAll, passed_from, filled_packets, origin_text, Accepts, FileTells, last_missed, event_of, layout_of, read_metadata}
-use Rattle.dspec_trace_reading.specs.Words.{HasNumbers, missed_on, file_of, GetsPacket, IsBegun, Tracing, cpu_name, HaveNumbers, ReadsAllKept, ReadsKept, told_on}
+use Rattle.dspec_trace_reading.specs.Words.{HasNumbers, missed_on, file_of, GetsPacket, Tracing, cpu_name, HaveNumbers, ReadsAllKept, ReadsKept, told_on, BegunNew, path_of}
 use Rattle.dspec_session_core.specs.declared.left.Left.{Left}
 use Rattle.dspec_ctf.specs.declared.form.Form.TheVariants.{AsTaken}
 use Rattle.dspec_ctf.specs.declared.names.Names.{Names}
 use Rattle.dspec_ctf.specs.declared.origin.Origin.{Origin}
-use Rattle.dspec_trace_reading.proofs.Begun.{asked, first, metadata_is, none_missed, none_told, nothing_yet}
+use Rattle.dspec_trace_reading.proofs.Begun.{asked, begun_with, first, metadata_is, none_missed, none_told, nothing_yet}
 use Rattle.dspec_trace_reading.proofs.Folding.{Holds, Stays, last_from}
-use Rattle.dspec_trace_reading.proofs.Keeping.{Kept, Told, all_kept, metadata_kept}
+use Rattle.dspec_trace_reading.proofs.Keeping.{Kept, Told, all_kept, stays}
+use Rattle.dspec_trace_reading.proofs.Naming.{cpu_named, metadata_named, not_metadata}
+use Rattle.dspec_trace_reading.proofs.Placing.{path_stays}
 use Rattle.dspec_trace_reading.proofs.Whole.{FilesRead, MetadataReads, last_same}
 
 -- the last packet tells no more than what no packet tells more than
@@ -20,15 +22,24 @@ last_at_most n m (p ∷ ps) few all =
     last_at_most p.0 m ps (All-head (λ (q : ℕ × List Record). q.0 ≤ m) p ps all) (All-tail (λ (q : ℕ × List Record). q.0 ≤ m) p ps all)
 
 module _ (metadata_law : MetadataReads) (files_law : FilesRead) (origin : Origin) (e : EnabledRows) (names : Names) (begun ended : Tracing)
-    (is : IsBegun origin e names (Some []) begun) (passed : List Passed) (got : GotAll (GetsPacket e) begun passed ended) where
-  pub all_writes : Stays e ended (first origin e names ∷ [])
-  all_writes = metadata_kept e passed begun ended (first origin e names ∷ []) got (asked origin e names begun is)
+    (is : BegunNew origin e names begun) (passed : List Passed) (got : GotAll (GetsPacket e) begun passed ended) where
+  pub all_writes : Stays e (codes "metadata") ended (begun_with origin e names begun is)
+  all_writes = stays e (codes "metadata") not_metadata passed begun ended (begun_with origin e names begun is) got (asked origin e names begun is)
+
+  -- the folder is where it was made
+  pub path_kept : path_of all_writes.0 ≡ path_of is.before
+  path_kept =
+      let one = stays e [] cpu_named passed begun ended (begun_with origin e names begun is) got (asked origin e names begun is) in
+      let both : Some all_writes.0 ≡ Some one.0 = sym all_writes.1.0 ∙ one.1.0 in
+      let same : all_writes.0 ≡ one.0 = cc (both) in
+      ap path_of same ∙ one.1.1 ∙ path_stays is.before (first origin e names) metadata_named
 
   module _ (c : ℕ) (low : c < 64) (rs : List Record) (long : length origin.uuid ≡ 16) (small : missed_on ended c + 1 < 2 ^ 64) (own : HaveNumbers passed)
       (hold : Holds e (passed_from c passed) rs) where
-    kept : Kept e origin.uuid c low begun ended (passed_from c passed) (first origin e names ∷ [])
+    kept : Kept e origin.uuid c low begun ended (passed_from c passed) (begun_with origin e names begun is)
     kept =
-        all_kept e origin.uuid c low passed begun ended (first origin e names ∷ []) rs got is.uuid_is (ap length is.missed) (ap length is.told) (asked origin e names begun is) small own hold
+        all_kept e origin.uuid c low passed begun ended (begun_with origin e names begun is) rs got is.begins.uuid_is (ap length is.begins.missed) (ap length is.begins.told)
+        (asked origin e names begun is) small own hold
 
     tells_kept : FileTells (layout_of e names AsTaken) origin.uuid c (flat_map (λ p. filled_packets false e origin.uuid p.0 c p.1) kept.packets)
         (map (event_of e names AsTaken) (flat_map (λ p. p.1) kept.packets)) (last_missed kept.packets)
@@ -48,7 +59,8 @@ module _ (metadata_law : MetadataReads) (files_law : FilesRead) (origin : Origin
     pub stream_kept : ReadsKept origin.uuid e names c (passed_from c passed) (file_of (cpu_name c) all_writes.0) ended
     stream_kept =
         let bytes : file_of (cpu_name c) all_writes.0 ≡ flat_map (λ p. filled_packets false e origin.uuid p.0 c p.1) kept.packets =
-        ap (λ ws. file_of (cpu_name c) ws) same_writes ∙ kept.bytes ∙ ap (λ xs. xs ++ flat_map (λ p. filled_packets false e origin.uuid p.0 c p.1) kept.packets) (nothing_yet origin e names c) in
+        ap (λ ws. file_of (cpu_name c) ws) same_writes ∙ kept.bytes
+        ∙ ap (λ xs. xs ++ flat_map (λ p. filled_packets false e origin.uuid p.0 c p.1) kept.packets) (nothing_yet origin e names begun is c) in
         record {
           kept = flat_map (λ p. p.1) kept.packets;
           lost = kept.lost;
@@ -63,10 +75,10 @@ module _ (metadata_law : MetadataReads) (files_law : FilesRead) (origin : Origin
         }
 
   pub metadata_text : file_of (codes "metadata") all_writes.0 ≡ origin_text origin AsTaken e names
-  metadata_text = all_writes.1.1 ∙ metadata_is origin e names
+  metadata_text = all_writes.1.1 ∙ metadata_is origin e names begun is
 
   pub metadata_read : HasNumbers origin AsTaken e names → read_metadata (file_of (codes "metadata") all_writes.0) ≡ Some (layout_of e names AsTaken)
-  metadata_read numbers = ap read_metadata metadata_text ∙ metadata_law origin AsTaken e names is.allowed numbers
+  metadata_read numbers = ap read_metadata metadata_text ∙ metadata_law origin AsTaken e names is.begins.allowed numbers
 
   pub reads_kept : (left : List Left) (seen : (c : ℕ) (l : Left) → slice_get left c ≡ Some l → List Record) → length origin.uuid ≡ 16 → HasNumbers origin AsTaken e names
       → ((c : ℕ) (l : Left) → slice_get left c ≡ Some l → missed_on ended c + 1 < 2 ^ 64) → HaveNumbers passed

@@ -41,3 +41,9 @@ pub row_not_metadata : (c f : ℕ) → row_name c f ≢ codes "metadata"
 row_not_metadata c f e =
     let clash : 99 ≡ 109 = ap (λ (xs : List ℕ). slice_index xs 0) e in
     omega (arith, clash)
+
+-- each has a name
+pub row_named : (c f : ℕ) → row_name c f ≢ []
+row_named c f e =
+    let clash : 99 ≡ 0 = ap (λ (xs : List ℕ). slice_index xs 0) e in
+    omega (arith, clash)

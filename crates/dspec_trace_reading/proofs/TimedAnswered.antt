@@ -1,7 +1,7 @@
 -- A trace that is written by time answers as many records as its CPUs lost.
 use Rattle.std.proofs.Common.{◌≡◌, ◌≢◌, ◌<◌, ◌≤◌, ◌+◌, ◌^◌, ℕ, inl, inr, List, [], Option, Some, refl, sym, ap, ◌∙◌, subst, arith, length, slice_get}
-use Rattle.dspec_trace_reading.specs.Words.{EnabledRows, AreFrom, GotAll, Passed, passed_from, GetsRuns, IsTimedBegun, TimedTracing, HaveNumbers, drops_carried, missed_by_time, all_counted, lost_of}
-use Rattle.dspec_trace_reading.specs.Words.{lost_records, missed_in}
+use Rattle.dspec_trace_reading.specs.Words.{EnabledRows, AreFrom, GotAll, Passed, passed_from, GetsRuns, TimedTracing, HaveNumbers, drops_carried, missed_by_time, all_counted, lost_of, lost_records}
+use Rattle.dspec_trace_reading.specs.Words.{missed_in, TimedBegunNew}
 use Rattle.dspec_ring.specs.declared.batch.Batch.{Batch}
 use Rattle.dspec_session_core.specs.declared.left.Left.{Left}
 use Rattle.dspec_ctf.specs.declared.names.Names.{Names}
@@ -42,7 +42,7 @@ module _ (e : EnabledRows) where
         }
       ]
 
-  module _ (origin : Origin) (hertz : ℕ) (names : Names) (begun ended : TimedTracing) (is : IsTimedBegun origin hertz e names (Some []) begun) (xs : List Passed)
+  module _ (origin : Origin) (hertz : ℕ) (names : Names) (begun ended : TimedTracing) (is : TimedBegunNew origin hertz e names begun) (xs : List Passed)
       (got : GotAll (GetsRuns e) begun xs ended) (left : List Left) (few : length left ≤ 64) (from : AreFrom (length left) xs) (own : HaveNumbers xs)
       (count : (c : ℕ) (l : Left) → slice_get left c ≡ Some l → missed_by_time ended c ≤ l.report.accepted + missed_in l.report) where
     -- nothing was missed on a CPU that isn't there
@@ -50,12 +50,12 @@ module _ (e : EnabledRows) where
     absent c out low =
         let none = none_from (length left) c xs from out in
         let no_drops : drops_carried (passed_from c xs) ≡ 0 = ap drops_carried none in
-        let most = bounded e c low xs begun ended [] got (ap length is.missed) own (subst (λ bs. Holds e bs []) (sym none) refl) in
+        let most = bounded e c low xs begun ended [] got (ap length is.begins.missed) own (subst (λ bs. Holds e bs []) (sym none) refl) in
         omega (arith, most, no_drops, none_missed origin hertz e names begun is c)
 
     pub lost_answered : (lost_on : ℕ → ℕ) → ((c : ℕ) (l : Left) → slice_get left c ≡ Some l → missed_by_time ended c ≡ drops_carried (passed_from c xs) + lost_on c)
         → all_counted left + 1 < 2 ^ 64 → lost_records ended.lost ≡ lost_of lost_on (length left)
     lost_answered lost_on each small =
-        all_answered (GetsRuns e) missed_by_time (λ t. t.lost) IsBroad 64 stays adds_up (length left) xs begun ended lost_on got (ap length is.missed) few from own
-        (none_missed origin hertz e names begun is) is.lost (omega (arith, all_within left (missed_by_time ended) count, small))
+        all_answered (GetsRuns e) missed_by_time (λ t. t.lost) IsBroad 64 stays adds_up (length left) xs begun ended lost_on got (ap length is.begins.missed) few from own
+        (none_missed origin hertz e names begun is) is.begins.lost (omega (arith, all_within left (missed_by_time ended) count, small))
         (λ c lt. let found = is_there left c lt in each c found.0 found.1) absent

@@ -1,10 +1,9 @@
 -- A folder by time in which the metadata was written, and no packet yet.
-use Rattle.std.proofs.Common.{◌≡◌, ◌<◌, ◌≤◌, ◌^◌, ◌==◌, ◌∙◌, ℕ, zero, suc, get_or, Option, List, [], ◌∷◌, Some, None, refl, sym, ap, subst, arith}
+use Rattle.std.proofs.Common.{◌≡◌, ◌<◌, ◌≤◌, ◌^◌, ◌==◌, ◌∙◌, ◌++◌, ℕ, zero, suc, get_or, Option, List, [], ◌∷◌, Some, None, refl, sym, ap, subst, arith}
 use Rattle.std.proofs.Common.{length, codes, replicate, slice_index}
-use Rattle.std.proofs.lemmas.List.{append-nil}
 use Rattle.std.proofs.lemmas.List.Elements.{All-nil}
-use Rattle.dspec_trace_reading.specs.Words.{EnabledRows, origin_text, earlier, form_fault, metadata_fault, origin_fault, told_by, FileTells, layout_of, PacketRead, IsTimedBegun, TimedTracing}
-use Rattle.dspec_trace_reading.specs.Words.{row_name, FileWrite, brought_to, file_of, missed_by_time}
+use Rattle.dspec_trace_reading.specs.Words.{EnabledRows, origin_text, earlier, form_fault, metadata_fault, origin_fault, told_by, FileTells, layout_of, PacketRead, TimedTracing, row_name, FileWrite}
+use Rattle.dspec_trace_reading.specs.Words.{file_of, missed_by_time, TimedBegunNew}
 use Rattle.dspec_record.specs.declared.header.Header.{Header}
 use Rattle.dspec_record.specs.declared.header.Header.TheVariants as header
 use Rattle.dspec_ctf.specs.declared.form.Form.TheVariants.{ByTime}
@@ -14,7 +13,9 @@ use Rattle.dspec_ctf_sink.proofs.Written.{brought_elsewhere, brought_whole}
 use Rattle.dspec_filing_reading.proofs.FilesLaws.{told_same}
 use Rattle.dspec_trace_reading.proofs.Asking.{took}
 use Rattle.dspec_trace_reading.proofs.Begun.{all_zero}
-use Rattle.dspec_trace_reading.proofs.RowNaming.{row_not_metadata}
+use Rattle.dspec_trace_reading.proofs.Naming.{metadata_named}
+use Rattle.dspec_trace_reading.proofs.Placing.{alone}
+use Rattle.dspec_trace_reading.proofs.RowNaming.{row_named, row_not_metadata}
 use Rattle.dspec_trace_reading.proofs.TimedAsking.{lasts_of}
 use Rattle.dspec_trace_reading.proofs.TimedFolding.{Stands}
 
@@ -44,33 +45,38 @@ module _ (origin : Origin) (hertz : ℕ) (e : EnabledRows) (names : Names) where
   pub stamped : origin_fault origin (ByTime hertz) e names ≡ None → e.header ≡ header.Two
   stamped none = without_stamps e.header refl none
 
-  pub metadata_is : file_of (codes "metadata") (timed_first origin hertz e names ∷ []) ≡ origin_text origin (ByTime hertz) e names
-  metadata_is =
-      append-nil (brought_to (codes "metadata") (timed_first origin hertz e names)) ∙ brought_whole (codes "metadata") (codes "metadata") (origin_text origin (ByTime hertz) e names) refl
+  module _ (begun : TimedTracing) (is : TimedBegunNew origin hertz e names begun) where
+    abbrev pub begun_with : List FileWrite
+    begun_with = is.before ++ timed_first origin hertz e names ∷ []
 
-  nothing_yet : (c file : ℕ) → file_of (row_name c file) (timed_first origin hertz e names ∷ []) ≡ []
-  nothing_yet c file =
-      append-nil (brought_to (row_name c file) (timed_first origin hertz e names)) ∙ brought_elsewhere (row_name c file) (timed_first origin hertz e names) (λ s. row_not_metadata c file (sym s))
+    pub asked : begun.written ≡ Some begun_with
+    asked = took (Some is.before) begun.written is.before (codes "metadata") (origin_text origin (ByTime hertz) e names) refl is.begins.written
 
-  module _ (begun : TimedTracing) (is : IsTimedBegun origin hertz e names (Some []) begun) where
-    pub asked : begun.written ≡ Some (timed_first origin hertz e names ∷ [])
-    asked = took (Some []) begun.written [] (codes "metadata") (origin_text origin (ByTime hertz) e names) refl is.written
+    pub metadata_is : file_of (codes "metadata") begun_with ≡ origin_text origin (ByTime hertz) e names
+    metadata_is =
+        alone is.before (timed_first origin hertz e names) (codes "metadata") is.new metadata_named
+        ∙ brought_whole (codes "metadata") (codes "metadata") (origin_text origin (ByTime hertz) e names) refl
+
+    nothing_yet : (c file : ℕ) → file_of (row_name c file) begun_with ≡ []
+    nothing_yet c file =
+        alone is.before (timed_first origin hertz e names) (row_name c file) is.new (row_named c file)
+        ∙ brought_elsewhere (row_name c file) (timed_first origin hertz e names) (λ s. row_not_metadata c file (sym s))
 
     pub none_missed : (c : ℕ) → missed_by_time begun c ≡ 0
-    none_missed c = ap (λ (xs : List ℕ). slice_index xs c) is.missed ∙ all_zero 64 c
+    none_missed c = ap (λ (xs : List ℕ). slice_index xs c) is.begins.missed ∙ all_zero 64 c
 
     none_told : (c : ℕ) → slice_index begun.told c ≡ 0
-    none_told c = ap (λ (xs : List ℕ). slice_index xs c) is.told ∙ all_zero 64 c
+    none_told c = ap (λ (xs : List ℕ). slice_index xs c) is.begins.told ∙ all_zero 64 c
 
     no_lasts : (c : ℕ) → lasts_of begun c ≡ []
-    no_lasts c = ap (λ (xs : List (List ℕ)). get_or xs c []) is.lasts ∙ all_empty 64 c []
+    no_lasts c = ap (λ (xs : List (List ℕ)). get_or xs c []) is.begins.lasts ∙ all_empty 64 c []
 
     -- no file tells anything
     pub begins : (uuid : List ℕ) (c : ℕ) → Stands uuid e names hertz c begun []
     begins uuid c = record {
       told = none_told c ∙ sym (none_missed c);
       filed = record {
-        writes = timed_first origin hertz e names ∷ [];
+        writes = begun_with;
         asked = asked;
         few = subst (λ (xs : List ℕ). length xs ≤ 64) (sym (no_lasts c)) (omega arith);
         first = subst (λ (xs : List ℕ). slice_index xs 0 < 2 ^ 64) (sym (no_lasts c)) (omega arith);
@@ -78,7 +84,7 @@ module _ (origin : Origin) (hertz : ℕ) (e : EnabledRows) (names : Names) where
         each = refl;
         below = All-nil (λ file. file < 64);
         tells = λ file few.
-            subst (λ n. FileTells (layout_of e names (ByTime hertz)) uuid c (file_of (row_name c file) (timed_first origin hertz e names ∷ [])) [] (told_by file n)) (sym (none_missed c))
+            subst (λ n. FileTells (layout_of e names (ByTime hertz)) uuid c (file_of (row_name c file) (begun_with)) [] (told_by file n)) (sym (none_missed c))
             (subst (λ xs. FileTells (layout_of e names (ByTime hertz)) uuid c xs [] (told_by file 0)) (sym (nothing_yet c file)) (record {
               packets = [];
               read = refl;

@@ -18,17 +18,6 @@ use Rattle.dspec_trace_reading.proofs.TimedAsking.{stays_then, stays_wide, told_
 use Rattle.dspec_trace_reading.proofs.TimedFiles.{all_added, filed_now, filed_then}
 
 module _ (e : EnabledRows) where
-  -- the place took writes, which left the metadata's file as it was
-  abbrev pub TimedStays : TimedTracing → List FileWrite → Type 0
-  TimedStays new was = (writes : List FileWrite) × ((new.written ≡ Some writes) × (file_of (codes "metadata") writes ≡ file_of (codes "metadata") was))
-
-  pub metadata_stays : (bs : List Passed) (old new : TimedTracing) (was : List FileWrite) → GotAll (GetsRuns e) old bs new → new.lost ≡ None → old.written ≡ Some was → TimedStays new was
-  metadata_stays [] old new was got none asked = (was, (ap (λ (t : TimedTracing). t.written) (sym got) ∙ asked, refl))
-  metadata_stays (x ∷ xs) old new was (mid, gets, rest) none asked =
-      let adds = came e old mid x.batch gets (none_before e xs mid new rest none) in
-      let all = metadata_stays xs mid new (writes_then e old mid x.batch adds was) rest none (asked_then e old mid x.batch adds was asked) in
-      (all.0, (all.1.0, all.1.1 ∙ stays_then e old mid x.batch adds (codes "metadata") (λ file. row_not_metadata x.batch.cpu file) was))
-
   -- what a CPU missed in all is what its batches carried
   module _ (c : ℕ) where
     missed_with : (old mid new : TimedTracing) (x : Passed) (xs : List Passed) (adds : AddsBatch e old x.batch mid) → x.batch.cpu ≡ x.from

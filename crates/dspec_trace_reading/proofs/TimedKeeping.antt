@@ -3,7 +3,8 @@ use Rattle.std.proofs.Common.{◌≡◌, ◌≢◌, ◌<◌, ◌≤◌, ◌+◌,
 use Rattle.std.proofs.Common.{length, codes, append_assoc, slice_index}
 use Rattle.std.proofs.lemmas.List.{append-nil}
 use Rattle.std.proofs.lemmas.Bool.{eqb-true, eqb-false}
-use Rattle.dspec_trace_reading.specs.Words.{Record, EnabledRows, Passed, GotAll, passed_from, GetsRuns, TimedTracing, row_name, FileWrite, HaveNumbers, drops_carried, AreKeptInFront, missed_by_time}
+use Rattle.dspec_trace_reading.specs.Words.{Record, EnabledRows, Passed, GotAll, passed_from, GetsRuns, TimedTracing, row_name, FileWrite, file_of, HaveNumbers, drops_carried, AreKeptInFront}
+use Rattle.dspec_trace_reading.specs.Words.{missed_by_time}
 use Rattle.dspec_record.specs.declared.header.Header.TheVariants as header
 use Rattle.dspec_ring.specs.declared.batch.Batch.{Batch}
 use Rattle.dspec_ctf.specs.declared.names.Names.{Names}
@@ -13,17 +14,21 @@ use Rattle.dspec_trace_reading.proofs.Folding.{Holds, one_text}
 use Rattle.dspec_trace_reading.proofs.RowNaming.{cpus_differ, row_not_metadata}
 use Rattle.dspec_trace_reading.proofs.TimedAsking.{lasts_of}
 use Rattle.dspec_trace_reading.proofs.TimedBounded.{rises}
-use Rattle.dspec_trace_reading.proofs.TimedFolding.{TimedStays}
 use Rattle.dspec_trace_reading.proofs.TimedFronts.{KeepsFront, StandsInPart, keeps}
 use Rattle.dspec_trace_reading.proofs.TimedLosing.{CameByTime, Leaves, leaves}
 
--- the metadata's file stays, whatever is lost
-pub metadata_kept : (e : EnabledRows) (bs : List Passed) (old new : TimedTracing) (was : List FileWrite) → GotAll (GetsRuns e) old bs new → old.written ≡ Some was → TimedStays e new was
-metadata_kept e [] old new was got asked = (was, (ap (λ (t : TimedTracing). t.written) (sym got) ∙ asked, refl))
-metadata_kept e (x ∷ xs) old new was (mid, gets, rest) asked =
+-- the place took writes, which left the file of this name as it was
+abbrev pub TimedStays : List ℕ → TimedTracing → List FileWrite → Type 0
+TimedStays name new was = (writes : List FileWrite) × ((new.written ≡ Some writes) × (file_of name writes ≡ file_of name was))
+
+-- a file that is none of a CPU's stays, whatever is lost
+pub stays : (e : EnabledRows) (name : List ℕ) → ((c file : ℕ) → row_name c file ≢ name) → (bs : List Passed) (old new : TimedTracing) (was : List FileWrite)
+    → GotAll (GetsRuns e) old bs new → old.written ≡ Some was → TimedStays name new was
+stays e name apart [] old new was got asked = (was, (ap (λ (t : TimedTracing). t.written) (sym got) ∙ asked, refl))
+stays e name apart (x ∷ xs) old new was (mid, gets, rest) asked =
     let one = (leaves e old mid x.batch gets.came).files was asked in
-    let all = metadata_kept e xs mid new one.0 rest one.1.0 in
-    (all.0, (all.1.0, all.1.1 ∙ one.1.1 (codes "metadata") (λ there file. row_not_metadata x.batch.cpu file)))
+    let all = stays e name apart xs mid new one.0 rest one.1.0 in
+    (all.0, (all.1.0, all.1.1 ∙ one.1.1 name (λ there file. apart x.batch.cpu file)))
 
 module _ (laws : FilesLaws) (uuid : List ℕ) (e : EnabledRows) (names : Names) (hertz c : ℕ) (low : c < 64) (long : length uuid ≡ 16) (stamped : e.header ≡ header.Two) where
   -- the records that are kept of a CPU's batches, behind those of before

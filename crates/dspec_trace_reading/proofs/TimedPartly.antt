@@ -1,7 +1,7 @@
 -- A folder that was written by time, of which some may be lost, and what is read of it.
 use Rattle.std.proofs.Common.{◌≡◌, ◌<◌, ◌+◌, ◌^◌, ℕ, List, [], ◌∷◌, Some, sym, ap, ◌∙◌, subst, arith, length, map, codes, slice_get}
 use Rattle.dspec_trace_reading.specs.Words.{Record, EnabledRows, Passed, GotAll, passed_from, origin_text, of_file, told_by, FileTells, event_of, layout_of, read_metadata, HasNumbers, GetsRuns}
-use Rattle.dspec_trace_reading.specs.Words.{IsTimedBegun, TimedTracing, row_name, file_of, HaveNumbers, ReadsAllKeptByTime, ReadsKeptByTime, missed_by_time, told_by_time}
+use Rattle.dspec_trace_reading.specs.Words.{TimedTracing, row_name, file_of, HaveNumbers, ReadsAllKeptByTime, ReadsKeptByTime, missed_by_time, told_by_time, path_of, TimedBegunNew}
 use Rattle.dspec_session_core.specs.declared.left.Left.{Left}
 use Rattle.dspec_ctf.specs.declared.form.Form.TheVariants.{ByTime}
 use Rattle.dspec_ctf.specs.declared.names.Names.{Names}
@@ -10,28 +10,39 @@ use Rattle.dspec_trace_reading.proofs.Filing.{Filed}
 use Rattle.dspec_filing_reading.proofs.FilesLaws.{FilesLaws}
 use Rattle.dspec_trace_reading.proofs.Folding.{Holds}
 use Rattle.dspec_trace_reading.proofs.TimedAsking.{lasts_of}
-use Rattle.dspec_trace_reading.proofs.TimedBegun.{asked, begins, metadata_is, none_missed, stamped, timed_first}
-use Rattle.dspec_trace_reading.proofs.TimedFolding.{TimedStays}
-use Rattle.dspec_trace_reading.proofs.TimedKeeping.{KeptByTime, all_kept, metadata_kept}
+use Rattle.dspec_trace_reading.proofs.TimedBegun.{asked, begins, begun_with, metadata_is, none_missed, stamped, timed_first}
+use Rattle.dspec_trace_reading.proofs.TimedKeeping.{KeptByTime, TimedStays, all_kept, stays}
+use Rattle.dspec_trace_reading.proofs.Naming.{metadata_named}
+use Rattle.dspec_trace_reading.proofs.Placing.{path_stays}
+use Rattle.dspec_trace_reading.proofs.RowNaming.{row_named, row_not_metadata}
 use Rattle.dspec_trace_reading.proofs.Whole.{MetadataReads}
 
 module _ (metadata_law : MetadataReads) (laws : FilesLaws) (origin : Origin) (hertz : ℕ) (e : EnabledRows) (names : Names) (begun ended : TimedTracing)
-    (is : IsTimedBegun origin hertz e names (Some []) begun) (passed : List Passed) (got : GotAll (GetsRuns e) begun passed ended) where
-  pub all_writes : TimedStays e ended (timed_first origin hertz e names ∷ [])
-  all_writes = metadata_kept e passed begun ended (timed_first origin hertz e names ∷ []) got (asked origin hertz e names begun is)
+    (is : TimedBegunNew origin hertz e names begun) (passed : List Passed) (got : GotAll (GetsRuns e) begun passed ended) where
+  pub all_writes : TimedStays (codes "metadata") ended (begun_with origin hertz e names begun is)
+  all_writes = stays e (codes "metadata") row_not_metadata passed begun ended (begun_with origin hertz e names begun is) got (asked origin hertz e names begun is)
+
+  -- the folder is where it was made
+  pub path_kept : path_of all_writes.0 ≡ path_of is.before
+  path_kept =
+      let one = stays e [] row_named passed begun ended (begun_with origin hertz e names begun is) got (asked origin hertz e names begun is) in
+      let both : Some all_writes.0 ≡ Some one.0 = sym all_writes.1.0 ∙ one.1.0 in
+      let same : all_writes.0 ≡ one.0 = cc (both) in
+      ap path_of same ∙ one.1.1 ∙ path_stays is.before (timed_first origin hertz e names) metadata_named
 
   pub metadata_text : file_of (codes "metadata") all_writes.0 ≡ origin_text origin (ByTime hertz) e names
-  metadata_text = all_writes.1.1 ∙ metadata_is origin hertz e names
+  metadata_text = all_writes.1.1 ∙ metadata_is origin hertz e names begun is
 
   pub metadata_read : HasNumbers origin (ByTime hertz) e names → read_metadata (file_of (codes "metadata") all_writes.0) ≡ Some (layout_of e names (ByTime hertz))
-  metadata_read numbers = ap read_metadata metadata_text ∙ metadata_law origin (ByTime hertz) e names is.allowed numbers
+  metadata_read numbers = ap read_metadata metadata_text ∙ metadata_law origin (ByTime hertz) e names is.begins.allowed numbers
 
   module _ (c : ℕ) (low : c < 64) (rs : List Record) (long : length origin.uuid ≡ 16) (small : missed_by_time ended c + 1 < 2 ^ 64) (own : HaveNumbers passed)
       (hold : Holds e (passed_from c passed) rs) where
-    all : KeptByTime laws origin.uuid e names hertz c low long (stamped origin hertz e names is.allowed) begun ended (passed_from c passed) []
+    all : KeptByTime laws origin.uuid e names hertz c low long (stamped origin hertz e names is.begins.allowed) begun ended (passed_from c passed) []
     all =
         let start = begins origin hertz e names begun is origin.uuid c in
-        all_kept laws origin.uuid e names hertz c low long (stamped origin hertz e names is.allowed) passed begun ended [] rs got is.uuid_is (ap length is.missed) small own hold (record {
+        all_kept laws origin.uuid e names hertz c low long (stamped origin hertz e names is.begins.allowed) passed begun ended [] rs got is.begins.uuid_is
+        (ap length is.begins.missed) small own hold (record {
           told = omega (arith, start.told);
           filed = subst (λ n. Filed origin.uuid e names hertz c begun.written (lasts_of begun c) n []) (sym start.told) start.filed;
         })

@@ -1,27 +1,30 @@
 -- A folder that was written by time, and what is read of it.
-use Rattle.std.proofs.Common.{◌≡◌, ◌<◌, ◌^◌, ℕ, List, [], ◌∷◌, Some, None, sym, ap, ◌∙◌, subst, arith, length, map, slice_get}
-use Rattle.dspec_trace_reading.specs.Words.{Record, EnabledRows, Passed, GotAll, passed_from, of_file, told_by, FileTells, event_of, layout_of, read_metadata, HasNumbers, GetsRuns, IsTimedBegun}
-use Rattle.dspec_trace_reading.specs.Words.{TimedTracing, row_name, file_of, HaveNumbers, drops_carried, ReadsByTime, ReadsFiles, missed_by_time}
+use Rattle.std.proofs.Common.{◌≡◌, ◌<◌, ◌^◌, ℕ, List, [], ◌∷◌, Some, None, sym, ap, ◌∙◌, subst, arith, length, map, slice_get, codes}
+use Rattle.dspec_trace_reading.specs.Words.{Record, EnabledRows, Passed, GotAll, passed_from, of_file, told_by, FileTells, event_of, layout_of, read_metadata, HasNumbers, GetsRuns, TimedTracing}
+use Rattle.dspec_trace_reading.specs.Words.{row_name, file_of, HaveNumbers, drops_carried, ReadsByTime, ReadsFiles, missed_by_time, TimedBegunNew}
 use Rattle.dspec_session_core.specs.declared.left.Left.{Left}
 use Rattle.dspec_ctf.specs.declared.form.Form.TheVariants.{ByTime}
 use Rattle.dspec_ctf.specs.declared.names.Names.{Names}
 use Rattle.dspec_ctf.specs.declared.origin.Origin.{Origin}
 use Rattle.dspec_filing_reading.proofs.FilesLaws.{FilesLaws}
 use Rattle.dspec_trace_reading.proofs.Folding.{Holds}
-use Rattle.dspec_trace_reading.proofs.TimedBegun.{asked, begins, metadata_is, none_missed, stamped, timed_first}
-use Rattle.dspec_trace_reading.proofs.TimedFolding.{Stands, TimedStays, counted, folded, metadata_stays}
+use Rattle.dspec_trace_reading.proofs.TimedBegun.{asked, begins, begun_with, metadata_is, none_missed, stamped}
+use Rattle.dspec_trace_reading.proofs.TimedFolding.{Stands, counted, folded}
+use Rattle.dspec_trace_reading.proofs.TimedKeeping.{TimedStays, stays}
+use Rattle.dspec_trace_reading.proofs.RowNaming.{row_not_metadata}
 use Rattle.dspec_trace_reading.proofs.Whole.{MetadataReads}
 
 module _ (metadata_law : MetadataReads) (laws : FilesLaws) (origin : Origin) (hertz : ℕ) (e : EnabledRows) (names : Names) (begun ended : TimedTracing)
-    (is : IsTimedBegun origin hertz e names (Some []) begun) (passed : List Passed) (got : GotAll (GetsRuns e) begun passed ended) (none : ended.lost ≡ None) where
-  pub all : TimedStays e ended (timed_first origin hertz e names ∷ [])
-  all = metadata_stays e passed begun ended (timed_first origin hertz e names ∷ []) got none (asked origin hertz e names begun is)
+    (is : TimedBegunNew origin hertz e names begun) (passed : List Passed) (got : GotAll (GetsRuns e) begun passed ended) (none : ended.lost ≡ None) where
+  pub all : TimedStays (codes "metadata") ended (begun_with origin hertz e names begun is)
+  all = stays e (codes "metadata") row_not_metadata passed begun ended (begun_with origin hertz e names begun is) got (asked origin hertz e names begun is)
 
   module _ (c : ℕ) (low : c < 64) (rs : List Record) (long : length origin.uuid ≡ 16) (small : missed_by_time ended c < 2 ^ 64) (own : HaveNumbers passed)
       (hold : Holds e (passed_from c passed) rs) where
     stands : Stands origin.uuid e names hertz c ended rs
     stands =
-        folded laws origin.uuid e names hertz c low long (stamped origin hertz e names is.allowed) passed begun ended [] rs got none is.uuid_is (ap length is.missed) small own hold
+        folded laws origin.uuid e names hertz c low long (stamped origin hertz e names is.begins.allowed) passed begun ended [] rs got none is.begins.uuid_is
+        (ap length is.begins.missed) small own hold
         (begins origin hertz e names begun is origin.uuid c)
 
     missed_is : missed_by_time ended c ≡ drops_carried (passed_from c passed)
@@ -52,6 +55,6 @@ module _ (metadata_law : MetadataReads) (laws : FilesLaws) (origin : Origin) (he
   reads_by_time left seen long numbers small own holds = record {
     writes = all.0;
     asked = all.1.0;
-    metadata = ap read_metadata (all.1.1 ∙ metadata_is origin hertz e names) ∙ metadata_law origin (ByTime hertz) e names is.allowed numbers;
+    metadata = ap read_metadata (all.1.1 ∙ metadata_is origin hertz e names begun is) ∙ metadata_law origin (ByTime hertz) e names is.begins.allowed numbers;
     streams = λ c l low there. files_read c low (seen c l there) long (small c) own (holds c l there);
   }

@@ -3,14 +3,16 @@ use Rattle.std.proofs.Common.{◌≡◌, ◌<◌, ◌^◌, ℕ, List, [], ◌∷
 use Rattle.std.specs.List.{flat_map}
 use Rattle.std.proofs.lemmas.List.Elements.{All-weaker}
 use Rattle.dspec_trace_reading.specs.Words.{Record, EnabledRows, Passed, GotAll, passed_from, filled_packets, Accepts, origin_fault, FileTells, last_missed, MetadataTells, FilledFilesReadBack}
-use Rattle.dspec_trace_reading.specs.Words.{event_of, layout_of, read_metadata, HasNumbers, missed_on, file_of, GetsPacket, IsBegun, Tracing, cpu_name, HaveNumbers, ReadsBack, drops_carried}
+use Rattle.dspec_trace_reading.specs.Words.{event_of, layout_of, read_metadata, HasNumbers, missed_on, file_of, GetsPacket, Tracing, cpu_name, HaveNumbers, ReadsBack, drops_carried, BegunNew}
 use Rattle.dspec_session_core.specs.declared.left.Left.{Left}
 use Rattle.dspec_ctf.specs.declared.form.Form.{Form}
 use Rattle.dspec_ctf.specs.declared.form.Form.TheVariants.{AsTaken}
 use Rattle.dspec_ctf.specs.declared.names.Names.{Names}
 use Rattle.dspec_ctf.specs.declared.origin.Origin.{Origin}
-use Rattle.dspec_trace_reading.proofs.Begun.{asked, first, metadata_is, none_missed, nothing_yet}
-use Rattle.dspec_trace_reading.proofs.Folding.{Brought, Fits, Holds, Stays, brought, last_from, metadata_stays}
+use Rattle.dspec_trace_reading.proofs.Begun.{asked, begun_with, metadata_is, none_missed, nothing_yet}
+use Rattle.dspec_trace_reading.proofs.Folding.{Brought, Fits, Holds, Stays, brought, last_from}
+use Rattle.dspec_trace_reading.proofs.Keeping.{stays}
+use Rattle.dspec_trace_reading.proofs.Naming.{not_metadata}
 
 last_of : (p : ℕ × List Record) (ps : List (ℕ × List Record)) → last_missed (p ∷ ps) ≡ last_from p.0 ps
 last_of p [] = refl
@@ -29,20 +31,20 @@ abbrev pub FilesRead : Type 0
 FilesRead = (e : EnabledRows) (names : Names) → FilledFilesReadBack e names
 
 module _ (metadata_law : MetadataReads) (files_law : FilesRead) (origin : Origin) (e : EnabledRows) (names : Names) (begun ended : Tracing)
-    (is : IsBegun origin e names (Some []) begun) (passed : List Passed) (got : GotAll (GetsPacket e) begun passed ended)
+    (is : BegunNew origin e names begun) (passed : List Passed) (got : GotAll (GetsPacket e) begun passed ended)
     (none : ended.lost ≡ None) where
-  pub all : Stays e ended (first origin e names ∷ [])
-  all = metadata_stays e passed begun ended (first origin e names ∷ []) got none (asked origin e names begun is)
+  pub all : Stays e (codes "metadata") ended (begun_with origin e names begun is)
+  all = stays e (codes "metadata") not_metadata passed begun ended (begun_with origin e names begun is) got (asked origin e names begun is)
 
   metadata_read : HasNumbers origin AsTaken e names → read_metadata (file_of (codes "metadata") all.0) ≡ Some (layout_of e names AsTaken)
   metadata_read numbers =
-      ap read_metadata (all.1.1 ∙ metadata_is origin e names)
-      ∙ metadata_law origin AsTaken e names is.allowed numbers
+      ap read_metadata (all.1.1 ∙ metadata_is origin e names begun is)
+      ∙ metadata_law origin AsTaken e names is.begins.allowed numbers
 
   module _ (c : ℕ) (low : c < 64) (rs : List Record) (long : length origin.uuid ≡ 16) (small : missed_on ended c < 2 ^ 64) (own : HaveNumbers passed)
       (hold : Holds e (passed_from c passed) rs) where
-    one : Brought e origin.uuid c low begun ended (passed_from c passed) rs (first origin e names ∷ [])
-    one = brought e origin.uuid c low passed begun ended (first origin e names ∷ []) rs got none is.uuid_is (ap length is.missed) (asked origin e names begun is) own hold
+    one : Brought e origin.uuid c low begun ended (passed_from c passed) rs (begun_with origin e names begun is)
+    one = brought e origin.uuid c low passed begun ended (begun_with origin e names begun is) rs got none is.begins.uuid_is (ap length is.begins.missed) (asked origin e names begun is) own hold
 
     tells : FileTells (layout_of e names AsTaken) origin.uuid c (flat_map (λ p. filled_packets false e origin.uuid p.0 c p.1) one.packets)
         (map (event_of e names AsTaken) (flat_map (λ p. p.1) one.packets)) (last_missed one.packets)
@@ -64,7 +66,8 @@ module _ (metadata_law : MetadataReads) (files_law : FilesRead) (origin : Origin
     pub stream_read : FileTells (layout_of e names AsTaken) origin.uuid c (file_of (cpu_name c) all.0) (map (event_of e names AsTaken) rs) (drops_carried (passed_from c passed))
     stream_read =
         let bytes : file_of (cpu_name c) all.0 ≡ flat_map (λ p. filled_packets false e origin.uuid p.0 c p.1) one.packets =
-        ap (λ ws. file_of (cpu_name c) ws) writes_same ∙ one.bytes ∙ ap (λ xs. xs ++ flat_map (λ p. filled_packets false e origin.uuid p.0 c p.1) one.packets) (nothing_yet origin e names c) in
+        ap (λ ws. file_of (cpu_name c) ws) writes_same ∙ one.bytes
+        ∙ ap (λ xs. xs ++ flat_map (λ p. filled_packets false e origin.uuid p.0 c p.1) one.packets) (nothing_yet origin e names begun is c) in
         subst (λ n. FileTells (layout_of e names AsTaken) origin.uuid c (file_of (cpu_name c) all.0) (map (event_of e names AsTaken) rs) n) missed_is
         (subst (λ xs. FileTells (layout_of e names AsTaken) origin.uuid c (file_of (cpu_name c) all.0) (map (event_of e names AsTaken) xs) (last_missed one.packets)) one.has
         (subst (λ xs. FileTells (layout_of e names AsTaken) origin.uuid c xs (map (event_of e names AsTaken) (flat_map (λ p. p.1) one.packets)) (last_missed one.packets)) (sym bytes) tells))

@@ -2,7 +2,7 @@
 use Rattle.std.specs.Prelude.{ℕ, zero, suc, ◌≡◌, ◌<◌, ◌≤◌, ◌+◌, ◌^◌, List, [], ◌∷◌, length, map, slice_get, codes, Option, Some, None, IfSome, IsSome}
 use Rattle.std.specs.Option.{option_map_or}
 use Rattle.dspec_trace_reading.specs.Words.Outside.{EnabledRows, enabled, table_accepts, table_shape, table_text, CallsMade, passed_from, IsKept, FileTells, event_of, layout_of, read_metadata}
-use Rattle.dspec_trace_reading.specs.Words.Outside.{untold, FileWrite, file_of, cpu_name, labels_at, event_fields, origin_text}
+use Rattle.dspec_trace_reading.specs.Words.Outside.{untold, FileWrite, file_of, cpu_name, labels_at, event_fields, origin_text, path_of}
 use Rattle.dspec_deeds.specs.declared.config.Config.{Config}
 use Rattle.dspec_deeds.specs.declared.report.Report.{Report}
 use Rattle.dspec_ring.specs.declared.batch.Batch.{Batch}
@@ -55,20 +55,21 @@ pub record TellsProgram (origin : Origin) (uuid name : List ℕ) (start : Option
   pub began : origin.start ≡ start
 
 module _ {K : Type 0} (gets : K → Batch → K → Type 0) (does : ℕ → CallsMade → CallsMade → Type 0) (e : EnabledRows) where
-  -- A session of these enablings was traced, and its batches went to a sink and into a folder, which was asked for these writes. The sink is promised what
-  -- `trace` promises (`kept`). What the writes leave of the file `metadata` is the text of these enablings and names (`text`), and of this trace, written by a
-  -- program of this name, without a clock (`whose`); it is read as their layout. Where nothing was lost, what they leave of each CPU's file is read, by that
-  -- layout, as the events of exactly the stream that the page promises of it, in order, of this trace and this CPU; and the file tells as missed what the CPU's
-  -- report counts (`whole`). Where something was lost it is read as that stream without the batches that were, and tells as missed no more than that and them
-  -- (`part`). So many records each CPU lost (`lost_on`), and together as many as the trace answers (`told`). Both are so unless so much was counted that 64
-  -- bits can't hold it.
-  pub record IsInFolder (ps : List ProbeNames) (name : List ℕ) (k : Config) (old : K) (left : List Left) (new : K) (uuid : List ℕ) (lost : Option Loss)
+  -- A session of these enablings was traced, and its batches went to a sink and into the folder of this path (`at`), which was asked for these writes. The sink
+  -- is promised what `trace` promises (`kept`). What the writes leave of the file `metadata` is the text of these enablings and names (`text`), and of this
+  -- trace, written by a program of this name, without a clock (`whose`); it is read as their layout. Where nothing was lost, what they leave of each CPU's file
+  -- is read, by that layout, as the events of exactly the stream that the page promises of it, in order, of this trace and this CPU; and the file tells as
+  -- missed what the CPU's report counts (`whole`). Where something was lost it is read as that stream without the batches that were, and tells as missed no
+  -- more than that and them (`part`). So many records each CPU lost (`lost_on`), and together as many as the trace answers (`told`). Both are so unless so much
+  -- was counted that 64 bits can't hold it.
+  pub record IsInFolder (ps : List ProbeNames) (path name : List ℕ) (k : Config) (old : K) (left : List Left) (new : K) (uuid : List ℕ) (lost : Option Loss)
       (written : Option (List FileWrite)) : Type 0 where
     pub kept : IsKept gets does (table_shape e.header (enabled e.rows)) (table_accepts e.header (enabled e.rows)) (table_text e.header (enabled e.rows)) k old left new
     pub names : Names
     pub named : AreNamesOf ps names
     pub writes : List FileWrite
     pub asked : written ≡ Some writes
+    pub at : path_of writes ≡ path
     pub origin : Origin
     pub whose : TellsProgram origin uuid name None
     pub text : file_of (codes "metadata") writes ≡ origin_text origin AsTaken e names

@@ -6,22 +6,22 @@ use Rattle.dspec_ring.specs.declared.batch.Batch.{Batch}
 use Rattle.dspec_trace_reading.specs.Folders.{IsInFolder}
 use Rattle.dspec_trace_reading.specs.TimedFolders.{IsInTimedFolder}
 use Rattle.dspec_trace_reading.specs.declared.folder_trace.FolderTrace.{FolderTrace}
-use Rattle.dspec_trace_reading.specs.declared.folder_trace.Place.{Place}
+use Rattle.dspec_trace_reading.specs.declared.folder_trace.FolderPlace.{FolderPlace}
 use Rattle.dspec_trace_reading.specs.declared.folder_trace.StampClock.{StampClock}
 
-abbrev pub IsTracedInto : {K : Type 0} → (K → Batch → K → Type 0) → (ℕ → CallsMade → CallsMade → Type 0) → Declared → Place → Config → K → FolderTrace → K → Type 0
-IsTracedInto gets does p place k old t new = IsInFolder gets does p.schema p.names place.name.now k old t.closed new t.uuid t.lost (written_in t.folder)
+abbrev pub IsTracedInto : {K : Type 0} → (K → Batch → K → Type 0) → (ℕ → CallsMade → CallsMade → Type 0) → Declared → FolderPlace → Config → K → FolderTrace → K → Type 0
+IsTracedInto gets does p place k old t new = IsInFolder gets does p.schema p.names place.path.now place.name.now k old t.closed new t.uuid t.lost (written_in t.folder)
 
 -- the same of workers, which came back so
-abbrev pub AreTracedInto : {K W : Type 0} → (K → Batch → K → Type 0) → (ℕ → W → CallsMade → W → CallsMade → Type 0) → Declared → Place → Config → List W → List W → K → FolderTrace → K → Type 0
+abbrev pub AreTracedInto : {K W : Type 0} → (K → Batch → K → Type 0) → (ℕ → W → CallsMade → W → CallsMade → Type 0) → Declared → FolderPlace → Config → List W → List W → K → FolderTrace → K → Type 0
 AreTracedInto gets does p place k workers back old t new = IsTracedInto gets (WorkedOn does workers back) p place (one_for workers k) old t new
 
 -- the same of a folder that was written by time, by this clock
-abbrev pub IsTimedInto : {K : Type 0} → (K → Batch → K → Type 0) → (ℕ → CallsMade → CallsMade → Type 0) → Declared → Place → StampClock → Config → K → FolderTrace → K → Type 0
+abbrev pub IsTimedInto : {K : Type 0} → (K → Batch → K → Type 0) → (ℕ → CallsMade → CallsMade → Type 0) → Declared → FolderPlace → StampClock → Config → K → FolderTrace → K → Type 0
 IsTimedInto gets does p place clock k old t new =
-    IsInTimedFolder gets does p.schema p.names place.name.now clock.hertz clock.start k old t.closed new t.uuid t.lost (written_in t.folder)
+    IsInTimedFolder gets does p.schema p.names place.path.now place.name.now clock.hertz clock.start k old t.closed new t.uuid t.lost (written_in t.folder)
 
 -- and of workers
-abbrev pub AreTimedInto : {K W : Type 0} → (K → Batch → K → Type 0) → (ℕ → W → CallsMade → W → CallsMade → Type 0) → Declared → Place → StampClock → Config → List W → List W → K → FolderTrace → K
-    → Type 0
+abbrev pub AreTimedInto : {K W : Type 0} → (K → Batch → K → Type 0) → (ℕ → W → CallsMade → W → CallsMade → Type 0) → Declared → FolderPlace → StampClock → Config → List W → List W → K
+    → FolderTrace → K → Type 0
 AreTimedInto gets does p place clock k workers back old t new = IsTimedInto gets (WorkedOn does workers back) p place clock (one_for workers k) old t new

@@ -1,7 +1,7 @@
 -- Cited by calls. What is read of a folder in which a session was traced, whatever its work did.
 use Rattle.std.specs.Prelude.{ℕ, ◌≡◌, ◌<◌, ◌+◌, ◌^◌, List, [], Some, None, length}
 use Rattle.dspec_trace_reading.specs.Words.Outside.{EnabledRows, enabled, table_accepts, table_shape, table_text, CallsMade, HasLists, passed_from, IsTraced, HasNumbers, missed_on, GetsRuns}
-use Rattle.dspec_trace_reading.specs.Words.Outside.{IsTimedBegun, TimedTracing, GetsPacket, IsBegun, Tracing}
+use Rattle.dspec_trace_reading.specs.Words.Outside.{TimedTracing, GetsPacket, Tracing}
 use Rattle.dspec_deeds.specs.declared.config.Config.{Config}
 use Rattle.dspec_ring.specs.declared.batch.Batch.{Batch}
 use Rattle.dspec_session_core.specs.declared.left.Left.{Left}
@@ -9,6 +9,7 @@ use Rattle.dspec_ctf.specs.declared.form.Form.TheVariants.{AsTaken, ByTime}
 use Rattle.dspec_ctf.specs.declared.names.Names.{Names}
 use Rattle.dspec_ctf.specs.declared.origin.Origin.{Origin}
 use Rattle.dspec_trace_reading.specs.AsTaken.{ReadsAllKept, ReadsBack}
+use Rattle.dspec_trace_reading.specs.Begun.{BegunNew, TimedBegunNew}
 use Rattle.dspec_trace_reading.specs.ByTime.{ReadsAllKeptByTime, ReadsByTime, missed_by_time}
 
 module _ (e : EnabledRows) (does : ℕ → CallsMade → CallsMade → Type 0) where
@@ -22,30 +23,30 @@ module _ (e : EnabledRows) (does : ℕ → CallsMade → CallsMade → Type 0) w
   ListedBy gets k begun left ended =
       HasLists gets (table_shape e.header (enabled e.rows)) (table_accepts e.header (enabled e.rows)) (table_text e.header (enabled e.rows)) k begun left ended
 
-  -- It was traced into a folder that began empty, as its batches were taken, and nothing was lost: the folder is read as each CPU's stream.
+  -- It was traced into a folder that had no file, as its batches were taken, and nothing was lost: the folder is read as each CPU's stream.
   abbrev pub TakenIsRead : Type 0
-  TakenIsRead = (origin : Origin) (names : Names) (k : Config) (begun ended : Tracing) (left : List Left) → IsBegun origin e names (Some []) begun
+  TakenIsRead = (origin : Origin) (names : Names) (k : Config) (begun ended : Tracing) (left : List Left) → BegunNew origin e names begun
       → (t : TracedBy (GetsPacket e) k begun left ended) → ListedBy (GetsPacket e) k begun left ended → ended.lost ≡ None
       → length origin.uuid ≡ 16 → HasNumbers origin AsTaken e names → ((c : ℕ) → missed_on ended c < 2 ^ 64)
       → ReadsBack origin.uuid e names left (λ c l there. (t.promised.each c l there).seen) (λ c. passed_from c t.passed) ended.written
 
   -- Some of it may have been lost: the folder is read as each CPU's stream without the batches that were.
   abbrev pub KeptIsRead : Type 0
-  KeptIsRead = (origin : Origin) (names : Names) (k : Config) (begun ended : Tracing) (left : List Left) → IsBegun origin e names (Some []) begun
+  KeptIsRead = (origin : Origin) (names : Names) (k : Config) (begun ended : Tracing) (left : List Left) → BegunNew origin e names begun
       → (t : TracedBy (GetsPacket e) k begun left ended) → ListedBy (GetsPacket e) k begun left ended
       → length origin.uuid ≡ 16 → HasNumbers origin AsTaken e names → ((c : ℕ) → missed_on ended c + 1 < 2 ^ 64)
       → ReadsAllKept origin.uuid e names left (λ c. passed_from c t.passed) ended
 
-  -- It was traced into a folder that began empty, by time, and nothing was lost: the folder is read as each CPU's stream, shared out to its files.
+  -- It was traced into a folder that had no file, by time, and nothing was lost: the folder is read as each CPU's stream, shared out to its files.
   abbrev pub TimedIsRead : Type 0
-  TimedIsRead = (origin : Origin) (hertz : ℕ) (names : Names) (k : Config) (begun ended : TimedTracing) (left : List Left) → IsTimedBegun origin hertz e names (Some []) begun
+  TimedIsRead = (origin : Origin) (hertz : ℕ) (names : Names) (k : Config) (begun ended : TimedTracing) (left : List Left) → TimedBegunNew origin hertz e names begun
       → (t : TracedBy (GetsRuns e) k begun left ended) → ListedBy (GetsRuns e) k begun left ended → ended.lost ≡ None
       → length origin.uuid ≡ 16 → HasNumbers origin (ByTime hertz) e names → ((c : ℕ) → missed_by_time ended c < 2 ^ 64)
       → ReadsByTime origin.uuid e names hertz left (λ c l there. (t.promised.each c l there).seen) (λ c. passed_from c t.passed) ended.written
 
   -- Some of it may have been lost: the folder is read as each CPU's stream without the records of its batches that were.
   abbrev pub TimedKeptIsRead : Type 0
-  TimedKeptIsRead = (origin : Origin) (hertz : ℕ) (names : Names) (k : Config) (begun ended : TimedTracing) (left : List Left) → IsTimedBegun origin hertz e names (Some []) begun
+  TimedKeptIsRead = (origin : Origin) (hertz : ℕ) (names : Names) (k : Config) (begun ended : TimedTracing) (left : List Left) → TimedBegunNew origin hertz e names begun
       → (t : TracedBy (GetsRuns e) k begun left ended) → ListedBy (GetsRuns e) k begun left ended
       → length origin.uuid ≡ 16 → HasNumbers origin (ByTime hertz) e names → ((c : ℕ) → missed_by_time ended c + 1 < 2 ^ 64)
       → ReadsAllKeptByTime origin.uuid e names hertz left (λ c. passed_from c t.passed) ended

@@ -1,7 +1,7 @@
 -- Cited by calls. What is read of a folder into which a whole session was traced by time, by one call.
 use Rattle.std.specs.Prelude.{ℕ, ◌≡◌, ◌<◌, ◌+◌, ◌^◌, List, length, slice_get, codes, Option, Some, None}
 use Rattle.dspec_trace_reading.specs.Words.Outside.{EnabledRows, enabled, table_accepts, table_shape, table_text, CallsMade, passed_from, IsKept, origin_text, layout_of, read_metadata, FileWrite}
-use Rattle.dspec_trace_reading.specs.Words.Outside.{file_of}
+use Rattle.dspec_trace_reading.specs.Words.Outside.{file_of, path_of}
 use Rattle.dspec_deeds.specs.declared.config.Config.{Config}
 use Rattle.dspec_ring.specs.declared.batch.Batch.{Batch}
 use Rattle.dspec_session_core.specs.declared.left.Left.{Left}
@@ -15,15 +15,15 @@ use Rattle.dspec_trace_reading.specs.ByTime.{ReadsFiles, ReadsPartByTime}
 use Rattle.dspec_trace_reading.specs.Folders.{AreCountable, AreNamesOf, TellsProgram, all_counted, lost_of, lost_records, missed_in}
 
 module _ {K : Type 0} (gets : K → Batch → K → Type 0) (does : ℕ → CallsMade → CallsMade → Type 0) (e : EnabledRows) where
-  -- A session of these enablings was traced, and its batches went to a sink and into a folder by time, which was asked for these writes. The sink is promised
-  -- what `trace` promises (`kept`). What the writes leave of the file `metadata` is the text of these enablings and names, with a clock of so many ticks a second
-  -- (`text`), and of this trace, written by a program of this name, whose clock began so (`whose`); it is read as their layout. Where nothing was lost, what they
-  -- leave of each CPU's files is read, by that layout, as the events of exactly the stream that the page promises of it, each record in one file, in order, of
-  -- this trace and this CPU; and the first file tells as missed what the CPU's report counts (`whole`). Where something was lost it is read as that stream
-  -- without the records of its batches that were, which are of each batch those from some record on, and tells as missed no more than that and them (`part`). So
-  -- many records each CPU lost (`lost_on`), and together as many as the trace answers (`told`). Both are so unless so much was counted that 64 bits can't hold
-  -- it.
-  pub record IsInTimedFolder (ps : List ProbeNames) (name : List ℕ) (hertz : ℕ) (start : Option ClockStart) (k : Config) (old : K) (left : List Left) (new : K) (uuid : List ℕ)
+  -- A session of these enablings was traced, and its batches went to a sink and into the folder by time of this path (`at`), which was asked for these writes.
+  -- The sink is promised what `trace` promises (`kept`). What the writes leave of the file `metadata` is the text of these enablings and names, with a clock of
+  -- so many ticks a second (`text`), and of this trace, written by a program of this name, whose clock began so (`whose`); it is read as their layout. Where
+  -- nothing was lost, what they leave of each CPU's files is read, by that layout, as the events of exactly the stream that the page promises of it, each
+  -- record in one file, in order, of this trace and this CPU; and the first file tells as missed what the CPU's report counts (`whole`). Where something was
+  -- lost it is read as that stream without the records of its batches that were, which are of each batch those from some record on, and tells as missed no more
+  -- than that and them (`part`). So many records each CPU lost (`lost_on`), and together as many as the trace answers (`told`). Both are so unless so much was
+  -- counted that 64 bits can't hold it.
+  pub record IsInTimedFolder (ps : List ProbeNames) (path name : List ℕ) (hertz : ℕ) (start : Option ClockStart) (k : Config) (old : K) (left : List Left) (new : K) (uuid : List ℕ)
       (lost : Option Loss) (written : Option (List FileWrite)) : Type 0 where
     pub kept : IsKept gets does (table_shape e.header (enabled e.rows)) (table_accepts e.header (enabled e.rows)) (table_text e.header (enabled e.rows)) k old left new
     pub origin : Origin
@@ -32,6 +32,7 @@ module _ {K : Type 0} (gets : K → Batch → K → Type 0) (does : ℕ → Call
     pub named : AreNamesOf ps names
     pub writes : List FileWrite
     pub asked : written ≡ Some writes
+    pub at : path_of writes ≡ path
     pub text : file_of (codes "metadata") writes ≡ origin_text origin (ByTime hertz) e names
     pub metadata : AreCountable e ps → read_metadata (file_of (codes "metadata") writes) ≡ Some (layout_of e names (ByTime hertz))
     pub whole : lost ≡ None → (c : ℕ) (l : Left) (there : slice_get left c ≡ Some l)

@@ -2,7 +2,7 @@
 pub mod Outside
 unfoldable pub use Outside.*
 pub use Rattle.dspec_trace_reading.specs.AsTaken.{AreKept, drops_carried, HaveNumbers, ReadsAllKept, ReadsBack, ReadsKept, ReadsPart, told_on}
-pub use Rattle.dspec_trace_reading.specs.Begun.{HasOriginNumbers, IsBegunByTime, IsBegunTrace}
+pub use Rattle.dspec_trace_reading.specs.Begun.{BegunNew, HasOriginNumbers, IsBegunByTime, IsBegunTrace, TimedBegunNew}
 pub use Rattle.dspec_trace_reading.specs.ByTime.{AreKeptInFront, missed_by_time, ReadsAllKeptByTime, ReadsByTime, ReadsFiles, ReadsKeptByTime, ReadsPartByTime, told_by_time}
 pub use Rattle.dspec_trace_reading.specs.Folders.{all_counted, AreCountable, AreNamesOf, IsInFolder, lost_of, lost_records, missed_in, TellsProgram}
 pub use Rattle.dspec_trace_reading.specs.Laws.{KeptIsRead, ListedBy, TakenIsRead, TimedIsRead, TimedKeptIsRead, TracedBy}

@@ -3,7 +3,7 @@ use dspec_ctf_sink::{ClockStart, Loss, SystemFolder};
 
 /// Where a trace goes, and what it calls its program.
 #[derive(Debug, Clone, Copy)]
-pub struct Place<'a> {
+pub struct FolderPlace<'a> {
     /// The path of the folder: it is made, or is there and empty.
     pub path: &'a str,
     /// The program's name, 1 to 255 bytes of printable ASCII without quotes and backslashes.

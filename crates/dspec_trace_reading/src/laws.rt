@@ -9,7 +9,7 @@ use dspec::{Enablings, Work, Worker};
 use dspec_ctf::laws::{files_have_all, runs_have_all};
 use dspec_ctf_reading::laws::{files_join, live_file_reads_back, metadata_reads_back};
 
-/// A session was traced into a folder that began empty, as its batches were taken. Where nothing was lost, the folder is read as what the
+/// A session was traced into a folder that had no file, as its batches were taken. Where nothing was lost, the folder is read as what the
 /// page promises of each CPU: its stream, all of it, in order, and how many it dropped. Where some couldn't be written, it is read as that
 /// stream without the batches that were lost, and what it tells as missed, or the next packet would, are the drops and the records of those.
 pub fn trace_reads_back<W: Work<Enablings>>(_schema: &Enablings, _work: &W)

@@ -9,8 +9,9 @@
 //! | `specs/`: Laws | what is read of a session that was traced, whatever its work did: as taken and by time, and of either where some was lost |
 //! | `specs/`: Folders, TimedFolders, IntoFolders, Begun, Ran | what is read of a folder into which a session was traced by one call; such a trace before its session, and behind it |
 //! | `specs/`: AsTaken, ByTime | what is read of a folder that was written as batches were taken, of all of them or of those that were kept; what is read of one by time |
-//! | `proofs/` | Naming (each CPU has a file of its own), OwnNumbers (each batch has its CPU's number), Asking and Losing (what one batch asks of the folder, where nothing or some is lost), Folding and Keeping (what all batches bring to one CPU's file), Begun (the folder with its metadata alone), Whole and Partly (what is read as taken, of all or of what was kept) |
+//! | `proofs/` | Naming (each CPU has a file of its own), OwnNumbers (each batch has its CPU's number), Asking and Losing (what one batch asks of the folder, where nothing or some is lost), Folding and Keeping (what all batches bring to one CPU's file), Begun (the folder with its metadata alone), Placing (where the folder was made), Whole and Partly (what is read as taken, of all or of what was kept) |
 //! | `proofs/`, by time | RowNaming (each file of a CPU has a name of its own), Taking (packets that a place took), Filing (one batch, and a CPU's files), TimedAsking, TimedFolding, TimedBegun and TimedWhole; where some was lost TimedFiles, TimedLosing and TimedFronts (one batch), TimedBounded, TimedKeeping and TimedPartly |
+//! | `proofs/`, what was lost in all | Adding (one induction for both kinds of trace, over what one batch adds), Apart, Summing, Answered, TimedAnswered |
 //! | `proofs/`: Read; Told, Through, Carried, Counted, Bounded, InFolder, InTimedFolder | the four laws, of a session whose promise is known; what one call's trace carried, by the numbers of its reports, how much it counts at most, and what is read of its folder |
 #![tactic(auto)]
 
@@ -23,6 +24,6 @@ mod to_folder;
 mod to_timed_folder;
 
 pub use fault::ToFolderFault;
-pub use folder_trace::{FolderTrace, Place, StampClock};
+pub use folder_trace::{FolderPlace, FolderTrace, StampClock};
 pub use to_folder::{trace_to_folder, trace_workers_to_folder};
 pub use to_timed_folder::{trace_to_timed_folder, trace_workers_to_timed_folder};

@@ -1,10 +1,11 @@
 //! Sessions that run into a folder which is begun, and to a sink beside it.
 
-ghost use Rattle.std.specs.Prelude.{◌≡◌, [], IfErr, IfOk, List, None, OnErr, Option, Some};
+ghost use Rattle.std.specs.Prelude.{◌≡◌, ◌∷◌, [], IfErr, IfOk, List, None, OnErr, Option, Some};
 ghost use Rattle.dspec_deeds.specs.Ranges.{start_fault};
 ghost use Rattle.dspec.specs.Serving.{ThenServed};
 ghost use Rattle.dspec.specs.Workers.{one_for, with_cpus};
 ghost use Rattle.dspec_ctf_sink.specs.Places.{written_in};
+ghost use Rattle.dspec_ctf_sink.specs.Writes.{made_at};
 ghost use Rattle.dspec_trace_reading.specs.Begun.{RefusesFolder};
 ghost use Rattle.dspec_ctf_sink.specs.Ending.{TellsUntold};
 ghost use Rattle.dspec_trace_reading.specs.Ran.{RanBegun, RanWorkers};
@@ -14,7 +15,7 @@ use crate::fault::ToFolderFault;
 use dspec::{
     Both, Closed, Config, Enablings, Sink, StartFault, Work, Worker, trace, trace_workers,
 };
-use dspec_ctf_sink::{FolderFault, Identity, Lossy, Room, SystemFolder, Telling, Untold};
+use dspec_ctf_sink::{FolderFault, Identity, KeptRoom, Lossy, SystemFolder, Telling, Untold};
 use std::alloc::Global;
 use std::thread::Threads;
 
@@ -22,7 +23,7 @@ use std::thread::Threads;
 #[derive(Drop)]
 pub(crate) struct AtEnd<'a> {
     pub(crate) uuid: [u8; 16],
-    pub(crate) room: Option<Room<'a>>,
+    pub(crate) room: Option<KeptRoom<'a>>,
     pub(crate) untold: Untold,
 }
 
@@ -39,7 +40,7 @@ pub(crate) fn prepare<'a>(
     cpus: u32,
     path: &str,
 ) -> Result<(SystemFolder<'a>, Identity, AtEnd<'a>), FolderFault>
-    ensures unasked { IfOk result (λ made. written_in made.0 ≡ Some []) }
+    ensures made { IfOk result (λ made. written_in made.0 ≡ Some (made_at path.now ∷ [])) }
     ensures uuid { IfOk result (λ made. made.2.uuid ≡ made.1.uuid) }
 {
     let untold = Untold::new(rt.alloc())?;
@@ -71,7 +72,7 @@ fn end_in<T: Sink<Enablings> + Lossy>(
     ensures tells { TellsUntold (T.gets schema.now) closed sink.entry.sink result.sink }
 {
     let AtEnd { uuid, room, untold } = at_end;
-    let _ = room.map(Room::give_back);
+    let _ = room.map(KeptRoom::give_back);
     let mut sink = sink;
     untold.tell(schema, &closed, &mut sink);
     Ran {
@@ -85,7 +86,7 @@ fn end_in<T: Sink<Enablings> + Lossy>(
 fn give_up(at_end: AtEnd<'_>, fault: StartFault) -> ToFolderFault
     ensures { result ≡ Start fault }
 {
-    let _ = at_end.room.map(Room::give_back);
+    let _ = at_end.room.map(KeptRoom::give_back);
     ToFolderFault::Start(fault)
 }
 

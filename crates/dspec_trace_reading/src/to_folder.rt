@@ -9,7 +9,7 @@ ghost use Rattle.dspec_trace_reading.specs.Ran.{IsOfTrace};
 ghost use Rattle.dspec_trace_reading.specs.IntoFolders.{AreTracedInto, IsTracedInto};
 
 use crate::fault::ToFolderFault;
-use crate::folder_trace::{FolderTrace, Place};
+use crate::folder_trace::{FolderPlace, FolderTrace};
 use crate::numbers::origin_told;
 use crate::running::{Begun, Ran, config_for, prepare, run_in, run_workers_in};
 use dspec::{Config, Enablings, Probes, Sink, Work, Worker};
@@ -22,9 +22,9 @@ fn make<'a>(
     rt: &'a HostRuntime,
     cpus: u32,
     probes: &Probes<'_>,
-    place: Place<'a>,
+    place: FolderPlace<'a>,
 ) -> Result<Begun<'a, TraceFolder<SystemFolder<'a>>>, FolderFault>
-    ensures { IfOk result (λ begun. IsBegunTrace probes.now.schema probes.now.names place.entry.name.now begun.at_end.uuid begun.sink.sink) }
+    ensures { IfOk result (λ begun. IsBegunTrace probes.now.schema probes.now.names place.entry.path.now place.entry.name.now begun.at_end.uuid begun.sink.sink) }
 {
     let (folder, identity, at_end) = prepare(rt, cpus, place.path)?;
     let origin = identity.origin(place.name);
@@ -40,9 +40,9 @@ fn begin<'a>(
     rt: &'a HostRuntime,
     config: &Config,
     probes: &Probes<'_>,
-    place: Place<'a>,
+    place: FolderPlace<'a>,
 ) -> Result<Begun<'a, TraceFolder<SystemFolder<'a>>>, ToFolderFault>
-    ensures begun { IfOk result (λ begun. IsBegunTrace probes.now.schema probes.now.names place.entry.name.now begun.at_end.uuid begun.sink.sink) }
+    ensures begun { IfOk result (λ begun. IsBegunTrace probes.now.schema probes.now.names place.entry.path.now place.entry.name.now begun.at_end.uuid begun.sink.sink) }
     ensures refused { IfErr result (RefusesFolder config.now) }
 {
     if let Err(fault) = config.check() {
@@ -60,9 +60,9 @@ fn begin_for<'a>(
     config: &Config,
     cpus: usize,
     probes: &Probes<'_>,
-    place: Place<'a>,
+    place: FolderPlace<'a>,
 ) -> Result<Begun<'a, TraceFolder<SystemFolder<'a>>>, ToFolderFault>
-    ensures begun { IfOk result (λ begun. IsBegunTrace probes.now.schema probes.now.names place.entry.name.now begun.at_end.uuid begun.sink.sink) }
+    ensures begun { IfOk result (λ begun. IsBegunTrace probes.now.schema probes.now.names place.entry.path.now place.entry.name.now begun.at_end.uuid begun.sink.sink) }
     ensures refused { IfErr result (RefusesFolder (with_cpus cpus config.now)) }
 {
     match config_for(config, cpus) {
@@ -102,7 +102,7 @@ pub fn trace_to_folder<'a, R: Threads + Sync, W: Work<Enablings>, K: Sink<Enabli
     threads: &R,
     config: &Config,
     probes: &Probes<'_>,
-    place: Place<'a>,
+    place: FolderPlace<'a>,
     work: &W,
     sink: K,
 ) -> (K, Result<FolderTrace<'a>, ToFolderFault>)
@@ -126,7 +126,7 @@ pub fn trace_workers_to_folder<'a, R: Threads + Sync, W: Worker<Enablings>, K: S
     threads: &R,
     config: &Config,
     probes: &Probes<'_>,
-    place: Place<'a>,
+    place: FolderPlace<'a>,
     workers: &mut Vec<W>,
     sink: K,
 ) -> (K, Result<FolderTrace<'a>, ToFolderFault>)

@@ -9,7 +9,7 @@ ghost use Rattle.dspec_trace_reading.specs.Ran.{IsOfTimedTrace};
 ghost use Rattle.dspec_trace_reading.specs.IntoFolders.{AreTimedInto, IsTimedInto};
 
 use crate::fault::ToFolderFault;
-use crate::folder_trace::{FolderTrace, Place, StampClock};
+use crate::folder_trace::{FolderPlace, FolderTrace, StampClock};
 use crate::numbers::{number_told, origin_told};
 use crate::running::{Begun, Ran, config_for, prepare, run_in, run_workers_in};
 use dspec::{Config, Enablings, Probes, Sink, Work, Worker};
@@ -23,10 +23,10 @@ fn make<'a>(
     rt: &'a HostRuntime,
     cpus: u32,
     probes: &Probes<'_>,
-    place: Place<'a>,
+    place: FolderPlace<'a>,
     clock: StampClock,
 ) -> Result<Begun<'a, TimedFolder<SystemFolder<'a>>>, FolderFault>
-    ensures { IfOk result (λ begun. IsBegunByTime probes.now.schema probes.now.names place.entry.name.now clock.hertz clock.start begun.at_end.uuid begun.sink.sink) }
+    ensures { IfOk result (λ begun. IsBegunByTime probes.now.schema probes.now.names place.entry.path.now place.entry.name.now clock.hertz clock.start begun.at_end.uuid begun.sink.sink) }
 {
     let (folder, identity, at_end) = prepare(rt, cpus, place.path)?;
     let start = clock.start;
@@ -51,9 +51,9 @@ fn begin_for<'a>(
     config: &Config,
     cpus: usize,
     probes: &Probes<'_>,
-    place: Place<'a>,
+    place: FolderPlace<'a>,
 ) -> Result<Begun<'a, TimedFolder<SystemFolder<'a>>>, ToFolderFault>
-    ensures begun { IfOk result (λ begun. IsBegunByTime probes.now.schema probes.now.names place.entry.name.now clock.hertz clock.start begun.at_end.uuid begun.sink.sink) }
+    ensures begun { IfOk result (λ begun. IsBegunByTime probes.now.schema probes.now.names place.entry.path.now place.entry.name.now clock.hertz clock.start begun.at_end.uuid begun.sink.sink) }
     ensures refused { IfErr result (RefusesFolder (with_cpus cpus config.now)) }
 {
     match config_for(config, cpus) {
@@ -89,10 +89,10 @@ fn begin<'a>(
     rt: &'a HostRuntime,
     config: &Config,
     probes: &Probes<'_>,
-    place: Place<'a>,
+    place: FolderPlace<'a>,
     clock: StampClock,
 ) -> Result<Begun<'a, TimedFolder<SystemFolder<'a>>>, ToFolderFault>
-    ensures begun { IfOk result (λ begun. IsBegunByTime probes.now.schema probes.now.names place.entry.name.now clock.hertz clock.start begun.at_end.uuid begun.sink.sink) }
+    ensures begun { IfOk result (λ begun. IsBegunByTime probes.now.schema probes.now.names place.entry.path.now place.entry.name.now clock.hertz clock.start begun.at_end.uuid begun.sink.sink) }
     ensures refused { IfErr result (RefusesFolder config.now) }
 {
     if let Err(fault) = config.check() {
@@ -112,7 +112,7 @@ pub fn trace_to_timed_folder<'a, R: Threads + Sync, W: Work<Enablings>, K: Sink<
     threads: &R,
     config: &Config,
     probes: &Probes<'_>,
-    place: Place<'a>,
+    place: FolderPlace<'a>,
     clock: StampClock,
     work: &W,
     sink: K,
@@ -144,7 +144,7 @@ pub fn trace_workers_to_timed_folder<
     threads: &R,
     config: &Config,
     probes: &Probes<'_>,
-    place: Place<'a>,
+    place: FolderPlace<'a>,
     clock: StampClock,
     workers: &mut Vec<W>,
     sink: K,

@@ -11,7 +11,7 @@ use crate::kv::probes::StoreProbes;
 use crate::kv::serving::Server;
 use anyhow::{Result, bail};
 use dspec::{Both, Config, Probes, SystemClock, closed_cpus, trace_workers};
-use dspec_ctf_sink::{Identity, Names, Room, SystemFolder, Telling, TraceFolder, tell_untold};
+use dspec_ctf_sink::{Identity, KeptRoom, Names, SystemFolder, Telling, TraceFolder, tell_untold};
 use std::sync::atomic::AtomicU64;
 use std::thread::Threads;
 
@@ -19,7 +19,10 @@ use std::thread::Threads;
 const WORKERS: u32 = 3;
 
 /// A trace that is being written, and room on its disk for what its end tells, where the disk has it.
-type Begun<'a> = (Telling<'a, TraceFolder<SystemFolder<'a>>>, Option<Room<'a>>);
+type Begun<'a> = (
+    Telling<'a, TraceFolder<SystemFolder<'a>>>,
+    Option<KeptRoom<'a>>,
+);
 
 /// A trace of this process, with the names of these probes, if the command line asks for one. What it loses is told on the error output.
 fn trace_asked<'a>(
@@ -62,7 +65,7 @@ pub fn main<R: Threads + Sync>(rt: &HostRuntime, threads: &R, words: &[String]) 
     let (config, mut sink) = (Config::of(WORKERS, 4, 65536, 512), Both { first, second });
     let closed = trace_workers(threads, alloc, &config, schema, &mut workers, &mut sink)?;
     let Both { mut first, second } = sink;
-    let _ = room.flatten().map(Room::give_back);
+    let _ = room.flatten().map(KeptRoom::give_back);
     tell_untold(alloc, &schema, &closed, &mut first)?;
     if let Some(folder) = first {
         folder.sink.finish()?;

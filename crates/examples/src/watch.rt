@@ -25,7 +25,7 @@ use crate::watch::requests::WORKERS;
 use crate::watch::serving::Server;
 use dspec::{Closed, Config, Probes, RecordSink, closed_cpus, trace};
 use dspec_command::{ended, output_fault, print_text};
-use dspec_trace_reading::{Place, trace_to_folder};
+use dspec_trace_reading::{FolderPlace, trace_to_folder};
 use std::process::ExitCode;
 use std::thread::Threads;
 
@@ -45,7 +45,7 @@ fn serve<'a, R: Threads + Sync>(
         return Ok((closed, kept));
     };
     let name = "watch";
-    let place = Place { path, name };
+    let place = FolderPlace { path, name };
     let (kept, traced) = trace_to_folder(rt, threads, &config, declared, place, server, kept);
     Ok((in_folder(path, traced)?, kept))
 }

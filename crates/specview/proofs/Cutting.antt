@@ -2,7 +2,7 @@
 use Rattle.std.proofs.Common.{◌≡◌, ℕ, suc, ◌+◌, ◌≤◌, ◌<◌, Bool, true, false, List, [], ◌∷◌, ◌++◌}
 use Rattle.std.proofs.Common.{length, map, reverse, take, drop, get_or, refl, sym, ap, ◌∙◌, subst, append_assoc, arith, if◌then◌else◌}
 use Rattle.std.proofs.lemmas.List.{reverse-append, append-nil, append_cancel_left, take-append-drop, take_all, take_at, drop_at, take_more, map-append, length-append, length-reverse}
-use Rattle.specview.specs.Words.{Record, Offer, contents, accepts, accepted, stream, seals_now, is_drop, Batch, growing, batches, batch_records, accepts_now, ShareOf, share_of, shares, last_share}
+use Rattle.specview.specs.Words.{Record, Offer, contents, accepts, accepted, stream, seals_now, is_drop, Sealing, growing, batches, batch_records, accepts_now, ShareOf, share_of, shares, last_share}
 use Rattle.specview.specs.Words.{TellsCounts}
 use Rattle.dspec_deeds.specs.declared.deed.Deed.{Deed}
 use Rattle.dspec_deeds.proofs.Prefixes.{stream_in_batches}
@@ -15,12 +15,12 @@ contents_long : (xs : List Offer) → length (contents xs) ≡ length xs
 contents_long [] = refl
 contents_long (x ∷ xs) = ap suc (contents_long xs)
 
-records_more : (xs ys : List Batch) → batch_records (xs ++ ys) ≡ batch_records xs ++ batch_records ys
+records_more : (xs ys : List Sealing) → batch_records (xs ++ ys) ≡ batch_records xs ++ batch_records ys
 records_more [] ys = refl
 records_more (b ∷ xs) ys = rw (records_more xs ys) (sym (append_assoc (reverse (contents b.offers)) (batch_records xs) (batch_records ys)))
 
 -- batches with one more behind them
-one_more : (b : Batch) (bs : List Batch) → batch_records (reverse (b ∷ bs)) ≡ batch_records (reverse bs) ++ reverse (contents b.offers)
+one_more : (b : Sealing) (bs : List Sealing) → batch_records (reverse (b ∷ bs)) ≡ batch_records (reverse bs) ++ reverse (contents b.offers)
 one_more b bs =
     ap batch_records (reverse-append (b ∷ []) bs)
     ∙ (records_more (reverse bs) (b ∷ []) ∙ ap (λ xs. batch_records (reverse bs) ++ xs) (append-nil (reverse (contents b.offers))))

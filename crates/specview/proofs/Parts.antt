@@ -4,7 +4,7 @@ use Rattle.std.proofs.Common.{get_or, refl, sym, ap, ◌∙◌, subst, append_as
 use Rattle.std.proofs.Common.{◌^◌, suc, add-one, drop-cons}
 use Rattle.std.proofs.lemmas.List.{take_at, drop_at, get_or-map, length-map}
 use Rattle.std.proofs.lemmas.List.Elements.{All-nil, All-cons, All-append, All-take, All-drop, All-get_or}
-use Rattle.specview.specs.Words.{Record, EnabledRows, contents, stream, Batch, growing, batches, batch_records, events, packet_of, HasNoRecordPacket, metadata_fault, form_fault, Share, ShareOf}
+use Rattle.specview.specs.Words.{Record, EnabledRows, contents, stream, Sealing, growing, batches, batch_records, events, packet_of, HasNoRecordPacket, metadata_fault, form_fault, Share, ShareOf}
 use Rattle.specview.specs.Words.{share_of, shares, last_share, shown_share, HaveShortEvents, packets_behind, refused_in}
 use Rattle.dspec_deeds.specs.declared.deed.Deed.{Deed}
 use Rattle.dspec_deeds.proofs.Prefixes.{stream_in_batches}
@@ -27,7 +27,7 @@ module _ (P : Record → Type 0) where
   abbrev pub Within : List ShareOf → Type 0
   Within ss = All (λ s. All P s.records) ss
 
-  batches_all : (bs : List Batch) → All P (batch_records bs) → Within (map share_of bs)
+  batches_all : (bs : List Sealing) → All P (batch_records bs) → Within (map share_of bs)
   batches_all [] all = All-nil (λ (s : ShareOf). All P s.records)
   batches_all (b ∷ bs) all =
       All-cons (λ (s : ShareOf). All P s.records) (share_of b) (map share_of bs) (front_all (reverse (contents b.offers)) (batch_records bs) all)

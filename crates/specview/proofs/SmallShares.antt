@@ -5,7 +5,7 @@ use Rattle.std.proofs.lemmas.Bool.{leb-true}
 use Rattle.std.proofs.lemmas.Bool.Decides.{eqb_tells}
 use Rattle.std.proofs.lemmas.List.{map-append, reverse-append, length-reverse}
 use Rattle.std.proofs.lemmas.List.Elements.{All-nil, All-cons, All-head, All-tail, All-append, All-push, All-map, All-weaker}
-use Rattle.specview.specs.Words.{Record, Piece, one, block, records, reserved, size_of, align_of, extent, extent_of_records, IsAllowed, Offer, contents, accepted, accepts, active, Batch}
+use Rattle.specview.specs.Words.{Record, Piece, one, block, records, reserved, size_of, align_of, extent, extent_of_records, IsAllowed, Offer, contents, accepted, accepts, active, Sealing}
 use Rattle.specview.specs.Words.{empty_batch, growing, batches, is_drop, offers, seals_now, stream, one_if, report, total, ShareOf, last_share, share_of, shares, missed_by, refused_in}
 use Rattle.specview.specs.Words.{written_shares}
 use Rattle.dspec_record.specs.declared.field.Shape.{Shape}
@@ -25,7 +25,7 @@ missed_few shape k c worn h allowed =
     let sum = balance k c worn h (legal_accounts shape k c h allowed) in
     omega arith
 
-abbrev drops_of : List Batch → ℕ
+abbrev drops_of : List Sealing → ℕ
 drops_of [] = 0
 drops_of (b ∷ bs) = b.drops + drops_of bs
 
@@ -33,7 +33,7 @@ refused_in-append : (xs ys : List ShareOf) → refused_in (xs ++ ys) ≡ refused
 refused_in-append [] ys = omega arith
 refused_in-append (x ∷ xs) ys = let before = refused_in-append xs ys in omega arith
 
-sealed_drops : (bs : List Batch) → refused_in (map share_of (reverse bs)) ≡ drops_of bs
+sealed_drops : (bs : List Sealing) → refused_in (map share_of (reverse bs)) ≡ drops_of bs
 sealed_drops [] = refl
 sealed_drops (b ∷ bs) =
     let split : map share_of (reverse (b ∷ bs)) ≡ map share_of (reverse bs) ++ share_of b ∷ [] =
@@ -148,7 +148,7 @@ module _ (shape : ℕ → Option Shape) where
         omega arith
 
     -- each batch has as many records at the most as the buffer has bytes
-    abbrev Few : Batch → Type 0
+    abbrev Few : Sealing → Type 0
     Few b = length (contents b.offers) ≤ k.bufsize
 
     batches_few : (h : List Deed) → AreFitted shape k h → HasRoom h → All Few (batches c h)
@@ -160,7 +160,7 @@ module _ (shape : ℕ → Option Shape) where
         step true others own = All-cons Few (growing c h) (batches c h) own others
         step false others own = others
 
-    all_reversed : (bs : List Batch) → All Few bs → All Few (reverse bs)
+    all_reversed : (bs : List Sealing) → All Few bs → All Few (reverse bs)
     all_reversed [] all = All-nil Few
     all_reversed (b ∷ bs) all =
         subst (All Few) (sym (reverse-append (b ∷ []) bs)) (All-push Few (reverse bs) b (all_reversed bs (All-tail Few b bs all)) (All-head Few b bs all))
@@ -168,7 +168,7 @@ module _ (shape : ℕ → Option Shape) where
     abbrev pub FewOf : ShareOf → Type 0
     FewOf s = length s.records ≤ k.bufsize
 
-    share_few : (b : Batch) → Few b → FewOf (share_of b)
+    share_few : (b : Sealing) → Few b → FewOf (share_of b)
     share_few b few = let long = length-reverse (contents b.offers) in omega arith
 
     last_few : (s : ShareOf) → FewOf s → All FewOf (last_share s)

@@ -1,6 +1,6 @@
 -- Cited by calls. The batches of a CPU, read off the deeds of a play: what was sealed, and what its buffer has at the end.
 use Rattle.std.specs.Prelude.{ℕ, ◌≡◌, ◌==◌, ◌&&◌, List, [], ◌∷◌, ◌++◌, length, map, reverse, if◌then◌else◌}
-use Rattle.specview.specs.Words.Outside.{Record, contents, accepts, Batch, growing, batches, accepts_now}
+use Rattle.specview.specs.Words.Outside.{Record, contents, accepts, Sealing, growing, batches, accepts_now}
 use Rattle.dspec_deeds.specs.declared.deed.Deed.{Deed}
 use Rattle.specview.specs.declared.batches.Share.{Share}
 
@@ -12,7 +12,7 @@ pub record ShareOf : Type 0 where
 abbrev pub shown_share : Share → ShareOf
 shown_share s = record { drops = s.drops; records = s.records.now }
 
-abbrev pub share_of : Batch → ShareOf
+abbrev pub share_of : Sealing → ShareOf
 share_of b = record { drops = b.drops; records = reverse (contents b.offers) }
 
 -- what a CPU's buffer has at the end, where there is something

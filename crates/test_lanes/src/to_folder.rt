@@ -3,7 +3,7 @@ use crate::disk::free_path;
 use dspec::{Closed, Config, Enablings, Lane, Probe, Probes, RecordSink, Recording, Work, Worker};
 use dspec_ctf_sink::FolderFault;
 use dspec_trace_reading::{
-    Place, StampClock, ToFolderFault, trace_to_folder, trace_to_timed_folder,
+    FolderPlace, StampClock, ToFolderFault, trace_to_folder, trace_to_timed_folder,
     trace_workers_to_folder, trace_workers_to_timed_folder,
 };
 use std::fs;
@@ -49,7 +49,7 @@ fn a_session_in_a_folder(rt: HostRuntime) -> Result<(), Fail> {
     let (work, kept) = (Once { probe }, RecordSink::new(rt.alloc()));
     let config = Config::of(1, 1, 64, 64);
     let (path, name) = (path.as_str(), "test");
-    let place = Place { path, name };
+    let place = FolderPlace { path, name };
     let (kept, traced) = trace_to_folder(&rt, &rt, &config, &probes, place, &work, kept);
     let traced = traced?;
     assert!(rt; traced.lost.is_none() && accepted_by(&traced.closed, 0) == 1);
@@ -75,7 +75,7 @@ fn workers_in_a_folder(rt: HostRuntime) -> Result<(), Fail> {
     workers.push(Once { probe })?;
     let config = Config::of(64, 1, 64, 64);
     let (path, name) = (path.as_str(), "test");
-    let place = Place { path, name };
+    let place = FolderPlace { path, name };
     let none = None::<RecordSink>;
     let (none, traced) = trace_workers_to_folder(
         &rt,
@@ -108,7 +108,11 @@ fn a_session_in_a_timed_folder(rt: HostRuntime) -> Result<(), Fail> {
     let name = "test";
     let path = free_path(&rt, "a_session_in_a_timed_folder")?;
     let path = path.as_str();
-    let (place, work, none) = (Place { path, name }, Once { probe }, None::<RecordSink>);
+    let (place, work, none) = (
+        FolderPlace { path, name },
+        Once { probe },
+        None::<RecordSink>,
+    );
     let (none, traced) = trace_to_timed_folder(
         &rt, &rt, &config, &probes, place, clock, &work, none,
     );

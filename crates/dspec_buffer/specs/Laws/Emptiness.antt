@@ -5,7 +5,7 @@ use Rattle.std.proofs.lemmas.List.{append-nil}
 use Rattle.dspec_buffer.specs.Words.Outside.{Record}
 use Rattle.dspec_record.specs.declared.field.Shape.{Shape}
 use Rattle.dspec_buffer.specs.Extent.{Piece, block, bytes}
-use Rattle.dspec_buffer.specs.Listed.{Listed, HasListed}
+use Rattle.dspec_buffer.specs.Listed.{ListView, HasListed}
 use Rattle.dspec_buffer.specs.Stored.{Stored, HasPieces}
 
 pub stored_too : (shape : ℕ → Option Shape) (accepted : Record → Bool) (text : Record → List ℕ) (b : Stored) (ps : List Piece) → HasPieces shape accepted text b ps
@@ -16,7 +16,7 @@ stored_too shape accepted text b ps h = record {
   count_is = h.count_is;
 }
 
-pub listed_too : (shape : ℕ → Option Shape) (accepted : Record → Bool) (text : Record → List ℕ) (b : Listed) (ps : List Piece) → HasListed shape accepted text b ps
+pub listed_too : (shape : ℕ → Option Shape) (accepted : Record → Bool) (text : Record → List ℕ) (b : ListView) (ps : List Piece) → HasListed shape accepted text b ps
     → HasListed shape accepted text b (block [] ∷ ps)
 listed_too shape accepted text b ps h = record {
   all_accepted = h.all_accepted;

@@ -5,9 +5,9 @@ use Rattle.std.proofs.lemmas.List.Sorted.{All-permutation, IsPermutation-reverse
 use Rattle.dspec_buffer.specs.Words.Outside.{Record}
 use Rattle.dspec_record.specs.declared.field.Shape.{Shape}
 use Rattle.dspec_buffer.specs.Extent.{Piece, records}
-use Rattle.dspec_buffer.specs.Listed.{Listed, HasListed, HasTexts}
+use Rattle.dspec_buffer.specs.Listed.{ListView, HasListed, HasTexts}
 
-pub has_texts : (shape : ℕ → Option Shape) (accepted : Record → Bool) (text : Record → List ℕ) (b : Listed) (ps : List Piece) → HasListed shape accepted text b ps
+pub has_texts : (shape : ℕ → Option Shape) (accepted : Record → Bool) (text : Record → List ℕ) (b : ListView) (ps : List Piece) → HasListed shape accepted text b ps
     → HasTexts accepted text b.texts 0 (reverse (records ps))
 has_texts shape accepted text b ps h = record {
   within = omega arith;

@@ -1,10 +1,9 @@
 ghost use Rattle.std.specs.Prelude.{◌≡◌};
 ghost use Rattle.dspec_word.specs.Word.{CanBeReleased};
-ghost use Rattle.dspec_core.specs.Decisions.{act_of_decision, deed_of, load_of, try_of};
+ghost use Rattle.dspec_core.specs.Decisions.{decided_left, decides, deed_of, word_left};
 
 use dspec_deeds::{DecideFate, Deed};
-use dspec_interleaving::CallPlace;
-use dspec_word::{Act, SpecId, Word, commit_at, discard_at};
+use dspec_word::{Act, Code, SpecId, Word, commit_at};
 
 /// Which of the two calls decides a speculation.
 #[derive(Clone, Copy)]
@@ -14,17 +13,6 @@ pub enum Decision {
 }
 
 impl Decision {
-    /// What the call does at the word of the identifier's slot, by its table.
-    pub fn act(self, word: Word, id: SpecId, mine: bool) -> Act
-        requires { CanBeReleased word }
-        ensures { result ≡ act_of_decision self word id mine }
-    {
-        match self {
-            Decision::Commit => commit_at(word, id, mine),
-            Decision::Discard => discard_at(word, id, mine),
-        }
-    }
-
     /// The deed that the call enters.
     pub fn deed(self, cpu: u32, id: SpecId, fate: DecideFate) -> Deed
         ensures { result ≡ deed_of self cpu id fate }
@@ -35,23 +23,34 @@ impl Decision {
         }
     }
 
-    /// The call's place before its load of the slot's word.
-    pub fn load(self, id: SpecId) -> CallPlace
-        ensures { result ≡ load_of self id }
+    /// Whether that fate decides.
+    pub fn decides(self, fate: DecideFate) -> bool
+        ensures { result ≡ decides self fate }
     {
         match self {
-            Decision::Commit => CallPlace::CommitLoad(id),
-            Decision::Discard => CallPlace::DiscardLoad(id),
+            Decision::Commit => matches!(fate, DecideFate::Copied(_) | DecideFate::Lost(_)),
+            Decision::Discard => matches!(fate, DecideFate::Thrown(_)),
         }
     }
 
-    /// The call's place before an exchange that expects that word.
-    pub fn attempt(self, id: SpecId, word: Word) -> CallPlace
-        ensures { result ≡ try_of self id word }
+    /// The word behind a call that decides, and releases nothing.
+    pub fn leaves(self, word: Word, id: SpecId, mine: bool) -> Word
+        requires { CanBeReleased word }
+        ensures { result ≡ decided_left self word id mine }
     {
         match self {
-            Decision::Commit => CallPlace::CommitTry(id, word),
-            Decision::Discard => CallPlace::DiscardTry(id, word),
+            Decision::Commit => word_left(word, commit_at(word, id, mine)),
+            Decision::Discard => Word::of(word.issue(), Code::Discarding),
         }
+    }
+}
+
+/// The word behind a table's act: the one that it attempts, or the one that stands.
+pub fn word_left(word: Word, act: Act) -> Word
+    ensures { result ≡ word_left word act }
+{
+    match act {
+        Act::Attempt(to) => to,
+        _ => word,
     }
 }

@@ -7,7 +7,7 @@ pub use Rattle.dspec_deeds.specs.Words.{ack, active, bare, callers, calls, commi
 pub use Rattle.dspec_deeds.specs.Words.{fits_speculative, growing, halted, held, in_range, is_among, is_between, is_commit, is_copied, is_discard, is_drop, is_fill, is_granted, is_halt, is_lost}
 pub use Rattle.dspec_deeds.specs.Words.{is_of, is_seal, is_size, IsLegal, IsOwn, IsSound, issue, joined, last_called, mark, missed_busy, Offer, offers, one_if, opened, owed, own_side, part, present}
 pub use Rattle.dspec_deeds.specs.Words.{records_of_report, report, same_id, scan, sealed_last, seals, settle_fate, settled, settled_fate, SettlesAs, ShowsOwnState, solo, speculative, spoken_granted}
-pub use Rattle.dspec_deeds.specs.Words.{spoken_stopped, start_fault, StateParts, total, trace_kept, verdict, word_at}
+pub use Rattle.dspec_deeds.specs.Words.{spoken_stopped, start_fault, StateParts, total, verdict, word_at}
 pub use Rattle.dspec_promise.specs.Words.{By, commit, Did, did, discard, emptied, service, speculated, traced}
 pub use Rattle.dspec_cpu_state.specs.Words.{counts_of, HasRoom, is_stopped_opening, IsCaller, IsRoomy, one_more_worn, parts_of_side, ShowsList, with_decided, with_fate, with_opening}
 pub use Rattle.dspec_interleaving.specs.Words.{discarded_by, idle_progress, own_closed, own_closed_slot, shown_commit, shown_discard, shown_speculate}

@@ -10,8 +10,8 @@ use Rattle.dspec_ctf.specs.declared.stream.PacketFault.TheVariants.{Text, Missed
 use Rattle.dspec_ctf.specs.InMemory.Filing.{CpuFiling, IsRunWithin, as_counted, left, unwritten}
 use Rattle.dspec_ctf.specs.declared.in_memory.packet.Packet.{Packet}
 use Rattle.dspec_ctf.specs.declared.in_memory.fault.PutFault.{PutFault}
-use Rattle.dspec_ctf.specs.declared.in_memory.putting.Next.{Next}
-use Rattle.dspec_ctf.specs.declared.in_memory.putting.Next.TheVariants as next
+use Rattle.dspec_ctf.specs.declared.in_memory.putting.NextPart.{NextPart}
+use Rattle.dspec_ctf.specs.declared.in_memory.putting.NextPart.TheVariants as next
 use Rattle.dspec_ctf.specs.declared.in_memory.fault.PutFault.TheVariants as put
 
 -- there is as much room for records as there was, or more; else nothing is changed
@@ -64,7 +64,7 @@ abbrev pub IsAllHanded : CpuFiling → Type 0
 IsAllHanded f = (f.missed ≡ f.told) × (length f.records ≤ f.place)
 
 -- what the next packet is, of which the run is found now
-abbrev pub FindsNext : CpuFiling → Next → CpuFiling → Type 0
+abbrev pub FindsNext : CpuFiling → NextPart → CpuFiling → Type 0
 FindsNext f next.Missed found = IsToTell f × (found ≡ f)
 FindsNext f (next.Run run) found = FindsRun f run found
 FindsNext f next.Done found = IsAllHanded f × (found ≡ f)

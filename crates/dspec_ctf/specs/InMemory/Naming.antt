@@ -16,7 +16,7 @@ use Rattle.dspec_ctf.specs.declared.names.Names.TheVariants.{Numbered, Given}
 use Rattle.dspec_ctf.specs.declared.origin.Process.{Process}
 use Rattle.dspec_ctf.specs.declared.origin.Origin.{Origin}
 use Rattle.dspec_ctf.specs.InMemory.Calls.{Fills}
-use Rattle.dspec_ctf.specs.declared.in_memory.identity.Identity.{Identity}
+use Rattle.dspec_ctf.specs.declared.in_memory.identity.TraceIdentity.{TraceIdentity}
 use Rattle.dspec_ctf.specs.declared.in_memory.fault.TextFault.{TextFault}
 use Rattle.dspec_ctf.specs.declared.in_memory.fault.TextFault.TheVariants.{TooSmall, NotText, BadKind, Count, Metadata}
 
@@ -49,7 +49,7 @@ AreNames names kinds Numbered = names ≡ []
 AreNames names kinds (Given events) = AreEvents names kinds events.now
 
 -- the process is that of this identity
-abbrev pub IsProcess : Identity → Option Process → Type 0
+abbrev pub IsProcess : TraceIdentity → Option Process → Type 0
 IsProcess identity (Some p) = (p.host.now ≡ identity.host.now) × ((p.name.now ≡ identity.name.now) × (p.pid ≡ identity.pid))
 IsProcess identity None = ⊥
 
@@ -58,13 +58,13 @@ clock_of clock true = Some clock
 clock_of clock false = None
 
 -- the origin is that of this identity
-pub record IsOrigin (identity : Identity) (origin : Origin) : Type 0 where
+pub record IsOrigin (identity : TraceIdentity) (origin : Origin) : Type 0 where
   pub uuid : origin.uuid ≡ identity.uuid
   pub process : IsProcess identity origin.process
   pub start : origin.start ≡ Some (record { seconds = identity.seconds; ticks = identity.ticks; clock = clock_of identity.clock identity.has_clock })
 
 -- the text is the metadata of a trace by time of this identity and schema, whose events and fields are called so
-pub record IsMetadata (identity : Identity) (e : EnabledRows) (names : List (List ℕ)) (kinds : List ℕ) (text : List ℕ) : Type 0 where
+pub record IsMetadata (identity : TraceIdentity) (e : EnabledRows) (names : List (List ℕ)) (kinds : List ℕ) (text : List ℕ) : Type 0 where
   pub origin : Origin
   pub is_origin : IsOrigin identity origin
   pub called : Names
@@ -73,7 +73,7 @@ pub record IsMetadata (identity : Identity) (e : EnabledRows) (names : List (Lis
   pub text_is : text ≡ origin_text origin (ByTime identity.hertz) e called
 
 -- the metadata stands at the front of the room, and behind it is what was there
-pub record PutsMetadata (identity : Identity) (e : EnabledRows) (names : List (List ℕ)) (kinds room : List ℕ) (size : ℕ) (filled : List ℕ) : Type 0 where
+pub record PutsMetadata (identity : TraceIdentity) (e : EnabledRows) (names : List (List ℕ)) (kinds room : List ℕ) (size : ℕ) (filled : List ℕ) : Type 0 where
   pub text : List ℕ
   pub is_metadata : IsMetadata identity e names kinds text
   pub size_is : size ≡ length text
@@ -96,16 +96,16 @@ HasNoEvents kinds (TooSmall needed) = ⊥
 HasNoEvents kinds NotText = ⊥
 
 -- a text of the identity isn't UTF-8
-abbrev pub HasNoOrigin : Identity → Type 0
+abbrev pub HasNoOrigin : TraceIdentity → Type 0
 HasNoOrigin identity = (IsUtf8 identity.host.now → ⊥) ⊎ (IsUtf8 identity.name.now → ⊥)
 
 -- so these, or so called, have no metadata
-abbrev pub IsRefused : Identity → EnabledRows → List (List ℕ) → List ℕ → MetadataFault → Type 0
+abbrev pub IsRefused : TraceIdentity → EnabledRows → List (List ℕ) → List ℕ → MetadataFault → Type 0
 IsRefused identity e names kinds fault =
     (origin : Origin) × (IsOrigin identity origin × ((called : Names) × (AreNames names kinds called × (origin_fault origin (ByTime identity.hertz) e called ≡ Some fault))))
 
 -- why there is no metadata
-abbrev pub HasNoMetadata : Identity → EnabledRows → List (List ℕ) → List ℕ → TextFault → Type 0
+abbrev pub HasNoMetadata : TraceIdentity → EnabledRows → List (List ℕ) → List ℕ → TextFault → Type 0
 HasNoMetadata identity e names kinds (Metadata fault) = (fault ≡ metadata.Memory) ⊎ IsRefused identity e names kinds fault
 HasNoMetadata identity e names kinds NotText = HasNoOrigin identity
 HasNoMetadata identity e names kinds BadKind = All (λ kind. kind < 5) kinds → ⊥
@@ -113,7 +113,7 @@ HasNoMetadata identity e names kinds Count = Unit {0}
 HasNoMetadata identity e names kinds (TooSmall needed) = ⊥
 
 -- why it isn't put into a room of so many bytes
-abbrev pub PutsNone : Identity → EnabledRows → List (List ℕ) → List ℕ → ℕ → TextFault → Type 0
+abbrev pub PutsNone : TraceIdentity → EnabledRows → List (List ℕ) → List ℕ → ℕ → TextFault → Type 0
 PutsNone identity e names kinds room (TooSmall needed) =
     ((text : List ℕ) × (IsMetadata identity e names kinds text × (needed ≡ length text))) × (room < needed)
 PutsNone identity e names kinds room NotText = HasNoOrigin identity ⊎ (All IsUtf8 names → ⊥)

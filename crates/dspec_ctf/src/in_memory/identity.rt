@@ -2,7 +2,7 @@
 /// ASCII without quotes and backslashes.
 #[repr(C)]
 #[derive(Debug, Clone, Copy)]
-pub struct Identity<'a> {
+pub struct TraceIdentity<'a> {
     /// The trace's uuid, which no other trace has.
     pub uuid: [u8; 16],
     /// The uuid of the clock, where several processes read one clock.

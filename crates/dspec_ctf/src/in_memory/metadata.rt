@@ -5,13 +5,13 @@ ghost use Rattle.dspec_ctf.specs.InMemory.Naming.{HasNoMetadata, HasNoOrigin, Is
 
 use super::naming::{events_of, texts_of};
 use super::room::fill;
-use crate::{ClockStart, Form, Identity, Names, Origin, Process, TextFault, metadata_from};
+use crate::{ClockStart, Form, Names, Origin, Process, TextFault, TraceIdentity, metadata_from};
 use dspec_record::Enablings;
 use std::alloc::Global;
 use std::str;
 
 /// The origin of this identity.
-fn origin_of<'a>(identity: &Identity<'a>) -> Option<Origin<'a>>
+fn origin_of<'a>(identity: &TraceIdentity<'a>) -> Option<Origin<'a>>
     ensures origin { IfSome result (IsOrigin identity.now) }
     ensures fault { result ≡ None → HasNoOrigin identity.now }
 {
@@ -41,7 +41,7 @@ fn origin_of<'a>(identity: &Identity<'a>) -> Option<Origin<'a>>
 /// The metadata by these texts of names.
 fn text_of(
     alloc: Global,
-    identity: &Identity<'_>,
+    identity: &TraceIdentity<'_>,
     enablings: &Enablings,
     texts: &[&str],
     kinds: &[u8],
@@ -70,7 +70,7 @@ fn text_of(
 /// first eight bytes of a text, 4 for the next eight of the text in front. A text has one name: that of its first field.
 pub fn put_metadata(
     alloc: Global,
-    identity: &Identity<'_>,
+    identity: &TraceIdentity<'_>,
     enablings: &Enablings,
     names: &[&[u8]],
     kinds: &[u8],

@@ -13,7 +13,7 @@ use std::alloc::AllocError;
 
 /// What the next packet is.
 #[derive(Clone, Copy)]
-pub(crate) enum Next {
+pub(crate) enum NextPart {
     /// What was missed.
     Missed,
     /// That of a run.
@@ -32,24 +32,24 @@ impl CpuPackets {
     }
 
     // What the next packet is; its run is found.
-    fn find(&mut self) -> Result<Next, PacketFault>
+    fn find(&mut self) -> Result<NextPart, PacketFault>
         ensures found { IfOk result (λ next. FindsNext self.old next self.new) }
         ensures fault { IfErr result (HasNoRun self.old.lasts self.old.records self.old.place) }
         ensures told { OnErr result (self.old.missed ≡ self.old.told) }
         ensures refused { OnErr result (self.new ≡ self.old) }
     {
         if self.missed != self.told {
-            return Ok(Next::Missed);
+            return Ok(NextPart::Missed);
         }
         if let Some(run) = self.run {
-            return Ok(Next::Run(run));
+            return Ok(NextPart::Run(run));
         }
         match self.rows.next_run(&self.records, self.place)? {
             Some(run) => {
                 self.run = Some(run);
-                Ok(Next::Run(run))
+                Ok(NextPart::Run(run))
             }
-            None => Ok(Next::Done),
+            None => Ok(NextPart::Done),
         }
     }
 
@@ -118,9 +118,9 @@ impl CpuPackets {
         self.settle();
         let next = self.find()?;
         match next {
-            Next::Missed => Ok(Some(self.put_missed(room)?)),
-            Next::Run(run) => Ok(Some(self.put_run(run, room)?)),
-            Next::Done => Ok(None),
+            NextPart::Missed => Ok(Some(self.put_missed(room)?)),
+            NextPart::Run(run) => Ok(Some(self.put_run(run, room)?)),
+            NextPart::Done => Ok(None),
         }
     }
 }

@@ -1,10 +1,10 @@
 -- A file that is sound is one packet that is, and then the others.
+use Rattle.std.proofs.lemmas.Bool.Decides.{nat_tests}
 use Rattle.std.proofs.Common.{◌≡◌, ◌≤◌, ◌<◌, ◌++◌, ℕ, List, [], ◌∷◌, length, map, Option, Some, None, option_map, refl, ap, sym, subst, ◌∙◌, arith}
 use Rattle.std.specs.Prelude.{All, option_and_then, unwrap_or}
-use Rattle.std.specs.Option.{option_map_or}
 use Rattle.std.specs.List.{flat_map}
-use Rattle.std.proofs.lemmas.List.Elements.{All-head, All-tail, All-nil, All-cons}
-use Rattle.dspec_ctf_reading.specs.Words.{Layout, PacketRead, Part, read_packet, read_file, Event, as_read, ReadPacket, RisesFrom, last_of, stamps_of, times_of, packet_as_read, IsSoundFrom}
+use Rattle.std.proofs.lemmas.List.Elements.{All-head, All-tail, All-nil}
+use Rattle.dspec_ctf_reading.specs.Words.{Layout, PacketRead, PartRead, read_packet, read_file, Event, as_read, ReadPacket, RisesFrom, last_of, stamps_of, times_of, packet_as_read, IsSoundFrom}
 use Rattle.dspec_ctf_reading.proofs.Bounds.{packets-on-bytes}
 
 -- a list that rises, in two parts
@@ -32,31 +32,20 @@ stamps-read layout (e ∷ events) = ap (λ more. unwrap_or e.stamp 0 ∷ more) (
 -- the times of a packet with stamps, whose events are these
 module _ (layout : Layout) (p : ReadPacket) (events : List Event) (begin end last : ℕ) (is : p.front.span ≡ Some (begin, end)) (are : events ≡ p.events.items) where
   times : times_of (packet_as_read layout p) ≡ begin ∷ (stamps_of events ++ end ∷ [])
-  times =
-      ap (λ o. option_map_or (λ span. span.0 ∷ (map (λ e. unwrap_or e.stamp 0) (map (as_read layout) p.events.items) ++ span.1 ∷ [])) o []) is
-      ∙ ap (λ more. begin ∷ (more ++ end ∷ [])) (stamps-read layout p.events.items ∙ ap stamps_of (sym are))
+  times = grind (arith, nat_tests, stamps-read layout p.events.items)
 
   pub falls-end : (from : ℕ) → from ≡ last_of begin (stamps_of events) → end < from → ¬ RisesFrom last (times_of (packet_as_read layout p))
-  falls-end from same less rises =
-      let all : RisesFrom last (begin ∷ (stamps_of events ++ end ∷ [])) = subst (RisesFrom last) times rises in
-      let behind : RisesFrom (last_of begin (stamps_of events)) (end ∷ []) = rises-second begin (stamps_of events) (end ∷ []) all.1 in
-      absurd (omega (arith, same, less, behind.0))
+  falls-end from same less = grind (arith, nat_tests, times, rises-second)
 
   pub falls-within : ¬ RisesFrom begin (stamps_of events) → ¬ RisesFrom last (times_of (packet_as_read layout p))
-  falls-within none rises =
-      let all : RisesFrom last (begin ∷ (stamps_of events ++ end ∷ [])) = subst (RisesFrom last) times rises in
-      none (rises-first begin (stamps_of events) (end ∷ []) all.1)
+  falls-within none = grind (arith, nat_tests, times, rises-first)
 
   pub rises-whole : (from : ℕ) → last ≤ begin → RisesFrom begin (stamps_of events) → from ≡ last_of begin (stamps_of events) → from ≤ end
       → RisesFrom last (times_of (packet_as_read layout p)) × (end ≡ last_of last (times_of (packet_as_read layout p)))
-  rises-whole from low rises same high =
-      let second : RisesFrom (last_of begin (stamps_of events)) (end ∷ []) = (omega (arith, same, high), tt) in
-      let all : RisesFrom last (begin ∷ (stamps_of events ++ end ∷ [])) = (low, rises-append begin (stamps_of events) (end ∷ []) rises second) in
-      let ends : last_of last (begin ∷ (stamps_of events ++ end ∷ [])) ≡ end = last-append begin (stamps_of events) (end ∷ []) in
-      (subst (RisesFrom last) (sym times) all, sym ends ∙ ap (last_of last) (sym times))
+  rises-whole from low rises same high = grind (arith, nat_tests, rises-append, last-append, times)
 
 -- reading goes on behind a packet
-abbrev file_by : Layout → Part PacketRead → Option (List PacketRead)
+abbrev file_by : Layout → PartRead PacketRead → Option (List PacketRead)
 file_by layout part = option_and_then (λ p. option_map (λ packets. p.0 ∷ packets) (read_file layout p.1)) part
 
 -- the parts of what was read in two
@@ -76,12 +65,8 @@ module _ (layout : Layout) (uuid : List ℕ) (cpu : ℕ) where
 
   pub sound-step : (last : ℕ) (rest behind : List ℕ) (p : PacketRead) → 0 < length rest → read_packet layout rest ≡ Some (p, behind) → p.uuid ≡ uuid → p.cpu ≡ cpu → RisesFrom last (times_of p)
       → IsSoundFrom layout uuid cpu (last_of last (times_of p)) behind → IsSoundFrom layout uuid cpu last rest
-  sound-step last rest behind p some is of_uuid of_cpu rises sound = record {
-    packets = p ∷ sound.packets;
-    read = packets-on-bytes layout rest some ∙ ap (file_by layout) is ∙ ap (option_map (λ packets. p ∷ packets)) sound.read;
-    whose = All-cons (λ q. (q.uuid ≡ uuid) × (q.cpu ≡ cpu)) p sound.packets (of_uuid, of_cpu) sound.whose;
-    rises = rises-append last (times_of p) (flat_map times_of sound.packets) rises sound.rises;
-  }
+  sound-step last rest behind p some is of_uuid of_cpu rises sound =
+      grind (arith, nat_tests, packets-on-bytes layout rest some, rises-append last (times_of p) (flat_map times_of sound.packets) rises sound.rises)
 
   pub record Back (last : ℕ) (behind : List ℕ) (p : PacketRead) : Type 0 where
     pub of_uuid : p.uuid ≡ uuid
@@ -109,6 +94,4 @@ module _ (layout : Layout) (uuid : List ℕ) (cpu : ℕ) where
       }
 
   pub sound-none : (last : ℕ) (rest : List ℕ) → 0 < length rest → read_packet layout rest ≡ None → ¬ IsSoundFrom layout uuid cpu last rest
-  sound-none last rest some is sound =
-      let none : None ≡ Some sound.packets = sym (ap (file_by layout) is) ∙ sym (packets-on-bytes layout rest some) ∙ sound.read in
-      absurd (cc)
+  sound-none last rest some is = grind (arith, nat_tests, packets-on-bytes)

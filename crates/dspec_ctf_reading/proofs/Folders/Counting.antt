@@ -1,7 +1,7 @@
 -- What is counted of packets, one behind another.
+use Rattle.std.proofs.lemmas.Bool.Decides.{nat_tests}
 use Rattle.std.proofs.Common.{◌≡◌, ◌<◌, ◌+◌, ◌^◌, ◌==◌, ◌++◌, ℕ, cond, List, [], ◌∷◌, length, map, take, get_or, Option, Some, None, option_map, refl, ap, sym, ◌∙◌, arith, All}
 use Rattle.std.proofs.Common.{append_assoc, length-append}
-use Rattle.std.specs.Prelude.{min, max, option_and_then, slice_index}
 use Rattle.std.specs.List.{cons_option, count_by, filter_map}
 use Rattle.std.proofs.lemmas.Grind.{flat_map-append}
 use Rattle.std.proofs.lemmas.List.{append-nil, take_more}
@@ -29,9 +29,7 @@ counts-read layout place (e ∷ events) fit =
 
 -- a span that is widened twice
 span-join : (span : Option (ℕ × ℕ)) (xs ys : List ℕ) → span_from (span_from span xs) ys ≡ span_from span (xs ++ ys)
-span-join None [] ys = refl
-span-join None (x ∷ xs) ys = λ i. Some (sym (fold-append min x xs ys) i, sym (fold-append max x xs ys) i)
-span-join (Some span) xs ys = λ i. Some (sym (fold-append min span.0 xs ys) i, sym (fold-append max span.1 xs ys) i)
+span-join span xs ys = grind (arith, nat_tests, fold-append)
 
 pub span-more : (span : Option (ℕ × ℕ)) (i : ℕ) (events : List Event) (e : Event) → i < length events → e ≡ get_or events i e
     → span_from (span_from span (filter_map (λ e. e.stamp) (take i events))) (cons_option e.stamp []) ≡ span_from span (filter_map (λ e. e.stamp) (take (i + 1) events))
@@ -52,15 +50,7 @@ loss-push (q ∷ other ∷ ps) p = loss-push (other ∷ ps) p
 
 -- no packet of the file was read yet
 adds-none : (layout : Layout) (old new : CpuCounts) → old.packets < 2 ^ 64 → old.missed < 2 ^ 64 → BeginsFile old new → CountsPackets layout [] old new
-adds-none layout old new few low begun = record {
-  cpu = begun.cpu;
-  files = begun.files;
-  packets_are = omega (arith, begun.packets, few);
-  missed = omega (arith, begun.missed, low);
-  kinds = ap (λ v. length v.items) begun.events;
-  events = λ place. ap (λ v. slice_index v.items place) begun.events ∙ omega arith;
-  span = begun.span ∙ span-none old.span;
-}
+adds-none layout old new few low begun = grind (arith, nat_tests, span-none)
 
 -- one more
 adds-more : (layout : Layout) (ps : List PacketRead) (p : ReadPacket) (old mid new : CpuCounts) → CountsPackets layout ps old mid → All (Fits layout) p.events.items
@@ -108,14 +98,14 @@ one-more ps p (Some more) = ap Some (sym (append_assoc ps (p ∷ []) more))
 
 pub counted-more : (layout : Layout) (bytes rest behind : List ℕ) (p : ReadPacket) (old mid new : CpuCounts) → 0 < length rest → CountedTo layout bytes rest old mid
     → read_packet layout rest ≡ Some (packet_as_read layout p, behind) → All (Fits layout) p.events.items → CountsPacket old.missed p mid new → CountedTo layout bytes behind old new
-counted-more layout bytes rest behind p old mid new some counted is fit more = record {
-  packets = counted.packets ++ packet_as_read layout p ∷ [];
-  goes_on = counted.goes_on
-      ∙ ap (option_map (λ more. counted.packets ++ more)) (packets-on-bytes layout rest some
-      ∙ ap (λ part. option_and_then (λ q. option_map (λ packets. q.0 ∷ packets) (read_file layout q.1)) part) is)
-      ∙ one-more counted.packets (packet_as_read layout p) (read_file layout behind);
-  adds = adds-more layout counted.packets p old mid new counted.adds fit more;
-}
+counted-more layout bytes rest behind p old mid new some counted is fit more =
+    grind (
+      arith,
+      nat_tests,
+      packets-on-bytes layout rest some,
+      one-more counted.packets (packet_as_read layout p) (read_file layout behind),
+      adds-more layout counted.packets p old mid new counted.adds fit more,
+    )
 
 pub record Counted (layout : Layout) (bytes : List ℕ) (old new : CpuCounts) : Type 0 where
   pub packets : List PacketRead
@@ -123,6 +113,4 @@ pub record Counted (layout : Layout) (bytes : List ℕ) (old new : CpuCounts) : 
   pub adds : CountsPackets layout packets old new
 
 pub counted-end : (layout : Layout) (bytes rest : List ℕ) (old new : CpuCounts) → length rest ≡ 0 → CountedTo layout bytes rest old new → Counted layout bytes old new
-counted-end layout bytes [] old new none counted =
-    record { packets = counted.packets; read = counted.goes_on ∙ ap Some (append-nil counted.packets); adds = counted.adds }
-counted-end layout bytes (b ∷ rest) old new none counted = absurd (omega (arith, none))
+counted-end = grind (arith, nat_tests, append-nil)

@@ -1,16 +1,13 @@
 -- The parts of a row tell each of its records once.
+use Rattle.std.proofs.lemmas.Bool.Decides.{nat_tests}
 use Rattle.std.proofs.Common.{◌≡◌, ◌==◌, ◌+◌, ◌++◌, ◌∙◌, ℕ, suc, Bool, true, false, if◌then◌else◌, List, [], ◌∷◌, length, refl, sym, ap, arith}
 use Rattle.std.proofs.lemmas.List.{append-nil}
 use Rattle.dspec_ctf_reading.specs.Words.{RowPart, Mark, Slice, row_parts, records_told}
 
 by_kind : (q : Bool) (b : ℕ) (rest : List ℕ) → records_told (row_parts rest) ≡ length rest → records_told (row_parts (b ∷ rest)) ≡ suc (length rest)
     → records_told (if q then Slice ∷ row_parts rest else Mark ∷ row_parts (b ∷ rest)) ≡ suc (suc (length rest))
-by_kind true b rest two one =
-    let both : 2 + records_told (row_parts rest) ≡ suc (suc (length rest)) = omega (arith, two) in
-    both
-by_kind false b rest two one =
-    let more : 1 + records_told (row_parts (b ∷ rest)) ≡ suc (suc (length rest)) = omega (arith, one) in
-    more
+by_kind true b rest two one = grind (arith, nat_tests)
+by_kind false b rest two one = grind (arith, nat_tests)
 
 told_all : (kinds : List ℕ) → records_told (row_parts kinds) ≡ length kinds
 told_all [] = refl

@@ -1,9 +1,9 @@
 -- A packet that is split off leaves fewer bytes, those from its end on.
-use Rattle.std.proofs.Common.{◌≡◌, ◌≤◌, ◌<◌, ◌+◌, ◌-◌, ◌/◌, ◌++◌, ℕ, Bool, true, false, cond, List, [], ◌∷◌, length, take, drop, Some, None}
-use Rattle.std.proofs.Common.{refl, ap, sym, ◌∙◌, arith, length-drop}
+use Rattle.std.proofs.lemmas.Bool.Decides.{nat_tests}
+use Rattle.std.proofs.Common.{◌≡◌, ◌≤◌, ◌<◌, ◌+◌, ◌-◌, ◌++◌, ℕ, Bool, List, [], ◌∷◌, length, drop, Some, None, refl, ap, sym, ◌∙◌, arith, length-drop}
 use Rattle.std.specs.Prelude.{option_and_then}
 use Rattle.std.proofs.lemmas.List.{drop-drop}
-use Rattle.dspec_ctf_reading.specs.Words.{FrontRead, Part, read_front, sizes_agree, PacketSplit, split_behind, split_packet, SplitsInto, AreWholeBefore}
+use Rattle.dspec_ctf_reading.specs.Words.{FrontRead, PartRead, read_front, PacketSplit, split_behind, split_packet, SplitsInto, AreWholeBefore}
 use Rattle.dspec_ctf_reading.proofs.Agreeing.{Agrees, agrees}
 use Rattle.dspec_ctf_reading.proofs.Bounds.{Leaves, front-leaves}
 
@@ -15,30 +15,14 @@ pub record Left (bytes behind : List ℕ) : Type 0 where
   pub is : behind ≡ drop end bytes
 
 go-split : (bytes : List ℕ) (front : FrontRead) (rest : List ℕ) (s : PacketSplit) → length rest ≤ length bytes - 4 → 0 < length bytes → split_behind bytes front rest ≡ Some s → Left bytes s.behind
-go-split bytes front rest s few some is = go (sizes_agree front read (length bytes)) refl is
-  where
-    read : ℕ
-    read = length bytes - length rest
-
-    end : ℕ
-    end = front.packet_size / 8
-
-    split : PacketSplit
-    split = record { front = front; body = take (front.content_size / 8 - read) rest; behind = drop end bytes }
-
-    go : (b : Bool) → sizes_agree front read (length bytes) ≡ b → cond b (Some split) None ≡ Some s → Left bytes s.behind
-    go true agree same =
-        let are : Agrees front read (length bytes) = agrees front read (length bytes) agree in
-        let this : split ≡ s = cc in
-        record { end = end; some = omega (arith, are.low, are.within, few, some); within = are.high; is = sym (ap (λ p. p.behind) this) }
-    go false agree same = absurd (cc)
+go-split bytes front rest s few some is = grind (arith, nat_tests, Agrees, agrees)
 
 pub left : (timed : Bool) (bytes : List ℕ) (s : PacketSplit) → split_packet timed bytes ≡ Some s → Left bytes s.behind
 unfolding Leaves
 left timed [] s is = absurd (cc)
 left timed (b ∷ bytes) s is = go (read_front timed (b ∷ bytes)) (front-leaves timed (b ∷ bytes)) is
   where
-    go : (part : Part FrontRead) → Leaves (length (b ∷ bytes) - 4) part → option_and_then (λ p. split_behind (b ∷ bytes) p.0 p.1) part ≡ Some s → Left (b ∷ bytes) s.behind
+    go : (part : PartRead FrontRead) → Leaves (length (b ∷ bytes) - 4) part → option_and_then (λ p. split_behind (b ∷ bytes) p.0 p.1) part ≡ Some s → Left (b ∷ bytes) s.behind
     go None few same = absurd (cc)
     go (Some p) few same = go-split (b ∷ bytes) p.0 p.1 s few (omega arith) same
 

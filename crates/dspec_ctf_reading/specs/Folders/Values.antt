@@ -8,8 +8,8 @@ use Rattle.dspec_record.specs.declared.field.Field.TheVariants.{One, Two, Four, 
 use Rattle.dspec_probe.specs.declared.kind.Kind.{Kind}
 use Rattle.dspec_probe.specs.declared.kind.Kind.TheVariants as kind
 use Rattle.dspec_ctf_reading.specs.Words.Outside.{signed, float}
-use Rattle.dspec_ctf_reading.specs.declared.folder.value.Shown.{Shown}
-use Rattle.dspec_ctf_reading.specs.declared.folder.value.Shown.TheVariants as shown
+use Rattle.dspec_ctf_reading.specs.declared.folder.value.ShownValue.{ShownValue}
+use Rattle.dspec_ctf_reading.specs.declared.folder.value.ShownValue.TheVariants as shown
 
 -- a number in two's complement, by the bytes of its field
 abbrev pub signed_by : Field → ℕ → Option ℤ
@@ -19,7 +19,7 @@ signed_by Four n = signed w32 n
 signed_by Eight n = signed w64 n
 
 -- what a number of a field of this width and kind stands for, if for anything; a word of a text for itself
-abbrev pub stands_for : Field → Kind → ℕ → Option Shown
+abbrev pub stands_for : Field → Kind → ℕ → Option ShownValue
 stands_for width kind.Unsigned n = Some (shown.Unsigned n)
 stands_for width kind.Text n = Some (shown.Unsigned n)
 stands_for width kind.TextNext n = Some (shown.Unsigned n)

@@ -1,5 +1,5 @@
 -- Serves proofs. Words from the crates below, in one place. Declares nothing.
-pub use Rattle.dspec_record.specs.Words.{accepted-parts, both, enabled, EnabledRows, fits, IsAccepted, length-little_endian, little_endian, Record, stamp_fits, width, within_limit}
+pub use Rattle.dspec_record.specs.Words.{accepted-parts, both, enabled, EnabledRows, fits, IsAccepted, length-little_endian, little_endian, Record, stamp_fits, width}
 pub use Rattle.dspec_probe.specs.Words.{float, is_next, name_place, next_words, signed}
 pub use Rattle.dspec_ctf.specs.Words.{Accepts, AreRuns, can_mean, clock_text, clock_uuid, earlier, environment_text, event, event_fields, events, field_line, filled_size, first_found, front_by}
 pub use Rattle.dspec_ctf.specs.Words.{front_size, given_lines, has_stamp, is_identifier, is_text, is_text_before, kind_line, kind_type, label_item, labels_at, missed_packets, next_in_front, of_file}

@@ -2,7 +2,7 @@
 //! object; a program puts them into the array `traceEvents`.
 
 use super::text::{label_of, text_at};
-use super::value::Shown;
+use super::value::ShownValue;
 use crate::{EventText, FieldText};
 use dspec_probe::Kind;
 use json::{Writer, is_number};
@@ -74,11 +74,11 @@ fn put_value(out: &mut Writer, field: &FieldText<'_>, number: u64) -> Result<(),
     if let Some(label) = label_of(field, number) {
         return out.string(label);
     }
-    match Shown::of(field.width, field.kind, number) {
-        Some(Shown::Signed(number)) => put_signed(out, number),
-        Some(Shown::Single(number)) => put_single(out, number),
-        Some(Shown::Double(number)) => put_double(out, number),
-        Some(Shown::Unsigned(_)) | None => put_unsigned(out, number),
+    match ShownValue::of(field.width, field.kind, number) {
+        Some(ShownValue::Signed(number)) => put_signed(out, number),
+        Some(ShownValue::Single(number)) => put_single(out, number),
+        Some(ShownValue::Double(number)) => put_double(out, number),
+        Some(ShownValue::Unsigned(_)) | None => put_unsigned(out, number),
     }
 }
 

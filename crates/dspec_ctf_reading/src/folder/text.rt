@@ -1,6 +1,6 @@
 //! What happened, in words.
 
-use super::value::Shown;
+use super::value::ShownValue;
 use crate::{EventText, FieldText};
 use dspec_probe::{Kind, text_bytes};
 use std::alloc::{AllocError, Global};
@@ -16,11 +16,11 @@ fn is_plain(label: &str) -> bool {
 
 /// Adds what a number stands for.
 fn put_number(out: &mut String, field: &FieldText<'_>, number: u64) -> Result<(), AllocError> {
-    match Shown::of(field.width, field.kind, number) {
-        Some(Shown::Signed(number)) => write!(out, "{number}"),
-        Some(Shown::Single(number)) => write!(out, "{number:?}"),
-        Some(Shown::Double(number)) => write!(out, "{number:?}"),
-        Some(Shown::Unsigned(_)) | None => write!(out, "{number}"),
+    match ShownValue::of(field.width, field.kind, number) {
+        Some(ShownValue::Signed(number)) => write!(out, "{number}"),
+        Some(ShownValue::Single(number)) => write!(out, "{number:?}"),
+        Some(ShownValue::Double(number)) => write!(out, "{number:?}"),
+        Some(ShownValue::Unsigned(_)) | None => write!(out, "{number}"),
     }
 }
 

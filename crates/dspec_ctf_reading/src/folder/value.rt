@@ -8,7 +8,7 @@ use dspec_probe::Value;
 
 /// What a number of a field stands for.
 #[derive(Debug, Clone, Copy, PartialEq)]
-pub enum Shown {
+pub enum ShownValue {
     /// The number itself.
     Unsigned(u64),
     /// A number that may be negative.
@@ -31,17 +31,17 @@ fn signed(width: Field, number: u64) -> Option<i64>
     }
 }
 
-impl Shown {
+impl ShownValue {
     /// What a number of a field of this width and kind stands for; a word of a text for itself. None of a number that is wider than the field, and of a float of
     /// less than four bytes.
-    pub fn of(width: Field, kind: Kind, number: u64) -> Option<Shown>
+    pub fn of(width: Field, kind: Kind, number: u64) -> Option<ShownValue>
         ensures { result ≡ stands_for width kind number }
     {
         match (kind, width) {
-            (Kind::Unsigned | Kind::Text | Kind::TextNext, _) => Some(Shown::Unsigned(number)),
-            (Kind::Signed, _) => Some(Shown::Signed(signed(width, number)?)),
-            (Kind::Float, Field::Four) => Some(Shown::Single(f32::value(number)?)),
-            (Kind::Float, Field::Eight) => Some(Shown::Double(f64::value(number)?)),
+            (Kind::Unsigned | Kind::Text | Kind::TextNext, _) => Some(ShownValue::Unsigned(number)),
+            (Kind::Signed, _) => Some(ShownValue::Signed(signed(width, number)?)),
+            (Kind::Float, Field::Four) => Some(ShownValue::Single(f32::value(number)?)),
+            (Kind::Float, Field::Eight) => Some(ShownValue::Double(f64::value(number)?)),
             (Kind::Float, _) => None,
         }
     }

@@ -1,5 +1,5 @@
 -- Serves proofs. Words from the crates below, in one place. Declares nothing.
 pub use Rattle.dspec_record.specs.Words.{Record}
-pub use Rattle.dspec_buffer.specs.Words.{block, extent, one, Piece, piece_fits, Steps}
-pub use Rattle.dspec_word.specs.Words.{awaits, code_number, commit_act, commit_at, discard_act, discard_at, is_decided, is_inactive, no_speculation, open_at, released, settle_at, SlotState}
-pub use Rattle.dspec_word.specs.Words.{speculate_act, speculate_at, Speculation, word_number}
+pub use Rattle.dspec_buffer.specs.Words.{block, extent, one, Piece, piece_fits, StepsAhead}
+pub use Rattle.dspec_word.specs.Words.{awaits, code_number, commit_at, discard_at, is_decided, is_inactive, no_speculation, open_at, released, settle_at, SlotState, speculate_at, Speculation}
+pub use Rattle.dspec_word.specs.Words.{word_number}

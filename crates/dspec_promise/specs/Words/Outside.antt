@@ -3,5 +3,5 @@ pub use Rattle.dspec_record.specs.Words.{Record}
 pub use Rattle.dspec_buffer.specs.Words.{block, one}
 pub use Rattle.dspec_word.specs.Words.{Speculation}
 pub use Rattle.dspec_deeds.specs.Words.{accepted, author, bare, buffer, committed, contents, empties, Entry, FateLaw, fits_principal, fits_speculative, halted, HasAuthors, held, is_commit}
-pub use Rattle.dspec_deeds.specs.Words.{is_discard, is_open, is_seal, is_undecided, IsAllowed, IsLegal, IsSound, issue, offered_by, offers_of, opened, opens, part, report, ruled_out, same_actor}
-pub use Rattle.dspec_deeds.specs.Words.{SettlesAs, specdrops_now, stream_of, taken_first, total, traces_dropped_now, undecided, Verdict, verdict, WaitsUndecided}
+pub use Rattle.dspec_deeds.specs.Words.{is_discard, is_open, is_seal, is_undecided, IsAllowed, IsLegal, IsSound, offered_by, offers_of, opened, opens, part, report, ruled_out, Ruling, same_actor}
+pub use Rattle.dspec_deeds.specs.Words.{SettlesAs, specdrops_now, stream_of, taken_first, total, traces_dropped_now, undecided, verdict, WaitsUndecided}

@@ -6,7 +6,7 @@ pub use Rattle.dspec_deeds.specs.Words.{ack, calls, id_given, is_granted, offers
 pub use Rattle.dspec_interleaving.specs.Words.{own_closed, own_closed_slot}
 pub use Rattle.dspec_table.specs.Words.{known, set_up}
 pub use Rattle.dspec_ring.specs.Words.{Pair}
-pub use Rattle.dspec_cpu.specs.Words.{buffers_of, calls_of, config_of, decided_deeds, Identity, identity, is_worn_opening, IsCallable, misses, number_in, opening_deeds, schema_of, seat_of, Serves}
-pub use Rattle.dspec_cpu.specs.Words.{SettledBehind, SettledSlots, spoken_deeds, traced_deeds, with_seal, words_of, worn_of}
+pub use Rattle.dspec_cpu.specs.Words.{buffers_of, calls_of, config_of, CpuIdentity, decided_deeds, identity, is_worn_opening, IsCallable, misses, number_in, opening_deeds, schema_of, seat_of}
+pub use Rattle.dspec_cpu.specs.Words.{Serves, SettledBehind, SettledSlots, spoken_deeds, traced_deeds, with_seal, words_of, worn_of}
 pub use Rattle.dspec_session_core.specs.Words.{Asked, Cleaned, Consuming, FoundNone, GaveBack, Has, HasAt, IsClosedBy, IsConsumerOf, IsCpuOf, IsFresh, IsLeftBy, IsNotTakenBack, IsSameConsumer}
 pub use Rattle.dspec_session_core.specs.Words.{IsSession, pairs_of, set_up_of, Stays, Stopped, taken_at, Took, view_of, worn_at}

@@ -5,7 +5,7 @@ pub use Rattle.dspec_deeds.specs.Words.{id_given, start_fault}
 pub use Rattle.dspec_promise.specs.Words.{commit, discard}
 pub use Rattle.dspec_table.specs.Words.{last_seat, set_up}
 pub use Rattle.dspec_ring.specs.Words.{IsUnusedConsumer, Pair, popped_from, pushed_into, Ring}
-pub use Rattle.dspec_cpu.specs.Words.{Belongs, called, CallsMade, HasList, Identity, identity, IsCallable, IsSteady, no_calls, number_in, schema_of, words_of}
+pub use Rattle.dspec_cpu.specs.Words.{Belongs, called, CallsMade, CpuIdentity, HasList, identity, IsCallable, IsSteady, no_calls, number_in, schema_of, words_of}
 pub use Rattle.dspec_session_core.specs.Leaving.{Has}
 pub use Rattle.dspec_session_core.specs.Words.{called_at, ClosesAs, Consuming, entered_at, HasAt, IsCpuOf, IsPromisedBy, IsSession, pairs_of, taken_at, view_of, worn_at}
-pub use Rattle.dspec.specs.Words.{DecisionOn, IsKeptWith, IsOneList, IsOneListWith, IsTraced, IsTracedWith, MakesRound, OpeningOn, PassesOn, place_of, ServedOnce, ServiceOn, ThenServed}
+pub use Rattle.dspec.specs.Words.{DecisionOn, IsOneList, IsOneListWith, IsTraced, MakesRound, OpeningOn, PassesOn, place_of, ServedOnce, ServiceOn, ThenServed}

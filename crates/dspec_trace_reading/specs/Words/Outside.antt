@@ -2,7 +2,7 @@
 pub use Rattle.dspec_record.specs.Words.{enabled, enabled-IsLimited, EnabledRows, Record, table-shapes_fit, table-texts_differ, table-texts_fit, table_accepts, table_shape, table_text}
 pub use Rattle.dspec_word.specs.Words.{Speculation}
 pub use Rattle.dspec_deeds.specs.Words.{batches, drops_of, growing, is_drop, IsLegal, IsOwn, one_if, part, start_fault, total}
-pub use Rattle.dspec_promise.specs.Words.{all_did, cpu_stream, Did, Handed, handed, number, of, taken}
+pub use Rattle.dspec_promise.specs.Words.{all_did, cpu_stream, Did, handed, HandedRecord, number, of, taken}
 pub use Rattle.dspec_cpu.specs.Words.{AreSealed, CallsMade, waiting}
 pub use Rattle.dspec_session_core.specs.Words.{HoldRecords, IsLeftBy, IsPromised, IsWithSeals}
 pub use Rattle.dspec.specs.Words.{AreFrom, GotAll, HasLists, IsKept, IsOneListWith, IsTraced, left_batches, one_for, Passed, passed_from, ThenServed, WorkedOn}
@@ -13,6 +13,6 @@ pub use Rattle.dspec_ctf_reading.specs.Words.{event_of, EventRead, file_bytes, F
 pub use Rattle.dspec_ctf_reading.specs.Words.{read_metadata, ticks_of}
 unfoldable pub use Rattle.dspec_ctf_reading.specs.Words.{is_digit}
 pub use Rattle.dspec_ctf_sink.specs.Words.{AddsAll, AddsBatch, AddsPacket, AddsRuns, AreNextOf, brought_to, capped, ChangesFiles, cpu_name, CpuFiles, file_of, FileWrite, GetsPacket, GetsRuns}
-pub use Rattle.dspec_ctf_sink.specs.Words.{GetsTellings, HasFiles, HasNoCpu, HasSoManyRecords, IsBare, IsBatchFault, IsBatchLoss, IsBegun, IsNothing, IsNotTaken, IsTelling, IsTimedBegun, LosesAll}
-pub use Rattle.dspec_ctf_sink.specs.Words.{LosesBatch, LosesOfFiles, LosesPacket, LosesRest, lost_more, missed_on, Refuses, RefusesRun, row_name, StopsRun, Takes, TakesAll, TellsMissed, TellsUntold}
-pub use Rattle.dspec_ctf_sink.specs.Words.{TimedTracing, Tracing, untold, whole_loss, written_in}
+pub use Rattle.dspec_ctf_sink.specs.Words.{GetsTellings, HasFiles, HasNoCpu, HasSoManyRecords, IsBare, IsBatchFault, IsBatchLoss, IsBegun, IsNothing, IsNotTaken, IsTelling, IsTimedBegun, LeaveNone}
+pub use Rattle.dspec_ctf_sink.specs.Words.{LosesAll, LosesBatch, LosesOfFiles, LosesPacket, LosesRest, lost_more, made_at, missed_on, path_of, Refuses, RefusesRun, row_name, StopsRun, Takes}
+pub use Rattle.dspec_ctf_sink.specs.Words.{TakesAll, TellsMissed, TellsUntold, TimedTracing, Tracing, untold, whole_loss, written_in}

@@ -4,7 +4,7 @@ use crate::fault::{ExampleFault, in_folder};
 use crate::store::serving::{Server, WORKERS};
 use dspec::{Closed, Config, Probes, RecordSink, trace};
 use dspec_ctf_sink::ClockStart;
-use dspec_trace_reading::{Place, StampClock, trace_to_timed_folder};
+use dspec_trace_reading::{FolderPlace, StampClock, trace_to_timed_folder};
 use std::thread::Threads;
 use std::time::SystemTime;
 
@@ -41,7 +41,7 @@ pub fn serve<'a, R: Threads + Sync>(
         return Ok((closed, sink));
     };
     let (name, clock) = ("store", stamp_clock(rt));
-    let place = Place { path, name };
+    let place = FolderPlace { path, name };
     let (kept, traced) = trace_to_timed_folder(
         rt, threads, &config, declared, place, clock, server, kept,
     );

@@ -1,7 +1,7 @@
 //! Times, dates and values.
 use super::samples::CLOCK;
 use crate::same::same;
-use dspec_ctf_reading::folder::{Base, Moment, Shown, base_of, nanoseconds};
+use dspec_ctf_reading::folder::{Base, Moment, ShownValue, base_of, nanoseconds};
 use dspec_ctf_reading::{ClockText, Field, Kind};
 use std::test::Fail;
 
@@ -64,29 +64,29 @@ fn times_of_stamps(rt: HostRuntime) -> Result<(), Fail> {
 fn values(rt: HostRuntime) -> Result<(), Fail> {
     same(
         &rt,
-        Shown::of(Field::One, Kind::Unsigned, 255),
-        Some(Shown::Unsigned(255)),
+        ShownValue::of(Field::One, Kind::Unsigned, 255),
+        Some(ShownValue::Unsigned(255)),
     );
     same(
         &rt,
-        Shown::of(Field::One, Kind::Signed, 255),
-        Some(Shown::Signed(-1)),
+        ShownValue::of(Field::One, Kind::Signed, 255),
+        Some(ShownValue::Signed(-1)),
     );
     same(
         &rt,
-        Shown::of(Field::Two, Kind::Signed, 32_768),
-        Some(Shown::Signed(-32_768)),
+        ShownValue::of(Field::Two, Kind::Signed, 32_768),
+        Some(ShownValue::Signed(-32_768)),
     );
     same(
         &rt,
-        Shown::of(Field::Four, Kind::Float, 0xBFC0_0000),
-        Some(Shown::Single(-1.5)),
+        ShownValue::of(Field::Four, Kind::Float, 0xBFC0_0000),
+        Some(ShownValue::Single(-1.5)),
     );
     same(
         &rt,
-        Shown::of(Field::Eight, Kind::Float, 0x3FD0_0000_0000_0000),
-        Some(Shown::Double(0.25)),
+        ShownValue::of(Field::Eight, Kind::Float, 0x3FD0_0000_0000_0000),
+        Some(ShownValue::Double(0.25)),
     );
-    same(&rt, Shown::of(Field::One, Kind::Float, 1), None);
+    same(&rt, ShownValue::of(Field::One, Kind::Float, 1), None);
     Ok(())
 }

@@ -2,16 +2,16 @@
 use super::one_enabling;
 use crate::same::{UUID, same};
 use dspec_ctf::{
-    ClockStart, CpuPackets, Form, Identity, Kind, MetadataFault, NameFault, NameKind, Names,
-    Origin, ProbeNames, Process, TextFault, metadata_from, put_metadata,
+    ClockStart, CpuPackets, Form, Kind, MetadataFault, NameFault, NameKind, Names, Origin,
+    ProbeNames, Process, TextFault, TraceIdentity, metadata_from, put_metadata,
 };
 use dspec_record::Enablings;
 use std::alloc::Global;
 use std::test::Fail;
 
 /// Process 77 of the machine `here`.
-fn identity() -> Identity<'static> {
-    Identity {
+fn identity() -> TraceIdentity<'static> {
+    TraceIdentity {
         uuid: UUID,
         clock: [9; 16],
         has_clock: true,
@@ -27,7 +27,7 @@ fn identity() -> Identity<'static> {
 /// Why there is none by these names.
 fn fault_of(
     alloc: Global,
-    identity: &Identity<'_>,
+    identity: &TraceIdentity<'_>,
     enablings: &Enablings,
     names: &[&[u8]],
     kinds: &[u8],
@@ -145,7 +145,7 @@ fn identities_that_arent_allowed(rt: HostRuntime) -> Result<(), Fail> {
     let alloc = rt.alloc();
     let enablings = one_enabling()?;
     let bare = Enablings::new();
-    let with_name = Identity {
+    let with_name = TraceIdentity {
         name: b"a\"b",
         ..identity()
     };
@@ -155,7 +155,7 @@ fn identities_that_arent_allowed(rt: HostRuntime) -> Result<(), Fail> {
         fault,
         Some(TextFault::Metadata(MetadataFault::ProcessName)),
     );
-    let with_hertz = Identity {
+    let with_hertz = TraceIdentity {
         hertz: 0,
         ..identity()
     };

@@ -1,7 +1,7 @@
 //! Texts of metadata, by the format's description, and texts that are none.
 use crate::same::same;
 use dspec_ctf_reading::{
-    ClockText, Expected, Field, FieldText, Kind, Label, Metadata, MetadataReadFault, Process,
+    ClockText, Expected, Field, FieldText, Kind, Label, Metadata, MetadataReadFault, ToldProcess,
     read_metadata,
 };
 use std::alloc::AllocError;
@@ -46,7 +46,7 @@ fn same_field(
 fn timed_text(rt: HostRuntime) -> Result<(), Fail> {
     let metadata = read_metadata(rt.alloc(), TIMED.as_bytes())?;
     same(&rt, metadata.uuid, "00112233-4455-6677-8899-aabbccddeeff");
-    let process = Process {
+    let process = ToldProcess {
         host: "alder",
         name: "watch",
         pid: 4711,
@@ -226,7 +226,7 @@ fn ends_of_texts(rt: HostRuntime) -> Result<(), Fail> {
 fn numbers_of_64_bits(rt: HostRuntime) -> Result<(), Fail> {
     let text = changed(&rt, "vpid = 4711", "vpid = 18446744073709551615")?;
     let metadata = read_metadata(rt.alloc(), text.as_bytes())?;
-    let process = Process {
+    let process = ToldProcess {
         host: "alder",
         name: "watch",
         pid: u64::MAX,

@@ -4,7 +4,7 @@ use crate::same::{UUID, same, three_enablings};
 use crate::writing::packets::{PACKET, TEXT};
 use dspec_ctf::{Form, Names, Stream, metadata};
 use dspec_ctf_reading::{
-    Event, EventFault, EventsFault, PacketFault, PacketReadFault, check_events, check_packet,
+    Event, EventFault, EventsFault, PacketReadFault, WholePacketFault, check_events, check_packet,
     next_packet, read_event, read_events, read_metadata,
 };
 use dspec_record::{Enablings, Field, SchemaFault};
@@ -177,7 +177,7 @@ fn whole_packets(rt: HostRuntime) -> Result<(), Fail> {
     same(&rt, check_events(&metadata, packet.body)?, 3);
     let found = check_packet(&metadata, &PACKET[..74]).err();
     let behind = PacketReadFault::BehindFile(600);
-    same(&rt, found, Some(PacketFault::Packet(behind)));
+    same(&rt, found, Some(WholePacketFault::Packet(behind)));
     Ok(())
 }
 
@@ -193,7 +193,7 @@ fn refused_events(rt: HostRuntime) -> Result<(), Fail> {
         fault: EventFault::Unknown(4),
     };
     let found = check_packet(&metadata, &bytes).err();
-    same(&rt, found, Some(PacketFault::Events(unknown)));
+    same(&rt, found, Some(WholePacketFault::Events(unknown)));
     let found = read_events(rt.alloc(), &metadata, &bytes[52..]).err();
     same(&rt, found, Some(unknown));
     let cut = EventsFault {
@@ -202,7 +202,7 @@ fn refused_events(rt: HostRuntime) -> Result<(), Fail> {
         fault: EventFault::Cut,
     };
     let found = check_packet(&metadata, &sized(80, 2)).err();
-    same(&rt, found, Some(PacketFault::Events(cut)));
+    same(&rt, found, Some(WholePacketFault::Events(cut)));
     let found = read_event(rt.alloc(), &metadata, &[1, 0, 0]).err();
     same(&rt, found, Some(EventFault::Cut));
     let text = format!(in rt.alloc(); "{cut}")?;

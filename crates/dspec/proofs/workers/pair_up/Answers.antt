@@ -1,17 +1,11 @@
-use Rattle.std.proofs.Common.{◌++◌, length, ap, ◌∙◌, refl, arith}
-use Rattle.dspec.specs.Words.{cpus_of, workers_of, Working}
+use Rattle.std.proofs.lemmas.Bool.Decides.{nat_tests}
+use Rattle.std.proofs.Common.{length, ap, ◌∙◌, refl, arith}
+use Rattle.dspec.specs.Words.{Working}
 use Rattle.dspec.proofs.Working.{moved_in}
 use Rattle.dspec.proofs.workers.pair_up.Goals as goal
 
 pub loop-cpus-init : goal.loop-cpus-init
-loop-cpus-init g c = record {
-  cpus = ap (λ ps. cpus_of ps ++ c.args.cpus.now.items) c.requires.room.0;
-  workers = ap (λ ps. workers_of ps ++ c.args.workers.now.items) c.requires.room.0;
-  count = c.requires.count;
-  room = omega (arith, ap length c.requires.room.0, c.requires.room.1);
-  cpus_room = refl;
-  workers_room = refl;
-}
+loop-cpus-init g c = grind (arith, nat_tests, c.requires.room.0, c.requires.count, c.requires.room.1)
 
 pub loop-cpus-preserved : goal.loop-cpus-preserved
 loop-cpus-preserved g c = record {

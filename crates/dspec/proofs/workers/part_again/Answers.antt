@@ -1,15 +1,11 @@
-use Rattle.std.proofs.Common.{◌++◌, length, ap, refl, arith}
-use Rattle.dspec.specs.Words.{cpus_of, workers_of, Working}
+use Rattle.std.proofs.lemmas.Bool.Decides.{nat_tests}
+use Rattle.std.proofs.Common.{length, ap, refl, arith}
+use Rattle.dspec.specs.Words.{Working}
 use Rattle.dspec.proofs.Working.{moved_out}
 use Rattle.dspec.proofs.workers.part_again.Goals as goal
 
 pub loop-pairs-init : goal.loop-pairs-init
-loop-pairs-init g c = record {
-  cpus = ap (λ xs. xs ++ cpus_of c.args.pairs.items) c.requires.emptied.0;
-  workers = ap (λ xs. xs ++ workers_of c.args.pairs.items) c.requires.emptied.1;
-  cpus_room = omega (arith, ap length c.requires.emptied.0, c.requires.room.0);
-  workers_room = omega (arith, ap length c.requires.emptied.1, c.requires.room.1);
-}
+loop-pairs-init g c = grind (arith, nat_tests, c.requires.emptied.0, c.requires.emptied.1, c.requires.room.0, c.requires.room.1)
 
 pub loop-pairs-preserved : goal.loop-pairs-preserved
 loop-pairs-preserved g c = record {

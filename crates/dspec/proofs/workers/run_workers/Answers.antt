@@ -1,14 +1,13 @@
-use Rattle.std.proofs.Common.{List, length, sym, ap, ◌∙◌, subst}
+use Rattle.std.proofs.Common.{arith, List, length, sym, ap, ◌∙◌, subst}
+use Rattle.std.proofs.lemmas.Bool.Decides.{nat_tests}
 use Rattle.dspec_cpu.specs.declared.cpu.Cpu.{Cpu}
-use Rattle.dspec.specs.Words.{EnabledRows, AllCallable, AllReturned, ThenServed, AllNumbered, WorkedBy, cpus_of, workers_of}
+use Rattle.dspec.specs.Words.{EnabledRows, AllReturned, ThenServed, AllNumbered, WorkedBy, cpus_of, workers_of}
 use Rattle.dspec.proofs.Returning.{all_callable, session_again}
 use Rattle.dspec.proofs.Working.{all_numbered, pairs_returned, workers_all}
 use Rattle.dspec.proofs.workers.run_workers.Goals as goal
 
 pub run_pairs-requires-clause-callable : goal.run_pairs-requires-clause-callable
-run_pairs-requires-clause-callable g c =
-    let all = all_callable c.args.schema.now c.args.session.now c.requires.session in
-    λ κs outlives. subst (λ (xs : List (Cpu EnabledRows)). AllCallable c.args.session.now.shared xs) (sym c.pair_up-pairs.ensures.pairs.0) all
+run_pairs-requires-clause-callable g c = grind (arith, nat_tests, all_callable, c.requires.session, c.pair_up-pairs.ensures.pairs.0)
 
 pub returns-clause-all : goal.returns-clause-all
 returns-clause-all g c =

@@ -1,5 +1,5 @@
-use Rattle.std.proofs.Common.{refl, ◌≡◌}
-use Rattle.dspec_c.specs.Words.{Speculation, Drops, IsNumberOf}
+use Rattle.std.proofs.Common.{refl, ◌≡◌, subst}
+use Rattle.dspec_c.specs.Words.{Speculation, Drops, IsNumberOf, CpuSide}
 use Rattle.dspec_c.proofs.Calls.{on_cpu}
 use Rattle.dspec_c.proofs.held_calls.held_dropped_in.Goals as goal
 
@@ -8,5 +8,9 @@ returns-in-Cpu c = on_cpu (λ old new. (0 ≡ 0) × (new ≡ old) × ((id : Spec
     c.in-Cpu.side c.in-Cpu.side c.in-Cpu.is refl (
       refl,
       refl,
-      (c.from_raw.result, record { numbered = c.from_raw.ensures.number; slot = c.from_raw.ensures.slot }, c.dropped_in.ensures),
+      (
+        c.from_raw.result,
+        record { numbered = c.from_raw.ensures.number; slot = c.from_raw.ensures.slot },
+        subst (λ (s : CpuSide). Drops c.from_raw.result s.cpu c.dropped_in.result) c.side.view_is c.dropped_in.ensures,
+      ),
     )

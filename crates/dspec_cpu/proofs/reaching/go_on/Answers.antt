@@ -1,9 +1,9 @@
-use Rattle.std.proofs.Common.{◌∙◌, ℕ, not, refl, sym, subst}
-use Rattle.dspec_word.specs.declared.act.Act.TheVariants.{Void, Granted, Attempt}
-use Rattle.dspec_cpu.specs.Words.{IsInFlight, known, set_up, cpu_of, LoadedActivity}
+use Rattle.std.proofs.Common.{◌≡◌, ◌∙◌, ℕ, not, refl, sym, subst}
+use Rattle.dspec_cpu.specs.Words.{IsInFlight, known, set_up, cpu_of, LoadedActivity, Reach, Reached, EndsAtWord, act_reached}
 use Rattle.dspec_cpu.specs.declared.reaching.Reach.TheVariants as reach
 use Rattle.dspec_cpu.proofs.ReachDeeds.{never_idle}
 use Rattle.dspec_cpu.proofs.Reaches.{at_stop, outside, flight, behind, is_running, void_running, at_seat}
+use Rattle.dspec_cpu.proofs.reaching.go_on.Goals.{After-work}
 use Rattle.dspec_cpu.proofs.reaching.go_on.Goals as goal
 
 pub returns-then-not-load_activity-clause-reached : goal.returns-then-not-load_activity-clause-reached
@@ -30,38 +30,26 @@ work-requires-clause-call c =
     subst (λ (n : ℕ). IsInFlight k (known c.load_activity.new.self) n c.args.doing.now c.args.id c.slot.result) (sym c.load_activity.ensures.seat.1)
     (subst (λ (n : ℕ). IsInFlight k (known c.load_activity.new.self) (cpu_of seat) c.args.doing.now c.args.id n) (sym c.slot.ensures.value) flies)
 
-pub returns-in-Attempt-clause-reached : goal.returns-in-Attempt-clause-reached
-returns-in-Attempt-clause-reached c =
+-- so far it came behind its work on the word
+at_word : (c : After-work) (r : Reach) → EndsAtWord (set_up c.args.words.now) (cpu_of c.load_activity.new.self) c.args.doing.now c.args.id c.slot.result (known c.load_activity.new.self)
+    (act_reached r) (known c.work.new.seat) → (r ≡ reach.Stopped → ⊥)
+    → Reached (set_up c.args.words.now) (cpu_of c.args.seat.now) c.args.doing.now c.args.id (known c.args.seat.now) r (known c.work.new.seat)
+at_word c r ended running =
     let seat = c.args.seat.now in
     let k = set_up c.args.words.now in
-    let inside = sym c.requires.inside ∙ c.if-not-inside.false in
-    let step = subst (λ b. LoadedActivity c.args.doing.now (known seat) (not b) (known c.load_activity.new.self)) c.if-not-load_activity.false c.load_activity.ensures.step in
-    let ended = at_seat k c.args.doing.now c.args.id (known c.load_activity.new.self) (Attempt c.in-Attempt.to) (known c.work.new.seat) _ _ _ _ c.load_activity.ensures.seat.1
-    c.slot.ensures.value c.in-Attempt.ensures.ended in
-    behind k (cpu_of seat) c.args.doing.now c.args.id (known seat) c.requires.seat.1 seat.who_is c.requires.on (known c.load_activity.new.self) inside step
-    (reach.Done c.in-Attempt.to) (known c.work.new.seat) ended (is_running (reach.Done c.in-Attempt.to) refl)
+    let u = known c.load_activity.new.self in
+    let step = subst (λ b. LoadedActivity c.args.doing.now (known seat) (not b) u) c.if-not-load_activity.false c.load_activity.ensures.step in
+    behind k (cpu_of seat) c.args.doing.now c.args.id (known seat) c.requires.seat.1 seat.who_is c.requires.on u (sym c.requires.inside ∙ c.if-not-inside.false) step r (known c.work.new.seat)
+    (at_seat k c.args.doing.now c.args.id u (act_reached r) (known c.work.new.seat) _ _ _ _ c.load_activity.ensures.seat.1 c.slot.ensures.value ended) running
+
+pub returns-in-Attempt-clause-reached : goal.returns-in-Attempt-clause-reached
+returns-in-Attempt-clause-reached c = at_word c.before (reach.Done c.in-Attempt.to) c.in-Attempt.ensures.ended (is_running (reach.Done c.in-Attempt.to) refl)
 
 pub returns-in-Granted-clause-reached : goal.returns-in-Granted-clause-reached
-returns-in-Granted-clause-reached c =
-    let seat = c.args.seat.now in
-    let k = set_up c.args.words.now in
-    let inside = sym c.requires.inside ∙ c.if-not-inside.false in
-    let step = subst (λ b. LoadedActivity c.args.doing.now (known seat) (not b) (known c.load_activity.new.self)) c.if-not-load_activity.false c.load_activity.ensures.step in
-    let ended = at_seat k c.args.doing.now c.args.id (known c.load_activity.new.self) Granted (known c.work.new.seat) _ _ _ _ c.load_activity.ensures.seat.1
-    c.slot.ensures.value c.in-Granted.ensures.ended in
-    behind k (cpu_of seat) c.args.doing.now c.args.id (known seat) c.requires.seat.1 seat.who_is c.requires.on (known c.load_activity.new.self) inside step reach.Granted
-    (known c.work.new.seat) ended (is_running reach.Granted refl)
+returns-in-Granted-clause-reached c = at_word c.before reach.Granted c.in-Granted.ensures.ended (is_running reach.Granted refl)
 
 pub returns-in-Void-clause-reached : goal.returns-in-Void-clause-reached
-returns-in-Void-clause-reached c =
-    let seat = c.args.seat.now in
-    let k = set_up c.args.words.now in
-    let inside = sym c.requires.inside ∙ c.if-not-inside.false in
-    let step = subst (λ b. LoadedActivity c.args.doing.now (known seat) (not b) (known c.load_activity.new.self)) c.if-not-load_activity.false c.load_activity.ensures.step in
-    let ended = at_seat k c.args.doing.now c.args.id (known c.load_activity.new.self) Void (known c.work.new.seat) _ _ _ _ c.load_activity.ensures.seat.1 c.slot.ensures.value
-    c.in-Void.ensures.ended in
-    behind k (cpu_of seat) c.args.doing.now c.args.id (known seat) c.requires.seat.1 seat.who_is c.requires.on (known c.load_activity.new.self) inside step reach.Void
-    (known c.work.new.seat) ended void_running
+returns-in-Void-clause-reached c = at_word c.before reach.Void c.in-Void.ensures.ended void_running
 
 pub unreachable-requires : goal.unreachable-requires
 unreachable-requires c = let ended = c.in-Idle.ensures.ended in never_idle c.args.doing.now.op c.args.id ended.word c.args.doing.now.mine c.requires.on ended.acts

@@ -13,14 +13,13 @@ load_word-word-requires c = record {
 
 pub loop-to-init : goal.loop-to-init
 loop-to-init c =
-    let words = c.args.words.now in
     let seat = c.args.seat.now in
     let doing = c.args.doing.now in
     record {
       seat = c.load_word-word.ensures.seat;
-      shown = loaded (set_up words) (cpu_of seat) doing c.args._id c.args.slot (known seat) c.requires.seat.1 seat.who_is c.load_word-word.result
+      shown = loaded c.requires.seat.1 seat.who_is c.load_word-word.result
           (known c.load_word-word.new.self) c.requires.on c.requires.call c.load_word-word.ensures.step;
-      bounded = loaded_steps (set_up words) (cpu_of seat) doing c.args._id c.args.slot (known seat) c.requires.seat.1 seat.who_is c.load_word-word.result
+      bounded = loaded_steps doing c.args._id c.args.slot (known seat) c.load_word-word.result
           (known c.load_word-word.new.self) c.load_word-word.ensures.step;
       limit = c.load_word-word.ensures.limit;
     }
@@ -55,50 +54,39 @@ exchange-requires-clause-call c =
     let doing = c.args.doing.now in
     let e = sym c.act_at-act.ensures ∙ c.in-Attempt.is in
     subst (λ (n : ℕ). MayTry (set_up words) (known c.loop-to.seat) n doing c.args.slot c.loop-to.word c.in-Attempt.to) (sym c.loop-to.invariant.seat.1)
-    (may_try (set_up words) (cpu_of seat) doing c.args._id c.args.slot (known seat) c.requires.seat.1 seat.who_is c.loop-to.word c.in-Attempt.to
-    (known c.loop-to.seat) c.requires.on c.loop-to.invariant.shown e)
+    (may_try c.requires.seat.1 seat.who_is c.requires.on c.loop-to.invariant.shown e)
 
 pub returns-in-Ok-clause-seat : goal.returns-in-Ok-clause-seat
 returns-in-Ok-clause-seat c = (c.exchange.ensures.tried.seat.0, c.exchange.ensures.tried.seat.1 ∙ c.loop-to.invariant.seat.1)
 
 pub returns-in-Ok-clause-ended : goal.returns-in-Ok-clause-ended
 returns-in-Ok-clause-ended c =
-    let words = c.args.words.now in
     let seat = c.args.seat.now in
-    let doing = c.args.doing.now in
     let e = sym c.act_at-act.ensures ∙ c.in-Attempt.is in
     record {
       word = c.loop-to.word;
       acts = e;
-      last = tried (set_up words) (cpu_of seat) doing c.args._id c.args.slot (known seat) c.requires.seat.1 seat.who_is c.loop-to.word c.in-Attempt.to
-          (known c.loop-to.seat) c.requires.on c.loop-to.invariant.shown e c.loop-to.word true (known c.exchange.new.seat) c.in-Ok.ensures.tried.step;
-      bounded = hit_steps (set_up words) (cpu_of seat) doing c.args._id c.args.slot (known seat) c.requires.seat.1 seat.who_is c.loop-to.word c.in-Attempt.to
-          (known c.loop-to.seat) c.requires.on c.loop-to.invariant.shown e (known c.exchange.new.seat) c.in-Ok.ensures.tried.step c.loop-to.invariant.bounded;
+      last = tried c.requires.seat.1 seat.who_is c.requires.on c.loop-to.invariant.shown e c.loop-to.word true (known c.exchange.new.seat) c.in-Ok.ensures.tried.step;
+      bounded = hit_steps c.requires.seat.1 seat.who_is c.requires.on c.loop-to.invariant.shown e (known c.exchange.new.seat) c.in-Ok.ensures.tried.step c.loop-to.invariant.bounded;
     }
 
 pub loop-to-smaller : goal.loop-to-smaller
 loop-to-smaller c =
-    let words = c.args.words.now in
     let seat = c.args.seat.now in
-    let doing = c.args.doing.now in
     let e = sym c.act_at-act.ensures ∙ c.in-Attempt.is in
-    let less = fewer_left (set_up words) (cpu_of seat) doing c.args._id c.args.slot (known seat) c.requires.seat.1 seat.who_is c.loop-to.word c.in-Attempt.to
-    (known c.loop-to.seat) c.requires.on c.loop-to.invariant.shown e c.in-Err.shown c.in-Err.ensures.tried.greater in
+    let less = fewer_left c.requires.seat.1 seat.who_is c.requires.on c.loop-to.invariant.shown e c.in-Err.shown c.in-Err.ensures.tried.greater in
     omega arith
 
 pub loop-to-preserved : goal.loop-to-preserved
 loop-to-preserved c =
-    let words = c.args.words.now in
     let seat = c.args.seat.now in
     let doing = c.args.doing.now in
     let e = sym c.act_at-act.ensures ∙ c.in-Attempt.is in
     record {
       seat = (c.exchange.ensures.tried.seat.0, c.exchange.ensures.tried.seat.1 ∙ c.loop-to.invariant.seat.1);
-      shown = tried (set_up words) (cpu_of seat) doing c.args._id c.args.slot (known seat) c.requires.seat.1 seat.who_is c.loop-to.word c.in-Attempt.to
-          (known c.loop-to.seat) c.requires.on c.loop-to.invariant.shown e c.in-Err.shown false (known c.exchange.new.seat) c.in-Err.ensures.tried.step;
+      shown = tried c.requires.seat.1 seat.who_is c.requires.on c.loop-to.invariant.shown e c.in-Err.shown false (known c.exchange.new.seat) c.in-Err.ensures.tried.step;
       bounded =
-          let less = fewer_left (set_up words) (cpu_of seat) doing c.args._id c.args.slot (known seat) c.requires.seat.1 seat.who_is c.loop-to.word c.in-Attempt.to
-          (known c.loop-to.seat) c.requires.on c.loop-to.invariant.shown e c.in-Err.shown c.in-Err.ensures.tried.greater in
+          let less = fewer_left c.requires.seat.1 seat.who_is c.requires.on c.loop-to.invariant.shown e c.in-Err.shown c.in-Err.ensures.tried.greater in
           let one = step_made doing c.args.slot (known c.loop-to.seat) c.in-Err.shown (known c.exchange.new.seat) c.in-Err.ensures.tried.step in
           let le = c.loop-to.invariant.bounded in
           omega arith;

@@ -1,4 +1,4 @@
-use Rattle.dspec_interleaving.proofs.ClosedAuthors.{closing_authors}
+use Rattle.dspec_interleaving.proofs.ClosedParts.{closing_authors}
 use Rattle.dspec_interleaving.proofs.Closing.{can_close, closing_closes}
 use Rattle.dspec_interleaving.proofs.laws.close_is_legal.Goals as goal
 

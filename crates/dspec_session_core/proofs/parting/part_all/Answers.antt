@@ -109,65 +109,8 @@ unwrap-other-requires g c =
     let some = c.in-Some.ensures.cases in
     c.pop-in-Some.ensures.variant.1 (omega arith)
 
-pub leave_kept-gone-requires-clause-pair : goal.leave_kept-gone-requires-clause-pair
-leave_kept-gone-requires-clause-pair g c =
-    let s = c.requires.parting in
-    let so = c.loop-one.invariant.so_far in
-    let one = c.in-Some.one in
-    let other = c.unwrap-other.result in
-    let es = c.pop-in-Some.new.self.items in
-    let xs = c.pop.new.self.items in
-    let pulled = c.pop-in-Some.ensures.items ∙ ap (λ o. es ++ option_to_list o) c.unwrap-other.ensures in
-    let next = next_of_left g.S.Schema.shape_of g.S.Schema.accepted g.S.Schema.text s.0 c.args.words s.1 c.args.seats.items c.args.cpus.items c.args.ends.items s.2
-    so.before so.after c.loop-one.ends.items so.told xs c.loop-one.parted.items one es other so.split so.split_ends so.same so.parted c.in-Some.ensures.items pulled in
-    let old = c.args.seats.items ++ map (λ y. seat_of y) next.before in
-    next_pair g.S.Schema.shape_of g.S.Schema.accepted g.S.Schema.text s.0 c.args.words s.1 old (next.cpu ∷ so.after) (other ∷ so.told) next.parting next.cpu so.after other so.told refl refl
-    ∙ sym (ap (λ (e : CpuKnows). e.pair) next.has.rest.end_is)
-
-pub leave_kept-gone-requires-clause-few : goal.leave_kept-gone-requires-clause-few
-leave_kept-gone-requires-clause-few g c =
-    let s = c.requires.parting in
-    let so = c.loop-one.invariant.so_far in
-    let one = c.in-Some.one in
-    let other = c.unwrap-other.result in
-    let es = c.pop-in-Some.new.self.items in
-    let xs = c.pop.new.self.items in
-    let pulled = c.pop-in-Some.ensures.items ∙ ap (λ o. es ++ option_to_list o) c.unwrap-other.ensures in
-    let next = next_of_left g.S.Schema.shape_of g.S.Schema.accepted g.S.Schema.text s.0 c.args.words s.1 c.args.seats.items c.args.cpus.items c.args.ends.items s.2
-    so.before so.after c.loop-one.ends.items so.told xs c.loop-one.parted.items one es other so.split so.split_ends so.same so.parted c.in-Some.ensures.items pulled in
-    let old = c.args.seats.items ++ map (λ y. seat_of y) next.before in
-    let rest = rest_with c.schema.result.now one.rest in
-    let apart = numbers_differ c.args.cpus.len 0 (sym c.is_empty.ensures ∙ c.if-is_empty.false) in
-    let some : 0 < length c.args.cpus.items = let ok = c.args.cpus.ok.0 in omega arith in
-    let same = c.schema.ensures ∙ (first_schema g.S.Schema.shape_of g.S.Schema.accepted g.S.Schema.text s.0 c.args.words s.1 c.args.seats.items c.args.cpus.items c.args.ends.items
-    c.index.result.now s.2 some c.index.ensures ∙ sym (next.parting.each 0 next.cpu refl).0.one) in
-    let is = is_rest g.S.Schema.shape_of g.S.Schema.accepted g.S.Schema.text next.cpu one c.schema.result.now same next.has in
-    next_few g.S.Schema.shape_of g.S.Schema.accepted g.S.Schema.text s.0 c.args.words s.1 old (next.cpu ∷ so.after) (other ∷ so.told) next.parting next.cpu so.after other
-    so.told refl refl one.end rest is
-
-pub leave_kept-gone-requires-clause-words : goal.leave_kept-gone-requires-clause-words
-leave_kept-gone-requires-clause-words g c =
-    let s = c.requires.parting in
-    let so = c.loop-one.invariant.so_far in
-    let one = c.in-Some.one in
-    let other = c.unwrap-other.result in
-    let es = c.pop-in-Some.new.self.items in
-    let xs = c.pop.new.self.items in
-    let pulled = c.pop-in-Some.ensures.items ∙ ap (λ o. es ++ option_to_list o) c.unwrap-other.ensures in
-    let next = next_of_left g.S.Schema.shape_of g.S.Schema.accepted g.S.Schema.text s.0 c.args.words s.1 c.args.seats.items c.args.cpus.items c.args.ends.items s.2
-    so.before so.after c.loop-one.ends.items so.told xs c.loop-one.parted.items one es other so.split so.split_ends so.same so.parted c.in-Some.ensures.items pulled in
-    let old = c.args.seats.items ++ map (λ y. seat_of y) next.before in
-    let rest = rest_with c.schema.result.now one.rest in
-    let apart = numbers_differ c.args.cpus.len 0 (sym c.is_empty.ensures ∙ c.if-is_empty.false) in
-    let some : 0 < length c.args.cpus.items = let ok = c.args.cpus.ok.0 in omega arith in
-    let same = c.schema.ensures ∙ (first_schema g.S.Schema.shape_of g.S.Schema.accepted g.S.Schema.text s.0 c.args.words s.1 c.args.seats.items c.args.cpus.items c.args.ends.items
-    c.index.result.now s.2 some c.index.ensures ∙ sym (next.parting.each 0 next.cpu refl).0.one) in
-    let is = is_rest g.S.Schema.shape_of g.S.Schema.accepted g.S.Schema.text next.cpu one c.schema.result.now same next.has in
-    next_words g.S.Schema.shape_of g.S.Schema.accepted g.S.Schema.text s.0 c.args.words s.1 old (next.cpu ∷ so.after) (other ∷ so.told) next.parting next.cpu so.after other so.told refl refl
-    c.gather-last.result one.end rest is c.gather-last.ensures.config
-
-pub leave_kept-gone-requires-clause-some : goal.leave_kept-gone-requires-clause-some
-leave_kept-gone-requires-clause-some g c =
+pub leave_kept-gone-requires : goal.leave_kept-gone-requires
+leave_kept-gone-requires g c =
     let s = c.requires.parting in
     let so = c.loop-one.invariant.so_far in
     let one = c.in-Some.one in
@@ -196,7 +139,15 @@ leave_kept-gone-requires-clause-some g c =
     (last_words c.gather-last.result) (known_there c.args.consumer) ended one.end rest is in
     let has = next_has g.S.Schema.shape_of g.S.Schema.accepted g.S.Schema.text s.0 c.args.words s.1 old (next.cpu ∷ so.after) (other ∷ so.told) next.parting next.cpu so.after
     other so.told refl refl in
-    (s.1 (length old), ended.log, closing.0, lists (s.1 (length old)) has, closing.1)
+    record {
+      pair = next_pair g.S.Schema.shape_of g.S.Schema.accepted g.S.Schema.text s.0 c.args.words s.1 old (next.cpu ∷ so.after) (other ∷ so.told) next.parting next.cpu so.after other so.told refl refl
+          ∙ sym (ap (λ (e : CpuKnows). e.pair) next.has.rest.end_is);
+      few = next_few g.S.Schema.shape_of g.S.Schema.accepted g.S.Schema.text s.0 c.args.words s.1 old (next.cpu ∷ so.after) (other ∷ so.told) next.parting next.cpu so.after other so.told refl refl
+          one.end rest is;
+      words = next_words g.S.Schema.shape_of g.S.Schema.accepted g.S.Schema.text s.0 c.args.words s.1 old (next.cpu ∷ so.after) (other ∷ so.told) next.parting next.cpu so.after other so.told refl refl
+          c.gather-last.result one.end rest is c.gather-last.ensures.config;
+      some = (s.1 (length old), ended.log, closing.0, lists (s.1 (length old)) has, closing.1);
+    }
 
 pub loop-one-preserved : goal.loop-one-preserved
 loop-one-preserved g c =

@@ -1,3 +1,4 @@
+use Rattle.std.proofs.lemmas.Bool.Decides.{nat_tests}
 use Rattle.std.proofs.Common.{arith}
 use Rattle.std.proofs.lemmas.List.{length-map}
 use Rattle.dspec_threads.specs.Words.{ComesIn, whereabouts}
@@ -18,5 +19,4 @@ pub returns-clause-looked : goal.returns-clause-looked
 returns-clause-looked g c = all_of_them (ComesIn g.D.Duty.done) _ _ _ c.loop-index.invariant.looked (omega (arith, length-map c.args.places.now.items whereabouts))
 
 pub returns-clause-inside : goal.returns-clause-inside
-returns-clause-inside g c = all_or_one _ _ _ c.loop-index.invariant.inside
-    (omega (arith, length-map c.args.places.now.items whereabouts, count_so_far (ComesIn g.D.Duty.done) _ _ _ c.loop-index.invariant.looked))
+returns-clause-inside g c = grind (arith, nat_tests, all_or_one, length-map, count_so_far, c.loop-index.invariant.inside, c.loop-index.invariant.looked)

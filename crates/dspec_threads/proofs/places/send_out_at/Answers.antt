@@ -1,5 +1,7 @@
+use Rattle.std.proofs.Common.{arith}
+use Rattle.std.proofs.lemmas.Bool.Decides.{nat_tests}
 use Rattle.std.specs.Arc.{arc_value}
-use Rattle.dspec_threads.specs.Words.{LooksAndSends, all_whereabouts, whereabouts}
+use Rattle.dspec_threads.specs.Words.{all_whereabouts, whereabouts}
 use Rattle.dspec_threads.proofs.Whereabouts.{at_one, callable_behind, there_read}
 use Rattle.dspec_threads.proofs.places.send_out_at.Goals as goal
 
@@ -9,6 +11,4 @@ send_out-requires g c =
     (there_read c.args.places.now.items c.args.index c.index_mut-place.result.now c.requires.some c.index_mut-place.ensures.value) c.look.ensures.looked
 
 pub returns : goal.returns
-returns g c =
-    at_one (LooksAndSends g.D.Duty.done c.send_out.result) c.args.places.now.items c.args.index c.index_mut-place.result.now c.send_out.new.self c.requires.some c.index_mut-place.ensures.value
-    (record { looked = whereabouts c.look.new.self; comes = c.look.ensures.looked; sends = c.send_out.ensures })
+returns g c = grind (arith, nat_tests, at_one, c.requires.some, c.index_mut-place.ensures.value, c.look.ensures.looked, c.send_out.ensures)

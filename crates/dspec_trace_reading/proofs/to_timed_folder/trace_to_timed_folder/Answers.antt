@@ -20,5 +20,6 @@ returns-clause-read g c =
       have_all = c.files_have_all.ensures;
       runs_have = c.runs_have_all.ensures;
     } in
-    timed_if c.metadata_reads_back.ensures laws (g.K.Sink.gets e) (does e) e c.args.probes.now.names c.args.place.name.now c.args.clock.hertz c.args.clock.start c.args.config.now c.args.sink
+    timed_if c.metadata_reads_back.ensures laws (g.K.Sink.gets e) (does e) e c.args.probes.now.names c.args.place.path.now
+    c.args.place.name.now c.args.clock.hertz c.args.clock.start c.args.config.now c.args.sink
     ran.0 begun ran.1 c.came.result c.run_in-sink.ensures.started c.begin-begun.ensures.begun has c.came.ensures.traced c.came.ensures.ran

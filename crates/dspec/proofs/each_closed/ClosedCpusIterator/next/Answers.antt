@@ -1,14 +1,10 @@
+use Rattle.std.proofs.lemmas.Bool.Decides.{nat_tests}
 use Rattle.std.proofs.Common.{◌<◌, length, arith}
 use Rattle.dspec.proofs.LeftBehind.{fewer, shown_first}
 use Rattle.dspec.proofs.each_closed.ClosedCpusIterator.next.Goals as goal
 
 pub returns-clause-steps : goal.returns-clause-steps
-returns-clause-steps c =
-    let xs = c.args.self.now.closed.now in
-    let n = c.args.self.now.next in
-    let within : n < length xs = omega arith in
-    let e = c.closed_cpu.ensures in
-    shown_first xs n c.closed_cpu.result within e.number e.sealed e.last e.report
+returns-clause-steps c = grind (arith, nat_tests, shown_first, c.closed_cpu.ensures)
 
 pub returns-clause-goes : goal.returns-clause-goes
 returns-clause-goes c =

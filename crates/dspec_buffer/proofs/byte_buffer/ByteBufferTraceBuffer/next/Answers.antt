@@ -1,5 +1,5 @@
 use Rattle.std.proofs.Common.{subst}
-use Rattle.dspec_buffer.specs.Words.{HasAhead, Steps}
+use Rattle.dspec_buffer.specs.Words.{HasAhead, StepsAhead}
 use Rattle.dspec_buffer.proofs.SchemaLaws.{SchemaLaws}
 use Rattle.dspec_buffer.proofs.Walks.{walk_from}
 use Rattle.dspec_buffer.proofs.byte_buffer.ByteBufferTraceBuffer.next.Goals as goal
@@ -15,4 +15,4 @@ returns g c = λ rs h.
     } in
     walk_from (g.S.Schema.shape_of s) (g.S.Schema.accepted s) (g.S.Schema.text s) laws c.args.self.now c.args.place rs c.next_of_text.result
     (subst (λ z. (qs : _) → HasAhead (g.S.Schema.shape_of s) (g.S.Schema.accepted s) (g.S.Schema.text s) z c.args.place qs
-    → Steps (HasAhead (g.S.Schema.shape_of s) (g.S.Schema.accepted s) (g.S.Schema.text s) z) qs c.next_of_text.result) c.bytes.ensures c.next_of_text.ensures) h
+    → StepsAhead (HasAhead (g.S.Schema.shape_of s) (g.S.Schema.accepted s) (g.S.Schema.text s) z) qs c.next_of_text.result) c.bytes.ensures c.next_of_text.ensures) h

@@ -1,34 +1,37 @@
 -- A discard by the one caller throws its block away, and releases the slot.
-use Rattle.std.proofs.Common.{◌≡◌, ◌-◌, ◌≤◌, [], ◌∷◌, ◌++◌, reverse, set, refl, sym, ap, ◌∙◌, subst, arith, rules}
+use Rattle.std.proofs.Common.{◌≡◌, ◌+◌, ◌-◌, ◌≤◌, [], ◌∷◌, ◌++◌, reverse, set, refl, sym, ap, ◌∙◌, subst, arith, rules}
 use Rattle.std.proofs.lemmas.List.{length-set}
 use Rattle.dspec_deeds.specs.declared.deed.Deed.TheVariants.{Discard, Release}
+use Rattle.dspec_deeds.proofs.PresentIds.{open_present}
 use Rattle.dspec_deeds.proofs.Results.{of_ok}
+use Rattle.dspec_deeds.proofs.WordChanges.{discard_open, released_word}
+use Rattle.dspec_interleaving.proofs.Counts.{issue_below, issues_fit}
+use Rattle.dspec_word.specs.declared.code.Code.TheVariants.{Inactive}
 use Rattle.dspec_cpu_state.specs.declared.cpu_state.CpuState.{CpuState}
 use Rattle.dspec_core.specs.declared.machine.decision.Decision.TheVariants as decision
-use Rattle.dspec_core.specs.Words.{history, ShowsWords}
+use Rattle.dspec_core.specs.Words.{history, issue, ShowsWords}
 use Rattle.dspec_core.proofs.KeptCpus.{own_deed}
-use Rattle.dspec_core.proofs.MachineReads.{place_within}
-use Rattle.dspec_core.proofs.OneMore.{cpus_released, cpus_set, latest_first, map_set, shown_as}
+use Rattle.dspec_core.proofs.OneMore.{cpus_released, cpus_set, latest_first, map_set, read_place, read_word, shown_as}
 use Rattle.dspec_core.proofs.OwnBlocks.{decided_block}
 use Rattle.dspec_core.proofs.OwnSlots.{caller_is, mark_there, place_there}
 use Rattle.dspec_core.proofs.Rooms.{call_counts, decide_counts, decided_counts, drop_counts}
 use Rattle.dspec_core.proofs.SoloDiscards.{adds_all, solo_words}
 use Rattle.dspec_core.proofs.machine.Machine.enter_solo_discard.Goals as goal
 
-pub overflow_sub-slot : goal.overflow_sub-slot
-overflow_sub-slot g c =
+pub overflow_sub-place : goal.overflow_sub-place
+overflow_sub-place g c =
     let may = c.requires.may in
     let block = decided_block may.shown c.args.cpu may.cpu c.index_mut-own.ensures.value may.ranges c.args.id c.args.fate decision.Discard c.requires.discard
     may.legal.0.0 in
     subst (λ n. 1 ≤ n) (sym c.slot-2.ensures.value) block.slot.0
 
-pub index_mut-requires : goal.index_mut-requires
-index_mut-requires g c =
+pub index-requires : goal.index-requires
+index-requires g c =
     let may = c.requires.may in
     let m = c.args.self.now in
     let block = decided_block may.shown c.args.cpu may.cpu c.index_mut-own.ensures.value may.ranges c.args.id c.args.fate decision.Discard c.requires.discard
     may.legal.0.0 in
-    place_within c.slot-2.result c.args.id.slot m.config.nspec m.words.len c.slot-2.ensures.value block.slot.0 block.slot.1 (m.words.ok.0 ∙ may.shown.words.count)
+    read_place m may.shown c.args.id.slot c.slot-2.result block.slot c.slot-2.ensures.value
 
 pub is_mine-mine-requires : goal.is_mine-mine-requires
 is_mine-mine-requires g c =
@@ -57,6 +60,28 @@ decide-requires g c =
           (λ w. decided_counts shape m.config a decision.Discard id f w (history m) c.requires.discard) (may.legal.0.0, may.legal.1.0);
     }
 
+pub of-requires : goal.of-requires
+of-requires g c =
+    let may = c.requires.may in
+    let m = c.args.self.now in
+    let id = c.args.id in
+    let block = decided_block may.shown c.args.cpu may.cpu c.index_mut-own.ensures.value may.ranges id c.args.fate decision.Discard c.requires.discard may.legal.0.0 in
+    let was = read_word m may.shown id.slot c.slot-2.result c.index.result.now block.slot c.slot-2.ensures.value c.index.ensures in
+    let issued : c.issue-issue.result ≡ issue id.slot (history m) = c.issue-issue.ensures.value ∙ ap (λ w. w.issue) was in
+    let opens = discard_open m.config c.args.cpu id c.args.fate (history m) may.legal.0.0 c.requires.discard in
+    let below = issue_below m.config (history m) id block.sound (open_present m.config (history m) id block.sound opens).given in
+    let fit = issues_fit m.config may.ranges in
+    let now = block.now in
+    omega arith
+
+pub index_mut-requires : goal.index_mut-requires
+index_mut-requires g c =
+    let may = c.requires.may in
+    let m = c.args.self.now in
+    let block = decided_block may.shown c.args.cpu may.cpu c.index_mut-own.ensures.value may.ranges c.args.id c.args.fate decision.Discard c.requires.discard
+    may.legal.0.0 in
+    read_place m may.shown c.args.id.slot c.slot-2.result block.slot c.slot-2.ensures.value
+
 pub returns : goal.returns
 returns g c =
     let may = c.requires.may in
@@ -82,8 +107,12 @@ returns g c =
           let count = was.cpu_count in
           let all = cpus_set _ _ m.schema k h m.cpus.items was.cpus d a _ refl (let lt = may.cpu in omega arith) kept in
           shown_as g.B.TraceBuffer.has g.B.TraceBuffer.capacity _ (Release id.slot ∷ d ∷ h) deeds record {
-            words = subst (λ n. ShowsWords k (Release id.slot ∷ d ∷ h) (set m.words.items (n - 1) c.args.word)) (sym c.slot-2.ensures.value)
-                (solo_words k a id f h m.words.items c.args.word block.slot c.requires.word was.words);
+            words =
+                let read = read_word m was id.slot c.slot-2.result c.index.result.now block.slot c.slot-2.ensures.value c.index.ensures in
+                let issued : c.issue-issue.result ≡ issue id.slot h = c.issue-issue.ensures.value ∙ ap (λ w. w.issue) read in
+                let left = c.of.ensures ∙ (ap (λ n. record { issue = n + 1; code = Inactive }) issued ∙ sym (released_word k id.slot (d ∷ h) may.legal.0.0)) in
+                subst (λ n. ShowsWords k (Release id.slot ∷ d ∷ h) (set m.words.items (n - 1) c.of.result)) (sym c.slot-2.ensures.value)
+                (solo_words k a id f h m.words.items c.of.result block.slot left was.words);
             active = was.active;
             cpu_count = length-set m.cpus.items a _ ∙ was.cpu_count;
             cpus = cpus_released _ _ m.schema k (d ∷ h) _ all id.slot;

@@ -27,7 +27,7 @@ fits_slot-requires g c =
     record { slot = place_there _ _ m.config a h own.side shows.side id slot; accepted = c.requires.accepted }
 
 pub returns : goal.returns
-returns g c =
+returns g c now =
     let m = c.args.self.now in
     let a = c.args.cpu in
     let id = c.args.id in
@@ -35,5 +35,4 @@ returns g c =
     let own = c.index.result.now in
     let shows = cpu_read _ _ m c.requires.shown a own c.requires.cpu c.index.ensures in
     let slot = slot_in_range m.config id c.requires.slot in
-    let now = sym c.requires.present in
-    c.fits_slot.ensures a h shows.side (caller_is _ _ m.config a h own.side shows.side id slot c.requires.cpu c.requires.sound now c.is_mine-mine.result c.is_mine-mine.ensures.tells)
+    c.fits_slot.ensures a h shows.side (caller_is _ _ m.config a h own.side shows.side id slot c.requires.cpu c.requires.sound (sym now) c.is_mine-mine.result c.is_mine-mine.ensures.tells)

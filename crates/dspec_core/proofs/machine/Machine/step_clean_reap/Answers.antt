@@ -1,5 +1,6 @@
 -- The exchange succeeds where the word is the one that was shown.
-use Rattle.std.proofs.Common.{◌≡◌, ◌+◌, ◌∙◌, Bool, true, false, not, [], ◌∷◌, if◌then◌else◌, refl, sym, ap, subst}
+use Rattle.std.proofs.Common.{◌≡◌, ◌+◌, ◌∙◌, true, false, not, [], ◌∷◌, if◌then◌else◌, sym, ap, subst}
+use Rattle.std.proofs.lemmas.Bool.{not-false, not-true}
 use Rattle.dspec_deeds.specs.declared.deed.Deed.TheVariants.{Release}
 use Rattle.dspec_core.specs.Words.{word_at, ConsumerMakes, history, state_of, next_slot, same_word}
 use Rattle.dspec_interleaving.specs.declared.flight.ConsumerFlight.TheVariants as flight
@@ -7,16 +8,6 @@ use Rattle.dspec_interleaving.proofs.CleanReads.{clean_stands, reap_legal}
 use Rattle.dspec_core.proofs.OneMore.{word_there}
 use Rattle.dspec_interleaving.proofs.StepsWords.{words_test}
 use Rattle.dspec_core.proofs.machine.Machine.step_clean_reap.Goals as goal
-
--- what a test denied tells
-was : (b : Bool) → not b ≡ false → b ≡ true
-was true e = refl
-was false e = cc (e)
-
--- what a test granted tells
-was_not : (b : Bool) → not b ≡ true → b ≡ false
-was_not true e = cc (e)
-was_not false e = refl
 
 pub enter_release-requires-clause-may : goal.enter_release-requires-clause-may
 enter_release-requires-clause-may g c =
@@ -28,7 +19,7 @@ enter_release-requires-clause-may g c =
     let w = c.index.result.now in
     let word = word_there m.config (history m) m.words.items s w at.0.0 at.0.1 c.requires.stands.shown.words c.index.ensures in
     let test : not (same_word w from) ≡ false = ap not (sym (words_test w from)) ∙ (sym c.ne.ensures ∙ c.if-ne.false) in
-    let same = was (same_word w from) test in
+    let same = not-false (same_word w from) test in
     record {
       shown = c.requires.stands.shown;
       ranges = c.requires.stands.coherent.ranges;
@@ -45,7 +36,7 @@ returns-then-ne-clause-cleans g c =
     let w = c.index.result.now in
     let word = word_there m.config (history m) m.words.items s w at.0.0 at.0.1 c.requires.stands.shown.words c.index.ensures in
     let test : not (same_word w from) ≡ true = ap not (sym (words_test w from)) ∙ (sym c.ne.ensures ∙ c.if-ne.true) in
-    let other : same_word (word_at s (history m)) from ≡ false = ap (λ x. same_word x from) (sym word) ∙ was_not (same_word w from) test in
+    let other : same_word (word_at s (history m)) from ≡ false = ap (λ x. same_word x from) (sym word) ∙ not-true (same_word w from) test in
     subst (λ b. ConsumerMakes g.B.TraceBuffer.has g.B.TraceBuffer.capacity m c.clean_next.new.self
     (if b then next_slot m.config (history m) m.consumer (state_of m).progresses s (Release s ∷ []) (c.args.released + 1) else next_slot m.config (history m) m.consumer
     (state_of m).progresses s [] c.args.released)

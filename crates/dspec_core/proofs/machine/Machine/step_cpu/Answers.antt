@@ -15,7 +15,7 @@ returns-in-Some-clause-kept g c =
     let own = c.index.result.now in
     let got = cpu_got has capacity m c.requires.kept.shown c.args.cpu own c.requires.cpu c.index.ensures in
     let flies : (progress_of (state_of m).progresses c.args.cpu).flight
-    ≡ Some c.in-Some.flight = ap (λ (me : CpuProgress). me.flight) (progress_there m.cpus.items c.args.cpu own got) ∙ c.in-Some.is in
-    IfOk-weaker c.step_flight.result _ _
-    (λ a makes. made_kept has capacity g.S.Schema.shape_of g.S.Schema.accepted m _ c.args.cpu c.in-Some.flight a c.requires.kept c.requires.cpu flies makes)
-    c.step_flight.ensures.makes
+    ≡ Some c.in-Some.place = ap (λ (me : CpuProgress). me.flight) (progress_there m.cpus.items c.args.cpu own got) ∙ c.in-Some.is in
+    IfOk-weaker c.step_place.result _ _
+    (λ a makes. made_kept has capacity g.S.Schema.shape_of g.S.Schema.accepted m _ c.args.cpu c.in-Some.place a c.requires.kept c.requires.cpu flies makes)
+    c.step_place.ensures.makes

@@ -1,7 +1,7 @@
 -- The records of the batch sealed last are added to what was taken.
 use Rattle.std.proofs.Common.{◌≡◌, ◌+◌, ◌∙◌, ◌++◌, List, length, reverse, refl, sym, ap, subst}
 use Rattle.std.specs.Vec.{with_item}
-use Rattle.dspec_core.specs.Words.{Record, Batch, contents, seals, taken, ConsumerMakes, history, state_of, batch_at, changes, batch_of_last_seal}
+use Rattle.dspec_core.specs.Words.{Record, Sealing, contents, seals, taken, ConsumerMakes, history, state_of, batch_at, changes, batch_of_last_seal}
 use Rattle.dspec_deeds.specs.declared.calls.Answer.{Answer}
 use Rattle.dspec_deeds.specs.declared.calls.Answer.TheVariants as answer
 use Rattle.dspec_interleaving.specs.declared.flight.CpuProgress.{CpuProgress}
@@ -58,11 +58,11 @@ returns-clause-cleans g c =
     let is = progress_there m.cpus.items a own got in
     let sealed : seals a h ≡ own.progress.takes + 1 = subst (λ (x : CpuProgress). seals a h ≡ x.takes + 1) is c.requires.sealed in
     let batch = next_batch a h own.progress.takes sealed in
-    let drops : own.sealed_drops ≡ (batch_at a own.progress.takes h).drops = shows.sealed_drops ∙ ap (λ (b : Batch). b.drops) (sym batch) in
+    let drops : own.sealed_drops ≡ (batch_at a own.progress.takes h).drops = shows.sealed_drops ∙ ap (λ (b : Sealing). b.drops) (sym batch) in
     let from : c.len-from.result ≡ length (taken own.progress.takes a h) = c.len-from.ensures ∙ ap (λ (rs : List Record). length rs) shows.took in
     let count : c.count.result ≡ length (batch_at a own.progress.takes h).offers
     = c.count.ensures m.schema shows.second.pieces shows.second.has_pieces
-    ∙ (ap (λ (rs : List Record). length rs) shows.second.are ∙ (length_contents (batch_of_last_seal a h).offers ∙ ap (λ (b : Batch). length b.offers) (sym batch))) in
+    ∙ (ap (λ (rs : List Record). length rs) shows.second.are ∙ (length_contents (batch_of_last_seal a h).offers ∙ ap (λ (b : Sealing). length b.offers) (sym batch))) in
     let said : answer.Took own.sealed_drops c.len-from.result c.count.result
     ≡ answer.Took (batch_at a own.progress.takes h).drops (length (taken own.progress.takes a h)) (length (batch_at a own.progress.takes h).offers)
     = λ i. answer.Took (drops i) (from i) (count i) in

@@ -1,7 +1,7 @@
 use Rattle.std.proofs.Common.{List, subst}
 use Rattle.dspec_deeds.specs.declared.deed.Deed.{Deed}
 use Rattle.dspec_cpu.specs.Words.{commit, Cpu, HasList, DecidesOne}
-use Rattle.dspec_cpu.proofs.Telling.{commits_one}
+use Rattle.dspec_cpu.proofs.Telling.{decides_one}
 use Rattle.dspec_cpu.proofs.cpu.Cpu.commit.Goals as goal
 
 pub returns-clause-does : goal.returns-clause-does
@@ -11,4 +11,4 @@ returns-clause-does g c =
     let after = c.commit.new.self in
     let done = c.commit.ensures in
     subst (λ (x : Cpu g.row.S.Denot). DecidesOne has commit c.args.id c.commit.result x after) c.self.view_is
-    (commits_one has before after done.same.number c.args.id c.commit.result done.leaves done.decides)
+    (decides_one has before after done.same.number commit c.args.id c.commit.result done.leaves done.decides)

@@ -9,7 +9,7 @@ use Rattle.dspec_cpu.proofs.Limits.{has_room, limits}
 use Rattle.dspec_cpu.proofs.Reaches.{slot_inside}
 use Rattle.dspec_cpu.proofs.Ready.{roomy, few_drops}
 use Rattle.dspec_cpu.proofs.Speculates.{own_mark}
-use Rattle.dspec_cpu.proofs.Decisions.{commits_now, fate_count, worn_shown}
+use Rattle.dspec_cpu.proofs.Decisions.{commits_now, fate_tells, worn_shown}
 use Rattle.dspec_cpu.proofs.Decided.{five_steps, reached_here, undecided}
 use Rattle.dspec_cpu.proofs.Commits.{left, left_open, released}
 use Rattle.dspec_cpu.proofs.Discards.{thrown}
@@ -54,13 +54,10 @@ returns-in-Stopped g c =
     let cpu = c.args.self.now in
     let ready = c.requires.ready in
     let id = c.args.id in
-    let fit = c.measure_slot-fits.result.0 in
-    let n = c.measure_slot-fits.result.1 in
-    let mine = c.is_mine-mine.result in
     let seat = c.go_on-reached.new.seat in
     let side = c.leave_undecided in
-    let got = reached_here _ _ _ words cpu ready id fit mine n c.op_of-op.ensures c.in-Stopped.ensures.reached in
-    let ended = undecided _ _ _ words cpu ready id fit mine n seat side.new.self c.go_on-reached.ensures.seat c.args.commits true got
+    let got = reached_here _ _ _ words cpu ready c.op_of-op.ensures c.in-Stopped.ensures.reached in
+    let ended = undecided _ _ _ words cpu ready seat side.new.self c.go_on-reached.ensures.seat c.args.commits true got
     (λ p. side.ensures.commits cpu.schema cpu.config cpu.cpu p id) (λ p. side.ensures.discards cpu.schema cpu.config cpu.cpu p id) in
     record {
       ready = ended.ready;
@@ -75,13 +72,10 @@ returns-in-Void g c =
     let cpu = c.args.self.now in
     let ready = c.requires.ready in
     let id = c.args.id in
-    let fit = c.measure_slot-fits.result.0 in
-    let n = c.measure_slot-fits.result.1 in
-    let mine = c.is_mine-mine.result in
     let seat = c.go_on-reached.new.seat in
     let side = c.leave_undecided-in-Void in
-    let got = reached_here _ _ _ words cpu ready id fit mine n c.op_of-op.ensures c.in-Void.ensures.reached in
-    let ended = undecided _ _ _ words cpu ready id fit mine n seat side.new.self c.go_on-reached.ensures.seat c.args.commits false got
+    let got = reached_here _ _ _ words cpu ready c.op_of-op.ensures c.in-Void.ensures.reached in
+    let ended = undecided _ _ _ words cpu ready seat side.new.self c.go_on-reached.ensures.seat c.args.commits false got
     (λ p. side.ensures.commits cpu.schema cpu.config cpu.cpu p id) (λ p. side.ensures.discards cpu.schema cpu.config cpu.cpu p id) in
     record {
       ready = ended.ready;
@@ -115,7 +109,7 @@ decide-requires-in-Done g c =
     let count = ready.steady.listed.shown.side.buffer_count in
     let n = c.measure_slot-fits.result.1 in
     let small : n < 2 ^ 32 = omega arith in
-    let records : count_of c.committed_as.result < 2 ^ 32 = subst (λ m. m < 2 ^ 32) (sym (ap count_of c.committed_as.ensures ∙ fate_count c.measure_slot-fits.result.0 n)) small in
+    let records : count_of c.committed_as.result < 2 ^ 32 = subst (λ m. m < 2 ^ 32) (sym (ap count_of c.committed_as.ensures ∙ (fate_tells c.measure_slot-fits.result.0 n).2)) small in
     record { slot = (inside.0, omega arith); calls = omega arith; drops = omega arith; room = has_room _ _ (roomy _ _ _ words cpu ready c.if-self.false) records }
 
 pub returns-then-not-commits : goal.returns-then-not-commits
@@ -123,22 +117,16 @@ returns-then-not-commits g c =
     let words = words_of c.args.shared.now in
     let cpu = c.args.self.now in
     let ready = c.requires.ready in
-    let id = c.args.id in
-    let fit = c.measure_slot-fits.result.0 in
-    let n = c.measure_slot-fits.result.1 in
-    let mine = c.is_mine-mine.result in
     let seat = c.go_on-reached.new.seat in
-    let to = c.in-Done.to in
     let side = c.decide in
-    let op_is = c.op_of-op.ensures ∙ ap (λ b. if b then op.Commit id else op.Discard id) c.if-not-commits.true in
-    let got = reached_here _ _ _ words cpu ready id fit mine n op_is c.in-Done.ensures.reached in
+    let got = reached_here _ _ _ words cpu ready (c.op_of-op.ensures ∙ ap (λ b. if b then op.Commit c.args.id else op.Discard c.args.id) c.if-not-commits.true) c.in-Done.ensures.reached in
     let within = c.is_inside-inside.ensures ∙ (got.present refl).1 in
-    let ended = thrown _ _ _ words cpu ready id fit mine n to seat got c.go_on-reached.ensures.seat c.in-Done.ensures.release (c.is_mine-mine.ensures.is (sym c.is_inside-inside.ensures ∙ within))
+    let ended = thrown _ _ _ words cpu ready seat got c.go_on-reached.ensures.seat c.in-Done.ensures.release (c.is_mine-mine.ensures.is (got.present refl).1)
     (c.measure_slot-fits.ensures.count within) side.new.self (side.ensures.discards cpu.schema cpu.config cpu.cpu) c.args.commits c.if-not-commits.true in
     record {
       ready = ended.ready;
       same = record { schema = refl; config = refl; number = refl; pair = refl };
-      leaves = reached_leaves cpu c.if-self.false seat side.new.self _ side.ensures.rest refl refl (reach.Done to) 5 got refl refl;
+      leaves = reached_leaves cpu c.if-self.false seat side.new.self _ side.ensures.rest refl refl (reach.Done c.in-Done.to) 5 got refl refl;
       decides = ended.decides;
     }
 
@@ -148,41 +136,33 @@ release_word-requires-clause-call g c =
     let cpu = c.args.self.now in
     let ready = c.requires.ready in
     let id = c.args.id in
-    let fit = c.measure_slot-fits.result.0 in
-    let n = c.measure_slot-fits.result.1 in
-    let mine = c.is_mine-mine.result in
     let seat = c.go_on-reached.new.seat in
     let to = c.in-Done.to in
     let op_is = c.op_of-op.ensures ∙ ap (λ b. if b then op.Commit id else op.Discard id) c.if-not-commits.false in
-    let got = reached_here _ _ _ words cpu ready id fit mine n op_is c.in-Done.ensures.reached in
+    let got = reached_here _ _ _ words cpu ready op_is c.in-Done.ensures.reached in
     subst (λ (o : CpuOp). CommitsNow (set_up words) (known seat) (cpu_of seat) c.slot.result o) (sym op_is)
     (commits_now (set_up words) (cpu_of seat) c.slot.result id (known seat) to c.slot.ensures.value
-    (left _ _ _ words cpu ready id fit mine n to seat c.args.commits c.if-not-commits.false got) (sym c.code.ensures ∙ c.in-Committing.is) c.in-Done.ensures.release)
+    (left _ _ _ words cpu ready seat c.args.commits c.if-not-commits.false got) (sym c.code.ensures ∙ c.in-Committing.is) c.in-Done.ensures.release)
 
 pub returns-in_default : goal.returns-in_default
 returns-in_default g c =
     let words = words_of c.args.shared.now in
     let cpu = c.args.self.now in
     let ready = c.requires.ready in
-    let id = c.args.id in
-    let fit = c.measure_slot-fits.result.0 in
-    let n = c.measure_slot-fits.result.1 in
-    let mine = c.is_mine-mine.result in
     let seat = c.go_on-reached.new.seat in
     let to = c.in-Done.to in
     let side = c.decide-in-Done in
     let answer = c.answer_of-answer in
-    let op_is = c.op_of-op.ensures ∙ ap (λ b. if b then op.Commit id else op.Discard id) c.if-not-commits.false in
-    let got = reached_here _ _ _ words cpu ready id fit mine n op_is c.in-Done.ensures.reached in
+    let got = reached_here _ _ _ words cpu ready (c.op_of-op.ensures ∙ ap (λ b. if b then op.Commit c.args.id else op.Discard c.args.id) c.if-not-commits.false) c.in-Done.ensures.reached in
     let within = c.is_inside-inside.ensures ∙ (got.present refl).1 in
     let several : to.code ≢ Committing = λ e. absurd (c.in_default.not-Committing (c.code.ensures ∙ e)) in
-    let ended = left_open _ _ _ words cpu ready id fit mine n to seat c.args.commits c.if-not-commits.false got c.go_on-reached.ensures.seat side.new.self
-    answer.result answer.ensures (c.is_mine-mine.ensures.is (sym c.is_inside-inside.ensures ∙ within)) (c.measure_slot-fits.ensures.fits within) (c.measure_slot-fits.ensures.count within)
+    let ended = left_open _ _ _ words cpu ready seat c.args.commits c.if-not-commits.false got c.go_on-reached.ensures.seat side.new.self
+    answer.result answer.ensures (c.is_mine-mine.ensures.is (got.present refl).1) (c.measure_slot-fits.ensures.fits within) (c.measure_slot-fits.ensures.count within)
     c.committed_as.result c.committed_as.ensures (side.ensures.commits cpu.schema cpu.config cpu.cpu) c.in-Done.ensures.release several in
     record {
       ready = ended.ready;
       same = record { schema = refl; config = refl; number = refl; pair = refl };
-      leaves = copied_leaves answer.result fit n 5 cpu _ answer.ensures
+      leaves = copied_leaves answer.result c.measure_slot-fits.result.0 c.measure_slot-fits.result.1 5 cpu _ answer.ensures
           (reached_leaves cpu c.if-self.false seat side.new.self _ side.ensures.rest refl refl (reach.Done to) 5 got refl refl);
       decides = ended.decides;
     }
@@ -192,26 +172,20 @@ returns-in-Committing g c =
     let words = words_of c.args.shared.now in
     let cpu = c.args.self.now in
     let ready = c.requires.ready in
-    let id = c.args.id in
-    let fit = c.measure_slot-fits.result.0 in
-    let n = c.measure_slot-fits.result.1 in
-    let mine = c.is_mine-mine.result in
     let seat = c.go_on-reached.new.seat in
-    let to = c.in-Done.to in
     let side = c.decide-in-Done in
     let answer = c.answer_of-answer in
-    let op_is = c.op_of-op.ensures ∙ ap (λ b. if b then op.Commit id else op.Discard id) c.if-not-commits.false in
-    let got = reached_here _ _ _ words cpu ready id fit mine n op_is c.in-Done.ensures.reached in
+    let got = reached_here _ _ _ words cpu ready (c.op_of-op.ensures ∙ ap (λ b. if b then op.Commit c.args.id else op.Discard c.args.id) c.if-not-commits.false) c.in-Done.ensures.reached in
     let within = c.is_inside-inside.ensures ∙ (got.present refl).1 in
-    let ended = released _ _ _ words cpu ready id fit mine n to seat c.args.commits c.if-not-commits.false got c.go_on-reached.ensures.seat side.new.self
-    answer.result answer.ensures (c.is_mine-mine.ensures.is (sym c.is_inside-inside.ensures ∙ within)) (c.measure_slot-fits.ensures.fits within) (c.measure_slot-fits.ensures.count within)
+    let ended = released _ _ _ words cpu ready seat c.args.commits c.if-not-commits.false got c.go_on-reached.ensures.seat side.new.self
+    answer.result answer.ensures (c.is_mine-mine.ensures.is (got.present refl).1) (c.measure_slot-fits.ensures.fits within) (c.measure_slot-fits.ensures.count within)
     c.committed_as.result c.committed_as.ensures (side.ensures.commits cpu.schema cpu.config cpu.cpu) c.release_word.new.self c.slot.result c.slot.ensures.value
     c.release_word.ensures.step c.release_word.ensures.seat in
     record {
       ready = ended.ready;
       same = record { schema = refl; config = refl; number = refl; pair = refl };
-      leaves = copied_leaves answer.result fit n 5 cpu _ answer.ensures
-          (released_leaves cpu c.if-self.false c.release_word.new.self side.new.self _ side.ensures.rest refl refl to (known seat) c.slot.result 5 got
+      leaves = copied_leaves answer.result c.measure_slot-fits.result.0 c.measure_slot-fits.result.1 5 cpu _ answer.ensures
+          (released_leaves cpu c.if-self.false c.release_word.new.self side.new.self _ side.ensures.rest refl refl c.in-Done.to (known seat) c.slot.result 5 got
           (sym c.code.ensures ∙ c.in-Committing.is) c.release_word.ensures.step refl refl c.slot.ensures.value);
       decides = ended.decides;
     }

@@ -1,5 +1,6 @@
-use Rattle.std.proofs.Common.{◌≡◌, ◌+◌, ◌==◌, ◌≤◌, ◌∙◌, ℕ, true, false, [], ◌∷◌, arith, refl, sym, ap, subst}
+use Rattle.std.proofs.Common.{◌≡◌, ◌+◌, ◌==◌, ◌≤◌, ◌∙◌, ℕ, Bool, if◌then◌else◌, true, false, [], ◌∷◌, arith, refl, sym, ap, subst}
 use Rattle.dspec_cpu.specs.Words.{Record, mark, known, Goes, Stands, Reached, words_of, CallLeaves, of_slot}
+use Rattle.dspec_deeds.specs.declared.calls.CpuOp.TheVariants as op
 use Rattle.dspec_deeds.specs.declared.deed.SpeculateFate.TheVariants as spoken
 use Rattle.dspec_deeds.specs.declared.deed.Deed.TheVariants.{Speculate}
 use Rattle.dspec_deeds.specs.declared.config.Config.{Config}
@@ -8,11 +9,15 @@ use Rattle.dspec_cpu.proofs.ReachDeeds.{unstopped}
 use Rattle.dspec_cpu.proofs.Reaches.{slot_inside, is_running}
 use Rattle.dspec_deeds.proofs.TestLemmas.{number_is_itself}
 use Rattle.dspec_cpu.proofs.Limits.{limits}
-use Rattle.dspec_cpu.proofs.Ready.{roomy, few, ready_after}
-use Rattle.dspec_cpu.proofs.Shown.{shows, shown_behind}
+use Rattle.dspec_cpu.proofs.Behind.{Behind, behind, one_behind}
+use Rattle.dspec_cpu.proofs.Decided.{reached_here}
+use Rattle.dspec_cpu.proofs.Ready.{roomy, few}
+use Rattle.dspec_cpu.proofs.Shown.{shows}
 use Rattle.dspec_cpu.proofs.Speculates.{asked, grants, grant_deeds, caller_of, own_mark, granted_shown}
 use Rattle.dspec_cpu.proofs.Leaves.{reached_leaves}
 use Rattle.dspec_cpu_state.specs.declared.counts.Counts.{Counts}
+use Rattle.dspec_cpu.proofs.parts.CpuParts.offer.Given.{Over}
+use Rattle.dspec_cpu.proofs.parts.CpuParts.offer.Goals.{After-grant-kept}
 use Rattle.dspec_cpu.proofs.parts.CpuParts.offer.Goals as goal
 
 pub go_on-reached-requires-clause-mine : goal.go_on-reached-requires-clause-mine
@@ -60,260 +65,86 @@ grant-kept-requires-clause-counts g c = roomy _ _ _ (words_of c.args.shared.now)
 
 -- exits
 
-pub returns-in-Stopped-clause-list : goal.returns-in-Stopped-clause-list
-returns-in-Stopped-clause-list g c =
-    let words = words_of c.args.shared.now in
+pub returns-in-Stopped : goal.returns-in-Stopped
+returns-in-Stopped g c =
     let cpu = c.args.self.now in
     let ready = c.requires.ready in
     let id = c.args.id in
     let r = g.R.Recorded.as_record c.args.rec in
-    let fit = c.fits_slot-fits.result in
-    let mine = c.args.mine in
-    let w = known c.go_on-reached.new.seat in
-    let got = subst (λ (x : Config × ℕ × Record). Reached x.0 x.1 (asked id x.2 fit mine) id (known cpu.seat) reach.Stopped w)
-    (λ i. (ready.config i, ready.steady.seat i, c.to_rec-copied.ensures i)) c.in-Stopped.ensures.reached in
-    λ p had. record {
-      own = ap (λ l. Speculate cpu.cpu id r spoken.Stopped ∷ l) had.own ∙ sym got.stands.own;
-      shown = shown_behind _ _ _ cpu.side p had.shown (Speculate cpu.cpu id r spoken.Stopped) refl (number_is_itself cpu.cpu) tt c.speculate_nowhere.new.self
-          (c.speculate_nowhere.ensures.shows cpu.schema cpu.config cpu.cpu p id r (shows _ _ _ cpu.side p had.shown));
-    }
-
-pub returns-in-Stopped-clause-ready : goal.returns-in-Stopped-clause-ready
-returns-in-Stopped-clause-ready g c =
-    let words = words_of c.args.shared.now in
-    let cpu = c.args.self.now in
-    let ready = c.requires.ready in
-    let id = c.args.id in
-    let r = g.R.Recorded.as_record c.args.rec in
-    let fit = c.fits_slot-fits.result in
-    let mine = c.args.mine in
-    let w = known c.go_on-reached.new.seat in
-    let got = subst (λ (x : Config × ℕ × Record). Reached x.0 x.1 (asked id x.2 fit mine) id (known cpu.seat) reach.Stopped w)
-    (λ i. (ready.config i, ready.steady.seat i, c.to_rec-copied.ensures i)) c.in-Stopped.ensures.reached in
-    ready_after _ _ _ words cpu ready _ (Speculate cpu.cpu id r spoken.Stopped ∷ []) refl refl c.go_on-reached.ensures.seat.0 c.go_on-reached.ensures.seat.1 got.stands
-    ready.steady.idle refl ready.steady.spare ready.steady.few (Speculate cpu.cpu id r spoken.Stopped ∷ ready.steady.list) (returns-in-Stopped-clause-list g c ready.steady.list ready.steady.listed)
-
-pub returns-in-Void-clause-list : goal.returns-in-Void-clause-list
-returns-in-Void-clause-list g c =
-    let words = words_of c.args.shared.now in
-    let cpu = c.args.self.now in
-    let ready = c.requires.ready in
-    let id = c.args.id in
-    let r = g.R.Recorded.as_record c.args.rec in
-    let fit = c.fits_slot-fits.result in
-    let mine = c.args.mine in
-    let w = known c.go_on-reached.new.seat in
-    let got = subst (λ (x : Config × ℕ × Record). Reached x.0 x.1 (asked id x.2 fit mine) id (known cpu.seat) reach.Void w)
-    (λ i. (ready.config i, ready.steady.seat i, c.to_rec-copied.ensures i)) c.in-Void.ensures.reached in
-    λ p had. record {
-      own = ap (λ l. Speculate cpu.cpu id r spoken.Void ∷ l) had.own ∙ sym got.stands.own;
-      shown = shown_behind _ _ _ cpu.side p had.shown (Speculate cpu.cpu id r spoken.Void) refl (number_is_itself cpu.cpu) tt c.speculate_nowhere-in-Void.new.self
-          (c.speculate_nowhere-in-Void.ensures.shows cpu.schema cpu.config cpu.cpu p id r (shows _ _ _ cpu.side p had.shown));
-    }
-
-pub returns-in-Void-clause-ready : goal.returns-in-Void-clause-ready
-returns-in-Void-clause-ready g c =
-    let words = words_of c.args.shared.now in
-    let cpu = c.args.self.now in
-    let ready = c.requires.ready in
-    let id = c.args.id in
-    let r = g.R.Recorded.as_record c.args.rec in
-    let fit = c.fits_slot-fits.result in
-    let mine = c.args.mine in
-    let w = known c.go_on-reached.new.seat in
-    let got = subst (λ (x : Config × ℕ × Record). Reached x.0 x.1 (asked id x.2 fit mine) id (known cpu.seat) reach.Void w)
-    (λ i. (ready.config i, ready.steady.seat i, c.to_rec-copied.ensures i)) c.in-Void.ensures.reached in
-    ready_after _ _ _ words cpu ready _ (Speculate cpu.cpu id r spoken.Void ∷ []) refl refl c.go_on-reached.ensures.seat.0 c.go_on-reached.ensures.seat.1 got.stands
-    ready.steady.idle refl ready.steady.spare ready.steady.few (Speculate cpu.cpu id r spoken.Void ∷ ready.steady.list) (returns-in-Void-clause-list g c ready.steady.list ready.steady.listed)
-
-pub returns-then-not-kept-clause-list : goal.returns-then-not-kept-clause-list
-returns-then-not-kept-clause-list g c =
-    let words = words_of c.args.shared.now in
-    let cpu = c.args.self.now in
-    let ready = c.requires.ready in
-    let id = c.args.id in
-    let r = g.R.Recorded.as_record c.args.rec in
-    let fit = c.fits_slot-fits.result in
-    let mine = c.args.mine in
-    let w = known c.go_on-reached.new.seat in
-    let grant = c.in-Granted.is in
-    let got = subst (λ (x : Config × ℕ × Record). Reached x.0 x.1 (asked id x.2 fit mine) id (known cpu.seat) c.go_on-reached.result w)
-    (λ i. (ready.config i, ready.steady.seat i, c.to_rec-copied.ensures i))
-    c.go_on-reached.ensures.reached in
-    let present = got.present (grants c.go_on-reached.result grant) in
-    let slot = slot_inside cpu.config id present.1 in
-    let inside = c.requires.inside ∙ present.1 in
-    let caller = caller_of cpu.config cpu.cpu id (known cpu.seat).own mine (few _ _ _ words cpu ready) present.0 in
-    let caller_now = caller ready.steady.list ready.steady.listed.own (c.requires.mine inside ready.steady.list ready.steady.listed.shown) in
-    let fit_is : fit ≡ false = c.fits_slot-fits.ensures inside ready.steady.list ready.steady.listed.shown caller_now
-    ∙ (sym (c.grant-kept.ensures.answer cpu.config cpu.cpu ready.steady.list (shows _ _ _ cpu.side ready.steady.list ready.steady.listed.shown) caller_now) ∙ c.if-not-kept.true) in
-    let deeds = grant_deeds cpu.cpu (asked id r fit mine) id r c.go_on-reached.result false grant fit_is in
-    let stands = subst (λ ds. Stands cpu.config cpu.cpu (known cpu.seat) ds w) deeds got.stands in
-    λ p had.
-    record {
-      own = ap (λ l. Speculate cpu.cpu id r spoken.Dropped ∷ l) had.own ∙ sym stands.own;
-      shown = granted_shown _ _ _ cpu.side p had.shown id r c.grant-kept.result false c.if-not-kept.true
-          (c.grant-kept.ensures.answer cpu.config cpu.cpu p (shows _ _ _ cpu.side p had.shown) (caller p had.own (c.requires.mine inside p had.shown))) c.grant-kept.new.self
-          (c.grant-kept.ensures.shows cpu.config cpu.cpu p (shows _ _ _ cpu.side p had.shown) (caller p had.own (c.requires.mine inside p had.shown)));
-    }
-
-pub returns-then-not-kept-clause-ready : goal.returns-then-not-kept-clause-ready
-returns-then-not-kept-clause-ready g c =
-    let words = words_of c.args.shared.now in
-    let cpu = c.args.self.now in
-    let ready = c.requires.ready in
-    let id = c.args.id in
-    let r = g.R.Recorded.as_record c.args.rec in
-    let fit = c.fits_slot-fits.result in
-    let mine = c.args.mine in
-    let w = known c.go_on-reached.new.seat in
-    let grant = c.in-Granted.is in
-    let got = subst (λ (x : Config × ℕ × Record). Reached x.0 x.1 (asked id x.2 fit mine) id (known cpu.seat) c.go_on-reached.result w)
-    (λ i. (ready.config i, ready.steady.seat i, c.to_rec-copied.ensures i))
-    c.go_on-reached.ensures.reached in
-    let present = got.present (grants c.go_on-reached.result grant) in
-    let slot = slot_inside cpu.config id present.1 in
-    let inside = c.requires.inside ∙ present.1 in
-    let caller = caller_of cpu.config cpu.cpu id (known cpu.seat).own mine (few _ _ _ words cpu ready) present.0 in
-    let caller_now = caller ready.steady.list ready.steady.listed.own (c.requires.mine inside ready.steady.list ready.steady.listed.shown) in
-    let fit_is : fit ≡ false = c.fits_slot-fits.ensures inside ready.steady.list ready.steady.listed.shown caller_now
-    ∙ (sym (c.grant-kept.ensures.answer cpu.config cpu.cpu ready.steady.list (shows _ _ _ cpu.side ready.steady.list ready.steady.listed.shown) caller_now) ∙ c.if-not-kept.true) in
-    let deeds = grant_deeds cpu.cpu (asked id r fit mine) id r c.go_on-reached.result false grant fit_is in
-    let stands = subst (λ ds. Stands cpu.config cpu.cpu (known cpu.seat) ds w) deeds got.stands in
-    ready_after _ _ _ words cpu ready _ (Speculate cpu.cpu id r spoken.Dropped ∷ []) refl refl c.go_on-reached.ensures.seat.0 c.go_on-reached.ensures.seat.1 stands ready.steady.idle
-    refl ready.steady.spare ready.steady.few (Speculate cpu.cpu id r spoken.Dropped ∷ ready.steady.list) (returns-then-not-kept-clause-list g c ready.steady.list ready.steady.listed)
-
-pub returns-else-not-kept-clause-list : goal.returns-else-not-kept-clause-list
-returns-else-not-kept-clause-list g c =
-    let words = words_of c.args.shared.now in
-    let cpu = c.args.self.now in
-    let ready = c.requires.ready in
-    let id = c.args.id in
-    let r = g.R.Recorded.as_record c.args.rec in
-    let fit = c.fits_slot-fits.result in
-    let mine = c.args.mine in
-    let w = known c.go_on-reached.new.seat in
-    let grant = c.in-Granted.is in
-    let got = subst (λ (x : Config × ℕ × Record). Reached x.0 x.1 (asked id x.2 fit mine) id (known cpu.seat) c.go_on-reached.result w)
-    (λ i. (ready.config i, ready.steady.seat i, c.to_rec-copied.ensures i))
-    c.go_on-reached.ensures.reached in
-    let present = got.present (grants c.go_on-reached.result grant) in
-    let slot = slot_inside cpu.config id present.1 in
-    let inside = c.requires.inside ∙ present.1 in
-    let caller = caller_of cpu.config cpu.cpu id (known cpu.seat).own mine (few _ _ _ words cpu ready) present.0 in
-    let caller_now = caller ready.steady.list ready.steady.listed.own (c.requires.mine inside ready.steady.list ready.steady.listed.shown) in
-    let fit_is : fit ≡ true = c.fits_slot-fits.ensures inside ready.steady.list ready.steady.listed.shown caller_now
-    ∙ (sym (c.grant-kept.ensures.answer cpu.config cpu.cpu ready.steady.list (shows _ _ _ cpu.side ready.steady.list ready.steady.listed.shown) caller_now) ∙ c.if-not-kept.false) in
-    let deeds = grant_deeds cpu.cpu (asked id r fit mine) id r c.go_on-reached.result true grant fit_is in
-    let stands = subst (λ ds. Stands cpu.config cpu.cpu (known cpu.seat) ds w) deeds got.stands in
-    λ p had.
-    record {
-      own = ap (λ l. Speculate cpu.cpu id r spoken.Kept ∷ l) had.own ∙ sym stands.own;
-      shown = granted_shown _ _ _ cpu.side p had.shown id r c.grant-kept.result true c.if-not-kept.false
-          (c.grant-kept.ensures.answer cpu.config cpu.cpu p (shows _ _ _ cpu.side p had.shown) (caller p had.own (c.requires.mine inside p had.shown))) c.grant-kept.new.self
-          (c.grant-kept.ensures.shows cpu.config cpu.cpu p (shows _ _ _ cpu.side p had.shown) (caller p had.own (c.requires.mine inside p had.shown)));
-    }
-
-pub returns-else-not-kept-clause-ready : goal.returns-else-not-kept-clause-ready
-returns-else-not-kept-clause-ready g c =
-    let words = words_of c.args.shared.now in
-    let cpu = c.args.self.now in
-    let ready = c.requires.ready in
-    let id = c.args.id in
-    let r = g.R.Recorded.as_record c.args.rec in
-    let fit = c.fits_slot-fits.result in
-    let mine = c.args.mine in
-    let w = known c.go_on-reached.new.seat in
-    let grant = c.in-Granted.is in
-    let got = subst (λ (x : Config × ℕ × Record). Reached x.0 x.1 (asked id x.2 fit mine) id (known cpu.seat) c.go_on-reached.result w)
-    (λ i. (ready.config i, ready.steady.seat i, c.to_rec-copied.ensures i))
-    c.go_on-reached.ensures.reached in
-    let present = got.present (grants c.go_on-reached.result grant) in
-    let slot = slot_inside cpu.config id present.1 in
-    let inside = c.requires.inside ∙ present.1 in
-    let caller = caller_of cpu.config cpu.cpu id (known cpu.seat).own mine (few _ _ _ words cpu ready) present.0 in
-    let caller_now = caller ready.steady.list ready.steady.listed.own (c.requires.mine inside ready.steady.list ready.steady.listed.shown) in
-    let fit_is : fit ≡ true = c.fits_slot-fits.ensures inside ready.steady.list ready.steady.listed.shown caller_now
-    ∙ (sym (c.grant-kept.ensures.answer cpu.config cpu.cpu ready.steady.list (shows _ _ _ cpu.side ready.steady.list ready.steady.listed.shown) caller_now) ∙ c.if-not-kept.false) in
-    let deeds = grant_deeds cpu.cpu (asked id r fit mine) id r c.go_on-reached.result true grant fit_is in
-    let stands = subst (λ ds. Stands cpu.config cpu.cpu (known cpu.seat) ds w) deeds got.stands in
-    ready_after _ _ _ words cpu ready _ (Speculate cpu.cpu id r spoken.Kept ∷ []) refl refl c.go_on-reached.ensures.seat.0 c.go_on-reached.ensures.seat.1 stands ready.steady.idle
-    refl ready.steady.spare ready.steady.few (Speculate cpu.cpu id r spoken.Kept ∷ ready.steady.list) (returns-else-not-kept-clause-list g c ready.steady.list ready.steady.listed)
-
-pub returns-then-not-kept-clause-did : goal.returns-then-not-kept-clause-did
-returns-then-not-kept-clause-did g c =
-    let words = words_of c.args.shared.now in
-    let cpu = c.args.self.now in
-    let ready = c.requires.ready in
-    let id = c.args.id in
-    let r = g.R.Recorded.as_record c.args.rec in
-    let fit = c.fits_slot-fits.result in
-    let mine = c.args.mine in
-    let w = known c.go_on-reached.new.seat in
-    let grant = c.in-Granted.is in
-    let got = subst (λ (x : Config × ℕ × Record). Reached x.0 x.1 (asked id x.2 fit mine) id (known cpu.seat) c.go_on-reached.result w)
-    (λ i. (ready.config i, ready.steady.seat i, c.to_rec-copied.ensures i))
-    c.go_on-reached.ensures.reached in
-    let present = got.present (grants c.go_on-reached.result grant) in
-    let slot = slot_inside cpu.config id present.1 in
-    let inside = c.requires.inside ∙ present.1 in
-    let caller = caller_of cpu.config cpu.cpu id (known cpu.seat).own mine (few _ _ _ words cpu ready) present.0 in
-    let caller_now = caller ready.steady.list ready.steady.listed.own (c.requires.mine inside ready.steady.list ready.steady.listed.shown) in
-    let fit_is : fit ≡ false = c.fits_slot-fits.ensures inside ready.steady.list ready.steady.listed.shown caller_now
-    ∙ (sym (c.grant-kept.ensures.answer cpu.config cpu.cpu ready.steady.list (shows _ _ _ cpu.side ready.steady.list ready.steady.listed.shown) caller_now) ∙ c.if-not-kept.true) in
-    let deeds = grant_deeds cpu.cpu (asked id r fit mine) id r c.go_on-reached.result false grant fit_is in
-    subst (λ ds. Goes (known cpu.seat) ds w) deeds got.goes
-
-pub returns-else-not-kept-clause-did : goal.returns-else-not-kept-clause-did
-returns-else-not-kept-clause-did g c =
-    let words = words_of c.args.shared.now in
-    let cpu = c.args.self.now in
-    let ready = c.requires.ready in
-    let id = c.args.id in
-    let r = g.R.Recorded.as_record c.args.rec in
-    let fit = c.fits_slot-fits.result in
-    let mine = c.args.mine in
-    let w = known c.go_on-reached.new.seat in
-    let grant = c.in-Granted.is in
-    let got = subst (λ (x : Config × ℕ × Record). Reached x.0 x.1 (asked id x.2 fit mine) id (known cpu.seat) c.go_on-reached.result w)
-    (λ i. (ready.config i, ready.steady.seat i, c.to_rec-copied.ensures i))
-    c.go_on-reached.ensures.reached in
-    let present = got.present (grants c.go_on-reached.result grant) in
-    let slot = slot_inside cpu.config id present.1 in
-    let inside = c.requires.inside ∙ present.1 in
-    let caller = caller_of cpu.config cpu.cpu id (known cpu.seat).own mine (few _ _ _ words cpu ready) present.0 in
-    let caller_now = caller ready.steady.list ready.steady.listed.own (c.requires.mine inside ready.steady.list ready.steady.listed.shown) in
-    let fit_is : fit ≡ true = c.fits_slot-fits.ensures inside ready.steady.list ready.steady.listed.shown caller_now
-    ∙ (sym (c.grant-kept.ensures.answer cpu.config cpu.cpu ready.steady.list (shows _ _ _ cpu.side ready.steady.list ready.steady.listed.shown) caller_now) ∙ c.if-not-kept.false) in
-    let deeds = grant_deeds cpu.cpu (asked id r fit mine) id r c.go_on-reached.result true grant fit_is in
-    subst (λ ds. Goes (known cpu.seat) ds w) deeds got.goes
-
-pub returns-in-Stopped-clause-leaves : goal.returns-in-Stopped-clause-leaves
-returns-in-Stopped-clause-leaves g c =
-    reached_leaves c.args.self.now c.requires.calls c.go_on-reached.new.seat c.speculate_nowhere.new.self _ c.speculate_nowhere.ensures.rest refl refl reach.Stopped 4 c.in-Stopped.ensures.reached refl
-    c.requires.ready.config
-
-pub returns-in-Void-clause-leaves : goal.returns-in-Void-clause-leaves
-returns-in-Void-clause-leaves g c =
-    reached_leaves c.args.self.now c.requires.calls c.go_on-reached.new.seat c.speculate_nowhere-in-Void.new.self _ c.speculate_nowhere-in-Void.ensures.rest refl refl reach.Void 4
-    c.in-Void.ensures.reached refl c.requires.ready.config
-
-pub returns-then-not-kept-clause-leaves : goal.returns-then-not-kept-clause-leaves
-returns-then-not-kept-clause-leaves g c =
-    let cpu = c.args.self.now in
-    let r = c.go_on-reached.result in
     let seat = c.go_on-reached.new.seat in
-    let side = c.grant-kept.new.self in
-    subst (λ b. CallLeaves false b 4 (of_slot cpu.config c.args.id) cpu (record cpu { seat = seat; side = side })) (unstopped r (is_running r (grants r c.in-Granted.is)))
-    (reached_leaves cpu c.requires.calls seat side _ c.grant-kept.ensures.rest refl (ap (λ (x : Counts). x.worn) c.grant-kept.ensures.counts) r 4 c.go_on-reached.ensures.reached refl
-    c.requires.ready.config)
+    let side = c.speculate_nowhere in
+    let got = reached_here _ _ _ (words_of c.args.shared.now) cpu ready (ap (op.Speculate id) c.to_rec-copied.ensures) c.in-Stopped.ensures.reached in
+    let ended = one_behind _ _ _ (words_of c.args.shared.now) cpu ready seat c.go_on-reached.ensures.seat side.new.self (Speculate cpu.cpu id r spoken.Stopped) got.goes got.stands refl
+    (number_is_itself cpu.cpu) ready.steady.idle refl (λ p had was. (tt, side.ensures.shows cpu.schema cpu.config cpu.cpu p id r was)) in
+    record {
+      ready = ended.ready;
+      same = record { schema = refl; config = refl; number = refl; pair = refl };
+      leaves = reached_leaves cpu c.requires.calls seat side.new.self _ side.ensures.rest refl refl reach.Stopped 4 got refl refl;
+      did = ended.did;
+      list = ended.list;
+    }
 
-pub returns-else-not-kept-clause-leaves : goal.returns-else-not-kept-clause-leaves
-returns-else-not-kept-clause-leaves g c =
+pub returns-in-Void : goal.returns-in-Void
+returns-in-Void g c =
     let cpu = c.args.self.now in
-    let r = c.go_on-reached.result in
+    let ready = c.requires.ready in
+    let id = c.args.id in
+    let r = g.R.Recorded.as_record c.args.rec in
     let seat = c.go_on-reached.new.seat in
-    let side = c.grant-kept.new.self in
-    subst (λ b. CallLeaves false b 4 (of_slot cpu.config c.args.id) cpu (record cpu { seat = seat; side = side })) (unstopped r (is_running r (grants r c.in-Granted.is)))
-    (reached_leaves cpu c.requires.calls seat side _ c.grant-kept.ensures.rest refl (ap (λ (x : Counts). x.worn) c.grant-kept.ensures.counts) r 4 c.go_on-reached.ensures.reached refl
-    c.requires.ready.config)
+    let side = c.speculate_nowhere-in-Void in
+    let got = reached_here _ _ _ (words_of c.args.shared.now) cpu ready (ap (op.Speculate id) c.to_rec-copied.ensures) c.in-Void.ensures.reached in
+    let ended = one_behind _ _ _ (words_of c.args.shared.now) cpu ready seat c.go_on-reached.ensures.seat side.new.self (Speculate cpu.cpu id r spoken.Void) got.goes got.stands refl
+    (number_is_itself cpu.cpu) ready.steady.idle refl (λ p had was. (tt, side.ensures.shows cpu.schema cpu.config cpu.cpu p id r was)) in
+    record {
+      ready = ended.ready;
+      same = record { schema = refl; config = refl; number = refl; pair = refl };
+      leaves = reached_leaves cpu c.requires.calls seat side.new.self _ side.ensures.rest refl refl reach.Void 4 got refl refl;
+      did = ended.did;
+      list = ended.list;
+    }
+
+-- the record was granted, and kept or dropped
+granted : (g : Over) (c : After-grant-kept g) (b : Bool) → c.grant-kept.result ≡ b
+    → (Behind (g.S.Schema.shape_of c.args.self.now.schema) (g.S.Schema.accepted c.args.self.now.schema) (g.S.Schema.text c.args.self.now.schema) (words_of c.args.shared.now) c.args.self.now
+    (Speculate c.args.self.now.cpu c.args.id (g.R.Recorded.as_record c.args.rec) (if b then spoken.Kept else spoken.Dropped) ∷ [])
+    (record c.args.self.now { seat = c.go_on-reached.new.seat; side = c.grant-kept.new.self }))
+    × CallLeaves false false 4 (of_slot c.args.self.now.config c.args.id) c.args.self.now (record c.args.self.now { seat = c.go_on-reached.new.seat; side = c.grant-kept.new.self })
+granted g c b is =
+    let words = words_of c.args.shared.now in
+    let cpu = c.args.self.now in
+    let ready = c.requires.ready in
+    let id = c.args.id in
+    let r = g.R.Recorded.as_record c.args.rec in
+    let fit = c.fits_slot-fits.result in
+    let mine = c.args.mine in
+    let seat = c.go_on-reached.new.seat in
+    let reached = c.go_on-reached.result in
+    let side = c.grant-kept in
+    let got = reached_here _ _ _ words cpu ready (ap (op.Speculate id) c.to_rec-copied.ensures) c.go_on-reached.ensures.reached in
+    let present = got.present (grants reached c.in-Granted.is) in
+    let inside = c.requires.inside ∙ present.1 in
+    let caller = caller_of cpu.config cpu.cpu id (known cpu.seat).own mine (few _ _ _ words cpu ready) present.0 in
+    let caller_now = caller ready.steady.list ready.steady.listed.own (c.requires.mine inside ready.steady.list ready.steady.listed.shown) in
+    let fit_is : fit ≡ b = c.fits_slot-fits.ensures inside ready.steady.list ready.steady.listed.shown caller_now
+    ∙ (sym (side.ensures.answer cpu.config cpu.cpu ready.steady.list (shows _ _ _ cpu.side ready.steady.list ready.steady.listed.shown) caller_now) ∙ is) in
+    let deeds = grant_deeds cpu.cpu (asked id r fit mine) id r reached b c.in-Granted.is fit_is in (
+      behind _ _ _ words cpu ready seat c.go_on-reached.ensures.seat side.new.self (Speculate cpu.cpu id r (if b then spoken.Kept else spoken.Dropped) ∷ [])
+          (subst (λ ds. Goes (known cpu.seat) ds (known seat)) deeds got.goes) (subst (λ ds. Stands cpu.config cpu.cpu (known cpu.seat) ds (known seat)) deeds got.stands)
+          (λ p. refl) ready.steady.idle refl (λ p had.
+          let caller_then = caller p had.own (c.requires.mine inside p had.shown) in
+          let shown = shows _ _ _ cpu.side p had.shown in
+          granted_shown _ _ _ cpu.side p had.shown id r side.result b is (side.ensures.answer cpu.config cpu.cpu p shown caller_then) side.new.self
+          (side.ensures.shows cpu.config cpu.cpu p shown caller_then)),
+      subst (λ e. CallLeaves false e 4 (of_slot cpu.config id) cpu (record cpu { seat = seat; side = side.new.self })) (unstopped reached (is_running reached (grants reached c.in-Granted.is)))
+          (reached_leaves cpu c.requires.calls seat side.new.self _ side.ensures.rest refl (ap (λ (x : Counts). x.worn) side.ensures.counts) reached 4 got refl refl),
+    )
+
+pub returns-then-not-kept : goal.returns-then-not-kept
+returns-then-not-kept g c =
+    let ended = granted g c.before false c.if-not-kept.true in
+    record { ready = ended.0.ready; same = record { schema = refl; config = refl; number = refl; pair = refl }; leaves = ended.1; did = ended.0.did; list = ended.0.list }
+
+pub returns-else-not-kept : goal.returns-else-not-kept
+returns-else-not-kept g c =
+    let ended = granted g c.before true c.if-not-kept.false in
+    record { ready = ended.0.ready; same = record { schema = refl; config = refl; number = refl; pair = refl }; leaves = ended.1; did = ended.0.did; list = ended.0.list }

@@ -1,10 +1,11 @@
-use Rattle.std.proofs.Common.{◌+◌, ◌++◌, ◌∙◌, ℕ, [], refl, sym, ap, subst}
+use Rattle.std.proofs.Common.{◌+◌, ℕ, [], refl, ap, subst}
 use Rattle.dspec_deeds.specs.declared.config.Config.{Config}
 use Rattle.dspec_cpu.specs.Words.{known, rests, words_of, Scanned, opening_deeds}
 use Rattle.dspec_cpu.proofs.Decisions.{worn_shown}
 use Rattle.dspec_cpu.proofs.Limits.{limits}
 use Rattle.dspec_cpu.proofs.Openings.{bare_opening, opening_shown}
-use Rattle.dspec_cpu.proofs.Ready.{roomy, ready_after}
+use Rattle.dspec_cpu.proofs.Behind.{behind}
+use Rattle.dspec_cpu.proofs.Ready.{roomy}
 use Rattle.dspec_cpu.proofs.Scans.{idle_again, none_flies}
 use Rattle.dspec_cpu_state.specs.declared.counts.Counts.{Counts}
 use Rattle.dspec_cpu.proofs.Leaves.{worn_leaves, scanned_leaves}
@@ -17,47 +18,28 @@ returns-then-self-clause-opens g c = record
 pub open-requires : goal.open-requires
 open-requires g c = record { room = roomy _ _ _ (words_of c.args.shared.now) c.args.self.now c.requires.ready c.if-self.false }
 
-pub returns-clause-opens : goal.returns-clause-opens
-returns-clause-opens g c =
-    let cpu = c.args.self.now in
-    let ready = c.requires.ready in
-    let a = c.scan_slots-answer.result.0 in
-    let busy = c.scan_slots-answer.result.1 in
-    let w = known c.scan_slots-answer.new.seat in
-    let got = subst (λ (x : Config × ℕ). Scanned x.0 x.1 (known cpu.seat) a busy w) (λ i. (ready.config i, ready.steady.seat i)) c.scan_slots-answer.ensures.scanned in
-    let some = (limits cpu.config ready.steady.checked).specs.least in
-    record {
-      missed = got.missed;
-      answer = got.answer;
-      did = got.goes;
-      list = λ p had. record {
-        own = bare_opening cpu.cpu p got.missed a ∙ (ap (λ l. opening_deeds cpu.cpu got.missed a ++ l) had.own ∙ sym got.stands.own);
-        shown = opening_shown _ _ _ cpu p had.shown c.scan_slots-answer.new.seat got.missed a busy c.open.new.self some got.answer got.unworn got.any c.open.ensures;
-      };
-    }
+pub returns-then-self-clause-leaves : goal.returns-then-self-clause-leaves
+returns-then-self-clause-leaves g c = worn_leaves c.args.self.now _ c.wear.new.self c.if-self.true c.wear.ensures
 
-pub returns-clause-ready : goal.returns-clause-ready
-unfolding returns-clause-opens
-returns-clause-ready g c =
+pub returns : goal.returns
+returns g c =
     let words = words_of c.args.shared.now in
     let cpu = c.args.self.now in
     let ready = c.requires.ready in
     let a = c.scan_slots-answer.result.0 in
     let busy = c.scan_slots-answer.result.1 in
-    let w = known c.scan_slots-answer.new.seat in
-    let got = subst (λ (x : Config × ℕ). Scanned x.0 x.1 (known cpu.seat) a busy w) (λ i. (ready.config i, ready.steady.seat i)) c.scan_slots-answer.ensures.scanned in
+    let seat = c.scan_slots-answer.new.seat in
+    let side = record cpu.side { calls = cpu.side.calls + 1; missed_busy = busy; counts = c.open.new.self } in
+    let got = subst (λ (x : Config × ℕ). Scanned x.0 x.1 (known cpu.seat) a busy (known seat)) (λ i. (ready.config i, ready.steady.seat i)) c.scan_slots-answer.ensures.scanned in
     let some = (limits cpu.config ready.steady.checked).specs.least in
-    ready_after _ _ _ words cpu ready _ (opening_deeds cpu.cpu got.missed a) refl refl c.scan_slots-answer.ensures.seat.0 c.scan_slots-answer.ensures.seat.1 got.stands
-    (idle_again cpu.config cpu.cpu (known cpu.seat).own got.missed a some got.answer got.unworn)
-    (none_flies cpu.config cpu.cpu (known cpu.seat).flight got.missed a some got.answer got.unworn) ready.steady.spare ready.steady.few
-    (opening_deeds cpu.cpu got.missed a ++ ready.steady.list) ((returns-clause-opens g c).list ready.steady.list ready.steady.listed)
-
-pub returns-then-self-clause-leaves : goal.returns-then-self-clause-leaves
-returns-then-self-clause-leaves g c = worn_leaves c.args.self.now _ c.wear.new.self c.if-self.true c.wear.ensures
-
-pub returns-clause-leaves : goal.returns-clause-leaves
-returns-clause-leaves g c =
-    let cpu = c.args.self.now in
-    let side = record cpu.side { calls = cpu.side.calls + 1; missed_busy = c.scan_slots-answer.result.1; counts = c.open.new.self } in
-    scanned_leaves cpu c.if-self.false c.scan_slots-answer.new.seat side side refl refl (ap (λ (x : Counts). x.worn) c.open.ensures) c.scan_slots-answer.result.0 cpu.config.nspec
-    c.scan_slots-answer.ensures.scanned (ap (λ (k : Config). k.nspec) c.requires.ready.config)
+    let ended = behind _ _ _ words cpu ready seat c.scan_slots-answer.ensures.seat side (opening_deeds cpu.cpu got.missed a) got.goes got.stands
+    (λ p. bare_opening cpu.cpu p got.missed a) (idle_again cpu.config cpu.cpu (known cpu.seat).own got.missed a some got.answer got.unworn)
+    (none_flies cpu.config cpu.cpu (known cpu.seat).flight got.missed a some got.answer got.unworn)
+    (λ p had. opening_shown _ _ _ cpu p had.shown seat got.missed a busy c.open.new.self some got.answer got.unworn got.any c.open.ensures) in
+    record {
+      ready = ended.ready;
+      same = record { schema = refl; config = refl; number = refl; pair = refl };
+      leaves = scanned_leaves cpu c.if-self.false seat side side refl refl (ap (λ (x : Counts). x.worn) c.open.ensures) a cpu.config.nspec c.scan_slots-answer.ensures.scanned
+          (ap (λ (k : Config). k.nspec) ready.config);
+      opens = record { missed = got.missed; answer = got.answer; did = ended.did; list = ended.list };
+    }

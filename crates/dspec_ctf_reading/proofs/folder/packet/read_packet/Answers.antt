@@ -1,6 +1,6 @@
 use Rattle.std.proofs.Common.{◌≡◌, ℕ, List, Option, Some, None, rules, ap, ◌∙◌, option_map}
 use Rattle.std.specs.Prelude.{option_and_then}
-use Rattle.dspec_ctf_reading.specs.Words.{Layout, Part, FrontRead, EventRead, PacketRead, with_events, PacketSplit, front_of, split_packet, told_layout, told_packet}
+use Rattle.dspec_ctf_reading.specs.Words.{Layout, PartRead, FrontRead, EventRead, PacketRead, with_events, PacketSplit, front_of, split_packet, told_layout, told_packet}
 use Rattle.dspec_ctf_reading.proofs.Shorter.{packet-split}
 use Rattle.dspec_ctf_reading.proofs.Folders.Splitting.{left, shorter}
 use Rattle.dspec_ctf_reading.proofs.folder.packet.read_packet.Goals as goal
@@ -10,10 +10,10 @@ abbrev whole : FrontRead → Option (List EventRead) → Option PacketRead
 whole front events = option_map (λ es. record { uuid = front.uuid; cpu = front.cpu; discarded = front.discarded; span = front.span; events = es }) events
 
 -- a packet with what is behind it
-abbrev beside : List ℕ → Option PacketRead → Part PacketRead
+abbrev beside : List ℕ → Option PacketRead → PartRead PacketRead
 beside behind packet = option_map (λ p. (p, behind)) packet
 
-abbrev of_split : Layout → Option PacketSplit → Part PacketRead
+abbrev of_split : Layout → Option PacketSplit → PartRead PacketRead
 of_split layout split = option_and_then (λ s. beside s.behind (with_events layout s.front s.body)) split
 
 pub returns-in-Ok-read_events-clause-read : goal.returns-in-Ok-read_events-clause-read

@@ -3,8 +3,7 @@ use Rattle.std.proofs.Common.{◌≡◌, ◌<◌, ◌+◌, ◌-◌, ◌%◌, ◌
 use Rattle.std.proofs.lemmas.List.{get_or_default}
 use Rattle.dspec_record.specs.Words.{IsFilled, claimed, words_in, Field, Inside}
 use Rattle.dspec_record.proofs.Claiming.{claimed-some, claimed-place}
-use Rattle.dspec_record.proofs.enabling.Enablings.claimed_row.Goals.{then-self-place-via-then-self-place}
-use Rattle.dspec_record.proofs.enabling.Enablings.claimed_row.Goals.{then-self-place-via-else-self-place+then-words-count}
+use Rattle.dspec_record.proofs.enabling.Enablings.claimed_row.Goals.{then-self-place-via-then-self-place, then-self-place-via-else-self-place+then-words-count}
 use Rattle.dspec_record.proofs.enabling.Enablings.claimed_row.Goals.{then-self-place-via-else-self-place+else-words-count+then-count-eq0}
 use Rattle.dspec_record.proofs.enabling.Enablings.claimed_row.Goals as goal
 

@@ -1,5 +1,5 @@
 use Rattle.std.proofs.Common.{◌++◌, ap, sym, ◌∙◌, rules}
-use Rattle.dspec_session.specs.Words.{calls, EnabledRows, Identity, with_seal}
+use Rattle.dspec_session.specs.Words.{calls, EnabledRows, CpuIdentity, with_seal}
 use Rattle.dspec_session.proofs.Servings.{service_reads}
 use Rattle.dspec_session.proofs.demonstration.calling.service.Goals as goal
 
@@ -13,7 +13,7 @@ returns-clause-served c =
     record {
       back = search rules;
       called = now.shown.side.called
-          ∙ ap (λ n. calls n (s.settles ++ with_seal sealed number c.invariant.ensures.steady.list)) (ap (λ (i : Identity EnabledRows). i.number) c.service.ensures.same)
+          ∙ ap (λ n. calls n (s.settles ++ with_seal sealed number c.invariant.ensures.steady.list)) (ap (λ (i : CpuIdentity EnabledRows). i.number) c.service.ensures.same)
           ∙ (service_reads _ number _ _ s.settles c.invariant.ensures.steady.list sealed s.slots).1
           ∙ sym was.shown.side.called;
       offered = λ p had. (s.settles ++ with_seal sealed number p, s.list p had, (service_reads _ number _ _ s.settles p sealed s.slots).0);

@@ -1,5 +1,5 @@
 use Rattle.std.proofs.Common.{◌++◌, ◌+◌, ap, sym, ◌∙◌, rules, ◌<◌, arith}
-use Rattle.dspec_session.specs.Words.{calls_of, config_of, calls, EnabledRows, Identity, opening_deeds}
+use Rattle.dspec_session.specs.Words.{calls_of, config_of, calls, EnabledRows, CpuIdentity, opening_deeds}
 use Rattle.dspec_session.proofs.Scanned.{opening_offers, opening_calls, not_worn}
 use Rattle.dspec_session.proofs.demonstration.calling.speculation.Goals as goal
 
@@ -16,7 +16,7 @@ returns-clause-called c =
     record {
       back = search rules;
       called = now.shown.side.called
-          ∙ ap (λ n. calls n (opening_deeds c.args.cpu.now.cpu o.missed a ++ p)) (ap (λ (i : Identity EnabledRows). i.number) c.speculation.ensures.same)
+          ∙ ap (λ n. calls n (opening_deeds c.args.cpu.now.cpu o.missed a ++ p)) (ap (λ (i : CpuIdentity EnabledRows). i.number) c.speculation.ensures.same)
           ∙ opening_calls c.args.cpu.now.cpu o.missed a p worn
           ∙ ap (λ n. n + 1) (sym was.shown.side.called);
       offered = λ p had. (opening_deeds c.args.cpu.now.cpu o.missed a ++ p, o.list p had, opening_offers c.args.cpu.now.cpu o.missed a p);

@@ -1,16 +1,13 @@
-use Rattle.std.proofs.Common.{sym, subst}
+use Rattle.std.proofs.Common.{arith, subst}
+use Rattle.std.proofs.lemmas.Bool.Decides.{nat_tests}
 use Rattle.rtrb.specs.Ring.{sent}
-use Rattle.dspec_threads.specs.Words.{EnabledRows, called, number_in, WentHome}
+use Rattle.dspec_threads.specs.Words.{EnabledRows, WentHome}
 use Rattle.dspec_cpu.specs.declared.cpu.Cpu.{Cpu}
 use Rattle.dspec_threads.proofs.Homes.{has_gone, may_go}
 use Rattle.dspec_threads.proofs.out_lane.OutLane.go_home.Goals as goal
 
 pub push_reserved-requires : goal.push_reserved-requires
-push_reserved-requires g c = (
-  c.self.invariant.2,
-  may_go g.D.Duty.done _ c.self.inside.cpu c.self.invariant.1
-      (subst (λ (x : Cpu EnabledRows). g.D.Duty.done (number_in x) (called x)) (sym c.self.view_is) c.requires),
-)
+push_reserved-requires g c = grind (arith, nat_tests, may_go, c.self.invariant.2, c.self.invariant.1, c.self.view_is, c.requires)
 
 pub returns : goal.returns
 returns g c =

@@ -1,7 +1,8 @@
-use Rattle.std.proofs.Common.{subst, arith}
+use Rattle.std.proofs.lemmas.Bool.Decides.{nat_tests}
+use Rattle.std.proofs.Common.{arith}
 use Rattle.std.specs.Arc.{arc_value}
 use Rattle.std.proofs.lemmas.List.{length-map}
-use Rattle.dspec_threads.specs.Words.{ComesIn, EachPair, StaysIn, all_whereabouts, whereabouts, who_is_in, RunningSession}
+use Rattle.dspec_threads.specs.Words.{ComesIn, whereabouts}
 use Rattle.dspec_threads.proofs.Pairs.{pair_count}
 use Rattle.dspec_threads.proofs.Whereabouts.{each_stays}
 use Rattle.dspec_threads.proofs.Runs.{later_so, placed_later}
@@ -20,9 +21,4 @@ invariant_of-self g c =
     )
 
 pub returns-clause-same : goal.returns-clause-same
-returns-clause-same g c =
-    let looked = who_is_in (all_whereabouts c.look_at_all.new.places.items) in
-    record {
-      same = later_so _ _ _ _ _ _ _ _ c.self.view_is;
-      home = subst (λ (r : RunningSession g.row.K.Denot). EachPair StaysIn r.home looked) c.self.view_is (each_stays g.D.Duty.done _ _ c.look_at_all.ensures.looked);
-    }
+returns-clause-same g c = grind (arith, nat_tests, later_so, each_stays, c.self.view_is, c.look_at_all.ensures.looked)

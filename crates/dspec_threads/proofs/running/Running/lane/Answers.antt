@@ -1,8 +1,9 @@
-use Rattle.std.proofs.Common.{◌≤◌, IfOk, Ok, None, refl, length, subst, arith}
+use Rattle.std.proofs.lemmas.Bool.Decides.{nat_tests}
+use Rattle.std.proofs.Common.{IfOk, refl, subst, arith}
 use Rattle.std.specs.Arc.{arc_value}
 use Rattle.std.specs.Prelude.{IfSome}
 use Rattle.std.proofs.lemmas.List.{length-map}
-use Rattle.dspec_threads.specs.Words.{EachPair, KeepsPlace, LooksAndSends, StaysIn, Whereabouts, all_whereabouts, whereabouts, who_is_in, HandsLane, IsLaneOf, RunningSession}
+use Rattle.dspec_threads.specs.Words.{EachPair, KeepsPlace, LooksAndSends, StaysIn, whereabouts, IsLaneOf, RunningSession}
 use Rattle.dspec_threads.proofs.Pairs.{pair_count}
 use Rattle.dspec_threads.proofs.Whereabouts.{one_placed, seen_behind, seen_handed, seen_later, sends_keeps}
 use Rattle.dspec_threads.proofs.Runs.{lane_sent, later_so, none_handed, of_run, placed_later}
@@ -37,15 +38,7 @@ returns-clause-hands g c =
     }
 
 pub returns-then-index-len-clause-hands : goal.returns-then-index-len-clause-hands
-returns-then-index-len-clause-hands g c =
-    let past : length (who_is_in (all_whereabouts c.self.inside.places.items)) ≤ c.args.number = omega (
-      arith,
-      c.len.ensures,
-      c.if-index-len.true,
-      length-map c.self.inside.places.items whereabouts,
-      length-map (all_whereabouts c.self.inside.places.items) (λ (w : Whereabouts). w.inside),
-    ) in
-    subst (λ (r : RunningSession g.row.K.Denot). HandsLane c.args.number (Ok None) r r) c.self.view_is (none_handed c.args.number _ _ refl past)
+returns-then-index-len-clause-hands g c = grind (arith, nat_tests, length-map, none_handed, c.len.ensures, c.if-index-len.true, c.self.view_is)
 
 pub returns-clause-lane : goal.returns-clause-lane
 returns-clause-lane g c =

@@ -1,8 +1,8 @@
-use Rattle.std.proofs.Common.{ap, length, refl, arith}
+use Rattle.std.proofs.lemmas.Bool.Decides.{nat_tests}
+use Rattle.std.proofs.Common.{ap, length, arith}
 use Rattle.std.specs.Arc.{arc_value}
 use Rattle.std.proofs.lemmas.List.{length-map}
-use Rattle.dspec_threads.specs.Words.{set_up, words_of, all_whereabouts, waits_inside, whereabouts, who_is_in}
-use Rattle.dspec_cpu.specs.declared.shared.Shared.{Shared}
+use Rattle.dspec_threads.specs.Words.{all_whereabouts, waits_inside, whereabouts, who_is_in}
 use Rattle.dspec_threads.proofs.Runs.{all_at_home}
 use Rattle.dspec_threads.proofs.running.Running.over.Goals as goal
 
@@ -18,13 +18,7 @@ invariant_of-result g c =
     )
 
 pub returns-clause-running : goal.returns-clause-running
-returns-clause-running g c = record {
-  one = refl;
-  config = ap (λ (w : Shared). set_up (words_of w)) c.in_ok-common.ensures.shared;
-  held = c.in_ok-common.ensures.free;
-  began = c.of-2.ensures;
-  now = refl;
-}
+returns-clause-running g c = grind (arith, nat_tests, c.in_ok-common.ensures.shared, c.in_ok-common.ensures.free, c.of-2.ensures)
 
 pub returns-clause-home : goal.returns-clause-home
 returns-clause-home g c = ap who_is_in c.in_ok-places.ensures

@@ -1,7 +1,8 @@
-use Rattle.std.proofs.Common.{subst, arith}
+use Rattle.std.proofs.lemmas.Bool.Decides.{nat_tests}
+use Rattle.std.proofs.Common.{arith}
 use Rattle.std.specs.Arc.{arc_value}
 use Rattle.std.proofs.lemmas.List.{length-map}
-use Rattle.dspec_threads.specs.Words.{ComesIn, EachPair, StaysIn, TendsPlace, all_whereabouts, whereabouts, who_is_in, RunningSession}
+use Rattle.dspec_threads.specs.Words.{ComesIn, TendsPlace, whereabouts}
 use Rattle.dspec_threads.proofs.Pairs.{pair_count}
 use Rattle.dspec_threads.proofs.Whereabouts.{each_serves, each_stays}
 use Rattle.dspec_threads.proofs.Runs.{later_so, of_run, placed_later}
@@ -37,11 +38,4 @@ invariant_of-self g c =
     )
 
 pub returns : goal.returns
-returns g c =
-    let looked = who_is_in (all_whereabouts c.look_at_all.new.places.items) in
-    record {
-      same = later_so _ _ _ _ _ _ _ _ c.self.view_is;
-      looked = looked;
-      later = subst (λ (r : RunningSession g.row.K.Denot). EachPair StaysIn r.home looked) c.self.view_is (each_stays g.D.Duty.done _ _ c.look_at_all.ensures.looked);
-      serves = each_serves g.D.Duty.done _ _ c.tend_all.ensures;
-    }
+returns g c = grind (arith, nat_tests, later_so, each_stays, each_serves, c.self.view_is, c.look_at_all.ensures.looked, c.tend_all.ensures)

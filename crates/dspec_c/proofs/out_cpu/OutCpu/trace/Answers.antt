@@ -1,5 +1,0 @@
-use Rattle.dspec_c.proofs.Homes.{kept}
-use Rattle.dspec_c.proofs.out_cpu.OutCpu.trace.Goals as goal
-
-pub invariant_of-self : goal.invariant_of-self
-invariant_of-self c = (kept _ _ _ c.self.invariant.0 c.trace.ensures.same, c.self.invariant.1)

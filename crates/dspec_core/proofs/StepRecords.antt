@@ -1,0 +1,89 @@
+-- The record of a step's deed is its call's.
+use Rattle.std.proofs.Common.{◌≡◌, ℕ, ◌==◌, Bool, true, false, ◌&&◌, if◌then◌else◌, refl}
+use Rattle.std.specs.Prelude.{nat_lt}
+use Rattle.dspec_word.specs.declared.act.Act.{Act}
+use Rattle.dspec_word.specs.declared.act.Act.TheVariants.{Granted, Attempt}
+use Rattle.dspec_core.specs.Words.{Record, in_range, commit_at, discard_at, open_at, settle_at, Speculation, speculate_at, SlotState, call_step, CpuStep, Measured, missed, op_of, record_passes}
+use Rattle.dspec_core.specs.Words.{shown_commit, shown_discard, shown_speculate, spoken_at, asked, deeds_pass, is_alone, is_fill, is_release, popped, shown_scan, shown_service}
+use Rattle.dspec_deeds.specs.declared.calls.CpuOp.{CpuOp}
+use Rattle.dspec_deeds.specs.declared.calls.CpuOp.TheVariants as cpu_op
+use Rattle.dspec_deeds.specs.declared.calls.Served.{Served}
+use Rattle.dspec_deeds.specs.declared.config.Config.{Config}
+use Rattle.dspec_interleaving.specs.declared.flight.CpuProgress.{CpuProgress}
+use Rattle.dspec_interleaving.specs.declared.flight.CallPlace.{CallPlace}
+use Rattle.dspec_interleaving.specs.declared.flight.CallPlace.TheVariants as flight
+use Rattle.dspec_interleaving.specs.declared.flight.Spare.{Spare}
+use Rattle.dspec_interleaving.specs.declared.flight.Spare.TheVariants as spare
+
+module _ (ok : Record → Bool) (k : Config) (c : ℕ) (m : Measured) (me : CpuProgress) where
+  abbrev Pass : CpuStep → Type 0
+  Pass x = deeds_pass ok x.deeds ≡ true
+
+  either : (b : Bool) (x y : CpuStep) → Pass x → Pass y → Pass (if b then x else y)
+  either true x y p q = p
+  either false x y p q = q
+
+  one : (b : Bool) → b ≡ true → (b && true) ≡ true
+  one b p = rw p refl
+
+  speaks : (id : Speculation) (r : Record) → ok r ≡ true → Pass (spoken_at k c m me id r)
+  speaks id r p = either (m.keeps id r) _ _ (one (ok r) p) (one (ok r) p)
+
+  shows : (id : Speculation) (r : Record) (w : SlotState) (act : Act) → ok r ≡ true → Pass (shown_speculate k c m me id r w act)
+  shows id r w Granted p = speaks id r p
+  shows id r w (Attempt to) p = refl
+  shows id r w act p = one (ok r) p
+
+  commits : (id : Speculation) (w : SlotState) (act : Act) → Pass (shown_commit k c m me id w act)
+  commits id w (Attempt to) = refl
+  commits id w act = refl
+
+  discards : (id : Speculation) (w : SlotState) (act : Act) → Pass (shown_discard k c m me id w act)
+  discards id w (Attempt to) = refl
+  discards id w act = refl
+
+  misses : (s : ℕ) (w : SlotState) → Pass (missed k c m me s w)
+  misses s w = either (s == k.nspec) _ _ refl refl
+
+  scans : (s : ℕ) (w : SlotState) (act : Act) → Pass (shown_scan k c m me s w act)
+  scans s w (Attempt to) = refl
+  scans s w act = misses s w
+
+  services : (s : ℕ) (sum : Served) (w : SlotState) (act : Act) → Pass (shown_service k c m me s sum w act)
+  services s sum w Granted = refl
+  services s sum w act = either (s == k.nspec) _ _ refl refl
+
+  asks : (b : Bool) (place : Spare) → Pass (asked k c m me b place)
+  asks false place = refl
+  asks true spare.InHand = refl
+  asks true place = refl
+
+  pops : (place : Spare) → Pass (popped k c m me place)
+  pops spare.GivenBack = refl
+  pops place = refl
+
+  begins : (o : CpuOp) → record_passes ok o ≡ true → Pass (call_step k c m me (flight.Begun o))
+  begins (cpu_op.Trace r) p = either m.worn _ _ refl (either m.stopped _ _ (one (ok r) p) (either (m.traces r) _ _ (one (ok r) p) (one (ok r) p)))
+  begins cpu_op.Speculation p = either m.worn _ _ refl (either m.stopped _ _ refl refl)
+  begins (cpu_op.Speculate id r) p = either m.worn _ _ refl (either m.stopped _ _ (one (ok r) p) (either (in_range k id) _ _ refl (one (ok r) p)))
+  begins (cpu_op.Commit id) p = either m.worn _ _ refl (either m.stopped _ _ refl (either (in_range k id) _ _ refl refl))
+  begins (cpu_op.Discard id) p = either m.worn _ _ refl (either m.stopped _ _ refl (either (in_range k id) _ _ refl refl))
+  begins cpu_op.Service p = either (is_fill k.policy) _ _ (services 1 _ (m.word 1) (settle_at (m.word 1) (m.acked 1))) (asks (nat_lt m.seals me.want && nat_lt m.seals k.max_calls) me.spare)
+
+  pub step_records : (f : CallPlace) → record_passes ok (op_of f) ≡ true → deeds_pass ok (call_step k c m me f).deeds ≡ true
+  step_records (flight.Begun o) p = begins o p
+  step_records (flight.ScanLoad s) p = scans s (m.word s) (open_at (m.word s) k.max_issues)
+  step_records (flight.ScanTry s from) p = either (m.hits s from) _ _ refl (misses s (m.word s))
+  step_records (flight.SpeculateLoad id r) p = shows id r (m.word id.slot) (speculate_at (m.word id.slot) id (m.mine id)) p
+  step_records (flight.SpeculateTry id r from) p = either (m.hits id.slot from) _ _ (speaks id r p) (shows id r (m.word id.slot) (speculate_at (m.word id.slot) id (m.mine id)) p)
+  step_records (flight.CommitLoad id) p = commits id (m.word id.slot) (commit_at (m.word id.slot) id (m.mine id))
+  step_records (flight.CommitTry id from) p = either (m.hits id.slot from) _ _ (either (is_alone (commit_at from id (m.mine id))) _ _ refl refl)
+      (commits id (m.word id.slot) (commit_at (m.word id.slot) id (m.mine id)))
+  step_records (flight.CommitRelease id f) p = refl
+  step_records (flight.DiscardLoad id) p = discards id (m.word id.slot) (discard_at (m.word id.slot) id (m.mine id))
+  step_records (flight.DiscardTry id from) p = either (m.hits id.slot from) _ _ (either (is_release (discard_at from id (m.mine id))) _ _ refl refl)
+      (discards id (m.word id.slot) (discard_at (m.word id.slot) id (m.mine id)))
+  step_records flight.ServicePop p = pops me.spare
+  step_records flight.ServicePush p = refl
+  step_records (flight.ServiceLoad s sum) p = services s sum (m.word s) (settle_at (m.word s) (m.acked s))
+  step_records (flight.ServiceStore s w sum) p = either (s == k.nspec) _ _ refl refl

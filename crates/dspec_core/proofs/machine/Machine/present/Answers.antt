@@ -1,0 +1,26 @@
+-- The word that is read is the slot's.
+use Rattle.std.proofs.Common.{refl, ap, ◌∙◌, arith}
+use Rattle.dspec_core.specs.Words.{history}
+use Rattle.dspec_interleaving.proofs.StepReads.{slots_fit}
+use Rattle.dspec_core.proofs.MachineReads.{place_within}
+use Rattle.dspec_core.proofs.OneMore.{word_there}
+use Rattle.dspec_core.proofs.machine.Machine.present.Goals as goal
+
+pub index-requires : goal.index-requires
+index-requires g c =
+    let m = c.args.self.now in
+    let slot = c.requires.slot in
+    place_within c.args.slot c.args.slot m.config.nspec m.words.len refl slot.0 slot.1 (m.words.ok.0 ∙ c.requires.shown.words.count)
+
+pub of-requires-clause-slot : goal.of-requires-clause-slot
+of-requires-clause-slot g c =
+    let most = slots_fit c.args.self.now.config c.requires.ranges in
+    let slot = c.requires.slot.1 in
+    omega arith
+
+pub returns : goal.returns
+returns g c =
+    let m = c.args.self.now in
+    let slot = c.requires.slot in
+    let is = word_there m.config (history m) m.words.items c.args.slot c.index.result.now slot.0 slot.1 c.requires.shown.words c.index.ensures in
+    c.of.ensures ∙ ap (λ n. record { issue = n; slot = c.args.slot }) (c.issue.ensures.value ∙ ap (λ w. w.issue) is)

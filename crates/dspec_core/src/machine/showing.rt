@@ -1,0 +1,76 @@
+ghost use Rattle.std.specs.Prelude.{◌≡◌, ◌<◌, true, nat_le, slice_get, Some, IsTrue};
+ghost use Rattle.dspec_buffer.specs.Extent.{one};
+ghost use Rattle.dspec_deeds.specs.declared.calls.Actor.TheVariants as actor;
+ghost use Rattle.dspec_deeds.specs.History.{in_range, issue, part};
+ghost use Rattle.dspec_deeds.specs.Legal.{IsSound, fits_principal, fits_speculative};
+ghost use Rattle.dspec_deeds.specs.Own.{calls};
+ghost use Rattle.dspec_deeds.specs.Settling.{settle_fate};
+ghost use Rattle.dspec_cpu_state.specs.CpuStates.{ShowsList};
+ghost use Rattle.dspec_core.specs.declared.machine.cpu.Cpu.{Cpu};
+ghost use Rattle.dspec_core.specs.Machines.{IsShownMachine, history};
+
+use crate::machine::Machine;
+use dspec_buffer::TraceBuffer;
+use dspec_cpu_state::settled_as;
+use dspec_deeds::DecideFate;
+use dspec_record::{Rec, Schema};
+use dspec_word::{Code, SpecId};
+
+impl<S: Schema, B: TraceBuffer<S>> Machine<S, B> {
+    /// A CPU's side shows the CPU's own list too: a law of every machine, without a body.
+    pub fn shows_own(&self, cpu: u32)
+        requires shown { IsShownMachine B.has B.capacity self.now }
+        ensures { (own : Cpu B) → slice_get self.now.cpus.items cpu ≡ Some own
+            → ShowsList (λ b. B.has b self.now.schema) B.capacity self.now.config cpu (part (actor.Cpu cpu) (history self.now)) own.side }
+    {}
+
+    /// Whether the CPU has made all its calls.
+    pub fn is_worn(&self, cpu: u32) -> bool
+        requires shown { IsShownMachine B.has B.capacity self.now }
+        requires cpu { cpu < self.now.config.cpus }
+        ensures { result ≡ nat_le self.now.config.max_calls (calls cpu (history self.now)) }
+    {
+        self.cpus[cpu as usize].side.calls >= self.config.max_calls
+    }
+
+    /// Whether a record fits the rest of the CPU's active principal buffer, and that isn't closed.
+    pub fn fits_principal(&self, cpu: u32, rec: &Rec) -> bool
+        requires shown { IsShownMachine B.has B.capacity self.now }
+        requires cpu { cpu < self.now.config.cpus }
+        requires accepted { IsTrue (S.accepted self.now.schema rec.now) }
+        ensures { result ≡ fits_principal (S.shape_of self.now.schema) self.now.config cpu (one rec.now) (history self.now) }
+    {
+        self.cpus[cpu as usize]
+            .side
+            .fits(&self.config, &self.schema, rec)
+    }
+
+    /// Whether a record fits the rest of the CPU's buffer of a speculation, which is its slot's present one.
+    pub fn fits_speculative(&self, cpu: u32, id: SpecId, rec: &Rec) -> bool
+        requires shown { IsShownMachine B.has B.capacity self.now }
+        requires cpu { cpu < self.now.config.cpus }
+        requires sound { IsSound self.now.config (history self.now) }
+        requires slot { in_range self.now.config id ≡ true }
+        requires accepted { IsTrue (S.accepted self.now.schema rec.now) }
+        ensures { id.issue ≡ issue id.slot (history self.now) → result ≡ fits_speculative (S.shape_of self.now.schema) self.now.config cpu id rec.now (history self.now) }
+    {
+        let side = &self.cpus[cpu as usize].side;
+        let mine = side.is_mine(id);
+        side.fits_slot(&self.config, &self.schema, id, rec, mine)
+    }
+
+    /// The fate of the CPU's buffer of its slot's present speculation where that is settled, by the code of the slot's word.
+    pub fn settle_fate(&self, cpu: u32, id: SpecId, code: Code) -> DecideFate
+        requires shown { IsShownMachine B.has B.capacity self.now }
+        requires cpu { cpu < self.now.config.cpus }
+        requires sound { IsSound self.now.config (history self.now) }
+        requires slot { in_range self.now.config id ≡ true }
+        requires present { id.issue ≡ issue id.slot (history self.now) }
+        ensures { result ≡ settle_fate (S.shape_of self.now.schema) self.now.config cpu (history self.now) id code }
+    {
+        let side = &self.cpus[cpu as usize].side;
+        let mine = side.is_mine(id);
+        let (fits, count) = side.measure::<S>(&self.config, id, mine);
+        settled_as(code, fits, count)
+    }
+}
