@@ -1,5 +1,6 @@
 -- The handles that a close is given, one after another.
-use Rattle.std.proofs.Common.{◌≡◌, ℕ, ◌+◌, ◌<◌, ◌≤◌, List, [], ◌∷◌, ◌++◌, length, Bool, true, false, take, replicate, refl, sym, ap, ◌∙◌, subst, arith, MutBor}
+use Rattle.std.proofs.lemmas.Bool.Decides.{nat_tests}
+use Rattle.std.proofs.Common.{◌≡◌, ℕ, ◌+◌, ◌<◌, ◌≤◌, List, length, Bool, true, false, take, replicate, refl, sym, ap, ◌∙◌, subst, arith, MutBor}
 use Rattle.std.specs.Prelude.{slice_index_or, slice_set, ◌&&◌}
 use Rattle.std.specs.List.{list_all}
 use Rattle.std.proofs.Math.Seq.{map-set_same}
@@ -22,11 +23,7 @@ one_same hs at new d same = map-set_same (λ (h : One). h.ghost_name) hs at new 
 
 -- one of them has what it had
 pub one_kept : (hs : List One) (at : ℕ) (new d : One) → new.ghost_name ≡ (slice_index_or hs at d).ghost_name → KeepsHeld (slice_index_or hs at d).now new.now → KeepAll hs (slice_set hs at new)
-one_kept hs at new d same leaves = record {
-  same = one_same hs at new d same;
-  full = map-set_same (λ (h : One). is_full h.now) hs at new d leaves.full;
-  hold = map-set_same (λ (h : One). held_in h.now) hs at new d leaves.holds;
-}
+one_kept hs at new d same leaves = grind (arith, nat_tests, one_same, map-set_same)
 
 -- how many there are
 pub same_count : (was now : List One) → names now ≡ names was → length now ≡ length was
@@ -78,13 +75,8 @@ is_gone was now at d status left small same hold all home = gone_so _ (slice_ind
 
 pub one_empty : (hs : List One) (at : ℕ) (new : One) → at < length hs → take at (fulls hs) ≡ replicate at false
     → is_full new.now ≡ false → take (at + 1) (fulls (slice_set hs at new)) ≡ replicate (at + 1) false
-one_empty hs at new small before gone =
-    ap (λ bs. take (at + 1) bs) (map-set (λ (h : One). is_full h.now) hs at new)
-    ∙ take_more_set (fulls hs) at (is_full new.now) (omega (arith, small, length-map hs (λ (h : One). is_full h.now)))
-    ∙ ap (λ bs. bs ++ is_full new.now ∷ []) before ∙ ap (λ b. replicate at false ++ b ∷ []) gone ∙ replicate_more at false
+one_empty hs at new small before gone = grind (arith, nat_tests, map-set, take_more_set, length-map, replicate_more)
 
 pub others_held : (was hs : List One) (at : ℕ) (new : One) → ((k : ℕ) → at ≤ k → slice_index_or (held_in_each hs) k Nothing ≡ slice_index_or (held_in_each was) k Nothing)
     → (k : ℕ) → at + 1 ≤ k → slice_index_or (held_in_each (slice_set hs at new)) k Nothing ≡ slice_index_or (held_in_each was) k Nothing
-others_held was hs at new hold k above =
-    ap (λ xs. slice_index_or xs k Nothing) (map-set (λ (h : One). held_in h.now) hs at new)
-    ∙ get_or-set_other (held_in_each hs) at k (held_in new.now) Nothing (λ e. absurd (omega (arith, above, e))) ∙ hold k (omega (arith, above))
+others_held was hs at new hold k above = grind (arith, nat_tests, map-set, get_or-set_other)

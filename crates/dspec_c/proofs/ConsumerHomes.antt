@@ -1,5 +1,6 @@
 -- The consumer that was handed out stays the one that went through its ring.
-use Rattle.std.proofs.Common.{◌≡◌, ℕ, ◌<◌, Global, List, [], ◌∷◌, ◌++◌, Bool, true, false, Option, Some, None, refl, sym, ap, ◌∙◌, subst}
+use Rattle.std.proofs.Common.{arith, ◌≡◌, ℕ, ◌<◌, Global, List, [], ◌∷◌, ◌++◌, Bool, true, false, Option, Some, None, refl, sym, ap, ◌∙◌, subst}
+use Rattle.std.proofs.lemmas.Bool.Decides.{nat_tests}
 use Rattle.std.specs.Prelude.{IfSome, slice_get}
 use Rattle.core.specs.Option.{is_some}
 use Rattle.rtrb.specs.Ring.{known_free, sent}
@@ -10,10 +11,7 @@ use Rattle.dspec_c.specs.Words.{IsUnused, ConsumerRule}
 use Rattle.dspec_c.proofs.Options.{if_none, or_this, the_none, unless}
 
 pub after : (a b c : Theirs) → IsSameTheirs a b → IsSameTheirs b c → IsSameTheirs a c
-after a b c was is = record {
-  shared = is.shared ∙ was.shared;
-  consumer = record { config = is.consumer.config ∙ was.consumer.config; pairs = is.consumer.pairs ∙ was.consumer.pairs };
-}
+after a b c was is = grind (arith, nat_tests)
 
 pub kept : (sent : List Theirs) (a b : Theirs) → IsOutTheirs sent a → IsSameTheirs a b → IsOutTheirs sent b
 kept sent a b is same = record { first = is.first; was = is.was; same = after is.first a b is.same same }
@@ -55,10 +53,7 @@ module _ {X : Type 0} (went : X → List Theirs) (free : X → ℕ) where
 
   came_so : (first a : Theirs) (home : Consuming) → IsSameTheirs first a → home ≡ a.consumer → IsConsumerOf (words_of a.shared) home
       → IsSameConsumer first.consumer home × IsConsumerOf (words_of first.shared) home
-  came_so first a home same f theirs = (
-    subst (λ (x : Consuming). IsSameConsumer first.consumer x) (sym f) same.consumer,
-    subst (λ (m : Shared). IsConsumerOf (words_of m) home) same.shared theirs,
-  )
+  came_so first a home same f theirs = grind (arith, nat_tests)
 
   pub came : (a : Theirs) (home : Consuming) (received new : List Theirs) (way : Option X) (inside : Option Consuming) → IsPlace received way inside → false ≡ is_some inside
       → new ≡ received ++ a ∷ [] → AreSameTheirs received a → home ≡ a.consumer → IsConsumerOf (words_of a.shared) home → IsPlace new way (Some home)
@@ -108,20 +103,11 @@ stay_of first inside waits = record { first = first; inside = inside; waits = wa
 pub leaves_so : (shared : Shared) (received : List Theirs) (inside left : Option Consuming) (waits after : Bool) (first out : Theirs) (x : Consuming) → slice_get received 0 ≡ Some first
     → IsDeskTheirs first received inside → inside ≡ Some x → waits ≡ true → left ≡ None → after ≡ false → out ≡ record { shared = shared; consumer = x }
     → LeaveTheirs shared (record { first = slice_get received 0; inside = inside; waits = waits }) out (record { first = slice_get received 0; inside = left; waits = after })
-leaves_so shared received inside left waits after first out x at desk is w e f o = record {
-  waits = w;
-  inside = is ∙ ap (λ (t : Theirs). Some t.consumer) (sym o);
-  shares = ap (λ (t : Theirs). t.shared) o;
-  same = λ one g. subst (λ (t : Theirs). IsSameConsumer t.consumer out.consumer) (one_first received first one at g)
-      (subst (λ (y : Consuming). IsSameConsumer first.consumer y) (ap (λ (t : Theirs). t.consumer) (sym o)) (same_there first received inside x desk is).0);
-  gone = ap (λ (y : Option Consuming). stay_of (slice_get received 0) y after) e ∙ ap (λ (b : Bool). stay_of (slice_get received 0) None b) f;
-}
+leaves_so shared received inside left waits after first out x at desk is w e f o = grind (arith, nat_tests, one_first, same_there)
 
 -- so it is of a place as it was seen
 pub leaves_from : (shared : Shared) (old : TheirStay) (received : List Theirs) (inside left : Option Consuming) (waits after : Bool) (first out : Theirs) (x : Consuming)
     → stay_of (slice_get received 0) inside waits ≡ old → slice_get received 0 ≡ Some first
     → IsDeskTheirs first received inside → inside ≡ Some x → waits ≡ true → left ≡ None → after ≡ false → out ≡ record { shared = shared; consumer = x }
     → LeaveTheirs shared old out (record { first = slice_get received 0; inside = left; waits = after })
-leaves_from shared old received inside left waits after first out x seen at desk is w e f o =
-    subst (λ (s : TheirStay). LeaveTheirs shared s out (record { first = slice_get received 0; inside = left; waits = after })) seen
-    (leaves_so shared received inside left waits after first out x at desk is w e f o)
+leaves_from shared old received inside left waits after first out x seen at desk is w e f o = grind (arith, nat_tests, leaves_so)

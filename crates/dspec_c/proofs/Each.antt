@@ -1,4 +1,5 @@
 -- Lists each element of which has something at its place.
+use Rattle.std.proofs.lemmas.Bool.Decides.{nat_tests}
 use Rattle.std.proofs.Common.{◌≡◌, ℕ, ◌+◌, ◌<◌, List, [], ◌∷◌, ◌++◌, length, length-append, append_assoc, Option, take, suc, zero, refl, sym, ap, ◌∙◌, subst, arith}
 use Rattle.std.specs.Prelude.{slice_get, slice_index_or, slice_set, map, remove, Some, IsSome}
 use Rattle.dspec_c.specs.Words.{Pair, EnabledRows, words_of, CpuIdentity, IsCallable, identity, IsCpuOf, AtHome, CpuStay, CpuSide, AllCalled, AllInside, EachFrom, IsCpuAt, IsPlaceOf, cpu_inside}
@@ -55,9 +56,7 @@ next_inside (x ∷ xs) cpu rest = ap (λ (zs : List (Option (Cpu EnabledRows))).
 pub one_inside : (cpus : List (Cpu EnabledRows)) (places : List CpuStay) (place : CpuStay) (rest : List CpuStay) (cpu : Cpu EnabledRows) (now : List (Cpu EnabledRows))
     (all : List (Option (Cpu EnabledRows)))
     → places ≡ place ∷ rest → now ≡ cpus ++ cpu ∷ [] → cpu_inside place ≡ Some cpu → map Some cpus ++ insides places ≡ all → map Some now ++ insides rest ≡ all
-one_inside cpus places place rest cpu now all cons is inside was =
-    ap (λ (xs : List (Cpu EnabledRows)). map Some xs ++ insides rest) is ∙ next_inside cpus cpu (insides rest)
-    ∙ ap (λ (o : Option (Cpu EnabledRows)). map Some cpus ++ (o ∷ insides rest)) (sym inside) ∙ ap (λ (ps : List CpuStay). map Some cpus ++ insides ps) (sym cons) ∙ was
+one_inside cpus places place rest cpu now all cons is inside was = grind (arith, nat_tests, next_inside)
 
 pub first_inside : (places : List CpuStay) (place : CpuStay) (rest : List CpuStay) → places ≡ place ∷ rest → AllInside places → IsSome place.inside
 first_inside places place rest cons all = all 0 place (ap (λ xs. slice_get xs 0) cons)

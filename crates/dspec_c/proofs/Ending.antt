@@ -1,11 +1,12 @@
 -- What is home makes the session that was started.
-use Rattle.std.proofs.Common.{◌≡◌, ℕ, List, [], ◌∷◌, length, Option, Some, None, suc, zero, refl, sym, ap, ◌∙◌, subst}
+use Rattle.std.proofs.Common.{arith, ◌≡◌, ℕ, List, [], ◌∷◌, length, Option, Some, None, suc, zero, refl, sym, ap, ◌∙◌, subst}
+use Rattle.std.proofs.lemmas.Bool.Decides.{nat_tests}
 use Rattle.std.specs.Prelude.{Result, Ok, Err, IfNone, IfOk, IfSome, IsSomeAnd, OnErr, false, map, slice_get, slice_set}
 use Rattle.std.proofs.lemmas.List.{length-map, length-set}
 use Rattle.dspec_deeds.specs.declared.config.Config.{Config}
 use Rattle.dspec_c.specs.Words.{EnabledRows, last_seat, set_up, schema_of, words_of, Consuming, pairs_of, view_of, Has, IsCpuOf, IsFresh, CpuIdentity, IsTheirPlaceWith, LeaveTheirs, TheirStay}
-use Rattle.dspec_c.specs.Words.{Theirs, Pair, CpuStay, IsSameSide, LeavesPlace, CpuSide, EachFrom, Going, GoesOut, IsFreshIn, IsJustStarted, IsCpuAt, IsPlaceOf, IsWhole, LeavesOne, LooksAt}
-use Rattle.dspec_c.specs.Words.{LooksAtOne, TheyGoOut, firsts, they_wait_so, waiting_so}
+use Rattle.dspec_c.specs.Words.{Theirs, Pair, CpuStay, IsSameSide, LeavesPlace, CpuSide, EachFrom, Going, GoesOut, IsJustStarted, IsCpuAt, IsPlaceOf, IsWhole, LeavesOne, LooksAt, LooksAtOne}
+use Rattle.dspec_c.specs.Words.{TheyGoOut, firsts, they_wait_so, waiting_so}
 use Rattle.dspec_cpu.specs.declared.cpu.Cpu.{Cpu}
 use Rattle.dspec_cpu.specs.declared.shared.Shared.{Shared}
 use Rattle.dspec_c.proofs.Looking.{first_at}
@@ -105,11 +106,7 @@ they_share shared given n places theirs is e = λ first f. e ∙ sym is.shares �
 pub they_go : (shared given : Shared) (n : ℕ) (w : Going) (o : Option Theirs) (now : TheirStay) → w.shared ≡ shared → w.cpus ≡ n → given ≡ shared → IsWhole shared n (firsts w.places) w.consumer.first
     → IfSome o (λ side. LeaveTheirs given w.consumer side now) → IfSome o (λ side. TheyGoOut w side (record w { consumer = now }))
 they_go shared given n w None now e f g is leave = tt
-they_go shared given n w (Some side) now e f g is leave = record {
-  leave = record { waits = leave.waits; inside = leave.inside; shares = leave.shares ∙ g ∙ sym e; same = leave.same; gone = refl };
-  cpus = ap (λ (k : Config). k.cpus) ((leave.same is.first is.is).config ∙ is.ending.theirs.1) ∙ sym is.count ∙ sym f;
-  gone = ap (λ (s : TheirStay). record w { consumer = s }) leave.gone;
-}
+they_go shared given n w (Some side) now e f g is leave = grind (arith, nat_tests)
 
 pub they_go_from : (shared given : Shared) (n : ℕ) (w old : Going) (o : Option Theirs) (now : TheirStay) → w ≡ old → w.shared ≡ shared → w.cpus ≡ n → given ≡ shared
     → IsWhole shared n (firsts w.places) w.consumer.first → IfSome o (λ side. LeaveTheirs given w.consumer side now) → IfSome o (λ side. TheyGoOut old side (record w { consumer = now }))
@@ -126,10 +123,4 @@ pub begun : (k : Config) (schema : EnabledRows) (shared common : Shared) (cpus :
     → ((c : ℕ) (cpu : Cpu EnabledRows) → slice_get cpus c ≡ Some cpu → (schema_of cpu ≡ schema) × IsFresh Has cpu) → view_of consumer ≡ last_seat k
     → set_up (words_of shared) ≡ k → common ≡ shared → n ≡ k.cpus → w.shared ≡ common → w.cpus ≡ n
     → w.places ≡ map (waiting_so common) cpus → w.consumer ≡ they_wait_so common consumer → IsJustStarted k schema w
-begun k schema shared common cpus consumer n w fresh unasked is e f g h i j = record {
-  config = ap (λ (s : Shared). set_up (words_of s)) (g ∙ e) ∙ is;
-  cpus = h ∙ f;
-  all = subst (EachFrom (IsFreshIn schema) 0) (sym i) (all_fresh common schema 0 cpus fresh);
-  consumer = ap (λ (s : TheirStay). s.waits) j;
-  theirs = subst (λ (s : TheirStay). IsSomeAnd s.inside (λ (x : Consuming). view_of x ≡ last_seat k)) (sym j) unasked;
-}
+begun k schema shared common cpus consumer n w fresh unasked is e f g h i j = grind (arith, nat_tests, all_fresh)

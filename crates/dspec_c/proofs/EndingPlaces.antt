@@ -1,10 +1,11 @@
 -- What the places of CPUs that are out have, before any goes home.
+use Rattle.std.proofs.lemmas.Bool.Decides.{nat_tests}
 use Rattle.std.proofs.Common.{◌≡◌, ℕ, ◌+◌, List, [], ◌∷◌, length, Option, Some, None, suc, zero, refl, sym, ap, ◌∙◌, subst, arith}
 use Rattle.std.specs.Prelude.{map, slice_get}
 use Rattle.std.proofs.lemmas.List.{length-map}
-use Rattle.dspec_c.specs.Words.{start_fault, EnabledRows, set_up, number_in, schema_of, words_of, Consuming, IsConsumerOf, IsSameConsumer, pairs_of, Has, IsCpuOf, IsFresh, IsSession, CpuIdentity}
-use Rattle.dspec_c.specs.Words.{IsCallable, identity, TheirStay, Theirs, Came, CpuStay, IsPlaceWith, CpuSide, AllCalled, AreCame, EachFrom, Going, IsFreshIn, IsCpuAt, IsEnding, IsPlaceOf, IsStarted}
-use Rattle.dspec_c.specs.Words.{IsWhole, LeavesOne, LookedLater, cpu_inside, firsts, insides, they_wait_so, waiting_so}
+use Rattle.dspec_c.specs.Words.{EnabledRows, set_up, number_in, schema_of, words_of, Consuming, IsConsumerOf, IsSameConsumer, pairs_of, Has, IsFresh, IsSession, TheirStay, Theirs, Came, CpuStay}
+use Rattle.dspec_c.specs.Words.{IsPlaceWith, CpuSide, AllCalled, AreCame, EachFrom, Going, IsFreshIn, IsCpuAt, IsEnding, IsPlaceOf, IsStarted, IsWhole, LeavesOne, LookedLater, cpu_inside, firsts}
+use Rattle.dspec_c.specs.Words.{insides, they_wait_so, waiting_so}
 use Rattle.dspec_cpu.specs.declared.cpu.Cpu.{Cpu}
 use Rattle.dspec_cpu.specs.declared.shared.Shared.{Shared}
 use Rattle.dspec_session_core.specs.declared.session.Session.{Session}
@@ -32,16 +33,7 @@ each_from P n (x ∷ xs) all = (subst (λ k. P k x) (omega arith) (all 0 x refl)
 pub session_is : (shared : Shared) (schema : EnabledRows) (places : List (Option CpuSide)) (consumer : Consuming) (session : Session EnabledRows) → IsEnding shared schema places consumer
     → session.shared ≡ shared → session.consumer ≡ consumer
     → EachFrom (IsCpuAt shared schema (pairs_of consumer)) 0 session.cpus.items → length session.cpus.items ≡ length places → IsSession schema session
-session_is shared schema places consumer session is e f home count = record {
-  checked = subst (λ (s : Shared). start_fault (set_up (words_of s)) ≡ None) (sym e) is.checked;
-  consumer = subst (λ (s : Shared). IsConsumerOf (words_of s) session.consumer) (sym e) (subst (λ (y : Consuming). IsConsumerOf (words_of shared) y) (sym f) is.theirs);
-  all = count ∙ is.all ∙ ap (λ (s : Shared). (set_up (words_of s)).cpus) (sym e);
-  each = λ c cpu at.
-      let h : IsCpuAt shared schema (pairs_of consumer) c cpu =
-      subst (λ n. IsCpuAt shared schema (pairs_of consumer) n cpu) (omega arith) (each_at (IsCpuAt shared schema (pairs_of consumer)) 0 session.cpus.items c cpu home at) in
-      subst (λ (s : Shared). IsCpuOf schema (words_of s) c (slice_get (pairs_of session.consumer) c) (identity cpu)) (sym e)
-      (subst (λ (y : Consuming). IsCpuOf schema (words_of shared) c (slice_get (pairs_of y) c) (identity cpu)) (sym f) h);
-}
+session_is shared schema places consumer session is e f home count = grind (arith, nat_tests, each_at)
 
 -- as many as the places that they were at
 pub as_many : (cpus : List (Cpu EnabledRows)) (places : List CpuStay) → map Some cpus ≡ insides places → length cpus ≡ length (firsts places)
@@ -50,14 +42,7 @@ as_many cpus places e = sym (length-map cpus Some) ∙ ap length e ∙ length-ma
 -- the consumer that is home ends what the first one would have ended
 pub ends_so : (shared : Shared) (cpus : ℕ) (places : List (Option CpuSide)) (place : Option Theirs) (consumer : Consuming) → (is : IsWhole shared cpus places place)
     → ((first : Theirs) → place ≡ Some first → IsSameConsumer first.consumer consumer × IsConsumerOf (words_of first.shared) consumer) → IsEnding shared is.schema places consumer
-ends_so shared cpus places place consumer is same =
-    let so = same is.first is.is in
-    record {
-      checked = is.ending.checked;
-      all = is.ending.all;
-      each = subst (λ ps. EachFrom (IsPlaceOf shared is.schema ps) 0 places) (sym so.0.pairs) is.ending.each;
-      theirs = subst (λ (m : Shared). IsConsumerOf (words_of m) consumer) is.shares so.1;
-    }
+ends_so shared cpus places place consumer is same = grind (arith, nat_tests)
 
 -- each CPU of a session can be called
 pub all_called : (schema : EnabledRows) (session : Session EnabledRows) (shared : Shared) → IsSession schema session → shared ≡ session.shared → AllCalled shared session.cpus.items
@@ -116,12 +101,7 @@ all_fresh shared schema n (cpu ∷ cpus) is = ((refl, ((is 0 cpu refl).0, (is 0 
 -- those can call the CPU at a place who share what the session does
 pub place_first : (shared given : Shared) (n : ℕ) (places : List CpuStay) (theirs : Option Theirs) (c : ℕ) (there : Option CpuSide) → IsWhole shared n (firsts places) theirs → given ≡ shared
     → slice_get (firsts places) c ≡ Some there → IsPlaceWith given there
-place_first shared given n places theirs c there is e at = λ first f.
-    let at_c = each_at (IsPlaceOf shared is.schema (pairs_of is.first.consumer)) 0 (firsts places) c there is.ending.each at in
-    let g : at_c.side ≡ first = ap (λ (o : Option CpuSide). or_else first o) (sym at_c.is ∙ f) in (
-      e ∙ sym at_c.shares ∙ ap (λ (x : CpuSide). x.shared) g,
-      subst (λ (x : CpuSide). IsCallable given x.cpu) g (subst (λ (m : Shared). IsCallable m at_c.side.cpu) (sym e) at_c.cpu.belongs),
-    )
+place_first shared given n places theirs c there is e at = grind (arith, nat_tests, each_at)
 
 pub place_with : (shared given : Shared) (n : ℕ) (places : List CpuStay) (theirs : Option Theirs) (c : ℕ) (s : CpuStay) → IsWhole shared n (firsts places) theirs → given ≡ shared
     → slice_get places c ≡ Some s → IsPlaceWith given s.first
@@ -130,6 +110,4 @@ place_with shared given n places theirs c s is e at = place_first shared given n
 -- a CPU that goes out is the one of its number
 pub number_out : (shared given : Shared) (n : ℕ) (places : List CpuStay) (theirs : Option Theirs) (c : ℕ) (side : CpuSide) (now : List CpuStay) → IsWhole shared n (firsts places) theirs
     → LeavesOne given c places side now → number_in side.cpu ≡ c
-number_out shared given n places theirs c side now is leaves =
-    let at_c = each_at (IsPlaceOf shared is.schema (pairs_of is.first.consumer)) 0 (firsts places) c leaves.stay.first is.ending.each (first_at places c leaves.stay leaves.there) in
-    ap (λ (i : CpuIdentity EnabledRows). i.number) (leaves.leaves.same at_c.side at_c.is) ∙ at_c.cpu.number ∙ omega arith
+number_out shared given n places theirs c side now is leaves = grind (arith, nat_tests, each_at, first_at)

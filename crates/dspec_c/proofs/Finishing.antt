@@ -1,5 +1,6 @@
 -- How a session ends, or goes on.
-use Rattle.std.proofs.Common.{◌≡◌, ℕ, List, true, false, Option, Some, refl, sym, ap, ◌∙◌, subst, inl, inr}
+use Rattle.std.proofs.Common.{arith, ◌≡◌, ℕ, List, true, false, Option, Some, refl, sym, ◌∙◌, subst, inl, inr}
+use Rattle.std.proofs.lemmas.Bool.Decides.{nat_tests}
 use Rattle.std.specs.Prelude.{Result, Ok, Err, MatchResult, length}
 use Rattle.dspec_c.specs.Words.{EnabledRows, Consuming, held_in, is_full, EndsSo, FinishAnswers, LooksHome, busy, not_home, ClosedBy, EndedBy, Going, IsAway, IsHome, LookedLater, insides, refusals}
 use Rattle.dspec_c.specs.Words.{Handle, EndedSession, HandleValue}
@@ -19,13 +20,7 @@ looks_so h now old new r e f looked home = subst (λ (x : HandleValue). LooksHom
 
 -- what is held is home, where a look said so
 pub home_then : {U : Type 0} (h now : HandleValue) (u : U) → LooksHome h (Ok u) now → (w : Going) → now ≡ held.Session w → IsHome w
-home_then (held.Session old) now u looks w is = subst (λ (g : Going). IsHome g) (ap (λ (x : HandleValue). going_of w x) (sym looks.1 ∙ is)) looks.3
-home_then held.Nothing now u looks w is = absurd looks.1
-home_then (held.Schema s) now u looks w is = absurd looks.1
-home_then (held.Cpu s) now u looks w is = absurd looks.1
-home_then (held.Consumer s) now u looks w is = absurd looks.1
-home_then (held.Closed e) now u looks w is = absurd looks.1
-home_then (held.Files x) now u looks w is = absurd looks.1
+home_then = grind (arith, nat_tests)
 
 module _ (was new closed : Handle) where
   -- something isn't home, or there is no session

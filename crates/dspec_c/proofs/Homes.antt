@@ -1,6 +1,7 @@
 -- A CPU that was handed out stays the one that went through its ring, and so does the one that comes home.
-use Rattle.std.proofs.Common.{◌≡◌, ℕ, ◌<◌, Global, List, [], ◌∷◌, ◌++◌, Bool, false, Option, Some, None, refl, sym, ap, ◌∙◌, subst}
-use Rattle.std.specs.Prelude.{IfSome, IsSomeAnd, slice_get}
+use Rattle.std.proofs.Common.{arith, ◌≡◌, ℕ, ◌<◌, Global, List, [], ◌∷◌, ◌++◌, Bool, false, Option, Some, None, refl, sym, ap, ◌∙◌, subst}
+use Rattle.std.proofs.lemmas.Bool.Decides.{nat_tests}
+use Rattle.std.specs.Prelude.{IfSome, slice_get}
 use Rattle.core.specs.Option.{is_some}
 use Rattle.rtrb.specs.Ring.{known_free, sent}
 use Rattle.rtrb.specs.declared.producer.Producer.{Producer}
@@ -100,11 +101,4 @@ goes_out went first side e f g = record { first = first; was = e; same = record 
 -- a CPU that was inside leaves its place, which is that CPU's from then on as it was
 pub leaves_so : (shared : Shared) (old new : CpuStay) (was now out : CpuSide) (cpu : AtHome) → old.first ≡ Some was → old.inside ≡ Some cpu → identity cpu.cpu ≡ identity was.cpu
     → out ≡ record { shared = shared; cpu = cpu.cpu; refused = cpu.refused } → new.first ≡ Some now → IsSameSide now out → new.inside ≡ None → new.waits ≡ false → LeavesPlace shared old out new
-leaves_so shared old new was now out cpu at inside same is stays belongs gone waits = record {
-  inside = inside ∙ ap (λ (s : CpuSide). Some (at_home s)) (sym is);
-  shares = ap (λ (s : CpuSide). s.shared) is;
-  same = λ first e. ap (λ (s : CpuSide). identity s.cpu) is ∙ same ∙ ap (λ (o : Option CpuSide). identity (or_this was o).cpu) (sym at ∙ e);
-  stays = subst (λ (o : Option CpuSide). IsSomeAnd o (λ (first : CpuSide). IsSameSide first out)) (sym stays) belongs;
-  gone = gone;
-  waits = waits;
-}
+leaves_so shared old new was now out cpu at inside same is stays belongs gone waits = grind (arith, nat_tests, or_this)

@@ -1,4 +1,5 @@
 -- Looking at places, one after another, and handing out what waits at one.
+use Rattle.std.proofs.lemmas.Bool.Decides.{nat_tests}
 use Rattle.std.proofs.Common.{◌≡◌, ℕ, ◌<◌, List, [], ◌∷◌, ◌++◌, length, Bool, true, false, Option, Some, None, suc, zero, refl, sym, ap, ◌∙◌, subst, inl, inr, arith}
 use Rattle.std.specs.Prelude.{◌⊎◌, Result, Ok, Err, IfOk, IfSome, IsSome, OnErr, is_some, slice_get, slice_index_or, slice_set}
 use Rattle.std.specs.Option.{option_map_or}
@@ -120,10 +121,7 @@ either (inl p) f g = f p
 either (inr q) f g = g q
 
 below : (k n : ℕ) → k < suc n → (k < n) ⊎ (k ≡ n)
-below zero zero small = inr refl
-below zero (suc n) small = inl (omega arith)
-below (suc k) zero small = absurd (omega arith)
-below (suc k) (suc n) small = either (below k n (omega arith)) (λ s. inl (omega (arith, s))) (λ e. inr (ap suc e))
+below = grind (arith, nat_tests, either)
 
 -- one more was looked at
 pub one_looked : (xs ys : List CpuStay) (n : ℕ) → AreCame xs ys → ((k : ℕ) → k < n → IsInsideAt k xs) → IsInsideAt n ys → (k : ℕ) → k < suc n → IsInsideAt k ys

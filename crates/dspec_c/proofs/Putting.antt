@@ -1,8 +1,8 @@
 -- A record of words is put as one of the header that the schema has.
-use Rattle.std.proofs.Common.{◌≡◌, ◌∙◌, ◌%◌, ◌^◌, ℕ, Bool, true, false, List, length, Option, Some, None, is_some, IfSome, IsTrue, option_map, refl, sym, ap, subst}
+use Rattle.std.proofs.Common.{arith, ◌≡◌, ◌%◌, ◌^◌, ℕ, Bool, true, false, List, length, Option, Some, None, is_some, IfSome, IsTrue, option_map, refl, sym, subst}
+use Rattle.std.proofs.lemmas.Bool.Decides.{nat_tests}
 use Rattle.std.specs.Prelude.{IsSome, if◌then◌else◌}
-use Rattle.dspec_c.specs.Words.{Speculation, Record, EnabledRows, claimed, packed_record, stamp_fits, schema_of, SpeculatesOne, TracesOne, Has, Put, PutIn, put_record, PutAs, PutInAs, is_header}
-use Rattle.dspec_c.specs.Words.{record_as}
+use Rattle.dspec_c.specs.Words.{Speculation, Record, EnabledRows, claimed, packed_record, stamp_fits, schema_of, Put, PutIn, put_record, PutAs, PutInAs, is_header, record_as}
 use Rattle.dspec_record.specs.declared.field.Field.{Field}
 use Rattle.dspec_record.specs.declared.header.Header.{Header}
 use Rattle.dspec_record.specs.declared.header.Header.TheVariants as header
@@ -11,10 +11,7 @@ use Rattle.dspec_deeds.specs.declared.calls.Traced.{Traced}
 use Rattle.dspec_cpu.specs.declared.cpu.Cpu.{Cpu}
 
 header_is : (h k : Header) → IsTrue (is_header h k) → k ≡ h
-header_is header.One header.One is = refl
-header_is header.One header.Two is = absurd (cc)
-header_is header.Two header.One is = absurd (cc)
-header_is header.Two header.Two is = refl
+header_is = grind (arith, nat_tests)
 
 itself : (h : Header) → IsTrue (is_header h h)
 itself header.One = refl
@@ -25,17 +22,11 @@ is_it h k same = subst (λ (x : Header). IsTrue (is_header h x)) (sym same) (its
 
 none_of : (a b : Bool) (o : Option (List Field)) (f : List Field → Record) → (IsTrue a → IsTrue b → IsSome o → ⊥)
     → false ≡ is_some (if a then (if b then option_map f o else None) else None)
-none_of true true (Some fs) f wrong = absurd (wrong refl refl refl)
-none_of true true None f wrong = refl
-none_of true false o f wrong = refl
-none_of false b o f wrong = refl
+none_of = grind (arith, nat_tests)
 
 some_of : (a b : Bool) (o : Option (List Field)) (f : List Field → Record) (P : Record → Type 0) (r : Record) → IsTrue a → IsTrue b → IsSome o → IfSome o (λ fs. r ≡ f fs) → P r
     → (true ≡ is_some (if a then (if b then option_map f o else None) else None)) × IfSome (if a then (if b then option_map f o else None) else None) P
-some_of true true (Some fs) f P r at bt ot is p = (refl, subst P is p)
-some_of true true None f P r at bt ot is p = absurd (cc)
-some_of true false o f P r at bt ot is p = absurd (cc)
-some_of false b o f P r at bt ot is p = absurd (cc)
+some_of = grind (arith, nat_tests)
 
 pub none_put : (h : Header) (e : EnabledRows) (claim stamp : ℕ) (ws : List ℕ)
     → ((e.header ≡ h) × IsTrue (stamp_fits h stamp) × IsSome (claimed e.rows claim (length ws)) → ⊥) → false ≡ is_some (record_as h e claim stamp ws)
@@ -46,17 +37,12 @@ pub some_put : (h : Header) (e : EnabledRows) (claim stamp : ℕ) (ws : List ℕ
     → (e.header ≡ h) × IsTrue (stamp_fits h stamp) × IsSome (claimed e.rows claim (length ws))
     → IfSome (claimed e.rows claim (length ws)) (λ fs. r ≡ packed_record (claim % 2 ^ 32) stamp fs ws) → P r
     → (true ≡ is_some (record_as h e claim stamp ws)) × IfSome (record_as h e claim stamp ws) P
-some_put h e claim stamp ws P r due is p =
-    some_of (is_header h e.header) (stamp_fits h stamp) (claimed e.rows claim (length ws)) (λ fs. packed_record (claim % 2 ^ 32) stamp fs ws) P r
-    (is_it h e.header due.0) due.1 due.2 is p
+some_put h e claim stamp ws P r due is p = grind (arith, nat_tests, some_of, is_it)
 
 same_of : (h k : Header) (stamp : ℕ) (o : Option Record)
     → true ≡ is_some (if is_header h k then (if stamp_fits h stamp then o else None) else None)
     → (if is_header h k then (if stamp_fits h stamp then o else None) else None) ≡ (if stamp_fits k stamp then o else None)
-same_of header.One header.One stamp o some = refl
-same_of header.One header.Two stamp o some = absurd (cc)
-same_of header.Two header.One stamp o some = absurd (cc)
-same_of header.Two header.Two stamp o some = refl
+same_of = grind (arith, nat_tests)
 
 -- a record under a header is the one that the schema has
 pub same_put : (h : Header) (e : EnabledRows) (claim stamp : ℕ) (ws : List ℕ) → true ≡ is_some (record_as h e claim stamp ws) → record_as h e claim stamp ws ≡ put_record e claim stamp ws
@@ -80,18 +66,8 @@ other_put e claim stamp ws none =
 
 pub put_is : (h : Header) (claim stamp : ℕ) (ws : List ℕ) (a : Option Traced) (old new : Cpu EnabledRows)
     → record_as h (schema_of old) claim stamp ws ≡ put_record (schema_of old) claim stamp ws → PutAs h claim stamp ws a old new → Put claim stamp ws a old new
-put_is h claim stamp ws a old new same p = record {
-  same = p.same;
-  due = p.due ∙ ap is_some same;
-  refused = p.refused;
-  one = subst (λ (o : Option Record). IfSome a (λ t. IfSome o (λ r. TracesOne Has r t old new))) same p.one;
-}
+put_is h claim stamp ws a old new same p = grind (arith, nat_tests)
 
 pub put_in_is : (h : Header) (id : Speculation) (claim stamp : ℕ) (ws : List ℕ) (a : Option Spoken) (old new : Cpu EnabledRows)
     → record_as h (schema_of old) claim stamp ws ≡ put_record (schema_of old) claim stamp ws → PutInAs h id claim stamp ws a old new → PutIn id claim stamp ws a old new
-put_in_is h id claim stamp ws a old new same p = record {
-  same = p.same;
-  due = p.due ∙ ap is_some same;
-  refused = p.refused;
-  one = subst (λ (o : Option Record). IfSome a (λ s. IfSome o (λ r. SpeculatesOne Has id r s old new))) same p.one;
-}
+put_in_is h id claim stamp ws a old new same p = grind (arith, nat_tests)

@@ -1,5 +1,6 @@
 -- Tending one place after another: whose places they are, and how many, stays.
-use Rattle.std.proofs.Common.{◌≡◌, ◌<◌, ◌+◌, ℕ, List, [], ◌∷◌, length, Bool, false, Option, Some, None, suc, zero, refl, sym, ap, ◌∙◌, subst}
+use Rattle.std.proofs.Common.{arith, ◌≡◌, ◌<◌, ◌+◌, ℕ, List, [], ◌∷◌, length, Bool, false, Option, Some, None, suc, zero, refl, sym, ap, ◌∙◌, subst}
+use Rattle.std.proofs.lemmas.Bool.Decides.{nat_tests}
 use Rattle.std.specs.Prelude.{IfSome, MatchOption, is_some, slice_get, slice_index_or, slice_set}
 use Rattle.std.proofs.lemmas.List.{length-map, length-set}
 use Rattle.std.proofs.lemmas.Option.{slice_get_read}
@@ -15,12 +16,7 @@ use Rattle.dspec_c.proofs.Options.{if_true, or_this}
 -- a service of a CPU in its box
 pub served_boxed : (n : ℕ) (told : Served) (old new : AtHome) (was cpu : Cpu EnabledRows) (refused : ℕ) → record { cpu = cpu; refused = refused } ≡ old → was ≡ cpu → n ≡ told.settled
     → ServicedSo told was new.cpu → new.refused ≡ refused → ServedAtHome n old new
-served_boxed n told old new was cpu refused e f count done same = record {
-  told = told;
-  counted = count;
-  cpu = subst (λ (x : Cpu EnabledRows). ServicedSo told x new.cpu) (f ∙ ap (λ (h : AtHome). h.cpu) e) done;
-  refused = same ∙ ap (λ (h : AtHome). h.refused) e;
-}
+served_boxed n told old new was cpu refused e f count done same = grind (arith, nat_tests)
 
 module _ {X : Type 0} (went : X → List CpuSide) (free : X → ℕ) where
   still_unused : (first : CpuSide) (received : List CpuSide) (way : Option X) (inside : Option AtHome) (y : AtHome) → IfSome way (λ w. IsUnused first received (went w) (free w) inside)

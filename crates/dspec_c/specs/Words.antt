@@ -25,7 +25,7 @@ pub use Rattle.dspec_c.specs.Whole.{refused_inside, they_wait_so, TheyGoOut, wai
 pub use Rattle.dspec_c.specs.Widths.{field_and_rest, field_of_width, fields_of_widths}
 pub use Rattle.dspec_c.specs.contracts.batches.start_of.Key.{name as #self}
 pub use Rattle.dspec_c.specs.contracts.parts.BoxParts.into_box.{clauses, ended}
-pub use Rattle.dspec_c.specs.contracts.seal.Seal.{the_row, the_type}
+pub use Rattle.dspec_c.specs.contracts.seal.Seal.{the_row}
 pub use Rattle.dspec_c.specs.declared.consumer_homing.ConsumerRule.{ConsumerRule}
 pub use Rattle.dspec_c.specs.declared.consumer_side.ConsumerSide.{ConsumerSide}
 pub use Rattle.dspec_c.specs.declared.ended.EndedSession.{EndedSession}

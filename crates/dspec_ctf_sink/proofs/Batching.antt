@@ -1,5 +1,6 @@
 -- A batch by time is added to its CPU's files, or lost.
-use Rattle.std.proofs.Common.{◌≡◌, ◌⊎◌, ◌+◌, ℕ, List, ◌∙◌, ap, inl, inr, refl, subst}
+use Rattle.std.proofs.Common.{arith, ◌≡◌, ◌⊎◌, ◌+◌, ℕ, List, inl, inr, refl, subst}
+use Rattle.std.proofs.lemmas.Bool.Decides.{nat_tests}
 use Rattle.std.specs.Prelude.{Option, Some, None, slice_get, slice_set}
 use Rattle.dspec_ctf_sink.specs.Words.{Record, EnabledRows, IsText, HasSoManyRecords, lost_more, missed_more, FileWrite, AddsAll, AddsBatch, AddsRuns, CpuFiles, GetsRuns, HasNoRuns, IsBatchLoss}
 use Rattle.dspec_ctf_sink.specs.Words.{LosesRuns, StopsRuns, TellsMissed, TellsNone, TimedTracing, FolderFault, Cpu, Packet, Loss}
@@ -18,25 +19,12 @@ module _ (uuid : List ℕ) (e : EnabledRows) (before total cpu : ℕ) (b : Batch
   -- it has no packets
   pub no-file : (f : PacketFault) (fault : FolderFault) (loss : Loss) → HasNoRuns e before b f → fault ≡ Packet b.cpu f → HasSoManyRecords e b loss.records
       → loss ≡ lost_of b None fault loss.records → LosesRuns uuid e before b (files told lasts was) (files told lasts was) loss
-  no-file f fault loss none is has loss_is = inl (record {
-    same = refl;
-    fault = f;
-    none = none;
-    has = has;
-    loss_is = loss_is ∙ ap (λ w. lost_of b None w loss.records) is;
-  })
+  no-file f fault loss none is has loss_is = grind (arith, nat_tests)
 
   -- what was missed isn't told
   pub loses-all : (is : Option (List FileWrite)) (fault : FolderFault) (loss : Loss) → total ≡ before + b.drops → cpu ≡ b.cpu → TellsNone uuid told total cpu lasts was is fault
       → HasSoManyRecords e b loss.records → loss ≡ lost_of b (Some 0) fault loss.records → LosesRuns uuid e before b (files told lasts was) (files told lasts is) loss
-  loses-all is fault loss sum same none has loss_is = inr (inl (record {
-    told = refl;
-    lasts = refl;
-    fault = fault;
-    why = subst (λ n. TellsNone uuid told n b.cpu lasts was is fault) sum (subst (λ c. TellsNone uuid told total c lasts was is fault) same none);
-    has = has;
-    loss_is = loss_is;
-  }))
+  loses-all is fault loss sum same none has loss_is = grind (arith, nat_tests)
 
   module _ (rs : List Record) (mid is : Option (List FileWrite)) (after : List ℕ) (sum : total ≡ before + b.drops) (same : cpu ≡ b.cpu) (read : IsText e b.buffer.text rs)
       (tells : TellsMissed uuid told total cpu lasts was mid) where
@@ -114,35 +102,11 @@ module _ (e : EnabledRows) (uuid missed told : List ℕ) (lasts : List (List ℕ
 -- what is lost stays so while it is counted
 moved : (e : EnabledRows) (old mid new : TimedTracing) (b : Batch) (loss : Loss) → new.told ≡ mid.told → new.lasts ≡ mid.lasts → new.written ≡ mid.written
     → IsBatchLoss e old b mid loss → IsBatchLoss e old b new loss
-moved e old mid new b loss told lasts written (inl none) = inl (record {
-  beyond = none.beyond;
-  has = none.has;
-  loss_is = none.loss_is;
-  told = told ∙ none.told;
-  lasts = lasts ∙ none.lasts;
-  written = written ∙ none.written;
-})
-moved e old mid new b loss told lasts written (inr some) = inr (record {
-  before = some.before;
-  files = some.files;
-  has = some.has;
-  after = some.after;
-  loses = some.loses;
-  changes = record { told = told ∙ some.changes.told; lasts = lasts ∙ some.changes.lasts; written = written ∙ some.changes.written };
-})
+moved = grind (arith, nat_tests)
 
 -- what is lost is counted
 pub loses-batch : (e : EnabledRows) (uuid missed told : List ℕ) (lasts : List (List ℕ)) (written : Option (List FileWrite)) (lost last : Option Loss) (counts : List ℕ)
     (sum : Option Loss) (old mid : TimedTracing) (b : Batch) (loss : Loss) → timed uuid missed told lasts written lost last ≡ mid → IsBatchLoss e old b mid loss
     → mid.uuid ≡ old.uuid → mid.missed ≡ old.missed → mid.lost ≡ old.lost → counts ≡ missed_more missed b.cpu (b.drops + loss.records) → sum ≡ lost_more lost loss
     → GetsRuns e old b (timed uuid counts told lasts written sum (Some loss))
-loses-batch e uuid missed told lasts written lost last counts sum old mid b loss view why same missed-same lost-same counted summed = record {
-  uuid = ap (λ t. t.uuid) view ∙ same;
-  came = inr (record {
-    loss = loss;
-    why = moved e old mid (timed uuid counts told lasts written sum (Some loss)) b loss (ap (λ t. t.told) view) (ap (λ t. t.lasts) view) (ap (λ t. t.written) view) why;
-    missed = counted ∙ ap (λ ms. missed_more ms b.cpu (b.drops + loss.records)) (ap (λ t. t.missed) view ∙ missed-same);
-    lost = summed ∙ ap (λ l. lost_more l loss) (ap (λ t. t.lost) view ∙ lost-same);
-    last = refl;
-  });
-}
+loses-batch e uuid missed told lasts written lost last counts sum old mid b loss view why same missed-same lost-same counted summed = grind (arith, nat_tests, moved)

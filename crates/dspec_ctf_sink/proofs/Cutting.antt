@@ -3,8 +3,7 @@ use Rattle.std.proofs.Common.{◌≡◌, ◌≤◌, ◌+◌, ◌-◌, ◌++◌, 
 use Rattle.std.specs.Prelude.{Option, Some, None}
 use Rattle.std.specs.Io.KnownBytes.{Appends, Keeps}
 use Rattle.std.proofs.Math.Seq.{take-add}
-use Rattle.std.proofs.lemmas.List.{take_at}
-use Rattle.std.proofs.lemmas.List.{append-nil}
+use Rattle.std.proofs.lemmas.List.{take_at, append-nil}
 use Rattle.dspec_ctf_sink.specs.Words.{KeepsInFront, IsCut, IsLong}
 
 split : (bs : List ℕ) (at to : ℕ) → at ≤ to → take to bs ≡ take at bs ++ take (to - at) (drop at bs)

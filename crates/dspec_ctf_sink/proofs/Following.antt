@@ -1,11 +1,11 @@
 -- Runs that follow one another, their packets, and what stops them.
+use Rattle.std.proofs.lemmas.Bool.Decides.{nat_tests}
 use Rattle.std.proofs.Common.{◌≡◌, ◌≤◌, ◌-◌, ◌+◌, ℕ, List, [], ◌∷◌, ◌∙◌, ap, arith, inl, inr, length, refl, sym, subst}
 use Rattle.std.specs.Prelude.{Option, Some, None, slice_range}
 use Rattle.dspec_ctf_sink.specs.Words.{Record, EnabledRows, events, HasNoRun, IsFileRun, run_packet, HasNoRecords, IsTooLong, FileWrite, IsNotTaken, AddsRun, AddsAll, HasNoRuns, StopsRun, StopsRuns}
 use Rattle.dspec_ctf_sink.specs.Words.{row_name, FolderFault, Packet, Loss}
 use Rattle.dspec_ring.specs.declared.batch.Batch.{Batch}
 use Rattle.dspec_ctf.specs.declared.stream.PacketFault.{PacketFault}
-use Rattle.dspec_ctf.specs.declared.stream.PacketFault.TheVariants as packet
 
 -- what a CPU loses
 abbrev pub of_cpu : ℕ → Option ℕ → FolderFault → ℕ → Loss
@@ -83,8 +83,4 @@ module _ (uuid : List ℕ) (e : EnabledRows) (missed cpu : ℕ) (rs : List Recor
 
 -- a text that is none has no packets
 pub no-records : (e : EnabledRows) (before : ℕ) (b : Batch) (f : PacketFault) → HasNoRecords e b.buffer.text f → HasNoRuns e before b f
-no-records e before b (packet.Text f) none = none
-no-records e before b packet.Memory none = tt
-no-records e before b packet.Missed none = elim none [ ]
-no-records e before b packet.TooLong none = elim none [ ]
-no-records e before b (packet.Clock place) none = elim none [ ]
+no-records = grind (arith, nat_tests)

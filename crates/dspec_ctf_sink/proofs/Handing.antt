@@ -1,8 +1,8 @@
 -- A batch's packet is handed to the place, or counted.
-use Rattle.std.proofs.Common.{◌≡◌, ℕ, ◌+◌, ◌∙◌, ap, inr, List, refl, sym, subst}
+use Rattle.std.proofs.Common.{arith, ◌≡◌, ℕ, ◌+◌, inr, List, refl, subst}
+use Rattle.std.proofs.lemmas.Bool.Decides.{nat_tests}
 use Rattle.std.specs.Prelude.{slice_get, slice_index, slice_set, Option, Some, None}
-use Rattle.dspec_ctf_sink.specs.Words.{EnabledRows, lost_more, missed_more, FileWrite, Refuses, Takes, AddsPacket, AreNextOf, CountsLost, IsBatchFault, IsNextPacket, LosesPacket, Tracing, cpu_name}
-use Rattle.dspec_ctf_sink.specs.Words.{whole_loss, FolderFault, Loss}
+use Rattle.dspec_ctf_sink.specs.Words.{EnabledRows, FileWrite, Refuses, Takes, AddsPacket, AreNextOf, CountsLost, IsBatchFault, IsNextPacket, LosesPacket, Tracing, cpu_name, FolderFault, Loss}
 use Rattle.dspec_ring.specs.declared.batch.Batch.{Batch}
 
 -- the trace, by its parts
@@ -15,12 +15,7 @@ module _ (e : EnabledRows) (uuid missed told : List ℕ) (was is : Option (List 
 
   next : (before total : ℕ) (bytes packet : List ℕ) → slice_get missed b.cpu ≡ Some before → total ≡ before + b.drops → IsNext (before + b.drops) packet
       → bytes ≡ packet → IsNextPacket e (tracing uuid missed told was lost last) b total bytes
-  next before total bytes packet there sum is_packet same = record {
-    before = before;
-    there = there;
-    missed_is = sum;
-    packet_is = subst (λ n. IsNext n bytes) (sym sum) (subst (λ xs. IsNext (before + b.drops) xs) (sym same) is_packet);
-  }
+  next before total bytes packet there sum is_packet same = grind (arith, nat_tests)
 
   -- and taken
   pub adds : (before total : ℕ) (name bytes packet : List ℕ) → tracing uuid missed told was lost last ≡ old → slice_get missed b.cpu ≡ Some before → total ≡ before + b.drops
@@ -55,15 +50,4 @@ module _ (e : EnabledRows) (uuid missed told : List ℕ) (was is : Option (List 
 -- what isn't written is counted
 pub loses : (e : EnabledRows) (old mid new : Tracing) (b : Batch) (fault : FolderFault) → IsBatchFault e old b mid.written fault → mid.missed ≡ old.missed → mid.told ≡ old.told
     → mid.lost ≡ old.lost → new.written ≡ mid.written → CountsLost e mid b fault new → LosesPacket e old b new
-loses e old mid new b fault why missed told lost written counts = record {
-  fault = fault;
-  why = subst (λ w. IsBatchFault e old b w fault) (sym written) why;
-  counted = record {
-    records = counts.records;
-    has = counts.has;
-    missed = counts.missed ∙ ap (λ ms. missed_more ms b.cpu (b.drops + counts.records)) missed;
-    told = counts.told ∙ told;
-    lost = counts.lost ∙ ap (λ l. lost_more l (whole_loss b fault counts.records)) lost;
-    last = counts.last;
-  };
-}
+loses e old mid new b fault why missed told lost written counts = grind (arith, nat_tests)

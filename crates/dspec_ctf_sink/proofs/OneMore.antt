@@ -1,5 +1,6 @@
 -- One CPU more is told.
-use Rattle.std.proofs.Common.{◌≡◌, ℕ, zero, suc, ◌+◌, ◌<◌, List, [], ◌∷◌, length, take, refl, sym, subst, arith}
+use Rattle.std.proofs.lemmas.Bool.Decides.{nat_tests}
+use Rattle.std.proofs.Common.{◌≡◌, ℕ, zero, suc, ◌+◌, ◌<◌, List, [], ◌∷◌, length, take, subst, arith}
 use Rattle.std.specs.Prelude.{slice_get, Some}
 use Rattle.std.proofs.lemmas.Option.{slice_get_within}
 use Rattle.dspec_ring.specs.declared.batch.Batch.{Batch}
@@ -11,12 +12,7 @@ module _ {K : Type 0} (gets : K → Batch → K → Type 0) where
   pub told_more : (n : ℕ) (ls : List Left) (i : ℕ) (x : Left) (k m l : K) → slice_get ls i ≡ Some x → GetsTellings gets n (take i ls) k m
       → GetsTelling gets (n + i) x.report m l → GetsTellings gets n (take (suc i) ls) k l
   told_more n [] i x k m l at got more = let within = slice_get_within [] i x at in absurd (omega arith)
-  told_more n (y ∷ ls) zero x k m l at got more =
-      let same : x ≡ y = sym (cc (at)) in
-      let here : n + 0 ≡ n = omega arith in
-      let first : GetsTelling gets (n + 0) y.report k l =
-      subst (λ (z : Left). GetsTelling gets (n + 0) z.report k l) same (subst (λ j. GetsTelling gets (n + 0) x.report j l) (sym got) more) in
-      (l, subst (λ c. GetsTelling gets c y.report k l) here first, refl)
+  told_more n (y ∷ ls) zero x k m l at got more = grind (arith, nat_tests)
   told_more n (y ∷ ls) (suc i) x k m l at got more =
       let on : n + suc i ≡ (n + 1) + i = omega arith in
       (got.0, got.1, told_more (n + 1) ls i x got.0 m l at got.2 (subst (λ c. GetsTelling gets c x.report m l) on more))

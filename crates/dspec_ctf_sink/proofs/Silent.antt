@@ -1,14 +1,14 @@
 -- An empty text is that of no records, and has packets unless memory is wanting.
-use Rattle.std.proofs.Common.{◌≡◌, ◌<◌, ◌≤◌, ◌∙◌, ℕ, Bool, false, inl, inr, List, [], ◌∷◌, ◌++◌, Option, refl, sym, ap, arith, length}
+use Rattle.std.proofs.lemmas.Bool.Decides.{nat_tests}
+use Rattle.std.proofs.Common.{◌≡◌, ◌∙◌, ℕ, Bool, false, List, [], ◌∷◌, ◌++◌, Option, refl, sym, ap, arith, length}
 use Rattle.dspec_ctf_sink.specs.Words.{Record, EnabledRows, enabled, table_shape, table_accepts, table_text, enabled-IsLimited, table-shapes_fit, table-texts_fit, table-texts_differ, FaultHere}
-use Rattle.dspec_ctf_sink.specs.Words.{AreFilledOf, filled_packets, events, HasNoPacket, IsText}
+use Rattle.dspec_ctf_sink.specs.Words.{AreFilledOf, filled_packets, HasNoPacket, IsText}
 use Rattle.dspec_record.specs.declared.field.Shape.{Shape}
 use Rattle.dspec_record.specs.declared.reading.ReadKind.{ReadKind}
-use Rattle.dspec_record.specs.declared.reading.ReadKind.TheVariants.{Truncated, UnknownEpid, Misaligned, GapNotZero, Padding}
 use Rattle.dspec_buffer.proofs.SchemaLaws.{SchemaLaws}
 use Rattle.dspec_buffer.proofs.OneReading.{one_reading}
 use Rattle.dspec_ctf.specs.declared.stream.PacketFault.{PacketFault}
-use Rattle.dspec_ctf.specs.declared.stream.PacketFault.TheVariants.{Text, Missed, TooLong, Clock, Memory}
+use Rattle.dspec_ctf.specs.declared.stream.PacketFault.TheVariants.{Memory}
 
 -- what is left of nothing is nothing
 none_left : (before gap left : List ℕ) → [] ≡ before ++ (gap ++ left) → length left ≡ 0
@@ -19,12 +19,7 @@ none_left (x ∷ before) gap left is = absurd (cc (is))
 module _ (shape : ℕ → Option Shape) (accepted : Record → Bool) (text : Record → List ℕ) where
   -- and has no fault
   no_fault_there : (k : ReadKind) (at : ℕ) (left : List ℕ) → length left ≡ 0 → FaultHere shape accepted text k at left → ⊥
-  no_fault_there Truncated at left none (inl few) = let some : 0 < length left = few.0 in omega (arith, none, some)
-  no_fault_there Truncated at left none (inr (h, (named, short))) = let four : 4 ≤ length left = named.0.four in omega (arith, none, four)
-  no_fault_there Padding at left none fault = let four : 4 ≤ length left = fault.0 in omega (arith, none, four)
-  no_fault_there UnknownEpid at left none fault = let four : 4 ≤ length left = fault.0 in omega (arith, none, four)
-  no_fault_there Misaligned at left none (h, (named, off)) = let four : 4 ≤ length left = named.four in omega (arith, none, four)
-  no_fault_there GapNotZero at left none (h, (named, unread)) = let four : 4 ≤ length left = named.0.four in omega (arith, none, four)
+  no_fault_there = grind (arith, nat_tests)
 
 module _ (e : EnabledRows) where
   laws : SchemaLaws (table_shape e.header (enabled e.rows)) (table_accepts e.header (enabled e.rows)) (table_text e.header (enabled e.rows))
@@ -40,13 +35,7 @@ module _ (e : EnabledRows) where
       one_reading (table_shape e.header (enabled e.rows)) (table_accepts e.header (enabled e.rows)) (table_text e.header (enabled e.rows)) laws 0 [] rs [] is refl
 
   pub only_memory : (fault : PacketFault) → HasNoPacket e 0 0 [] fault → fault ≡ Memory
-  only_memory (Text fault) (small, stops) =
-      absurd (no_fault_there (table_shape e.header (enabled e.rows)) (table_accepts e.header (enabled e.rows)) (table_text e.header (enabled e.rows)) fault.kind fault.at stops.left
-      (none_left stops.before stops.gap stops.left stops.bytes_are) stops.fault_here)
-  only_memory Missed past = absurd (omega (arith, past))
-  only_memory TooLong (small, (rs, (is, long))) = let none : length (events e rs) ≡ 0 = ap (λ xs. length (events e xs)) (no_records rs is) in absurd (omega (arith, none, long))
-  only_memory (Clock place) none = absurd none
-  only_memory Memory none = refl
+  only_memory = grind (arith, nat_tests, no_fault_there, none_left, no_records)
 
   pub is_silent : (uuid : List ℕ) (cpu : ℕ) (bytes : List ℕ) → AreFilledOf e uuid 0 cpu [] bytes → bytes ≡ filled_packets false e uuid 0 cpu []
   is_silent uuid cpu bytes are = are.bytes_are ∙ ap (filled_packets false e uuid 0 cpu) (no_records are.read are.is_text)

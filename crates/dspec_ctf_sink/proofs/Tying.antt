@@ -1,5 +1,6 @@
 -- What a folder's files have, and what it was asked for, where a write is added.
-use Rattle.std.proofs.Common.{◌≡◌, ◌≢◌, ℕ, List, [], ◌∷◌, ◌++◌, ap, sym, subst, ◌∙◌, set, get_or, slice_get, All, Some, None, Ok, Err, Option, Result, true, false, OnOk, IfErr}
+use Rattle.std.proofs.Common.{arith, ◌≡◌, ◌≢◌, ℕ, List, [], ◌∷◌, ◌++◌, ap, sym, subst, ◌∙◌, set, get_or, slice_get, All, Some, None, Ok, Err, Option, Result, true, false, OnOk, IfErr}
+use Rattle.std.proofs.lemmas.Bool.Decides.{nat_tests}
 use Rattle.std.specs.Result.{result_err}
 use Rattle.std.specs.Io.KnownBytes.{Appends}
 use Rattle.std.proofs.Math.Logic.{∥∥₁_elim, ∥∥₁_prop}
@@ -29,17 +30,13 @@ module _ (files mid : List Held) (place : ℕ) (old new : Held) (name bytes : Li
 
   pub taken : (answer : Result (Unit {0}) FolderFault) → OnOk answer (Appends old.bytes new.bytes bytes × (new.broken ≡ false))
       → OnOk answer (HaveBesides files (record { name = name; bytes = bytes; refused = None }) (set mid place new))
-  taken (Ok u) more = λ writes has.
-      one_file_has mid place old new (record { name = name; bytes = bytes; refused = None }) got named called
-      (λ xs own. has_more old new name bytes xs called more.0 more.1 stays own) writes (kept writes has)
+  taken (Ok u) more = grind (arith, nat_tests, one_file_has, got, called, has_more)
   taken (Err fault) more = record {}
 
   pub refused : (answer : Result (Unit {0}) FolderFault) → IfErr answer (LeavesFile old new)
       → IfErr answer (λ fault. HaveBesides files (record { name = name; bytes = bytes; refused = Some fault }) (set mid place new))
   refused (Ok u) left = record {}
-  refused (Err fault) left = λ writes has.
-      one_file_has mid place old new (record { name = name; bytes = bytes; refused = Some fault }) got named called
-      (λ xs own. has_left old new name bytes xs fault left stays own) writes (kept writes has)
+  refused (Err fault) left = grind (arith, nat_tests, one_file_has, got, called, has_left)
 
 -- where there is no place, no file was written
 pub in_vain : (files mid : List Held) (name bytes : List ℕ) (fault : FolderFault) → ((writes : List FileWrite) → FilesHave files writes → FilesHave mid writes)

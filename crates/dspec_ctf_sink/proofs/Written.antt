@@ -1,4 +1,5 @@
 -- Files that are held have what was written to them.
+use Rattle.std.proofs.lemmas.Bool.Decides.{nat_tests}
 use Rattle.std.proofs.Common.{◌≡◌, ◌≢◌, ℕ, zero, suc, ◌⊎◌, inl, inr, ⊎_elim, List, [], ◌∷◌, ◌++◌, ap, sym, refl, subst}
 use Rattle.std.proofs.Common.{◌∙◌, append_assoc, arith, slice_get, slice_set, length, All, Some, None, Option, true, false, Bool, ◌&&◌, if◌then◌else◌, bytes_eq, is_none, Decides}
 use Rattle.std.specs.Io.KnownBytes.{Appends, Keeps}
@@ -6,8 +7,7 @@ use Rattle.std.proofs.lemmas.List.{append-nil}
 use Rattle.std.proofs.lemmas.Grind.{flat_map-append}
 use Rattle.std.proofs.lemmas.Option.{slice_get_within, get_or_from_slice_get}
 use Rattle.std.proofs.lemmas.Slice.Eq.{bytes_eq-Decides}
-use Rattle.dspec_ctf_sink.specs.Words.{FileWrite, brought_to, file_of, FilesHave, KeepsInFront, HasWritten, HaveBesides, Held, IsNotAmong, LeavesFile, FolderFault, Cpu, Cut, Memory, Metadata}
-use Rattle.dspec_ctf_sink.specs.Words.{NotEmpty, Packet, Read, Write}
+use Rattle.dspec_ctf_sink.specs.Words.{FileWrite, brought_to, file_of, FilesHave, KeepsInFront, HasWritten, HaveBesides, Held, IsNotAmong, LeavesFile, FolderFault}
 use Rattle.dspec_deeds.proofs.Places.{got_set, got_other}
 
 -- ---- places
@@ -33,10 +33,7 @@ got_front (z ∷ xs) ys zero x e = e
 got_front (z ∷ xs) ys (suc j) x e = got_front xs ys j x e
 
 same_place : (a b : ℕ) → (a ≡ b) ⊎ (a ≢ b)
-same_place zero zero = inl refl
-same_place zero (suc b) = inr (λ s. omega (arith, s))
-same_place (suc a) zero = inr (λ s. omega (arith, s))
-same_place (suc a) (suc b) = ⊎_elim (λ h. inl (ap suc h)) (λ h. inr (λ s. h (omega (arith, s)))) (same_place a b)
+same_place a b = grind (arith, nat_tests)
 
 pub none_among : (files : List Held) (name : List ℕ) → All (λ file. file.name ≢ name) files → IsNotAmong files name
 none_among files name all place file got e =
@@ -45,9 +42,7 @@ none_among files name all place file got e =
 -- ---- what a write brings
 
 neither : (a b : Bool) (xs : List ℕ) → b ≡ false → (if (a && b) then xs else []) ≡ []
-neither true true xs e = absurd (cc (e))
-neither true false xs e = refl
-neither false b xs e = refl
+neither = grind (arith, nat_tests)
 
 both : (b : Bool) (xs : List ℕ) → b ≡ true → (if (true && b) then xs else []) ≡ xs
 both true xs e = refl
@@ -76,14 +71,7 @@ file_of_same name writes w none = file_of_more name writes w ∙ ap (λ xs. file
 
 -- no file was written, and the write brought none anything
 pub asks_in_vain : (files : List Held) (name bytes : List ℕ) (fault : FolderFault) → HaveBesides files (record { name = name; bytes = bytes; refused = Some fault }) files
-asks_in_vain files name bytes fault writes has =
-    let w : FileWrite = record { name = name; bytes = bytes; refused = Some fault } in
-    let same : (other : List ℕ) → file_of other (writes ++ w ∷ []) ≡ file_of other writes = λ other. file_of_same other writes w refl in
-    record {
-      each = λ place file got. subst (λ xs. HasWritten file xs) (sym (same file.name)) (has.each place file got);
-      apart = has.apart;
-      others = λ other none. same other ∙ has.others other none;
-    }
+asks_in_vain files name bytes fault = grind (arith, nat_tests, file_of_same)
 
 -- a file that has no bytes yet is there besides
 pub one_file_more : (files : List Held) (file : Held) (writes : List FileWrite) → file.bytes ≡ Some [] → IsNotAmong files file.name → FilesHave files writes
@@ -105,21 +93,13 @@ one_file_more files file writes empty none has = record {
 
 module _ (files : List Held) (place : ℕ) (old new : Held) (w : FileWrite) (got : slice_get files place ≡ Some old) (named : new.name ≡ old.name) (whose : w.name ≡ old.name) where
   named_as : (q : ℕ) (f : Held) → slice_get (slice_set files place new) q ≡ Some f → (g : Held) × ((slice_get files q ≡ Some g) × (g.name ≡ f.name))
-  named_as q f g =
-      ⊎_elim (λ h. (old, (subst (λ n. slice_get files n ≡ Some old) (sym h.0) got, sym named ∙ ap (λ (x : Held). x.name) h.1))) (λ h. (f, (h.1, refl)))
-      (set_cases files place q new f g)
+  named_as q f g = grind (arith, nat_tests, set_cases)
 
   got_new : slice_get (slice_set files place new) place ≡ Some new
   got_new = got_set files place new (slice_get_within files place old got)
 
   not_before : (name : List ℕ) → IsNotAmong (slice_set files place new) name → IsNotAmong files name
-  not_before name none q f gq e =
-      ⊎_elim
-      (λ h.
-      let is : old ≡ f = cc (got, subst (λ n. slice_get files n ≡ Some f) h gq) in
-      none place new got_new (named ∙ ap (λ (x : Held). x.name) is ∙ e))
-      (λ h. none q f (got_other files place q new h ∙ gq) e)
-      (same_place q place)
+  not_before name none = grind (arith, nat_tests, got_new, got_other, same_place)
 
   -- one file has what the write brought it
   pub one_file_has : ((bytes : List ℕ) → HasWritten old bytes → HasWritten new (bytes ++ brought_to old.name w)) → HaveBesides files w (slice_set files place new)
@@ -143,9 +123,7 @@ module _ (files : List Held) (place : ℕ) (old new : Held) (w : FileWrite) (got
 appended : (a b : Option (List ℕ)) (xs bytes : List ℕ) → a ≡ Some xs → Appends a b bytes → b ≡ Some (xs ++ bytes)
 appended None b xs bytes e h = absurd (cc (e))
 appended (Some ys) None xs bytes e h = elim h [ ]
-appended (Some ys) (Some zs) xs bytes e h =
-    let same : ys ≡ xs = cc (e) in
-    ap Some (h ∙ ap (λ front. front ++ bytes) same)
+appended (Some ys) (Some zs) xs bytes e h = grind (arith, nat_tests)
 
 kept_bytes : (a b : Option (List ℕ)) (xs : List ℕ) → a ≡ Some xs → Keeps a b → b ≡ Some xs
 kept_bytes None b xs e h = absurd (cc (e))
@@ -154,31 +132,14 @@ kept_bytes (Some ys) (Some zs) xs e h = ap Some h ∙ e
 
 -- a file that is whole now was whole before, where a broken one stays as it is
 was_whole : (old new : Held) → (old.broken ≡ true → new ≡ old) → new.broken ≡ false → old.broken ≡ false
-was_whole old new stays whole = go old.broken refl where
-  go : (b : Bool) → old.broken ≡ b → old.broken ≡ false
-  go false e = e
-  go true e = absurd (cc (whole, e, ap (λ (x : Held). x.broken) (stays e)))
+was_whole old new stays whole = grind (arith, nat_tests)
 
 pub has_more : (old new : Held) (name bytes xs : List ℕ) → name ≡ old.name → Appends old.bytes new.bytes bytes → new.broken ≡ false → (old.broken ≡ true → new ≡ old)
     → HasWritten old xs → HasWritten new (xs ++ brought_to old.name (record { name = name; bytes = bytes; refused = None }))
-has_more old new name bytes xs named more whole stays has =
-    let none : has.more ≡ [] = has.whole (was_whole old new stays whole) in
-    let before : old.bytes ≡ Some xs = has.has ∙ ap (λ ys. Some (xs ++ ys)) none ∙ ap Some (append-nil xs) in
-    record {
-      more = [];
-      has = appended old.bytes new.bytes xs bytes before more ∙ ap (λ ys. Some (xs ++ ys)) (sym (brought_whole name old.name bytes named)) ∙ ap Some (sym (append-nil _));
-      whole = λ _. refl;
-    }
+has_more old new name bytes xs named more whole stays has = grind (arith, nat_tests, was_whole, append-nil, appended, brought_whole)
 
 has_same : (old new : Held) (xs : List ℕ) → Keeps old.bytes new.bytes → new.broken ≡ false → (old.broken ≡ true → new ≡ old) → HasWritten old xs → HasWritten new (xs ++ [])
-has_same old new xs keeps whole stays has =
-    let none : has.more ≡ [] = has.whole (was_whole old new stays whole) in
-    let before : old.bytes ≡ Some xs = has.has ∙ ap (λ ys. Some (xs ++ ys)) none ∙ ap Some (append-nil xs) in
-    record {
-      more = [];
-      has = kept_bytes old.bytes new.bytes xs before keeps ∙ ap Some (sym (append-nil xs) ∙ sym (append-nil (xs ++ [])));
-      whole = λ _. refl;
-    }
+has_same old new xs keeps whole stays has = grind (arith, nat_tests, was_whole, append-nil, kept_bytes)
 
 has_broken : (old new : Held) (xs : List ℕ) → KeepsInFront old.bytes new.bytes → new.broken ≡ true → HasWritten old xs → HasWritten new (xs ++ [])
 has_broken old new xs goes broken has = record {
@@ -190,11 +151,4 @@ has_broken old new xs goes broken has = record {
 
 pub has_left : (old new : Held) (name bytes xs : List ℕ) (fault : FolderFault) → LeavesFile old new fault → (old.broken ≡ true → new ≡ old) → HasWritten old xs
     → HasWritten new (xs ++ brought_to old.name (record { name = name; bytes = bytes; refused = Some fault }))
-has_left old new name bytes xs (Write code) leaves stays has = has_same old new xs leaves.0 leaves.1 stays has
-has_left old new name bytes xs Memory leaves stays has = has_same old new xs leaves.0 leaves.1 stays has
-has_left old new name bytes xs Cut leaves stays has = has_broken old new xs leaves.0 leaves.1 has
-has_left old new name bytes xs Read leaves stays has = elim leaves [ ]
-has_left old new name bytes xs NotEmpty leaves stays has = elim leaves [ ]
-has_left old new name bytes xs (Metadata fault) leaves stays has = elim leaves [ ]
-has_left old new name bytes xs (Packet cpu fault) leaves stays has = elim leaves [ ]
-has_left old new name bytes xs (Cpu cpu) leaves stays has = elim leaves [ ]
+has_left = grind (arith, nat_tests, has_same, has_broken)

@@ -15,5 +15,5 @@ pub use Rattle.dspec_ctf_sink.specs.Writing.{AddsPacket, AreNextOf, CountsLost, 
 pub use Rattle.dspec_ctf_sink.specs.contracts.asked.FolderAsked.{the_row, the_type}
 pub use Rattle.dspec_ctf_sink.specs.contracts.asked.FolderAsked.none.Key.{name as #self}
 pub use Rattle.dspec_ctf_sink.specs.declared.fault.FolderFault.{FolderFault}
-pub use Rattle.dspec_ctf_sink.specs.declared.fault.FolderFault.TheVariants.{Cpu, Cut, Memory, Metadata, NotEmpty, Packet, Read, Write}
+pub use Rattle.dspec_ctf_sink.specs.declared.fault.FolderFault.TheVariants.{Cpu, Packet}
 pub use Rattle.dspec_ctf_sink.specs.declared.losing.Loss.{Loss}

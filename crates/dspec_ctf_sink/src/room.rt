@@ -12,7 +12,7 @@ use std::os::fd::AsRawFd;
 /// What is kept for a CPU: a page of the disk, of which its last packets take half at most.
 const PAGE: [u8; 4096] = [0; 4096];
 
-/// KeptRoom on the disk of a folder, kept by a hidden file in it, `.room`, which tools pass over. Where it is given back right before `tell_untold`, a trace
+/// Room on the disk of a folder, kept by a hidden file in it, `.room`, which tools pass over. Where it is given back right before `tell_untold`, a trace
 /// tells what it couldn't write on a disk that is full by then. The file stays where nobody gives it back.
 #[must_use]
 #[derive(Drop)]

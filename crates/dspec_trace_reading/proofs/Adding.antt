@@ -1,5 +1,6 @@
 -- What a trace missed of all CPUs together are the drops of its batches and the records that it answers as lost, as far as 64 bits count.
-use Rattle.std.proofs.Common.{◌≡◌, ◌≢◌, ◌<◌, ◌≤◌, ◌+◌, ◌^◌, ◌⊎◌, inl, inr, ℕ, List, [], ◌∷◌, Option, Some, None, ap, subst, arith}
+use Rattle.std.proofs.lemmas.Bool.Decides.{nat_tests}
+use Rattle.std.proofs.Common.{◌≡◌, ◌≢◌, ◌<◌, ◌≤◌, ◌+◌, ◌^◌, ◌⊎◌, ℕ, List, [], ◌∷◌, Option, Some, None, ap, subst, arith}
 use Rattle.dspec_trace_reading.specs.Words.{AreFrom, GotAll, Passed, passed_from, lost_more, HaveNumbers, drops_carried, lost_of, lost_records}
 use Rattle.dspec_ring.specs.declared.batch.Batch.{Batch}
 use Rattle.dspec_ctf_sink.specs.declared.losing.Loss.{Loss}
@@ -23,10 +24,7 @@ one_loss None loss few = omega arith
 one_loss (Some first) loss few = omega (arith, few)
 
 answered : (lost now : Option Loss) (records : ℕ) → LosesMore lost records now → lost_records lost + records + 1 < 2 ^ 64 → lost_records now ≡ lost_records lost + records
-answered lost now records (inl (none, same)) few = let is : lost_records now ≡ lost_records lost = ap lost_records same in omega (arith, is, none)
-answered lost now records (inr (loss, so_many, is)) few =
-    let sum : lost_records now ≡ lost_records (lost_more lost loss) = ap lost_records is in
-    omega (arith, sum, so_many, one_loss lost loss (omega (arith, few, so_many)))
+answered = grind (arith, nat_tests, one_loss)
 
 -- a trace of whatever kind, of so many CPUs at most: how many events of each it missed, and what it answers as lost
 module _ {T : Type 0} (gets : T → Batch → T → Type 0) (missed : T → ℕ → ℕ) (lost : T → Option Loss) (IsWide : T → Type 0) (most : ℕ)

@@ -1,5 +1,5 @@
 -- A trace that is written as batches are taken answers as many records as its CPUs lost.
-use Rattle.std.proofs.Common.{◌≡◌, ◌<◌, ◌≤◌, ◌+◌, ◌^◌, ℕ, inl, inr, List, [], Option, Some, refl, sym, ap, ◌∙◌, subst, arith, length, slice_get}
+use Rattle.std.proofs.Common.{◌≡◌, ◌<◌, ◌≤◌, ◌+◌, ◌^◌, ℕ, inl, inr, List, [], Some, refl, sym, ap, ◌∙◌, subst, arith, length, slice_get}
 use Rattle.dspec_trace_reading.specs.Words.{EnabledRows, AreFrom, GotAll, Passed, passed_from, GetsPacket, Tracing, missed_on, HaveNumbers, drops_carried, whole_loss, all_counted, lost_of}
 use Rattle.dspec_trace_reading.specs.Words.{lost_records, missed_in, BegunNew}
 use Rattle.dspec_ring.specs.declared.batch.Batch.{Batch}

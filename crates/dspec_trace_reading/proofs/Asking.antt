@@ -1,8 +1,9 @@
 -- What one batch asks of the folder, where nothing is lost.
-use Rattle.std.proofs.Common.{◌≡◌, ◌≢◌, ◌<◌, ◌+◌, ℕ, ◌⊎◌, inl, inr, List, [], ◌∷◌, ◌++◌, Option, Some, None, sym, ap, ◌∙◌, subst, length, length-set, slice_index}
+use Rattle.std.proofs.Common.{arith, ◌≡◌, ◌≢◌, ◌<◌, ◌+◌, ℕ, ◌⊎◌, List, [], ◌∷◌, ◌++◌, Option, Some, None, sym, ap, ◌∙◌, subst, length, length-set, slice_index}
+use Rattle.std.proofs.lemmas.Bool.Decides.{nat_tests}
 use Rattle.std.proofs.lemmas.List.{get_or-set_same, get_or-set_other}
 use Rattle.std.proofs.lemmas.Option.{slice_get_within, get_or_from_slice_get}
-use Rattle.dspec_trace_reading.specs.Words.{EnabledRows, Passed, GotAll, missed_on, lost_more, FileWrite, Takes, AddsPacket, GetsPacket, IsNothing, LosesPacket, Tracing}
+use Rattle.dspec_trace_reading.specs.Words.{EnabledRows, Passed, GotAll, missed_on, lost_more, FileWrite, Takes, AddsPacket, GetsPacket, IsNothing, Tracing}
 use Rattle.dspec_ring.specs.declared.batch.Batch.{Batch}
 use Rattle.dspec_ctf_sink.specs.declared.losing.Loss.{Loss}
 
@@ -11,9 +12,7 @@ pub took : (old new : Option (List FileWrite)) (was : List FileWrite) (name byte
     → new ≡ Some (was ++ record { name = name; bytes = bytes; refused = None } ∷ [])
 took None new was name bytes e takes = absurd (cc (e))
 took (Some xs) None was name bytes e takes = elim takes [ ]
-took (Some xs) (Some ys) was name bytes e takes =
-    let same : xs ≡ was = cc (e) in
-    ap Some (takes ∙ ap (λ zs. zs ++ record { name = name; bytes = bytes; refused = None } ∷ []) same)
+took (Some xs) (Some ys) was name bytes e takes = grind (arith, nat_tests)
 
 pub some_lost : (o : Option Loss) (l : Loss) → lost_more o l ≡ None → ⊥
 some_lost None l e = absurd (cc (e))
@@ -22,19 +21,11 @@ some_lost (Some first) l e = absurd (cc (e))
 module _ (e : EnabledRows) where
   -- nothing was to be written of the batch, or its packet was taken
   pub came_whole : (old new : Tracing) (b : Batch) → GetsPacket e old b new → new.lost ≡ None → (IsNothing old b × (new ≡ record old { last = None })) ⊎ AddsPacket e old b new
-  came_whole old new b gets none = go gets.came where
-    go : (IsNothing old b × (new ≡ record old { last = None })) ⊎ ((IsNothing old b → ⊥) × (AddsPacket e old b new ⊎ LosesPacket e old b new))
-        → (IsNothing old b × (new ≡ record old { last = None })) ⊎ AddsPacket e old b new
-    go (inl nothing) = inl nothing
-    go (inr (some, inl adds)) = inr adds
-    go (inr (some, inr loses)) = absurd (some_lost old.lost _ (sym loses.counted.lost ∙ none))
+  came_whole old new b gets none = grind (arith, nat_tests, some_lost)
 
   -- what was lost once stays lost
   lost_before : (old new : Tracing) (b : Batch) → GetsPacket e old b new → new.lost ≡ None → old.lost ≡ None
-  lost_before old new b gets none = go (came_whole old new b gets none) where
-    go : (IsNothing old b × (new ≡ record old { last = None })) ⊎ AddsPacket e old b new → old.lost ≡ None
-    go (inl nothing) = sym (ap (λ (t : Tracing). t.lost) nothing.1) ∙ none
-    go (inr adds) = sym adds.lost ∙ none
+  lost_before old new b gets none = grind (arith, nat_tests, came_whole)
 
   pub unlost : (bs : List Passed) (old new : Tracing) → GotAll (GetsPacket e) old bs new → new.lost ≡ None → old.lost ≡ None
   unlost [] old new got none = ap (λ (t : Tracing). t.lost) got ∙ none

@@ -1,5 +1,6 @@
 -- A folder in which the metadata was written, and no packet yet.
-use Rattle.std.proofs.Common.{◌≡◌, ◌∙◌, ℕ, zero, suc, List, [], ◌∷◌, ◌++◌, Some, None, refl, sym, ap, codes, replicate, slice_index}
+use Rattle.std.proofs.Common.{arith, ◌≡◌, ◌∙◌, ℕ, zero, suc, List, [], ◌∷◌, ◌++◌, Some, None, refl, sym, ap, codes, replicate, slice_index}
+use Rattle.std.proofs.lemmas.Bool.Decides.{nat_tests}
 use Rattle.dspec_trace_reading.specs.Words.{EnabledRows, origin_text, missed_on, FileWrite, file_of, Tracing, cpu_name, told_on, BegunNew}
 use Rattle.dspec_ctf.specs.declared.form.Form.TheVariants.{AsTaken}
 use Rattle.dspec_ctf.specs.declared.names.Names.{Names}
@@ -26,9 +27,7 @@ module _ (origin : Origin) (e : EnabledRows) (names : Names) (begun : Tracing) (
   asked = took (Some is.before) begun.written is.before (codes "metadata") (origin_text origin AsTaken e names) refl is.begins.written
 
   pub metadata_is : file_of (codes "metadata") begun_with ≡ origin_text origin AsTaken e names
-  metadata_is =
-      alone is.before (first origin e names) (codes "metadata") is.new metadata_named
-      ∙ brought_whole (codes "metadata") (codes "metadata") (origin_text origin AsTaken e names) refl
+  metadata_is = grind (arith, nat_tests, alone, metadata_named, brought_whole)
 
   pub nothing_yet : (c : ℕ) → file_of (cpu_name c) begun_with ≡ []
   nothing_yet c =

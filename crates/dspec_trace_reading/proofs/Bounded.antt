@@ -1,5 +1,6 @@
 -- What a trace counts of a CPU as missed is no more than its batches' drops and its records, however many are lost.
-use Rattle.std.proofs.Common.{◌≡◌, ◌≢◌, ◌<◌, ◌≤◌, ◌+◌, ◌==◌, ℕ, Bool, true, false, if◌then◌else◌, inl, inr, List, [], ◌∷◌, refl, sym, ap, ◌∙◌, subst, arith, length, reverse}
+use Rattle.std.proofs.lemmas.Bool.Decides.{nat_tests}
+use Rattle.std.proofs.Common.{◌≡◌, ◌≢◌, ◌<◌, ◌≤◌, ◌+◌, ◌==◌, ℕ, Bool, true, false, if◌then◌else◌, inl, inr, List, [], ◌∷◌, refl, sym, ap, ◌∙◌, subst, arith, length}
 use Rattle.std.proofs.lemmas.List.{length-append}
 use Rattle.std.proofs.lemmas.Bool.{eqb-true, eqb-false}
 use Rattle.dspec_trace_reading.specs.Words.{Record, EnabledRows, Passed, GotAll, passed_from, missed_on, GetsPacket, Tracing, HaveNumbers, drops_carried}
@@ -13,13 +14,8 @@ module _ (e : EnabledRows) (c : ℕ) (low : c < 64) where
       → ((more : List Record) → length mid.missed ≡ 64 → Holds e (passed_from c xs) more → missed_on new c ≤ missed_on mid c + drops_carried (passed_from c xs) + length more)
       → Came e old x.batch mid → (q : Bool) → (x.from == c) ≡ q → Holds e (if q then x.batch ∷ passed_from c xs else passed_from c xs) rs
       → missed_on new c ≤ missed_on old c + drops_carried (if q then x.batch ∷ passed_from c xs else passed_from c xs) + length rs
-  next_bounded old mid new x xs rs wide own later (inl nothing) false is holds =
-      let same : missed_on mid c ≡ missed_on old c = ap (λ (t : Tracing). missed_on t c) nothing.1 in
-      omega (arith, same, later rs (ap (λ (t : Tracing). length t.missed) nothing.1 ∙ wide) holds)
-  next_bounded old mid new x xs rs wide own later (inl nothing) true is (ps, more, has, many, sum, holds) =
-      let same : missed_on mid c ≡ missed_on old c = ap (λ (t : Tracing). missed_on t c) nothing.1 in
-      let all : length rs ≡ length ps + length more = ap length sum ∙ length-append ps more in
-      omega (arith, same, all, later more (ap (λ (t : Tracing). length t.missed) nothing.1 ∙ wide) holds)
+  next_bounded old mid new x xs rs wide own later (inl nothing) false is holds = grind (arith, nat_tests)
+  next_bounded old mid new x xs rs wide own later (inl nothing) true is (ps, more, has, many, sum, holds) = grind (arith, nat_tests, length-append)
   next_bounded old mid new x xs rs wide own later (inr (some, inl adds)) false is holds =
       let apart : x.batch.cpu ≢ c = λ s. eqb-false x.from c is (sym own ∙ s) in
       omega (arith, missed_elsewhere e old mid x.batch adds wide c apart, later rs (stays_wide e old mid x.batch adds wide) holds)

@@ -1,16 +1,16 @@
 -- What a session promises of a folder that it was traced into, and of the sink beside it.
+use Rattle.std.proofs.lemmas.Bool.Decides.{nat_tests}
 use Rattle.std.proofs.Common.{◌≡◌, ◌<◌, ◌+◌, ℕ, Bool, List, [], ◌∷◌, ◌++◌, Option, Some, None, sym, ap, ◌∙◌, subst, arith, append_assoc, length, slice_get}
 use Rattle.std.proofs.lemmas.List.Elements.{All-append}
 use Rattle.std.proofs.lemmas.Option.{slice_get_within}
 use Rattle.dspec_trace_reading.specs.Words.{Record, EnabledRows, enabled, table_accepts, table_shape, table_text, start_fault, CallsMade, waiting, all_did, IsPromised, GotAll, Passed, passed_from}
-use Rattle.dspec_trace_reading.specs.Words.{AreFrom, IsKept, IsOneListWith, IsTelling, TellsUntold, untold, FileWrite, HaveNumbers, drops_carried, missed_in, BothGet, RanInto, FolderTrace}
+use Rattle.dspec_trace_reading.specs.Words.{AreFrom, IsKept, IsOneListWith, IsTelling, TellsUntold, untold, HaveNumbers, drops_carried, missed_in, BothGet, RanInto}
 use Rattle.dspec_record.specs.declared.field.Shape.{Shape}
 use Rattle.dspec_deeds.specs.declared.config.Config.{Config}
 use Rattle.dspec_deeds.proofs.SetUp.{most_cpus}
 use Rattle.dspec_ring.specs.declared.batch.Batch.{Batch}
 use Rattle.dspec_session_core.specs.declared.left.Left.{Left}
 use Rattle.dspec.proofs.Passing.{from_both, got_both}
-use Rattle.dspec_ctf_sink.specs.declared.losing.Loss.{Loss}
 use Rattle.dspec_trace_reading.proofs.Apart.{told_from}
 use Rattle.dspec_trace_reading.proofs.Counted.{accepted_reported, drops_reported}
 use Rattle.dspec_trace_reading.proofs.Folding.{Holds}
@@ -106,10 +106,7 @@ module _ {B K F : Type 0} (bgets : B → Batch → B → Type 0) (gets : K → B
       ∙ drops_reported shape accepts text k c one.1.deeds (one.1.own c) (one.1.worn c) (one.1.taken c) l one.1.closes.legal (one.1.closes.each c l at)
 
   missed : (c : ℕ) (l : Left) → slice_get left c ≡ Some l → drops_carried (passed_from c all_passed) ≡ missed_in l.report
-  missed c l at =
-      let end = ends c l at in
-      let all = ap drops_carried end.2 ∙ drops_more (passed_from c one.0.passed) end.0 in
-      omega (arith, all, end.1.tells, dropped c l at)
+  missed c l at = grind (arith, nat_tests, ends, drops_more, dropped)
 
   low : start_fault k ≡ None → (c : ℕ) (l : Left) → slice_get left c ≡ Some l → c < 64
   low start c l at = omega (arith, slice_get_within left c l at, one.1.closes.all, most_cpus k start)

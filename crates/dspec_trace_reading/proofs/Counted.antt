@@ -1,8 +1,9 @@
 -- What a CPU's batches carry as drops, and how many records came out of it, is what its report counts.
-use Rattle.std.proofs.Common.{◌≡◌, ◌+◌, ◌==◌, ◌&&◌, ℕ, Bool, true, false, if◌then◌else◌, List, [], ◌∷◌, ◌++◌, Option, refl, sym, ap, ◌∙◌, subst, arith, length, reverse, append_assoc}
+use Rattle.std.proofs.lemmas.Bool.Decides.{nat_tests}
+use Rattle.std.proofs.Common.{◌≡◌, ◌+◌, ◌&&◌, ℕ, Bool, true, false, List, [], ◌∷◌, ◌++◌, Option, refl, sym, ap, ◌∙◌, arith, length, reverse, append_assoc}
 use Rattle.std.proofs.lemmas.List.{length-reverse, reverse-append}
 use Rattle.dspec_trace_reading.specs.Words.{Record, CallsMade, waiting, IsPromised, left_batches, drops_carried, Did, HandedRecord, cpu_stream, handed, number, of, taken, Speculation, IsLegal}
-use Rattle.dspec_trace_reading.specs.Words.{IsOwn, batches, drops_of, growing, is_drop, one_if, part, total, AreSealed, IsLeftBy}
+use Rattle.dspec_trace_reading.specs.Words.{IsOwn, batches, drops_of, is_drop, one_if, part, total, AreSealed, IsLeftBy}
 use Rattle.dspec_record.specs.declared.field.Shape.{Shape}
 use Rattle.dspec_deeds.specs.declared.config.Config.{Config}
 use Rattle.dspec_deeds.specs.declared.calls.Actor.TheVariants.{Cpu}
@@ -27,10 +28,7 @@ module _ (shape : ℕ → Option Shape) (accepted : Record → Bool) (text : Rec
   -- batches that a list seals carry the drops between its Seals
   sealed_drops : (q : List Deed) (bs : List Batch) → IsOwn shape k c q → AreSealed shape accepted text k c q bs → drops_carried bs ≡ drops_of (batches c q)
   sealed_drops [] bs own none = ap drops_carried none
-  sealed_drops (Seal a ∷ q) bs own s =
-      let rest = sealed_drops q s.1 own.0 s.4 in
-      subst (λ xs. drops_carried xs ≡ drops_of (if c == a then growing c q ∷ batches c q else batches c q)) (sym s.2)
-      (subst (λ x. s.0.drops + drops_carried s.1 ≡ drops_of (if x then growing c q ∷ batches c q else batches c q)) (sym own.1) (omega (arith, s.3.drops, rest)))
+  sealed_drops (Seal a ∷ q) bs own s = grind (arith, nat_tests, sealed_drops q s.1 own.0 s.4)
   sealed_drops (d ∷ q) bs own s = sealed_drops q bs own.0 s
 
   -- with the last buffer they are all that the report counts
@@ -55,9 +53,7 @@ and_true true = refl
 and_true false = refl
 
 same_number : (os : List HandedRecord) → number (λ o. of taken o && true) os ≡ number (of taken) os
-same_number [] = refl
-same_number (o ∷ os) =
-    ap (λ b. number (λ o. of taken o && true) os + (if b then 1 else 0)) (and_true (of taken o)) ∙ ap (λ n. n + (if of taken o then 1 else 0)) (same_number os)
+same_number os = grind (arith, nat_tests, and_true)
 
 -- as many records came out as the report counts as accepted
 pub accepted_reported : (shape : ℕ → Option Shape) (accepted : Record → Bool) (text : Record → List ℕ) (cpus : ℕ) (all : ℕ → List Did) (c : ℕ) (calls : CallsMade)

@@ -1,6 +1,6 @@
 -- A CPU's files by time: what they tell, and what one batch brings to them.
-use Rattle.std.proofs.Common.{◌≡◌, ◌<◌, ◌≤◌, ◌-◌, ◌^◌, ◌==◌, ◌++◌, inl, inr, ℕ, Bool, true, false, cond, List, [], ◌∷◌, Option, Some, refl, ap, sym, subst, ◌∙◌, arith}
-use Rattle.std.proofs.Common.{length, length-append, map, All}
+use Rattle.std.proofs.lemmas.Bool.Decides.{nat_tests}
+use Rattle.std.proofs.Common.{◌≡◌, ◌<◌, ◌≤◌, ◌-◌, ◌^◌, ◌==◌, ◌++◌, inl, inr, ℕ, Bool, true, false, cond, List, [], ◌∷◌, Option, Some, refl, ap, sym, subst, ◌∙◌, arith, length, length-append, map, All}
 use Rattle.std.specs.Prelude.{slice_index, slice_range}
 use Rattle.std.specs.List.{flat_map}
 use Rattle.std.proofs.lemmas.Bool.{eqb-true, eqb-false, ne_eqb}
@@ -108,24 +108,11 @@ module _ (laws : FilesLaws) (uuid : List ℕ) (e : EnabledRows) (names : Names) 
   -- the packets of all runs of a batch
   pub add : (mid new : Option (List FileWrite)) (lasts after : List ℕ) (missed : ℕ) (stream read : List Record) → missed < 2 ^ 64 → All (Accepts e) read
       → Filed uuid e names hertz c mid lasts missed stream → AddsAll uuid e missed c read 0 lasts mid after new → Filed uuid e names hertz c new after missed (stream ++ read)
-  add mid new lasts after missed stream read small accepted f adds =
-      subst (λ rs. Filed uuid e names hertz c new after missed (stream ++ rs)) (take_all (length read - 0) read (omega arith))
-      (add_to mid new lasts after missed stream read adds.runs (length read) small accepted f adds.are_runs adds.taken)
+  add mid new lasts after missed stream read small accepted f adds = grind (arith, nat_tests, take_all, add_to)
 
 -- what is known of a CPU's files stays, where nothing was brought to them
 pub still_filed : (uuid : List ℕ) (e : EnabledRows) (names : Names) (hertz c : ℕ) (old new : Option (List FileWrite)) (lasts after : List ℕ) (told : ℕ) (stream : List Record)
     (f : Filed uuid e names hertz c old lasts told stream) (next : List FileWrite) → new ≡ Some next
     → ((file : ℕ) → file < 64 → file_of (row_name c file) next ≡ file_of (row_name c file) f.writes) → length after ≤ 64 → slice_index after 0 < 2 ^ 64
     → Filed uuid e names hertz c new after told stream
-still_filed uuid e names hertz c old new lasts after told stream f next asked same few first = record {
-  writes = next;
-  asked = asked;
-  few = few;
-  first = first;
-  files = f.files;
-  each = f.each;
-  below = f.below;
-  tells = λ file is.
-      subst (λ xs. FileTells (layout_of e names (ByTime hertz)) uuid c xs (map (event_of e names (ByTime hertz)) (of_file file f.files stream)) (told_by file told)) (sym (same file is))
-      (f.tells file is);
-}
+still_filed uuid e names hertz c old new lasts after told stream f next asked same few first = grind (arith, nat_tests)

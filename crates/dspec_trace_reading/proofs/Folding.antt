@@ -1,6 +1,6 @@
 -- What all batches of a session bring to one CPU's file, where nothing is lost.
 use Rattle.std.proofs.Common.{◌≡◌, ◌≢◌, ◌<◌, ◌≤◌, ◌+◌, ◌==◌, ℕ, Bool, true, false, if◌then◌else◌, ◌⊎◌, inl, inr, List}
-use Rattle.std.proofs.Common.{[], ◌∷◌, ◌++◌, Some, None, refl, sym, ap, ◌∙◌, subst, arith, length, All, codes, append_assoc, slice_index}
+use Rattle.std.proofs.Common.{[], ◌∷◌, ◌++◌, Some, None, refl, sym, ap, ◌∙◌, subst, arith, length, All, append_assoc, slice_index}
 use Rattle.std.specs.List.{flat_map}
 use Rattle.std.proofs.lemmas.List.{append-nil}
 use Rattle.std.proofs.lemmas.List.Elements.{All-cons, All-nil}
@@ -13,7 +13,7 @@ use Rattle.dspec_buffer.proofs.OneReading.{one_reading}
 use Rattle.dspec_ring.specs.declared.batch.Batch.{Batch}
 use Rattle.dspec_ctf_sink.proofs.Written.{brought_elsewhere, brought_whole, file_of_more}
 use Rattle.dspec_filing_reading.proofs.Fronts.{all_accepted}
-use Rattle.dspec_trace_reading.proofs.Naming.{names_differ, not_metadata}
+use Rattle.dspec_trace_reading.proofs.Naming.{names_differ}
 use Rattle.dspec_trace_reading.proofs.Asking.{came_whole, few, missed_before, missed_elsewhere, missed_here, stays_wide, took, unlost}
 
 -- what the last packet tells, and this number where there is none

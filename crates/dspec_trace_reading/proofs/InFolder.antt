@@ -1,10 +1,10 @@
 -- What is read of a folder into which a session was traced by one call.
+use Rattle.std.proofs.lemmas.Bool.Decides.{nat_tests}
 use Rattle.std.proofs.Common.{◌≡◌, ◌<◌, ◌≤◌, ◌+◌, ◌-◌, ◌^◌, ℕ, List, [], ◌∷◌, ◌++◌, ◌⊎◌, inl, inr, Option, Some, None, sym, ap, ◌∙◌, subst, arith, length, map, slice_get, codes}
-use Rattle.std.specs.Option.{option_map_or}
 use Rattle.dspec_trace_reading.specs.Words.{Record, EnabledRows, enabled, table_accepts, table_shape, table_text, start_fault, CallsMade, passed_from, IsBare, FileTells, event_of, layout_of}
 use Rattle.dspec_trace_reading.specs.Words.{HasNumbers, FileWrite, file_of, GetsPacket, Tracing, cpu_name, missed_on, AreKept, ReadsKept, ReadsPart, drops_carried, told_on, IsBegunTrace, IsInFolder}
-use Rattle.dspec_trace_reading.specs.Words.{missed_in, IsOfTrace, RanBegun, written_in, FolderTrace, ToFolderFault, Begun, Ran, HasOriginNumbers, AreCountable, AreNamesOf, labels_at, ticks_of}
-use Rattle.dspec_trace_reading.specs.Words.{TellsProgram, all_counted, lost_of, lost_records, made_at, BegunNew}
+use Rattle.dspec_trace_reading.specs.Words.{missed_in, IsOfTrace, RanBegun, written_in, FolderTrace, ToFolderFault, Begun, Ran, HasOriginNumbers, AreCountable, AreNamesOf, ticks_of, TellsProgram}
+use Rattle.dspec_trace_reading.specs.Words.{all_counted, lost_of, lost_records, made_at, BegunNew}
 use Rattle.dspec_ctf.specs.declared.form.Form.{Form}
 use Rattle.dspec_ctf.specs.declared.names.Names.{Names}
 use Rattle.dspec_ctf.specs.declared.names.Names.TheVariants.{Numbered, Given}
@@ -43,18 +43,7 @@ kept_before e (x ∷ bs) b kept lost bare (rs, more, rest, text, later, which) =
 pub all_numbers : (origin : Origin) (form : Form) (e : EnabledRows) (ps : List ProbeNames) (names : Names) → HasOriginNumbers origin → ticks_of form < 2 ^ 64 → AreNamesOf ps names
     → AreCountable e ps → HasNumbers origin form e names
 all_numbers origin form e ps Numbered told rate named few = absurd named
-all_numbers origin form e ps (Given ns) told rate named few = record {
-  uuid = told.uuid;
-  pid = told.pid;
-  frequency = rate;
-  clock = told.clock;
-  seconds = told.seconds;
-  ticks = told.ticks;
-  events = few.events;
-  fields = few.fields;
-  labels = λ epid place.
-      subst (λ xs. option_map_or (λ (n : ProbeNames). length (labels_at n place)) (slice_get xs (epid - 1)) 0 ≤ 2 ^ 64) (sym named) (few.labels (epid - 1) place);
-}
+all_numbers origin form e ps (Given ns) told rate named few = grind (arith, nat_tests)
 
 module _ (metadata : MetadataReads) (files : FilesRead) {K : Type 0} (gets : K → Batch → K → Type 0) (does : ℕ → CallsMade → CallsMade → Type 0) (e : EnabledRows)
     (ps : List ProbeNames) (path name : List ℕ) (k : Config) (old new : K) (left : List Left) (begun ended : Tracing) (uuid : List ℕ) (is : IsBegunTrace e ps path name uuid begun)

@@ -1,6 +1,6 @@
 -- What all batches of a session bring to one CPU's file, where some may be lost.
 use Rattle.std.proofs.Common.{◌≡◌, ◌≢◌, ◌<◌, ◌≤◌, ◌+◌, ◌^◌, ◌==◌, ℕ, Bool, true, false, if◌then◌else◌, ◌⊎◌, inl, inr, List, [], ◌∷◌, ◌++◌, Some, None}
-use Rattle.std.proofs.Common.{refl, sym, ap, ◌∙◌, subst, arith, length, length-set, All, codes, append_assoc, slice_index}
+use Rattle.std.proofs.Common.{refl, sym, ap, ◌∙◌, subst, arith, length, length-set, All, append_assoc, slice_index}
 use Rattle.std.specs.List.{flat_map}
 use Rattle.std.proofs.lemmas.List.{append-nil, get_or-set_same, get_or-set_other}
 use Rattle.std.proofs.lemmas.List.Elements.{All-cons, All-nil}
@@ -9,7 +9,7 @@ use Rattle.dspec_trace_reading.specs.Words.{Record, EnabledRows, Passed, GotAll,
 use Rattle.dspec_trace_reading.specs.Words.{GetsPacket, IsNothing, LosesPacket, Tracing, cpu_name, AreKept, HaveNumbers, drops_carried, told_on}
 use Rattle.dspec_ring.specs.declared.batch.Batch.{Batch}
 use Rattle.dspec_ctf_sink.proofs.Written.{brought_elsewhere, brought_whole, file_of_more}
-use Rattle.dspec_trace_reading.proofs.Naming.{names_differ, not_metadata}
+use Rattle.dspec_trace_reading.proofs.Naming.{names_differ}
 use Rattle.dspec_trace_reading.proofs.Asking.{few, missed_before, missed_elsewhere, missed_here, stays_wide, took}
 use Rattle.dspec_trace_reading.proofs.Losing.{files_stay, others_missed, own_missed, still_wide}
 use Rattle.dspec_trace_reading.proofs.Folding.{Holds, Stays, last_from, one_text}

@@ -1,7 +1,8 @@
 -- What one batch asks of the folder, where some may be lost.
-use Rattle.std.proofs.Common.{◌≡◌, ◌≢◌, ◌<◌, ◌≤◌, ◌+◌, ◌^◌, ℕ, inl, inr, List, [], ◌∷◌, ◌++◌, Option, Some, None, refl, sym, ap, ◌∙◌, subst, arith, length, length-set, slice_index}
+use Rattle.std.proofs.lemmas.Bool.Decides.{nat_tests}
+use Rattle.std.proofs.Common.{◌≡◌, ◌≢◌, ◌<◌, ◌≤◌, ◌+◌, ◌^◌, ℕ, inl, inr, List, [], ◌∷◌, ◌++◌, Option, Some, None, sym, ap, ◌∙◌, subst, arith, length, length-set, slice_index}
 use Rattle.std.proofs.lemmas.List.{append-nil, get_or-set_same, get_or-set_other}
-use Rattle.dspec_trace_reading.specs.Words.{Record, EnabledRows, IsText, missed_on, HasSoManyRecords, capped, FileWrite, Refuses, file_of, IsBatchFault, LosesPacket, Tracing, cpu_name}
+use Rattle.dspec_trace_reading.specs.Words.{Record, EnabledRows, IsText, missed_on, HasSoManyRecords, capped, FileWrite, Refuses, file_of, LosesPacket, Tracing}
 use Rattle.dspec_ring.specs.declared.batch.Batch.{Batch}
 use Rattle.dspec_ctf_sink.specs.declared.fault.FolderFault.{FolderFault}
 use Rattle.dspec_ctf_sink.proofs.Written.{file_of_more}
@@ -11,9 +12,7 @@ pub refused_there : (old new : Option (List FileWrite)) (was : List FileWrite) (
     → new ≡ Some (was ++ record { name = name; bytes = bytes; refused = Some fault } ∷ [])
 refused_there None new was name bytes fault e refuses = absurd (cc (e))
 refused_there (Some xs) None was name bytes fault e refuses = elim refuses.asked [ ]
-refused_there (Some xs) (Some ys) was name bytes fault e refuses =
-    let same : xs ≡ was = cc (e) in
-    ap Some (refuses.asked ∙ ap (λ zs. zs ++ record { name = name; bytes = bytes; refused = Some fault } ∷ []) same)
+refused_there (Some xs) (Some ys) was name bytes fault e refuses = grind (arith, nat_tests)
 
 -- so many are so many, where the cap isn't reached
 pub uncapped : (n : ℕ) → capped n + 1 < 2 ^ 64 → capped n ≡ n
@@ -23,17 +22,7 @@ module _ (e : EnabledRows) where
   -- every file stays where a batch is lost
   pub files_stay : (old new : Tracing) (b : Batch) (was : List FileWrite) → old.written ≡ Some was → LosesPacket e old b new
       → (next : List FileWrite) × ((new.written ≡ Some next) × ((name : List ℕ) → file_of name next ≡ file_of name was))
-  files_stay old new b was asked loses = go loses.why where
-    go : IsBatchFault e old b new.written loses.fault → (next : List FileWrite) × ((new.written ≡ Some next) × ((name : List ℕ) → file_of name next ≡ file_of name was))
-    go (inl none) = (was, (none.1 ∙ asked, λ name. refl))
-    go (inr refuses) =
-        let w : FileWrite = record { name = cpu_name b.cpu; bytes = refuses.bytes; refused = Some loses.fault } in (
-          was ++ w ∷ [],
-          (
-            refused_there old.written new.written was (cpu_name b.cpu) refuses.bytes loses.fault asked refuses.refused,
-            λ name. file_of_more name was w ∙ append-nil (file_of name was),
-          ),
-        )
+  files_stay old new b was asked loses = grind (arith, nat_tests, refused_there, file_of_more, append-nil)
 
   module _ (old new : Tracing) (b : Batch) (loses : LosesPacket e old b new) (wide : length old.missed ≡ 64) where
     pub still_wide : length new.missed ≡ 64

@@ -1,5 +1,6 @@
 -- Each CPU has a file of its own, and none is the metadata.
-use Rattle.std.proofs.Common.{◌≡◌, ◌≢◌, ◌<◌, ℕ, List, [], ap, arith, drop, slice_index, codes}
+use Rattle.std.proofs.lemmas.Bool.Decides.{nat_tests}
+use Rattle.std.proofs.Common.{◌≢◌, ◌<◌, ℕ, List, [], ap, arith, drop, codes}
 use Rattle.std.proofs.lemmas.Fmt.{decimal_injective}
 use Rattle.dspec_trace_reading.specs.Words.{cpu_name}
 
@@ -7,17 +8,11 @@ pub names_differ : (a b : ℕ) → a < 64 → b < 64 → a ≢ b → cpu_name a 
 names_differ a b few other apart e = apart (decimal_injective a b (omega (arith, few)) (omega (arith, other)) (ap (λ (xs : List ℕ). drop 4 xs) e))
 
 pub not_metadata : (a : ℕ) → cpu_name a ≢ codes "metadata"
-not_metadata a e =
-    let clash : 99 ≡ 109 = ap (λ (xs : List ℕ). slice_index xs 0) e in
-    omega (arith, clash)
+not_metadata a = grind (arith, nat_tests)
 
 -- each has a name
 pub cpu_named : (a : ℕ) → cpu_name a ≢ []
-cpu_named a e =
-    let clash : 99 ≡ 0 = ap (λ (xs : List ℕ). slice_index xs 0) e in
-    omega (arith, clash)
+cpu_named a = grind (arith, nat_tests)
 
 pub metadata_named : codes "metadata" ≢ []
-metadata_named e =
-    let clash : 109 ≡ 0 = ap (λ (xs : List ℕ). slice_index xs 0) e in
-    omega (arith, clash)
+metadata_named = grind (arith, nat_tests)

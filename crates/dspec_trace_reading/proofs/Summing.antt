@@ -1,5 +1,6 @@
 -- Sums over the first CPUs, by a number of each.
-use Rattle.std.proofs.Common.{◌≡◌, ◌<◌, ◌≤◌, ◌+◌, ℕ, zero, suc, ◌⊎◌, inl, inr, List, [], ◌∷◌, Some, refl, sym, subst, arith, length, slice_get}
+use Rattle.std.proofs.lemmas.Bool.Decides.{nat_tests}
+use Rattle.std.proofs.Common.{◌≡◌, ◌<◌, ◌≤◌, ◌+◌, ℕ, zero, suc, inl, inr, List, [], ◌∷◌, Some, refl, sym, subst, arith, length, slice_get}
 use Rattle.std.proofs.lemmas.Bool.{cases_eq, cases_lt}
 use Rattle.dspec_session_core.specs.declared.left.Left.{Left}
 use Rattle.dspec_trace_reading.specs.Words.{all_counted, lost_of, missed_in}
@@ -19,10 +20,7 @@ same_of f g zero each = refl
 same_of f g (suc n) each = omega (arith, each n (omega arith), same_of f g n (λ c lt. each c (omega arith)))
 
 one_last : (f g : ℕ → ℕ) (i k n : ℕ) → i ≡ n → g i ≡ f i + k → ((c : ℕ) → (i ≡ c → ⊥) → g c ≡ f c) → lost_of g (suc n) ≡ lost_of f (suc n) + k
-one_last f g i k n same here others =
-    let top : g n ≡ f n + k = subst (λ c. g c ≡ f c + k) same here in
-    let below : lost_of g n ≡ lost_of f n = same_of f g n (λ c lt. others c (λ is. absurd (omega (arith, is, same, lt)))) in
-    omega (arith, top, below)
+one_last f g i k n same here others = grind (arith, nat_tests, same_of)
 
 -- one of them has so many more, and the others as many
 pub one_more : (f g : ℕ → ℕ) (i k n : ℕ) → i < n → g i ≡ f i + k → ((c : ℕ) → (i ≡ c → ⊥) → g c ≡ f c) → lost_of g n ≡ lost_of f n + k
@@ -42,9 +40,7 @@ within_of f i (suc n) low = elim (cases_eq i n) [
 
 -- those from some number on have none
 pub rest_none : (f : ℕ → ℕ) (n m : ℕ) → n ≤ m → ((c : ℕ) → n ≤ c → c < m → f c ≡ 0) → lost_of f m ≡ lost_of f n
-rest_none f n zero few none =
-    let same : zero ≡ n = omega (arith, few) in
-    subst (λ k. lost_of f zero ≡ lost_of f k) same refl
+rest_none f n zero few none = grind (arith, nat_tests)
 rest_none f n (suc m) few none = elim (cases_eq n (suc m)) [
   | inl same ↦ subst (λ k. lost_of f (suc m) ≡ lost_of f k) (sym same) refl
   | inr apart ↦
@@ -64,9 +60,7 @@ all_within (l ∷ ls) f each = omega (arith, each 0 l refl, first_of f (length l
 -- no report counts more than all
 pub one_within : (ls : List Left) (c : ℕ) (l : Left) → slice_get ls c ≡ Some l → l.report.accepted + missed_in l.report ≤ all_counted ls
 one_within [] c l at = absurd (cc (at))
-one_within (x ∷ ls) zero l at =
-    let same : x ≡ l = cc (at) in
-    subst (λ (y : Left). y.report.accepted + missed_in y.report ≤ all_counted (x ∷ ls)) same (omega arith)
+one_within (x ∷ ls) zero l at = grind (arith, nat_tests)
 one_within (x ∷ ls) (suc c) l at = omega (arith, one_within ls c l at)
 
 -- of CPUs that all have numbers below 64 there are no more

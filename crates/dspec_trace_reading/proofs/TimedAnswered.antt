@@ -1,5 +1,5 @@
 -- A trace that is written by time answers as many records as its CPUs lost.
-use Rattle.std.proofs.Common.{◌≡◌, ◌≢◌, ◌<◌, ◌≤◌, ◌+◌, ◌^◌, ℕ, inl, inr, List, [], Option, Some, refl, sym, ap, ◌∙◌, subst, arith, length, slice_get}
+use Rattle.std.proofs.Common.{◌≡◌, ◌≢◌, ◌<◌, ◌≤◌, ◌+◌, ◌^◌, ℕ, inl, inr, List, [], Some, refl, sym, ap, ◌∙◌, subst, arith, length, slice_get}
 use Rattle.dspec_trace_reading.specs.Words.{EnabledRows, AreFrom, GotAll, Passed, passed_from, GetsRuns, TimedTracing, HaveNumbers, drops_carried, missed_by_time, all_counted, lost_of, lost_records}
 use Rattle.dspec_trace_reading.specs.Words.{missed_in, TimedBegunNew}
 use Rattle.dspec_ring.specs.declared.batch.Batch.{Batch}

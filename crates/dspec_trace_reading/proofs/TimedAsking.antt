@@ -1,8 +1,9 @@
 -- What one batch asks of a folder by time, where nothing is lost.
-use Rattle.std.proofs.Common.{◌≡◌, ◌≢◌, ◌<◌, ◌+◌, ℕ, ◌⊎◌, inl, inr, List, [], ◌∷◌, ◌++◌, Some, None, get_or, sym, ap, ◌∙◌, subst, length, length-set, slice_index}
+use Rattle.std.proofs.Common.{arith, ◌≡◌, ◌≢◌, ◌<◌, ◌+◌, ℕ, List, [], ◌∷◌, ◌++◌, Some, None, get_or, sym, ap, ◌∙◌, subst, length, length-set, slice_index}
+use Rattle.std.proofs.lemmas.Bool.Decides.{nat_tests}
 use Rattle.std.proofs.lemmas.List.{get_or-set_same, get_or-set_other}
 use Rattle.std.proofs.lemmas.Option.{slice_get_within, get_or_from_slice_get}
-use Rattle.dspec_trace_reading.specs.Words.{EnabledRows, Passed, GotAll, run_packets, AddsBatch, ChangesFiles, CpuFiles, GetsRuns, HasFiles, LosesBatch, TimedTracing, row_name, FileWrite, file_of}
+use Rattle.dspec_trace_reading.specs.Words.{EnabledRows, Passed, GotAll, run_packets, AddsBatch, ChangesFiles, CpuFiles, GetsRuns, HasFiles, TimedTracing, row_name, FileWrite, file_of}
 use Rattle.dspec_trace_reading.specs.Words.{missed_by_time}
 use Rattle.dspec_ring.specs.declared.batch.Batch.{Batch}
 use Rattle.dspec_trace_reading.proofs.Asking.{some_lost}
@@ -15,9 +16,7 @@ lasts_of t c = get_or t.lasts c []
 -- what is known of the files of a batch's CPU, before it and behind it
 module _ (old new : TimedTracing) (b : Batch) (before : ℕ) (files after : CpuFiles) (has : HasFiles old b before files) (changes : ChangesFiles old b after new) where
   pub told_now : slice_index new.told b.cpu ≡ after.told
-  told_now =
-      ap (λ (xs : List ℕ). slice_index xs b.cpu) changes.told
-      ∙ get_or-set_same old.told b.cpu after.told 0 (slice_get_within old.told b.cpu files.told has.told)
+  told_now = grind (arith, nat_tests, get_or-set_same, slice_get_within)
 
   pub told_then : files.told ≡ slice_index old.told b.cpu
   told_then = sym (get_or_from_slice_get old.told b.cpu files.told 0 has.told)
@@ -26,9 +25,7 @@ module _ (old new : TimedTracing) (b : Batch) (before : ℕ) (files after : CpuF
   told_others c apart = ap (λ (xs : List ℕ). slice_index xs c) changes.told ∙ get_or-set_other old.told b.cpu c after.told 0 (λ s. apart (sym s))
 
   pub lasts_now : lasts_of new b.cpu ≡ after.lasts
-  lasts_now =
-      ap (λ (xs : List (List ℕ)). get_or xs b.cpu []) changes.lasts
-      ∙ get_or-set_same old.lasts b.cpu after.lasts [] (slice_get_within old.lasts b.cpu files.lasts has.lasts)
+  lasts_now = grind (arith, nat_tests, get_or-set_same, slice_get_within)
 
   pub lasts_then : files.lasts ≡ lasts_of old b.cpu
   lasts_then = sym (get_or_from_slice_get old.lasts b.cpu files.lasts [] has.lasts)
@@ -42,16 +39,11 @@ module _ (old new : TimedTracing) (b : Batch) (before : ℕ) (files after : CpuF
 module _ (e : EnabledRows) where
   -- the batch was written whole
   pub came : (old new : TimedTracing) (b : Batch) → GetsRuns e old b new → new.lost ≡ None → AddsBatch e old b new
-  came old new b gets none = go gets.came where
-    go : AddsBatch e old b new ⊎ LosesBatch e old b new → AddsBatch e old b new
-    go (inl adds) = adds
-    go (inr loses) = absurd (some_lost old.lost loses.loss (sym loses.lost ∙ none))
+  came old new b gets none = grind (arith, nat_tests, some_lost)
 
   pub none_before : (bs : List Passed) (old new : TimedTracing) → GotAll (GetsRuns e) old bs new → new.lost ≡ None → old.lost ≡ None
   none_before [] old new got none = ap (λ (t : TimedTracing). t.lost) got ∙ none
-  none_before (x ∷ xs) old new (mid, gets, rest) none =
-      let then = none_before xs mid new rest none in
-      sym (came old mid x.batch gets then).lost ∙ then
+  none_before (x ∷ xs) old new (mid, gets, rest) none = grind (arith, nat_tests, none_before xs mid new rest none, came)
 
   module _ (old new : TimedTracing) (b : Batch) (adds : AddsBatch e old b new) where
     -- what the place was asked for then

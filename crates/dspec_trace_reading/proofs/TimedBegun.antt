@@ -1,6 +1,5 @@
 -- A folder by time in which the metadata was written, and no packet yet.
-use Rattle.std.proofs.Common.{◌≡◌, ◌<◌, ◌≤◌, ◌^◌, ◌==◌, ◌∙◌, ◌++◌, ℕ, zero, suc, get_or, Option, List, [], ◌∷◌, Some, None, refl, sym, ap, subst, arith}
-use Rattle.std.proofs.Common.{length, codes, replicate, slice_index}
+use Rattle.std.proofs.Common.{◌≡◌, ◌<◌, ◌≤◌, ◌^◌, ◌==◌, ◌∙◌, ◌++◌, ℕ, zero, suc, get_or, Option, List, [], ◌∷◌, Some, None, refl, sym, ap, subst, arith, length, codes, replicate, slice_index}
 use Rattle.std.proofs.lemmas.List.Elements.{All-nil}
 use Rattle.dspec_trace_reading.specs.Words.{EnabledRows, origin_text, earlier, form_fault, metadata_fault, origin_fault, told_by, FileTells, layout_of, PacketRead, TimedTracing, row_name, FileWrite}
 use Rattle.dspec_trace_reading.specs.Words.{file_of, missed_by_time, TimedBegunNew}

@@ -1,5 +1,6 @@
 -- What a trace by time counts of a CPU as missed never falls, and is no more than its batches' drops and its records, however many are lost.
-use Rattle.std.proofs.Common.{◌≡◌, ◌≢◌, ◌<◌, ◌≤◌, ◌+◌, ◌^◌, ◌==◌, ℕ, Bool, true, false, if◌then◌else◌, List, [], ◌∷◌, refl, sym, ap, ◌∙◌, subst, arith, length, reverse}
+use Rattle.std.proofs.lemmas.Bool.Decides.{nat_tests}
+use Rattle.std.proofs.Common.{◌≡◌, ◌≢◌, ◌<◌, ◌≤◌, ◌+◌, ◌^◌, ◌==◌, ℕ, Bool, true, false, if◌then◌else◌, List, [], ◌∷◌, refl, sym, ◌∙◌, subst, arith, length}
 use Rattle.std.proofs.lemmas.List.{length-append}
 use Rattle.std.proofs.lemmas.Bool.{eqb-true, eqb-false}
 use Rattle.dspec_trace_reading.specs.Words.{Record, EnabledRows, Passed, GotAll, passed_from, GetsRuns, TimedTracing, HaveNumbers, drops_carried, missed_by_time}
@@ -29,13 +30,7 @@ module _ (e : EnabledRows) (c : ℕ) (low : c < 64) where
   next_bounded old mid new x xs rs wide own came later false is holds =
       let apart : x.batch.cpu ≢ c = λ s. eqb-false x.from c is (sym own ∙ s) in
       omega (arith, (leaves e old mid x.batch came).missed c apart, later rs holds)
-  next_bounded old mid new x xs rs wide own came later true is (ps, more, has, many, sum, holds) =
-      let here : x.batch.cpu ≡ c = own ∙ eqb-true x.from c is in
-      let all : length rs ≡ length ps + length more = ap length sum ∙ length-append ps more in
-      let few : missed_by_time mid c ≤ missed_by_time old c + x.batch.drops + length ps =
-      subst (λ n. n < 64 → missed_by_time mid n ≤ missed_by_time old n + x.batch.drops + length ps) here
-      (λ few. own_at_most e x.batch ps has (λ qs text. one_text e x.batch ps qs has text) old mid few wide came) low in
-      omega (arith, few, all, later more holds)
+  next_bounded old mid new x xs rs wide own came later true is (ps, more, has, many, sum, holds) = grind (arith, nat_tests, eqb-true, length-append, own_at_most, one_text)
 
   pub bounded : (bs : List Passed) (old new : TimedTracing) (rs : List Record) → GotAll (GetsRuns e) old bs new → length old.missed ≡ 64 → HaveNumbers bs → Holds e (passed_from c bs) rs
       → missed_by_time new c ≤ missed_by_time old c + drops_carried (passed_from c bs) + length rs

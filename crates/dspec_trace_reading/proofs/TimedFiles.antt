@@ -1,5 +1,6 @@
 -- What one batch brings to the files of its CPU by time, where some of it may be lost.
-use Rattle.std.proofs.Common.{◌≡◌, ◌<◌, ◌≤◌, ◌+◌, ◌^◌, ◌++◌, inl, inr, ℕ, List, [], ◌∷◌, Option, Some, refl, sym, subst, ◌∙◌, arith, length, All, slice_index}
+use Rattle.std.proofs.lemmas.Bool.Decides.{nat_tests}
+use Rattle.std.proofs.Common.{◌≡◌, ◌<◌, ◌≤◌, ◌+◌, ◌^◌, ◌++◌, inl, inr, ℕ, List, Option, Some, refl, sym, subst, ◌∙◌, arith, length, All, slice_index}
 use Rattle.std.specs.Prelude.{slice_range}
 use Rattle.std.proofs.lemmas.List.{append-nil}
 use Rattle.dspec_trace_reading.specs.Words.{Record, EnabledRows, AddsRuns, ChangesFiles, CpuFiles, FileWrite, file_of, HasFiles, IsNotTaken, LosesAll, LosesRest, RefusesRun, row_name, StopsRun}
@@ -26,12 +27,7 @@ unasked old new was asked same = (was, (same ∙ asked, λ name. refl))
 
 pub not_taken : (old new : Option (List FileWrite)) (was : List FileWrite) (name bytes : List ℕ) (fault : FolderFault) → old ≡ Some was → IsNotTaken old name bytes new fault
     → StaysSame new was
-not_taken old new was name bytes fault asked (inl same) = unasked old new was asked same.1
-not_taken old new was name bytes fault asked (inr refuses) =
-    let w : FileWrite = record { name = name; bytes = bytes; refused = Some fault } in (
-      was ++ w ∷ [],
-      (refused_there old new was name bytes fault asked refuses, λ any. file_of_more any was w ∙ append-nil (file_of any was)),
-    )
+not_taken = grind (arith, nat_tests, unasked, refused_there, file_of_more, append-nil)
 
 -- a run that isn't written
 module _ (uuid : List ℕ) (e : EnabledRows) (missed cpu : ℕ) (rs : List Record) (from : ℕ) (lasts : List ℕ) (old : Option (List FileWrite)) (after : List ℕ) (new : Option (List FileWrite))
@@ -43,10 +39,7 @@ module _ (uuid : List ℕ) (e : EnabledRows) (missed cpu : ℕ) (rs : List Recor
   ]
 
   pub stopped : (was : List FileWrite) → old ≡ Some was → StopsRun uuid e missed cpu rs from lasts old after new loss → StaysSame new was
-  stopped was asked s = elim s.why [
-    | inl n ↦ unasked old new was asked n.same
-    | inr r ↦ refused was asked r
-  ]
+  stopped was asked s = grind (arith, nat_tests, unasked, refused)
 
   pub stopped_lasts : FilesHaveAll → RunsHaveAll → length lasts ≤ 64 → slice_index lasts 0 < 2 ^ 64 → All (λ r. r.stamp < 2 ^ 64) rs
       → StopsRun uuid e missed cpu rs from lasts old after new loss → (length after ≤ 64) × (slice_index after 0 < 2 ^ 64)

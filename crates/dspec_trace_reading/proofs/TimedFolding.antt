@@ -1,10 +1,10 @@
 -- What all batches of a session bring to one CPU's files by time, where nothing is lost.
-use Rattle.std.proofs.Common.{◌≡◌, ◌≢◌, ◌<◌, ◌≤◌, ◌+◌, ◌^◌, ◌==◌, ℕ, Bool, true, false, if◌then◌else◌, List, [], ◌∷◌, ◌++◌, Some, None, refl, sym, ap, ◌∙◌, subst, arith}
-use Rattle.std.proofs.Common.{length, map, codes, append_assoc, slice_index}
+use Rattle.std.proofs.Common.{◌≡◌, ◌≢◌, ◌<◌, ◌≤◌, ◌+◌, ◌^◌, ◌==◌, ℕ, Bool, true, false, if◌then◌else◌, List, [], ◌∷◌, ◌++◌, None, refl, sym, ap, ◌∙◌, subst, arith}
+use Rattle.std.proofs.Common.{length, map, append_assoc, slice_index}
 use Rattle.std.proofs.lemmas.List.{append-nil}
 use Rattle.std.proofs.lemmas.Bool.{eqb-true, eqb-false}
-use Rattle.dspec_trace_reading.specs.Words.{Record, EnabledRows, Passed, GotAll, passed_from, of_file, told_by, FileTells, event_of, layout_of, AddsBatch, GetsRuns, TimedTracing, row_name}
-use Rattle.dspec_trace_reading.specs.Words.{FileWrite, file_of, HaveNumbers, drops_carried, missed_by_time}
+use Rattle.dspec_trace_reading.specs.Words.{Record, EnabledRows, Passed, GotAll, passed_from, of_file, told_by, FileTells, event_of, layout_of, AddsBatch, GetsRuns, TimedTracing, row_name, file_of}
+use Rattle.dspec_trace_reading.specs.Words.{HaveNumbers, drops_carried, missed_by_time}
 use Rattle.dspec_record.specs.declared.header.Header.TheVariants as header
 use Rattle.dspec_ring.specs.declared.batch.Batch.{Batch}
 use Rattle.dspec_ctf.specs.declared.form.Form.TheVariants.{ByTime}
@@ -12,7 +12,7 @@ use Rattle.dspec_ctf.specs.declared.names.Names.{Names}
 use Rattle.dspec_trace_reading.proofs.Filing.{Filed}
 use Rattle.dspec_filing_reading.proofs.FilesLaws.{FilesLaws}
 use Rattle.dspec_trace_reading.proofs.Folding.{Holds, one_text}
-use Rattle.dspec_trace_reading.proofs.RowNaming.{cpus_differ, row_not_metadata}
+use Rattle.dspec_trace_reading.proofs.RowNaming.{cpus_differ}
 use Rattle.dspec_trace_reading.proofs.TimedAsking.{asked_then, came, few, lasts_elsewhere, lasts_of, missed_before, missed_elsewhere, missed_here, none_before}
 use Rattle.dspec_trace_reading.proofs.TimedAsking.{stays_then, stays_wide, told_elsewhere, told_here, told_then, writes_then}
 use Rattle.dspec_trace_reading.proofs.TimedFiles.{all_added, filed_now, filed_then}

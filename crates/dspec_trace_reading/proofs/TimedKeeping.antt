@@ -1,6 +1,6 @@
 -- What all batches of a session bring to one CPU's files by time, where some of them may be lost.
-use Rattle.std.proofs.Common.{◌≡◌, ◌≢◌, ◌<◌, ◌≤◌, ◌+◌, ◌^◌, ◌==◌, ℕ, Bool, true, false, if◌then◌else◌, List, [], ◌∷◌, ◌++◌, Some, refl, sym, ap, ◌∙◌, subst, arith}
-use Rattle.std.proofs.Common.{length, codes, append_assoc, slice_index}
+use Rattle.std.proofs.lemmas.Bool.Decides.{nat_tests}
+use Rattle.std.proofs.Common.{◌≡◌, ◌≢◌, ◌<◌, ◌+◌, ◌^◌, ◌==◌, ℕ, Bool, true, false, if◌then◌else◌, List, [], ◌∷◌, ◌++◌, Some, refl, sym, ap, ◌∙◌, subst, arith, length, append_assoc}
 use Rattle.std.proofs.lemmas.List.{append-nil}
 use Rattle.std.proofs.lemmas.Bool.{eqb-true, eqb-false}
 use Rattle.dspec_trace_reading.specs.Words.{Record, EnabledRows, Passed, GotAll, passed_from, GetsRuns, TimedTracing, row_name, FileWrite, file_of, HaveNumbers, drops_carried, AreKeptInFront}
@@ -11,7 +11,7 @@ use Rattle.dspec_ctf.specs.declared.names.Names.{Names}
 use Rattle.dspec_trace_reading.proofs.Filing.{Filed, still_filed}
 use Rattle.dspec_filing_reading.proofs.FilesLaws.{FilesLaws}
 use Rattle.dspec_trace_reading.proofs.Folding.{Holds, one_text}
-use Rattle.dspec_trace_reading.proofs.RowNaming.{cpus_differ, row_not_metadata}
+use Rattle.dspec_trace_reading.proofs.RowNaming.{cpus_differ}
 use Rattle.dspec_trace_reading.proofs.TimedAsking.{lasts_of}
 use Rattle.dspec_trace_reading.proofs.TimedBounded.{rises}
 use Rattle.dspec_trace_reading.proofs.TimedFronts.{KeepsFront, StandsInPart, keeps}
@@ -42,18 +42,7 @@ module _ (laws : FilesLaws) (uuid : List ℕ) (e : EnabledRows) (names : Names) 
   -- a batch of another CPU changes nothing of it
   passes : (old new : TimedTracing) (b : Batch) (stream : List Record) → Leaves old b new → length old.missed ≡ 64 → b.cpu ≢ c → StandsInPart uuid e names hertz c old stream
       → StandsInPart uuid e names hertz c new stream
-  passes old new b stream l wide apart s =
-      let f = s.filed in
-      let told : slice_index old.told c ≡ slice_index new.told c = sym (l.told c apart) in
-      let lasts : lasts_of old c ≡ lasts_of new c = sym (l.lasts c apart) in
-      let next = l.files f.writes f.asked in
-      record {
-        told = omega (arith, told, l.missed c apart, s.told);
-        filed = subst (λ n. Filed uuid e names hertz c new.written (lasts_of new c) n stream) told
-            (still_filed uuid e names hertz c old.written new.written (lasts_of old c) (lasts_of new c) (slice_index old.told c) stream f next.0 next.1.0
-            (λ file is. next.1.1 (row_name c file) (λ there g. cpus_differ b.cpu c g file (omega (arith, there, wide)) low apart))
-            (subst (λ (xs : List ℕ). length xs ≤ 64) lasts f.few) (subst (λ (xs : List ℕ). slice_index xs 0 < 2 ^ 64) lasts f.first));
-      }
+  passes old new b stream l wide apart s = grind (arith, nat_tests, lasts_of, Filed, still_filed, cpus_differ)
 
   -- one of its own
   own_kept : (old new : TimedTracing) (b : Batch) (rs stream : List Record) → Holds e (b ∷ []) rs → old.uuid ≡ uuid → b.cpu ≡ c → length old.missed ≡ 64
@@ -89,13 +78,7 @@ module _ (laws : FilesLaws) (uuid : List ℕ) (e : EnabledRows) (names : Names) 
   pub all_kept : (bs : List Passed) (old new : TimedTracing) (stream rest : List Record) → GotAll (GetsRuns e) old bs new → old.uuid ≡ uuid → length old.missed ≡ 64
       → missed_by_time new c + 1 < 2 ^ 64 → HaveNumbers bs → Holds e (passed_from c bs) rest → StandsInPart uuid e names hertz c old stream
       → KeptByTime old new (passed_from c bs) stream
-  all_kept [] old new stream rest got u wide small own hold s = subst (λ t. KeptByTime old t [] stream) got (record {
-    kept = [];
-    lost = 0;
-    are_kept = (refl, refl);
-    counted = omega arith;
-    stands = subst (λ rs. StandsInPart uuid e names hertz c old rs) (sym (append-nil stream)) s;
-  })
+  all_kept [] old new stream rest got u wide small own hold s = grind (arith, nat_tests, StandsInPart, append-nil)
   all_kept (x ∷ xs) old new stream rest (mid, gets, after) u wide small (own, owns) hold s =
       let still = (leaves e old mid x.batch gets.came).wide ∙ wide in
       let below : missed_by_time mid c + 1 < 2 ^ 64 = omega (arith, rises e c low xs mid new after still small, small) in

@@ -1,5 +1,5 @@
 -- A folder that was written by time, of which some may be lost, and what is read of it.
-use Rattle.std.proofs.Common.{◌≡◌, ◌<◌, ◌+◌, ◌^◌, ℕ, List, [], ◌∷◌, Some, sym, ap, ◌∙◌, subst, arith, length, map, codes, slice_get}
+use Rattle.std.proofs.Common.{◌≡◌, ◌<◌, ◌+◌, ◌^◌, ℕ, List, [], Some, sym, ap, ◌∙◌, subst, arith, length, map, codes, slice_get}
 use Rattle.dspec_trace_reading.specs.Words.{Record, EnabledRows, Passed, GotAll, passed_from, origin_text, of_file, told_by, FileTells, event_of, layout_of, read_metadata, HasNumbers, GetsRuns}
 use Rattle.dspec_trace_reading.specs.Words.{TimedTracing, row_name, file_of, HaveNumbers, ReadsAllKeptByTime, ReadsKeptByTime, missed_by_time, told_by_time, path_of, TimedBegunNew}
 use Rattle.dspec_session_core.specs.declared.left.Left.{Left}

@@ -1,5 +1,5 @@
 -- A folder that was written by time, and what is read of it.
-use Rattle.std.proofs.Common.{◌≡◌, ◌<◌, ◌^◌, ℕ, List, [], ◌∷◌, Some, None, sym, ap, ◌∙◌, subst, arith, length, map, slice_get, codes}
+use Rattle.std.proofs.Common.{◌≡◌, ◌<◌, ◌^◌, ℕ, List, [], Some, None, sym, ap, ◌∙◌, subst, arith, length, map, slice_get, codes}
 use Rattle.dspec_trace_reading.specs.Words.{Record, EnabledRows, Passed, GotAll, passed_from, of_file, told_by, FileTells, event_of, layout_of, read_metadata, HasNumbers, GetsRuns, TimedTracing}
 use Rattle.dspec_trace_reading.specs.Words.{row_name, file_of, HaveNumbers, drops_carried, ReadsByTime, ReadsFiles, missed_by_time, TimedBegunNew}
 use Rattle.dspec_session_core.specs.declared.left.Left.{Left}

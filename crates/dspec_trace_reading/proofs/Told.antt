@@ -1,5 +1,5 @@
 -- What the end of a trace tells of each CPU comes behind the batches that its session passed on.
-use Rattle.std.proofs.Common.{◌≡◌, ◌<◌, ◌+◌, ◌==◌, ℕ, zero, suc, true, false, List, [], ◌∷◌, ◌++◌, Some, refl, ap, subst, arith, slice_get}
+use Rattle.std.proofs.Common.{◌≡◌, ◌<◌, ◌+◌, ◌==◌, ℕ, zero, suc, false, List, [], ◌∷◌, ◌++◌, Some, refl, arith, slice_get}
 use Rattle.std.proofs.lemmas.Bool.Decides.{nat_tests}
 use Rattle.dspec_trace_reading.specs.Words.{Record, EnabledRows, GotAll, Passed, passed_from, GetsTellings, IsBare, IsTelling, untold, HaveNumbers, drops_carried}
 use Rattle.dspec_ring.specs.declared.batch.Batch.{Batch}
@@ -29,14 +29,7 @@ module _ {K : Type 0} (gets : K → Batch → K → Type 0) where
   pub told_there : (c i d : ℕ) (ls : List Left) (x : Left) (k l : K) (t : GetsTellings gets c ls k l) → d ≡ c + i → slice_get ls i ≡ Some x
       → (b : Batch) × IsTelling d (untold x.report) b × (passed_from d (told_of c ls k l t) ≡ b ∷ [])
   told_there c i d [] x k l e on at = absurd (cc (at))
-  told_there c zero d (y ∷ ls) x k l (m, one, rest) on at =
-      let same : y ≡ x = cc (at) in
-      let here : c ≡ d = omega arith in
-      let is : (c == d) ≡ true = grind (arith, nat_tests) in (
-        one.batch,
-        subst (λ n. IsTelling n (untold x.report) one.batch) here (subst (λ (z : Left). IsTelling c (untold z.report) one.batch) same one.is),
-        rw is (ap (λ bs. one.batch ∷ bs) (told_above (c + 1) d ls m l rest (omega arith))),
-      )
+  told_there c zero d (y ∷ ls) x k l (m, one, rest) on at = grind (arith, nat_tests, told_above)
   told_there c (suc i) d (y ∷ ls) x k l (m, one, rest) on at =
       let apart : (c == d) ≡ false = grind (arith, nat_tests) in
       let later = told_there (c + 1) i d ls x m l rest (omega arith) at in
