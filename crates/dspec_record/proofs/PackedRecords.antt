@@ -1,7 +1,8 @@
 -- A packed record while it is made and while it is written: the masked words, the words in their places, and the text that they begin with.
 use Rattle.std.proofs.lemmas.Bool.Decides.{nat_tests}
-use Rattle.std.proofs.Common.{◌≡◌, ◌≤◌, ◌<◌, ◌+◌, ◌*◌, ◌/◌, ◌%◌, ◌^◌, ◌++◌, ℕ, suc, zero, All, List, [], ◌∷◌, length, take, drop, get_or, set, sym, ◌∙◌, ap, subst, arith}
-use Rattle.std.proofs.lemmas.List.{length-take-le, length-append, get_or-take, get_or-set_same, get_or-set_other, take_at, append_assoc}
+use Rattle.std.proofs.Common.{◌≡◌, ◌≤◌, ◌<◌, ◌+◌, ◌*◌, ◌/◌, ◌%◌, ◌^◌, ◌++◌, ℕ, suc, zero, All, List, [], ◌∷◌, length, take, get_or, set, refl, sym, ◌∙◌, ap, subst, arith}
+use Rattle.std.proofs.lemmas.List.{length-take-le, get_or-take, get_or-set_same, get_or-set_other, take_at, take-take, append_assoc}
+use Rattle.std.proofs.Math.Seq.{take-length}
 use Rattle.std.proofs.lemmas.Bool.{cases_lt}
 use Rattle.std.specs.Int.RustNames.{bit_and}
 use Rattle.dspec_record.specs.Words.{with_low, rounded_up, fields_start, layout, Record, little_endian, record_text, number_of_words, packed_record, words_in, bytes_of_words, masked_words, IsClean}
@@ -23,23 +24,37 @@ kept-masked ws ms kept n is masks room each =
     masked_words-is ws ms (take n kept) (omega (arith, is)) (length-take-le n kept room ∙ is)
     (λ i within. get_or-take n kept i 0 (omega (arith, is)) ∙ each i (omega (arith, is)))
 
--- a word that is written behind what stands before
-pub word-put : (at : ℕ) (out bytes rest : List ℕ) → at ≤ length out → length bytes ≡ 8 → take (at + 8) (take at out ++ (bytes ++ rest)) ≡ take at out ++ bytes
-word-put at out bytes rest room long = grind (arith, nat_tests, append_assoc, take_at, length-append, length-take-le)
-
--- one word more
-pub words-put : (at i place end : ℕ) (ws initial out new : List ℕ) → i < length ws → place ≡ at + 8 * i → end ≡ at + 8 * (i + 1)
+-- one word more, behind the first
+pub words-put : (at low i place end : ℕ) (ws initial out new : List ℕ) → 1 ≤ i → i < length ws → place ≡ at + 8 * i → end ≡ at + 8 * (i + 1)
     → take (place + 8) new ≡ take place out ++ little_endian 8 (get_or ws i 0)
-    → take (at + 8 * i) out ≡ take at initial ++ bytes_of_words (take i ws)
-    → take end new ≡ take at initial ++ bytes_of_words (take (i + 1) ws)
-words-put at i place end ws initial out new within at_word at_end put so_far = grind (arith, nat_tests, append_assoc, bytes_of_words-more)
+    → take (at + 8 * i) out ≡ take at initial ++ bytes_of_words (take i (with_low low ws))
+    → take end new ≡ take at initial ++ bytes_of_words (take (i + 1) (with_low low ws))
+words-put at low i place end [] initial out new past within at_word at_end put so_far = absurd (omega arith)
+words-put at low zero place end (w ∷ rest) initial out new past within at_word at_end put so_far = absurd (omega arith)
+words-put at low (suc i) place end (w ∷ rest) initial out new past within at_word at_end put so_far =
+    words-more at (suc i) place end ((w + low) ∷ rest) initial out new within at_word at_end put so_far
+  where
+    words-more : (at i place end : ℕ) (ws initial out new : List ℕ) → i < length ws → place ≡ at + 8 * i → end ≡ at + 8 * (i + 1)
+        → take (place + 8) new ≡ take place out ++ little_endian 8 (get_or ws i 0)
+        → take (at + 8 * i) out ≡ take at initial ++ bytes_of_words (take i ws)
+        → take end new ≡ take at initial ++ bytes_of_words (take (i + 1) ws)
+    words-more at i place end ws initial out new within at_word at_end put so_far = grind (arith, nat_tests, append_assoc, bytes_of_words-more)
 
--- the first word, and the others behind it
-pub all-put : (at low : ℕ) (ws out first new : List ℕ) → 0 < length ws
+-- all of them, behind what was written before
+pub all-put : (at low i : ℕ) (ws out first new : List ℕ) → i ≡ length ws → at ≤ length out
     → take (at + 8) first ≡ take at out ++ little_endian 8 (get_or ws 0 0 + low)
-    → take (at + 8 + 8 * length (drop 1 ws)) new ≡ take (at + 8) first ++ bytes_of_words (drop 1 ws)
+    → take (at + 8 * i) new ≡ take at first ++ bytes_of_words (take i (with_low low ws))
     → take (at + 8 * length ws) new ≡ take at out ++ bytes_of_words (with_low low ws)
-all-put = grind (arith, nat_tests, append_assoc)
+all-put at low i ws out first new all room begun put =
+    ap (λ k. take (at + 8 * k) new) (sym all) ∙ put ∙ ap (λ t. t ++ bytes_of_words (take i (with_low low ws))) kept
+    ∙ ap (λ k. take at out ++ bytes_of_words (take k (with_low low ws))) all ∙ ap (λ us. take at out ++ bytes_of_words us) (whole low ws)
+  where
+    kept : take at first ≡ take at out
+    kept = sym (take-take at (at + 8) first (omega arith)) ∙ ap (take at) begun ∙ take_at (take at out) (little_endian 8 (get_or ws 0 0 + low)) at (length-take-le at out room)
+
+    whole : (low : ℕ) (ws : List ℕ) → take (length ws) (with_low low ws) ≡ with_low low ws
+    whole low [] = refl
+    whole low (w ∷ ws) = ap (λ us. (w + low) ∷ us) (take-length ws)
 
 -- the lower half of the first of clean words is zero
 pub first-zeros : (fs : List Field) (ws : List ℕ) → 0 < length ws → IsClean fs ws → get_or ws 0 0 % 2 ^ 32 ≡ 0

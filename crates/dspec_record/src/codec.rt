@@ -5,7 +5,7 @@ ghost use Rattle.dspec_record.specs.Reading.{front_epid};
 ghost use Rattle.dspec_record.specs.RecordText.{little_endian, gap, stamp_text, header_text, record_text, stamp_fits, fits, IsRead};
 ghost use Rattle.dspec_record.specs.Writing.{IsClearBehind};
 
-use crate::packed::put_word;
+use crate::laid_out::put_word;
 use crate::{Field, Header, ReadKind, Rec, Recorded};
 
 /// How many bytes an EPID has.

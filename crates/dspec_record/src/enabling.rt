@@ -1,4 +1,5 @@
-use crate::layout::{layout_of, limits_of, places_of};
+use crate::laid_out::laid_shape;
+use crate::layout::{limits_of, places_of};
 use crate::packing::{claim_for, masks_of, words_for};
 use crate::{Field, Header, Shape};
 use std::error::Error;
@@ -79,7 +80,7 @@ impl Enabling {
         Enabling {
             fields: held,
             len: fields.len() as u32,
-            shape: layout_of(Header::One, fields),
+            shape: laid_shape(Header::One, fields),
             places: places_of(fields),
             limits: limits_of(fields),
             words: words_for(fields),

@@ -1,22 +1,40 @@
 //! The parts of writing a record whose fields are known when a program is compiled: its shape, the words that hold its values, and
 //! its text.
 
-ghost use Rattle.std.specs.Prelude.{◌≡◌, ◌≤◌, ◌<◌, ◌+◌, ◌*◌, ◌%◌, ◌^◌, length, slice_index_or};
-ghost use Rattle.dspec_record.specs.Layout.{width, rounded_up, after, fields_start, layout};
+ghost use Rattle.std.specs.Prelude.{◌≡◌, ◌≤◌, ◌<◌, ◌+◌, ◌*◌, ◌%◌, ◌^◌, ◌++◌, length, take, slice_index_or};
+ghost use Rattle.std.specs.List.{list_any};
+ghost use Rattle.dspec_record.specs.Layout.{width, rounded_up, after, fields_start, layout, is_eight};
 ghost use Rattle.dspec_record.specs.Packing.{number_of_words, BeginsWithWords};
+ghost use Rattle.dspec_record.specs.RecordText.{little_endian};
 
 use crate::enabling::MAX_WORDS;
-use crate::layout::layout_of;
-use crate::packed::{HALF, put_from, put_word};
 use crate::{Field, Header, Shape};
 
-/// The shape of these fields behind this header.
+/// How many numbers half a word holds.
+pub(crate) const HALF: u64 = 1 << 32;
+
+/// The shape of these fields behind this header: each at the first multiple of its width behind the field before it, and the size
+/// rounded up to a multiple of 4.
 #[inline(always)]
 pub fn laid_shape(header: Header, fields: &[Field]) -> Shape
     requires { length fields.now ≤ 8 }
     ensures { result ≡ layout header fields.now }
 {
-    layout_of(header, fields)
+    let mut end = header.fields_start();
+    for field in fields {
+        end = field.place(end) + field.width();
+    }
+    Shape {
+        size: Field::Four.place(end) as u32,
+        align: if has_eight(fields) { 8 } else { 4 },
+    }
+}
+
+#[inline(always)]
+fn has_eight(fields: &[Field]) -> bool
+    ensures { result ≡ list_any is_eight fields.now }
+{
+    fields.iter().any(|field| matches!(field, Field::Eight))
 }
 
 /// Adds a value to words that hold nothing from `end` on, at the field's place behind `end`; answers where the field ends.
@@ -44,11 +62,29 @@ pub fn put_packed(header: Header, epid: u32, stamp: u64, words: &[u64], out: &mu
     ensures { BeginsWithWords header epid stamp words.now out.new }
 {
     let low = u64::from(epid);
-    match header {
-        Header::One => put_from(words, low, 0, out),
+    // what comes into the zeros of the first word, and where that word stands
+    let (low, at) = match header {
+        Header::One => (low, 0),
         Header::Two => {
             put_word(low + stamp % HALF * HALF, 0, out);
-            put_from(words, stamp / HALF, 8, out);
+            (stamp / HALF, 8)
         }
+    };
+    put_word(words[0] + low, at, out);
+    for i in 1..words.len() {
+        put_word(words[i], at + i * 8, out);
+    }
+}
+
+/// Writes a word of eight bytes at `at`.
+#[inline(always)]
+pub(crate) fn put_word(word: u64, at: usize, out: &mut [u8])
+    requires { at + 8 ≤ length out.old }
+    ensures { take (at + 8) out.new ≡ take at out.old ++ little_endian 8 word }
+{
+    let bytes = word.to_le_bytes();
+    // byte by byte these are one store; of slices the compiler would ask whether they overlap
+    for i in 0..8 {
+        out[at + i] = bytes[i];
     }
 }

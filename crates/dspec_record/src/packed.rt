@@ -1,19 +1,14 @@
-ghost use Rattle.std.specs.Prelude.{◌≡◌, ◌≤◌, ◌<◌, ◌+◌, ◌*◌, ◌%◌, ◌^◌, ◌++◌, All, length, take, drop, slice_index_or};
-ghost use Rattle.dspec_record.specs.FirstWords.{with_low};
+ghost use Rattle.std.specs.Prelude.{◌≡◌, ◌≤◌, ◌<◌, length, take};
 ghost use Rattle.dspec_record.specs.Layout.{layout};
-ghost use Rattle.dspec_record.specs.RecordText.{little_endian};
-ghost use Rattle.dspec_record.specs.Packing.{words_in, masked_words, bytes_of_words, packed_record, IsClean};
+ghost use Rattle.dspec_record.specs.Packing.{words_in, masked_words, packed_record, IsClean};
 ghost use Rattle.dspec_record.specs.declared.header.Header.TheVariants.{One};
 
 use crate::codec::fits_header;
 use crate::enabling::{Enabling, MAX_FIELDS, MAX_WORDS};
-use crate::laid_out::put_packed;
+use crate::laid_out::{HALF, put_packed};
 use crate::{Enablings, Field, Header, KnownHeader, Rec, Recorded, Schema, Shape};
 use std::alloc::AllocError;
 use std::marker::PhantomData;
-
-/// How many numbers half a word holds.
-pub(crate) const HALF: u64 = 1 << 32;
 
 /// A record whose text its caller packed into words of eight bytes: they are stored as they are, so that no field is looked at.
 /// What is no field is cleared from them; EPID and stamp stand beside.
@@ -159,54 +154,6 @@ fn masked(words: &[u64], masks: &[u64; MAX_WORDS]) -> [u64; MAX_WORDS]
         kept[i] = words[i] & masks[i];
     }
     kept
-}
-
-/// Writes a word of eight bytes over the first bytes.
-#[inline(always)]
-fn put_first(word: u64, out: &mut [u8])
-    requires { 8 ≤ length out.old }
-    ensures { out.new ≡ little_endian 8 word ++ drop 8 out.old }
-{
-    let bytes = word.to_le_bytes();
-    // byte by byte these are one store; of slices the compiler would ask whether they overlap
-    for i in 0..8 {
-        out[i] = bytes[i];
-    }
-}
-
-/// Writes a word of eight bytes at `at`.
-#[inline(always)]
-pub(crate) fn put_word(word: u64, at: usize, out: &mut [u8])
-    requires { at + 8 ≤ length out.old }
-    ensures { take (at + 8) out.new ≡ take at out.old ++ little_endian 8 word }
-{
-    put_first(word, &mut out[at..]);
-}
-
-/// Writes words one behind the other, the first at `at` and with this number in the place of its zeros.
-#[inline(always)]
-pub(crate) fn put_from(words: &[u64], low: u64, at: usize, out: &mut [u8])
-    requires some { 0 < length words.now }
-    requires zeros { slice_index_or words.now 0 0 % 2 ^ 32 ≡ 0 }
-    requires low { low < 2 ^ 32 }
-    requires room { at + 8 * length words.now ≤ length out.old }
-    ensures put { take (at + 8 * length words.now) out.new ≡ take at out.old ++ bytes_of_words (with_low low words.now) }
-    ensures small { All (λ w. w < 2 ^ 64) words.now }
-    ensures low { low < 2 ^ 32 }
-{
-    put_word(words[0] + low, at, out);
-    put_words(&words[1..], at + 8, out);
-}
-
-/// Writes words one behind the other, the first at `at`.
-#[inline(always)]
-fn put_words(words: &[u64], at: usize, out: &mut [u8])
-    requires { at + 8 * length words.now ≤ length out.old }
-    ensures { take (at + 8 * length words.now) out.new ≡ take at out.old ++ bytes_of_words words.now }
-{
-    for i in 0..words.len() {
-        put_word(words[i], at + i * 8, out);
-    }
 }
 
 impl<'a, H: KnownHeader> Recorded for &'a Packed<H> {

@@ -5,7 +5,7 @@ ghost use Rattle.std.specs.Prelude.{◌≡◌, ◌≤◌, ◌<◌, ◌^◌, leng
 ghost use Rattle.dspec_record.specs.Packing.{signature_of, claim_of, words_in, masks_for};
 
 use crate::enabling::MAX_WORDS;
-use crate::layout::layout_of;
+use crate::laid_out::laid_shape;
 use crate::{Field, Header};
 
 /// How many bytes each of these fields has, four bits a field, the first field lowest.
@@ -38,7 +38,7 @@ pub(crate) fn words_for(fields: &[Field]) -> u32
     if fields.is_empty() {
         return 0;
     }
-    (layout_of(Header::One, fields).size + 7) / 8
+    (laid_shape(Header::One, fields).size + 7) / 8
 }
 
 /// Which bits of the words are bits of these fields.

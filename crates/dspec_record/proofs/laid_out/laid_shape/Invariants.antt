@@ -1,6 +1,6 @@
 use Rattle.std.proofs.Common.{◌≡◌, ◌≤◌, ◌+◌, ◌*◌, drop}
 use Rattle.dspec_record.specs.Words.{fields_start, fields_end}
-use Rattle.dspec_record.proofs.layout.layout_of.Given as goal
+use Rattle.dspec_record.proofs.laid_out.laid_shape.Given as goal
 
 -- the fields that are left end, laid from `end` on, where all end
 abbrev pub invariant-loop-field : goal.invariant-loop-field
