@@ -1,5 +1,5 @@
 -- A record that says itself what its shape and its bytes are, and a schema that says the same.
-use Rattle.std.proofs.Common.{◌≡◌, ◌≤◌, ◌+◌, ◌∙◌, ℕ, true, arith, List, length, take, Option, Some, None, option_map, is_some, IfSome, refl, sym, ap}
+use Rattle.std.proofs.Common.{◌≡◌, ◌≤◌, ◌+◌, ◌∙◌, ℕ, true, arith, List, length, take, Option, Some, None, option_map, is_some, IfSome, sym, ap}
 use Rattle.dspec_buffer.specs.Words.{Record, Laid, IsLaidBy, rounded_up}
 use Rattle.dspec_record.specs.declared.field.Shape.{Shape}
 
@@ -23,8 +23,3 @@ pub said_text : (shape : ℕ → Option Shape) (text : Record → List ℕ) (r :
     → is_some laid ≡ true → IfSome laid (λ l. take (length l.text) out ≡ l.text) → take (length (text r)) out ≡ text r
 said_text shape text r None out is some put = absurd (cc)
 said_text shape text r (Some l) out is some put = ap (λ z. take (length z) out) is.same_text ∙ put ∙ sym is.same_text
-
--- a record that knows its shape knows its bytes
-pub knows_both : (laid : Option Laid) (shape : Option Shape) → shape ≡ option_map (λ (l : Laid). l.shape) laid → is_some shape ≡ true → is_some laid ≡ true
-knows_both None shape e some = absurd (cc)
-knows_both (Some l) shape e some = refl

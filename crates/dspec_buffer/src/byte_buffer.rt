@@ -1,7 +1,6 @@
 use crate::TraceBuffer;
-use crate::laying::shape_in;
 use crate::reader::next_of_text;
-use crate::reserving::{pad, place_for, place_for_record, put_behind};
+use crate::reserving::{aligned, pad, place_for, put_behind, shape_in};
 use dspec_record::{Rec, Recorded, Schema, Shape};
 use std::alloc::{AllocError, Global};
 use std::fmt;
@@ -134,10 +133,11 @@ impl<S: Schema> TraceBuffer<S> for ByteBuffer {
     #[inline(always)]
     fn push_recorded<R: Recorded>(&mut self, schema: &S, rec: R) -> bool {
         let Shape { size, align } = shape_in(schema, rec);
-        let Some(place) = place_for_record(self.offset, self.size(), align, size) else {
-            return false;
-        };
+        let place = aligned(self.offset, align);
         let end = place + size;
+        if end > self.size {
+            return false;
+        }
         let from = self.offset as usize;
         // counted before the bytes are written, so that no register holds what the counting needs meanwhile
         self.count += 1;

@@ -22,7 +22,6 @@
 
 mod byte_buffer;
 pub mod laws;
-mod laying;
 mod list_buffer;
 mod prefix;
 mod read_fault;

@@ -1,15 +1,15 @@
-ghost use Rattle.std.specs.Prelude.{◌≡◌, ◌≤◌, ◌<◌, ◌+◌, ◌-◌, ◌%◌, ◌^◌, ◌⊎◌, ◌++◌, length, take, replicate, IsTrue, MatchOption};
+ghost use Rattle.std.specs.Prelude.{◌≡◌, ◌≤◌, ◌<◌, ◌+◌, ◌-◌, ◌%◌, ◌^◌, ◌⊎◌, ◌++◌, length, take, replicate, IsTrue, Some, MatchOption};
 ghost use Rattle.dspec_record.specs.LaidOut.{IsLaidBy};
 ghost use Rattle.dspec_record.specs.Layout.{rounded_up, after};
 
-use dspec_record::{Recorded, Schema};
+use dspec_record::{Recorded, Schema, Shape};
 
 /// The bytes of a padding word.
 const PADDING: [u8; 4] = [0; 4];
 
-// The first place behind `offset` that is a multiple of the alignment.
+/// The first place behind `offset` that is a multiple of the alignment.
 #[inline(always)]
-fn aligned(offset: u32, align: u32) -> u32
+pub(crate) fn aligned(offset: u32, align: u32) -> u32
     requires aligned { (align ≡ 4) ⊎ (align ≡ 8) }
     requires whole_words { offset % 4 ≡ 0 }
     requires within { offset ≤ 2 ^ 20 }
@@ -36,33 +36,6 @@ pub(crate) fn place_for(offset: u32, limit: u32, align: u32, size: u32) -> Optio
     }
 }
 
-/// As `place_for`, of a record: its size is small.
-#[inline(always)]
-pub(crate) fn place_for_record(offset: u32, limit: u32, align: u32, size: u32) -> Option<u32>
-    requires aligned { (align ≡ 4) ⊎ (align ≡ 8) }
-    requires whole_words { offset % 4 ≡ 0 }
-    requires within { offset ≤ 2 ^ 20 }
-    requires small { size ≤ 128 }
-    ensures { MatchOption result (limit < after offset align size)
-        (λ place. (place ≡ rounded_up offset align) × (place + size ≤ limit)) }
-{
-    let place = aligned(offset, align);
-    if place + size <= limit {
-        Some(place)
-    } else {
-        None
-    }
-}
-
-// Writes a padding word.
-#[inline(always)]
-fn pad_before(bytes: &mut [u8], from: usize)
-    requires within { from + 4 ≤ length bytes.old }
-    ensures { take (from + 4) bytes.new ≡ take from bytes.old ++ replicate 4 0 }
-{
-    bytes[from..from + 4].copy_from_slice(&PADDING);
-}
-
 /// Writes the padding word between `from` and `to`, if there is room for one.
 pub(crate) fn pad(bytes: &mut [u8], from: usize, to: usize)
     requires gap { (to ≡ from) ⊎ (to ≡ from + 4) }
@@ -74,8 +47,8 @@ pub(crate) fn pad(bytes: &mut [u8], from: usize, to: usize)
     }
 }
 
-/// Writes an accepted record, and the padding word before it. That word is always written: where there is no padding, the record
-/// goes over it.
+/// Writes an accepted record, as the record knows its text or else the schema, and the padding word before it. That word is always
+/// written: where there is no padding, the record goes over it.
 #[inline(always)]
 pub(crate) fn put_behind<S: Schema, R: Recorded>(
     schema: &S,
@@ -92,21 +65,22 @@ pub(crate) fn put_behind<S: Schema, R: Recorded>(
     requires room { end + 8 ≤ length bytes.old }
     ensures { take end bytes.new ≡ take from bytes.old ++ (replicate (place - from) 0 ++ S.text schema.now (R.as_record rec)) }
 {
-    pad_before(bytes, from);
-    put_text(schema, rec, &mut bytes[place..]);
+    bytes[from..from + 4].copy_from_slice(&PADDING);
+    let out = &mut bytes[place..];
+    if !rec.put_laid(out) {
+        schema.put_recorded(rec, out);
+    }
 }
 
-// Writes an accepted record's text, as the record knows it or else the schema.
+/// The shape of an accepted record, which the record itself knows or the schema.
 #[inline(always)]
-fn put_text<S: Schema, R: Recorded>(schema: &S, rec: R, out: &mut [u8])
+pub(crate) fn shape_in<S: Schema, R: Recorded>(schema: &S, rec: R) -> Shape
     requires accepted { IsTrue (S.accepted schema.now (R.as_record rec)) }
     requires laid { IsLaidBy (S.shape_of schema.now) (S.text schema.now) (R.as_record rec) (R.laid_as rec) }
-    requires room { length (S.text schema.now (R.as_record rec)) + 8 ≤ length out.old }
-    ensures { take (length (S.text schema.now (R.as_record rec))) out.new ≡ S.text schema.now (R.as_record rec) }
+    ensures { Some result ≡ S.shape_of schema.now (R.as_record rec).epid }
 {
-    if rec.laid_shape().is_some() {
-        rec.put_laid(out);
-    } else {
-        schema.put_recorded(rec, out);
+    match rec.laid_shape() {
+        Some(shape) => shape,
+        None => schema.shape_recorded(rec),
     }
 }

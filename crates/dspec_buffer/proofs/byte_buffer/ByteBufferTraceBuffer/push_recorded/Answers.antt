@@ -7,17 +7,18 @@ use Rattle.dspec_buffer.proofs.Fitting.{refuses, admits, placed, laid_whole}
 use Rattle.dspec_buffer.proofs.Keeping.{offset_is, fits_says, shape_says, kept, accepted_alone}
 use Rattle.dspec_buffer.proofs.byte_buffer.ByteBufferTraceBuffer.push_recorded.Goals as goal
 
-pub place_for_record-requires-clause-aligned : goal.place_for_record-requires-clause-aligned
-place_for_record-requires-clause-aligned g c =
+pub aligned-place-requires-clause-aligned : goal.aligned-place-requires-clause-aligned
+aligned-place-requires-clause-aligned g c =
     let s = c.args.schema.now in
     let shape : Shape = c.shape_in-size.result in
     (g.met.S.Schema.shapes_fit s (g.R.Recorded.as_record c.args.rec).epid shape (sym c.shape_in-size.ensures)).aligned
 
-pub place_for_record-requires-clause-small : goal.place_for_record-requires-clause-small
-place_for_record-requires-clause-small g c =
+pub overflow_add-end : goal.overflow_add-end
+overflow_add-end g c =
     let s = c.args.schema.now in
     let shape : Shape = c.shape_in-size.result in
-    (g.met.S.Schema.shapes_fit s (g.R.Recorded.as_record c.args.rec).epid shape (sym c.shape_in-size.ensures)).bounded
+    let fit = g.met.S.Schema.shapes_fit s (g.R.Recorded.as_record c.args.rec).epid shape (sym c.shape_in-size.ensures) in
+    record { fits = omega (arith, c.aligned-place.ensures.near, c.self.invariant.within, c.self.invariant.bounded, fit.bounded) }
 
 pub put_behind-requires-clause-gap : goal.put_behind-requires-clause-gap
 put_behind-requires-clause-gap g c =
@@ -25,10 +26,10 @@ put_behind-requires-clause-gap g c =
     let shape : Shape = c.shape_in-size.result in
     let fit = g.met.S.Schema.shapes_fit s (g.R.Recorded.as_record c.args.rec).epid shape (sym c.shape_in-size.ensures) in
     let with_epid = fit.with_epid in
-    (placed c.self.inside.offset shape.align shape.size c.in-Some.place c.self.invariant.words fit.aligned fit.whole_words (λ z. omega arith) c.in-Some.ensures.0).step
+    (placed c.self.inside.offset shape.align shape.size c.aligned-place.result c.self.invariant.words fit.aligned fit.whole_words (λ z. omega arith) c.aligned-place.ensures.is).step
 
-pub returns-in_default-clause-answer : goal.returns-in_default-clause-answer
-returns-in_default-clause-answer g c = λ ps h.
+pub returns-then-end-self-clause-answer : goal.returns-then-end-self-clause-answer
+returns-then-end-self-clause-answer g c = λ ps h.
     let s = c.args.schema.now in
     let r = g.R.Recorded.as_record c.args.rec in
     let shape : Shape = c.shape_in-size.result in
@@ -46,9 +47,9 @@ returns-in_default-clause-answer g c = λ ps h.
     let says = shape_says (g.S.Schema.shape_of s) r shape named in
     let fit = g.met.S.Schema.shapes_fit s r.epid shape named in
     let with_epid = fit.with_epid in
-    fits_says (g.S.Schema.shape_of s) (one r) ps c.self.inside.offset shape.align shape.size c.size.result c.args.self.now.size
-    false at says.1 says.0 c.size.ensures
-    (refuses c.self.inside.offset shape.align shape.size c.size.result (λ z. omega arith) c.in_default.ensures)
+    fits_says (g.S.Schema.shape_of s) (one r) ps c.self.inside.offset shape.align shape.size c.self.inside.size c.args.self.now.size
+    false at says.1 says.0 (ap (λ b. b.size) c.self.view_is)
+    (refuses c.self.inside.offset shape.align shape.size c.self.inside.size (λ z. omega arith) (omega (arith, c.aligned-place.ensures.is, c.if-end-self.true)))
 
 pub invariant_of-self : goal.invariant_of-self
 invariant_of-self g c =
@@ -56,12 +57,11 @@ invariant_of-self g c =
     let shape : Shape = c.shape_in-size.result in
     let fit = g.met.S.Schema.shapes_fit s (g.R.Recorded.as_record c.args.rec).epid shape (sym c.shape_in-size.ensures) in
     let with_epid = fit.with_epid in
-    let p = placed c.self.inside.offset shape.align shape.size c.in-Some.place c.self.invariant.words fit.aligned fit.whole_words
-    (λ z. omega arith) c.in-Some.ensures.0 in
+    let p = placed c.self.inside.offset shape.align shape.size c.aligned-place.result c.self.invariant.words fit.aligned fit.whole_words
+    (λ z. omega arith) c.aligned-place.ensures.is in
     let above = p.above in
-    let limit : c.size.result ≡ c.args.self.now.size = c.size.ensures in
     let size = ap (λ b. b.size) c.self.view_is in
-    let within = c.in-Some.ensures.1 in
+    let within = c.if-end-self.false in
     let counted = c.self.invariant.counted in
     record { within = omega arith; words = p.words; bounded = c.self.invariant.bounded; slack = c.self.invariant.slack; counted = omega arith }
 
@@ -84,9 +84,9 @@ returns-clause-answer g c = λ ps h.
     let says = shape_says (g.S.Schema.shape_of s) r shape named in
     let fit = g.met.S.Schema.shapes_fit s r.epid shape named in
     let with_epid = fit.with_epid in
-    fits_says (g.S.Schema.shape_of s) (one r) ps c.self.inside.offset shape.align shape.size c.size.result c.args.self.now.size
-    true at says.1 says.0 c.size.ensures
-    (admits c.self.inside.offset shape.align shape.size c.size.result c.in-Some.place (λ z. omega arith) c.in-Some.ensures.0 c.in-Some.ensures.1)
+    fits_says (g.S.Schema.shape_of s) (one r) ps c.self.inside.offset shape.align shape.size c.self.inside.size c.args.self.now.size
+    true at says.1 says.0 (ap (λ b. b.size) c.self.view_is)
+    (admits c.self.inside.offset shape.align shape.size c.self.inside.size c.aligned-place.result (λ z. omega arith) c.aligned-place.ensures.is c.if-end-self.false)
 
 pub returns-clause-kept : goal.returns-clause-kept
 returns-clause-kept g c = λ ps h.
@@ -109,15 +109,14 @@ returns-clause-kept g c = λ ps h.
     let with_epid = fit.with_epid in
     let t = text_facts (g.S.Schema.shape_of s) (g.S.Schema.accepted s) (g.S.Schema.text s) laws r c.requires.accepted in
     let size = ap (λ b. b.size) c.self.view_is in
-    let limit = c.size.ensures in
-    let fitting = c.in-Some.ensures.1 in
+    let fitting = c.if-end-self.false in
     let slice = c.as_mut_slice-bytes.ensures.len in
     let written : length (g.S.Schema.text s r) ≡ shape.size = t.size ∙ says.0 in
-    let back = laid_whole c.self.inside.offset shape.align c.in-Some.place shape.size c.self.inside.bytes.len c.self.inside.bytes.items
-    c.self.inside.bytes.items c.put_behind.new.bytes (g.S.Schema.text s r) c.self.invariant.words fit.aligned c.in-Some.ensures.0 (λ z. omega arith) written
+    let back = laid_whole c.self.inside.offset shape.align c.aligned-place.result shape.size c.self.inside.bytes.len c.self.inside.bytes.items
+    c.self.inside.bytes.items c.put_behind.new.bytes (g.S.Schema.text s r) c.self.invariant.words fit.aligned c.aligned-place.ensures.is (λ z. omega arith) written
     (omega arith) (omega arith)
     (c.put_behind.ensures
-    ∙ ap (λ z. take c.self.inside.offset z ++ (replicate (c.in-Some.place - c.self.inside.offset) 0 ++ g.S.Schema.text s r)) c.as_mut_slice-bytes.ensures.value) in
+    ∙ ap (λ z. take c.self.inside.offset z ++ (replicate (c.aligned-place.result - c.self.inside.offset) 0 ++ g.S.Schema.text s r)) c.as_mut_slice-bytes.ensures.value) in
     kept (g.S.Schema.shape_of s) (g.S.Schema.accepted s) (g.S.Schema.text s) laws c.args.self.now _ (one r) ps h
     (accepted_alone (g.S.Schema.shape_of s) (g.S.Schema.accepted s) (g.S.Schema.text s) laws r c.requires.accepted)
     (back ∙ ap (λ z. z ++ padded c.self.inside.offset shape.align (g.S.Schema.text s r)) (ap (λ b. b.text) c.self.view_is)
