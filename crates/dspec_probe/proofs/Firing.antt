@@ -38,16 +38,16 @@ pub record AreWords (fs : List Field) (vs : List ℕ) (n : ℕ) (ws : List ℕ) 
   pub zeros : get_or (take n ws) 0 0 % 2 ^ 32 ≡ 0
   pub record_is : (epid stamp : ℕ) → packed_record epid stamp fs (take n ws) ≡ record { epid = epid; stamp = stamp; values = vs }
 
-pub words-of_values : (fs : List Field) (vs us ws : List ℕ) (end : ℕ) → length fs ≤ 8 → vs ≡ us → IsTrue (fits fs vs) → length ws ≡ 9 → ArePacked 4 fs us (replicate 9 0) end ws
+pub words-of_values : (fs : List Field) (vs ws : List ℕ) (end : ℕ) → length fs ≤ 8 → IsTrue (fits fs vs) → length ws ≡ 9 → ArePacked 4 fs vs (replicate 9 0) end ws
     → AreWords fs vs ((end + 7) / 8) ws
-words-of_values fs vs us ws end few tied fit nine packed_in =
+words-of_values fs vs ws end few fit nine packed_in =
     let n : ℕ = (end + 7) / 8 in
     let last : ℕ = fields_end 4 fs in
     let at : end ≡ last = packed_in.end_is in
     let past : 4 ≤ last = fields_end-ge 4 fs in
     let short : n ≤ 9 = omega (arith, end-near fs end few at) in
     let long : length (take n ws) ≡ n = length-take-le n ws (omega (arith, short, nine)) in
-    let is : number_of_words ws ≡ value_number 4 fs vs = omega (arith, packed_in.added, ap (value_number 4 fs) tied) in
+    let is : number_of_words ws ≡ value_number 4 fs vs = omega (arith, packed_in.added) in
     let bits : 8 * (8 * n) ≡ 64 * n = omega arith in
     let most : 256 ^ last ≤ 2 ^ (64 * n) =
     subst (λ p. 256 ^ last ≤ p) (pow256 (8 * n) ∙ ap (λ b. 2 ^ b) bits) (pow-le-pow_right {n = 256} (omega arith) {i = last} {j = 8 * n} (omega (arith, at))) in

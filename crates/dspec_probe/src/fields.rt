@@ -43,7 +43,8 @@ pub trait Fields: Copy {
     /// stamp; answers where the last one ends.
     fn pack(self, words: &mut [u64; 9]) -> usize
         requires { AreFree 4 fields_are words.old }
-        ensures { ArePacked 4 fields_are (numbers_of self) words.old result words.new };
+        ensures packed { ArePacked 4 fields_are (numbers_of self) words.old result words.new }
+        ensures fits { IsTrue (fits fields_are (numbers_of self)) };
 
     /// They are eight at the most.
     ghost few: { length fields_are ≤ 8 };

@@ -1,4 +1,5 @@
-ghost use Rattle.std.specs.Prelude.{◌≡◌, IsTrue};
+ghost use Rattle.std.specs.Prelude.{◌≡◌, IsTrue, length, replicate};
+ghost use Rattle.dspec_record.specs.Packing.{ArePacked};
 ghost use Rattle.dspec_record.specs.RecordText.{fits};
 
 use crate::Fields;
@@ -8,65 +9,76 @@ use std::alloc::AllocError;
 use std::marker::PhantomData;
 
 /// A record of a probe whose header and whose fields are known when a program is compiled: its shape and its bytes are looked up
-/// nowhere.
-pub struct Fired<'a, F: Fields, H: KnownHeader> {
-    rec: &'a Rec,
+/// nowhere. Its values stand in words of eight bytes, each at its place in a record without a stamp.
+pub struct Fired<F: Fields, H: KnownHeader> {
+    epid: u32,
+    stamp: u64,
     values: F,
+    words: [u64; 9],
+    end: usize,
     header: PhantomData<H>,
-    ghost tied: { rec.now.values ≡ F.numbers_of values },
-    ghost fit: { IsTrue (fits F.fields_are rec.now.values) },
+    ghost fit: { IsTrue (fits F.fields_are (F.numbers_of values)) },
+    ghost nine: { length words ≡ 9 },
+    ghost packed: { ArePacked 4 F.fields_are (F.numbers_of values) (replicate 9 0) end words },
 }
 
-impl<'a, F: Fields, H: KnownHeader> Copy for Fired<'a, F, H> {}
+impl<F: Fields, H: KnownHeader> Copy for Fired<F, H> {}
 
-impl<'a, F: Fields, H: KnownHeader> Clone for Fired<'a, F, H> {
-    fn clone(&self) -> Result<Fired<'a, F, H>, AllocError> {
+impl<F: Fields, H: KnownHeader> Clone for Fired<F, H> {
+    fn clone(&self) -> Result<Fired<F, H>, AllocError> {
         Ok(Fired {
-            rec: self.rec,
+            epid: self.epid,
+            stamp: self.stamp,
             values: self.values,
+            words: self.words,
+            end: self.end,
             header: PhantomData,
         })
     }
 }
 
-impl<'a, F: Fields, H: KnownHeader> Fired<'a, F, H> {
+impl<F: Fields, H: KnownHeader> Fired<F, H> {
     ghost use Rattle.std.specs.Prelude.{◌≡◌, IsTrue};
     ghost use Rattle.dspec_record.specs.RecordText.{fits};
     ghost use Rattle.dspec_probe.specs.Probes.{IsLaidByProbe};
 
-    /// The record with these values.
+    /// The record with these values. They fit their fields.
     #[inline(always)]
-    pub fn of(rec: &'a Rec, values: F) -> Fired<'a, F, H>
-        requires tied { rec.now.values ≡ F.numbers_of values }
-        requires fit { IsTrue (fits F.fields_are (F.numbers_of values)) }
-        ensures rec { ⟦<Fired<'a, F, H> as Recorded>⟧.as_record result ≡ rec.now }
-        ensures laid { IsLaidByProbe H.header_is rec.now.epid F.fields_are (⟦<Fired<'a, F, H> as Recorded>⟧.as_record result) (⟦<Fired<'a, F, H> as Recorded>⟧.laid_as result) }
+    pub fn of(epid: u32, stamp: u64, values: F) -> Fired<F, H>
+        ensures rec { ⟦<Fired<F, H> as Recorded>⟧.as_record result ≡ record { epid = epid; stamp = stamp; values = F.numbers_of values } }
+        ensures fits { IsTrue (fits F.fields_are (F.numbers_of values)) }
+        ensures laid { IsLaidByProbe H.header_is epid F.fields_are (⟦<Fired<F, H> as Recorded>⟧.as_record result) (⟦<Fired<F, H> as Recorded>⟧.laid_as result) }
     {
+        let mut words = [0; 9];
+        let end = values.pack(&mut words);
         Fired {
-            rec,
+            epid,
+            stamp,
             values,
+            words,
+            end,
             header: PhantomData,
         }
     }
 }
 
-impl<'a, F: Fields, H: KnownHeader> Recorded for Fired<'a, F, H> {
+impl<F: Fields, H: KnownHeader> Recorded for Fired<F, H> {
     ghost use Rattle.std.specs.Prelude.{Some};
     ghost use Rattle.dspec_record.specs.Layout.{layout};
     ghost use Rattle.dspec_record.specs.RecordText.{record_text};
 
-    ghost as_record = { λ f. f.rec.now };
+    ghost as_record = { λ f. record { epid = f.epid; stamp = f.stamp; values = F.numbers_of f.values } };
 
-    ghost laid_as = { λ f. Some (record { shape = layout H.header_is F.fields_are; text = record_text H.header_is F.fields_are f.rec.now }) };
+    ghost laid_as = { λ f. Some (record { shape = layout H.header_is F.fields_are; text = record_text H.header_is F.fields_are (record { epid = f.epid; stamp = f.stamp; values = F.numbers_of f.values }) }) };
 
     #[inline(always)]
     fn epid(&self) -> u32 {
-        self.rec.epid()
+        self.epid
     }
 
     #[inline(always)]
     fn stamp(&self) -> u64 {
-        self.rec.stamp()
+        self.stamp
     }
 
     #[inline(always)]
@@ -76,7 +88,7 @@ impl<'a, F: Fields, H: KnownHeader> Recorded for Fired<'a, F, H> {
 
     #[inline(always)]
     fn to_rec(&self) -> Rec {
-        *self.rec
+        self.values.rec(self.epid, self.stamp)
     }
 
     #[inline(always)]
@@ -88,14 +100,12 @@ impl<'a, F: Fields, H: KnownHeader> Recorded for Fired<'a, F, H> {
     // too large by it become calls themselves
     #[inline]
     fn put_laid(&self, out: &mut [u8]) -> bool {
-        let mut words = [0; 9];
-        let end = self.values.pack(&mut words);
-        let count = (end + 7) / 8;
+        let count = (self.end + 7) / 8;
         put_packed(
             H::header(),
-            self.rec.epid(),
-            self.rec.stamp(),
-            &words[..count],
+            self.epid,
+            self.stamp,
+            &self.words[..count],
             out,
         );
         true

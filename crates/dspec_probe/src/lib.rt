@@ -21,7 +21,7 @@ pub mod probes;
 pub mod telling;
 pub mod text;
 mod truth;
-mod tuples;
+pub mod tuples;
 pub mod value;
 
 pub use fault::ProbeFault;
@@ -34,4 +34,5 @@ pub use probe::Probe;
 pub use probes::{ProbeNames, Probes, next_words};
 pub use telling::{Meaning, Told, ToldField, ToldText};
 pub use text::{Text, text_bytes};
+pub use tuples::Tuple;
 pub use value::Value;
