@@ -1,27 +1,16 @@
 -- A record of a probe, written by the probe's own fields.
-use Rattle.std.proofs.Common.{◌≡◌, ◌≤◌, ◌<◌, ◌+◌, ◌*◌, ◌/◌, ◌%◌, ◌^◌, ◌∙◌, ℕ, List, IsTrue, option_map, length, take, get_or, replicate, refl, sym, ap, subst, arith}
+use Rattle.std.proofs.Common.{◌≡◌, ◌≤◌, ◌<◌, ◌+◌, ◌*◌, ◌/◌, ◌%◌, ◌^◌, ◌∙◌, ℕ, List, IsTrue, length, take, get_or, replicate, sym, ap, subst, arith}
 use Rattle.std.proofs.Math.Nat.{pow-le-pow_right}
 use Rattle.std.proofs.lemmas.List.{length-take-le}
-use Rattle.dspec_probe.specs.Words.{EnabledRows, IsSaid, fields_start, fields_end, layout, rounded_up, number_of_words, value_number, packed_record, ArePacked, IsClean, Record, record_text, fits}
-use Rattle.dspec_probe.specs.Words.{enabled, table_shape, table_text, fields_end-ge, length-record_text, HasProbe}
+use Rattle.dspec_probe.specs.Words.{fields_start, fields_end, layout, rounded_up, number_of_words, value_number, packed_record, ArePacked, IsClean, Record, record_text, fits, fields_end-ge}
+use Rattle.dspec_probe.specs.Words.{length-record_text}
 use Rattle.dspec_record.specs.declared.field.Field.{Field}
 use Rattle.dspec_record.specs.declared.header.Header.{Header}
 use Rattle.dspec_record.specs.declared.header.Header.TheVariants as header
 use Rattle.dspec_record.proofs.Cutting.{packed}
-use Rattle.dspec_record.proofs.Gets.{enabled-row, table_text-is}
 use Rattle.dspec_record.proofs.Masking.{pow256, ends-within}
 use Rattle.dspec_record.proofs.PackedValues.{value_number-packed, value_number-below, record-of_number, clean-of_number, taken-number}
 use Rattle.dspec_record.proofs.PackedRecords.{first-zeros, room-of}
-
--- each schema that has the probe lays the record out as the probe does
-pub said_of_probe : (h : Header) (fs : List Field) (r : Record) (schema : EnabledRows) → length fs ≤ 8 → HasProbe h r.epid fs schema
-    → IsSaid (table_shape schema.header (enabled schema.rows)) (table_text schema.header (enabled schema.rows)) r (record { shape = layout h fs; text = record_text h fs r })
-said_of_probe h fs r schema few has =
-    let row = enabled-row schema.rows r.epid fs fs (sym has.row) refl few in
-    record {
-      same_shape = ap (λ d. option_map (layout d) (enabled schema.rows r.epid)) has.header ∙ ap (option_map (layout h)) row;
-      same_text = table_text-is schema.header (enabled schema.rows) fs r row ∙ ap (λ d. record_text d fs r) has.header;
-    }
 
 -- the last field ends within nine words
 pub end-near : (fs : List Field) (end : ℕ) → length fs ≤ 8 → end ≡ fields_end 4 fs → end ≤ 72

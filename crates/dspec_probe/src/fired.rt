@@ -2,9 +2,9 @@ ghost use Rattle.std.specs.Prelude.{◌≡◌, IsTrue, length, replicate};
 ghost use Rattle.dspec_record.specs.Packing.{ArePacked};
 ghost use Rattle.dspec_record.specs.RecordText.{fits};
 
-use crate::Fields;
+use crate::{Fields, Probe};
 use dspec_record::laid_out::{laid_shape, put_packed};
-use dspec_record::{KnownHeader, Rec, Recorded, Shape};
+use dspec_record::{Enablings, Header, KnownHeader, Rec, Recorded, Schema, Shape};
 use std::alloc::AllocError;
 use std::marker::PhantomData;
 
@@ -39,20 +39,27 @@ impl<F: Fields, H: KnownHeader> Clone for Fired<F, H> {
 
 impl<F: Fields, H: KnownHeader> Fired<F, H> {
     ghost use Rattle.std.specs.Prelude.{◌≡◌, IsTrue};
-    ghost use Rattle.dspec_record.specs.RecordText.{fits};
-    ghost use Rattle.dspec_probe.specs.Probes.{IsLaidByProbe};
+    ghost use Rattle.dspec_record.specs.EnablingRows.{EnabledRows};
+    ghost use Rattle.dspec_probe.specs.Probes.{IsProbeOf, IsLaidByProbe, epid_of_probe, header_of_probe, probed_record};
 
-    /// The record with these values. They fit their fields.
+    /// The record of a probe with these values; the stamp is left out where records have none. Each schema that has the probe accepts
+    /// it.
     #[inline(always)]
-    pub fn of(epid: u32, stamp: u64, values: F) -> Fired<F, H>
-        ensures rec { ⟦<Fired<F, H> as Recorded>⟧.as_record result ≡ record { epid = epid; stamp = stamp; values = F.numbers_of values } }
-        ensures fits { IsTrue (fits F.fields_are (F.numbers_of values)) }
-        ensures laid { IsLaidByProbe H.header_is epid F.fields_are (⟦<Fired<F, H> as Recorded>⟧.as_record result) (⟦<Fired<F, H> as Recorded>⟧.laid_as result) }
+    pub fn of(probe: Probe<F>, stamp: u64, values: F) -> Fired<F, H>
+        requires { header_of_probe probe ≡ H.header_is }
+        ensures rec { ⟦<Fired<F, H> as Recorded>⟧.as_record result ≡ probed_record probe stamp (F.numbers_of values) }
+        ensures accepted { (schema : EnabledRows) → IsProbeOf F.fields_are probe schema
+            → IsTrue (⟦<Enablings as Schema>⟧.accepted schema (⟦<Fired<F, H> as Recorded>⟧.as_record result)) }
+        ensures laid { IsLaidByProbe H.header_is (epid_of_probe probe) F.fields_are (⟦<Fired<F, H> as Recorded>⟧.as_record result) (⟦<Fired<F, H> as Recorded>⟧.laid_as result) }
     {
         let mut words = [0; 9];
         let end = values.pack(&mut words);
+        let stamp = match H::header() {
+            Header::One => 0,
+            Header::Two => stamp,
+        };
         Fired {
-            epid,
+            epid: probe.epid(),
             stamp,
             values,
             words,
