@@ -36,8 +36,17 @@ covered from place end k bytes zeros out text none gap is room short put =
     let new : List ℕ = put_mid from (from + 4 - from) bytes zeros in
     let four : length zeros ≡ 4 = ap length none in
     let long : length new ≡ length bytes = omega (
-      arith, four, gap, is, room, length-append (take from bytes) (zeros ++ drop (from + 4 - from) (drop from bytes)), length-append zeros (drop (from + 4 - from) (drop from bytes)),
-      length-take-le from bytes (omega (arith, gap, is, room)), length-drop (from + 4 - from) (drop from bytes), length-drop from bytes) in
+      arith,
+      four,
+      gap,
+      is,
+      room,
+      length-append (take from bytes) (zeros ++ drop (from + 4 - from) (drop from bytes)),
+      length-append zeros (drop (from + 4 - from) (drop from bytes)),
+      length-take-le from bytes (omega (arith, gap, is, room)),
+      length-drop (from + 4 - from) (drop from bytes),
+      length-drop from bytes,
+    ) in
     let padded : take (from + 4) new ≡ take from bytes ++ replicate 4 0 =
     take-put_mid from (from + 4 - from) bytes zeros (from + 4) (ap (λ z. from + z) (sym four)) (omega (arith, gap, is, room)) ∙ ap (λ z. take from bytes ++ z) none in
     overwritten from place end k bytes new out text gap is (omega (arith, gap, is, room)) (omega (arith, gap, is, room, long)) short padded put

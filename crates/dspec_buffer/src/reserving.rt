@@ -80,7 +80,12 @@ pub(crate) fn shape_in<S: Schema, R: Recorded>(schema: &S, rec: R) -> Shape
     ensures { Some result ≡ S.shape_of schema.now (R.as_record rec).epid }
 {
     match rec.laid_shape() {
-        Some(shape) => shape,
+        Some(shape) => {
+            // a trial build stops here, where nobody has shown that the EPID has records of this shape; what is proved doesn't look
+            let is_known = schema.shape(rec.epid()) == Some(shape);
+            prove!(is_known);
+            shape
+        }
         None => schema.shape_recorded(rec),
     }
 }

@@ -1,14 +1,9 @@
-use Rattle.dspec_buffer.proofs.SchemaLaws.{SchemaLaws}
+use Rattle.dspec_buffer.proofs.SchemaLaws.{laws_from}
 use Rattle.dspec_buffer.proofs.Walks.{reads_back}
 use Rattle.dspec_buffer.proofs.laws.has_what_bytes_say.Goals as goal
 
 pub returns-clause-text : goal.returns-clause-text
 returns-clause-text g c =
     let s = c.args._schema.now in
-    let laws : SchemaLaws (g.S.Schema.shape_of s) (g.S.Schema.accepted s) (g.S.Schema.text s) = record {
-      zero_has_none = g.met.S.Schema.zero_has_none s;
-      shapes_fit = g.met.S.Schema.shapes_fit s;
-      texts_fit = g.met.S.Schema.texts_fit s;
-      texts_differ = g.met.S.Schema.texts_differ s;
-    } in
+    let laws = laws_from (g.met.S.Schema.zero_has_none s) (g.met.S.Schema.shapes_fit s) (g.met.S.Schema.texts_fit s) (g.met.S.Schema.texts_differ s) in
     λ ps h. reads_back (g.S.Schema.shape_of s) (g.S.Schema.accepted s) (g.S.Schema.text s) laws c.args._buffer.now ps h

@@ -1,18 +1,13 @@
 use Rattle.std.proofs.Common.{subst, sym, reverse, IfErr}
 use Rattle.dspec_buffer.specs.Words.{records, BufferText, StopsAt}
-use Rattle.dspec_buffer.proofs.SchemaLaws.{SchemaLaws}
+use Rattle.dspec_buffer.proofs.SchemaLaws.{laws_from}
 use Rattle.dspec_buffer.proofs.Walks.{reads_back, read_all_reads}
 use Rattle.dspec_buffer.proofs.laws.read_back.Goals as goal
 
 pub returns-clause-pushed : goal.returns-clause-pushed
 returns-clause-pushed g c =
     let s = c.args.schema.now in
-    let laws : SchemaLaws (g.S.Schema.shape_of s) (g.S.Schema.accepted s) (g.S.Schema.text s) = record {
-      zero_has_none = g.met.S.Schema.zero_has_none s;
-      shapes_fit = g.met.S.Schema.shapes_fit s;
-      texts_fit = g.met.S.Schema.texts_fit s;
-      texts_differ = g.met.S.Schema.texts_differ s;
-    } in
+    let laws = laws_from (g.met.S.Schema.zero_has_none s) (g.met.S.Schema.shapes_fit s) (g.met.S.Schema.texts_fit s) (g.met.S.Schema.texts_differ s) in
     λ ps h. read_all_reads (g.S.Schema.shape_of s) (g.S.Schema.accepted s) (g.S.Schema.text s) laws c.bytes.result.now (reverse (records ps)) c.read_all.result
     (subst (λ z. BufferText (g.S.Schema.shape_of s) (g.S.Schema.accepted s) (g.S.Schema.text s) 0 z (reverse (records ps))) (sym c.bytes.ensures)
     (reads_back (g.S.Schema.shape_of s) (g.S.Schema.accepted s) (g.S.Schema.text s) laws c.args.buffer.now ps h))

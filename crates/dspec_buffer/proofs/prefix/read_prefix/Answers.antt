@@ -1,17 +1,12 @@
 use Rattle.std.proofs.Common.{arith}
-use Rattle.dspec_buffer.proofs.SchemaLaws.{SchemaLaws}
+use Rattle.dspec_buffer.proofs.SchemaLaws.{laws_from}
 use Rattle.dspec_buffer.proofs.Ended.{remaining_before, ended_whole, ended_at_fault}
 use Rattle.dspec_buffer.proofs.prefix.read_prefix.Goals as goal
 
 pub invariant_of-records-inside : goal.invariant_of-records-inside
 invariant_of-records-inside g c =
     let s = c.args.schema.now in
-    let laws : SchemaLaws (g.S.Schema.shape_of s) (g.S.Schema.accepted s) (g.S.Schema.text s) = record {
-      zero_has_none = g.met.S.Schema.zero_has_none s;
-      shapes_fit = g.met.S.Schema.shapes_fit s;
-      texts_fit = g.met.S.Schema.texts_fit s;
-      texts_differ = g.met.S.Schema.texts_differ s;
-    } in (
+    let laws = laws_from (g.met.S.Schema.zero_has_none s) (g.met.S.Schema.shapes_fit s) (g.met.S.Schema.texts_fit s) (g.met.S.Schema.texts_differ s) in (
       omega arith,
       (
         remaining_before (g.S.Schema.shape_of s) (g.S.Schema.accepted s) (g.S.Schema.text s) laws c.args.text.now c.read_up_to-end.result.0 c.read_up_to-end.result.1
@@ -23,23 +18,13 @@ invariant_of-records-inside g c =
 pub returns-clause-whole : goal.returns-clause-whole
 returns-clause-whole g c =
     let s = c.args.schema.now in
-    let laws : SchemaLaws (g.S.Schema.shape_of s) (g.S.Schema.accepted s) (g.S.Schema.text s) = record {
-      zero_has_none = g.met.S.Schema.zero_has_none s;
-      shapes_fit = g.met.S.Schema.shapes_fit s;
-      texts_fit = g.met.S.Schema.texts_fit s;
-      texts_differ = g.met.S.Schema.texts_differ s;
-    } in
+    let laws = laws_from (g.met.S.Schema.zero_has_none s) (g.met.S.Schema.shapes_fit s) (g.met.S.Schema.texts_fit s) (g.met.S.Schema.texts_differ s) in
     ended_whole (g.S.Schema.shape_of s) (g.S.Schema.accepted s) (g.S.Schema.text s) laws c.args.text.now c.read_up_to-end.result.0 c.read_up_to-end.result.1
     c.records-1.given.1.0 c.read_up_to-end.ensures.ends
 
 pub returns-clause-fault : goal.returns-clause-fault
 returns-clause-fault g c =
     let s = c.args.schema.now in
-    let laws : SchemaLaws (g.S.Schema.shape_of s) (g.S.Schema.accepted s) (g.S.Schema.text s) = record {
-      zero_has_none = g.met.S.Schema.zero_has_none s;
-      shapes_fit = g.met.S.Schema.shapes_fit s;
-      texts_fit = g.met.S.Schema.texts_fit s;
-      texts_differ = g.met.S.Schema.texts_differ s;
-    } in
+    let laws = laws_from (g.met.S.Schema.zero_has_none s) (g.met.S.Schema.shapes_fit s) (g.met.S.Schema.texts_fit s) (g.met.S.Schema.texts_differ s) in
     ended_at_fault (g.S.Schema.shape_of s) (g.S.Schema.accepted s) (g.S.Schema.text s) laws c.args.text.now c.read_up_to-end.result.0 c.read_up_to-end.result.1
     c.records-1.given.1.0 c.read_up_to-end.ensures.ends

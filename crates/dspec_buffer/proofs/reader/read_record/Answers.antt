@@ -2,19 +2,14 @@ use Rattle.std.proofs.Common.{Err, subst, refl, drop, arith, length-drop}
 use Rattle.std.proofs.lemmas.List.{take_rest}
 use Rattle.dspec_buffer.specs.Words.{Answers, FaultHere}
 use Rattle.dspec_record.specs.declared.reading.ReadKind.TheVariants.{Misaligned}
-use Rattle.dspec_buffer.proofs.SchemaLaws.{SchemaLaws}
+use Rattle.dspec_buffer.proofs.SchemaLaws.{laws_from}
 use Rattle.dspec_buffer.proofs.Got.{got_record, got_fault}
 use Rattle.dspec_buffer.proofs.reader.read_record.Goals as goal
 
 pub returns-in-Err : goal.returns-in-Err
 returns-in-Err g c =
     let s = c.args.schema.now in
-    let laws : SchemaLaws (g.S.Schema.shape_of s) (g.S.Schema.accepted s) (g.S.Schema.text s) = record {
-      zero_has_none = g.met.S.Schema.zero_has_none s;
-      shapes_fit = g.met.S.Schema.shapes_fit s;
-      texts_fit = g.met.S.Schema.texts_fit s;
-      texts_differ = g.met.S.Schema.texts_differ s;
-    } in
+    let laws = laws_from (g.met.S.Schema.zero_has_none s) (g.met.S.Schema.shapes_fit s) (g.met.S.Schema.texts_fit s) (g.met.S.Schema.texts_differ s) in
     let rest = take_rest c.args.text.now c.args.at in
     let told = rw rest at c.is_misaligned.ensures in
     let no_fault = c.if-is_misaligned.false in
@@ -30,12 +25,7 @@ returns-in-Err g c =
 pub returns : goal.returns
 returns g c =
     let s = c.args.schema.now in
-    let laws : SchemaLaws (g.S.Schema.shape_of s) (g.S.Schema.accepted s) (g.S.Schema.text s) = record {
-      zero_has_none = g.met.S.Schema.zero_has_none s;
-      shapes_fit = g.met.S.Schema.shapes_fit s;
-      texts_fit = g.met.S.Schema.texts_fit s;
-      texts_differ = g.met.S.Schema.texts_differ s;
-    } in
+    let laws = laws_from (g.met.S.Schema.zero_has_none s) (g.met.S.Schema.shapes_fit s) (g.met.S.Schema.texts_fit s) (g.met.S.Schema.texts_differ s) in
     let rest = take_rest c.args.text.now c.args.at in
     let told = rw rest at c.is_misaligned.ensures in
     let no_fault = c.if-is_misaligned.false in

@@ -1,18 +1,13 @@
 use Rattle.std.proofs.Common.{◌≡◌, ap, refl, ◌∙◌, subst, nat_le, arith}
 use Rattle.dspec_buffer.specs.Words.{reserved, extent}
-use Rattle.dspec_buffer.proofs.SchemaLaws.{SchemaLaws}
+use Rattle.dspec_buffer.proofs.SchemaLaws.{laws_from}
 use Rattle.dspec_buffer.proofs.Fitting.{admits_none, answers}
 use Rattle.dspec_buffer.proofs.Keeping.{offset_is}
 use Rattle.dspec_buffer.proofs.byte_buffer.ByteBufferTraceBuffer.fits.Goals as goal
 
 pub returns-then-size-eq0 : goal.returns-then-size-eq0
 returns-then-size-eq0 g c = λ s ps h.
-    let laws : SchemaLaws (g.S.Schema.shape_of s) (g.S.Schema.accepted s) (g.S.Schema.text s) = record {
-      zero_has_none = g.met.S.Schema.zero_has_none s;
-      shapes_fit = g.met.S.Schema.shapes_fit s;
-      texts_fit = g.met.S.Schema.texts_fit s;
-      texts_differ = g.met.S.Schema.texts_differ s;
-    } in
+    let laws = laws_from (g.met.S.Schema.zero_has_none s) (g.met.S.Schema.shapes_fit s) (g.met.S.Schema.texts_fit s) (g.met.S.Schema.texts_differ s) in
     let within = c.self.invariant.within in
     let long = c.self.inside.bytes.ok.0 in
     let at = offset_is (g.S.Schema.shape_of s) (g.S.Schema.accepted s) (g.S.Schema.text s) laws c.args.self.now c.self.inside.offset c.self.inside.bytes.items ps
@@ -22,12 +17,7 @@ returns-then-size-eq0 g c = λ s ps h.
 
 pub returns-else-size-eq0 : goal.returns-else-size-eq0
 returns-else-size-eq0 g c = λ s ps h.
-    let laws : SchemaLaws (g.S.Schema.shape_of s) (g.S.Schema.accepted s) (g.S.Schema.text s) = record {
-      zero_has_none = g.met.S.Schema.zero_has_none s;
-      shapes_fit = g.met.S.Schema.shapes_fit s;
-      texts_fit = g.met.S.Schema.texts_fit s;
-      texts_differ = g.met.S.Schema.texts_differ s;
-    } in
+    let laws = laws_from (g.met.S.Schema.zero_has_none s) (g.met.S.Schema.shapes_fit s) (g.met.S.Schema.texts_fit s) (g.met.S.Schema.texts_differ s) in
     let within = c.self.invariant.within in
     let long = c.self.inside.bytes.ok.0 in
     let at = offset_is (g.S.Schema.shape_of s) (g.S.Schema.accepted s) (g.S.Schema.text s) laws c.args.self.now c.self.inside.offset c.self.inside.bytes.items ps

@@ -1,14 +1,9 @@
 use Rattle.std.proofs.Common.{length, ap, ◌∙◌}
-use Rattle.dspec_buffer.proofs.SchemaLaws.{SchemaLaws}
+use Rattle.dspec_buffer.proofs.SchemaLaws.{laws_from}
 use Rattle.dspec_buffer.proofs.Keeping.{extent_of_pieces}
 use Rattle.dspec_buffer.proofs.byte_buffer.ByteBufferTraceBuffer.offset.Goals as goal
 
 pub returns-clause-extent : goal.returns-clause-extent
 returns-clause-extent g c = λ s ps h.
-    let laws : SchemaLaws (g.S.Schema.shape_of s) (g.S.Schema.accepted s) (g.S.Schema.text s) = record {
-      zero_has_none = g.met.S.Schema.zero_has_none s;
-      shapes_fit = g.met.S.Schema.shapes_fit s;
-      texts_fit = g.met.S.Schema.texts_fit s;
-      texts_differ = g.met.S.Schema.texts_differ s;
-    } in
+    let laws = laws_from (g.met.S.Schema.zero_has_none s) (g.met.S.Schema.shapes_fit s) (g.met.S.Schema.texts_fit s) (g.met.S.Schema.texts_differ s) in
     c.offset.ensures.text ∙ ap length h.text_is ∙ (extent_of_pieces (g.S.Schema.shape_of s) (g.S.Schema.accepted s) (g.S.Schema.text s) laws c.args.self.now ps h).long

@@ -1,19 +1,14 @@
 use Rattle.std.proofs.Common.{◌≡◌, ◌++◌, ◌-◌, true, false, inr, ap, refl, sym, ◌∙◌, arith, length, take, replicate}
 use Rattle.std.proofs.lemmas.List.{length-take-le}
 use Rattle.dspec_buffer.specs.Words.{block, extent, padded}
-use Rattle.dspec_buffer.proofs.SchemaLaws.{SchemaLaws}
+use Rattle.dspec_buffer.proofs.SchemaLaws.{laws_from}
 use Rattle.dspec_buffer.proofs.Fitting.{refuses, admits, admits_none, laid_back}
 use Rattle.dspec_buffer.proofs.Keeping.{offset_is, fits_says, kept, block_of, block_offset, kept_empty}
 use Rattle.dspec_buffer.proofs.byte_buffer.ByteBufferTraceBuffer.push_block.Goals as goal
 
 pub returns-then-size-eq0-clause-answer : goal.returns-then-size-eq0-clause-answer
 returns-then-size-eq0-clause-answer g c = λ s ps rs h k.
-    let laws : SchemaLaws (g.S.Schema.shape_of s) (g.S.Schema.accepted s) (g.S.Schema.text s) = record {
-      zero_has_none = g.met.S.Schema.zero_has_none s;
-      shapes_fit = g.met.S.Schema.shapes_fit s;
-      texts_fit = g.met.S.Schema.texts_fit s;
-      texts_differ = g.met.S.Schema.texts_differ s;
-    } in
+    let laws = laws_from (g.met.S.Schema.zero_has_none s) (g.met.S.Schema.shapes_fit s) (g.met.S.Schema.texts_fit s) (g.met.S.Schema.texts_differ s) in
     let within = c.self.invariant.within in
     let long = c.self.inside.bytes.ok.0 in
     let within' = c.other.invariant.within in
@@ -28,12 +23,7 @@ returns-then-size-eq0-clause-answer g c = λ s ps rs h k.
 
 pub returns-then-size-eq0-clause-kept : goal.returns-then-size-eq0-clause-kept
 returns-then-size-eq0-clause-kept g c = λ s ps rs h k.
-    let laws : SchemaLaws (g.S.Schema.shape_of s) (g.S.Schema.accepted s) (g.S.Schema.text s) = record {
-      zero_has_none = g.met.S.Schema.zero_has_none s;
-      shapes_fit = g.met.S.Schema.shapes_fit s;
-      texts_fit = g.met.S.Schema.texts_fit s;
-      texts_differ = g.met.S.Schema.texts_differ s;
-    } in
+    let laws = laws_from (g.met.S.Schema.zero_has_none s) (g.met.S.Schema.shapes_fit s) (g.met.S.Schema.texts_fit s) (g.met.S.Schema.texts_differ s) in
     let within = c.self.invariant.within in
     let long = c.self.inside.bytes.ok.0 in
     let within' = c.other.invariant.within in
@@ -47,12 +37,7 @@ returns-then-size-eq0-clause-kept g c = λ s ps rs h k.
 
 pub returns-in_default-clause-answer : goal.returns-in_default-clause-answer
 returns-in_default-clause-answer g c = λ s ps rs h k.
-    let laws : SchemaLaws (g.S.Schema.shape_of s) (g.S.Schema.accepted s) (g.S.Schema.text s) = record {
-      zero_has_none = g.met.S.Schema.zero_has_none s;
-      shapes_fit = g.met.S.Schema.shapes_fit s;
-      texts_fit = g.met.S.Schema.texts_fit s;
-      texts_differ = g.met.S.Schema.texts_differ s;
-    } in
+    let laws = laws_from (g.met.S.Schema.zero_has_none s) (g.met.S.Schema.shapes_fit s) (g.met.S.Schema.texts_fit s) (g.met.S.Schema.texts_differ s) in
     let within = c.self.invariant.within in
     let long = c.self.inside.bytes.ok.0 in
     let within' = c.other.invariant.within in
@@ -67,12 +52,7 @@ returns-in_default-clause-answer g c = λ s ps rs h k.
 
 pub returns-clause-answer : goal.returns-clause-answer
 returns-clause-answer g c = λ s ps rs h k.
-    let laws : SchemaLaws (g.S.Schema.shape_of s) (g.S.Schema.accepted s) (g.S.Schema.text s) = record {
-      zero_has_none = g.met.S.Schema.zero_has_none s;
-      shapes_fit = g.met.S.Schema.shapes_fit s;
-      texts_fit = g.met.S.Schema.texts_fit s;
-      texts_differ = g.met.S.Schema.texts_differ s;
-    } in
+    let laws = laws_from (g.met.S.Schema.zero_has_none s) (g.met.S.Schema.shapes_fit s) (g.met.S.Schema.texts_fit s) (g.met.S.Schema.texts_differ s) in
     let within = c.self.invariant.within in
     let long = c.self.inside.bytes.ok.0 in
     let within' = c.other.invariant.within in
@@ -87,12 +67,7 @@ returns-clause-answer g c = λ s ps rs h k.
 
 pub returns-clause-kept : goal.returns-clause-kept
 returns-clause-kept g c = λ s ps rs h k.
-    let laws : SchemaLaws (g.S.Schema.shape_of s) (g.S.Schema.accepted s) (g.S.Schema.text s) = record {
-      zero_has_none = g.met.S.Schema.zero_has_none s;
-      shapes_fit = g.met.S.Schema.shapes_fit s;
-      texts_fit = g.met.S.Schema.texts_fit s;
-      texts_differ = g.met.S.Schema.texts_differ s;
-    } in
+    let laws = laws_from (g.met.S.Schema.zero_has_none s) (g.met.S.Schema.shapes_fit s) (g.met.S.Schema.texts_fit s) (g.met.S.Schema.texts_differ s) in
     let within = c.self.invariant.within in
     let long = c.self.inside.bytes.ok.0 in
     let within' = c.other.invariant.within in

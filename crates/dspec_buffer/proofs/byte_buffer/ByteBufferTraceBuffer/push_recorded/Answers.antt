@@ -1,7 +1,7 @@
 use Rattle.std.proofs.Common.{◌≡◌, Some, true, false, ap, sym, ◌∙◌, arith, length, take, replicate, ◌++◌, ◌-◌}
 use Rattle.dspec_record.specs.declared.field.Shape.{Shape}
 use Rattle.dspec_buffer.specs.Words.{one, extent, padded}
-use Rattle.dspec_buffer.proofs.SchemaLaws.{SchemaLaws}
+use Rattle.dspec_buffer.proofs.SchemaLaws.{laws_from}
 use Rattle.dspec_buffer.proofs.Texts.{text_facts}
 use Rattle.dspec_buffer.proofs.Fitting.{refuses, admits, placed, laid_whole}
 use Rattle.dspec_buffer.proofs.Keeping.{offset_is, fits_says, shape_says, kept, accepted_alone}
@@ -33,12 +33,7 @@ returns-then-end-self-clause-answer g c = λ ps h.
     let s = c.args.schema.now in
     let r = g.R.Recorded.as_record c.args.rec in
     let shape : Shape = c.shape_in-size.result in
-    let laws : SchemaLaws (g.S.Schema.shape_of s) (g.S.Schema.accepted s) (g.S.Schema.text s) = record {
-      zero_has_none = g.met.S.Schema.zero_has_none s;
-      shapes_fit = g.met.S.Schema.shapes_fit s;
-      texts_fit = g.met.S.Schema.texts_fit s;
-      texts_differ = g.met.S.Schema.texts_differ s;
-    } in
+    let laws = laws_from (g.met.S.Schema.zero_has_none s) (g.met.S.Schema.shapes_fit s) (g.met.S.Schema.texts_fit s) (g.met.S.Schema.texts_differ s) in
     let within = c.self.invariant.within in
     let long = c.self.inside.bytes.ok.0 in
     let at = offset_is (g.S.Schema.shape_of s) (g.S.Schema.accepted s) (g.S.Schema.text s) laws c.args.self.now c.self.inside.offset c.self.inside.bytes.items ps
@@ -70,12 +65,7 @@ returns-clause-answer g c = λ ps h.
     let s = c.args.schema.now in
     let r = g.R.Recorded.as_record c.args.rec in
     let shape : Shape = c.shape_in-size.result in
-    let laws : SchemaLaws (g.S.Schema.shape_of s) (g.S.Schema.accepted s) (g.S.Schema.text s) = record {
-      zero_has_none = g.met.S.Schema.zero_has_none s;
-      shapes_fit = g.met.S.Schema.shapes_fit s;
-      texts_fit = g.met.S.Schema.texts_fit s;
-      texts_differ = g.met.S.Schema.texts_differ s;
-    } in
+    let laws = laws_from (g.met.S.Schema.zero_has_none s) (g.met.S.Schema.shapes_fit s) (g.met.S.Schema.texts_fit s) (g.met.S.Schema.texts_differ s) in
     let within = c.self.invariant.within in
     let long = c.self.inside.bytes.ok.0 in
     let at = offset_is (g.S.Schema.shape_of s) (g.S.Schema.accepted s) (g.S.Schema.text s) laws c.args.self.now c.self.inside.offset c.self.inside.bytes.items ps
@@ -93,12 +83,7 @@ returns-clause-kept g c = λ ps h.
     let s = c.args.schema.now in
     let r = g.R.Recorded.as_record c.args.rec in
     let shape : Shape = c.shape_in-size.result in
-    let laws : SchemaLaws (g.S.Schema.shape_of s) (g.S.Schema.accepted s) (g.S.Schema.text s) = record {
-      zero_has_none = g.met.S.Schema.zero_has_none s;
-      shapes_fit = g.met.S.Schema.shapes_fit s;
-      texts_fit = g.met.S.Schema.texts_fit s;
-      texts_differ = g.met.S.Schema.texts_differ s;
-    } in
+    let laws = laws_from (g.met.S.Schema.zero_has_none s) (g.met.S.Schema.shapes_fit s) (g.met.S.Schema.texts_fit s) (g.met.S.Schema.texts_differ s) in
     let within = c.self.invariant.within in
     let long = c.self.inside.bytes.ok.0 in
     let at = offset_is (g.S.Schema.shape_of s) (g.S.Schema.accepted s) (g.S.Schema.text s) laws c.args.self.now c.self.inside.offset c.self.inside.bytes.items ps

@@ -4,7 +4,7 @@ use Rattle.dspec_buffer.specs.Words.{one, extent, reserved, piece_align}
 use Rattle.dspec_buffer.proofs.Fitting.{refuses, admits, placed}
 use Rattle.dspec_buffer.proofs.Keeping.{fits_says, shape_says}
 use Rattle.dspec_buffer.proofs.Listing.{listed, one_accepted, one_text}
-use Rattle.dspec_buffer.proofs.SchemaLaws.{SchemaLaws}
+use Rattle.dspec_buffer.proofs.SchemaLaws.{laws_from}
 use Rattle.dspec_buffer.proofs.Texts.{text_facts}
 use Rattle.dspec_buffer.proofs.list_buffer.ListBufferTraceBuffer.push_recorded.Goals as goal
 
@@ -35,12 +35,7 @@ put-requires-clause-exact g c =
     let r = g.R.Recorded.as_record c.args.rec in
     let named : g.S.Schema.shape_of s r.epid ≡ Some c.unwrap-shape.result = ap (g.S.Schema.shape_of s) (sym c.epid.ensures) ∙ sym c.shape.ensures ∙ c.unwrap-shape.ensures in
     let fit = g.met.S.Schema.shapes_fit s r.epid c.unwrap-shape.result named in
-    let laws : SchemaLaws (g.S.Schema.shape_of s) (g.S.Schema.accepted s) (g.S.Schema.text s) = record {
-      zero_has_none = g.met.S.Schema.zero_has_none s;
-      shapes_fit = g.met.S.Schema.shapes_fit s;
-      texts_fit = g.met.S.Schema.texts_fit s;
-      texts_differ = g.met.S.Schema.texts_differ s;
-    } in
+    let laws = laws_from (g.met.S.Schema.zero_has_none s) (g.met.S.Schema.shapes_fit s) (g.met.S.Schema.texts_fit s) (g.met.S.Schema.texts_differ s) in
     let says = shape_says (g.S.Schema.shape_of s) r c.unwrap-shape.result named in
     let t = text_facts (g.S.Schema.shape_of s) (g.S.Schema.accepted s) (g.S.Schema.text s) laws r c.requires.accepted in
     length-take-le c.unwrap-shape.result.size _ fit.bounded ∙ sym (ap (λ q. length (g.S.Schema.text s q)) c.to_rec.ensures ∙ t.size ∙ says.0)
@@ -54,12 +49,7 @@ unwrap-requires g c =
     let r = g.R.Recorded.as_record c.args.rec in
     let named : g.S.Schema.shape_of s r.epid ≡ Some c.unwrap-shape.result = ap (g.S.Schema.shape_of s) (sym c.epid.ensures) ∙ sym c.shape.ensures ∙ c.unwrap-shape.ensures in
     let fit = g.met.S.Schema.shapes_fit s r.epid c.unwrap-shape.result named in
-    let laws : SchemaLaws (g.S.Schema.shape_of s) (g.S.Schema.accepted s) (g.S.Schema.text s) = record {
-      zero_has_none = g.met.S.Schema.zero_has_none s;
-      shapes_fit = g.met.S.Schema.shapes_fit s;
-      texts_fit = g.met.S.Schema.texts_fit s;
-      texts_differ = g.met.S.Schema.texts_differ s;
-    } in
+    let laws = laws_from (g.met.S.Schema.zero_has_none s) (g.met.S.Schema.shapes_fit s) (g.met.S.Schema.texts_fit s) (g.met.S.Schema.texts_differ s) in
     let says = shape_says (g.S.Schema.shape_of s) r c.unwrap-shape.result named in
     let t = text_facts (g.S.Schema.shape_of s) (g.S.Schema.accepted s) (g.S.Schema.text s) laws r c.requires.accepted in
     let written : length c.put.new.out ≡ c.unwrap-shape.result.size = ap length (c.put.ensures ∙ ap (g.S.Schema.text s) c.to_rec.ensures) ∙ t.size ∙ says.0 in
@@ -78,12 +68,7 @@ invariant_of-self g c =
     let r = g.R.Recorded.as_record c.args.rec in
     let named : g.S.Schema.shape_of s r.epid ≡ Some c.unwrap-shape.result = ap (g.S.Schema.shape_of s) (sym c.epid.ensures) ∙ sym c.shape.ensures ∙ c.unwrap-shape.ensures in
     let fit = g.met.S.Schema.shapes_fit s r.epid c.unwrap-shape.result named in
-    let laws : SchemaLaws (g.S.Schema.shape_of s) (g.S.Schema.accepted s) (g.S.Schema.text s) = record {
-      zero_has_none = g.met.S.Schema.zero_has_none s;
-      shapes_fit = g.met.S.Schema.shapes_fit s;
-      texts_fit = g.met.S.Schema.texts_fit s;
-      texts_differ = g.met.S.Schema.texts_differ s;
-    } in
+    let laws = laws_from (g.met.S.Schema.zero_has_none s) (g.met.S.Schema.shapes_fit s) (g.met.S.Schema.texts_fit s) (g.met.S.Schema.texts_differ s) in
     let says = shape_says (g.S.Schema.shape_of s) r c.unwrap-shape.result named in
     let t = text_facts (g.S.Schema.shape_of s) (g.S.Schema.accepted s) (g.S.Schema.text s) laws r c.requires.accepted in
     let written : length c.put.new.out ≡ c.unwrap-shape.result.size = ap length (c.put.ensures ∙ ap (g.S.Schema.text s) c.to_rec.ensures) ∙ t.size ∙ says.0 in
