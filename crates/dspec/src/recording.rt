@@ -1,9 +1,8 @@
-ghost use Rattle.std.specs.Prelude.{◌≡◌, ◌↔◌, ℕ, IfOk, IsOk, IsSome, IsTrue};
+ghost use Rattle.std.specs.Prelude.{◌≡◌, ◌↔◌, ℕ, IfOk, IsOk, IsSome};
 ghost use Rattle.dspec_record.specs.EnablingRows.{EnabledRows};
 ghost use Rattle.dspec_record.specs.Record.{Record};
 ghost use Rattle.dspec_deeds.specs.FateAnswers.{id_given};
 ghost use Rattle.dspec_cpu.specs.Lists.{schema_of};
-ghost use Rattle.dspec_probe.specs.Probes.{IsProbeOf};
 ghost use Rattle.dspec.specs.LaneCalls.{SpeculateIfOf, SpeculateOn, TraceIfOf, TraceOn};
 ghost use Rattle.dspec.specs.Lanes.{place_of};
 ghost use Rattle.dspec.specs.LastPaths.{LastRecordOn};
@@ -15,8 +14,7 @@ use crate::path::Path;
 use dspec_cpu::{Cpu, Listed};
 use dspec_deeds::{Spoken, Traced};
 use dspec_probe::{Fields, Fired, Probe};
-use dspec_record::laid_out::laid_shape;
-use dspec_record::{Enablings, Header, Schema, Stamped, Unstamped};
+use dspec_record::{Enablings, Header, Stamped, Unstamped};
 use dspec_word::SpecId;
 
 /// What a probe does on a lane. The lane's schema has to have the probe: `on` asks once, and no call of the lane changes it. `try_record`
@@ -83,16 +81,6 @@ pub trait Recording<F: Fields>: Copy {
         ensures does { SpeculateIfOf ⟦<Cpu<Enablings> as Listed>⟧.has_list (id_given path.now.opening) (record_is self stamp values) result lane.old lane.new };
 }
 
-// What a trial build stops at, where nobody has shown that the schema has the probe: whether its EPID has records of the probe's size
-// there. Of what is proved nobody looks at the answer.
-#[inline(always)]
-fn has_its_size<F: Fields>(probe: Probe<F>, schema: &Enablings) -> bool
-    ensures { IsProbeOf F.fields_are probe schema.now → IsTrue result }
-{
-    let laid = laid_shape(probe.header(), F::fields().as_slice());
-    schema.shape(probe.epid()) == Some(laid)
-}
-
 impl<F: Fields> Recording<F> for Probe<F> {
     ghost use Rattle.dspec_probe.specs.Probes.{IsProbeOf, probed_record};
 
@@ -109,13 +97,10 @@ impl<F: Fields> Recording<F> for Probe<F> {
 
     #[inline(always)]
     fn record(self, lane: &mut Lane<'_, Enablings>, stamp: u64, values: F) -> Traced {
-        let has = has_its_size(self, lane.schema());
-        prove!(has);
-        let rec = self.rec(stamp, values);
         // each way is compiled with its header's numbers
         match self.header() {
-            Header::One => lane.trace_recorded(Fired::<F, Unstamped>::of(&rec, values)),
-            Header::Two => lane.trace_recorded(Fired::<F, Stamped>::of(&rec, values)),
+            Header::One => lane.trace_recorded(Fired::<F, Unstamped>::of(self, stamp, values)),
+            Header::Two => lane.trace_recorded(Fired::<F, Stamped>::of(self, stamp, values)),
         }
     }
 
@@ -138,23 +123,26 @@ impl<F: Fields> Recording<F> for Probe<F> {
         stamp: u64,
         values: F,
     ) -> Spoken {
-        let has = has_its_size(self, lane.schema());
-        prove!(has);
-        let rec = self.rec(stamp, values);
         match self.header() {
-            Header::One => path.offer_recorded(lane, Fired::<F, Unstamped>::of(&rec, values)),
-            Header::Two => path.offer_recorded(lane, Fired::<F, Stamped>::of(&rec, values)),
+            Header::One => path.offer_recorded(
+                lane,
+                Fired::<F, Unstamped>::of(self, stamp, values),
+            ),
+            Header::Two => path.offer_recorded(lane, Fired::<F, Stamped>::of(self, stamp, values)),
         }
     }
 
     #[inline(always)]
     fn offer(self, lane: &mut Lane<'_, Enablings>, id: SpecId, stamp: u64, values: F) -> Spoken {
-        let has = has_its_size(self, lane.schema());
-        prove!(has);
-        let rec = self.rec(stamp, values);
         match self.header() {
-            Header::One => lane.speculate_recorded(id, Fired::<F, Unstamped>::of(&rec, values)),
-            Header::Two => lane.speculate_recorded(id, Fired::<F, Stamped>::of(&rec, values)),
+            Header::One => lane.speculate_recorded(
+                id,
+                Fired::<F, Unstamped>::of(self, stamp, values),
+            ),
+            Header::Two => lane.speculate_recorded(
+                id,
+                Fired::<F, Stamped>::of(self, stamp, values),
+            ),
         }
     }
 
