@@ -4,8 +4,9 @@ use Rattle.std.proofs.Common.{◌≡◌, ◌+◌, ◌*◌, ◌%◌, ◌≤◌, �
 use Rattle.std.proofs.lemmas.List.{length-take-le, nil_from_length, append-nil}
 use Rattle.std.proofs.lemmas.List.Elements.{All-append, All-cons, All-nil}
 use Rattle.dspec_buffer.specs.Words.{Record, Piece, one, block, reserved, piece_fits, records, records_of, size_of, align_of, extent, extent_of_records, piece_align, piece_size, piece_bytes, padded}
-use Rattle.dspec_buffer.specs.Words.{bytes, bytes_of_records, Stored, HasPieces}
+use Rattle.dspec_buffer.specs.Words.{bytes, bytes_of_records, Stored, HasPieces, IsInside, stored_of}
 use Rattle.dspec_record.specs.declared.field.Shape.{Shape}
+use Rattle.dspec_buffer.specs.declared.byte_buffer.ByteBuffer.TheInside.{Inside}
 use Rattle.dspec_buffer.proofs.SchemaLaws.{SchemaLaws}
 use Rattle.dspec_buffer.proofs.Accepted.{AllAccepted}
 use Rattle.dspec_buffer.proofs.Extents.{IsExtent, records_extent, pieces_extent}
@@ -35,6 +36,9 @@ module _ (shape : ℕ → Option Shape) (accepted : Record → Bool) (text : Rec
   pub offset_is : (b : Stored) (o : ℕ) (items : List ℕ) (ps : List Piece) → take o items ≡ b.text → o ≤ length items → HasPieces shape accepted text b ps → o ≡ extent shape ps
   offset_is b o items ps e l h =
       sym (length-take-le o items l) ∙ ap length (e ∙ h.text_is) ∙ (extent_of_pieces b ps h).long
+
+  pub reaches : (a : Inside) (b : Stored) (ps : List Piece) → IsInside a → stored_of a ≡ b → HasPieces shape accepted text b ps → a.offset ≡ extent shape ps
+  reaches a b ps is view h = offset_is b a.offset a.bytes.items ps (ap (λ v. v.text) view) (omega (arith, is.within, is.slack, a.bytes.ok.0)) h
 
   pub kept : (b b' : Stored) (p : Piece) (ps : List Piece) → HasPieces shape accepted text b ps → AllAccepted accepted (records_of p)
       → b'.text ≡ b.text ++ padded (extent shape ps) (piece_align shape p) (piece_bytes shape text p) → b'.count ≡ b.count + length (records_of p) → HasPieces shape accepted text b' (p ∷ ps)
@@ -76,9 +80,8 @@ module _ (shape : ℕ → Option Shape) (accepted : Record → Bool) (text : Rec
       }
 
   -- the offset of such a buffer is the block's size
-  pub block_offset : (b : Stored) (o : ℕ) (items : List ℕ) (rs : List Record) → take o items ≡ b.text → o ≤ length items → HasPieces shape accepted text b (map one rs) → extent_of_records shape rs ≡ o
-  block_offset b o items rs e l h =
-      sym (extent-alone shape rs) ∙ sym (offset_is shape accepted text laws b o items (map one rs) e l h)
+  pub block_reaches : (a : Inside) (b : Stored) (rs : List Record) → IsInside a → stored_of a ≡ b → HasPieces shape accepted text b (map one rs) → extent_of_records shape rs ≡ a.offset
+  block_reaches a b rs is view h = sym (extent-alone shape rs) ∙ sym (reaches shape accepted text laws a b (map one rs) is view h)
 
   -- an empty block leaves a buffer as it is
   pub kept_empty : (b other : Stored) (ps : List Piece) (rs : List Record) → HasPieces shape accepted text b ps → HasPieces shape accepted text other (map one rs)

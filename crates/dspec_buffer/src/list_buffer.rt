@@ -77,7 +77,7 @@ impl<S: Schema> TraceBuffer<S> for ListBuffer {
     }
 
     fn push_recorded<R: Recorded>(&mut self, schema: &S, rec: R) -> bool {
-        let shape = schema.shape(rec.epid()).unwrap();
+        let shape = schema.shape_recorded(rec);
         let Some(place) = place_for(self.offset, self.size, shape.align, shape.size) else {
             return false;
         };

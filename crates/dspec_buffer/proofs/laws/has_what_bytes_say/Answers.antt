@@ -6,4 +6,4 @@ pub returns-clause-text : goal.returns-clause-text
 returns-clause-text g c =
     let s = c.args._schema.now in
     let laws = laws_from (g.met.S.Schema.zero_has_none s) (g.met.S.Schema.shapes_fit s) (g.met.S.Schema.texts_fit s) (g.met.S.Schema.texts_differ s) in
-    λ ps h. reads_back (g.S.Schema.shape_of s) (g.S.Schema.accepted s) (g.S.Schema.text s) laws c.args._buffer.now ps h
+    λ ps h. reads_back _ _ _ laws c.args._buffer.now ps h

@@ -9,8 +9,7 @@ invariant_of-records-inside g c =
     let laws = laws_from (g.met.S.Schema.zero_has_none s) (g.met.S.Schema.shapes_fit s) (g.met.S.Schema.texts_fit s) (g.met.S.Schema.texts_differ s) in (
       omega arith,
       (
-        remaining_before (g.S.Schema.shape_of s) (g.S.Schema.accepted s) (g.S.Schema.text s) laws c.args.text.now c.read_up_to-end.result.0 c.read_up_to-end.result.1
-            c.read_up_to-end.ensures.ends,
+        remaining_before _ _ _ laws c.args.text.now c.read_up_to-end.result.0 c.read_up_to-end.result.1 c.read_up_to-end.ensures.ends,
         tt,
       ),
     )
@@ -19,12 +18,10 @@ pub returns-clause-whole : goal.returns-clause-whole
 returns-clause-whole g c =
     let s = c.args.schema.now in
     let laws = laws_from (g.met.S.Schema.zero_has_none s) (g.met.S.Schema.shapes_fit s) (g.met.S.Schema.texts_fit s) (g.met.S.Schema.texts_differ s) in
-    ended_whole (g.S.Schema.shape_of s) (g.S.Schema.accepted s) (g.S.Schema.text s) laws c.args.text.now c.read_up_to-end.result.0 c.read_up_to-end.result.1
-    c.records-1.given.1.0 c.read_up_to-end.ensures.ends
+    ended_whole _ _ _ laws c.args.text.now c.read_up_to-end.result.0 c.read_up_to-end.result.1 c.records-1.given.1.0 c.read_up_to-end.ensures.ends
 
 pub returns-clause-fault : goal.returns-clause-fault
 returns-clause-fault g c =
     let s = c.args.schema.now in
     let laws = laws_from (g.met.S.Schema.zero_has_none s) (g.met.S.Schema.shapes_fit s) (g.met.S.Schema.texts_fit s) (g.met.S.Schema.texts_differ s) in
-    ended_at_fault (g.S.Schema.shape_of s) (g.S.Schema.accepted s) (g.S.Schema.text s) laws c.args.text.now c.read_up_to-end.result.0 c.read_up_to-end.result.1
-    c.records-1.given.1.0 c.read_up_to-end.ensures.ends
+    ended_at_fault _ _ _ laws c.args.text.now c.read_up_to-end.result.0 c.read_up_to-end.result.1 c.records-1.given.1.0 c.read_up_to-end.ensures.ends

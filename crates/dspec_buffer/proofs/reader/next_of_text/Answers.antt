@@ -7,10 +7,10 @@ pub returns-in-Ok : goal.returns-in-Ok
 returns-in-Ok g c =
     let s = c.args.schema.now in
     let laws = laws_from (g.met.S.Schema.zero_has_none s) (g.met.S.Schema.shapes_fit s) (g.met.S.Schema.texts_fit s) (g.met.S.Schema.texts_differ s) in
-    λ rs h. walks_on (g.S.Schema.shape_of s) (g.S.Schema.accepted s) (g.S.Schema.text s) laws c.args.text.now c.args.place rs (Ok c.in-Ok.step) c.in-Ok.ensures h
+    λ rs h. walks_on _ _ _ laws c.args.text.now c.args.place rs (Ok c.in-Ok.step) c.in-Ok.ensures h
 
 pub returns-in-Err : goal.returns-in-Err
 returns-in-Err g c =
     let s = c.args.schema.now in
     let laws = laws_from (g.met.S.Schema.zero_has_none s) (g.met.S.Schema.shapes_fit s) (g.met.S.Schema.texts_fit s) (g.met.S.Schema.texts_differ s) in
-    λ rs h. absurd (walks_on (g.S.Schema.shape_of s) (g.S.Schema.accepted s) (g.S.Schema.text s) laws c.args.text.now c.args.place rs (Err c.in-Err.field-0) c.in-Err.ensures h)
+    λ rs h. absurd (walks_on _ _ _ laws c.args.text.now c.args.place rs (Err c.in-Err.field-0) c.in-Err.ensures h)

@@ -12,22 +12,21 @@ returns-in_err-found-clause-fault g c =
     let s = c.args.schema.now in
     let laws = laws_from (g.met.S.Schema.zero_has_none s) (g.met.S.Schema.shapes_fit s) (g.met.S.Schema.texts_fit s) (g.met.S.Schema.texts_differ s) in
     let p = err_from_is_err_and c.from_residual.result c.from_residual.ensures.1 in
-    rw (p.1, p.2) (stops (g.S.Schema.shape_of s) (g.S.Schema.accepted s) (g.S.Schema.text s) laws c.args.text.now c.loop-found.place c.in_err-found.field-0.0
-    c.loop-found.invariant c.in_err-found.ensures)
+    rw (p.1, p.2) (stops _ _ _ laws c.args.text.now c.loop-found.place c.in_err-found.field-0.0 c.loop-found.invariant c.in_err-found.ensures)
 
 pub returns-in_err-found-clause-unreadable : goal.returns-in_err-found-clause-unreadable
 returns-in_err-found-clause-unreadable g c =
     let s = c.args.schema.now in
     let laws = laws_from (g.met.S.Schema.zero_has_none s) (g.met.S.Schema.shapes_fit s) (g.met.S.Schema.texts_fit s) (g.met.S.Schema.texts_differ s) in
     let p = err_from_is_err_and c.from_residual.result c.from_residual.ensures.1 in
-    rw p.1 (λ rs h. stops_unreadable (g.S.Schema.shape_of s) (g.S.Schema.accepted s) (g.S.Schema.text s) laws c.args.text.now c.in_err-found.field-0.0 rs
-    (stops (g.S.Schema.shape_of s) (g.S.Schema.accepted s) (g.S.Schema.text s) laws c.args.text.now c.loop-found.place c.in_err-found.field-0.0 c.loop-found.invariant c.in_err-found.ensures) h)
+    rw p.1 (λ rs h. stops_unreadable _ _ _ laws c.args.text.now c.in_err-found.field-0.0 rs
+    (stops _ _ _ laws c.args.text.now c.loop-found.place c.in_err-found.field-0.0 c.loop-found.invariant c.in_err-found.ensures) h)
 
 pub loop-found-preserved : goal.loop-found-preserved
 loop-found-preserved g c =
     let s = c.args.schema.now in
     let laws = laws_from (g.met.S.Schema.zero_has_none s) (g.met.S.Schema.shapes_fit s) (g.met.S.Schema.texts_fit s) (g.met.S.Schema.texts_differ s) in
-    reads_one (g.S.Schema.shape_of s) (g.S.Schema.accepted s) (g.S.Schema.text s) laws c.args.text.now c.loop-found.place c.in-Some.found.0 c.in-Some.found.1 c.loop-found.invariant
+    reads_one _ _ _ laws c.args.text.now c.loop-found.place c.in-Some.found.0 c.in-Some.found.1 c.loop-found.invariant
     (subst (λ o. ReadsNext (g.S.Schema.shape_of s) (g.S.Schema.accepted s) (g.S.Schema.text s) c.args.text.now c.loop-found.place (Ok o)) c.in-Some.is c.in_ok-found.ensures)
 
 pub invariant_of-result : goal.invariant_of-result
@@ -36,8 +35,7 @@ invariant_of-result g c =
     let laws = laws_from (g.met.S.Schema.zero_has_none s) (g.met.S.Schema.shapes_fit s) (g.met.S.Schema.texts_fit s) (g.met.S.Schema.texts_differ s) in (
       omega arith,
       (
-        remaining_at_start (g.S.Schema.shape_of s) (g.S.Schema.accepted s) (g.S.Schema.text s) laws c.args.text.now c.loop-found.invariant.read
-            (reads_all (g.S.Schema.shape_of s) (g.S.Schema.accepted s) (g.S.Schema.text s) laws c.args.text.now c.loop-found.place c.loop-found.invariant
+        remaining_at_start _ _ _ laws c.args.text.now c.loop-found.invariant.read (reads_all _ _ _ laws c.args.text.now c.loop-found.place c.loop-found.invariant
             (subst (λ o. ReadsNext (g.S.Schema.shape_of s) (g.S.Schema.accepted s) (g.S.Schema.text s) c.args.text.now c.loop-found.place (Ok o)) c.in_default.is c.in_ok-found.ensures)),
         tt,
       ),

@@ -18,7 +18,7 @@ returns-in-Err g c =
     let long = length-drop c.args.at c.args.text.now in
     let within = c.requires.within in (
       refl,
-      got_fault (g.S.Schema.shape_of s) (g.S.Schema.accepted s) (g.S.Schema.text s) laws c.in-Err.kind c.args.at (drop c.args.at c.args.text.now)
+      got_fault _ _ _ laws c.in-Err.kind c.args.at (drop c.args.at c.args.text.now)
           (omega arith) c.requires.no_gap fine (subst (λ z. Answers (g.S.Schema.shape_of s) (g.S.Schema.accepted s) (g.S.Schema.text s) z (Err c.in-Err.kind)) rest c.in-Err.ensures),
     )
 
@@ -31,4 +31,4 @@ returns g c =
     let no_fault = c.if-is_misaligned.false in
     let fine : ¬ FaultHere (g.S.Schema.shape_of s) (g.S.Schema.accepted s) (g.S.Schema.text s) Misaligned c.args.at (drop c.args.at c.args.text.now) =
     λ f. let yes_fault = told.1 f in cc in
-    got_record (g.S.Schema.shape_of s) (g.S.Schema.accepted s) (g.S.Schema.text s) laws c.args.text.now c.args.at c.in-Ok.found.0 c.in-Ok.found.1 c.requires.within fine (rw rest at c.in-Ok.ensures)
+    got_record _ _ _ laws c.args.text.now c.args.at c.in-Ok.found.0 c.in-Ok.found.1 c.requires.within fine (rw rest at c.in-Ok.ensures)

@@ -32,5 +32,6 @@ returns c = λ fs clean room.
           let Put : ℕ → ℕ → List ℕ → Type 0 = λ k low begun. take (k + 8 * length ws) c.loop-i.out ≡ take k begun ++ bytes_of_words (with_low low ws) in
           text-put_two c.args.header c.args.epid c.args.stamp _ c.from-low.result fs ws w.put_word.new.out c.loop-i.out w.in-Two.is refl c.from-low.ensures
           c.ranges.epid.fits c.ranges.stamp.fits c.requires.some small clean room w.put_word.ensures
-          (subst (Put 8 (c.args.stamp / 2 ^ 32)) w.out-is (subst (λ l. Put 8 l c.match-header.out) (ap (λ p. p.0) w.low-is) (subst (λ k. Put k c.match-header.low.0 c.match-header.out) eight (put (omega (arith, eight, ap fields_start w.in-Two.is, c.requires.room))))))
+          (subst (Put 8 (c.args.stamp / 2 ^ 32)) w.out-is (subst (λ l. Put 8 l c.match-header.out) (ap (λ p. p.0) w.low-is)
+          (subst (λ k. Put k c.match-header.low.0 c.match-header.out) eight (put (omega (arith, eight, ap fields_start w.in-Two.is, c.requires.room))))))
     ]

@@ -6,4 +6,4 @@ use Rattle.dspec_buffer.proofs.byte_buffer.ByteBufferTraceBuffer.offset.Goals as
 pub returns-clause-extent : goal.returns-clause-extent
 returns-clause-extent g c = λ s ps h.
     let laws = laws_from (g.met.S.Schema.zero_has_none s) (g.met.S.Schema.shapes_fit s) (g.met.S.Schema.texts_fit s) (g.met.S.Schema.texts_differ s) in
-    c.offset.ensures.text ∙ ap length h.text_is ∙ (extent_of_pieces (g.S.Schema.shape_of s) (g.S.Schema.accepted s) (g.S.Schema.text s) laws c.args.self.now ps h).long
+    c.offset.ensures.text ∙ ap length h.text_is ∙ (extent_of_pieces _ _ _ laws c.args.self.now ps h).long

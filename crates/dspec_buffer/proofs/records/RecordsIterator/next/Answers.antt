@@ -12,18 +12,16 @@ pub returns-in_err-found-clause-steps : goal.returns-in_err-found-clause-steps
 returns-in_err-found-clause-steps g c =
     let s = c.self.inside.schema.now in
     let laws = laws_from (g.met.S.Schema.zero_has_none s) (g.met.S.Schema.shapes_fit s) (g.met.S.Schema.texts_fit s) (g.met.S.Schema.texts_differ s) in
-    let none : c.args.self.now ≡ [] = sym c.self.view_is ∙ none_left (g.S.Schema.shape_of s) (g.S.Schema.accepted s) (g.S.Schema.text s) laws c.self.inside.text.now
-    c.self.inside.place c.self.inside.readable c.in_err-found.ensures in
+    let none : c.args.self.now ≡ [] = sym c.self.view_is ∙ none_left _ _ _ laws c.self.inside.text.now c.self.inside.place c.self.inside.readable c.in_err-found.ensures in
     rw c.from_residual.ensures (none, none)
 
 pub invariant_of-self-inside : goal.invariant_of-self-inside
 invariant_of-self-inside g c =
     let s = c.self.inside.schema.now in
     let laws = laws_from (g.met.S.Schema.zero_has_none s) (g.met.S.Schema.shapes_fit s) (g.met.S.Schema.texts_fit s) (g.met.S.Schema.texts_differ s) in (
-      within_next (g.S.Schema.shape_of s) (g.S.Schema.accepted s) (g.S.Schema.text s) laws c.self.inside.text.now c.self.inside.place c.in_ok-found.found c.self.inside.readable c.in_ok-found.ensures,
+      within_next _ _ _ laws c.self.inside.text.now c.self.inside.place c.in_ok-found.found c.self.inside.readable c.in_ok-found.ensures,
       (
-        remaining_next (g.S.Schema.shape_of s) (g.S.Schema.accepted s) (g.S.Schema.text s) laws c.self.inside.text.now c.self.inside.place c.in_ok-found.found
-            c.self.inside.readable c.in_ok-found.ensures,
+        remaining_next _ _ _ laws c.self.inside.text.now c.self.inside.place c.in_ok-found.found c.self.inside.readable c.in_ok-found.ensures,
         tt,
       ),
     )
@@ -32,8 +30,7 @@ pub returns-clause-steps : goal.returns-clause-steps
 returns-clause-steps g c =
     let s = c.self.inside.schema.now in
     let laws = laws_from (g.met.S.Schema.zero_has_none s) (g.met.S.Schema.shapes_fit s) (g.met.S.Schema.texts_fit s) (g.met.S.Schema.texts_differ s) in
-    sym c.self.view_is ∙ first_left (g.S.Schema.shape_of s) (g.S.Schema.accepted s) (g.S.Schema.text s) laws c.self.inside.text.now c.self.inside.place c.in_ok-found.found
-    c.self.inside.readable c.self-1.given.1.0 c.in_ok-found.ensures
+    sym c.self.view_is ∙ first_left _ _ _ laws c.self.inside.text.now c.self.inside.place c.in_ok-found.found c.self.inside.readable c.self-1.given.1.0 c.in_ok-found.ensures
 
 pub returns-clause-goes : goal.returns-clause-goes
 returns-clause-goes g c = let shorter = ap length (returns-clause-steps g c) in search rules
