@@ -80,6 +80,11 @@ never_idle o id word mine on e = absurd on
 granted_is : Granted ≢ Void
 granted_is q = absurd (cc (q))
 
+-- a commit or a discard is granted by its exchange alone
+pub decision_grants_none : (commits : Bool) (id : Speculation) (word : SlotState) (mine : Bool) → act_of (if commits then op.Commit id else op.Discard id) word mine ≡ Granted → ⊥
+decision_grants_none true id word mine e = commit_grants_none word.issue mine word.code (here_or_void (word.issue == id.issue) _ Granted e granted_is).1
+decision_grants_none false id word mine e = discard_grants_none word.issue mine word.code (here_or_void (word.issue == id.issue) _ Granted e granted_is).1
+
 -- the deeds of the last step
 pub ended_deeds : (k : Config) (c slot : ℕ) (doing : Doing) (id : Speculation) (word : SlotState) (o : CpuOp) (r : Reach) → IsOn id o → act_of o word doing.mine ≡ act_reached r
     → (r ≡ reach.Stopped → ⊥) → at_exchange k c doing slot word (is_attempt (act_reached r)) o ≡ reached_deeds c doing o r

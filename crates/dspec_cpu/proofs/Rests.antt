@@ -1,5 +1,6 @@
 -- One slot that what is left of a CPU settles by the last words.
-use Rattle.std.proofs.Common.{◌≡◌, ℕ, ◌<◌, ◌≤◌, ◌^◌, Bool, true, false, List, ◌∷◌, Option, if◌then◌else◌, refl, sym, ap, ◌∙◌, subst}
+use Rattle.std.proofs.Common.{◌≡◌, ℕ, ◌<◌, ◌≤◌, ◌^◌, Bool, true, false, List, ◌∷◌, Option, if◌then◌else◌, refl, sym, ap, ◌∙◌, subst, arith}
+use Rattle.std.proofs.lemmas.Bool.Decides.{nat_tests}
 use Rattle.dspec_cpu.specs.Words.{Record, settle_at, SlotState, CanBeReleased, word_number, is_granted, ack, word_at, settle_fate, Stored, own_closed_slot, last_set_up, last_words, Shows}
 use Rattle.dspec_cpu.specs.Words.{parts_of_side, CpuRest, AreShown, AreItsWords, CanCloseBehind, RestHasList, batches_of_rest, CanSettle, shown_at}
 use Rattle.dspec_record.specs.declared.field.Shape.{Shape}
@@ -10,9 +11,11 @@ use Rattle.dspec_deeds.specs.declared.config.Config.{Config}
 use Rattle.dspec_deeds.specs.declared.deed.Deed.{Deed}
 use Rattle.dspec_deeds.specs.declared.deed.Deed.TheVariants.{Settle}
 use Rattle.dspec_table.specs.declared.last.LastWords.{LastWords}
-use Rattle.dspec_table.proofs.Limits.{limit_of}
 use Rattle.dspec_cpu_state.specs.declared.cpu_state.CpuState.{CpuState}
 use Rattle.dspec_cpu.proofs.Settlements.{can_settle}
+
+limit_of : (w : SlotState) → word_number w ≤ 2 ^ 60 → CanBeReleased w
+limit_of w small = grind (arith, nat_tests)
 
 module _ (shape : ℕ → Option Shape) (accepted : Record → Bool) (text : Record → List ℕ) {S : Type 0} (rest : CpuRest S) (last : LastWords)
     (its : AreItsWords last rest.config rest.cpu) (slot : ℕ) (low : 1 ≤ slot) (high : slot ≤ rest.config.nspec)

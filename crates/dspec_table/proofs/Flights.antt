@@ -4,8 +4,8 @@ use Rattle.std.proofs.lemmas.Bool.Decides.{nat_tests}
 use Rattle.std.proofs.Common.{Option, inr, ◌≡◌, ℕ, ◌+◌, ◌≤◌, Bool, true, false, List, [], ◌∷◌, sym, ap, ◌∙◌, subst}
 use Rattle.dspec_word.specs.declared.act.Act.TheVariants.{Void, Attempt}
 use Rattle.dspec_table.specs.Words.{speculate_at, Speculation, SlotState, is_among, callers, scan, late, in_range, mark, View, Doing, of_cpu, number_of, at_activity, at_word, IsOn, IsInFlight}
-use Rattle.dspec_table.specs.Words.{MayLoad, MayTry, Attempts, joined_word, calling, flight_after, activity_place, slot_place, acted, Entered, EnteredIn, LoadedActivity, LoadedWord, idle_progress}
-use Rattle.dspec_table.specs.Words.{shown, shown_scan, open_at, is_decided}
+use Rattle.dspec_table.specs.Words.{MayLoad, MayTry, Attempts, calling, flight_after, activity_place, slot_place, acted, Entered, EnteredIn, LoadedActivity, LoadedWord, idle_progress, shown}
+use Rattle.dspec_table.specs.Words.{shown_scan, open_at, is_decided}
 use Rattle.dspec_deeds.specs.declared.deed.Deed.{Deed}
 use Rattle.dspec_deeds.specs.declared.config.Config.{Config}
 use Rattle.dspec_deeds.specs.declared.calls.CpuOp.{CpuOp}
@@ -67,7 +67,3 @@ tries_again k v w c slot doing shown to who may step attempts = grind (arith, na
 pub tries_next : (k : Config) (v w : View) (c slot : ℕ) (doing : Doing) (id : Speculation) (shown to : SlotState) → v.who ≡ of_cpu c → IsOn id doing.op → IsInFlight k v c doing id slot
     → LoadedWord doing slot v shown w → Attempts doing shown to doing.op → MayTry k w c doing slot shown to
 tries_next k v w c slot doing id shown to who on f step attempts = (tries_again k v w c slot doing shown to who (may_load k v c slot doing id doing.op on f) step attempts).0
-
--- what a call of speculate attempts is one more caller
-pub speculate_joins : (w to : SlotState) (id : Speculation) (mine : Bool) → speculate_at w id mine ≡ Attempt to → to ≡ joined_word w
-speculate_joins w to id mine e = grind (arith, nat_tests)

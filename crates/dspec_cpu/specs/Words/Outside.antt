@@ -13,6 +13,5 @@ pub use Rattle.dspec_cpu_state.specs.Words.{counts_of, HasRoom, is_stopped_openi
 pub use Rattle.dspec_interleaving.specs.Words.{discarded_by, idle_progress, own_closed, own_closed_slot, shown_commit, shown_discard, shown_speculate}
 pub use Rattle.dspec_table.specs.Words.{ack_place, activity_place, ask_place, at_activity, at_exchange, at_word, Attempts, calling, CommitsNow, cpu_of, Entered, EnteredIn, flight_after, Found}
 pub use Rattle.dspec_table.specs.Words.{fresh_seat, here, Holder, IfCommitting, IsAt, IsInFlight, IsOn, known, last_set_up, last_words, LoadedActivity, LoadedAsk, LoadedWord, MayLoad, MaySettle}
-pub use Rattle.dspec_table.specs.Words.{MayTry, more, nothing, number_of, of_cpu, OpenedWord, OwnCommit, part_of, ReleasedWord, set_up, SettledWord, shown, Shows, Since, slot_place, TriedExchange}
-pub use Rattle.dspec_table.specs.Words.{TriedWord}
+pub use Rattle.dspec_table.specs.Words.{MayTry, more, nothing, number_of, of_cpu, OpenedWord, OwnCommit, part_of, ReleasedWord, set_up, SettledWord, shown, Shows, Since, slot_place, TriedWord}
 pub use Rattle.dspec_ring.specs.Words.{cpu_moved, CpuKnows, Pair}

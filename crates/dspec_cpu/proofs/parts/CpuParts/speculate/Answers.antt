@@ -1,5 +1,7 @@
+use Rattle.std.proofs.Common.{◌∙◌, sym}
 use Rattle.dspec_cpu.specs.Words.{rests}
 use Rattle.dspec_cpu.proofs.Leaves.{worn_leaves}
+use Rattle.dspec_cpu.proofs.Marked.{marked_inside, marked_is}
 use Rattle.dspec_cpu.proofs.parts.CpuParts.speculate.Goals as goal
 
 pub returns-then-self-clause-did : goal.returns-then-self-clause-did
@@ -7,3 +9,22 @@ returns-then-self-clause-did g c = rests
 
 pub returns-then-self-clause-leaves : goal.returns-then-self-clause-leaves
 returns-then-self-clause-leaves g c = worn_leaves c.args.self.now 4 c.wear.new.self c.if-self.true c.wear.ensures
+
+pub offer-requires-clause-inside : goal.offer-requires-clause-inside
+offer-requires-clause-inside g c =
+    let cpu = c.args.self.now in
+    sym (marked_inside cpu.config c.args.id _ _ c.requires.ready.steady.listed.shown.side.mark_count c.has-mine.ensures.marked c.if-mine.true)
+
+pub offer-requires-clause-mine : goal.offer-requires-clause-mine
+offer-requires-clause-mine g c = λ within p shown.
+    let cpu = c.args.self.now in
+    let inside = marked_inside cpu.config c.args.id _ _ c.requires.ready.steady.listed.shown.side.mark_count c.has-mine.ensures.marked c.if-mine.true in
+    sym c.if-mine.true ∙ marked_is cpu.config c.args.id _ _ c.has-mine.ensures.tells inside cpu.cpu p shown.side.marks
+
+pub is_inside_too-inside-requires : goal.is_inside_too-inside-requires
+is_inside_too-inside-requires g c = marked_inside c.args.self.now.config c.args.id _ _ c.requires.ready.steady.listed.shown.side.mark_count c.has-mine.ensures.marked
+
+pub offer-requires-2-clause-mine : goal.offer-requires-2-clause-mine
+offer-requires-2-clause-mine g c = λ within p shown.
+    let cpu = c.args.self.now in
+    marked_is cpu.config c.args.id _ _ c.has-mine.ensures.tells (sym c.is_inside_too-inside.ensures ∙ within) cpu.cpu p shown.side.marks
