@@ -18,15 +18,6 @@ impl<S: Schema> CpuParts<S> {
         (id.slot() as usize).wrapping_sub(1) < self.config.nspec as usize
     }
 
-    /// As `is_inside`, where it is known whether the CPU is a caller.
-    #[inline(always)]
-    pub(crate) fn is_inside_too(&self, id: SpecId, mine: bool) -> bool
-        requires { mine ≡ true → in_range self.now.config id ≡ true }
-        ensures { result ≡ in_range self.now.config id }
-    {
-        mine || self.is_inside(id)
-    }
-
     /// Whether the active principal buffer would take the CPU's block of the speculation, and how many records that has; nothing
     /// outside the slots.
     pub(crate) fn measure_slot(&self, id: SpecId, mine: bool, inside: bool) -> (bool, u32)

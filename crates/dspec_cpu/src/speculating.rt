@@ -51,7 +51,7 @@ impl<S: Schema> CpuParts<S> {
         if mine && apart {
             return self.offer(shared, id, rec, true, true);
         }
-        let inside = self.is_inside_too(id, mine);
+        let inside = mine || self.is_inside(id);
         self.offer(shared, id, rec, inside, mine)
     }
 

@@ -1,7 +1,8 @@
-use Rattle.std.proofs.Common.{◌∙◌, sym}
-use Rattle.dspec_cpu.specs.Words.{rests}
+use Rattle.std.proofs.Common.{◌≡◌, ◌∙◌, sym}
+use Rattle.dspec_cpu.specs.Words.{in_range, rests}
 use Rattle.dspec_cpu.proofs.Leaves.{worn_leaves}
 use Rattle.dspec_cpu.proofs.Marked.{marked_inside, marked_is}
+use Rattle.dspec_cpu.proofs.parts.CpuParts.speculate.Goals.{then-mine-2, else-mine-2}
 use Rattle.dspec_cpu.proofs.parts.CpuParts.speculate.Goals as goal
 
 pub returns-then-self-clause-did : goal.returns-then-self-clause-did
@@ -21,10 +22,19 @@ offer-requires-clause-mine g c = λ within p shown.
     let inside = marked_inside cpu.config c.args.id _ _ c.requires.ready.steady.listed.shown.side.mark_count c.has-mine.ensures.marked c.if-mine.true in
     sym c.if-mine.true ∙ marked_is cpu.config c.args.id _ _ c.has-mine.ensures.tells inside cpu.cpu p shown.side.marks
 
-pub is_inside_too-inside-requires : goal.is_inside_too-inside-requires
-is_inside_too-inside-requires g c = marked_inside c.args.self.now.config c.args.id _ _ c.requires.ready.steady.listed.shown.side.mark_count c.has-mine.ensures.marked
+pub offer-requires-2-clause-inside : goal.offer-requires-2-clause-inside
+offer-requires-2-clause-inside g c =
+    let cpu = c.args.self.now in
+    elim c.if-mine-2.branch [
+      | then-mine-2 w ↦ w.inside-is ∙ (w.if-mine-2.true ∙ sym (marked_inside cpu.config c.args.id _ _ c.requires.ready.steady.listed.shown.side.mark_count c.has-mine.ensures.marked w.if-mine-2.true))
+      | else-mine-2 w ↦ w.inside-is ∙ w.is_inside-inside.ensures
+    ]
 
 pub offer-requires-2-clause-mine : goal.offer-requires-2-clause-mine
 offer-requires-2-clause-mine g c = λ within p shown.
     let cpu = c.args.self.now in
-    marked_is cpu.config c.args.id _ _ c.has-mine.ensures.tells (sym c.is_inside_too-inside.ensures ∙ within) cpu.cpu p shown.side.marks
+    let inside : c.if-mine-2.inside ≡ in_range cpu.config c.args.id = elim c.if-mine-2.branch [
+      | then-mine-2 w ↦ w.inside-is ∙ (w.if-mine-2.true ∙ sym (marked_inside cpu.config c.args.id _ _ c.requires.ready.steady.listed.shown.side.mark_count c.has-mine.ensures.marked w.if-mine-2.true))
+      | else-mine-2 w ↦ w.inside-is ∙ w.is_inside-inside.ensures
+    ] in
+    marked_is cpu.config c.args.id _ _ c.has-mine.ensures.tells (sym inside ∙ within) cpu.cpu p shown.side.marks
