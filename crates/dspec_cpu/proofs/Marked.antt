@@ -1,5 +1,6 @@
 -- What the mark of an identifier's slot tells, where it is looked up before the slot is known to be one of the session's.
-use Rattle.std.proofs.Common.{◌≡◌, ℕ, ◌+◌, ◌-◌, ◌==◌, ◌≤◌, ◌<◌, Bool, true, List, length, Some, arith}
+use Rattle.std.proofs.lemmas.Bool.Decides.{nat_tests}
+use Rattle.std.proofs.Common.{◌≡◌, ℕ, ◌+◌, ◌-◌, ◌==◌, ◌≤◌, Bool, true, List, length, Some, arith}
 use Rattle.std.specs.Prelude.{slice_get}
 use Rattle.std.proofs.lemmas.Option.{slice_get_within}
 use Rattle.dspec_cpu.specs.Words.{Speculation, in_range, mark}
@@ -11,10 +12,7 @@ use Rattle.dspec_cpu.proofs.Reaches.{slot_inside}
 module _ (k : Config) (id : Speculation) (marks : List ℕ) (mine : Bool) where
   -- a slot that has the speculation's mark is one of the session's
   pub marked_inside : length marks ≡ k.nspec → (mine ≡ true → (1 ≤ id.slot) × (slice_get marks (id.slot - 1) ≡ Some (id.issue + 1))) → mine ≡ true → in_range k id ≡ true
-  marked_inside count marked e =
-      let found = marked e in
-      let within : id.slot - 1 < length marks = slice_get_within _ _ _ found.1 in
-      inside_of k id found.0 (omega arith)
+  marked_inside count marked e = grind (arith, nat_tests, slice_get_within, inside_of)
 
   -- and of one that is, the mark tells whether the CPU is a caller
   pub marked_is : ((m : ℕ) → 1 ≤ id.slot → slice_get marks (id.slot - 1) ≡ Some m → mine ≡ (m == id.issue + 1)) → in_range k id ≡ true → (c : ℕ) (p : List Deed)

@@ -25,11 +25,7 @@ module _ (shape : ℕ → Option Shape) (accepted : Record → Bool) (text : Rec
 
   -- its word is below the last one
   pub released : (log now p : List Deed) → CanCloseBehind rest.config rest.cpu slot (last_words last) log now p → CanBeReleased word
-  released log now p closes =
-      let shows = shows_last log closes.shows in
-      let most = subst (λ (k : Config). slot ≤ k.nspec) (sym its.set_up) high in
-      let number : word_number (word_at slot log) ≤ 2 ^ 60 = subst (λ n. n ≤ 2 ^ 60) (shows.slots slot low most) (last.shown slot low most).1 in
-      subst CanBeReleased (sym (word_is log shows)) (limit_of (word_at slot log) number)
+  released log now p closes = grind (arith, nat_tests, shows_last, limit_of)
 
   module _ (a : ℕ) (a_is : (log : List Deed) → Shows (last_set_up last) (last_words last) log → a ≡ ack rest.cpu slot log) where
     acked : (log now p : List Deed) → CanCloseBehind rest.config rest.cpu slot (last_words last) log now p → settle_at word a ≡ settle_at word (ack rest.cpu slot p)
