@@ -1,7 +1,6 @@
 -- A commit that waits for no other CPU stands, and is its seat's own.
-use Rattle.std.proofs.Common.{arith}
+use Rattle.std.proofs.Common.{arith, ◌≡◌, ℕ, Bool, true, List, [], ◌∷◌, refl}
 use Rattle.std.proofs.lemmas.Bool.Decides.{nat_tests}
-use Rattle.std.proofs.Common.{◌≡◌, ℕ, Bool, true, List, [], ◌∷◌, refl}
 use Rattle.dspec_table.specs.Words.{Speculation, SlotState, speculate_at, commit_at, discard_at, is_commit, scan, committed, word_at, committed_fate, View, Doing, of_cpu, number_of, MayLoad}
 use Rattle.dspec_table.specs.Words.{Attempts, IsDeciding, OwnCommit, IfCommitting, slot_place, Entered, at_exchange}
 use Rattle.dspec_word.specs.declared.code.Code.{Code}
@@ -9,7 +8,6 @@ use Rattle.dspec_word.specs.declared.code.Code.TheVariants.{Committing}
 use Rattle.dspec_word.specs.declared.act.Act.TheVariants.{Attempt}
 use Rattle.dspec_deeds.specs.declared.config.Config.{Config}
 use Rattle.dspec_deeds.specs.declared.calls.CpuOp.{CpuOp}
-use Rattle.dspec_deeds.specs.declared.calls.CpuOp.TheVariants as op
 use Rattle.dspec_deeds.specs.declared.deed.Deed.{Deed}
 use Rattle.dspec_deeds.specs.declared.deed.Deed.TheVariants.{Commit}
 use Rattle.dspec_deeds.proofs.TestLemmas.{id_is_itself}
@@ -45,11 +43,8 @@ module _ (k : Config) (c slot : ℕ) (v w : View) (doing : Doing) (from to : Slo
   decides_next : (o : CpuOp) → Entered (slot_place slot) v log (at_exchange v.config (number_of v.who) doing slot from true o) w → MayLoad k v c doing slot o → Attempts doing from to o
       → IsDeciding o
       → IfCommitting to.code (OwnCommit k w c record { issue = to.issue; slot = slot })
-  decides_next o h1 h2 h3 h4 = grind (arith, nat_tests, if_committing, own_commit, committed_deeds, committed_issue, discards_apart)
+  decides_next = grind (arith, nat_tests, if_committing, own_commit, committed_deeds, committed_issue, discards_apart)
 
   pub releases_next : (o : CpuOp) → Entered (slot_place slot) v log (at_exchange v.config (number_of v.who) doing slot from true o) w → MayLoad k v c doing slot o → Attempts doing from to o
       → IfCommitting to.code (OwnCommit k w c record { issue = to.issue; slot = slot })
-  releases_next (op.Speculate id r) entered may attempts = if_committing to.code _ (λ e. absurd (joins_apart from to id doing.mine attempts e))
-  releases_next (op.Commit id) entered may attempts = decides_next (op.Commit id) entered may attempts tt
-  releases_next (op.Discard id) entered may attempts = decides_next (op.Discard id) entered may attempts tt
-  releases_next o entered may attempts = absurd attempts
+  releases_next = grind (arith, nat_tests, if_committing, joins_apart, decides_next)

@@ -12,6 +12,31 @@ use dspec_word::Word;
 use std::marker::Brand;
 
 impl CpuSeat {
+    /// The exchange that `speculate_at`, `commit_at` or `discard_at` attempts: the CPU is one more caller of the speculation, or
+    /// that is committed or discarded. It fails where the word is another by now, and shows it. After an exchange to Committing
+    /// the seat releases the slot next.
+    pub fn try_word(
+        &mut self,
+        words: &Words,
+        slot: u32,
+        from: Word,
+        to: Word,
+        doing: &Doing,
+    ) -> Result<(), Word>
+        requires seat { IsAt words.now self.old }
+        requires slot { (1 ≤ slot) × (slot ≤ (set_up words.now).nspec) }
+        requires call { MayTry (set_up words.now) (known self.old) (cpu_of self.old) doing.now slot from to }
+        ensures tried { TriedExchange words.now doing.now slot from to self.old self.new result }
+        ensures release { IfOk result (λ _. IfCommitting to.code (OwnCommit (set_up words.now) (known self.new) (cpu_of self.new) record { issue = to.issue; slot = slot })) }
+    {
+        let found = self.try_word_as::<Brand>(words, slot, from, to, doing);
+        if found == from.raw() {
+            Ok(())
+        } else {
+            Err(Word::of_number(found))
+        }
+    }
+
     fn try_word_as<J: HasDoing>(
         &mut self,
         words: &Words,
@@ -36,30 +61,5 @@ impl CpuSeat {
                 from.raw(),
                 to.raw(),
             )
-    }
-
-    /// The exchange that `speculate_at`, `commit_at` or `discard_at` attempts: the CPU is one more caller of the speculation, or
-    /// that is committed or discarded. It fails where the word is another by now, and shows it. After an exchange to Committing
-    /// the seat releases the slot next.
-    pub fn try_word(
-        &mut self,
-        words: &Words,
-        slot: u32,
-        from: Word,
-        to: Word,
-        doing: &Doing,
-    ) -> Result<(), Word>
-        requires seat { IsAt words.now self.old }
-        requires slot { (1 ≤ slot) × (slot ≤ (set_up words.now).nspec) }
-        requires call { MayTry (set_up words.now) (known self.old) (cpu_of self.old) doing.now slot from to }
-        ensures tried { TriedExchange words.now doing.now slot from to self.old self.new result }
-        ensures release { IfOk result (λ _. IfCommitting to.code (OwnCommit (set_up words.now) (known self.new) (cpu_of self.new) record { issue = to.issue; slot = slot })) }
-    {
-        let found = self.try_word_as::<Brand>(words, slot, from, to, doing);
-        if found == from.raw() {
-            Ok(())
-        } else {
-            Err(Word::of_number(found))
-        }
     }
 }
