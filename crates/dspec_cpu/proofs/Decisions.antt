@@ -1,7 +1,8 @@
 -- A call of commit: what its exchange tells, and the lists behind its answers.
-use Rattle.std.proofs.Common.{◌≡◌, ◌≢◌, ◌⊎◌, ℕ, ◌==◌, Bool, true, false, List, ◌∷◌, Option, None, if◌then◌else◌, refl, sym, ap, ◌∙◌, subst, ⊎_elim, inl, inr, add-zero}
-use Rattle.dspec_cpu.specs.Words.{Record, Speculation, SlotState, awaits, commit_act, commit_at, is_commit, is_copied, count_of, issue, owed, solo, word_at, IsSound, sealed_last, CommitsNow}
-use Rattle.dspec_cpu.specs.Words.{IfCommitting, OwnCommit, Cpu, decision, decided_deeds, counts_of, committed_fate, IsShown, OwnsCommit}
+use Rattle.std.proofs.Common.{arith, ◌≡◌, ◌≢◌, ◌⊎◌, ℕ, Bool, true, false, List, ◌∷◌, Option, None, if◌then◌else◌, refl, sym, ◌∙◌, subst, ⊎_elim, inl, inr, add-zero}
+use Rattle.std.proofs.lemmas.Bool.Decides.{nat_tests}
+use Rattle.dspec_cpu.specs.Words.{Record, Speculation, SlotState, awaits, commit_act, commit_at, is_commit, is_copied, count_of, issue, owed, solo, word_at, IsSound, sealed_last, CommitsNow, Cpu}
+use Rattle.dspec_cpu.specs.Words.{decision, decided_deeds, committed_fate, IsShown, OwnsCommit}
 use Rattle.dspec_record.specs.declared.field.Shape.{Shape}
 use Rattle.dspec_word.specs.declared.code.Code.{Code}
 use Rattle.dspec_word.specs.declared.code.Code.TheVariants.{Active, ActiveOne, ActiveMany, Committing, CommittingMany}
@@ -52,23 +53,17 @@ commit_leaves i mine ActiveMany to e = word_of i _ to e record { issue = refl; c
 commit_leaves i mine code to e = absurd (cc (e))
 
 pub left_by_commit : (id : Speculation) (mine : Bool) (word to : SlotState) → commit_at word id mine ≡ Attempt to → IsCommitWord id.issue to
-left_by_commit id mine word to e =
-    let both = here_or_void (word.issue == id.issue) (commit_act word.issue mine word.code) (Attempt to) e (attempt_is to) in
-    subst (λ n. IsCommitWord n to) (same_number word.issue id.issue both.0) (commit_leaves word.issue mine word.code to both.1)
+left_by_commit id mine word to e = grind (arith, nat_tests, here_or_void, attempt_is, same_number, commit_leaves)
 
 -- the commit that stands is the one in flight
 pub commits_now : (k : Config) (c slot : ℕ) (id : Speculation) (w : View) (to : SlotState) → slot ≡ id.slot → IsCommitWord id.issue to → to.code ≡ Committing
     → OwnsCommit k c id.slot w (Attempt to) → CommitsNow k w c slot (op.Commit id)
-commits_now k c slot id w to at word is owns =
-    let own : OwnCommit k w c record { issue = to.issue; slot = id.slot } = subst (λ x. IfCommitting x (OwnCommit k w c record { issue = to.issue; slot = id.slot })) is owns.1 in
-    (sym at, subst (λ n. OwnCommit k w c record { issue = n; slot = id.slot }) word.issue own)
+commits_now k c slot id w to at word is owns = grind (arith, nat_tests)
 
 -- behind an exchange that waits for others, no CPU decided alone
 pub waits_at : (k : Config) (id : Speculation) (h : List Deed) (to : SlotState) (c : Code) → IsSound k h → owed h ≡ 0 → word_at id.slot h ≡ to → to.issue ≡ id.issue
     → to.code ≡ c → awaits c ≡ true → solo id h ≡ None
-waits_at k id h to c sound rests now same is waits =
-    let at : issue id.slot h ≡ id.issue = ap (λ (x : SlotState). x.issue) now ∙ same in
-    subst (λ (x : Speculation). solo x h ≡ None) (present_is id h at) (awaiting k id.slot h c sound rests (ap (λ (x : SlotState). x.code) now ∙ is) waits).alone
+waits_at k id h to c sound rests now same is waits = grind (arith, nat_tests, present_is, awaiting)
 
 pub waits_many : (k : Config) (id : Speculation) (h : List Deed) (to : SlotState) → IsSound k h → owed h ≡ 0 → word_at id.slot h ≡ to → IsCommitWord id.issue to
     → to.code ≢ Committing → solo id h ≡ None
@@ -83,9 +78,4 @@ module _ (shape : ℕ → Option Shape) (accepted : Record → Bool) (text : Rec
 
   -- a call that was answered Worn
   pub worn_shown : (m : ℕ) (counts : Counts) → counts ≡ record cpu.side.counts { worn = m } → IsShown shape accepted text (record cpu { side = record cpu.side { counts = counts } }) p
-  worn_shown m counts is = record {
-    legal = was.legal;
-    side = was.side;
-    sealed = was.sealed;
-    counted = is ∙ (ap (λ (x : Counts). record x { worn = m }) was.counted ∙ ap (λ x. counts_of cpu.config cpu.cpu x p) (sym (ap (λ (x : Counts). x.worn) is)));
-  }
+  worn_shown m counts is = grind (arith, nat_tests)

@@ -1,5 +1,6 @@
 -- A call of discard that decided: the list and the deeds behind it.
-use Rattle.std.proofs.Common.{◌≡◌, ℕ, ◌+◌, ◌==◌, Bool, true, false, List, ◌∷◌, ◌++◌, length, Option, None, refl, sym, ap, subst, true≢false}
+use Rattle.std.proofs.Common.{arith, ◌≡◌, ℕ, ◌+◌, ◌==◌, Bool, true, false, List, ◌∷◌, ◌++◌, length, Option, None, refl, sym, ap, subst, true≢false}
+use Rattle.std.proofs.lemmas.Bool.Decides.{nat_tests}
 use Rattle.dspec_cpu.specs.Words.{Record, Stored, HasPieces, Speculation, SlotState, is_inactive, discard_act, discard_at, scan, is_discard, CpuLegal, mark, held, bare, flight_after, known, set_up}
 use Rattle.dspec_cpu.specs.Words.{IsAt, cpu_of, Cpu, decision, IsCaller, ShowsList, IsReady, IsShown, Reached, OwnsCommit}
 use Rattle.dspec_record.specs.declared.field.Shape.{Shape}
@@ -40,9 +41,7 @@ discard_leaves i mine ActiveMany to e = word_of i _ to e record { issue = λ n. 
 discard_leaves i mine code to e = absurd (cc (e))
 
 left_by_discard : (id : Speculation) (mine : Bool) (word to : SlotState) → discard_at word id mine ≡ Attempt to → IsDiscardWord id.issue to
-left_by_discard id mine word to e =
-    let both = here_or_void (word.issue == id.issue) (discard_act word.issue mine word.code) (Attempt to) e (attempt_is to) in
-    subst (λ n. IsDiscardWord n to) (same_number word.issue id.issue both.0) (discard_leaves word.issue mine word.code to both.1)
+left_by_discard id mine word to e = grind (arith, nat_tests, here_or_void, attempt_is, same_number, discard_leaves)
 
 module _ (shape : ℕ → Option Shape) (accepted : Record → Bool) (text : Record → List ℕ) {S : Type 0} (words : Words) (cpu : Cpu S)
     (ready : IsReady shape accepted text words cpu) {id : Speculation} {fit mine : Bool} {n : ℕ} {to : SlotState} (seat : CpuSeat)

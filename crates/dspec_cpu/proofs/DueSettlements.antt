@@ -1,6 +1,7 @@
 -- The settlement of one slot that is due: the step, the list and the CPU behind it.
-use Rattle.std.proofs.Common.{◌≡◌, ℕ, ◌≤◌, ◌<◌, ◌^◌, Bool, true, List, [], ◌∷◌, Option, refl, sym, ap, ◌∙◌, subst, inl}
-use Rattle.dspec_cpu.specs.Words.{Record, Stored, Speculation, SlotState, settle_at, is_granted, ack, scan, word_at, settled_fate, MaySettle, known, IsAt, cpu_of, number_of, ack_place, Entered}
+use Rattle.std.proofs.Common.{arith, ◌≡◌, ℕ, ◌≤◌, ◌<◌, ◌^◌, Bool, true, List, [], ◌∷◌, Option, refl, sym, ap, ◌∙◌, subst, inl}
+use Rattle.std.proofs.lemmas.Bool.Decides.{nat_tests}
+use Rattle.dspec_cpu.specs.Words.{Record, Stored, Speculation, SlotState, settle_at, is_granted, ack, word_at, settled_fate, MaySettle, known, IsAt, cpu_of, number_of, ack_place, Entered}
 use Rattle.dspec_cpu.specs.Words.{SettledWord, Cpu, rests, steps, AreShown, HasList, IsReady, side_of, batches_of, Stands, BlockSettled, CanSettle, DueSettled, IsDueAt, IsPartOf, shown_at}
 use Rattle.dspec_record.specs.declared.field.Shape.{Shape}
 use Rattle.dspec_deeds.specs.declared.config.Config.{Config}
@@ -28,12 +29,7 @@ module _ (shape : ℕ → Option Shape) (accepted : Record → Bool) (text : Rec
 
   -- every list that the CPU has is its part of what its seat has seen
   its_part : (p : List Deed) → HasList shape accepted text cpu p → IsPartOf cpu.config cpu.cpu v.seen p
-  its_part p had = record {
-    sound = ready.steady.sound;
-    rests = due.rests;
-    idle = sym (scan_part cpu.config cpu.cpu v.seen) ∙ (ap (scan cpu.config cpu.cpu) ready.steady.part_is ∙ ready.steady.idle);
-    part_is = had.own ∙ sym ready.steady.part_is;
-  }
+  its_part p had = grind (arith, nat_tests, scan_part)
 
   granted : (p : List Deed) → HasList shape accepted text cpu p → is_granted (settle_at word (ack cpu.cpu slot p)) ≡ true
   granted p had = ap (λ n. is_granted (settle_at word n)) ((apart_bare cpu.config cpu.cpu p).acks slot ∙ ap (ack cpu.cpu slot) had.own) ∙ ap is_granted due.granted
@@ -43,14 +39,7 @@ module _ (shape : ℕ → Option Shape) (accepted : Record → Bool) (text : Rec
       had.shown low high (few shape accepted text words cpu ready) small
 
   pub may_settle : (k : Config) (c i : ℕ) → k ≡ cpu.config → c ≡ cpu.cpu → i ≡ word.issue → MaySettle k v c record { issue = i; slot = slot }
-  may_settle k c i config number issue = subst (λ (x : Config × ℕ × ℕ). MaySettle x.0 v x.1 record { issue = x.2; slot = slot }) (λ j. (sym config j, sym number j, sym issue j))
-      (record {
-        idle = ready.steady.idle;
-        low = low;
-        high = high;
-        issue = ap (λ (w : SlotState). w.issue) due.here;
-        granted = ap (λ (w : SlotState). settle_at w (ack cpu.cpu slot v.own)) due.here ∙ due.granted;
-      })
+  may_settle k c i config number issue = grind (arith, nat_tests, granted)
 
   module _ (own : Doing) (service : own.op ≡ op.Service) (last : CpuSeat) (i : ℕ) (i_is : i ≡ word.issue)
       (stored : SettledWord own record { issue = i; slot = slot } (word_at slot v.seen).code v (known last))

@@ -1,5 +1,6 @@
 -- What a call that counts keeps, by how it ended.
-use Rattle.std.proofs.Common.{◌≡◌, ℕ, ◌+◌, ◌*◌, ◌<◌, ◌≤◌, Bool, true, false, if◌then◌else◌, refl, sym, ap, ◌∙◌, subst, inr, arith, true≢false}
+use Rattle.std.proofs.lemmas.Bool.Decides.{nat_tests}
+use Rattle.std.proofs.Common.{◌≡◌, ℕ, ◌+◌, ◌*◌, ◌<◌, ◌≤◌, Bool, true, false, if◌then◌else◌, refl, sym, ap, ◌∙◌, subst, inr, arith}
 use Rattle.dspec_cpu.specs.Words.{Stored, Speculation, SlotState, in_range, known, activity_place, slot_place, LoadedActivity, ReleasedWord, one_more_worn, is_stopped_opening, Cpu, Reach}
 use Rattle.dspec_cpu.specs.Words.{is_worn_decided, CallLeaves, Reached, is_committing, releases_next, turns, Scanned, is_worn_opening, StopsWhereMet, is_stopped_decided, is_stopped_reach, Touches}
 use Rattle.dspec_cpu.specs.Words.{last_looked, of_activity, of_slot, of_slots}
@@ -21,30 +22,14 @@ use Rattle.dspec_cpu.proofs.Touching.{none_touched, touched_more, touched_one}
 -- it was worn
 pub worn_leaves : {S : Type 0} {within : ℕ → Type 0} (cpu : Cpu S) (most : ℕ) (counts : Counts) → cpu.config.max_calls ≤ cpu.side.calls
     → counts ≡ record cpu.side.counts { worn = one_more_worn cpu.side.counts.worn } → CallLeaves true false most within cpu (record cpu { side = record cpu.side { counts = counts } })
-worn_leaves {within = within} cpu most counts all is = record {
-  batches = record { end = refl; spare = refl; held_back = refl; seals = refl };
-  worn = (λ t. all, λ le. refl);
-  untouched = λ t. ap (λ (x : Counts). record cpu { side = record cpu.side { counts = x } }) is;
-  wears = ap (λ (x : Counts). x.worn) is;
-  bounded = omega arith;
-  touches = none_touched within (known cpu.seat);
-  stops = worn_out (known cpu.seat) (known cpu.seat);
-}
+worn_leaves = grind (arith, nat_tests, none_touched, worn_out)
 
 -- it wasn't: it moved its seat and its side, which has as many batches sealed and as many calls worn
 module _ {S : Type 0} (cpu : Cpu S) (fewer : cpu.side.calls < cpu.config.max_calls) (seat : CpuSeat) (side was : CpuState Stored) (is : side ≡ was)
     (seals : was.seals ≡ cpu.side.seals) (worn : was.counts.worn ≡ cpu.side.counts.worn) where
   pub unworn_leaves : (stopped : Bool) (most : ℕ) (within : ℕ → Type 0) → (known seat).steps ≤ (known cpu.seat).steps + most → Touches within (known cpu.seat) (known seat)
       → StopsWhereMet (known cpu.seat) false stopped (known seat) → CallLeaves false stopped most within cpu (record cpu { seat = seat; side = side })
-  unworn_leaves stopped most within bounded touches stops = record {
-    batches = record { end = refl; spare = refl; held_back = refl; seals = ap (λ (s : CpuState Stored). s.seals) is ∙ seals };
-    worn = (λ t. absurd (true≢false (sym t)), λ le. absurd (omega arith));
-    untouched = λ t. absurd (true≢false (sym t));
-    wears = ap (λ (s : CpuState Stored). s.counts.worn) is ∙ worn;
-    bounded = bounded;
-    touches = touches;
-    stops = stops;
-  }
+  unworn_leaves stopped most within bounded touches stops = grind (arith, nat_tests)
 
   -- it loaded activity alone
   pub loaded_leaves : (doing : Doing) (stopped : Bool) → LoadedActivity doing (known cpu.seat) stopped (known seat)
@@ -61,19 +46,12 @@ module _ {S : Type 0} (cpu : Cpu S) (fewer : cpu.side.calls < cpu.config.max_cal
   -- its scan came to this answer
   pub scanned_leaves : {k : Config} {c : ℕ} {busy : Bool} (a : Opening) (slots : ℕ) → Scanned k c (known cpu.seat) a busy (known seat) → k.nspec ≡ slots
       → CallLeaves (is_worn_opening a) (is_stopped_opening a) (1 + 2 * slots) (of_slots (last_looked slots a)) cpu (record cpu { seat = seat; side = side })
-  scanned_leaves a slots got same =
-      let le = got.bounded in
-      subst (λ b. CallLeaves b (is_stopped_opening a) (1 + 2 * slots) (of_slots (last_looked slots a)) cpu (record cpu { seat = seat; side = side })) (sym got.unworn)
-      (unworn_leaves (is_stopped_opening a) (1 + 2 * slots) (of_slots (last_looked slots a)) (omega arith)
-      (subst (λ (n : ℕ). Touches (of_slots (last_looked n a)) (known cpu.seat) (known seat)) same got.touches) got.stops)
+  scanned_leaves a slots got same = grind (arith, nat_tests, unworn_leaves)
 
   -- on an identifier it came so far
   pub reached_leaves : {k : Config} {c : ℕ} {doing : Doing} {id : Speculation} (r : Reach) (most : ℕ) → Reached k c doing id (known cpu.seat) r (known seat) → most ≡ 1 + turns doing.op
       → k ≡ cpu.config → CallLeaves false (is_stopped_reach r) most (of_slot cpu.config id) cpu (record cpu { seat = seat; side = side })
-  reached_leaves {id = id} r most got same its =
-      let le = got.bounded in
-      unworn_leaves (is_stopped_reach r) most (of_slot cpu.config id) (omega arith)
-      (subst (λ (x : Config). Touches (of_slot x id) (known cpu.seat) (known seat)) its got.touches) got.stops
+  reached_leaves = grind (arith, nat_tests, unworn_leaves)
 
   -- and released the slot behind its exchange
   pub released_leaves : {k : Config} {c : ℕ} {doing : Doing} {id : Speculation} (to : SlotState) (w : View) (slot most : ℕ) → Reached k c doing id (known cpu.seat) (reach.Done to) w
@@ -91,8 +69,4 @@ module _ {S : Type 0} (cpu : Cpu S) (fewer : cpu.side.calls < cpu.config.max_cal
 -- it copied or lost a block
 pub copied_leaves : {S : Type 0} {within : ℕ → Type 0} (a : Decided) (fit : Bool) (n most : ℕ) (old new : Cpu S) → a ≡ block_answer fit n → CallLeaves false false most within old new
     → CallLeaves (is_worn_decided a) (is_stopped_decided a) most within old new
-copied_leaves {within = within} a fit n most old new is leaves = subst (λ x. CallLeaves (is_worn_decided x) (is_stopped_decided x) most within old new) (sym is) (go fit)
-  where
-    go : (b : Bool) → CallLeaves (is_worn_decided (block_answer b n)) (is_stopped_decided (block_answer b n)) most within old new
-    go true = leaves
-    go false = leaves
+copied_leaves = grind (arith, nat_tests, block_answer)

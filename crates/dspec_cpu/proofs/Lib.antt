@@ -13,6 +13,7 @@ pub mod Retries
 pub mod Stopping
 pub mod ReachDeeds
 pub mod Reaches
+pub mod Marked
 pub mod Speculates
 pub mod Decisions
 pub mod Leaves

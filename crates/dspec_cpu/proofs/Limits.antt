@@ -4,7 +4,6 @@ use Rattle.std.specs.Prelude.{nat_le}
 use Rattle.std.proofs.lemmas.Bool.Decides.{nat_tests}
 use Rattle.dspec_deeds.specs.declared.config.Config.{Config}
 use Rattle.dspec_deeds.specs.declared.config.StartFault.{StartFault}
-use Rattle.dspec_deeds.specs.declared.config.StartFault.TheVariants.{Cpus, Specs, BufSize, SpecSize, Issues, Calls}
 use Rattle.dspec_cpu.specs.Words.{is_between, is_size, start_fault, count_of, HasRoom, IsRoomy}
 use Rattle.dspec_deeds.specs.declared.deed.DecideFate.{DecideFate}
 use Rattle.dspec_deeds.specs.declared.deed.DecideFate.TheVariants.{Copied}
@@ -38,21 +37,7 @@ sized : (n : ℕ) → is_size n ≡ true → IsSize n
 sized n e = let both = and_tells (is_between 8 1048576 n) (n % 8 == 0) e in record { within = between 8 1048576 n both.0; whole = same_number (n % 8) 0 both.1 }
 
 pub limits : (k : Config) → start_fault k ≡ None → Limits k
-limits k e =
-    let cpus = passed (is_between 1 64 k.cpus) Cpus _ e in
-    let specs = passed (is_between 1 63 k.nspec) Specs _ cpus.1 in
-    let principal = passed (is_size k.bufsize) BufSize _ specs.1 in
-    let speculative = passed (is_size k.specsize) SpecSize _ principal.1 in
-    let issues = passed (is_between 1 (2 ^ 57) k.max_issues) Issues _ speculative.1 in
-    let calls = passed (is_between 1 (2 ^ 62) k.max_calls) Calls _ issues.1 in
-    record {
-      cpus = between 1 64 k.cpus cpus.0;
-      specs = between 1 63 k.nspec specs.0;
-      principal = sized k.bufsize principal.0;
-      speculative = sized k.specsize speculative.0;
-      issues = (between 1 (2 ^ 57) k.max_issues issues.0).most;
-      calls = (between 1 (2 ^ 62) k.max_calls calls.0).most;
-    }
+limits k e = grind (arith, nat_tests, passed, between, sized)
 
 -- counts that have room for a call more have room for its decision
 pub has_room : (n : Counts) (f : DecideFate) → IsRoomy n → count_of f < 2 ^ 32 → HasRoom f n

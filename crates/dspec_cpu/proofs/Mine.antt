@@ -17,27 +17,7 @@ use Rattle.dspec_deeds.proofs.OwnReads.{reads, apart_bare}
 -- who was granted a speculation last is a caller of it
 pub marked_among : (c : ℕ) (id : Speculation) (h : List Deed) → mark c id.slot h ≡ id.issue + 1 → is_among c (callers id h) ≡ true
 marked_among c id [] e = absurd (omega arith)
-marked_among c id (Speculate a j r f ∷ h) e = go (spoken_granted f) (c == a) refl (id.slot == j.slot) refl (marked_among c id h) e
-  where
-    stays : (b : Bool) → is_among c (callers id h) ≡ true → is_among c (joined (if b then Some a else None) (callers id h)) ≡ true
-    stays false t = t
-    stays true t = has_joined c a (callers id h) ∙ last (c == a) t
-      where
-        last : (b : Bool) → is_among c (callers id h) ≡ true → (b || is_among c (callers id h)) ≡ true
-        last true t = refl
-        last false t = t
-
-    go : (g b : Bool) → (c == a) ≡ b → (s : Bool) → (id.slot == j.slot) ≡ s → (mark c id.slot h ≡ id.issue + 1 → is_among c (callers id h) ≡ true)
-        → (if g && (b && s) then j.issue + 1 else mark c id.slot h) ≡ id.issue + 1 → is_among c (joined (if g && same_id id j then Some a else None) (callers id h)) ≡ true
-    go false b bis s sis ih q = ih q
-    go true false bis s sis ih q = stays (same_id id j) (ih q)
-    go true true bis false sis ih q = stays (same_id id j) (ih q)
-    go true true bis true sis ih q =
-        let at = same_number id.slot j.slot sis in
-        let now : id.issue ≡ j.issue = omega arith in
-        let path : id ≡ j = λ i. record { issue = now i; slot = at i } in
-        let same : same_id id j ≡ true = subst (λ x. same_id id x ≡ true) path (id_is_itself id) in
-        rw same (has_joined c a (callers id h) ∙ rw bis refl)
+marked_among c id (Speculate a j r f ∷ h) e = grind (arith, nat_tests, marked_among c id h, has_joined, same_number, id_is_itself)
 marked_among c id (d ∷ h) e = marked_among c id h e
 
 -- a caller's mark isn't older than the speculation
@@ -69,14 +49,7 @@ among_marked k c id (d ∷ h) s e = among_marked k c id h s.0 e
 
 -- so the mark tells, where the identifier isn't older than it
 pub mine_tells : (k : Config) (c : ℕ) (id : Speculation) (h : List Deed) → IsSound k h → mark c id.slot h ≤ id.issue + 1 → (mark c id.slot h == id.issue + 1) ≡ is_among c (callers id h)
-mine_tells k c id h s le = ⊎_elim
-    (λ (t : (mark c id.slot h == id.issue + 1) ≡ true). t ∙ sym (marked_among c id h (same_number (mark c id.slot h) (id.issue + 1) t)))
-    (λ (f : (mark c id.slot h == id.issue + 1) ≡ false). ⊎_elim
-    (λ (a : is_among c (callers id h) ≡ true). let low = among_marked k c id h s a in let e : mark c id.slot h ≡ id.issue + 1 = omega arith in off
-    (mark c id.slot h == id.issue + 1) (subst (λ n. (n == id.issue + 1) ≡ true) (sym e) (number_is_itself (id.issue + 1))) f)
-    (λ (a : is_among c (callers id h) ≡ false). f ∙ sym a)
-    (either_way (is_among c (callers id h))))
-    (either_way (mark c id.slot h == id.issue + 1))
+mine_tells k c id h s le = grind (arith, nat_tests, marked_among, same_number, among_marked, off, number_is_itself)
 
 -- the same of the CPU's own list, which is its part of a legal one
 pub own_mine_tells : (k : Config) (c : ℕ) (id : Speculation) (h own : List Deed) → IsSound k h → part (Cpu c) h ≡ own → mark c id.slot own ≤ id.issue + 1

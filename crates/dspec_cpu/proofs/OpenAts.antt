@@ -1,5 +1,6 @@
 -- Of which speculation of a slot a CPU has records: of the one that the slot's mark is of, or of none.
-use Rattle.std.proofs.Common.{◌≡◌, ◌≢◌, ℕ, zero, suc, ◌+◌, ◌-◌, ◌<◌, ◌≤◌, ◌==◌, Bool, true, false, List, [], ◌∷◌, length, Option, Some, sym, ap, ◌∙◌, ⊎_elim, refl, arith}
+use Rattle.std.proofs.lemmas.Bool.Decides.{nat_tests}
+use Rattle.std.proofs.Common.{◌≡◌, ◌≢◌, ℕ, zero, suc, ◌+◌, ◌-◌, ◌<◌, ◌≤◌, Bool, List, [], ◌∷◌, length, Option, Some, sym, ap, ◌∙◌, refl, arith}
 use Rattle.std.specs.Prelude.{slice_get}
 use Rattle.dspec_cpu.specs.Words.{Record, Speculation, last_called, part, IsSound, mark, Offer, held, bare, known, Cpu, HasList, IsSteady, IsOpenAt}
 use Rattle.dspec_record.specs.declared.field.Shape.{Shape}
@@ -8,7 +9,7 @@ use Rattle.dspec_deeds.specs.declared.calls.Actor.TheVariants.{Cpu as CpuActor}
 use Rattle.dspec_deeds.specs.declared.deed.Deed.{Deed}
 use Rattle.dspec_deeds.proofs.Marks.{mark_part, mark_tells}
 use Rattle.dspec_deeds.proofs.OwnReads.{apart_bare}
-use Rattle.dspec_deeds.proofs.TestLemmas.{either_way, same_number}
+use Rattle.dspec_deeds.proofs.TestLemmas.{same_number}
 use Rattle.dspec_table.proofs.Limits.{issue_within}
 use Rattle.dspec_cpu_state.proofs.Ones.{last_is}
 use Rattle.dspec_cpu_state.proofs.Places.{same_inside}
@@ -36,19 +37,11 @@ module _ (k : Config) (c : ℕ) (h own p : List Deed) (few : c < k.cpus) (sound 
 
   -- where it has no record of that one, it has none of the slot
   pub none_there : length (held c last p) ≡ 0 → (id : Speculation) → id.slot ≡ slot → held c id p ≡ []
-  none_there none id at = ⊎_elim
-      (λ (t : (mark c id.slot p == id.issue + 1) ≡ true).
-      let here : last_called c slot p ≡ id = ap (λ s. last_called c s p) (sym at) ∙ last_is c id p (same_number (mark c id.slot p) (id.issue + 1) t) in
-      no_length (held c id p) (ap (λ j. length (held c j p)) (sym here) ∙ none))
-      (λ (f : (mark c id.slot p == id.issue + 1) ≡ false). unmarked_empty k c id h own p few sound its is f)
-      (either_way (mark c id.slot p == id.issue + 1))
+  none_there none id at = grind (arith, nat_tests, last_is, same_number, no_length, unmarked_empty)
 
   -- where it has one, the mark is one more than the issue
   pub marked_there : 1 ≤ length (held c last p) → mark c slot p ≡ (mark c slot p - 1) + 1
-  marked_there some = ⊎_elim
-      (λ (t : (mark c slot p == (mark c slot p - 1) + 1) ≡ true). same_number (mark c slot p) ((mark c slot p - 1) + 1) t)
-      (λ (f : (mark c slot p == (mark c slot p - 1) + 1) ≡ false). let none = ap length (unmarked_empty k c last h own p few sound its is f) in absurd (omega arith))
-      (either_way (mark c slot p == (mark c slot p - 1) + 1))
+  marked_there some = grind (arith, nat_tests, same_number, unmarked_empty)
 
   pub mark_within : mark c slot p ≤ k.max_issues + 1
   mark_within =
@@ -59,18 +52,7 @@ module _ (k : Config) (c : ℕ) (h own p : List Deed) (few : c < k.cpus) (sound 
 
   -- where it has one, the slot's mark tells which
   found : (m n : ℕ) (marks : List ℕ) → slice_get marks (slot - 1) ≡ Some m → slice_get marks (slot - 1) ≡ Some (mark c slot p) → n ≡ length (held c last p) → n ≢ 0 → FoundAt k c slot m p
-  found m n marks got at count some =
-      let marked : m ≡ mark c slot p = same_inside (sym got ∙ at) in
-      let one = at_least n some in
-      let holds : 1 ≤ length (held c last p) = omega arith in
-      let there = marked_there holds in
-      let most = mark_within in
-      let same : held c record { issue = m - 1; slot = slot } p ≡ held c last p = ap (λ x. held c record { issue = x - 1; slot = slot } p) marked in
-      record {
-        least = omega arith;
-        most = omega arith;
-        is_open = (refl, omega arith, λ none. let zero_of = ap length (sym same ∙ none) in absurd (omega arith));
-      }
+  found m n marks got at count some = grind (arith, nat_tests, same_inside, at_least, marked_there, mark_within)
 
 -- what a CPU's side tells of a slot that the session has
 module _ (shape : ℕ → Option Shape) (accepted : Record → Bool) (text : Record → List ℕ) {S : Type 0} (cpu : Cpu S) (steady : IsSteady shape accepted text cpu) (slot n : ℕ)

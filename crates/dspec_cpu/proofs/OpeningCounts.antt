@@ -1,6 +1,5 @@
 -- What a call of speculation adds to the counts, deed by deed.
-use Rattle.std.proofs.Common.{◌≡◌, ℕ, ◌+◌, ◌==◌, Bool, true, false, not, ◌&&◌, List, ◌∷◌}
-use Rattle.std.proofs.Common.{refl, ap, ◌∙◌, add-zero}
+use Rattle.std.proofs.Common.{◌≡◌, ℕ, ◌+◌, ◌==◌, Bool, true, false, not, ◌&&◌, List, ◌∷◌, refl, ap, ◌∙◌, add-zero}
 use Rattle.dspec_cpu.specs.Words.{Speculation, missed_busy, one_if, counts_of, with_opening}
 use Rattle.dspec_deeds.specs.declared.config.Config.{Config}
 use Rattle.dspec_deeds.specs.declared.calls.Opening.TheVariants as opening

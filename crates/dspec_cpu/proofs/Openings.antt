@@ -1,6 +1,6 @@
 -- What shows a CPU's list behind a call of speculation.
-use Rattle.std.proofs.Common.{◌≡◌, ℕ, ◌+◌, ◌<◌, ◌≤◌, ◌==◌, Bool, true, false, List, [], ◌∷◌}
-use Rattle.std.proofs.Common.{◌++◌, length, Option, if◌then◌else◌, refl, sym, ap, ◌∙◌, subst, ⊎_elim, arith, add-zero, true≢false}
+use Rattle.std.proofs.lemmas.Bool.Decides.{nat_tests}
+use Rattle.std.proofs.Common.{◌≡◌, ℕ, ◌+◌, ◌<◌, ◌≤◌, ◌==◌, Bool, true, false, List, [], ◌∷◌, ◌++◌, length, Option, if◌then◌else◌, refl, sym, ap, ◌∙◌, subst, ⊎_elim, arith, add-zero, true≢false}
 use Rattle.dspec_cpu.specs.Words.{Record, calls, growing, CpuRow, is_of, missed_busy, bare, Cpu, counts_of, with_opening, IsShown, misses, any_busy, opening_deeds, IsOpening, is_worn_opening}
 use Rattle.dspec_record.specs.declared.field.Shape.{Shape}
 use Rattle.dspec_deeds.specs.declared.config.Config.{Config}
@@ -52,21 +52,13 @@ module _ (k : Config) (c : ℕ) (p : List Deed) where
 
   -- and of the whole call
   opening_calls : (bs : List Bool) (a : Opening) → is_worn_opening a ≡ false → calls c (opening_deeds c bs a ++ p) ≡ calls c p + 1
-  opening_calls bs opening.Worn un = absurd (true≢false un)
-  opening_calls bs opening.Stopped un = rw (number_is_itself c) refl
-  opening_calls bs (opening.Id id) un = add-zero (calls c ((misses c bs ++ Scan c true ∷ []) ++ p)) ∙ missed_calls bs
-  opening_calls bs a un = missed_calls bs
+  opening_calls = grind (arith, nat_tests, number_is_itself, missed_calls)
 
   opening_missed : (bs : List Bool) (a : Opening) → IsOpening k.nspec bs a → is_worn_opening a ≡ false → missed_busy c (opening_deeds c bs a ++ p) ≡ any_busy bs
-  opening_missed bs opening.Worn is un = absurd (true≢false un)
-  opening_missed bs opening.Stopped is un = rw (number_is_itself c) (sym (ap any_busy is))
-  opening_missed bs a is un = missed_any bs
+  opening_missed = grind (arith, nat_tests, number_is_itself, missed_any)
 
   opening_drops : (bs : List Bool) (a : Opening) → (growing c (opening_deeds c bs a ++ p)).drops ≡ (growing c p).drops
-  opening_drops bs opening.Worn = refl
-  opening_drops bs opening.Stopped = add-zero (growing c p).drops
-  opening_drops bs (opening.Id id) = add-zero (growing c ((misses c bs ++ Scan c true ∷ []) ++ p)).drops ∙ missed_drops bs
-  opening_drops bs a = missed_drops bs
+  opening_drops bs a = grind (arith, nat_tests, missed_drops)
 
   opening_counts : (w : ℕ) (bs : List Bool) (a : Opening) → 1 ≤ k.nspec → IsOpening k.nspec bs a → is_worn_opening a ≡ false
       → counts_of k c w (opening_deeds c bs a ++ p) ≡ with_opening a (counts_of k c w p)
@@ -131,7 +123,4 @@ bare_misses c p [] = refl
 bare_misses c p (b ∷ bs) = ap (λ l. Miss c (length bs + 1) b ∷ l) (bare_misses c p bs)
 
 pub bare_opening : (c : ℕ) (p : List Deed) (bs : List Bool) (a : Opening) → bare (opening_deeds c bs a ++ p) ≡ opening_deeds c bs a ++ bare p
-bare_opening c p bs (opening.Id id) = ap (λ l. Opened c id ∷ l) (bare_misses c p bs)
-bare_opening c p bs opening.Unavailable = bare_misses c p bs
-bare_opening c p bs opening.Busy = bare_misses c p bs
-bare_opening c p bs a = refl
+bare_opening c p bs a = grind (arith, nat_tests, bare_misses)

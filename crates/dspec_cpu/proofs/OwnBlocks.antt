@@ -1,4 +1,5 @@
 -- The CPU's own block of a speculation that was decided, settled.
+use Rattle.std.proofs.lemmas.Bool.Decides.{nat_tests}
 use Rattle.std.proofs.Common.{◌≡◌, ℕ, ◌+◌, ◌-◌, ◌==◌, ◌<◌, ◌≤◌, ◌^◌, ◌||◌, Bool, true, false, List, ◌∷◌, length, Option, Some, if◌then◌else◌, refl, sym, ap, ◌∙◌, subst, arith}
 use Rattle.std.specs.Prelude.{slice_get}
 use Rattle.dspec_cpu.specs.Words.{Record, Stored, HasPieces, Speculation, is_commit, is_discard, is_lost, decided_stopped, CpuLegal, fits_principal, mark, contents, held, CpuRow, HasRoom, IsCaller}
@@ -10,7 +11,6 @@ use Rattle.dspec_word.specs.declared.code.Code.{Code}
 use Rattle.dspec_word.specs.declared.code.Code.TheVariants.{Discarding}
 use Rattle.dspec_deeds.specs.declared.config.Config.{Config}
 use Rattle.dspec_deeds.specs.declared.deed.DecideFate.{DecideFate}
-use Rattle.dspec_deeds.specs.declared.deed.DecideFate.TheVariants as fated
 use Rattle.dspec_deeds.specs.declared.deed.Deed.TheVariants.{Settle}
 use Rattle.dspec_deeds.specs.declared.deed.Deed.{Deed}
 use Rattle.dspec_deeds.specs.Settling as settling
@@ -22,12 +22,7 @@ use Rattle.dspec_cpu.proofs.Shown.{shows, shown_behind}
 -- what becomes of a block is lawful, and never stopped
 pub lawful : (shape : ℕ → Option Shape) (k : Config) (c : ℕ) (p : List Deed) (id : Speculation) (code : Code) → CpuRow shape k p (Settle c id (settling.settle_fate shape k c p id code))
 lawful shape k c p id Discarding = refl
-lawful shape k c p id code = go (fits_principal shape k c (extent.block (contents (held c id p))) p) refl
-  where
-    go : (b : Bool) → fits_principal shape k c (extent.block (contents (held c id p))) p ≡ b
-        → CpuRow shape k p (Settle c id (if b then fated.Copied (length (held c id p)) else fated.Lost (length (held c id p))))
-    go true e = (refl, sym e)
-    go false e = (refl, sym e)
+lawful shape k c p id code = grind (arith, nat_tests)
 
 -- a settlement ends the block, and isn't one that was stopped
 ends : (fit : Bool) (n : ℕ) (code : Code) → ((is_commit (settled_fate code fit n) || is_discard (settled_fate code fit n)) ≡ true) × (decided_stopped (settled_fate code fit n) ≡ false)
@@ -42,11 +37,7 @@ module _ (shape : ℕ → Option Shape) (accepted : Record → Bool) (text : Rec
     (p : List Deed) (can : CanSettle shape accepted text k c side batches id code p) (j : Speculation) (named : j ≡ id) where
   -- the slot is one of the session's, and so of the CPU's
   pub there : (1 ≤ j.slot) × (j.slot ≤ length side.marks) × (j.slot ≤ length side.speculative.items) × (j.slot ≤ length side.acks.items)
-  there =
-      let at = ap (λ (x : Speculation). x.slot) named in
-      let low = can.low in let high = can.high in
-      let marks = can.shown.side.mark_count in let buffers = can.shown.side.buffer_count in let acks = can.shown.side.ack_count in
-      (omega arith, omega arith, omega arith, omega arith)
+  there = grind (arith, nat_tests)
 
   module _ (mine : Bool) (tells : (m : ℕ) → slice_get side.marks (j.slot - 1) ≡ Some m → mine ≡ (m == j.issue + 1)) where
     -- whether the CPU is a caller

@@ -1,7 +1,6 @@
 -- How far a call on an identifier comes.
-use Rattle.std.proofs.Common.{◌≡◌, ℕ, ◌+◌, ◌==◌, ◌≤◌, Bool, true, false, [], ◌++◌, Some, refl, sym}
+use Rattle.std.proofs.Common.{◌≡◌, ℕ, ◌+◌, ◌==◌, ◌≤◌, Bool, true, false, [], ◌++◌, Some, refl, sym, ap, ◌∙◌, subst, inl, inr, arith, true≢false}
 use Rattle.std.proofs.lemmas.List.{append-nil}
-use Rattle.std.proofs.Common.{ap, ◌∙◌, subst, inl, inr, arith, true≢false}
 use Rattle.std.specs.Prelude.{nat_le}
 use Rattle.std.proofs.lemmas.Bool.Decides.{nat_tests}
 use Rattle.dspec_cpu.specs.Words.{Speculation, SlotState, in_range, part, scan, IsSound, mark, of_cpu, number_of, part_of, at_activity, at_exchange, IsOn, IsInFlight, calling, activity_place}

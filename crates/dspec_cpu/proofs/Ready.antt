@@ -1,10 +1,10 @@
 -- A CPU can be called again.
+use Rattle.std.proofs.lemmas.Bool.Decides.{nat_tests}
 use Rattle.std.proofs.Common.{◌≡◌, ℕ, ◌+◌, ◌<◌, ◌≤◌, ◌-◌, ◌^◌, Bool, List, ◌++◌, length, Option, Some, None, sym, ◌∙◌, ap, subst, arith}
-use Rattle.dspec_cpu.specs.Words.{Record, Stored, owed, scan, part, IsSound, is_drop, offers, start_fault, report, total, one_if, speculative, records_of_report, of_cpu, number_of, part_of, calling}
-use Rattle.dspec_cpu.specs.Words.{flight_after, Entered, known, IsAt, cpu_of, Cpu, counts_of, with_fate, IsRoomy, Stands, HasList, IsReady, IsSteady, batches_of, spare_count, Belongs, identity}
+use Rattle.dspec_cpu.specs.Words.{Record, Stored, scan, offers, report, records_of_report, of_cpu, number_of, calling, flight_after, Entered, known, IsAt, cpu_of, Cpu, counts_of, with_fate, IsRoomy}
+use Rattle.dspec_cpu.specs.Words.{Stands, HasList, IsReady, IsSteady, batches_of, spare_count, Belongs, identity}
 use Rattle.dspec_record.specs.declared.field.Shape.{Shape}
 use Rattle.dspec_deeds.specs.declared.config.Config.{Config}
-use Rattle.dspec_deeds.specs.declared.calls.Actor.TheVariants.{Cpu as CpuActor}
 use Rattle.dspec_deeds.specs.declared.calls.CpuOp.{CpuOp}
 use Rattle.dspec_deeds.specs.declared.deed.Deed.{Deed}
 use Rattle.dspec_deeds.specs.declared.report.Report.{Report}
@@ -17,19 +17,7 @@ use Rattle.dspec_cpu.proofs.Limits.{limits}
 
 -- behind the last of them
 pub stands_behind : {place : ℕ} (k : Config) (c : ℕ) (v w : View) (log ds : List Deed) → v.config ≡ k → v.who ≡ of_cpu c → Entered place v log ds w → Stands k c v ds w
-stands_behind k c v w log ds config who entered =
-    let own : w.own ≡ ds ++ v.own = ap (λ (x : View). x.own) entered.view in
-    let seen : w.seen ≡ ds ++ log = ap (λ (x : View). x.seen) entered.view in
-    let its : part (CpuActor c) (ds ++ log) ≡ ds ++ v.own = subst (λ x. part_of x (ds ++ log) ≡ ds ++ v.own) who entered.own in
-    record {
-      sound = subst (λ h. IsSound k h) (sym seen) (subst (λ (x : Config). IsSound x (ds ++ log)) config entered.sound);
-      part_is = ap (part (CpuActor c)) seen ∙ (its ∙ sym own);
-      own = own;
-      config = ap (λ (x : View). x.config) entered.view;
-      who = ap (λ (x : View). x.who) entered.view;
-      rests = ap owed seen ∙ entered.rests;
-      flight = ap (λ (x : View). x.flight) entered.view ∙ ap (λ (x : Config). flight_after x v.flight ds) config;
-    }
+stands_behind k c v w log ds config who entered = grind (arith, nat_tests)
 
 -- the same behind a load of activity, which had its call in flight
 pub stands_called : (k : Config) (c : ℕ) (o : CpuOp) (v w : View) (ds : List Deed) → Stands k c (calling o v) ds w → flight_after k (Some o) ds ≡ flight_after k v.flight ds → Stands k c v ds w
@@ -59,10 +47,7 @@ module _ (k : Config) (c : ℕ) (counts : Counts) (p : List Deed) (counted : cou
   fated_by = rw counted (omega arith)
 
   pub told_by : (answer : Report) → answer ≡ told_of counts → answer ≡ report k c counts.worn p
-  told_by answer is =
-      let n : Counts = counts_of k c counts.worn p in
-      let left : n.offered - with_fate n ≡ length (speculative c p) = omega arith in
-      is ∙ (ap told_of counted ∙ ap (λ (h : ℕ). record (report k c counts.worn p) { held = h }) left)
+  told_by answer is = grind (arith, nat_tests)
 
 -- a CPU that stands can be called by those whose words it belongs to
 pub belonging : (shape : ℕ → Option Shape) (accepted : Record → Bool) (text : Record → List ℕ) {S : Type 0} (words : Words) (cpu : Cpu S) → Belongs words (identity cpu)
@@ -89,23 +74,7 @@ module _ (shape : ℕ → Option Shape) (accepted : Record → Bool) (text : Rec
       → Stands cpu.config cpu.cpu (known cpu.seat) ds (known new.seat)
       → scan cpu.config cpu.cpu (ds ++ (known cpu.seat).own) ≡ 0 → flight_after cpu.config (known cpu.seat).flight ds ≡ None → ((b : Stored) → new.spare ≡ Some b → b.size ≡ new.config.bufsize)
       → length (batches_of new) + spare_count new.spare ≤ 1 + length new.end.spares → (p : List Deed) → HasList shape accepted text new p → IsReady shape accepted text words new
-  ready_after new ds same_cpu same_config at seat stands idle over spare not_many p now = record {
-    at = at;
-    config = was.config ∙ same_config;
-    steady = record {
-      seat = seat ∙ (was.steady.seat ∙ same_cpu);
-      config = at.1 ∙ (was.config ∙ same_config);
-      checked = subst (λ (k : Config). start_fault k ≡ None) same_config was.steady.checked;
-      idle = subst (λ (x : Config × ℕ). scan x.0 x.1 (known new.seat).own ≡ 0) (λ i. (same_config i, same_cpu i)) (ap (scan cpu.config cpu.cpu) stands.own ∙ idle);
-      flight = stands.flight ∙ over;
-      sound = subst (λ (k : Config). IsSound k (known new.seat).seen) same_config stands.sound;
-      part_is = subst (λ (x : ℕ). part (CpuActor x) (known new.seat).seen ≡ (known new.seat).own) same_cpu stands.part_is;
-      spare = spare;
-      few = not_many;
-      list = p;
-      listed = now;
-    };
-  }
+  ready_after new ds same_cpu same_config at seat stands idle over spare not_many p now = grind (arith, nat_tests)
 
   -- no count is too large to be raised where a call is left
   pub roomy : cpu.side.calls < cpu.config.max_calls → IsRoomy cpu.side.counts
@@ -130,13 +99,7 @@ module _ (shape : ℕ → Option Shape) (accepted : Record → Bool) (text : Rec
 
   -- nor are the drops since the last Seal
   pub few_drops : cpu.side.calls < cpu.config.max_calls → cpu.side.drops < 2 ^ 63
-  few_drops lt =
-      let room = roomy lt in
-      let since = drops_since cpu.cpu was.steady.list in
-      let is = was.steady.listed.shown.side.drops in
-      let all = room.drops in
-      let counted : cpu.side.counts.drops ≡ total (λ d. one_if (is_drop cpu.cpu d)) was.steady.list = ap (λ (n : Counts). n.drops) was.steady.listed.shown.counted in
-      omega arith
+  few_drops lt = grind (arith, nat_tests, roomy, drops_since)
 
   -- the report of every list that it has balances
   balanced : (p : List Deed) → HasList shape accepted text cpu p → offers cpu.cpu p ≡ records_of_report (report cpu.config cpu.cpu 0 p)

@@ -1,5 +1,6 @@
 -- One slot that what is left of a CPU settles by the last words.
-use Rattle.std.proofs.Common.{◌≡◌, ℕ, ◌<◌, ◌≤◌, ◌^◌, Bool, true, false, List, ◌∷◌, Option, if◌then◌else◌, refl, sym, ap, ◌∙◌, subst}
+use Rattle.std.proofs.Common.{◌≡◌, ℕ, ◌<◌, ◌≤◌, ◌^◌, Bool, true, false, List, ◌∷◌, Option, if◌then◌else◌, refl, sym, ap, ◌∙◌, subst, arith}
+use Rattle.std.proofs.lemmas.Bool.Decides.{nat_tests}
 use Rattle.dspec_cpu.specs.Words.{Record, settle_at, SlotState, CanBeReleased, word_number, is_granted, ack, word_at, settle_fate, Stored, own_closed_slot, last_set_up, last_words, Shows}
 use Rattle.dspec_cpu.specs.Words.{parts_of_side, CpuRest, AreShown, AreItsWords, CanCloseBehind, RestHasList, batches_of_rest, CanSettle, shown_at}
 use Rattle.dspec_record.specs.declared.field.Shape.{Shape}
@@ -10,9 +11,11 @@ use Rattle.dspec_deeds.specs.declared.config.Config.{Config}
 use Rattle.dspec_deeds.specs.declared.deed.Deed.{Deed}
 use Rattle.dspec_deeds.specs.declared.deed.Deed.TheVariants.{Settle}
 use Rattle.dspec_table.specs.declared.last.LastWords.{LastWords}
-use Rattle.dspec_table.proofs.Limits.{limit_of}
 use Rattle.dspec_cpu_state.specs.declared.cpu_state.CpuState.{CpuState}
 use Rattle.dspec_cpu.proofs.Settlements.{can_settle}
+
+limit_of : (w : SlotState) → word_number w ≤ 2 ^ 60 → CanBeReleased w
+limit_of w small = grind (arith, nat_tests)
 
 module _ (shape : ℕ → Option Shape) (accepted : Record → Bool) (text : Record → List ℕ) {S : Type 0} (rest : CpuRest S) (last : LastWords)
     (its : AreItsWords last rest.config rest.cpu) (slot : ℕ) (low : 1 ≤ slot) (high : slot ≤ rest.config.nspec)
@@ -22,11 +25,7 @@ module _ (shape : ℕ → Option Shape) (accepted : Record → Bool) (text : Rec
 
   -- its word is below the last one
   pub released : (log now p : List Deed) → CanCloseBehind rest.config rest.cpu slot (last_words last) log now p → CanBeReleased word
-  released log now p closes =
-      let shows = shows_last log closes.shows in
-      let most = subst (λ (k : Config). slot ≤ k.nspec) (sym its.set_up) high in
-      let number : word_number (word_at slot log) ≤ 2 ^ 60 = subst (λ n. n ≤ 2 ^ 60) (shows.slots slot low most) (last.shown slot low most).1 in
-      subst CanBeReleased (sym (word_is log shows)) (limit_of (word_at slot log) number)
+  released log now p closes = grind (arith, nat_tests, shows_last, limit_of)
 
   module _ (a : ℕ) (a_is : (log : List Deed) → Shows (last_set_up last) (last_words last) log → a ≡ ack rest.cpu slot log) where
     acked : (log now p : List Deed) → CanCloseBehind rest.config rest.cpu slot (last_words last) log now p → settle_at word a ≡ settle_at word (ack rest.cpu slot p)

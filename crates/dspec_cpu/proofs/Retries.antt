@@ -1,5 +1,5 @@
 -- The steps of a call on the word of its identifier's slot.
-use Rattle.std.proofs.Common.{◌≡◌, ◌≢◌, ℕ, ◌+◌, ◌-◌, ◌==◌, ◌<◌, ◌≤◌, ◌&&◌, Bool, true, false, [], if◌then◌else◌, refl, sym, ap, ◌∙◌, subst, inl, ⊎_elim, arith}
+use Rattle.std.proofs.Common.{◌≡◌, ◌≢◌, ℕ, ◌+◌, ◌-◌, ◌==◌, ◌<◌, ◌≤◌, ◌&&◌, Bool, true, false, [], if◌then◌else◌, refl, sym, ap, ◌∙◌, subst, inl, arith}
 use Rattle.std.specs.Prelude.{nat_le}
 use Rattle.std.proofs.lemmas.Bool.Decides.{nat_tests}
 use Rattle.dspec_cpu.specs.Words.{Speculation, SlotState, word_number, code_number, speculate_act, commit_act, discard_act, of_cpu, number_of, IsOn, IsInFlight, MayLoad, MayTry, Attempts}
@@ -11,7 +11,7 @@ use Rattle.dspec_word.specs.declared.act.Act.TheVariants.{Void, Attempt}
 use Rattle.dspec_deeds.specs.declared.config.Config.{Config}
 use Rattle.dspec_deeds.specs.declared.calls.CpuOp.{CpuOp}
 use Rattle.dspec_deeds.specs.declared.calls.CpuOp.TheVariants as op
-use Rattle.dspec_deeds.proofs.TestLemmas.{either_way, same_number}
+use Rattle.dspec_deeds.proofs.TestLemmas.{same_number}
 use Rattle.dspec_table.specs.declared.rule.View.{View}
 use Rattle.dspec_table.specs.declared.doing.Doing.{Doing}
 use Rattle.dspec_table.proofs.Flights.{quiet_word, loads_next, tries_next}
@@ -64,29 +64,14 @@ pub record IsAttempted (n : ℕ) (id : Speculation) (word to : SlotState) : Type
   pub turn : IsTurn n word.code to
 
 pub attempted : (id : Speculation) (o : CpuOp) (word to : SlotState) (mine : Bool) → IsOn id o → act_of o word mine ≡ Attempt to → IsAttempted (turns o) id word to
-attempted id (op.Speculate j r) word to mine on e =
-    let both = here_or_void (word.issue == j.issue) (speculate_act word.issue mine word.code) (Attempt to) e (attempt_is to) in
-    record { now = subst (λ (x : Speculation). (word.issue == x.issue) ≡ true) on both.0; turn = speculate_turn word.issue mine word.code to both.1 }
-attempted id (op.Commit j) word to mine on e =
-    let both = here_or_void (word.issue == j.issue) (commit_act word.issue mine word.code) (Attempt to) e (attempt_is to) in
-    record { now = subst (λ (x : Speculation). (word.issue == x.issue) ≡ true) on both.0; turn = commit_turn word.issue mine word.code to both.1 }
-attempted id (op.Discard j) word to mine on e =
-    let both = here_or_void (word.issue == j.issue) (discard_act word.issue mine word.code) (Attempt to) e (attempt_is to) in
-    record { now = subst (λ (x : Speculation). (word.issue == x.issue) ≡ true) on both.0; turn = discard_turn word.issue mine word.code to both.1 }
-attempted id o word to mine on e = absurd on
+attempted = grind (arith, nat_tests, here_or_void, attempt_is, speculate_turn, commit_turn, discard_turn)
 
 pub attempts : (doing : Doing) (id : Speculation) (o : CpuOp) (word to : SlotState) → IsOn id o → act_of o word doing.mine ≡ Attempt to → Attempts doing word to o
-attempts doing id (op.Speculate j r) word to on e = e
-attempts doing id (op.Commit j) word to on e = e
-attempts doing id (op.Discard j) word to on e = e
-attempts doing id o word to on e = absurd on
+attempts = grind (arith, nat_tests)
 
 -- turns that are left at a word
 left_here : (n : ℕ) (id : Speculation) (word to : SlotState) → IsAttempted n id word to → left n id word ≡ n - code_number word.code
-left_here n id word to a =
-    let low = a.turn.low in
-    let some : nat_le 1 (code_number word.code) ≡ true = grind (arith, nat_tests) in
-    rw (a.now, some) refl
+left_here n id word to a = grind (arith, nat_tests)
 
 left_by : (n : ℕ) (w : SlotState) (b c : Bool) → (c ≡ true → 1 ≤ code_number w.code) → 1 ≤ n → (if b && c then n - code_number w.code else 0) + 1 ≤ n
 left_by n w true true low most = let l = low refl in omega arith
@@ -97,49 +82,22 @@ left_bound n id w most = left_by n w (w.issue == id.issue) (nat_le 1 (code_numbe
 
 -- an exchange that failed leaves fewer
 pub fewer : (n : ℕ) (id : Speculation) (word to shown : SlotState) → IsAttempted n id word to → word_number word < word_number shown → left n id shown + 1 ≤ left n id word
-fewer n id word to shown a greater =
-    let here = left_here n id word to a in
-    let same = same_number word.issue id.issue a.now in
-    let high = a.turn.high in
-    ⊎_elim
-    (λ (t : (shown.issue == id.issue) ≡ true).
-    let too = same_number shown.issue id.issue t in
-    let after : left n id shown ≡ (if nat_le 1 (code_number shown.code) then n - code_number shown.code else 0) =
-    ap (λ b. if b && nat_le 1 (code_number shown.code) then n - code_number shown.code else 0) t in
-    let less = cut (nat_le 1 (code_number shown.code)) (n - code_number shown.code) in
-    omega arith)
-    (λ (f : (shown.issue == id.issue) ≡ false).
-    let after : left n id shown ≡ 0 = ap (λ b. if b && nat_le 1 (code_number shown.code) then n - code_number shown.code else 0) f in
-    omega arith)
-    (either_way (shown.issue == id.issue))
-  where
-    cut : (b : Bool) (m : ℕ) → (if b then m else 0) ≤ m
-    cut true m = omega arith
-    cut false m = omega arith
+fewer n id word to shown a greater = grind (arith, nat_tests, left_here, same_number)
 
 pub turns_some : (o : CpuOp) → 1 ≤ turns o
 turns_some (op.Speculate id r) = omega arith
 turns_some o = omega arith
 
 flies : (k : Config) (v : View) (c slot : ℕ) (doing : Doing) (id : Speculation) (o : CpuOp) → IsOn id o → MayLoad k v c doing slot o → IsInFlight k v c doing id slot
-flies k v c slot doing id (op.Speculate j r) e f = subst (λ (x : Speculation). IsInFlight k v c doing x slot) e f
-flies k v c slot doing id (op.Commit j) e f = subst (λ (x : Speculation). IsInFlight k v c doing x slot) e f
-flies k v c slot doing id (op.Discard j) e f = subst (λ (x : Speculation). IsInFlight k v c doing x slot) e f
-flies k v c slot doing id o e f = absurd e
+flies = grind (arith, nat_tests)
 
 -- a word enters the same, loaded or shown by an exchange that failed
 missed_as_loaded : (k : Config) (c slot : ℕ) (doing : Doing) (w : SlotState) (id : Speculation) (o : CpuOp) → IsOn id o → at_exchange k c doing slot w false o ≡ at_word k c doing slot w o
-missed_as_loaded k c slot doing w id (op.Speculate j r) on = refl
-missed_as_loaded k c slot doing w id (op.Commit j) on = refl
-missed_as_loaded k c slot doing w id (op.Discard j) on = refl
-missed_as_loaded k c slot doing w id o on = absurd on
+missed_as_loaded = grind (arith, nat_tests)
 
 pub loaded_steps : (doing : Doing) (id : Speculation) (slot : ℕ) (v : View) (shown : SlotState) (w : View) → LoadedWord doing slot v shown w
     → w.steps + left (turns doing.op) id shown ≤ v.steps + turns doing.op
-loaded_steps doing id slot v shown w step =
-    let one : w.steps ≡ v.steps + 1 = ap (λ (x : View). x.steps) step.3.view in
-    let most = left_bound (turns doing.op) id shown (turns_some doing.op) in
-    omega arith
+loaded_steps doing id slot v shown w step = grind (arith, nat_tests, left_bound, turns_some)
 
 module _ {k : Config} {c : ℕ} {doing : Doing} {id : Speculation} {slot : ℕ} {v : View} (config : v.config ≡ k) (who : v.who ≡ of_cpu c) where
   -- the first load

@@ -1,6 +1,7 @@
 -- How many moves of its rings a CPU makes.
-use Rattle.std.proofs.Common.{◌≡◌, ℕ, ◌+◌, ◌≤◌, Bool, Option, Some, None, refl, ap, arith, inl, inr}
-use Rattle.dspec_cpu.specs.Words.{Stored, CpuKnows, Buffers, FindsSpare, HandsOn, Heeds, no_spare, held_up, switched, Switches, never, looked, most_moves}
+use Rattle.std.proofs.lemmas.Bool.Decides.{nat_tests}
+use Rattle.std.proofs.Common.{◌≡◌, ℕ, ◌+◌, ◌≤◌, Bool, Option, Some, None, refl, ap, arith}
+use Rattle.dspec_cpu.specs.Words.{Stored, CpuKnows, Buffers, FindsSpare, HandsOn, Heeds, no_spare, held_up, switched, Switches, most_moves}
 use Rattle.dspec_ring.specs.declared.batch.Batch.{Batch}
 use Rattle.dspec_deeds.specs.declared.config.Config.{Config}
 use Rattle.dspec_table.specs.declared.rule.View.{View}
@@ -17,10 +18,7 @@ handed_by e (Some b) f None h = let one = h.moves in omega arith
 handed_by e (Some b) f (Some back) h = let one = ap (λ (x : CpuKnows). x.moves) h.1 in omega arith
 
 found_by : (size : ℕ) (e : CpuKnows) (x : Option Stored) (f : CpuKnows) (y : Option Stored) → FindsSpare size e x f y → f.moves ≤ e.moves + 1
-found_by size e (Some b) f y h = let same = ap (λ (x : CpuKnows). x.moves) h.0 in omega arith
-found_by size e None f (Some b) h = let one = h.1.moves in omega arith
-found_by size e None f None (inl h) = let one = ap (λ (x : CpuKnows). x.moves) h.0 in omega arith
-found_by size e None f None (inr h) = let one = h.1.moves in omega arith
+found_by = grind (arith, nat_tests)
 
 heeded_by : (k : Config) (c ask : ℕ) (x : Buffers) (sealed : Bool) (y : Buffers) → Heeds k c ask x sealed y → y.end.moves ≤ x.end.moves + 2
 unfolding handing
@@ -38,9 +36,4 @@ most None = refl
 most (Some b) = refl
 
 pub switched_moves : (k : Config) (c : ℕ) (v : View) (x : Buffers) (sealed : Bool) (w : View) (y : Buffers) → Switches k c v x sealed w y → y.end.moves ≤ x.end.moves + most_moves x.held_back
-switched_moves k c v x sealed w y (never fill) = omega arith
-switched_moves k c v x sealed w y (looked unfilled e left hands ask u loaded s z heeds) =
-    let first = handed_by x.end x.held_back e left hands in
-    let then_at_most = heeded_by k c ask (record x { end = e; held_back = left }) s z heeds in
-    let all = most x.held_back in
-    omega arith
+switched_moves = grind (arith, nat_tests)

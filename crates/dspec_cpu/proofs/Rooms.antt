@@ -1,15 +1,13 @@
 -- Whether a CPU's principal buffer would take its block of a speculation, and a commit that was made where it would.
-use Rattle.std.proofs.Common.{◌≡◌, ℕ, ◌≤◌, Bool, true, false, ◌&&◌, ◌||◌, List, [], ◌∷◌, ◌++◌, Option, sym, ap, ◌∙◌, subst, ⊎_elim, refl, arith, true≢false}
+use Rattle.std.proofs.Common.{◌≡◌, ℕ, Bool, true, false, ◌&&◌, ◌||◌, List, [], ◌∷◌, Option, sym, ap, ◌∙◌, arith}
 use Rattle.std.proofs.lemmas.Bool.Decides.{nat_tests}
-use Rattle.dspec_cpu.specs.Words.{Record, block, Speculation, fits_principal, contents, held, CpuRow, IsOwn, commit, Cpu, cpu_block_fits, decision, HasList, DecidesOne, is_lost_block}
-use Rattle.dspec_cpu.specs.Words.{made_all_calls, CpuIdentity, identity}
+use Rattle.dspec_cpu.specs.Words.{Record, block, Speculation, fits_principal, contents, held, CpuRow, IsOwn, commit, Cpu, cpu_block_fits, HasList, DecidesOne, is_lost_block, made_all_calls}
+use Rattle.dspec_cpu.specs.Words.{identity}
 use Rattle.dspec_record.specs.declared.field.Shape.{Shape}
 use Rattle.dspec_deeds.specs.declared.config.Config.{Config}
 use Rattle.dspec_deeds.specs.declared.calls.Decided.{Decided}
-use Rattle.dspec_deeds.specs.declared.calls.Decided.TheVariants as decided
-use Rattle.dspec_deeds.specs.declared.deed.DecideFate.TheVariants as fated
 use Rattle.dspec_deeds.specs.declared.deed.Deed.{Deed}
-use Rattle.dspec_deeds.specs.declared.deed.Deed.TheVariants.{Commit, Release}
+use Rattle.dspec_deeds.specs.declared.deed.Deed.TheVariants.{Release}
 use Rattle.dspec_deeds.proofs.ReportBounds.{AreFitted, IsFitted, active_within}
 use Rattle.dspec_deeds.proofs.TestLemmas.{or_tells}
 
@@ -35,16 +33,4 @@ module _ {S : Type 0} (shape_of : S → ℕ → Option Shape) (accepted : S → 
   -- a commit that was worn, or whose block fits, loses none
   pub none_lost : (old new : Cpu S) (id : Speculation) (a : Decided) → identity new ≡ identity old → DecidesOne has commit id a old new
       → (p : List Deed) → has old p → (made_all_calls old || cpu_block_fits (shape_of old.schema) old id p) ≡ true → is_lost_block a ≡ false
-  none_lost old new id (decided.Lost n) same one p had due = absurd (⊎_elim
-      (λ (w : made_all_calls old ≡ true). let all : old.config.max_calls ≤ old.side.calls = grind (arith, nat_tests) in true≢false (sym (one.leaves.worn.1 all)))
-      (λ (fits : cpu_block_fits (shape_of old.schema) old id p ≡ true).
-      let legal = subst (λ (i : CpuIdentity S). IsOwn (shape_of i.schema) i.config i.number (decision one.decides.alone id.slot (Commit old.cpu id (fated.Lost n)) ++ p)) same
-      (one.decides.list p had).shown.legal in
-      true≢false (sym fits ∙ sym (row one.decides.alone legal)))
-      (or_tells (made_all_calls old) (cpu_block_fits (shape_of old.schema) old id p) due))
-    where
-      row : (alone : Bool) → IsOwn (shape_of old.schema) old.config old.cpu (decision alone id.slot (Commit old.cpu id (fated.Lost n)) ++ p)
-          → false ≡ cpu_block_fits (shape_of old.schema) old id p
-      row true legal = legal.0.2.1
-      row false legal = legal.2.1
-  none_lost old new id a same one p had due = refl
+  none_lost = grind (arith, nat_tests, or_tells)

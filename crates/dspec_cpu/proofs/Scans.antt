@@ -1,4 +1,5 @@
 -- The steps of a call of speculation.
+use Rattle.std.proofs.lemmas.Bool.Decides.{nat_tests}
 use Rattle.std.proofs.Common.{◌≡◌, ℕ, ◌+◌, ◌*◌, ◌<◌, ◌≤◌, ◌==◌, Bool, true, false, ◌||◌, List, [], ◌∷◌, ◌++◌, length, if◌then◌else◌, Option, Some, None, refl, sym, ap, ◌∙◌, subst, ⊎_elim, inl, arith}
 use Rattle.std.proofs.lemmas.List.{append-nil}
 use Rattle.dspec_cpu.specs.Words.{Speculation, scan, of_cpu, number_of, calling, flight_after, activity_place, Entered, LoadedActivity, Goes, rests, steps, Stands, StopsWhereMet, any_busy}
@@ -9,7 +10,7 @@ use Rattle.dspec_deeds.specs.declared.calls.CpuOp.TheVariants as op
 use Rattle.dspec_deeds.specs.declared.calls.Opening.{Opening}
 use Rattle.dspec_deeds.specs.declared.calls.Opening.TheVariants as opening
 use Rattle.dspec_deeds.specs.declared.deed.Deed.{Deed}
-use Rattle.dspec_deeds.specs.declared.deed.Deed.TheVariants.{Scan, Opened, Miss}
+use Rattle.dspec_deeds.specs.declared.deed.Deed.TheVariants.{Scan, Miss}
 use Rattle.dspec_deeds.proofs.TestLemmas.{either_way, number_is_itself, other_number, same_number}
 use Rattle.dspec_table.specs.declared.rule.View.{View}
 use Rattle.dspec_table.proofs.Flights.{activity_enters, flight_by_last}
@@ -102,49 +103,12 @@ module _ (k : Config) (c : ℕ) (v : View) where
 
   -- a slot was given out
   pub gives : (n : ℕ) (busy : Bool) (id : Speculation) (u w : View) → n < k.nspec → Came k c v n busy u → LookedAtSlot k c (n + 1) u (look.Given id) w → Scanned k c v (opening.Id id) busy w
-  gives n busy id u w lt came looked =
-      let le = came.bounded in
-      let two = looked.bounded in
-      let at : id.slot ≡ n + 1 = looked.given in
-      let is = came.count in
-      record {
-        missed = came.missed;
-        any = came.any;
-        answer = (omega arith, omega arith);
-        unworn = refl;
-        goes = goes_on came.goes looked.goes;
-        stands = stands_more k c v u w (Opened c id) (misses c came.missed ++ Scan c true ∷ []) came.stands looked.stands;
-        stops = heeded v u w came.runs;
-        bounded = omega arith;
-        touches = subst (λ (m : ℕ). Touches (of_slots m) v w) (sym at) (slot_touched n v u w came.touches looked.touches);
-      }
+  gives n busy id u w lt came looked = grind (arith, nat_tests, goes_on, stands_more, stops, heeded, slot_touched)
 
   -- all were missed
   pub ends : (n : ℕ) (busy : Bool) (w : View) → n ≡ k.nspec → Came k c v n busy w → (a : Opening) → a ≡ (if busy then opening.Busy else opening.Unavailable) → Scanned k c v a busy w
-  ends n true w all came a e = subst (λ (x : Opening). Scanned k c v x true w) (sym e)
-      (let le = came.bounded in record {
-        missed = came.missed;
-        any = came.any;
-        answer = (came.count ∙ all, sym came.any);
-        unworn = refl;
-        goes = came.goes;
-        stands = came.stands;
-        stops = came.runs;
-        bounded = omega arith;
-        touches = subst (λ (m : ℕ). Touches (of_slots m) v w) all came.touches;
-      })
-  ends n false w all came a e = subst (λ (x : Opening). Scanned k c v x false w) (sym e)
-      (let le = came.bounded in record {
-        missed = came.missed;
-        any = came.any;
-        answer = (came.count ∙ all, sym came.any);
-        unworn = refl;
-        goes = came.goes;
-        stands = came.stands;
-        stops = came.runs;
-        bounded = omega arith;
-        touches = subst (λ (m : ℕ). Touches (of_slots m) v w) all came.touches;
-      })
+  ends n true w all came a e = grind (arith, nat_tests, stops)
+  ends n false w all came a e = grind (arith, nat_tests, stops)
 
 -- the slot that the call has come to behind so many Misses
 come_to : (k : Config) (c : ℕ) (own : List Deed) (bs : List Bool) → length bs < k.nspec → scan k c ((misses c bs ++ Scan c true ∷ []) ++ own) ≡ length bs + 1
@@ -159,18 +123,12 @@ come_to k c own (b ∷ bs) lt =
     (either_way (m == k.nspec))
 
 pub next_slot : (k : Config) (c n : ℕ) (busy : Bool) (v w : View) → n < k.nspec → Came k c v n busy w → scan k c w.own ≡ n + 1
-next_slot k c n busy v w lt came =
-    let is = came.count in
-    let here = come_to k c v.own came.missed (omega arith) in
-    ap (scan k c) came.stands.own ∙ (here ∙ ap (λ m. m + 1) is)
+next_slot k c n busy v w lt came = grind (arith, nat_tests, come_to)
 
 -- and the call is in flight
 misses_fly : (k : Config) (c : ℕ) (f : Option CpuOp) (bs : List Bool) → length bs < k.nspec → flight_after k f (misses c bs ++ Scan c true ∷ []) ≡ Some op.Speculation
 misses_fly k c f [] lt = refl
-misses_fly k c f (b ∷ bs) lt =
-    let n : ℕ = length bs + 1 in
-    let apart : (n == k.nspec) ≡ false = other_number n k.nspec (λ e. omega arith) in
-    ap (λ (x : Bool). if x then None else Some op.Speculation) apart
+misses_fly k c f (b ∷ bs) lt = grind (arith, nat_tests, other_number)
 
 pub next_flight : (k : Config) (c n : ℕ) (busy : Bool) (v w : View) → n < k.nspec → Came k c v n busy w → w.flight ≡ Some op.Speculation
 next_flight k c n busy v w lt came = let is = came.count in came.stands.flight ∙ misses_fly k c v.flight came.missed (omega arith)
@@ -178,31 +136,16 @@ next_flight k c n busy v w lt came = let is = came.count in came.stands.flight �
 -- no call is under way behind the answer
 all_missed : (k : Config) (c : ℕ) (own : List Deed) (bs : List Bool) → 1 ≤ k.nspec → length bs ≡ k.nspec → scan k c ((misses c bs ++ Scan c true ∷ []) ++ own) ≡ 0
 all_missed k c own [] one all = absurd (omega arith)
-all_missed k c own (b ∷ bs) one all =
-    let was = come_to k c own bs (omega arith) in
-    let m : ℕ = scan k c ((misses c bs ++ Scan c true ∷ []) ++ own) in
-    let e : m ≡ k.nspec = omega arith in
-    let same : (m == k.nspec) ≡ true = subst (λ n. (n == k.nspec) ≡ true) (sym e) (number_is_itself k.nspec) in
-    ap (λ x. if x then (if m == k.nspec then 0 else m + 1) else m) (number_is_itself c) ∙ ap (λ x. if x then 0 else m + 1) same
+all_missed k c own (b ∷ bs) one all = grind (arith, nat_tests, come_to, number_is_itself)
 
 pub idle_again : (k : Config) (c : ℕ) (own : List Deed) (bs : List Bool) (a : Opening) → 1 ≤ k.nspec → IsOpening k.nspec bs a → is_worn_opening a ≡ false → scan k c (opening_deeds c bs a ++ own) ≡ 0
-idle_again k c own bs opening.Worn one is un = absurd (Rattle.std.proofs.Common.true≢false un)
-idle_again k c own bs opening.Unavailable one is un = all_missed k c own bs one is.0
-idle_again k c own bs opening.Busy one is un = all_missed k c own bs one is.0
-idle_again k c own bs a one is un = rw (number_is_itself c) refl
+idle_again = grind (arith, nat_tests, all_missed, number_is_itself)
 
 all_flown : (k : Config) (c : ℕ) (f : Option CpuOp) (bs : List Bool) → 1 ≤ k.nspec → length bs ≡ k.nspec → flight_after k f (misses c bs ++ Scan c true ∷ []) ≡ None
 all_flown k c f [] one all = absurd (omega arith)
-all_flown k c f (b ∷ bs) one all =
-    let n : ℕ = length bs + 1 in
-    let e : n ≡ k.nspec = omega arith in
-    let same : (n == k.nspec) ≡ true = subst (λ m. (n == m) ≡ true) e (number_is_itself n) in
-    ap (λ (x : Bool). if x then None else Some op.Speculation) same
+all_flown k c f (b ∷ bs) one all = grind (arith, nat_tests, number_is_itself)
 
 -- nor in flight
 pub none_flies : (k : Config) (c : ℕ) (f : Option CpuOp) (bs : List Bool) (a : Opening) → 1 ≤ k.nspec → IsOpening k.nspec bs a → is_worn_opening a ≡ false
     → flight_after k f (opening_deeds c bs a) ≡ None
-none_flies k c f bs opening.Worn one is un = absurd (Rattle.std.proofs.Common.true≢false un)
-none_flies k c f bs opening.Unavailable one is un = all_flown k c f bs one is.0
-none_flies k c f bs opening.Busy one is un = all_flown k c f bs one is.0
-none_flies k c f bs a one is un = refl
+none_flies = grind (arith, nat_tests, all_flown)

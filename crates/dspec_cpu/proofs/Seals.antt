@@ -1,5 +1,6 @@
 -- How many batches a CPU's own list seals, and the list behind one Seal more.
-use Rattle.std.proofs.Common.{◌≡◌, ℕ, suc, ◌+◌, ◌<◌, ◌≤◌, ◌^◌, Bool, false, List, [], ◌∷◌, ◌++◌, length, reverse, if◌then◌else◌, Option, None, refl, sym, ap, ◌∙◌, subst, arith, add-zero}
+use Rattle.std.proofs.lemmas.Bool.Decides.{nat_tests}
+use Rattle.std.proofs.Common.{◌≡◌, ℕ, ◌+◌, ◌<◌, ◌≤◌, ◌^◌, Bool, false, List, [], ◌∷◌, ◌++◌, length, reverse, if◌then◌else◌, Option, None, refl, sym, ap, ◌∙◌, subst, arith, add-zero}
 use Rattle.dspec_cpu.specs.Words.{Record, Stored, CpuKnows, scan, active, seals, IsOwn, is_fill, known, Cpu, counts_of, HasList, IsReady, batches_of, HasSized, AreSealed, waiting, batch_of}
 use Rattle.dspec_cpu.specs.Words.{buffers_of}
 use Rattle.dspec_record.specs.declared.field.Shape.{Shape}
@@ -27,13 +28,7 @@ module _ (shape : ℕ → Option Shape) (accepted : Record → Bool) (text : Rec
 
   pub sealed_count : (k : Config) (c : ℕ) (p : List Deed) (bs : List Batch) → IsOwn shape k c p → AreSealed shape accepted text k c p bs → IsTold k (seals c p) bs
   sealed_count k c [] bs own x = (ap length x, omega arith)
-  sealed_count k c (Seal a ∷ p) bs own x =
-      let was = sealed_count k c p x.1 own.0 x.4 in
-      let count = was.0 in
-      let most : seals c p < k.max_calls = subst (λ n. seals n p < k.max_calls) (sym (same_number c a own.1)) own.2.0 in
-      let more : length bs ≡ suc (length x.1) = ap length x.2 in
-      let told : IsTold k (seals c p + 1) bs = (omega arith, omega arith) in
-      subst (λ m. IsTold k m bs) (ap (λ b. seals c p + (if b then 1 else 0)) (sym own.1)) told
+  sealed_count k c (Seal a ∷ p) bs own x = grind (arith, nat_tests, sealed_count k c p x.1 own.0 x.4, same_number)
   sealed_count k c (d ∷ p) bs own x = on k (seals c p) bs (sealed_count k c p bs own.0 x)
 
   module _ {S : Type 0} (words : Words) (cpu : Cpu S) (ready : IsReady shape accepted text words cpu) where

@@ -1,5 +1,6 @@
 -- The slots of a service, one behind the other.
-use Rattle.std.proofs.Common.{◌≡◌, ℕ, zero, suc, ◌+◌, ◌≤◌, Bool, true, false, List, [], ◌++◌, length, if◌then◌else◌, refl, sym, ap, ◌∙◌, subst, arith, append_assoc, length-append}
+use Rattle.std.proofs.lemmas.Bool.Decides.{nat_tests}
+use Rattle.std.proofs.Common.{◌≡◌, ℕ, zero, suc, ◌+◌, ◌≤◌, Bool, true, false, List, [], ◌++◌, length, if◌then◌else◌, refl, sym, ap, subst, arith, append_assoc, length-append}
 use Rattle.dspec_deeds.specs.declared.deed.Deed.{Deed}
 use Rattle.dspec_cpu.specs.Words.{SlotState, rests, Settled, SettledBehind, SettledSlot, SettledSlots, SlotDone}
 use Rattle.dspec_table.specs.declared.rule.View.{View}
@@ -16,12 +17,7 @@ at_most_one false = omega arith
 
 pub few_settles : (c : ℕ) (v : View) (n : ℕ) (ds : List Deed) (w : View) → SettledSlots c v n ds w → length ds ≤ n
 few_settles c v zero ds w h = let e = ap length h.0 in omega arith
-few_settles c v (suc n) ds w h =
-    let was = few_settles c v n h.0 h.1 h.4 in
-    let now = here_count h.2 c (suc n) h.5.shown h.5.loaded h.3 w h.5.behind in
-    let one = at_most_one h.2 in
-    let all = ap length h.6 ∙ length-append h.3 h.0 in
-    omega arith
+few_settles c v (suc n) ds w h = grind (arith, nat_tests, few_settles c v n h.0 h.1 h.4, here_count, at_most_one)
 
 pub none_settled : (c : ℕ) (had : List Deed → Type 0) (v : View) → Settled c 0 0 had v had v
 none_settled c had v = record { settles = []; slots = (refl, refl); number = refl; goes = rests; bounded = omega arith; list = λ p h. h }

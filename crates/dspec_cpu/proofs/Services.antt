@@ -1,9 +1,10 @@
 -- One slot of a service: its word is loaded, and what is due is settled.
+use Rattle.std.proofs.lemmas.Bool.Decides.{nat_tests}
 use Rattle.std.proofs.Common.{◌≡◌, ℕ, ◌+◌, ◌-◌, ◌^◌, ◌≤◌, ◌<◌, Bool, true, false, List, [], ◌&&◌, nat_le, get_or, Option, if◌then◌else◌, refl, sym, ap, ◌∙◌, subst, inl, inr, arith, true≢false}
 use Rattle.std.proofs.lemmas.List.{append-nil}
 use Rattle.std.proofs.lemmas.Option.{get_or_from_slice_get}
-use Rattle.dspec_cpu.specs.Words.{Record, SlotState, CanBeReleased, awaits, is_decided, settle_at, is_granted, ack, word_at, known, IsAt, cpu_of, LoadedWord, Cpu, Goes, rests, steps, HasList}
-use Rattle.dspec_cpu.specs.Words.{IsReady, Stands, DueSettled, IsDueAt, SlotDone, serving, Entered, slot_place, number_of, shown, idle_progress}
+use Rattle.dspec_cpu.specs.Words.{Record, SlotState, CanBeReleased, awaits, is_decided, settle_at, is_granted, ack, known, IsAt, cpu_of, LoadedWord, Cpu, Goes, rests, steps, HasList, IsReady}
+use Rattle.dspec_cpu.specs.Words.{Stands, DueSettled, IsDueAt, SlotDone, serving, Entered, slot_place, number_of, shown, idle_progress}
 use Rattle.dspec_record.specs.declared.field.Shape.{Shape}
 use Rattle.dspec_word.specs.declared.code.Code.{Code}
 use Rattle.dspec_word.specs.declared.code.Code.TheVariants.{CommittingMany, Discarding}
@@ -83,13 +84,7 @@ module _ (shape : ℕ → Option Shape) (accepted : Record → Bool) (text : Rec
   -- a slot that is passed
   passed_by : is_granted (settle_at word (ack cpu.cpu slot v.own)) ≡ false
       → SlotDone cpu.cpu slot false (HasList shape accepted text cpu) v (HasList shape accepted text looking) u
-  passed_by none = record {
-    settles = [];
-    slot_is = record { shown = word; loaded = u; load = step; granted = sym none; behind = (refl, refl) };
-    goes = load_goes;
-    bounded = let one = one_step in omega arith;
-    list = loaded_list;
-  }
+  passed_by none = grind (arith, nat_tests, step, load_goes, one_step, loaded_list)
 
   pub passed : (a : ℕ) → a ≡ get_or cpu.side.acks.items (slot - 1) a → is_granted (settle_at word a) ≡ false
       → SlotDone cpu.cpu slot false (HasList shape accepted text cpu) v (HasList shape accepted text looking) u
@@ -101,12 +96,7 @@ module _ (shape : ℕ → Option Shape) (accepted : Record → Bool) (text : Rec
 
   -- a slot whose settlement is due
   pub due : (a : ℕ) → a ≡ get_or cpu.side.acks.items (slot - 1) a → CanBeReleased word → settle_at word a ≡ Granted → IsDueAt cpu.cpu slot word u
-  due a is limit grants = record {
-    rests = load_stands.rests;
-    here = ap (λ (x : View). word_at slot x.seen) entered.view ∙ sym step.2;
-    limit = limited word a limit grants;
-    granted = ap (λ l. settle_at word (ack cpu.cpu slot l)) load_stands.own ∙ (ap (settle_at word) (sym (ack_kept a is)) ∙ grants);
-  }
+  due a is limit grants = grind (arith, nat_tests, load_stands, entered, step, limited, ack_kept)
 
   -- and was made
   pub slot_done : (has : List Deed → Type 0) (w : View) → IsDueAt cpu.cpu slot word u → DueSettled cpu.cpu slot word (HasList shape accepted text looking) u has w

@@ -1,4 +1,5 @@
 -- A list that goes on by a settlement, of which a CPU's own list is its part.
+use Rattle.std.proofs.lemmas.Bool.Decides.{nat_tests}
 use Rattle.std.proofs.Common.{◌≡◌, ℕ, ◌+◌, ◌==◌, ◌≤◌, ◌<◌, ◌^◌, Bool, true, false, not, ◌&&◌, List, ◌∷◌, length, Option, if◌then◌else◌, refl, sym, ap, ◌∙◌, subst, arith, true≢false}
 use Rattle.std.specs.Prelude.{nat_le}
 use Rattle.dspec_cpu.specs.Words.{Record, Stored, Speculation, SlotState, settled_fate, fits_principal, contents, awaits, settle_at, is_granted, is_lost, ack, issue, part, present, settled, solo}
@@ -6,7 +7,6 @@ use Rattle.dspec_cpu.specs.Words.{verdict, word_at, SettlesAs, calls, held, Coun
 use Rattle.dspec_buffer.specs.Extent as extent
 use Rattle.dspec_record.specs.declared.field.Shape.{Shape}
 use Rattle.dspec_ring.specs.declared.batch.Batch.{Batch}
-use Rattle.dspec_word.specs.declared.act.Act.TheVariants.{Granted, Idle}
 use Rattle.dspec_word.specs.declared.code.Code.{Code}
 use Rattle.dspec_word.specs.declared.code.Code.TheVariants.{CommittingMany, Discarding}
 use Rattle.dspec_deeds.specs.declared.config.Config.{Config}
@@ -29,11 +29,7 @@ use Rattle.dspec_cpu_state.proofs.Tallies.{drops_since, settle_counts}
 
 -- what a grant tells of the word
 pub grant_tells : (w : SlotState) (acked : ℕ) → is_granted (settle_at w acked) ≡ true → (awaits w.code ≡ true) × (nat_le acked w.issue ≡ true)
-grant_tells w acked e = go (awaits w.code) (nat_le acked w.issue) e
-  where
-    go : (a b : Bool) → is_granted (if a && b then Granted else Idle) ≡ true → (a ≡ true) × (b ≡ true)
-    go true true e = (refl, refl)
-    go a b e = absurd (true≢false (sym e))
+grant_tells w acked e = grind (arith, nat_tests)
 
 fate_fits : (fit : Bool) (n : ℕ) (code : Code) → awaits code ≡ true → goes_with code (settled_fate code fit n) ≡ true
 fate_fits fit n Discarding e = refl

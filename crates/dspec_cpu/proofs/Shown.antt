@@ -1,5 +1,6 @@
 -- What shows a list of a CPU: its side, and the batches that it sealed.
-use Rattle.std.proofs.Common.{◌≡◌, ℕ, Bool, true, false, List, ◌∷◌, Option, refl, sym, true≢false}
+use Rattle.std.proofs.Common.{arith, ◌≡◌, ℕ, Bool, true, false, List, ◌∷◌, Option, refl, sym, true≢false}
+use Rattle.std.proofs.lemmas.Bool.Decides.{nat_tests}
 use Rattle.dspec_cpu.specs.Words.{Record, Piece, Stored, HasPieces, is_seal, CpuRow, is_of, growing, calls, missed_busy, ShowsList, parts_of_side, Cpu, counts_of, AreSealed, AreShown, IsShown}
 use Rattle.dspec_record.specs.declared.field.Shape.{Shape}
 use Rattle.dspec_ring.specs.declared.batch.Batch.{Batch}
@@ -38,12 +39,7 @@ module _ (shape : ℕ → Option Shape) (accepted : Record → Bool) (text : Rec
   -- a side that shows a deed of the CPU's in front, which is no Seal, and the batches show it
   pub shown_behind : (d : Deed) → is_seal d ≡ false → is_of c d ≡ true → CpuRow shape k p d → (now : CpuState Stored) → ShowsList stores size_of k c (d ∷ p) now
       → AreShown shape accepted text k c (parts_of_side now) batches now.counts (d ∷ p)
-  shown_behind d unsealed mine row now shown = record {
-    legal = (was.legal, mine, row);
-    side = shown.parts;
-    sealed = sealed_on shape accepted text k c d p batches unsealed was.sealed;
-    counted = shown.counted;
-  }
+  shown_behind d unsealed mine row now shown = grind (arith, nat_tests, sealed_on)
 
 module _ (shape : ℕ → Option Shape) (accepted : Record → Bool) (text : Record → List ℕ) {S : Type 0} (cpu : Cpu S) (p : List Deed) (was : IsShown shape accepted text cpu p) where
   -- what shows the list shows it with a quiet deed in front, once numbers and counts are those of the longer list

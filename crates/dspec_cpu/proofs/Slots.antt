@@ -1,10 +1,9 @@
 -- The slots of a scan.
-use Rattle.std.proofs.Common.{◌≡◌, ◌≢◌, ℕ, ◌+◌, Bool, true, false, ◌&&◌, List, [], ◌∷◌, if◌then◌else◌, refl, sym, ap, ◌∙◌, subst, inl, arith}
-use Rattle.std.specs.Prelude.{nat_lt}
-use Rattle.dspec_cpu.specs.Words.{SlotState, is_inactive, is_decided, attempt, open_at, of_cpu, number_of, slot_place, Entered, LoadedWord, OpenedWord, Look, rests, steps, Stands, LookedAtSlot}
-use Rattle.dspec_cpu.specs.Words.{IsGivenAt, look_deed, at_slot, at_word, at_exchange, nothing}
+use Rattle.std.proofs.lemmas.Bool.Decides.{nat_tests}
+use Rattle.std.proofs.Common.{◌≡◌, ◌≢◌, ℕ, ◌+◌, Bool, false, List, [], ◌∷◌, refl, sym, ap, ◌∙◌, subst, inl, arith}
+use Rattle.dspec_cpu.specs.Words.{SlotState, is_decided, open_at, of_cpu, number_of, slot_place, Entered, LoadedWord, OpenedWord, Look, rests, steps, Stands, LookedAtSlot, IsGivenAt, look_deed}
+use Rattle.dspec_cpu.specs.Words.{at_slot, at_word, at_exchange, nothing}
 use Rattle.dspec_word.specs.declared.act.Act.TheVariants.{Void, Attempt}
-use Rattle.dspec_word.specs.declared.code.Code.TheVariants.{Active}
 use Rattle.dspec_deeds.specs.declared.config.Config.{Config}
 use Rattle.dspec_deeds.specs.declared.calls.CpuOp.TheVariants as op
 use Rattle.dspec_deeds.specs.declared.deed.Deed.{Deed}
@@ -21,23 +20,11 @@ asked = record { op = op.Speculation; fits = false; count = 0; mine = false }
 
 -- one deed more
 pub stands_more : (k : Config) (c : ℕ) (v u w : View) (d : Deed) (ds : List Deed) → Stands k c v ds u → Stands k c u (d ∷ []) w → Stands k c v (d ∷ ds) w
-stands_more k c v u w d ds a b = record {
-  sound = b.sound;
-  part_is = b.part_is;
-  own = b.own ∙ ap (λ l. d ∷ l) a.own;
-  config = b.config ∙ a.config;
-  who = b.who ∙ a.who;
-  rests = b.rests;
-  flight = b.flight ∙ flight_by_last k u.flight v.flight d [] ds;
-}
+stands_more k c v u w d ds a b = grind (arith, nat_tests, flight_by_last)
 
 -- the table opens a slot or passes it
 pub passes : (w : SlotState) (most : ℕ) → ((to : SlotState) → open_at w most ≢ Attempt to) → open_at w most ≡ Void
-passes w most none = go (is_inactive w.code && nat_lt w.issue most) none
-  where
-    go : (b : Bool) → ((to : SlotState) → (if b then attempt w.issue Active else Void) ≢ Attempt to) → (if b then attempt w.issue Active else Void) ≡ Void
-    go true n = absurd (n record { issue = w.issue; code = Active } refl)
-    go false n = refl
+passes w most none = grind (arith, nat_tests)
 
 module _ (k : Config) (c slot : ℕ) (v : View) (config : v.config ≡ k) (who : v.who ≡ of_cpu c) where
   -- the load showed a word that isn't free

@@ -1,7 +1,8 @@
 -- A call heeds a stop that its seat was shown.
-use Rattle.std.proofs.Common.{◌≡◌, Bool, true, false, ◌||◌, List, [], ◌∷◌, ◌++◌, refl, sym, ap, ◌∙◌, true≢false}
+use Rattle.std.proofs.Common.{arith, ◌≡◌, Bool, true, false, ◌||◌, List, [], ◌∷◌, ◌++◌, refl, sym, true≢false}
+use Rattle.std.proofs.lemmas.Bool.Decides.{nat_tests}
 use Rattle.dspec_deeds.specs.declared.deed.Deed.{Deed}
-use Rattle.dspec_cpu.specs.Words.{halted, is_halt, at_activity, Holder, number_of, Since, here, more, LoadedActivity, StopsWhereMet}
+use Rattle.dspec_cpu.specs.Words.{halted, is_halt, Holder, Since, here, more, LoadedActivity, StopsWhereMet}
 use Rattle.dspec_table.specs.declared.doing.Doing.{Doing}
 use Rattle.dspec_table.specs.declared.rule.View.{View}
 
@@ -19,17 +20,11 @@ halted_behind (d ∷ ds) log e = or_yes (is_halt d) (halted (ds ++ log)) (halted
 
 -- the load of activity showed a stop
 pub shown_stop : (doing : Doing) (v w : View) → LoadedActivity doing v true w → StopsWhereMet v false true w
-shown_stop doing v w step = record {
-  met = λ met unworn. refl;
-  only = λ t. ap (λ (x : View). halted x.seen) step.3.view ∙ halted_behind (at_activity v.config (number_of v.who) doing doing.op true) step.0 (sym step.2);
-}
+shown_stop doing v w step = grind (arith, nat_tests, halted_behind)
 
 -- or that the session runs, whatever came then
 pub shown_running : (doing : Doing) (v u w : View) → LoadedActivity doing v false u → StopsWhereMet v false false w
-shown_running doing v u w step = record {
-  met = λ met unworn. absurd (true≢false (sym (halted_since v.who v.seen step.0 step.1.since met) ∙ sym step.2));
-  only = λ t. absurd (true≢false (sym t));
-}
+shown_running doing v u w step = grind (arith, nat_tests, halted_since)
 
 -- a worn call is answered otherwise
 pub worn_out : (v w : View) → StopsWhereMet v true false w

@@ -1,9 +1,10 @@
 -- A CPU behind a switch: its batches, its spare and its lists.
-use Rattle.std.proofs.Common.{◌≡◌, ℕ, ◌+◌, ◌≤◌, Bool, false, List, [], ◌∷◌, ◌++◌, length, reverse, Option, Some, None, refl, sym, ap, ◌∙◌, subst, arith, inl, inr, rules}
+use Rattle.std.proofs.lemmas.Bool.Decides.{nat_tests}
+use Rattle.std.proofs.Common.{◌≡◌, ℕ, ◌+◌, ◌≤◌, Bool, false, List, [], ◌∷◌, ◌++◌, length, reverse, Option, Some, None, refl, sym, ap, ◌∙◌, subst, arith, rules}
 use Rattle.std.proofs.lemmas.List.{length_push, reverse-append}
-use Rattle.dspec_cpu.specs.Words.{Record, Stored, CpuKnows, owed, part, IsSound, is_fill, LoadedAsk, of_cpu, part_of, known, IsAt, cpu_of, Cpu, HasList, IsReady, IsSameCpu, batches_of, spare_count}
-use Rattle.dspec_cpu.specs.Words.{Stands, HasSized, waiting, Buffers, FindsSpare, HandsOn, Heeds, not_asked, worn_out, no_spare, held_up, switched, IsSameBeside, Switches, looked, batch_of}
-use Rattle.dspec_cpu.specs.Words.{buffers_of, emptied, with_buffers, with_seal}
+use Rattle.dspec_cpu.specs.Words.{Record, Stored, CpuKnows, is_fill, LoadedAsk, of_cpu, known, IsAt, cpu_of, Cpu, HasList, IsReady, IsSameCpu, batches_of, spare_count, Stands, HasSized, waiting}
+use Rattle.dspec_cpu.specs.Words.{Buffers, FindsSpare, HandsOn, Heeds, not_asked, worn_out, no_spare, held_up, switched, IsSameBeside, Switches, looked, batch_of, buffers_of, emptied, with_buffers}
+use Rattle.dspec_cpu.specs.Words.{with_seal}
 use Rattle.dspec_record.specs.declared.field.Shape.{Shape}
 use Rattle.dspec_ring.specs.declared.batch.Batch.{Batch}
 use Rattle.dspec_deeds.specs.declared.config.Config.{Config}
@@ -37,48 +38,11 @@ one_more : (xs ys : List Batch) (b : Batch) → ys ≡ xs ++ b ∷ [] → length
 one_more xs ys b e = ap length e ∙ length_push xs b
 
 pub found : (size : ℕ) (e : CpuKnows) (x : Option Stored) (f : CpuKnows) (y : Option Stored) → FindsSpare size e x f y → IsFound size e x f y
-found size e (Some b) f y h = record {
-  handed = λ i. (h.0 i).handed;
-  pair = λ i. (h.0 i).pair;
-  few = λ n le. subst (λ (q : CpuKnows × Option Stored). n + spare_count q.1 ≤ 1 + length q.0.spares) (λ i. (sym h.0 i, sym h.1 i)) le;
-  sized = λ was s at. was s (sym h.1 ∙ at);
-}
-found size e None f (Some b) h = record {
-  handed = h.1.handed;
-  pair = h.1.pair;
-  few = λ n le. let more = one_more e.spares f.spares h.0 h.1.spares in omega arith;
-  sized = λ was s at. ap (λ (t : Stored). t.size) (sym (same_inside at)) ∙ h.3;
-}
-found size e None f None (inl h) = record {
-  handed = λ i. (h.0 i).handed;
-  pair = λ i. (h.0 i).pair;
-  few = λ n le. subst (λ (q : CpuKnows). n + 0 ≤ 1 + length q.spares) (sym h.0) le;
-  sized = λ was s at. absurd (cc (at));
-}
-found size e None f None (inr h) = record {
-  handed = h.1.handed;
-  pair = h.1.pair;
-  few = λ n le. let more = one_more e.spares f.spares h.0 h.1.spares in omega arith;
-  sized = λ was s at. absurd (cc (at));
-}
+found = grind (arith, nat_tests, one_more, same_inside)
 
 -- behind a load of the ask the seat's list is as it was
 pub stands_asked : (k : Config) (c n : ℕ) (v w : View) → v.config ≡ k → v.who ≡ of_cpu c → LoadedAsk c v n w → Stands k c v [] w
-stands_asked k c n v w config who loaded =
-    let log = loaded.0 in
-    let find = loaded.1 in
-    let view = loaded.3 in
-    let own : w.own ≡ v.own = ap (λ (x : View). x.own) view in
-    let seen : w.seen ≡ log = ap (λ (x : View). x.seen) view in
-    record {
-      sound = subst (λ h. IsSound k h) (sym seen) (subst (λ (x : Config). IsSound x log) config find.sound);
-      part_is = ap (part (Rattle.dspec_deeds.specs.declared.calls.Actor.TheVariants.Cpu c)) seen ∙ (subst (λ x. part_of x log ≡ v.own) who find.own ∙ sym own);
-      own = own;
-      config = ap (λ (x : View). x.config) view;
-      who = ap (λ (x : View). x.who) view;
-      rests = ap owed seen ∙ find.rests;
-      flight = ap (λ (x : View). x.flight) view;
-    }
+stands_asked k c n v w config who loaded = grind (arith, nat_tests)
 
 -- all that a switch changes
 pub switched_is : {S : Type 0} (cpu : Cpu S) (seat : CpuSeat) (new : Cpu S) → IsSameBeside cpu new × (new.seat ≡ seat) → new ≡ with_buffers cpu seat (buffers_of new)

@@ -1,9 +1,10 @@
 -- What a call tells by its answer comes in front of what its CPU's calls told before.
+use Rattle.std.proofs.lemmas.Bool.Decides.{nat_tests}
 use Rattle.std.proofs.Common.{◌≡◌, ◌+◌, ◌*◌, ℕ, zero, suc, Bool, true, false, List, [], ◌∷◌, ◌++◌, length, refl, sym, ap, ◌∙◌, ⊎_elim, append_assoc, arith}
-use Rattle.dspec_cpu.specs.Words.{Record, Speculation, SlotState, settled_fate, did, By, Did, is_stopped_opening, calling, known, Entered, EnteredIn, Cpu, called, settled_did, WithService, Decides}
-use Rattle.dspec_cpu.specs.Words.{Goes, rests, steps, spoken_deeds, traced_deeds, is_worn_decided, is_worn_spoken, is_worn_trace, CallLeaves, config_of, number_in, seat_of, worn_of, decision_deed}
-use Rattle.dspec_cpu.specs.Words.{TracesOne, SpeculatesOne, OpensOne, DecidesOne, Opens, is_worn_opening, Serves, SettledBehind, SettledSlots, shown_at, is_stopped_decided, is_stopped_spoken}
-use Rattle.dspec_cpu.specs.Words.{is_stopped_trace, Buffers, Switches, never, looked, last_looked, of_activity, of_slot, of_slots}
+use Rattle.dspec_cpu.specs.Words.{Record, Speculation, SlotState, settled_fate, did, By, Did, is_stopped_opening, calling, known, Entered, EnteredIn, Cpu, called, WithService, Decides, Goes, rests}
+use Rattle.dspec_cpu.specs.Words.{steps, spoken_deeds, traced_deeds, is_worn_decided, is_worn_spoken, is_worn_trace, CallLeaves, config_of, number_in, seat_of, worn_of, decision_deed, TracesOne}
+use Rattle.dspec_cpu.specs.Words.{SpeculatesOne, OpensOne, DecidesOne, Opens, is_worn_opening, Serves, SettledBehind, SettledSlots, shown_at, is_stopped_decided, is_stopped_spoken, is_stopped_trace}
+use Rattle.dspec_cpu.specs.Words.{Buffers, Switches, never, looked, last_looked, of_activity, of_slot, of_slots}
 use Rattle.dspec_deeds.specs.declared.calls.Decided.{Decided}
 use Rattle.dspec_deeds.specs.declared.calls.Opening.{Opening}
 use Rattle.dspec_deeds.specs.declared.calls.Served.{Served}
@@ -32,10 +33,7 @@ module _ {S : Type 0} (has : Cpu S → List Deed → Type 0) (old new : Cpu S) (
   -- a call with these deeds did this, and was worn or wasn't
   tells : (new_done : List Did) (worn : ℕ) (ds : List Deed) → (known (seat_of new)).own ≡ ds ++ (known (seat_of old)).own → worn_of new ≡ worn
       → ((p : List Deed) → did (number_in old) (ds ++ p) ≡ new_done ++ did (number_in old) p) → called new ≡ record { done = new_done ++ (called old).done; worn = worn }
-  tells new_done worn ds own w is =
-      let done : (called new).done ≡ new_done ++ (called old).done =
-      ap (λ n. did n (known (seat_of new)).own) same ∙ (ap (did (number_in old)) own ∙ is (known (seat_of old)).own) in
-      λ i. record { done = done i; worn = w i }
+  tells new_done worn ds own w is = grind (arith, nat_tests)
 
   pub traces_one : (r : Record) (a : Traced) → CallLeaves (is_worn_trace a) (is_stopped_trace a) 1 of_activity old new
       → Goes (known (seat_of old)) (traced_deeds (number_in old) r a) (known (seat_of new)) → ((p : List Deed) → has old p → has new (traced_deeds (number_in old) r a ++ p))
@@ -84,13 +82,4 @@ switch_own k c v x b w y (looked f e left h ask z l s u g) = ap (λ (a : View). 
 pub service_tells : {S : Type 0} (has : Cpu S → List Deed → Type 0) (old new : Cpu S) (k : Config) (had has_now : List Deed → Type 0) (x y : Buffers) (a : Served)
     → number_in new ≡ number_in old → Serves k (number_in old) a had (known (seat_of old)) x has_now (known (seat_of new)) y → worn_of new ≡ worn_of old
     → WithService a (called old) (called new)
-service_tells has old new k had has_now x y a same s w =
-    let c = number_in old in
-    let is = settled_slots c s.between (known (seat_of new)) k.nspec s.settles s.slots in
-    let own : (known (seat_of new)).own ≡ s.settles ++ (known (seat_of old)).own =
-    goes_own s.goes ∙ ap (λ l. s.settles ++ l) (switch_own k c (known (seat_of old)) x a.sealed s.between s.passed s.switches) in
-    record {
-      settled = is.0;
-      number = s.number ∙ (ap length is.1 ∙ settles_length c is.0);
-      after = tells has old new same (settled_did is.0) (worn_of old) s.settles own w (λ p. ap (λ ds. did c (ds ++ p)) is.1 ∙ settles_told c is.0 p);
-    }
+service_tells has old new k had has_now x y a same s w = grind (arith, nat_tests, settled_slots, goes_own, switch_own, settles_length, tells, settles_told)

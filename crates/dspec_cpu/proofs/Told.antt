@@ -1,5 +1,6 @@
 -- The deeds of a call, as the page tells them by its answer.
-use Rattle.std.proofs.Common.{◌≡◌, ℕ, Bool, true, false, List, [], ◌∷◌, ◌++◌, map, refl, ap, ◌∙◌, append_assoc}
+use Rattle.std.proofs.Common.{arith, ◌≡◌, ℕ, Bool, true, List, [], ◌∷◌, ◌++◌, map, refl, ap, ◌∙◌, append_assoc}
+use Rattle.std.proofs.lemmas.Bool.Decides.{nat_tests}
 use Rattle.dspec_cpu.specs.Words.{Record, Speculation, did, By, commit, trace_did, speculate_did, decision_did, decision_deed, settled_did, traced_deeds, spoken_deeds, decided_deeds, misses}
 use Rattle.dspec_cpu.specs.Words.{opening_deeds}
 use Rattle.dspec_promise.specs.Promise as page
@@ -8,11 +9,9 @@ use Rattle.dspec_deeds.specs.declared.calls.Traced.TheVariants as answer
 use Rattle.dspec_deeds.specs.declared.calls.Spoken.{Spoken}
 use Rattle.dspec_deeds.specs.declared.calls.Spoken.TheVariants as spoken
 use Rattle.dspec_deeds.specs.declared.calls.Decided.{Decided}
-use Rattle.dspec_deeds.specs.declared.calls.Decided.TheVariants as decided
 use Rattle.dspec_deeds.specs.declared.deed.Deed.{Deed}
 use Rattle.dspec_deeds.specs.declared.deed.DecideFate.{DecideFate}
 use Rattle.dspec_deeds.specs.declared.calls.Opening.{Opening}
-use Rattle.dspec_deeds.specs.declared.calls.Opening.TheVariants as opening
 use Rattle.dspec_deeds.specs.declared.deed.Deed.TheVariants.{Scan, Settle}
 use Rattle.dspec_deeds.proofs.TestLemmas.{number_is_itself}
 
@@ -30,11 +29,7 @@ deed_told w c id f p = rw (number_is_itself c) refl
 
 pub decision_told : (w : By) (c : ℕ) (id : Speculation) (alone : Bool) (a : Decided) (p : List Deed)
     → did c (decided_deeds (decision_deed w c id) id.slot alone a ++ p) ≡ decision_did w id a ++ did c p
-decision_told w c id alone decided.Worn p = refl
-decision_told w c id alone decided.Void p = deed_told w c id _ p
-decision_told w c id alone decided.Stopped p = deed_told w c id _ p
-decision_told w c id true a p = deed_told w c id _ p
-decision_told w c id false a p = deed_told w c id _ p
+decision_told w c id alone a p = grind (arith, nat_tests, deed_told)
 
 -- a call of speculation touches no record
 misses_told : (c : ℕ) (bs : List Bool) (p : List Deed) → did c (misses c bs ++ p) ≡ did c p
@@ -45,9 +40,7 @@ scan_told : (c : ℕ) (bs : List Bool) (p : List Deed) → did c ((misses c bs +
 scan_told c bs p = ap (did c) (append_assoc (misses c bs) (Scan c true ∷ []) p) ∙ misses_told c bs (Scan c true ∷ p)
 
 pub opening_told : (c : ℕ) (bs : List Bool) (a : Opening) (p : List Deed) → did c (opening_deeds c bs a ++ p) ≡ did c p
-opening_told c bs opening.Worn p = refl
-opening_told c bs opening.Stopped p = refl
-opening_told c bs a p = scan_told c bs p
+opening_told c bs a p = grind (arith, nat_tests, scan_told)
 
 -- the deeds of these settlements, by CPU c, are told as a service's
 abbrev pub settles : ℕ → List (Speculation × DecideFate) → List Deed

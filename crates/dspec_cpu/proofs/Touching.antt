@@ -1,8 +1,8 @@
 -- The words that steps touch, one behind the other.
+use Rattle.std.proofs.lemmas.Bool.Decides.{nat_tests}
 use Rattle.std.proofs.Common.{◌≡◌, ℕ, zero, suc, ◌+◌, ◌≤◌, Bool, true, false, List, [], ◌∷◌, ◌++◌, get_or, refl, sym, ap, ◌∙◌, subst, inl, inr, arith, append_assoc}
 use Rattle.std.proofs.lemmas.List.Elements.{All-nil, All-cons, All-append}
-use Rattle.dspec_cpu.specs.Words.{SlotState, of_cpu, number_of, ack_place, ask_place, slot_place, Serves, SettledBehind, SettledSlot, SettledSlots, Buffers, Switches, never, looked, Touches}
-use Rattle.dspec_cpu.specs.Words.{at_slot, of_service, of_slots}
+use Rattle.dspec_cpu.specs.Words.{SlotState, of_cpu, number_of, ack_place, slot_place, Serves, SettledBehind, SettledSlot, SettledSlots, Buffers, Switches, Touches, at_slot, of_service, of_slots}
 use Rattle.dspec_deeds.specs.declared.config.Config.{Config}
 use Rattle.dspec_deeds.specs.declared.deed.Deed.{Deed}
 use Rattle.dspec_deeds.specs.declared.calls.Served.{Served}
@@ -83,18 +83,8 @@ slots_served k c v (suc n) ds w config who most done =
     record { touches = touched_on (of_service k c) v done.1 w was.touches now.touches; config = now.config; who = now.who }
 
 switch_served : (k : Config) (c : ℕ) (v : View) (x : Buffers) (sealed : Bool) (w : View) (y : Buffers) → v.config ≡ k → v.who ≡ of_cpu c → Switches k c v x sealed w y → ServesWithin k c v w
-switch_served k c v x sealed w y config who (never fill) = none_served k c v config who
-switch_served k c v x sealed w y config who (looked unfilled e left hands ask u loaded b z heeds) =
-    let view = loaded.3 in
-    record {
-      touches = touched_one (of_service k c) v w (ask_place v.config c) (ap (λ (x : View). x.touched) view) (inl (ap (λ (l : Config). ask_place l c) config));
-      config = ap (λ (x : View). x.config) view ∙ config;
-      who = ap (λ (x : View). x.who) view ∙ who;
-    }
+switch_served = grind (arith, nat_tests, none_served, touched_one)
 
 pub service_touches : (k : Config) (c : ℕ) (a : Served) (had : List Deed → Type 0) (v : View) (x : Buffers) (has : List Deed → Type 0) (w : View) (y : Buffers) → v.config ≡ k → v.who ≡ of_cpu c
     → Serves k c a had v x has w y → Touches (of_service k c) v w
-service_touches k c a had v x has w y config who done =
-    let first = switch_served k c v x a.sealed done.between done.passed config who done.switches in
-    let rest = slots_served k c done.between k.nspec done.settles w first.config first.who (omega arith) done.slots in
-    touched_on (of_service k c) v done.between w first.touches rest.touches
+service_touches k c a had v x has w y config who done = grind (arith, nat_tests, switch_served, slots_served, touched_on)

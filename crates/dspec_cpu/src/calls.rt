@@ -15,14 +15,13 @@ impl<S: Schema> Cpu<S> {
     /// Traces an accepted record into the active principal buffer. Worn: the CPU had made all its calls, and the record wasn't
     /// offered. Stopped: the session was stopped. Dropped: it didn't fit the rest of the buffer. The one shared word that it
     /// touches is activity.
-    #[inline]
     pub fn trace(&mut self, shared: &Shared, rec: &Rec) -> Traced
         requires of { Belongs (words_of shared.now) (identity self.old) }
         requires accepted { IsTrue (S.accepted (schema_of self.old) rec.now) }
         ensures same { identity self.new ≡ identity self.old }
         ensures does { TracesOne ⟦<Cpu<S> as Listed>⟧.has_list rec.now result self.old self.new }
     {
-        self.parts.trace_rec(shared, rec)
+        self.parts.trace(shared, rec)
     }
 
     /// Opens a speculation, in the first slot that is shown free. Worn: the CPU had made all its calls. Stopped: the session was
@@ -48,7 +47,7 @@ impl<S: Schema> Cpu<S> {
         ensures same { identity self.new ≡ identity self.old }
         ensures does { SpeculatesOne ⟦<Cpu<S> as Listed>⟧.has_list id rec.now result self.old self.new }
     {
-        self.parts.speculate(shared, id, rec)
+        self.parts.speculate(shared, id, rec, true)
     }
 
     /// Commits a speculation: the CPU's own block of it is copied whole to the active principal buffer, or lost where it doesn't
@@ -61,7 +60,7 @@ impl<S: Schema> Cpu<S> {
         ensures same { identity self.new ≡ identity self.old }
         ensures does { DecidesOne ⟦<Cpu<S> as Listed>⟧.has_list commit id result self.old self.new }
     {
-        self.parts.commit(shared, id)
+        self.parts.decide(shared, id, true)
     }
 
     /// Discards a speculation: the CPU's own block of it is thrown away, with the number of its records. Worn: the CPU had made
@@ -73,7 +72,7 @@ impl<S: Schema> Cpu<S> {
         ensures same { identity self.new ≡ identity self.old }
         ensures does { DecidesOne ⟦<Cpu<S> as Listed>⟧.has_list discard id result self.old self.new }
     {
-        self.parts.discard(shared, id)
+        self.parts.decide(shared, id, false)
     }
 
     /// Does what the CPU owes the consumer and the other CPUs: where the consumer asked for it, the principal buffers are

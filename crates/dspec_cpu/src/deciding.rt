@@ -45,32 +45,9 @@ fn op_of(commits: bool, id: SpecId) -> CpuOp
 }
 
 impl<S: Schema> CpuParts<S> {
-    // As `Cpu::commit`.
+    // As `Cpu::commit`, or `Cpu::discard`.
     #[inline(always)]
-    pub(crate) fn commit(&mut self, shared: &Shared, id: SpecId) -> Decided
-        requires ready { ⟦<CpuParts<S> as Callable>⟧.is_ready (words_of shared.now) self.old }
-        ensures ready { ⟦<CpuParts<S> as Callable>⟧.is_ready (words_of shared.now) self.new }
-        ensures same { IsSameCpu self.old self.new }
-        ensures leaves { CallLeaves (is_worn_decided result) (is_stopped_decided result) 5 (of_slot (config_of self.old) id) self.old self.new }
-        ensures decides { DecidesBetween ⟦<Cpu<S> as Listed>⟧.has_list (Commit (number_in self.old) id) id result self.old self.new }
-    {
-        self.decide(shared, id, true)
-    }
-
-    // As `Cpu::discard`.
-    pub(crate) fn discard(&mut self, shared: &Shared, id: SpecId) -> Decided
-        requires ready { ⟦<CpuParts<S> as Callable>⟧.is_ready (words_of shared.now) self.old }
-        ensures ready { ⟦<CpuParts<S> as Callable>⟧.is_ready (words_of shared.now) self.new }
-        ensures same { IsSameCpu self.old self.new }
-        ensures leaves { CallLeaves (is_worn_decided result) (is_stopped_decided result) 5 (of_slot (config_of self.old) id) self.old self.new }
-        ensures decides { DecidesBetween ⟦<Cpu<S> as Listed>⟧.has_list (Discard (number_in self.old) id) id result self.old self.new }
-    {
-        self.decide(shared, id, false)
-    }
-
-    // A commit or a discard.
-    #[inline(always)]
-    fn decide(&mut self, shared: &Shared, id: SpecId, commits: bool) -> Decided
+    pub(crate) fn decide(&mut self, shared: &Shared, id: SpecId, commits: bool) -> Decided
         requires ready { ⟦<CpuParts<S> as Callable>⟧.is_ready (words_of shared.now) self.old }
         ensures ready { ⟦<CpuParts<S> as Callable>⟧.is_ready (words_of shared.now) self.new }
         ensures same { IsSameCpu self.old self.new }
@@ -82,7 +59,7 @@ impl<S: Schema> CpuParts<S> {
             return Decided::Worn;
         }
         let inside = self.is_inside(id);
-        let mine = self.is_mine(id);
+        let mine = self.side.marks.has(id);
         let (fits, count) = self.measure_slot(id, mine, inside);
         let op = op_of(commits, id);
         let doing = Doing {

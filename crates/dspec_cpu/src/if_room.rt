@@ -27,7 +27,7 @@ impl<S: Schema> Cpu<S> {
     pub fn has_room_for(&self, id: SpecId) -> bool
         ensures { (p : List Deed) → ⟦<Cpu<S> as Listed>⟧.has_list self.now p → result ≡ cpu_block_fits (S.shape_of (schema_of self.now)) self.now id p }
     {
-        if !self.parts.is_mine(id) {
+        if !self.parts.side.marks.has(id) {
             return true;
         }
         self.parts.measure_slot(id, true, true).0

@@ -1,8 +1,7 @@
-ghost use Rattle.std.specs.Prelude.{◌≡◌, ◌≤◌, ◌+◌, ◌==◌, true, IfOk};
+ghost use Rattle.std.specs.Prelude.{◌≡◌, ◌≤◌, ◌+◌, ◌==◌, true};
 ghost use Rattle.dspec_deeds.specs.History.{in_range, scan};
 ghost use Rattle.dspec_deeds.specs.Marks.{mark};
-ghost use Rattle.dspec_table.specs.Conditions.{MayTry, IsInFlight, IsOn, IfCommitting, OwnCommit};
-ghost use Rattle.dspec_table.specs.Steps.{TriedExchange};
+ghost use Rattle.dspec_table.specs.Conditions.{IsInFlight, IsOn};
 ghost use Rattle.dspec_table.specs.Seats.{known, IsAt, set_up, cpu_of};
 ghost use Rattle.dspec_word.specs.Word.{CanBeReleased};
 ghost use Rattle.dspec_cpu.specs.Reached.{Reached};
@@ -35,28 +34,6 @@ fn act_at(op: &CpuOp, word: Word, mine: bool) -> Act
     }
 }
 
-// The exchange of the call, from a word that its table attempts.
-#[inline(always)]
-fn exchange(
-    seat: &mut CpuSeat,
-    words: &Words,
-    doing: &Doing,
-    slot: u32,
-    from: Word,
-    to: Word,
-) -> Result<(), Word>
-    requires seat { IsAt words.now seat.old }
-    requires slot { (1 ≤ slot) × (slot ≤ (set_up words.now).nspec) }
-    requires call { MayTry (set_up words.now) (known seat.old) (cpu_of seat.old) doing.now slot from to }
-    ensures tried { TriedExchange words.now doing.now slot from to seat.old seat.new result }
-    ensures release { IfOk result (λ _. IfCommitting to.code (OwnCommit (set_up words.now) (known seat.new) (cpu_of seat.new) record { issue = to.issue; slot = slot })) }
-{
-    match doing.op {
-        CpuOp::Speculate(_, _) => seat.join_word(words, slot, from, doing),
-        _ => seat.decide_word(words, slot, from, to, doing),
-    }
-}
-
 // The steps on the word of the identifier's slot: a load, then exchanges, up to a word that the table doesn't attempt or to
 // an exchange that succeeds. One that failed showed a later word.
 #[inline(always)]
@@ -75,7 +52,7 @@ fn work(seat: &mut CpuSeat, words: &Words, slot: u32, _id: SpecId, doing: &Doing
         let Act::Attempt(to) = act else {
             return act;
         };
-        match exchange(seat, words, doing, slot, word, to) {
+        match seat.try_word(words, slot, word, to, doing) {
             Ok(()) => return act,
             Err(shown) => word = shown,
         }

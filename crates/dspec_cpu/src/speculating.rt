@@ -22,40 +22,15 @@ use dspec_table::Doing;
 use dspec_word::SpecId;
 
 impl<S: Schema> CpuParts<S> {
-    // As `Cpu::speculate`.
+    // As `Cpu::speculate`. The call stands once for a caller and once for another CPU, so that neither asks which it is, or once
+    // for both.
     #[inline(always)]
-    pub(crate) fn speculate<R: Recorded>(&mut self, shared: &Shared, id: SpecId, rec: R) -> Spoken
-        requires ready { ⟦<CpuParts<S> as Callable>⟧.is_ready (words_of shared.now) self.old }
-        requires accepted { IsTrue (S.accepted (schema_of self.old) (R.as_record rec)) }
-        requires laid { IsLaidBy (S.shape_of (schema_of self.old)) (S.text (schema_of self.old)) (R.as_record rec) (R.laid_as rec) }
-        ensures ready { ⟦<CpuParts<S> as Callable>⟧.is_ready (words_of shared.now) self.new }
-        ensures same { IsSameCpu self.old self.new }
-        ensures leaves { CallLeaves (is_worn_spoken result) (is_stopped_spoken result) 4 (of_slot (config_of self.old) id) self.old self.new }
-        ensures did { Goes (known (seat_of self.old)) (spoken_deeds (number_in self.old) id (R.as_record rec) result) (known (seat_of self.new)) }
-        ensures list { (p : List Deed) → ⟦<Cpu<S> as Listed>⟧.has_list self.old p
-            → ⟦<Cpu<S> as Listed>⟧.has_list self.new (spoken_deeds (number_in self.old) id (R.as_record rec) result ++ p) }
-    {
-        if self.side.calls >= self.config.max_calls {
-            self.side.counts.wear();
-            return Spoken::Worn;
-        }
-        let mine = self.is_mine(id);
-        // the call once for a caller and once for another CPU, so that neither asks which it is; a caller's slot is one of the session's
-        if mine {
-            self.offer(shared, id, rec, true, true)
-        } else {
-            let inside = self.is_inside(id);
-            self.offer(shared, id, rec, inside, false)
-        }
-    }
-
-    // As `Cpu::speculate_packed`.
-    #[inline(always)]
-    pub(crate) fn speculate_packed<R: Recorded>(
+    pub(crate) fn speculate<R: Recorded>(
         &mut self,
         shared: &Shared,
         id: SpecId,
         rec: R,
+        apart: bool,
     ) -> Spoken
         requires ready { ⟦<CpuParts<S> as Callable>⟧.is_ready (words_of shared.now) self.old }
         requires accepted { IsTrue (S.accepted (schema_of self.old) (R.as_record rec)) }
@@ -71,8 +46,12 @@ impl<S: Schema> CpuParts<S> {
             self.side.counts.wear();
             return Spoken::Worn;
         }
-        let mine = self.is_mine(id);
-        let inside = self.is_inside_too(id, mine);
+        let mine = self.side.marks.has(id);
+        // a caller's slot is one of the session's
+        if mine && apart {
+            return self.offer(shared, id, rec, true, true);
+        }
+        let inside = mine || self.is_inside(id);
         self.offer(shared, id, rec, inside, mine)
     }
 
@@ -100,7 +79,10 @@ impl<S: Schema> CpuParts<S> {
         ensures list { (p : List Deed) → ⟦<Cpu<S> as Listed>⟧.has_list self.old p
             → ⟦<Cpu<S> as Listed>⟧.has_list self.new (spoken_deeds (number_in self.old) id (R.as_record rec) result ++ p) }
     {
-        let fits = self.fits_slot(id, rec, mine, inside);
+        let fits = inside
+            && self
+                .side
+                .fits_slot(&self.config, &self.schema, id, rec, mine);
         let copied = rec.to_rec();
         let doing = Doing {
             mine,

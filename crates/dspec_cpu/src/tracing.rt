@@ -14,24 +14,10 @@ use crate::listed::Listed;
 use crate::parts::CpuParts;
 use crate::shared::Shared;
 use dspec_deeds::{CpuOp, Traced};
-use dspec_record::{Rec, Recorded, Schema};
+use dspec_record::{Recorded, Schema};
 use dspec_table::Doing;
 
 impl<S: Schema> CpuParts<S> {
-    // As `Cpu::trace`: a call of its own.
-    pub(crate) fn trace_rec(&mut self, shared: &Shared, rec: &Rec) -> Traced
-        requires ready { ⟦<CpuParts<S> as Callable>⟧.is_ready (words_of shared.now) self.old }
-        requires accepted { IsTrue (S.accepted (schema_of self.old) rec.now) }
-        ensures ready { ⟦<CpuParts<S> as Callable>⟧.is_ready (words_of shared.now) self.new }
-        ensures same { IsSameCpu self.old self.new }
-        ensures leaves { CallLeaves (is_worn_trace result) (is_stopped_trace result) 1 of_activity self.old self.new }
-        ensures did { Goes (known (seat_of self.old)) (traced_deeds (number_in self.old) rec.now result) (known (seat_of self.new)) }
-        ensures list { (p : List Deed) → ⟦<Cpu<S> as Listed>⟧.has_list self.old p
-            → ⟦<Cpu<S> as Listed>⟧.has_list self.new (traced_deeds (number_in self.old) rec.now result ++ p) }
-    {
-        self.trace(shared, rec)
-    }
-
     // As `Cpu::trace`, of what can be traced as a record; it stands where it is called.
     #[inline(always)]
     pub(crate) fn trace<R: Recorded>(&mut self, shared: &Shared, rec: R) -> Traced

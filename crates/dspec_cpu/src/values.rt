@@ -68,7 +68,7 @@ impl<S: Schema> Cpu<S> {
         ensures same { identity self.new ≡ identity self.old }
         ensures does { SpeculatesOne ⟦<Cpu<S> as Listed>⟧.has_list id (R.as_record rec) result self.old self.new }
     {
-        self.parts.speculate(shared, id, rec)
+        self.parts.speculate(shared, id, rec, true)
     }
 
     /// As `speculate_recorded`, of a record that is long as code: the call stands in it once, and asks where it has to whether the CPU
@@ -81,6 +81,6 @@ impl<S: Schema> Cpu<S> {
         ensures same { identity self.new ≡ identity self.old }
         ensures does { SpeculatesOne ⟦<Cpu<S> as Listed>⟧.has_list id (R.as_record rec) result self.old self.new }
     {
-        self.parts.speculate_packed(shared, id, rec)
+        self.parts.speculate(shared, id, rec, false)
     }
 }

@@ -1,5 +1,6 @@
 pub mod Places
 pub mod Ones
+pub mod Rooms
 pub mod Starts
 pub mod Tallies
 pub mod Quiet

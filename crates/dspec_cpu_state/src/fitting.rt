@@ -14,53 +14,6 @@ use dspec_deeds::Config;
 use dspec_record::{Recorded, Schema};
 use dspec_word::SpecId;
 
-// Whether a record would fit.
-#[inline]
-fn would_fit<S: Schema, B: TraceBuffer<S>, R: Recorded>(buffer: &B, schema: &S, rec: R) -> bool
-    requires accepted { IsTrue (S.accepted schema.now (R.as_record rec)) }
-    ensures { (ps : List Piece) → B.has buffer.now schema.now ps → result ≡ piece_fits (S.shape_of schema.now) ps (one (R.as_record rec)) (B.capacity buffer.now) }
-{
-    // An accepted record has a shape. Told so, where nobody asks for the answer no running code is left of the question.
-    let Some(shape) = schema.shape(rec.epid()) else {
-        return false;
-    };
-    buffer.fits(shape.align, shape.size)
-}
-
-// Whether a record would fit an empty buffer of this size.
-fn would_fit_empty<S: Schema, R: Recorded>(schema: &S, rec: R, size: u32) -> bool
-    requires accepted { IsTrue (S.accepted schema.now (R.as_record rec)) }
-    ensures { result ≡ piece_fits (S.shape_of schema.now) [] (one (R.as_record rec)) size }
-{
-    let Some(shape) = schema.shape(rec.epid()) else {
-        return false;
-    };
-    shape.size <= size
-}
-
-/// Keeps a record in a buffer, which is emptied before where what it has isn't of the same speculation. False where it doesn't
-/// fit.
-#[inline(always)]
-pub(crate) fn keep_in<S: Schema, B: TraceBuffer<S>, R: Recorded>(
-    buffer: &mut B,
-    schema: &S,
-    rec: R,
-    mine: bool,
-) -> bool
-    requires accepted { IsTrue (S.accepted schema.now (R.as_record rec)) }
-    requires laid { IsLaidBy (S.shape_of schema.now) (S.text schema.now) (R.as_record rec) (R.laid_as rec) }
-    ensures size { B.capacity buffer.new ≡ B.capacity buffer.old }
-    ensures answer { (ps : List Piece) → B.has buffer.old schema.now ps
-        → result ≡ piece_fits (S.shape_of schema.now) (if mine then ps else []) (one (R.as_record rec)) (B.capacity buffer.old) }
-    ensures has { (ps : List Piece) → B.has buffer.old schema.now ps
-        → B.has buffer.new schema.now (if result then one (R.as_record rec) ∷ (if mine then ps else []) else (if mine then ps else [])) }
-{
-    if !mine {
-        buffer.clear();
-    }
-    buffer.push_recorded(schema, rec)
-}
-
 /// Keeps a record in a principal buffer, where that isn't closed and the record fits.
 #[inline]
 pub(crate) fn keep_open<S: Schema, B: TraceBuffer<S>, R: Recorded>(
@@ -101,7 +54,11 @@ impl<B> CpuState<B> {
         ensures { (c : ℕ) (p : List Deed) → ShowsList (λ b. B.has b schema.now) B.capacity config.now c p self.now
             → result ≡ fits_principal (S.shape_of schema.now) config.now c (one (R.as_record rec)) p }
     {
-        would_fit(&self.active, schema, rec) && !self.is_closed(config)
+        // An accepted record has a shape. Told so, where nobody asks for the answer no running code is left of the question.
+        let Some(shape) = schema.shape(rec.epid()) else {
+            return false;
+        };
+        self.active.fits(shape.align, shape.size) && !self.is_closed(config)
     }
 
     /// Whether the CPU's buffer of the speculation would take a record; it is empty where the CPU is no caller.
@@ -121,10 +78,13 @@ impl<B> CpuState<B> {
         ensures { (c : ℕ) (p : List Deed) → TellsSlotRoom (λ b. B.has b schema.now) B.capacity config.now c p
             (S.shape_of schema.now) id mine (R.as_record rec) self.now result }
     {
+        let Some(shape) = schema.shape(rec.epid()) else {
+            return false;
+        };
         if mine {
-            would_fit(&self.speculative[id.slot() as usize - 1], schema, rec)
+            self.speculative[id.slot() as usize - 1].fits(shape.align, shape.size)
         } else {
-            would_fit_empty(schema, rec, config.specsize)
+            shape.size <= config.specsize
         }
     }
 }

@@ -13,7 +13,6 @@ ghost use Rattle.dspec_cpu_state.specs.CpuStates.{ShowsList};
 ghost use Rattle.dspec_cpu_state.specs.Showing.{ChangesAt, KeepsRecord, ShowsGrant, ShowsNext, TellsSlotRoom, kept_grant};
 
 use crate::cpu_state::CpuState;
-use crate::fitting::keep_in;
 use crate::marks::Marks;
 use dspec_buffer::TraceBuffer;
 use dspec_deeds::SpeculateFate;
@@ -46,7 +45,11 @@ fn mark_and_keep<S: Schema, B: TraceBuffer<S>, R: Recorded>(
         marks.mark(id);
         specdrops[place] = 0;
     }
-    keep_in(&mut buffers[place], schema, rec, mine)
+    let buffer = &mut buffers[place];
+    if !mine {
+        buffer.clear();
+    }
+    buffer.push_recorded(schema, rec)
 }
 
 // Counts one drop more from the speculation's buffer. No CPU makes so many calls that the count stays at its most.
@@ -60,15 +63,6 @@ fn count_specdrop(specdrops: &mut Vec<u64>, id: SpecId)
 }
 
 impl<B> CpuState<B> {
-    /// Whether the slot's mark is that of the speculation; false where the slot is none of the session's.
-    #[inline(always)]
-    pub fn is_marked(&self, id: SpecId) -> bool
-        ensures tells { (m : ℕ) → 1 ≤ id.slot → slice_get self.now.marks (id.slot - 1) ≡ Some m → result ≡ (m == id.issue + 1) }
-        ensures marked { result ≡ true → (1 ≤ id.slot) × (slice_get self.now.marks (id.slot - 1) ≡ Some (id.issue + 1)) }
-    {
-        self.marks.has(id)
-    }
-
     /// Whether the CPU is a caller of the speculation, by the slot's mark.
     #[inline]
     pub fn is_mine(&self, id: SpecId) -> bool
@@ -76,7 +70,7 @@ impl<B> CpuState<B> {
         ensures tells { (m : ℕ) → slice_get self.now.marks (id.slot - 1) ≡ Some m → result ≡ (m == id.issue + 1) }
         ensures marked { result ≡ true → slice_get self.now.marks (id.slot - 1) ≡ Some (id.issue + 1) }
     {
-        self.is_marked(id)
+        self.marks.has(id)
     }
 
     /// How many records were dropped from the CPU's buffer of the speculation since the CPU became a caller of it; 0 where it is

@@ -17,7 +17,7 @@
 //! | `specs/`: CpuStates, Counting | `ShowsList`, that a side shows a list of its CPU's own deeds, and `IsCaller`; the counts of a list, and what a deed adds to them |
 //! | `specs/`: Showing | what an operation says of each list that the side showed before it |
 //! | `specs/`: MarkPlaces | the slots' marks, as a list, and where `Marks` holds them |
-//! | `proofs/` | Tallies (what a deed adds), Starts, Quiet (a deed that touches no buffer, mark, acknowledgement or batch), Grants and Drops (a record that was granted), Ones and EndedBlocks (one lemma for commit, discard and settle), Unanswered, Places |
+//! | `proofs/` | Tallies (what a deed adds), Starts, Quiet (a deed that touches no buffer, mark, acknowledgement or batch), Rooms (whether a record fits), Grants and Drops (a record that was granted), Ones and EndedBlocks (one lemma for commit, discard and settle), Unanswered, Places |
 #![tactic(auto)]
 
 mod blocks;

@@ -37,9 +37,9 @@ impl Marks {
         }
     }
 
-    // Whether the mark of the identifier's slot is that of its speculation; false where the slot has none.
+    /// Whether the mark of the identifier's slot is that of its speculation; false where the slot is none of the session's.
     #[inline(always)]
-    pub(crate) fn has(&self, id: SpecId) -> bool
+    pub fn has(&self, id: SpecId) -> bool
         ensures tells { (m : ℕ) → 1 ≤ id.slot → slice_get self.now (id.slot - 1) ≡ Some m → result ≡ (m == id.issue + 1) }
         ensures marked { result ≡ true → (1 ≤ id.slot) × (slice_get self.now (id.slot - 1) ≡ Some (id.issue + 1)) }
     {

@@ -1,7 +1,6 @@
 -- What a call answers, from the number that its exchange found.
-use Rattle.std.proofs.Common.{arith}
+use Rattle.std.proofs.Common.{arith, ◌≡◌, ◌≢◌, ℕ, true, false, ◌==◌, sym, ◌∙◌, subst}
 use Rattle.std.proofs.lemmas.Bool.Decides.{nat_tests}
-use Rattle.std.proofs.Common.{◌≡◌, ◌≢◌, ℕ, true, false, ◌==◌, sym, ◌∙◌, subst}
 use Rattle.dspec_table.specs.Words.{SlotState, word_number, View, Doing, TriedNumber, TriedWord, ReapedNumber, ReapedWord}
 use Rattle.dspec_word.proofs.Numbers.{one_word}
 use Rattle.dspec_deeds.proofs.TestLemmas.{number_is_itself, other_number}
@@ -17,7 +16,7 @@ tried_miss doing slot v w new n from got no_hit is t =
 
 -- an exchange that succeeded has left its word
 pub left_word : (n : ℕ) (from to shown : SlotState) → n ≡ word_number from → ((n == word_number from) ≡ true → word_number to ≡ word_number shown) → shown ≡ to
-left_word n from to shown h1 h2 = grind (arith, nat_tests)
+left_word = grind (arith, nat_tests)
 
 pub reaped_hit : (slot : ℕ) (v w : View) (n old : ℕ) (from : SlotState) → n ≡ old → old ≡ word_number from → ReapedNumber slot v n (n == old) w → ReapedWord slot v from true w
 reaped_hit slot v w n old from is at t = grind (arith, nat_tests, number_is_itself, one_word)

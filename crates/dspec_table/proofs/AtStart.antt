@@ -8,7 +8,7 @@ use lib.ListN.{get_elem?}
 use Rattle.atomic_table.specs.Table.{opening}
 use Rattle.dspec_deeds.specs.declared.config.Config.{Config}
 use Rattle.dspec_table.specs.Words.{of_cpu, of_consumer, View, here, times_among, Parts, HaveSeats, Knows, KnowsAsks, WordsRule, cpus_from, newcomer, slot_place, word_count, activity_place}
-use Rattle.dspec_table.specs.Words.{ack_place, ask_place}
+use Rattle.dspec_table.specs.Words.{ack_place}
 use Rattle.dspec_deeds.proofs.TestLemmas.{either_way, same_number, numbers_differ}
 
 zeros_at : (n i : ℕ) → slice_index (replicate n 0) i ≡ 0
@@ -53,9 +53,7 @@ new_known k zero v e = subst (Knows k []) (some-injective (newcomer k) v e) (rec
 new_known k (suc by) v e = absurd (some-ne-none v (sym e))
 
 new_asks : (k : Config) (ws : List ℕ) → ws ≡ replicate (word_count k) 0 → (by : ℕ) (v : View) → get_elem? (newcomer k ∷ []) by ≡ some v → KnowsAsks k ws v
-new_asks k ws is zero v e =
-    let none : (c : ℕ) → slice_index ws (ask_place k c) ≡ 0 = λ c. ap (λ l. slice_index l (ask_place k c)) is ∙ zeros_at (word_count k) (ask_place k c) in
-    subst (KnowsAsks k ws) (some-injective (newcomer k) v e) (record { least = λ c lt. omega arith; past = tt; exact = λ who c lt. sym (none c) })
+new_asks k ws is zero v e = grind (arith, nat_tests, zeros_at)
 new_asks k ws is (suc by) v e = absurd (some-ne-none v (sym e))
 
 pub starts : (k : Config) (ws : List ℕ) → ws ≡ replicate (word_count k) 0 → WordsRule k (opening ws [] (newcomer k))

@@ -1,9 +1,8 @@
 -- A commit that waits for no other CPU stands, and is its seat's own.
-use Rattle.std.proofs.Common.{arith}
+use Rattle.std.proofs.Common.{arith, ◌≡◌, ℕ, Bool, true, List, [], ◌∷◌, refl}
 use Rattle.std.proofs.lemmas.Bool.Decides.{nat_tests}
-use Rattle.std.proofs.Common.{◌≡◌, ℕ, Bool, true, List, [], ◌∷◌, refl}
-use Rattle.dspec_table.specs.Words.{Speculation, SlotState, commit_at, discard_at, is_commit, scan, committed, word_at, committed_fate, View, Doing, of_cpu, number_of, MayLoad, Attempts, IsDeciding}
-use Rattle.dspec_table.specs.Words.{OwnCommit, IfCommitting, slot_place, Entered, at_exchange}
+use Rattle.dspec_table.specs.Words.{Speculation, SlotState, speculate_at, commit_at, discard_at, is_commit, scan, committed, word_at, committed_fate, View, Doing, of_cpu, number_of, MayLoad}
+use Rattle.dspec_table.specs.Words.{Attempts, IsDeciding, OwnCommit, IfCommitting, slot_place, Entered, at_exchange}
 use Rattle.dspec_word.specs.declared.code.Code.{Code}
 use Rattle.dspec_word.specs.declared.code.Code.TheVariants.{Committing}
 use Rattle.dspec_word.specs.declared.act.Act.TheVariants.{Attempt}
@@ -23,6 +22,9 @@ committed_issue from to id mine e = grind (arith, nat_tests)
 discards_apart : (from to : SlotState) (id : Speculation) (mine : Bool) → discard_at from id mine ≡ Attempt to → to.code ≡ Committing → ⊥
 discards_apart from to id mine e w = grind (arith, nat_tests)
 
+joins_apart : (from to : SlotState) (id : Speculation) (mine : Bool) → speculate_at from id mine ≡ Attempt to → to.code ≡ Committing → ⊥
+joins_apart from to id mine e w = grind (arith, nat_tests)
+
 committed_is : (a b : ℕ) → committed a ≡ committed b → a ≡ b
 committed_is a b e = cc
 
@@ -38,7 +40,11 @@ module _ (k : Config) (c slot : ℕ) (v w : View) (doing : Doing) (from to : Slo
       → scan k c v.own ≡ 0 → to.issue ≡ id.issue → to.code ≡ Committing → OwnCommit k w c record { issue = to.issue; slot = slot }
   own_commit id entered at idle issues is = grind (arith, nat_tests, committing_tells, fate_commits, id_is_itself, committed_is, issue_below)
 
-  pub releases_next : (o : CpuOp) → Entered (slot_place slot) v log (at_exchange v.config (number_of v.who) doing slot from true o) w → MayLoad k v c doing slot o → Attempts doing from to o
+  decides_next : (o : CpuOp) → Entered (slot_place slot) v log (at_exchange v.config (number_of v.who) doing slot from true o) w → MayLoad k v c doing slot o → Attempts doing from to o
       → IsDeciding o
       → IfCommitting to.code (OwnCommit k w c record { issue = to.issue; slot = slot })
-  releases_next o h1 h2 h3 h4 = grind (arith, nat_tests, if_committing, own_commit, committed_deeds, committed_issue, discards_apart)
+  decides_next = grind (arith, nat_tests, if_committing, own_commit, committed_deeds, committed_issue, discards_apart)
+
+  pub releases_next : (o : CpuOp) → Entered (slot_place slot) v log (at_exchange v.config (number_of v.who) doing slot from true o) w → MayLoad k v c doing slot o → Attempts doing from to o
+      → IfCommitting to.code (OwnCommit k w c record { issue = to.issue; slot = slot })
+  releases_next = grind (arith, nat_tests, if_committing, joins_apart, decides_next)

@@ -1,7 +1,6 @@
 -- The same of the consumer's steps.
-use Rattle.std.proofs.Common.{arith}
+use Rattle.std.proofs.Common.{arith, ◌≡◌, ℕ, Bool, List, [], ap, ◌∙◌}
 use Rattle.std.proofs.lemmas.Bool.Decides.{nat_tests}
-use Rattle.std.proofs.Common.{◌≡◌, ℕ, Bool, List, [], ap, ◌∙◌}
 use Rattle.dspec_table.specs.Words.{SlotState, halted, word_at, bare, consumer_step, View, Found, LookedWord, slot_there, consumer_deeds, ConsumerSeatStep, IsStepOfPlay}
 use Rattle.dspec_deeds.specs.declared.config.Config.{Config}
 use Rattle.dspec_deeds.specs.declared.calls.ConsumerOp.TheVariants as consumer_op

@@ -9,7 +9,7 @@ use Rattle.dspec_table.specs.Words.{of_cpu, View, CpuSeat, WordsRule, cpus_from,
 use Rattle.dspec_table.proofs.Joining.{deals}
 
 more_cpus : (c n : ℕ) → c < n → cpus_from c (n - c) ≡ (of_cpu c, []) ∷ cpus_from (c + 1) (n - (c + 1))
-more_cpus c n h1 = grind (arith, nat_tests)
+more_cpus = grind (arith, nat_tests)
 
 pub dealt_one : (k : Config) (c : ℕ) → c < k.cpus → dealt (dealing k c) ≡ fresh_seat k c
 dealt_one k c lt = ap (λ l. first_of_those k l) (more_cpus c k.cpus lt)

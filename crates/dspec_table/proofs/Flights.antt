@@ -1,11 +1,10 @@
 -- A call in flight on an identifier, behind each of its steps. No proof of this crate cites it; those of the crates above do.
-use Rattle.std.proofs.Common.{arith}
+use Rattle.std.proofs.Common.{arith, Option, inr, ◌≡◌, ℕ, ◌+◌, ◌≤◌, Bool, true, false, List, [], ◌∷◌, sym, ap, ◌∙◌, subst}
 use Rattle.std.proofs.lemmas.Bool.Decides.{nat_tests}
-use Rattle.std.proofs.Common.{Option, inr, ◌≡◌, ℕ, ◌+◌, ◌≤◌, Bool, true, false, List, [], ◌∷◌, sym, ap, ◌∙◌, subst}
 use Rattle.dspec_word.specs.declared.act.Act.TheVariants.{Void, Attempt}
-use Rattle.dspec_table.specs.Words.{speculate_at, Speculation, SlotState, is_among, callers, scan, late, in_range, mark, View, Doing, of_cpu, number_of, at_activity, at_word, IsOn, IsInFlight}
-use Rattle.dspec_table.specs.Words.{MayLoad, MayTry, Attempts, joined_word, calling, flight_after, activity_place, slot_place, acted, Entered, EnteredIn, LoadedActivity, LoadedWord, idle_progress}
-use Rattle.dspec_table.specs.Words.{shown, shown_scan, open_at, is_decided}
+use Rattle.dspec_table.specs.Words.{Speculation, SlotState, is_among, callers, scan, late, in_range, mark, View, Doing, of_cpu, number_of, at_activity, at_word, IsOn, IsInFlight, MayLoad, MayTry}
+use Rattle.dspec_table.specs.Words.{Attempts, calling, flight_after, activity_place, slot_place, acted, Entered, EnteredIn, LoadedActivity, LoadedWord, idle_progress, shown, shown_scan, open_at}
+use Rattle.dspec_table.specs.Words.{is_decided}
 use Rattle.dspec_deeds.specs.declared.deed.Deed.{Deed}
 use Rattle.dspec_deeds.specs.declared.config.Config.{Config}
 use Rattle.dspec_deeds.specs.declared.calls.CpuOp.{CpuOp}
@@ -27,7 +26,7 @@ activity_enters doing v stopped w ds step e =
 
 -- a load of activity that is running enters nothing
 pub quiet_activity : (k : Config) (c : ℕ) (doing : Doing) (id : Speculation) (o : CpuOp) → in_range k id ≡ true → IsOn id o → at_activity k c doing o false ≡ []
-quiet_activity k c doing id o h1 h2 = grind (arith, nat_tests)
+quiet_activity = grind (arith, nat_tests)
 
 -- a call of speculation at a slot: where the table opens nothing it misses it, and else tries next
 pub misses_slot : (k : Config) (c : ℕ) (doing : Doing) (slot : ℕ) (w : SlotState) → open_at w k.max_issues ≡ Void → at_word k c doing slot w op.Speculation ≡ Miss c slot (is_decided w.code) ∷ []
@@ -38,10 +37,10 @@ tries_slot k c doing slot w to free = ap (λ a. (shown_scan k c (shown doing w f
 
 -- a word that is attempted enters nothing, loaded or shown by an exchange that failed
 pub quiet_word : (k : Config) (c slot : ℕ) (doing : Doing) (w to : SlotState) (o : CpuOp) → Attempts doing w to o → at_word k c doing slot w o ≡ []
-quiet_word k c slot doing w to o h1 = grind (arith, nat_tests)
+quiet_word = grind (arith, nat_tests)
 
 may_load : (k : Config) (v : View) (c slot : ℕ) (doing : Doing) (id : Speculation) (o : CpuOp) → IsOn id o → IsInFlight k v c doing id slot → MayLoad k v c doing slot o
-may_load k v c slot doing id o h1 h2 = grind (arith, nat_tests)
+may_load = grind (arith, nat_tests)
 
 -- the call may load the word of its slot
 pub loads_next : (k : Config) (v : View) (c slot : ℕ) (doing : Doing) (id : Speculation) → IsOn id doing.op → IsInFlight k v c doing id slot → MayLoad k v c doing slot doing.op
@@ -58,7 +57,7 @@ goes_on : (k : Config) (v w : View) (c slot : ℕ) (doing : Doing) (log : List D
 goes_on k v w c slot doing log o to shown view early may attempts = grind (arith, nat_tests)
 
 on_time : (k : Config) (v : View) (c slot : ℕ) (doing : Doing) (o : CpuOp) (to shown : SlotState) → MayLoad k v c doing slot o → Attempts doing shown to o → late c v.seen ≡ false
-on_time k v c slot doing o to shown h1 h2 = grind (arith, nat_tests)
+on_time = grind (arith, nat_tests)
 
 pub tries_again : (k : Config) (v w : View) (c slot : ℕ) (doing : Doing) (shown to : SlotState) → v.who ≡ of_cpu c → MayLoad k v c doing slot doing.op
     → LoadedWord doing slot v shown w → Attempts doing shown to doing.op → MayTry k w c doing slot shown to × (w.own ≡ v.own)
@@ -67,7 +66,3 @@ tries_again k v w c slot doing shown to who may step attempts = grind (arith, na
 pub tries_next : (k : Config) (v w : View) (c slot : ℕ) (doing : Doing) (id : Speculation) (shown to : SlotState) → v.who ≡ of_cpu c → IsOn id doing.op → IsInFlight k v c doing id slot
     → LoadedWord doing slot v shown w → Attempts doing shown to doing.op → MayTry k w c doing slot shown to
 tries_next k v w c slot doing id shown to who on f step attempts = (tries_again k v w c slot doing shown to who (may_load k v c slot doing id doing.op on f) step attempts).0
-
--- what a call of speculate attempts is one more caller
-pub speculate_joins : (w to : SlotState) (id : Speculation) (mine : Bool) → speculate_at w id mine ≡ Attempt to → to ≡ joined_word w
-speculate_joins w to id mine e = grind (arith, nat_tests)

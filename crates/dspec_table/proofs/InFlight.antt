@@ -1,8 +1,7 @@
 -- The rows of the table of steps: by measures that agree on what a row reads it enters the same deeds, Seals apart, and they are of the
 -- call in flight.
-use Rattle.std.proofs.Common.{arith}
+use Rattle.std.proofs.Common.{arith, ◌≡◌, ℕ, ◌==◌, Bool, true, false, if◌then◌else◌, List, [], Option, Some, refl, sym, subst}
 use Rattle.std.proofs.lemmas.Bool.Decides.{nat_tests}
-use Rattle.std.proofs.Common.{◌≡◌, ℕ, ◌==◌, Bool, true, false, if◌then◌else◌, List, [], Option, Some, refl, sym, subst}
 use Rattle.dspec_table.specs.Words.{Speculation, SlotState, settle_at, Record, is_fill, bare, View, Doing, at_activity, at_word, at_exchange, MayLoad, AreOf, Measured, CpuStep, begun, idle_progress}
 use Rattle.dspec_table.specs.Words.{missed, seen, shown, shown_commit, shown_discard, shown_scan, shown_service, shown_speculate, spoken_at, committed_by, discarded_by, is_counted}
 use Rattle.dspec_word.specs.declared.act.Act.{Act}
@@ -42,7 +41,7 @@ module _ (k : Config) (c : ℕ) (m : Measured) (me : CpuProgress) (doing : Doing
 
   pub begins : (o : CpuOp) → flight ≡ Some o → is_counted (Cpu o) ≡ true → m.worn ≡ false → m.stopped ≡ stopped → ((r : Record) → o ≡ op.Trace r → m.traces r ≡ doing.fits)
       → Same (begun k c m me o) (begun k c n idle_progress o)
-  begins o h1 h2 h3 h4 h5 = grind (arith, nat_tests)
+  begins = grind (arith, nat_tests)
 
   pub spoken : (id : Speculation) (r : Record) → flight ≡ Some (op.Speculate id r) → m.keeps id r ≡ doing.fits → Same (spoken_at k c m me id r) (spoken_at k c n idle_progress id r)
   spoken id r e fits = both _ _ fits _ _ _ _ (refl, (e, tt)) (refl, (e, tt))
@@ -59,14 +58,14 @@ module _ (k : Config) (c : ℕ) (m : Measured) (me : CpuProgress) (doing : Doing
 
   pub committed : (id : Speculation) → flight ≡ Some (op.Commit id) → m.copies id ≡ doing.fits → m.count id ≡ doing.count → (act : Act)
       → Same (committed_by k c m me id act) (committed_by k c n idle_progress id act)
-  committed id h1 h2 h3 act = grind (arith, nat_tests)
+  committed = grind (arith, nat_tests)
 
   pub discards : (id : Speculation) → flight ≡ Some (op.Discard id) → (w : SlotState) (act : Act) → Same (shown_discard k c m me id w act) (shown_discard k c n idle_progress id w act)
   discards id e w (Attempt to) = (refl, tt)
   discards id e w act = (refl, (e, tt))
 
   pub discarded : (id : Speculation) → flight ≡ Some (op.Discard id) → m.count id ≡ doing.count → (act : Act) → Same (discarded_by k c m me id act) (discarded_by k c n idle_progress id act)
-  discarded id h1 h2 act = grind (arith, nat_tests)
+  discarded = grind (arith, nat_tests)
 
   pub misses : flight ≡ Some op.Speculation → (s : ℕ) (w : SlotState) → Same (missed k c m me s w) (missed k c n idle_progress s w)
   misses e s w = both (s == k.nspec) _ refl _ _ _ _ (refl, (e, tt)) (refl, (e, tt))
@@ -80,7 +79,7 @@ none_of : (flight : Option CpuOp) (ds : List Deed) → ds ≡ [] → AreOf fligh
 none_of flight ds e = subst (AreOf flight) (sym e) tt
 
 counted_of : (k : Config) (c : ℕ) (doing : Doing) (b : Bool) (o : CpuOp) → is_counted (Cpu o) ≡ true → AreOf (Some o) (at_activity k c doing o b)
-counted_of k c doing b o h1 = grind (arith, nat_tests)
+counted_of = grind (arith, nat_tests)
 
 pub activity_of : (k : Config) (c : ℕ) (doing : Doing) (o : CpuOp) (b : Bool) → AreOf (Some o) (at_activity k c doing o b)
 activity_of k c doing op.Service b = none_of (Some op.Service) _ (service_begins k c doing b (λ s. record { issue = 0; code = Inactive }) (λ s from. false))
@@ -91,7 +90,7 @@ module _ (j : Config) (v : View) (x : ℕ) (doing : Doing) (slot : ℕ) (k : Con
   its hit = shown doing w hit
 
   pub word_of : (o : CpuOp) → doing.op ≡ o → MayLoad j v x doing slot o → AreOf v.flight (at_word k c doing slot w o)
-  word_of o h1 h2 = grind (arith, nat_tests)
+  word_of = grind (arith, nat_tests)
 
   -- in a call of speculation, by the word that it was shown free
   pub open_of : (hit : Bool) → v.flight ≡ Some op.Speculation → AreOf v.flight (at_exchange k c doing slot w hit op.Speculation)
@@ -99,4 +98,4 @@ module _ (j : Config) (v : View) (x : ℕ) (doing : Doing) (slot : ℕ) (k : Con
       by_test (AreOf v.flight) hit _ _ (λ t. (e, tt)) (λ f. (misses k c (its hit) idle_progress doing false (λ s. w) (λ s from. hit) v.flight e slot w).1)
 
   pub exchange_of : (hit : Bool) (o : CpuOp) → doing.op ≡ o → MayLoad j v x doing slot o → AreOf v.flight (at_exchange k c doing slot w hit o)
-  exchange_of hit o h1 h2 = grind (arith, nat_tests)
+  exchange_of = grind (arith, nat_tests)

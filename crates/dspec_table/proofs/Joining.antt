@@ -145,7 +145,7 @@ greater_least (x ∷ xs) (y ∷ ys) zero n a b = omega arith
 greater_least (x ∷ xs) (y ∷ ys) (suc c) n a b = greater_least xs ys c n a b
 
 note_times : (x : Holder) (w : View) → w.who ≡ of_nobody → w.also ≡ [] → times_among x (holdings w) ≡ 0
-note_times x w h1 h2 = grind (arith, nat_tests)
+note_times = grind (arith, nat_tests)
 
 pub hears : (k : Config) (id : ℕ) (v : View) (other : ℕ) (w : View) → w.who ≡ of_nobody → w.also ≡ [] → Joins (WordsRule k) id v other w (heard v w) nobody
 hears k id v other w who also = grind (arith, nat_tests, joining, since_nobody, greater_least, greater_left, note_times)

@@ -1,5 +1,5 @@
 -- The issues that a list shows are within the configuration's limit, and so fit a word.
-use Rattle.std.proofs.Common.{◌≡◌, ℕ, suc, ◌<◌, ◌≤◌, ◌^◌, true, false, not, true≢false, List, [], ◌∷◌, refl, ap, ◌∙◌, sym, subst, ⊎_elim, arith}
+use Rattle.std.proofs.Common.{◌≡◌, ℕ, suc, ◌<◌, ◌≤◌, ◌%◌, ◌/◌, ◌^◌, true, false, not, true≢false, List, [], ◌∷◌, refl, ap, ◌∙◌, sym, subst, ⊎_elim, arith}
 use Rattle.std.specs.Prelude.{nat_lt}
 use Rattle.std.proofs.lemmas.Bool.Decides.{nat_tests}
 use Rattle.dspec_table.specs.Words.{Speculation, SlotState, word_number, CanBeReleased, opens, opened, issue, present, releases, verdict, is_undecided, word_at, IsSound, Follows, View, Found}
@@ -9,7 +9,7 @@ use Rattle.dspec_deeds.specs.declared.deed.Deed.{Deed}
 use Rattle.dspec_deeds.specs.declared.deed.Deed.TheVariants.{Opened, Release}
 use Rattle.dspec_deeds.proofs.TestLemmas.{either_way, or_tells, and_tells, same_id_tells, same_number}
 use Rattle.dspec_deeds.proofs.PresentIds.{decided_given}
-use Rattle.dspec_word.proofs.Numbers.{code_below}
+use Rattle.dspec_word.proofs.Numbers.{code_below, one_word}
 
 -- what was given out has an issue below the most
 pub issue_below : (k : Config) (h : List Deed) (id : Speculation) → IsSound k h → opened id h ≡ true → id.issue < k.max_issues
@@ -53,9 +53,14 @@ released_yet k s h most sound = grind (arith, nat_tests, issue_below)
 pub shown_number : (k : Config) (s : ℕ) (h : List Deed) → k.max_issues ≤ 2 ^ 57 → IsSound k h → IsWordNumber (word_number (word_at s h))
 shown_number k s h most sound = grind (arith, nat_tests, code_below, issue_within, released_yet)
 
-pub limit_of : (w : SlotState) → word_number w ≤ 2 ^ 60 → CanBeReleased w
-limit_of w small = grind (arith, nat_tests)
+-- so it is read back as one
+pub reads_word : (n : ℕ) → IsWordNumber n → (n % 8 < 7) × (n / 8 ≤ 2 ^ 57)
+reads_word n is = let small = is.1 in (is.0, omega arith)
 
--- the number that a step found is that of a word
-pub finds_word : (v : View) (log : List Deed) (s n : ℕ) (shown : SlotState) → v.config.max_issues ≤ 2 ^ 57 → Found v log → n ≡ word_number shown → shown ≡ word_at s log → IsWordNumber n
-finds_word v log s n shown most found is at = subst IsWordNumber (ap word_number (sym at) ∙ sym is) (shown_number v.config s log most found.sound)
+-- the number that a step found is that of a word, which can be released
+module _ (v : View) (log : List Deed) (s n : ℕ) (shown : SlotState) (most : v.config.max_issues ≤ 2 ^ 57) (found : Found v log) (is : n ≡ word_number shown) (at : shown ≡ word_at s log) where
+  pub finds_word : (n % 8 < 7) × (n / 8 ≤ 2 ^ 57)
+  finds_word = reads_word n (subst IsWordNumber (ap word_number (sym at) ∙ sym is) (shown_number v.config s log most found.sound))
+
+  pub finds_limit : (w : SlotState) → word_number w ≡ n → CanBeReleased w
+  finds_limit w same = subst CanBeReleased (sym (one_word w (word_at s log) (same ∙ (is ∙ ap word_number at)))) (released_yet v.config s log most found.sound)

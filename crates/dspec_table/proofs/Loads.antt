@@ -1,14 +1,13 @@
 -- The load of a slot's word.
-use Rattle.std.proofs.Common.{arith}
+use Rattle.std.proofs.Common.{arith, ◌≡◌, ℕ, ◌≤◌, ◌+◌, ◌==◌, Bool, true, false, if◌then◌else◌, List, [], ◌∷◌, Some, refl, sym, ap, ◌∙◌, subst, inl, true≢false}
 use Rattle.std.proofs.lemmas.Bool.Decides.{nat_tests}
-use Rattle.std.proofs.Common.{◌≡◌, ℕ, ◌≤◌, ◌+◌, ◌==◌, Bool, true, false, if◌then◌else◌, List, [], ◌∷◌, Some, refl, sym, ap, ◌∙◌, subst, inl, true≢false}
 use mathlib.Core.Option.{some}
 use lib.ListN.{get_elem?}
 use Rattle.atomic_table.specs.Table.{State, Allows, Me}
-use Rattle.dspec_table.specs.Words.{Speculation, SlotState, halted, word_number, speculate_at, speculate_act, commit_at, commit_act, discard_at, discard_act, open_at, spoken_granted, Record}
-use Rattle.dspec_table.specs.Words.{slot_place, Holder, of_cpu, part_of, issue, scan, owed, late, present, code_at, word_at, is_among, callers, joined, verdict, standing, is_open, IsSound, mark}
-use Rattle.dspec_table.specs.Words.{View, Doing, WordsRule, Since, number_of, at_word, IsInFlight, MayLoad, LoadedNumber, Measured, idle_progress, settle_at, shown, shown_scan, shown_speculate}
-use Rattle.dspec_table.specs.Words.{shown_commit, shown_discard, StopsOrActs}
+use Rattle.dspec_table.specs.Words.{Speculation, SlotState, halted, word_number, speculate_at, commit_at, commit_act, discard_at, discard_act, open_at, spoken_granted, Record, slot_place, Holder}
+use Rattle.dspec_table.specs.Words.{of_cpu, part_of, issue, scan, owed, late, present, code_at, word_at, is_among, callers, joined, verdict, standing, is_open, IsSound, mark, View, Doing, WordsRule}
+use Rattle.dspec_table.specs.Words.{Since, number_of, at_word, IsInFlight, MayLoad, LoadedNumber, Measured, idle_progress, settle_at, shown, shown_scan, shown_speculate, shown_commit, shown_discard}
+use Rattle.dspec_table.specs.Words.{StopsOrActs}
 use Rattle.dspec_word.specs.declared.act.Act.{Act}
 use Rattle.dspec_word.specs.declared.code.Code.{Code}
 use Rattle.dspec_deeds.proofs.SoundLists.{granted_goes}
@@ -75,11 +74,7 @@ module _ (k : Config) (c : ℕ) (log : List Deed) (doing : Doing) (s : IsSound k
 
   spoken_at : (id : Speculation) (r : Record) → Flies k log c slot doing id → (a : Act) → speculate_at (word_at id.slot log) id (is_among c (callers id log)) ≡ a
       → Owes k (of_cpu c) log (shown_speculate k c its idle_progress id r (word_at slot log) a).deeds
-  spoken_at id r f Void e = record {
-    adds = (tt, (rests, (f.idle, (f.early, sym (speculate_void k log id (is_among c (callers id log)) s e)))), refl);
-    rests = refl;
-    quiet = record { active = refl; slots = λ s. refl; acks = λ a s. refl };
-  }
+  spoken_at id r f Void e = grind (arith, nat_tests, speculate_void)
   spoken_at id r f Granted e =
       let g = speculate_granted k log id c s e in
       by_test (Owes k (of_cpu c) log) doing.fits _ _ (λ t. granted id r spoken.Kept refl f g.0 g.1) (λ t. granted id r spoken.Dropped refl f g.0 g.1)
@@ -123,9 +118,7 @@ looked k c log doing slot rests =
 pub owes : (k : Config) (c : ℕ) (log : List Deed) (doing : Doing) (slot : ℕ) → IsSound k log → owed log ≡ 0 → 1 ≤ slot → (o : CpuOp) → IsReady k c log doing slot o
     → Owes k (of_cpu c) log (at_word k c doing slot (word_at slot log) o)
 owes k c log doing slot s rests one op.Speculation f = missed k c log doing s rests slot one f
-owes k c log doing slot s rests one (op.Speculate id r) f =
-    subst (λ a. Owes k (of_cpu c) log (shown_speculate k c (shown doing (word_at slot log) false) idle_progress id r (word_at slot log) a).deeds) (sym (at_like k log c slot doing id speculate_act f))
-    (spoken_at k c log doing s rests slot id r f (speculate_at (word_at id.slot log) id (is_among c (callers id log))) refl)
+owes k c log doing slot s rests one (op.Speculate id r) f = grind (arith, nat_tests, Owes, at_like, spoken_at)
 owes k c log doing slot s rests one (op.Commit id) f =
     subst (λ a. Owes k (of_cpu c) log (shown_commit k c (shown doing (word_at slot log) false) idle_progress id (word_at slot log) a).deeds) (sym (at_like k log c slot doing id commit_act f))
     (commit_at_word k c log doing s rests slot id f)
@@ -154,7 +147,7 @@ flies k st kept by v c slot doing id at who f =
 
 pub ready : (k : Config) (st : State ℕ View) (kept : WordsRule k st) (by : ℕ) (v : View) (c slot : ℕ) (doing : Doing) → get_elem? st.views by ≡ some v → v.who ≡ of_cpu c
     → (o : CpuOp) → MayLoad k v c doing slot o → IsReady k c kept.log doing slot o
-ready k st kept by v c slot doing h1 h2 o h3 = grind (arith, nat_tests, idle_log, flies)
+ready = grind (arith, nat_tests, idle_log, flies)
 
 pub loads_word : (k : Config) (slots id c slot : ℕ) (me : Me ℕ View) (doing : Doing) → 1 ≤ slot → slot ≤ k.nspec → me.0.who ≡ of_cpu c → me.0.also ≡ [] → MayLoad k me.0 c doing slot doing.op
     → Allows (WordsRule k) slots id me (slot_place slot) (λ n. n) (λ n w. LoadedNumber doing slot me.0 n w.0 × (w.1 ≡ me.1))

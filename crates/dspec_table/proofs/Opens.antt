@@ -1,7 +1,6 @@
 -- The exchange that gives out a speculation.
-use Rattle.std.proofs.Common.{arith}
+use Rattle.std.proofs.Common.{arith, ◌≡◌, ◌≢◌, ◌⊎◌, ℕ, ◌≤◌, true, false, ◌==◌, List, [], ◌∷◌, refl, sym, ap, ◌∙◌, subst, inl}
 use Rattle.std.proofs.lemmas.Bool.Decides.{nat_tests}
-use Rattle.std.proofs.Common.{◌≡◌, ◌≢◌, ◌⊎◌, ℕ, ◌≤◌, true, false, ◌==◌, List, [], ◌∷◌, refl, sym, ap, ◌∙◌, subst, inl}
 use prog.Atomic.{either}
 use Rattle.atomic_table.specs.Table.{Allows, Me}
 use Rattle.dspec_table.specs.Words.{SlotState, word_number, open_at, is_inactive, slot_place, of_cpu, scan, owed, present, opened_since, word_at, IsSound, Follows, View, WordsRule, Since, here}

@@ -9,10 +9,10 @@ pub before_groups : (k : Config) (c : ℕ) → k.nspec * 8 + 16 ≤ group_place 
 before_groups k c = let x : ℕ = c * group_width k in let goal : k.nspec * 8 + 16 ≤ k.nspec * 8 + 16 + x = omega arith in goal
 
 pub ack_within : (k : Config) (c s : ℕ) → c < k.cpus → s ≤ k.nspec → ack_place k c s < word_count k
-ack_within k c s h1 h2 = grind (arith, nat_tests)
+ack_within = grind (arith, nat_tests)
 
 pub ask_within : (k : Config) (c : ℕ) → c < k.cpus → ask_place k c < word_count k
-ask_within k c h1 = grind (arith, nat_tests)
+ask_within = grind (arith, nat_tests)
 
 pub one_group : (k : Config) (c d s t : ℕ) → s ≤ k.nspec → t ≤ k.nspec → group_place k c + s ≡ group_place k d + t → c ≡ d
 one_group k c d s t a b e = grind (arith, nat_tests)
@@ -33,11 +33,11 @@ no_ask k c d s one most e =
 
 -- what lies in the group of one CPU lies eight places or more before what lies in a later one
 pub far_apart : (k : Config) (c d s t : ℕ) → c < d → s ≤ k.nspec → group_place k c + s + 8 ≤ group_place k d + t
-far_apart k c d s t h1 h2 = grind (arith, nat_tests)
+far_apart = grind (arith, nat_tests)
 
 -- the slot of a slot's place
 pub slot_there : (s : ℕ) → slot_at (slot_place s) ≡ s
 slot_there s = grind (arith, nat_tests)
 
 pub slot_within : (k : Config) (s : ℕ) → s ≤ k.nspec → slot_place s < word_count k
-slot_within k s h1 = grind (arith, nat_tests)
+slot_within = grind (arith, nat_tests)

@@ -1,6 +1,6 @@
 -- The consumer releases what every CPU has settled.
 use Rattle.std.proofs.lemmas.Bool.Decides.{nat_tests}
-use Rattle.std.proofs.Common.{◌≡◌, ℕ, ◌≤◌, ◌<◌, true, ◌==◌, List, [], ◌∷◌, refl, sym, ap, ◌∙◌, subst, inl, inr, arith}
+use Rattle.std.proofs.Common.{◌≡◌, ℕ, ◌≤◌, ◌<◌, true, ◌==◌, List, [], ◌∷◌, refl, sym, ap, ◌∙◌, subst, inl, inr, arith, ◌^◌}
 use prog.Atomic.{either}
 use Rattle.atomic_table.specs.Table.{Allows, Me}
 use Rattle.dspec_table.specs.Words.{SlotState, word_number, released, slot_place, Holder, of_consumer, same_holder, issue, ack, present, settled, releaser, word_at, View, WordsRule, Since, here}
@@ -13,7 +13,6 @@ use Rattle.dspec_deeds.proofs.Awaiting.{awaiting}
 use Rattle.dspec_table.proofs.Keeps.{finds, none_owed}
 use Rattle.dspec_table.proofs.Changes.{Changes, exchanges}
 use Rattle.dspec_deeds.proofs.WordChanges.{released_word, elsewhere}
-use Rattle.std.proofs.Common.{◌^◌}
 use Rattle.dspec_deeds.proofs.Acked.{acked, acks_rise}
 use Rattle.std.specs.Prelude.{Some}
 

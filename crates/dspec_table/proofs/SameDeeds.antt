@@ -1,10 +1,10 @@
 -- Case by case, the deeds of a step of a play are those of the seat's step: both read the table of steps, by measures that agree.
 use Rattle.std.proofs.lemmas.Bool.Decides.{nat_tests}
-use Rattle.std.proofs.Common.{◌≡◌, ◌==◌, ℕ, Bool, true, false, List, [], Option, Some, if◌then◌else◌, refl, sym, ap, ◌∙◌, subst, arith}
+use Rattle.std.proofs.Common.{◌≡◌, ◌==◌, ℕ, Bool, true, false, List, [], Option, Some, if◌then◌else◌, refl, sym, ap, ◌∙◌, arith}
 use Rattle.dspec_record.specs.declared.field.Shape.{Shape}
 use Rattle.dspec_table.specs.Words.{Record, Speculation, speculate_at, speculate_act, commit_at, commit_act, discard_at, discard_act, open_at, settle_at, halted, is_among, callers, word_at, ack}
 use Rattle.dspec_table.specs.Words.{mark, part, IsSound, bare, is_told_worn, is_worn_answer, is_counted, same_word, CpuStep, Measured, measured, idle_progress, cpu_step, wears, popped, begun}
-use Rattle.dspec_table.specs.Words.{is_worn, Doing, deeds_at, seen, seat_reads, IsMine, Measures, IsSameCall, shown_speculate, shown_commit, shown_discard, committed_by, discarded_by}
+use Rattle.dspec_table.specs.Words.{is_worn, Doing, deeds_at, seen, seat_reads, IsMine, Measures, IsSameCall, shown_speculate, shown_commit, shown_discard}
 use Rattle.dspec_word.specs.declared.act.Act.{Act}
 use Rattle.dspec_word.specs.declared.act.Act.TheVariants.{Void}
 use Rattle.dspec_deeds.specs.declared.config.Config.{Config}
@@ -98,28 +98,12 @@ module _ (shape : ℕ → Option Shape) (k : Config) (c : ℕ) (h : List Deed) (
   by_place (cpu.ScanTry s from) same fits =
       tries (same_word (word_at s h) from) _ _ _ _ (λ t. refl) (rows.misses k c m me doing (halted h) n.word n.hits (Some cpu_op.Speculation) refl s (word_at s h)).0
   by_place (cpu.SpeculateLoad id r) same fits = speculates id r fits.0 same.sound fits.1
-  by_place (cpu.SpeculateTry id r from) same fits =
-      tries (same_word (word_at id.slot h) from) _ _ _ _ (λ t. (rows.spoken k c m me doing (halted h) n.word n.hits (Some (cpu_op.Speculate id r)) id r refl (sym fits.0)).0)
-      (speculates id r fits.0 same.sound fits.1)
+  by_place (cpu.SpeculateTry id r from) same fits = grind (arith, nat_tests, tries, speculates)
   by_place (cpu.CommitLoad id) same fits = commits id same.sound fits
-  by_place (cpu.CommitTry id from) same fits =
-      tries (same_word (word_at id.slot h) from) _ _ _ _
-      (λ t.
-      subst (λ w. bare (committed_by k c m me id (commit_at w id (m.mine id))).deeds ≡ (committed_by k c n idle_progress id (commit_at w id doing.mine)).deeds)
-      (same_word_tells (word_at id.slot h) from t)
-      ((rows.committed k c m me doing (halted h) n.word n.hits (Some (cpu_op.Commit id)) id refl (sym fits.0.0) (sym fits.0.1) (commit_at (word_at id.slot h) id (m.mine id))).0
-      ∙ ap (λ a. (committed_by k c n idle_progress id a).deeds) (commit_like id same.sound fits.1)))
-      (commits id same.sound fits.1)
+  by_place (cpu.CommitTry id from) same fits = grind (arith, nat_tests, tries, same_word_tells, commit_like, commits)
   by_place (cpu.CommitRelease id f) same fits = refl
   by_place (cpu.DiscardLoad id) same fits = discards id same.sound fits
-  by_place (cpu.DiscardTry id from) same fits =
-      tries (same_word (word_at id.slot h) from) _ _ _ _
-      (λ t.
-      subst (λ w. bare (discarded_by k c m me id (discard_at w id (m.mine id))).deeds ≡ (discarded_by k c n idle_progress id (discard_at w id doing.mine)).deeds)
-      (same_word_tells (word_at id.slot h) from t)
-      ((rows.discarded k c m me doing (halted h) n.word n.hits (Some (cpu_op.Discard id)) id refl (sym fits.0) (discard_at (word_at id.slot h) id (m.mine id))).0
-      ∙ ap (λ a. (discarded_by k c n idle_progress id a).deeds) (discard_like id same.sound fits.1)))
-      (discards id same.sound fits.1)
+  by_place (cpu.DiscardTry id from) same fits = grind (arith, nat_tests, tries, same_word_tells, discard_like, discards)
   by_place cpu.ServicePop same fits = pops me.spare
   by_place cpu.ServicePush same fits = refl
   by_place (cpu.ServiceLoad s sum) same fits =

@@ -34,15 +34,15 @@ abbrev Did : Doing → CpuOp → (List Deed → List Deed) → View → View →
 Did doing o ds v w = (log : List Deed) × Found v log × (doing.op ≡ o → IsBehind (ds log) v.own log w)
 
 begins_as : (doing : Doing) (o : CpuOp) (v w : View) → (stopped : Bool) × LoadedActivity doing v stopped w → Did doing o (λ log. at_activity v.config (number_of v.who) doing o (halted log)) v w
-begins_as doing o v w h1 = grind (arith, nat_tests)
+begins_as = grind (arith, nat_tests)
 
 loads_as : (doing : Doing) (o : CpuOp) (slot : ℕ) (v w : View) → (x : SlotState) × LoadedWord doing slot v x w
     → Did doing o (λ log. at_word v.config (number_of v.who) doing slot (word_at slot log) o) v w
-loads_as doing o slot v w h1 = grind (arith, nat_tests)
+loads_as = grind (arith, nat_tests)
 
 -- an exchange hits exactly where plays find the words the same
 exchanged : (P : SlotState → Bool → Type 0) (from : SlotState) → Exchanges P from → (shown : SlotState) × P shown (same_word shown from)
-exchanged P from h1 = grind (arith, nat_tests)
+exchanged = grind (arith, nat_tests)
 
 -- the word that it expects is read where it hits alone, and is the one shown there
 expected : (k : Config) (c slot : ℕ) (doing : Doing) (w from : SlotState) (o : CpuOp) (b : Bool) → same_word w from ≡ b → at_exchange k c doing slot w b o

@@ -1,6 +1,6 @@
 -- A CPU settles, and stores its acknowledgement.
 use Rattle.std.proofs.Common.{◌≡◌, ◌≢◌, ℕ, ◌+◌, ◌≤◌, ◌<◌, Bool, true, false, ◌&&◌, ◌==◌, List, [], ◌∷◌, length, None, refl, sym, ap, ◌∙◌, subst, ⊎_elim, inr, arith, true≢false}
-use Rattle.std.specs.Prelude.{slice_index, slice_set}
+use Rattle.std.specs.Prelude.{slice_index, slice_set, nat_le, not}
 use Rattle.std.proofs.lemmas.List.{get_or-set_same, get_or-set_other}
 use Rattle.std.proofs.Math.ListN.{length-set}
 use Rattle.std.proofs.lemmas.Bool.Decides.{nat_tests}
@@ -19,7 +19,6 @@ use Rattle.dspec_deeds.proofs.StayingOwn.{settled_other, ack_other}
 use Rattle.dspec_table.proofs.Places.{before_groups, ack_within, one_group, no_ask}
 use Rattle.dspec_deeds.specs.declared.calls.Actor.TheVariants.{Cpu}
 use Rattle.dspec_word.specs.declared.act.Act.TheVariants.{Granted}
-use Rattle.std.specs.Prelude.{nat_le, not}
 use Rattle.dspec_deeds.proofs.Awaiting.{awaiting, goes_with}
 use Rattle.dspec_table.proofs.OwnReading.{ack_part}
 use Rattle.dspec_table.proofs.Adding.{Adds}

@@ -1,9 +1,8 @@
 -- A word that waits for every CPU stands until the consumer releases it.
-use Rattle.std.proofs.Common.{arith}
+use Rattle.std.proofs.Common.{arith, ◌≡◌, ℕ, true, false, List, ◌∷◌, None, refl, ap, ◌∙◌, subst}
 use Rattle.std.proofs.lemmas.Bool.Decides.{nat_tests}
-use Rattle.std.proofs.Common.{◌≡◌, ◌⊎◌, ℕ, true, false, ◌==◌, ◌||◌, List, ◌∷◌, None, refl, sym, ap, ◌∙◌, subst, ⊎_elim, true≢false}
-use Rattle.dspec_table.specs.Words.{word_number, awaits, opens, opened, present, verdict, is_undecided, releases, solo, same_actor, author, word_at, IsSound, View, of_consumer, Since, here, more}
-use Rattle.dspec_table.specs.Words.{Found, ReapedNumber}
+use Rattle.dspec_table.specs.Words.{word_number, awaits, opened, present, verdict, is_undecided, releases, solo, same_actor, author, word_at, IsSound, View, of_consumer, Since, here, more, Found}
+use Rattle.dspec_table.specs.Words.{ReapedNumber}
 use Rattle.dspec_deeds.specs.declared.config.Config.{Config}
 use Rattle.dspec_deeds.specs.declared.calls.Actor.TheVariants.{Consumer}
 use Rattle.dspec_deeds.specs.declared.deed.Deed.{Deed}
@@ -18,21 +17,11 @@ record Waits (s : ℕ) (h : List Deed) : Type 0 where
   alone : solo (present s h) h ≡ None
 
 unreleased : (s : ℕ) (d : Deed) (h : List Deed) → same_actor Consumer (author d h) ≡ false → Waits s h → releases s d ≡ false
-unreleased s d h h1 h2 = grind (arith, nat_tests)
+unreleased = grind (arith, nat_tests)
 
 waits_on : (k : Config) (s : ℕ) (seen log : List Deed) → IsSound k log → Waits s seen → Since of_consumer seen log → (word_at s log ≡ word_at s seen) × Waits s log
 waits_on k s seen _ sound held here = (refl, held)
-waits_on k s seen (d ∷ h) sound held (more rest other) =
-    let before = waits_on k s seen h sound.0 held rest in
-    let stands = decided_stands k s d h sound before.1.given before.1.ruled (unreleased s d h other before.1) in
-    let p : present s (d ∷ h) ≡ present s h = λ i. record { issue = stands.issues i; slot = s } in (
-      stands.word ∙ before.0,
-      record {
-        given = subst (λ j. opened j (d ∷ h) ≡ true) (sym p) (ap (λ b. opens (present s h) d || b) before.1.given ∙ or_true (opens (present s h) d));
-        ruled = ap is_undecided stands.verdicts ∙ before.1.ruled;
-        alone = stands.solos ∙ before.1.alone;
-      },
-    )
+waits_on k s seen (d ∷ h) sound held (more rest other) = grind (arith, nat_tests, waits_on k s seen h sound.0 held rest, decided_stands, unreleased, or_true)
 
 -- by what a step of the consumer found
 pub awaited_stands : (v : View) (log : List Deed) (s : ℕ) → v.who ≡ of_consumer → Found v log → awaits (word_at s v.seen).code ≡ true → word_at s log ≡ word_at s v.seen

@@ -2,7 +2,7 @@
 use Rattle.std.specs.Prelude.{ℕ, ◌≡◌, ◌<◌, ◌≤◌, ◌+◌, true, false, Some, IsTrue}
 use Rattle.dspec_table.specs.Words.Outside.{Speculation, SlotState, awaits, open_at, speculate_at, commit_at, discard_at, settle_at, is_among, callers, late, scan, word_at, opened, solo, ack, mark}
 use Rattle.dspec_word.specs.declared.code.Code.{Code}
-use Rattle.dspec_word.specs.declared.code.Code.TheVariants.{Active, ActiveOne, ActiveMany, Committing}
+use Rattle.dspec_word.specs.declared.code.Code.TheVariants.{Active, Committing}
 use Rattle.dspec_word.specs.declared.act.Act.TheVariants.{Granted, Attempt}
 use Rattle.dspec_deeds.specs.declared.config.Config.{Config}
 use Rattle.dspec_deeds.specs.declared.calls.CpuOp.{CpuOp}
@@ -53,14 +53,6 @@ Attempts doing from to op.Service = ⊥
 
 abbrev pub MayTry : Config → View → ℕ → Doing → ℕ → SlotState → SlotState → Type 0
 MayTry k v c doing slot from to = MayLoad k v c doing slot doing.op × Attempts doing from to doing.op × (from ≡ word_at slot v.seen)
-
--- one more caller
-abbrev pub more_callers : Code → Code
-more_callers Active = ActiveOne
-more_callers c = ActiveMany
-
-abbrev pub joined_word : SlotState → SlotState
-joined_word w = record { issue = w.issue; code = more_callers w.code }
 
 -- the call is a commit or a discard
 abbrev pub IsDeciding : CpuOp → Type 0

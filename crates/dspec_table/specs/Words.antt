@@ -3,7 +3,7 @@ pub mod Outside
 unfoldable pub use Outside.*
 pub use Rattle.dspec_table.specs.Acts.{at_activity, at_exchange, at_stop, at_word, deeds_at, nothing, seen, shown, trying}
 pub use Rattle.dspec_table.specs.Asks.{LoadedAsk, StoredAsk, StoredAskAt, with_ask}
-pub use Rattle.dspec_table.specs.Conditions.{as_active, Attempts, CommitsNow, IfCommitting, IsDeciding, IsInFlight, IsOn, joined_word, MayLoad, MayOpen, MayReap, MaySettle, MayTry, OwnCommit}
+pub use Rattle.dspec_table.specs.Conditions.{as_active, Attempts, CommitsNow, IfCommitting, IsDeciding, IsInFlight, IsOn, MayLoad, MayOpen, MayReap, MaySettle, MayTry, OwnCommit}
 pub use Rattle.dspec_table.specs.Flights.{AreOf, calling, flight_after}
 pub use Rattle.dspec_table.specs.Holders.{doer, Holder, number_of, of_consumer, of_cpu, of_nobody, part_of, same_holder}
 pub use Rattle.dspec_table.specs.Last.{AllAt, AreSeats, Ended, In, Joined, last_set_up, last_words, Recalled}
@@ -16,7 +16,7 @@ pub use Rattle.dspec_table.specs.Seats.{cpu_of, dealing, DealtSeats, fresh_seat,
 pub use Rattle.dspec_table.specs.Showing.{activity, AreWords, IsWordNumber, Shows, word}
 pub use Rattle.dspec_table.specs.Since.{here, more, Since}
 pub use Rattle.dspec_table.specs.Steps.{acted, Entered, EnteredIn, Found, LoadedAck, LoadedAckAt, LoadedActivity, LoadedNumber, LoadedWord, Looked, LookedNumber, LookedWord, OpenedNumber}
-pub use Rattle.dspec_table.specs.Steps.{OpenedWord, ReapedNumber, ReapedWord, ReleasedWord, SettledWord, StoredAck, StoredActivity, TriedExchange, TriedNumber, TriedWord, with_asks}
+pub use Rattle.dspec_table.specs.Steps.{OpenedWord, ReapedNumber, ReapedWord, ReleasedWord, SettledWord, StoredAck, StoredActivity, TriedNumber, TriedWord, with_asks}
 pub use Rattle.dspec_table.specs.declared.doing.Doing.{Doing}
 pub use Rattle.dspec_table.specs.declared.rule.Past.{Past}
 pub use Rattle.dspec_table.specs.declared.rule.View.{View}

@@ -7,7 +7,6 @@ ghost use Rattle.dspec_table.specs.Seats.{known_there, IsConsumerAt, set_up};
 ghost use Rattle.dspec_word.specs.Word.{CanBeReleased};
 
 use crate::layout::{ack_place, slot_place};
-use crate::reading::read_word;
 use crate::seats::{ConsumerSeat, Words};
 use crate::word_steps::{LoadsAck, LooksAtWord, Reaps};
 use dspec_word::{Code, Word};
@@ -25,7 +24,7 @@ impl ConsumerSeat {
             .board
             .shared
             .load::<LooksAtWord>(&mut self.seat, slot_place(slot));
-        read_word(found)
+        Word::of_number(found)
     }
 
     /// Loads a CPU's acknowledgement of a slot: one more than the issue that it settled last, or 0. A word that was shown to wait
@@ -64,6 +63,6 @@ impl ConsumerSeat {
         if found == old {
             return Ok(());
         }
-        Err(read_word(found))
+        Err(Word::of_number(found))
     }
 }

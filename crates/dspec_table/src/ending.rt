@@ -6,7 +6,6 @@ ghost use Rattle.dspec_table.specs.Showing.{Shows};
 
 use crate::last::LastWords;
 use crate::layout::{ack_place, slot_place};
-use crate::reading::read_word;
 use dspec_word::Word;
 
 impl LastWords {
@@ -15,7 +14,7 @@ impl LastWords {
         requires slot { (1 ≤ slot) × (slot ≤ (last_set_up self.now).nspec) }
         ensures { (log : List Deed) → Shows (last_set_up self.now) (last_words self.now) log → result ≡ word_at slot log }
     {
-        read_word(self.closed.word(slot_place(slot)))
+        Word::of_number(self.closed.word(slot_place(slot)))
     }
 
     /// A CPU's acknowledgement of a slot: one more than the issue that it settled last, or 0.

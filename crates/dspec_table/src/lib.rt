@@ -10,9 +10,9 @@
 //! | File | What is in it |
 //! |---|---|
 //! | `rule.rt`, `seats.rt`, `doing.rt` | `View`, what a seat knows, as plain data, and the rule `OneList`; `Words`, `CpuSeat`, `ConsumerSeat`; `Doing`, the call in flight |
-//! | `layout.rt`, `laws.rt`, `word_steps.rt`, `reading.rt` | where the words lie, each slot's on a line of its own; the laws; what each kind of step tells `atomic_table`; a number back to a word |
+//! | `layout.rt`, `laws.rt`, `word_steps.rt` | where the words lie, each slot's on a line of its own; the laws; what each kind of step tells `atomic_table` |
 //! | `starting.rt`, `gathering.rt`, `last.rt`, `ending.rt` | the two ends, and `LastWords` |
-//! | `loading.rt`, `opening.rt`, `trying.rt`, `releasing.rt`, `settling.rt` | a CPU's steps: activity and word loaded, `open_word`, `join_word` and `decide_word`, `release_word`, `store_ack` |
+//! | `loading.rt`, `opening.rt`, `trying.rt`, `releasing.rt`, `settling.rt` | a CPU's steps: activity and word loaded, `open_word`, `try_word`, `release_word`, `store_ack` |
 //! | `cleaning.rt`, `stopping.rt`, `asking.rt`, `meeting.rt` | the consumer's steps, and the meeting |
 //! | `refinement.rt` | the laws `same_steps` and `words_show_one_list`: what the words do is what a play does |
 //! | `specs/`: Rule, Showing, Owners, Holders, Since | `Kept`; that the words show a list; whose each deed and each seat is; a list that goes on by deeds of others |
@@ -36,7 +36,6 @@ mod layout;
 mod loading;
 mod meeting;
 mod opening;
-mod reading;
 mod refinement;
 mod releasing;
 mod rule;

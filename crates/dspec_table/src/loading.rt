@@ -7,7 +7,6 @@ ghost use Rattle.dspec_word.specs.Word.{CanBeReleased};
 
 use crate::doing::Doing;
 use crate::layout::{ACTIVITY_PLACE, slot_place};
-use crate::reading::read_word;
 use crate::seats::{CpuSeat, Words};
 use crate::word_steps::{HasDoing, LoadsActivity, LoadsWord};
 use dspec_word::Word;
@@ -62,6 +61,6 @@ impl CpuSeat {
         ensures step { LoadedWord doing.now slot (known self.old) result (known self.new) }
         ensures limit { CanBeReleased result }
     {
-        read_word(self.load_word_as::<Brand>(words, slot, doing))
+        Word::of_number(self.load_word_as::<Brand>(words, slot, doing))
     }
 }

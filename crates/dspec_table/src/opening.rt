@@ -8,7 +8,6 @@ ghost use Rattle.dspec_word.specs.Word.{word_number, CanBeReleased};
 
 use crate::doing::Doing;
 use crate::layout::slot_place;
-use crate::reading::read_word;
 use crate::seats::{CpuSeat, Words};
 use crate::word_steps::OpensWord;
 use dspec_word::{Code, Word};
@@ -44,7 +43,7 @@ impl CpuSeat {
         if found == old {
             Ok(())
         } else {
-            Err(read_word(found))
+            Err(Word::of_number(found))
         }
     }
 }

@@ -1,29 +1,42 @@
 ghost use Rattle.std.specs.Prelude.{◌≡◌, ◌≤◌, ◌==◌, IfOk};
-ghost use Rattle.dspec_table.specs.Conditions.{MayTry, IsDeciding, OwnCommit, joined_word, IfCommitting};
+ghost use Rattle.dspec_table.specs.Conditions.{MayTry, OwnCommit, IfCommitting};
 ghost use Rattle.dspec_table.specs.Steps.{TriedExchange, TriedNumber};
 ghost use Rattle.dspec_table.specs.Seats.{known, IsAt, set_up, cpu_of};
 ghost use Rattle.dspec_word.specs.Word.{word_number};
 
 use crate::doing::Doing;
 use crate::layout::slot_place;
-use crate::reading::read_word;
 use crate::seats::{CpuSeat, Words};
 use crate::word_steps::{HasDoing, TriesWord};
-use dspec_word::{Code, Word};
+use dspec_word::Word;
 use std::marker::Brand;
 
-// What the code becomes by one more caller.
-fn with_caller(from: Word) -> Word
-    ensures { result ≡ joined_word from }
-{
-    let code = match from.code() {
-        Code::Active => Code::ActiveOne,
-        _ => Code::ActiveMany,
-    };
-    Word::of(from.issue(), code)
-}
-
 impl CpuSeat {
+    /// The exchange that `speculate_at`, `commit_at` or `discard_at` attempts: the CPU is one more caller of the speculation, or
+    /// that is committed or discarded. It fails where the word is another by now, and shows it. After an exchange to Committing
+    /// the seat releases the slot next.
+    pub fn try_word(
+        &mut self,
+        words: &Words,
+        slot: u32,
+        from: Word,
+        to: Word,
+        doing: &Doing,
+    ) -> Result<(), Word>
+        requires seat { IsAt words.now self.old }
+        requires slot { (1 ≤ slot) × (slot ≤ (set_up words.now).nspec) }
+        requires call { MayTry (set_up words.now) (known self.old) (cpu_of self.old) doing.now slot from to }
+        ensures tried { TriedExchange words.now doing.now slot from to self.old self.new result }
+        ensures release { IfOk result (λ _. IfCommitting to.code (OwnCommit (set_up words.now) (known self.new) (cpu_of self.new) record { issue = to.issue; slot = slot })) }
+    {
+        let found = self.try_word_as::<Brand>(words, slot, from, to, doing);
+        if found == from.raw() {
+            Ok(())
+        } else {
+            Err(Word::of_number(found))
+        }
+    }
+
     fn try_word_as<J: HasDoing>(
         &mut self,
         words: &Words,
@@ -48,63 +61,5 @@ impl CpuSeat {
                 from.raw(),
                 to.raw(),
             )
-    }
-
-    fn try_word(
-        &mut self,
-        words: &Words,
-        slot: u32,
-        from: Word,
-        to: Word,
-        doing: &Doing,
-    ) -> Result<(), Word>
-        requires seat { IsAt words.now self.old }
-        requires slot { (1 ≤ slot) × (slot ≤ (set_up words.now).nspec) }
-        requires call { MayTry (set_up words.now) (known self.old) (cpu_of self.old) doing.now slot from to }
-        ensures { TriedExchange words.now doing.now slot from to self.old self.new result }
-    {
-        let found = self.try_word_as::<Brand>(words, slot, from, to, doing);
-        if found == from.raw() {
-            Ok(())
-        } else {
-            Err(read_word(found))
-        }
-    }
-
-    /// Makes the CPU one more caller of a speculation, by the exchange that `speculate_at` attempts. It fails where the word
-    /// is another by now, and shows it.
-    pub fn join_word(
-        &mut self,
-        words: &Words,
-        slot: u32,
-        from: Word,
-        doing: &Doing,
-    ) -> Result<(), Word>
-        requires seat { IsAt words.now self.old }
-        requires slot { (1 ≤ slot) × (slot ≤ (set_up words.now).nspec) }
-        requires call { MayTry (set_up words.now) (known self.old) (cpu_of self.old) doing.now slot from (joined_word from) }
-        ensures tried { TriedExchange words.now doing.now slot from (joined_word from) self.old self.new result }
-    {
-        self.try_word(words, slot, from, with_caller(from), doing)
-    }
-
-    /// Commits or discards a speculation, by the exchange that `commit_at` or `discard_at` attempts. It fails where the word
-    /// is another by now, and shows it. After an exchange to Committing the seat releases the slot next.
-    pub fn decide_word(
-        &mut self,
-        words: &Words,
-        slot: u32,
-        from: Word,
-        to: Word,
-        doing: &Doing,
-    ) -> Result<(), Word>
-        requires seat { IsAt words.now self.old }
-        requires op { IsDeciding doing.now.op }
-        requires slot { (1 ≤ slot) × (slot ≤ (set_up words.now).nspec) }
-        requires call { MayTry (set_up words.now) (known self.old) (cpu_of self.old) doing.now slot from to }
-        ensures tried { TriedExchange words.now doing.now slot from to self.old self.new result }
-        ensures release { IfOk result (λ _. IfCommitting to.code (OwnCommit (set_up words.now) (known self.new) (cpu_of self.new) record { issue = to.issue; slot = slot })) }
-    {
-        self.try_word(words, slot, from, to, doing)
     }
 }

@@ -2,8 +2,8 @@
 use Rattle.std.proofs.Common.{◌≡◌, ℕ, zero, suc, ◌<◌, ◌&&◌, ◌≤◌, Bool, true, false, if◌then◌else◌, List, [], ◌∷◌, ◌++◌, sym, ap, ◌∙◌, subst, arith, refl}
 use Rattle.std.proofs.lemmas.Bool.Decides.{nat_tests}
 use Rattle.test_words.specs.Words.{Record, Speculation, SlotState, released, awaits, speculate_at, commit_at, discard_at, reap_at, in_range, is_among, callers, ack, number_of, at_activity, IsOn}
-use Rattle.test_words.specs.Words.{IsInFlight, MayLoad, MayTry, Attempts, IsDeciding, joined_word, calling, activity_place, acted, LoadedActivity, TriedWord, LoadedAck, Unused, Next, at_exchange}
-use Rattle.test_words.specs.Words.{shown, idle_progress, shown_commit, shown_discard, is_alone, is_release, at_word, Entered, LoadedWord, slot_place}
+use Rattle.test_words.specs.Words.{IsInFlight, MayLoad, MayTry, Attempts, IsDeciding, calling, activity_place, acted, LoadedActivity, TriedWord, LoadedAck, Unused, Next, at_exchange, shown}
+use Rattle.test_words.specs.Words.{idle_progress, shown_commit, shown_discard, is_alone, is_release, at_word, Entered, LoadedWord, slot_place}
 use Rattle.dspec_word.specs.declared.act.Act.{Act}
 use Rattle.dspec_word.specs.declared.act.Act.TheVariants.{Void, Granted, Attempt, Idle}
 use Rattle.dspec_deeds.specs.declared.config.Config.{Config}
@@ -12,7 +12,7 @@ use Rattle.dspec_deeds.specs.declared.calls.CpuOp.TheVariants as op
 use Rattle.dspec_deeds.specs.declared.deed.Deed.{Deed}
 use Rattle.dspec_table.specs.declared.rule.View.{View}
 use Rattle.dspec_table.specs.declared.doing.Doing.{Doing}
-use Rattle.dspec_table.proofs.Flights.{quiet_activity, loads_next, in_flight, speculate_joins}
+use Rattle.dspec_table.proofs.Flights.{quiet_activity, loads_next, in_flight}
 use Rattle.dspec_interleaving.proofs.StepDeeds.{by_test}
 use Rattle.dspec_table.proofs.Reaping.{acked_since}
 
@@ -38,22 +38,10 @@ shows_word v w doing id r word is step =
     subst (λ (o : CpuOp). at_exchange v.config (number_of v.who) doing 1 word false o ≡ at_word v.config (number_of v.who) doing 1 word o) (sym is) refl in
     (step.0, step.1, step.2, subst (λ ds. Entered (slot_place 1) v step.0 ds w) same step.3)
 
--- what the table attempts, by the kind of call
-pub joins : (k : Config) (v w : View) (c : ℕ) (doing : Doing) (id : Speculation) (r : Record) (from to : SlotState) → doing.op ≡ op.Speculate id r
-    → speculate_at from id doing.mine ≡ Attempt to → Next k v w c doing from
-    → MayTry k w c doing 1 from (joined_word from) × (w.own ≡ v.own)
-joins k v w c doing id r from to is attempts next =
-    let t = next to (subst (Attempts doing from to) (sym is) attempts) in
-    (subst (MayTry k w c doing 1 from) (speculate_joins from to id doing.mine attempts) t.0, t.1)
-
-pub commits : (k : Config) (v w : View) (c : ℕ) (doing : Doing) (id : Speculation) (from to : SlotState) → doing.op ≡ op.Commit id → commit_at from id doing.mine ≡ Attempt to → Next k v w c doing from
+-- what the table attempts at the word that was shown may be tried
+pub attempted : (k : Config) (v w : View) (c : ℕ) (doing : Doing) (o : CpuOp) (from to : SlotState) → doing.op ≡ o → Attempts doing from to o → Next k v w c doing from
     → MayTry k w c doing 1 from to × (w.own ≡ v.own)
-commits k v w c doing id from to is attempts next = next to (subst (Attempts doing from to) (sym is) attempts)
-
-pub discards : (k : Config) (v w : View) (c : ℕ) (doing : Doing) (id : Speculation) (from to : SlotState) → doing.op ≡ op.Discard id
-    → discard_at from id doing.mine ≡ Attempt to → Next k v w c doing from
-    → MayTry k w c doing 1 from to × (w.own ≡ v.own)
-discards k v w c doing id from to is attempts next = next to (subst (Attempts doing from to) (sym is) attempts)
+attempted k v w c doing o from to is attempts next = next to (subst (Attempts doing from to) (sym is) attempts)
 
 -- a decision, had or missed, leaves the CPU in no call, a caller of nothing, with nothing settled
 module _ (k j : Config) (x c : ℕ) (doing : Doing) (w : SlotState) (own : List Deed) (u : Unused k x own) where

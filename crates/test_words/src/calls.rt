@@ -49,7 +49,7 @@ pub fn committed(words: &Words, seat: &mut CpuSeat, id: SpecId, call: &Doing) ->
     let Act::Attempt(to) = commit_at(from, id, call.mine) else {
         return false;
     };
-    let Ok(()) = seat.decide_word(words, 1, from, to, call) else {
+    let Ok(()) = seat.try_word(words, 1, from, to, call) else {
         return false;
     };
     if to.code() != Code::Committing {

@@ -5,5 +5,4 @@ pub use Rattle.dspec_deeds.specs.Words.{ack, author, callers, code_at, halted, H
 pub use Rattle.dspec_deeds.specs.Words.{same_actor, same_id, scan, standing, undecided, verdict, word_at}
 pub use Rattle.dspec_interleaving.specs.Words.{idle_progress, is_alone, is_release, shown_commit, shown_discard, shown_scan}
 pub use Rattle.dspec_table.specs.Words.{acted, activity_place, AreSeats, at_activity, at_exchange, at_word, Attempts, calling, cpu_of, Ended, Entered, FreshSeats, IsAt, IsDeciding, IsInFlight, IsOn}
-pub use Rattle.dspec_table.specs.Words.{joined_word, known, known_there, last_words, LoadedAck, LoadedActivity, LoadedWord, MayLoad, MayTry, number_of, of_cpu, set_up, shown, Shows, slot_place}
-pub use Rattle.dspec_table.specs.Words.{TriedWord}
+pub use Rattle.dspec_table.specs.Words.{known, known_there, last_words, LoadedAck, LoadedActivity, LoadedWord, MayLoad, MayTry, number_of, of_cpu, set_up, shown, Shows, slot_place, TriedWord}

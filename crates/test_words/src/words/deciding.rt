@@ -48,10 +48,10 @@ pub(super) fn both_decided(
     let Act::Attempt(thrown) = discard_at(theirs, id, discard.mine) else {
         return None;
     };
-    let Ok(()) = second.decide_word(words, 1, theirs, thrown, discard) else {
+    let Ok(()) = second.try_word(words, 1, theirs, thrown, discard) else {
         return None;
     };
-    let Err(word) = first.decide_word(words, 1, ours, to, commit) else {
+    let Err(word) = first.try_word(words, 1, ours, to, commit) else {
         return None;
     };
     Some(word)

@@ -30,22 +30,22 @@ fn both_joined(
 {
     let ours = shown(words, first, call);
     let theirs = shown(words, second, call);
-    let Act::Attempt(_ours) = speculate_at(ours, id, call.mine) else {
+    let Act::Attempt(first_to) = speculate_at(ours, id, call.mine) else {
         return None;
     };
-    let Act::Attempt(_theirs) = speculate_at(theirs, id, call.mine) else {
+    let Act::Attempt(second_to) = speculate_at(theirs, id, call.mine) else {
         return None;
     };
-    let Ok(()) = first.join_word(words, 1, ours, call) else {
+    let Ok(()) = first.try_word(words, 1, ours, first_to, call) else {
         return None;
     };
-    let Err(word) = second.join_word(words, 1, theirs, call) else {
+    let Err(word) = second.try_word(words, 1, theirs, second_to, call) else {
         return None;
     };
-    let Act::Attempt(_again) = speculate_at(word, id, call.mine) else {
+    let Act::Attempt(again) = speculate_at(word, id, call.mine) else {
         return None;
     };
-    let Ok(()) = second.join_word(words, 1, word, call) else {
+    let Ok(()) = second.try_word(words, 1, word, again, call) else {
         return None;
     };
     Some(word)

@@ -44,11 +44,11 @@ returns-in_default c =
       release = none_owned (set_up words) (cpu_of c.loop-to.seat) c.args.slot (known c.loop-to.seat) c.act_at-act.result c.in_default.not-Attempt;
     }
 
-pub exchange-requires-clause-seat : goal.exchange-requires-clause-seat
-exchange-requires-clause-seat c = c.loop-to.invariant.seat.0
+pub try_word-requires-clause-seat : goal.try_word-requires-clause-seat
+try_word-requires-clause-seat c = c.loop-to.invariant.seat.0
 
-pub exchange-requires-clause-call : goal.exchange-requires-clause-call
-exchange-requires-clause-call c =
+pub try_word-requires-clause-call : goal.try_word-requires-clause-call
+try_word-requires-clause-call c =
     let words = c.args.words.now in
     let seat = c.args.seat.now in
     let doing = c.args.doing.now in
@@ -57,7 +57,7 @@ exchange-requires-clause-call c =
     (may_try c.requires.seat.1 seat.who_is c.requires.on c.loop-to.invariant.shown e)
 
 pub returns-in-Ok-clause-seat : goal.returns-in-Ok-clause-seat
-returns-in-Ok-clause-seat c = (c.exchange.ensures.tried.seat.0, c.exchange.ensures.tried.seat.1 ∙ c.loop-to.invariant.seat.1)
+returns-in-Ok-clause-seat c = (c.try_word.ensures.tried.seat.0, c.try_word.ensures.tried.seat.1 ∙ c.loop-to.invariant.seat.1)
 
 pub returns-in-Ok-clause-ended : goal.returns-in-Ok-clause-ended
 returns-in-Ok-clause-ended c =
@@ -66,8 +66,8 @@ returns-in-Ok-clause-ended c =
     record {
       word = c.loop-to.word;
       acts = e;
-      last = tried c.requires.seat.1 seat.who_is c.requires.on c.loop-to.invariant.shown e c.loop-to.word true (known c.exchange.new.seat) c.in-Ok.ensures.tried.step;
-      bounded = hit_steps c.requires.seat.1 seat.who_is c.requires.on c.loop-to.invariant.shown e (known c.exchange.new.seat) c.in-Ok.ensures.tried.step c.loop-to.invariant.bounded;
+      last = tried c.requires.seat.1 seat.who_is c.requires.on c.loop-to.invariant.shown e c.loop-to.word true (known c.try_word.new.self) c.in-Ok.ensures.tried.step;
+      bounded = hit_steps c.requires.seat.1 seat.who_is c.requires.on c.loop-to.invariant.shown e (known c.try_word.new.self) c.in-Ok.ensures.tried.step c.loop-to.invariant.bounded;
     }
 
 pub loop-to-smaller : goal.loop-to-smaller
@@ -83,11 +83,11 @@ loop-to-preserved c =
     let doing = c.args.doing.now in
     let e = sym c.act_at-act.ensures ∙ c.in-Attempt.is in
     record {
-      seat = (c.exchange.ensures.tried.seat.0, c.exchange.ensures.tried.seat.1 ∙ c.loop-to.invariant.seat.1);
-      shown = tried c.requires.seat.1 seat.who_is c.requires.on c.loop-to.invariant.shown e c.in-Err.shown false (known c.exchange.new.seat) c.in-Err.ensures.tried.step;
+      seat = (c.try_word.ensures.tried.seat.0, c.try_word.ensures.tried.seat.1 ∙ c.loop-to.invariant.seat.1);
+      shown = tried c.requires.seat.1 seat.who_is c.requires.on c.loop-to.invariant.shown e c.in-Err.shown false (known c.try_word.new.self) c.in-Err.ensures.tried.step;
       bounded =
           let less = fewer_left c.requires.seat.1 seat.who_is c.requires.on c.loop-to.invariant.shown e c.in-Err.shown c.in-Err.ensures.tried.greater in
-          let one = step_made doing c.args.slot (known c.loop-to.seat) c.in-Err.shown (known c.exchange.new.seat) c.in-Err.ensures.tried.step in
+          let one = step_made doing c.args.slot (known c.loop-to.seat) c.in-Err.shown (known c.try_word.new.self) c.in-Err.ensures.tried.step in
           let le = c.loop-to.invariant.bounded in
           omega arith;
       limit = c.in-Err.ensures.tried.limit;

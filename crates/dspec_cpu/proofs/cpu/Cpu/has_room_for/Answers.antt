@@ -1,16 +1,17 @@
-use Rattle.std.proofs.Common.{◌≡◌, ◌∙◌, true, false, List, sym, subst, ⊎_elim}
+use Rattle.std.proofs.Common.{◌≡◌, ◌∙◌, true, false, true≢false, List, refl, sym, subst, ⊎_elim}
 use Rattle.dspec_deeds.specs.declared.deed.Deed.{Deed}
 use Rattle.dspec_cpu.specs.Words.{in_range, known, Cpu, cpu_block_fits, HasList}
 use Rattle.dspec_deeds.proofs.TestLemmas.{either_way}
 use Rattle.dspec_cpu.proofs.Limits.{limits}
 use Rattle.dspec_cpu.proofs.Mine.{unmarked_empty}
+use Rattle.dspec_cpu.proofs.Marked.{marked_inside, marked_is}
 use Rattle.dspec_cpu.proofs.Outside.{outside_holds}
 use Rattle.dspec_cpu.proofs.Ready.{steady_few}
 use Rattle.dspec_cpu.proofs.Rooms.{nothing_fits}
 use Rattle.dspec_cpu.proofs.cpu.Cpu.has_room_for.Goals as goal
 
-pub returns-then-not-is_mine : goal.returns-then-not-is_mine
-returns-then-not-is_mine g c =
+pub returns-then-not-has : goal.returns-then-not-has
+returns-then-not-has g c =
     let cpu = c.self.inside.parts in
     let id = c.args.id in
     let steady = c.self.invariant in
@@ -20,6 +21,21 @@ returns-then-not-is_mine g c =
     → true ≡ cpu_block_fits (g.S.Schema.shape_of x.schema) x id p) c.self.view_is
     (λ p had. nothing_fits (g.S.Schema.shape_of cpu.schema) cpu.config cpu.cpu id p had.shown.legal (⊎_elim
     (λ (t : in_range cpu.config id ≡ true). unmarked_empty cpu.config cpu.cpu id (known cpu.seat).seen (known cpu.seat).own p few steady.sound steady.part_is had.own
-    (sym (c.is_mine.ensures.is t p had.shown) ∙ c.if-not-is_mine.true))
+    (sym (marked_is cpu.config id _ _ c.has.ensures.tells t cpu.cpu p had.shown.side.marks) ∙ c.if-not-has.true))
     (λ (out : in_range cpu.config id ≡ false). outside_holds cpu.config cpu.cpu id (known cpu.seat).seen (known cpu.seat).own p some steady.sound steady.part_is had.own out few)
     (either_way (in_range cpu.config id))))
+
+pub measure_slot-requires-clause-inside : goal.measure_slot-requires-clause-inside
+measure_slot-requires-clause-inside g c =
+    let cpu = c.self.inside.parts in
+    sym (marked_inside cpu.config c.args.id _ _ c.self.invariant.listed.shown.side.mark_count c.has.ensures.marked c.if-not-has.false)
+
+pub returns : goal.returns
+returns g c =
+    let cpu = c.self.inside.parts in
+    let id = c.args.id in
+    let inside = marked_inside cpu.config id _ _ c.self.invariant.listed.shown.side.mark_count c.has.ensures.marked c.if-not-has.false in
+    subst (λ (x : Cpu g.row.S.Denot). (p : List Deed) → HasList (g.S.Schema.shape_of x.schema) (g.S.Schema.accepted x.schema) (g.S.Schema.text x.schema) x p
+    → c.measure_slot.result.0 ≡ cpu_block_fits (g.S.Schema.shape_of x.schema) x id p) c.self.view_is
+    (λ p had. c.measure_slot.ensures.fits refl p had.shown
+    (record { marked = sym c.if-not-has.false ∙ marked_is cpu.config id _ _ c.has.ensures.tells inside cpu.cpu p had.shown.side.marks; empty = λ e. absurd (true≢false e) }))

@@ -3,10 +3,12 @@ use Rattle.dspec_word.specs.declared.code.Code.TheVariants.{Committing}
 use Rattle.dspec_deeds.specs.declared.config.Config.{Config}
 use Rattle.dspec_deeds.specs.declared.calls.CpuOp.{CpuOp}
 use Rattle.dspec_deeds.specs.declared.calls.CpuOp.TheVariants as op
-use Rattle.dspec_cpu.specs.Words.{count_of, in_range, mark, CommitsNow, known, set_up, cpu_of, rests, words_of}
+use Rattle.dspec_cpu.specs.Words.{count_of, in_range, mark, CommitsNow, known, set_up, cpu_of, rests, words_of, act_of}
 use Rattle.dspec_cpu.specs.declared.reaching.Reach.TheVariants as reach
 use Rattle.dspec_cpu.proofs.Limits.{has_room, limits}
+use Rattle.dspec_cpu.proofs.ReachDeeds.{decision_grants_none}
 use Rattle.dspec_cpu.proofs.Reaches.{slot_inside}
+use Rattle.dspec_cpu.proofs.Marked.{marked_is}
 use Rattle.dspec_cpu.proofs.Ready.{roomy, few_drops}
 use Rattle.dspec_cpu.proofs.Speculates.{own_mark}
 use Rattle.dspec_cpu.proofs.Decisions.{commits_now, fate_tells, worn_shown}
@@ -32,7 +34,7 @@ pub go_on-reached-requires-clause-mine : goal.go_on-reached-requires-clause-mine
 go_on-reached-requires-clause-mine g c = λ within.
     let cpu = c.args.self.now in
     let ready = c.requires.ready in
-    c.is_mine-mine.ensures.is (sym c.is_inside-inside.ensures ∙ within) ready.steady.list ready.steady.listed.shown
+    marked_is cpu.config c.args.id _ _ c.has-mine.ensures.tells (sym c.is_inside-inside.ensures ∙ within) cpu.cpu ready.steady.list ready.steady.listed.shown.side.marks
     ∙ (ap (λ m. m == c.args.id.issue + 1) (own_mark cpu.cpu c.args.id.slot (known cpu.seat).own ready.steady.list cpu.config ready.steady.listed.own)
     ∙ ap (λ n. mark n c.args.id.slot (known cpu.seat).own == c.args.id.issue + 1) (sym ready.steady.seat))
 
@@ -121,7 +123,8 @@ returns-then-not-commits g c =
     let side = c.decide in
     let got = reached_here _ _ _ words cpu ready (c.op_of-op.ensures ∙ ap (λ b. if b then op.Commit c.args.id else op.Discard c.args.id) c.if-not-commits.true) c.in-Done.ensures.reached in
     let within = c.is_inside-inside.ensures ∙ (got.present refl).1 in
-    let ended = thrown _ _ _ words cpu ready seat got c.go_on-reached.ensures.seat c.in-Done.ensures.release (c.is_mine-mine.ensures.is (got.present refl).1)
+    let ended = thrown _ _ _ words cpu ready seat got c.go_on-reached.ensures.seat c.in-Done.ensures.release
+    (λ p shown. marked_is cpu.config c.args.id _ _ c.has-mine.ensures.tells (got.present refl).1 cpu.cpu p shown.side.marks)
     (c.measure_slot-fits.ensures.count within) side.new.self (side.ensures.discards cpu.schema cpu.config cpu.cpu) c.args.commits c.if-not-commits.true in
     record {
       ready = ended.ready;
@@ -157,7 +160,8 @@ returns-in_default g c =
     let within = c.is_inside-inside.ensures ∙ (got.present refl).1 in
     let several : to.code ≢ Committing = λ e. absurd (c.in_default.not-Committing (c.code.ensures ∙ e)) in
     let ended = left_open _ _ _ words cpu ready seat c.args.commits c.if-not-commits.false got c.go_on-reached.ensures.seat side.new.self
-    answer.result answer.ensures (c.is_mine-mine.ensures.is (got.present refl).1) (c.measure_slot-fits.ensures.fits within) (c.measure_slot-fits.ensures.count within)
+    answer.result answer.ensures (λ p shown. marked_is cpu.config c.args.id _ _ c.has-mine.ensures.tells (got.present refl).1 cpu.cpu p shown.side.marks)
+    (c.measure_slot-fits.ensures.fits within) (c.measure_slot-fits.ensures.count within)
     c.committed_as.result c.committed_as.ensures (side.ensures.commits cpu.schema cpu.config cpu.cpu) c.in-Done.ensures.release several in
     record {
       ready = ended.ready;
@@ -178,7 +182,8 @@ returns-in-Committing g c =
     let got = reached_here _ _ _ words cpu ready (c.op_of-op.ensures ∙ ap (λ b. if b then op.Commit c.args.id else op.Discard c.args.id) c.if-not-commits.false) c.in-Done.ensures.reached in
     let within = c.is_inside-inside.ensures ∙ (got.present refl).1 in
     let ended = released _ _ _ words cpu ready seat c.args.commits c.if-not-commits.false got c.go_on-reached.ensures.seat side.new.self
-    answer.result answer.ensures (c.is_mine-mine.ensures.is (got.present refl).1) (c.measure_slot-fits.ensures.fits within) (c.measure_slot-fits.ensures.count within)
+    answer.result answer.ensures (λ p shown. marked_is cpu.config c.args.id _ _ c.has-mine.ensures.tells (got.present refl).1 cpu.cpu p shown.side.marks)
+    (c.measure_slot-fits.ensures.fits within) (c.measure_slot-fits.ensures.count within)
     c.committed_as.result c.committed_as.ensures (side.ensures.commits cpu.schema cpu.config cpu.cpu) c.release_word.new.self c.slot.result c.slot.ensures.value
     c.release_word.ensures.step c.release_word.ensures.seat in
     record {
@@ -189,3 +194,8 @@ returns-in-Committing g c =
           (sym c.code.ensures ∙ c.in-Committing.is) c.release_word.ensures.step refl refl c.slot.ensures.value);
       decides = ended.decides;
     }
+
+pub unreachable-requires : goal.unreachable-requires
+unreachable-requires g c =
+    let acts = c.in-Granted.ensures.reached.acts refl in
+    decision_grants_none c.args.commits c.args.id acts.0 c.has-mine.result (ap (λ (o : CpuOp). act_of o acts.0 c.has-mine.result) (sym c.op_of-op.ensures) ∙ acts.1)

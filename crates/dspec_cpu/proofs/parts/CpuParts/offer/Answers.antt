@@ -1,5 +1,5 @@
-use Rattle.std.proofs.Common.{◌≡◌, ◌+◌, ◌==◌, ◌≤◌, ◌∙◌, ℕ, Bool, if◌then◌else◌, true, false, [], ◌∷◌, arith, refl, sym, ap, subst}
-use Rattle.dspec_cpu.specs.Words.{Record, mark, known, Goes, Stands, Reached, words_of, CallLeaves, of_slot}
+use Rattle.std.proofs.Common.{◌≡◌, ◌+◌, ◌==◌, ◌≤◌, ◌∙◌, ℕ, Bool, if◌then◌else◌, true, false, true≢false, [], ◌∷◌, arith, refl, sym, ap, subst}
+use Rattle.dspec_cpu.specs.Words.{Record, fits_speculative, mark, known, Goes, Stands, Reached, words_of, CallLeaves, of_slot}
 use Rattle.dspec_deeds.specs.declared.calls.CpuOp.TheVariants as op
 use Rattle.dspec_deeds.specs.declared.deed.SpeculateFate.TheVariants as spoken
 use Rattle.dspec_deeds.specs.declared.deed.Deed.TheVariants.{Speculate}
@@ -17,7 +17,7 @@ use Rattle.dspec_cpu.proofs.Speculates.{asked, grants, grant_deeds, caller_of, o
 use Rattle.dspec_cpu.proofs.Leaves.{reached_leaves}
 use Rattle.dspec_cpu_state.specs.declared.counts.Counts.{Counts}
 use Rattle.dspec_cpu.proofs.parts.CpuParts.offer.Given.{Over}
-use Rattle.dspec_cpu.proofs.parts.CpuParts.offer.Goals.{After-grant-kept}
+use Rattle.dspec_cpu.proofs.parts.CpuParts.offer.Goals.{After-grant-kept, then-inside, else-inside}
 use Rattle.dspec_cpu.proofs.parts.CpuParts.offer.Goals as goal
 
 pub go_on-reached-requires-clause-mine : goal.go_on-reached-requires-clause-mine
@@ -45,7 +45,7 @@ grant-kept-requires-clause-slot g c =
     let cpu = c.args.self.now in
     let ready = c.requires.ready in
     let w = known c.go_on-reached.new.seat in
-    let got = subst (λ (x : Config × ℕ × Record). Reached x.0 x.1 (asked c.args.id x.2 c.fits_slot-fits.result c.args.mine) c.args.id (known cpu.seat) c.go_on-reached.result w)
+    let got = subst (λ (x : Config × ℕ × Record). Reached x.0 x.1 (asked c.args.id x.2 c.if-inside.fits c.args.mine) c.args.id (known cpu.seat) c.go_on-reached.result w)
     (λ i. (ready.config i, ready.steady.seat i, c.to_rec-copied.ensures i)) c.go_on-reached.ensures.reached in
     let slot = slot_inside cpu.config c.args.id (got.present (grants c.go_on-reached.result c.in-Granted.is)).1 in
     let side = ready.steady.listed.shown.side in
@@ -115,7 +115,7 @@ granted g c b is =
     let ready = c.requires.ready in
     let id = c.args.id in
     let r = g.R.Recorded.as_record c.args.rec in
-    let fit = c.fits_slot-fits.result in
+    let fit = c.if-inside.fits in
     let mine = c.args.mine in
     let seat = c.go_on-reached.new.seat in
     let reached = c.go_on-reached.result in
@@ -125,7 +125,11 @@ granted g c b is =
     let inside = c.requires.inside ∙ present.1 in
     let caller = caller_of cpu.config cpu.cpu id (known cpu.seat).own mine (few _ _ _ words cpu ready) present.0 in
     let caller_now = caller ready.steady.list ready.steady.listed.own (c.requires.mine inside ready.steady.list ready.steady.listed.shown) in
-    let fit_is : fit ≡ b = c.fits_slot-fits.ensures inside ready.steady.list ready.steady.listed.shown caller_now
+    let answered : fit ≡ fits_speculative (g.S.Schema.shape_of cpu.schema) cpu.config cpu.cpu id r ready.steady.list = elim c.if-inside.branch [
+      | then-inside w ↦ w.fits-is ∙ w.fits_slot-fits.ensures cpu.cpu ready.steady.list (shows _ _ _ cpu.side ready.steady.list ready.steady.listed.shown) caller_now
+      | else-inside w ↦ absurd (true≢false (sym inside ∙ w.if-inside.false))
+    ] in
+    let fit_is : fit ≡ b = answered
     ∙ (sym (side.ensures.answer cpu.config cpu.cpu ready.steady.list (shows _ _ _ cpu.side ready.steady.list ready.steady.listed.shown) caller_now) ∙ is) in
     let deeds = grant_deeds cpu.cpu (asked id r fit mine) id r reached b c.in-Granted.is fit_is in (
       behind _ _ _ words cpu ready seat c.go_on-reached.ensures.seat side.new.self (Speculate cpu.cpu id r (if b then spoken.Kept else spoken.Dropped) ∷ [])

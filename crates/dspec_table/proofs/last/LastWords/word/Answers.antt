@@ -2,16 +2,17 @@ use Rattle.std.proofs.Common.{◌∙◌, sym, ap, subst}
 use Rattle.std.specs.Prelude.{slice_index}
 use Rattle.dspec_table.specs.Words.{word_at, last_words, IsWordNumber}
 use Rattle.dspec_table.proofs.AtEnd.{got_is}
+use Rattle.dspec_table.proofs.Limits.{reads_word}
 use Rattle.dspec_word.proofs.Numbers.{one_word}
 use Rattle.dspec_table.proofs.last.LastWords.word.Goals as goal
 
-pub read_word-requires : goal.read_word-requires
-read_word-requires c = subst IsWordNumber (ap (slice_index (last_words c.args.self.now)) (sym c.slot_place.ensures.place)
+pub of_number-requires : goal.of_number-requires
+of_number-requires c = reads_word c.word.result (subst IsWordNumber (ap (slice_index (last_words c.args.self.now)) (sym c.slot_place.ensures.place)
     ∙ got_is (last_words c.args.self.now) c.slot_place.result c.word.result c.word.ensures)
-    (c.args.self.now.shown c.args.slot c.requires.slot.0 c.requires.slot.1)
+    (c.args.self.now.shown c.args.slot c.requires.slot.0 c.requires.slot.1))
 
 pub returns : goal.returns
 returns c log shows =
-    one_word c.read_word.result (word_at c.args.slot log)
-    (c.read_word.ensures.number ∙ (sym (ap (slice_index (last_words c.args.self.now)) (sym c.slot_place.ensures.place)
+    one_word c.of_number.result (word_at c.args.slot log)
+    (c.of_number.ensures ∙ (sym (ap (slice_index (last_words c.args.self.now)) (sym c.slot_place.ensures.place)
     ∙ got_is (last_words c.args.self.now) c.slot_place.result c.word.result c.word.ensures) ∙ shows.slots c.args.slot c.requires.slot.0 c.requires.slot.1))

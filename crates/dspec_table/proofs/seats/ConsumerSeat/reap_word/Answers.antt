@@ -19,8 +19,8 @@ compare_exchange-found-requires c =
           seat.seat.me c.args.from seat.who_is seat.joins_none (rw words.key_is c.requires.call)),
     )
 
-pub read_word-requires : goal.read_word-requires
-read_word-requires c =
+pub of_number-requires : goal.of_number-requires
+of_number-requires c =
     let step = (subst (λ (s : ℕ). ReapedNumber s (known_there c.args.self.now) c.compare_exchange-found.result
     (c.compare_exchange-found.result == c.raw-old.result) c.compare_exchange-found.new.seat.me.0) c.slot_place.ensures.slot c.compare_exchange-found.ensures.2.0) in
     let few = subst (λ (k : Config). k.max_issues ≤ 2 ^ 57) (sym c.requires.seat.1) c.args.words.now.issues in

@@ -3,7 +3,7 @@ use Rattle.dspec_table.specs.Words.{word_number, OpenedNumber, known, as_active}
 use Rattle.dspec_deeds.specs.declared.config.Config.{Config}
 use Rattle.dspec_table.proofs.Places.{slot_within, slot_there}
 use Rattle.dspec_word.proofs.Numbers.{one_word}
-use Rattle.dspec_table.proofs.Limits.{finds_word}
+use Rattle.dspec_table.proofs.Limits.{finds_word, finds_limit}
 use Rattle.dspec_table.proofs.Grows.{shown_greater}
 use Rattle.dspec_table.proofs.Answered.{left_word}
 use Rattle.dspec_table.proofs.Opens.{opens_word}
@@ -21,8 +21,8 @@ compare_exchange-found-requires c =
           c.args.slot seat.seat.me from (as_active from) c.requires.slot.0 (rw words.key_is c.requires.slot.1) seat.who_is seat.joins_none (rw words.key_is c.requires.call)),
     )
 
-pub read_word-requires : goal.read_word-requires
-read_word-requires c =
+pub of_number-requires : goal.of_number-requires
+of_number-requires c =
     let step = (subst (λ (s : ℕ). OpenedNumber s (known c.args.self.now) c.raw-new.result c.compare_exchange-found.result
     (c.compare_exchange-found.result == c.raw-old.result) c.compare_exchange-found.new.seat.me.0) c.slot_place.ensures.slot c.compare_exchange-found.ensures.2.0) in
     let few = subst (λ (k : Config). k.max_issues ≤ 2 ^ 57) (sym c.requires.seat.1) c.args.words.now.issues in
@@ -32,10 +32,10 @@ pub returns-else-found-old-clause-greater : goal.returns-else-found-old-clause-g
 returns-else-found-old-clause-greater c =
     let step = (subst (λ (s : ℕ). OpenedNumber s (known c.args.self.now) c.raw-new.result c.compare_exchange-found.result
     (c.compare_exchange-found.result == c.raw-old.result) c.compare_exchange-found.new.seat.me.0) c.slot_place.ensures.slot c.compare_exchange-found.ensures.2.0) in
-    let got = c.read_word.result in
-    let same = one_word got step.0 (c.read_word.ensures.number ∙ step.1) in
+    let got = c.of_number.result in
+    let same = one_word got step.0 (c.of_number.ensures ∙ step.1) in
     shown_greater (known c.args.self.now) step.2.0 c.args.slot c.args.from got c.requires.call.1 step.2.1 (same ∙ step.2.2)
-    (λ e. c.if-found-old.false (sym c.read_word.ensures.number ∙ (ap word_number e ∙ sym c.raw-old.ensures)))
+    (λ e. c.if-found-old.false (sym c.of_number.ensures ∙ (ap word_number e ∙ sym c.raw-old.ensures)))
 
 pub returns-then-found-old-clause-word : goal.returns-then-found-old-clause-word
 returns-then-found-old-clause-word c =
@@ -44,3 +44,10 @@ returns-then-found-old-clause-word c =
     (λ hit. sym to ∙ (subst (λ (s : ℕ). OpenedNumber s (known c.args.self.now) c.raw-new.result c.compare_exchange-found.result
     (c.compare_exchange-found.result == c.raw-old.result) c.compare_exchange-found.new.seat.me.0) c.slot_place.ensures.slot c.compare_exchange-found.ensures.2.0).3
     (subst (λ (m : ℕ). (c.compare_exchange-found.result == m) ≡ true) (sym c.raw-old.ensures) hit))
+
+pub returns-else-found-old-clause-limit : goal.returns-else-found-old-clause-limit
+returns-else-found-old-clause-limit c =
+    let step = (subst (λ (s : ℕ). OpenedNumber s (known c.args.self.now) c.raw-new.result c.compare_exchange-found.result
+    (c.compare_exchange-found.result == c.raw-old.result) c.compare_exchange-found.new.seat.me.0) c.slot_place.ensures.slot c.compare_exchange-found.ensures.2.0) in
+    let few = subst (λ (k : Config). k.max_issues ≤ 2 ^ 57) (sym c.requires.seat.1) c.args.words.now.issues in
+    finds_limit (known c.args.self.now) step.2.0 c.args.slot c.compare_exchange-found.result step.0 few step.2.1 step.1 step.2.2 c.of_number.result c.of_number.ensures
