@@ -1,5 +1,6 @@
 -- What the machine keeps of the call's slot and of the CPU, and whether its record fits.
 use Rattle.std.proofs.Common.{◌≡◌, length, refl, sym, ap, ◌∙◌, subst, arith}
+use Rattle.std.specs.Prelude.{nat_le}
 use Rattle.dspec_core.specs.Words.{ack, aimed, callers, fits_held, held, history, is_among, issue, IsSlot, Speculation, word_at}
 use Rattle.dspec_core.proofs.Driving.{place_aimed, place_slot}
 use Rattle.dspec_core.proofs.MachineReads.{ack_read, cpu_got, cpu_read, slot_inside}
@@ -74,7 +75,7 @@ returns g c =
       at = record {
         config = refl;
         cpu = refl;
-        worn = c.is_worn.ensures;
+        worn = ap (nat_le m.config.max_calls) shows.side.parts.called;
         stopped = shown.active;
         word = read_word m shown id.slot c.slot.result c.index-word.result.now slot named c.index-word.ensures ∙ ap (λ (j : Speculation). word_at j.slot h) same;
         acked = ack_read has capacity m shown a c.slot.result own c.index-acked.result.now c.requires.cpu (subst (IsSlot m.config) (sym named) slot) c.index-own.ensures c.index-acked.ensures

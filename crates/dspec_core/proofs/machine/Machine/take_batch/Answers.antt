@@ -11,8 +11,6 @@ use Rattle.dspec_deeds.proofs.Items.{kept_item}
 use Rattle.dspec_core.proofs.MachineReads.{length_contents, cpu_got}
 use Rattle.dspec_core.proofs.KeptCpus.{taking}
 use Rattle.dspec_core.proofs.Makings.{cpu_puts, state_puts}
-use Rattle.dspec_core.proofs.KeptCpus.{taking}
-use Rattle.dspec_core.proofs.Makings.{cpu_puts, state_puts}
 use Rattle.dspec_core.proofs.OneMore.{progress_there}
 use Rattle.dspec_core.proofs.TakenBatches.{next_batch, taken_more}
 use Rattle.dspec_core.proofs.OwnSlots.{on_err}

@@ -2,7 +2,7 @@ use Rattle.std.proofs.Common.{◌≡◌, ◌≤◌, length, reverse, sym, ap, �
 use Rattle.dspec_core.specs.Words.{reports, IsCoherent, progress_of, Headline, IsPlayingAt, all_ran, all_turned, playing_at_start, worn_count}
 use Rattle.dspec_deeds.specs.declared.config.Config.{Config}
 use Rattle.dspec_interleaving.proofs.PlayerRuns.{IsSoFar, all_idle, same_reports, so_far_first, so_far_last, so_far_unrefused, worn_as_told}
-use Rattle.dspec_core.proofs.player.play.Goals as goal
+use Rattle.dspec_core.proofs.player.play_shown.Goals as goal
 
 pub loop-number-init : goal.loop-number-init
 loop-number-init g c =
