@@ -1,5 +1,5 @@
 -- What a player's step finds, and what it leaves of the call in flight.
-use Rattle.std.proofs.Common.{◌≡◌, ℕ, Bool, true, false, not, if◌then◌else◌, Option, Some, None, refl, sym, ap, ◌∙◌, subst, ⊎_elim}
+use Rattle.std.proofs.Common.{◌≡◌, ℕ, ◌+◌, ◌<◌, Bool, true, false, not, if◌then◌else◌, List, Option, Some, None, refl, sym, subst, ⊎_elim}
 use Rattle.std.specs.Prelude.{Result, Ok, Err, OnOk, is_err}
 use Rattle.dspec_record.specs.declared.field.Shape.{Shape}
 use Rattle.dspec_deeds.specs.declared.calls.Actor.{Actor}
@@ -9,7 +9,8 @@ use Rattle.dspec_interleaving.specs.declared.flight.CallPlace.{CallPlace}
 use Rattle.dspec_interleaving.specs.declared.flight.ConsumerFlight.{ConsumerFlight}
 use Rattle.dspec_interleaving.specs.declared.refusal.StepFault.{StepFault}
 use Rattle.dspec_interleaving.specs.declared.refusal.StepFault.TheVariants.{NoSuchActor, IdleStep}
-use Rattle.dspec_core.specs.Words.{is_actor, is_idle, IsCoherent, PlayState, progress_of, step, step_cpu, step_consumer}
+use Rattle.dspec_core.specs.Words.{is_actor, is_idle, IsCoherent, PlayState, progress_of, step, step_cpu, step_consumer, EndedCall, IsPlayingAt, Playing, stepped}
+use Rattle.dspec_interleaving.proofs.PlayerMoves.{RunsOn, runs_on}
 use Rattle.dspec_interleaving.proofs.StepCounts.{Ends, StaysOn, step_ends}
 
 -- the fault of a step, by whether there is the actor and whether it is idle
@@ -43,17 +44,26 @@ ends_idle shape st now a x ok there busy is told = ⊎_elim
     (step_ends shape st a ok there busy)
 
 -- no step changes the configuration
-pub same_config : (shape : ℕ → Option Shape) (a : Actor) (st now : PlayState) → now ≡ (step shape a st).state → now.config ≡ st.config
-same_config shape (actor.Cpu c) st now is = ap (λ (s : PlayState). s.config) is ∙ of_cpu (progress_of st.progresses c).flight
+pub step_config : (shape : ℕ → Option Shape) (a : Actor) (st : PlayState) → (step shape a st).state.config ≡ st.config
+step_config shape (actor.Cpu c) st = of_cpu (progress_of st.progresses c).flight
   where
     of_cpu : (f : Option CallPlace) → (step_cpu shape c st f).state.config ≡ st.config
     of_cpu None = refl
     of_cpu (Some f) = refl
-same_config shape actor.Consumer st now is = ap (λ (s : PlayState). s.config) is ∙ of_consumer st.side.flight
+step_config shape actor.Consumer st = of_consumer st.side.flight
   where
     of_consumer : (f : Option ConsumerFlight) → (step_consumer shape st f).state.config ≡ st.config
     of_consumer None = refl
     of_consumer (Some f) = refl
+
+-- one more step of a run
+pub more_runs : {S : Type 0} (shape_of : S → ℕ → Option Shape) (old schema : S) (a : Actor) (total done : ℕ) (st : PlayState) (before : List EndedCall) (now new : PlayState)
+    (answers after : List EndedCall) → schema ≡ old → done < total → fault (is_actor now.config a) (is_idle a now) ≡ None
+    → ((p : Playing) → IsPlayingAt now answers p → IsPlayingAt new after (stepped (shape_of schema) a p))
+    → RunsOn (shape_of old) a total done st before now answers → RunsOn (shape_of old) a total (done + 1) st before new after
+more_runs shape_of old schema a total done st before now new answers after same lt may next runs =
+    runs_on (shape_of old) a total done st before now new answers after lt (busy_there a now may)
+    (subst (λ s. (p : Playing) → IsPlayingAt now answers p → IsPlayingAt new after (stepped (shape_of s) a p)) same next) runs
 
 -- what holds behind what wasn't refused
 pub not_refused : {T E P : Type 0} (r : Result T E) → is_err r ≡ false → OnOk r P → P

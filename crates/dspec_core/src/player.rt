@@ -53,6 +53,7 @@ fn most_steps(config: &Config, actor: Actor) -> u32
 }
 
 // One atomic step of an actor, and whether it was its call's last; a call that ends is put down.
+#[tactic(auto, using(crate::proofs::PlayerSteps::step_config))]
 fn step_actor<S: Schema, B: TraceBuffer<S>, O: Onlooker<S, B>>(
     world: &mut World<S, B>,
     answers: &mut Series<(Actor, Op, Answer)>,

@@ -242,7 +242,32 @@ fn tell_consumer_name(text: &mut String, op: ConsumerOp) -> Result<(), AllocErro
     text.push_str(": ")
 }
 
-/// The CPU's call and its next step; nothing where none is in flight.
+/// The CPU's call; nothing where none is in flight.
+fn tell_cpu_call<S: Schema, B: TraceBuffer<S>>(
+    text: &mut String,
+    world: &World<S, B>,
+    cpu: u32,
+) -> Result<(), AllocError>
+    requires { cpu < world.now.state.config.cpus }
+{
+    match world.progress(cpu).flight {
+        None => Ok(()),
+        Some(flight) => tell_cpu_name(text, flight.op()),
+    }
+}
+
+/// The consumer's call; nothing where none is in flight.
+fn tell_consumer_call<S: Schema, B: TraceBuffer<S>>(
+    text: &mut String,
+    world: &World<S, B>,
+) -> Result<(), AllocError> {
+    match world.consumer().flight {
+        None => Ok(()),
+        Some(flight) => tell_consumer_name(text, flight.op()),
+    }
+}
+
+/// The next step of the CPU; nothing where no call is in flight.
 fn tell_cpu_step<S: Schema, B: TraceBuffer<S>>(
     text: &mut String,
     world: &World<S, B>,
@@ -253,14 +278,11 @@ fn tell_cpu_step<S: Schema, B: TraceBuffer<S>>(
 {
     match world.progress(cpu).flight {
         None => Ok(()),
-        Some(flight) => {
-            tell_cpu_name(text, flight.op())?;
-            tell_cpu(text, world, cpu, flight)
-        }
+        Some(flight) => tell_cpu(text, world, cpu, flight),
     }
 }
 
-/// The consumer's call and its next step; nothing where none is in flight.
+/// The next step of the consumer; nothing where no call is in flight.
 fn tell_consumer_step<S: Schema, B: TraceBuffer<S>>(
     text: &mut String,
     world: &World<S, B>,
@@ -269,10 +291,7 @@ fn tell_consumer_step<S: Schema, B: TraceBuffer<S>>(
 {
     match world.consumer().flight {
         None => Ok(()),
-        Some(flight) => {
-            tell_consumer_name(text, flight.op())?;
-            tell_consumer(text, world, flight)
-        }
+        Some(flight) => tell_consumer(text, world, flight),
     }
 }
 
@@ -286,7 +305,13 @@ pub(crate) fn tell_step<S: Schema, B: TraceBuffer<S>>(
     requires exists { is_actor world.now.state.config actor ≡ true }
 {
     match actor {
-        Actor::Cpu(cpu) => tell_cpu_step(text, world, cpu),
-        Actor::Consumer => tell_consumer_step(text, world),
+        Actor::Cpu(cpu) => {
+            tell_cpu_call(text, world, cpu)?;
+            tell_cpu_step(text, world, cpu)
+        }
+        Actor::Consumer => {
+            tell_consumer_call(text, world)?;
+            tell_consumer_step(text, world)
+        }
     }
 }

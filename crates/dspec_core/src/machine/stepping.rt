@@ -1,6 +1,5 @@
 ghost use Rattle.std.specs.Prelude.{◌≡◌, ◌<◌, ◌^◌, Some, IfOk, OnErr};
 ghost use Rattle.dspec_deeds.specs.declared.calls.Actor.TheVariants as actor;
-ghost use Rattle.dspec_interleaving.specs.declared.flight.ConsumerFlight.TheVariants as consumer;
 ghost use Rattle.dspec_interleaving.specs.Coherent.{progress_of};
 ghost use Rattle.dspec_core.specs.Machines.{IsShownMachine, state_of};
 ghost use Rattle.dspec_core.specs.Steps.{ConsumerStepsAs, state_with};
@@ -56,22 +55,6 @@ impl<S: Schema, B: TraceBuffer<S>> Machine<S, B> {
         Ok(answer)
     }
 
-    // The first step of the consumer's call.
-    fn step_consumer_begun(&mut self, op: ConsumerOp) -> Result<Option<Answer>, AllocError>
-        requires kept { WorldInvariant B.has B.capacity S.shape_of S.accepted self.old }
-        requires flight { self.old.consumer.flight ≡ Some (consumer.Begun op) }
-        ensures cleans { IfOk result (λ answer. ConsumerStepsAs B.has B.capacity self.old self.new (consumer.Begun op) answer) }
-        ensures refused { OnErr result (self.new ≡ self.old) }
-    {
-        match op {
-            ConsumerOp::Ask(cpu) => Ok(self.step_ask(cpu)),
-            ConsumerOp::Take(cpu) => self.step_take(cpu),
-            ConsumerOp::GiveBack(cpu) => Ok(self.step_give_back(cpu)),
-            ConsumerOp::Clean => Ok(self.step_clean()),
-            ConsumerOp::Stop => self.step_stop(),
-        }
-    }
-
     // The next step of the consumer's call.
     fn step_consumer_flight(&mut self, flight: ConsumerFlight) -> Result<Option<Answer>, AllocError>
         requires kept { WorldInvariant B.has B.capacity S.shape_of S.accepted self.old }
@@ -80,7 +63,13 @@ impl<S: Schema, B: TraceBuffer<S>> Machine<S, B> {
         ensures refused { OnErr result (self.new ≡ self.old) }
     {
         match flight {
-            ConsumerFlight::Begun(op) => self.step_consumer_begun(op),
+            ConsumerFlight::Begun(op) => match op {
+                ConsumerOp::Ask(cpu) => Ok(self.step_ask(cpu)),
+                ConsumerOp::Take(cpu) => self.step_take(cpu),
+                ConsumerOp::GiveBack(cpu) => Ok(self.step_give_back(cpu)),
+                ConsumerOp::Clean => Ok(self.step_clean()),
+                ConsumerOp::Stop => self.step_stop(),
+            },
             ConsumerFlight::CleanLoad(slot, released) => Ok(self.step_clean_load(slot, released)),
             ConsumerFlight::CleanAck(slot, word, cpu, released) => {
                 Ok(self.step_clean_ack(slot, word, cpu, released))

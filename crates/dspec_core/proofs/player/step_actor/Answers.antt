@@ -1,20 +1,8 @@
 use Rattle.std.proofs.Common.{sym, ap, ◌∙◌, ◌++◌, ◌∷◌, [], Some}
 use Rattle.dspec_deeds.specs.declared.calls.Op.{Op}
 use Rattle.dspec_interleaving.proofs.PlayerMoves.{step_at}
-use Rattle.dspec_core.proofs.PlayerSteps.{ends_idle, not_refused, same_config}
+use Rattle.dspec_core.proofs.PlayerSteps.{ends_idle, not_refused}
 use Rattle.dspec_core.proofs.player.step_actor.Goals as goal
-
-pub returns-then-is_err-2-clause-config : goal.returns-then-is_err-2-clause-config
-returns-then-is_err-2-clause-config g c = let w = c.args.world.now in same_config (g.S.Schema.shape_of w.schema) c.args.actor w.state _ (ap (λ (s : _). s.state) c.in-Ok.ensures.state)
-
-pub returns-in_default-answer-clause-config : goal.returns-in_default-answer-clause-config
-returns-in_default-answer-clause-config g c = let w = c.args.world.now in same_config (g.S.Schema.shape_of w.schema) c.args.actor w.state _ (ap (λ (s : _). s.state) c.in-Ok.ensures.state)
-
-pub returns-then-is_err-3-clause-config : goal.returns-then-is_err-3-clause-config
-returns-then-is_err-3-clause-config g c = let w = c.args.world.now in same_config (g.S.Schema.shape_of w.schema) c.args.actor w.state _ (ap (λ (s : _). s.state) c.in-Ok.ensures.state)
-
-pub returns-clause-config : goal.returns-clause-config
-returns-clause-config g c = let w = c.args.world.now in same_config (g.S.Schema.shape_of w.schema) c.args.actor w.state _ (ap (λ (s : _). s.state) c.in-Ok.ensures.state)
 
 pub returns-clause-ended : goal.returns-clause-ended
 returns-clause-ended g c = λ ended.
