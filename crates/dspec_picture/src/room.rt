@@ -63,7 +63,8 @@ fn room_of_cpu<S: Schema, B: TraceBuffer<S>>(world: &World<S, B>, cpu: u32) -> C
     requires promised { HasHeadline (S.shape_of world.now.schema) world.now.state }
     requires cpu { cpu < world.now.state.config.cpus }
 {
-    let held = match world.progress(cpu).flight {
+    let flight = world.progress(cpu).flight;
+    let held = match flight {
         None => 0,
         Some(flight) => aim_bytes(world, cpu, flight),
     };

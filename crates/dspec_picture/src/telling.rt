@@ -1,9 +1,8 @@
 //! What the next step of a call in flight does, in words, as the world shows it.
 ghost use Rattle.std.specs.Prelude.{◌≡◌, ◌<◌, true};
 ghost use Rattle.dspec_interleaving.specs.Calls.{is_about, is_actor};
-ghost use Rattle.dspec_interleaving.specs.Coherent.{IsSlot};
 ghost use Rattle.dspec_interleaving.specs.Promised.{HasHeadline};
-ghost use Rattle.dspec_picture.specs.Tellable.{CanBeTold, ConsumerCanBeTold};
+ghost use Rattle.dspec_picture.specs.Tellable.{CanBeTold, ConsumerCanBeTold, IsNamedSlot};
 
 use crate::showing::{ack, attempted, is_marked, word_at};
 use crate::words::{tell_about, tell_exchange, tell_load};
@@ -21,7 +20,7 @@ fn tell_slot<S: Schema, B: TraceBuffer<S>>(
     world: &World<S, B>,
     slot: u32,
 ) -> Result<(), AllocError>
-    requires slot { IsSlot world.now.state.config slot }
+    requires slot { IsNamedSlot world.now.state.config slot }
 {
     tell_load(text, slot, word_at(world, slot))
 }
@@ -34,7 +33,7 @@ fn tell_try<S: Schema, B: TraceBuffer<S>>(
     from: Word,
     act: Act,
 ) -> Result<(), AllocError>
-    requires slot { IsSlot world.now.state.config slot }
+    requires slot { IsNamedSlot world.now.state.config slot }
 {
     tell_exchange(text, slot, from, attempted(act, from), word_at(world, slot))
 }
@@ -67,7 +66,7 @@ fn tell_service<S: Schema, B: TraceBuffer<S>>(
     cpu: u32,
 ) -> Result<(), AllocError>
     requires cpu { cpu < world.now.state.config.cpus }
-    requires slot { IsSlot world.now.state.config 1 }
+    requires slot { IsNamedSlot world.now.state.config 1 }
 {
     match world.config().policy {
         Policy::Fill => tell_slot(text, world, 1),
@@ -83,7 +82,7 @@ fn tell_begun<S: Schema, B: TraceBuffer<S>>(
     op: CpuOp,
 ) -> Result<(), AllocError>
     requires cpu { cpu < world.now.state.config.cpus }
-    requires slot { IsSlot world.now.state.config 1 }
+    requires slot { IsNamedSlot world.now.state.config 1 }
 {
     if matches!(op, CpuOp::Service) {
         return tell_service(text, world, cpu);
@@ -164,7 +163,7 @@ fn tell_consumer_begun<S: Schema, B: TraceBuffer<S>>(
     op: ConsumerOp,
 ) -> Result<(), AllocError>
     requires about { is_about world.now.state.config op ≡ true }
-    requires slot { IsSlot world.now.state.config 1 }
+    requires slot { IsNamedSlot world.now.state.config 1 }
 {
     match op {
         ConsumerOp::Ask(cpu) => write!(text, "stores the ask of cpu {cpu}"),
@@ -250,7 +249,8 @@ fn tell_cpu_call<S: Schema, B: TraceBuffer<S>>(
 ) -> Result<(), AllocError>
     requires { cpu < world.now.state.config.cpus }
 {
-    match world.progress(cpu).flight {
+    let flight = world.progress(cpu).flight;
+    match flight {
         None => Ok(()),
         Some(flight) => tell_cpu_name(text, flight.op()),
     }
@@ -261,7 +261,8 @@ fn tell_consumer_call<S: Schema, B: TraceBuffer<S>>(
     text: &mut String,
     world: &World<S, B>,
 ) -> Result<(), AllocError> {
-    match world.consumer().flight {
+    let flight = world.consumer().flight;
+    match flight {
         None => Ok(()),
         Some(flight) => tell_consumer_name(text, flight.op()),
     }
@@ -276,7 +277,8 @@ fn tell_cpu_step<S: Schema, B: TraceBuffer<S>>(
     requires promised { HasHeadline (S.shape_of world.now.schema) world.now.state }
     requires cpu { cpu < world.now.state.config.cpus }
 {
-    match world.progress(cpu).flight {
+    let flight = world.progress(cpu).flight;
+    match flight {
         None => Ok(()),
         Some(flight) => tell_cpu(text, world, cpu, flight),
     }
@@ -289,7 +291,8 @@ fn tell_consumer_step<S: Schema, B: TraceBuffer<S>>(
 ) -> Result<(), AllocError>
     requires { HasHeadline (S.shape_of world.now.schema) world.now.state }
 {
-    match world.consumer().flight {
+    let flight = world.consumer().flight;
+    match flight {
         None => Ok(()),
         Some(flight) => tell_consumer(text, world, flight),
     }

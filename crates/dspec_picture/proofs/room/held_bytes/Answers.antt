@@ -1,8 +1,8 @@
 use Rattle.std.proofs.Common.{arith}
 use Rattle.dspec_picture.proofs.room.held_bytes.Goals as goal
 
-pub index-requires-then-is_marked : goal.index-requires-then-is_marked
-index-requires-then-is_marked g c =
+pub index-requires : goal.index-requires
+index-requires g c =
     let count = c.side.ensures.parts.buffer_count in
     let low = c.requires.slot.0 in
     let high = c.requires.slot.1 in

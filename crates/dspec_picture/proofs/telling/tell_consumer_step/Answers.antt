@@ -8,5 +8,5 @@ tell_consumer-requires g c =
     let w = c.args.world.now in
     record {
       told = consumer_can_be_told (g.S.Schema.shape_of w.schema) w.state c.requires.coherent c.in-Some.flight
-          (ap (λ (side : ConsumerProgress). side.flight) (sym c.consumer.ensures.value) ∙ c.in-Some.is) (c.consumer.ensures.about c.in-Some.flight c.in-Some.is);
+          (ap (λ (side : ConsumerProgress). side.flight) (sym c.consumer-flight.ensures.value) ∙ c.in-Some.is) (c.consumer-flight.ensures.about c.in-Some.flight c.in-Some.is);
     }

@@ -7,4 +7,4 @@ pub tell_cpu-requires-clause-told : goal.tell_cpu-requires-clause-told
 tell_cpu-requires-clause-told g c =
     let w = c.args.world.now in
     cpu_can_be_told (g.S.Schema.shape_of w.schema) w.state c.requires.promised.coherent c.args.cpu c.in-Some.flight c.requires.cpu
-    (ap (λ (me : CpuProgress). me.flight) (sym c.progress.ensures) ∙ c.in-Some.is)
+    (ap (λ (me : CpuProgress). me.flight) (sym c.progress-flight.ensures) ∙ c.in-Some.is)
