@@ -153,6 +153,7 @@ impl<S: Schema, B: TraceBuffer<S>> World<S, B> {
         ensures memory { IfErr result (λ fault. fault ≡ refusal.Memory → idle_step_fault actor self.old.state ≡ None) }
         ensures unchanged { OnErr result (self.new ≡ self.old) }
     {
+        // looked at, the machine shows what is promised where no step is made
         let _machine = &self.machine;
         let _call = self.call(actor)?;
         match self.advance(actor) {

@@ -67,10 +67,10 @@ impl<S: Schema, B: TraceBuffer<S>> Machine<S, B> {
                 ConsumerOp::Ask(cpu) => Ok(self.step_ask(cpu)),
                 ConsumerOp::Take(cpu) => self.step_take(cpu),
                 ConsumerOp::GiveBack(cpu) => Ok(self.step_give_back(cpu)),
-                ConsumerOp::Clean => Ok(self.step_clean()),
+                ConsumerOp::Clean => Ok(self.load_slot(1, 0)),
                 ConsumerOp::Stop => self.step_stop(),
             },
-            ConsumerFlight::CleanLoad(slot, released) => Ok(self.step_clean_load(slot, released)),
+            ConsumerFlight::CleanLoad(slot, released) => Ok(self.load_slot(slot, released)),
             ConsumerFlight::CleanAck(slot, word, cpu, released) => {
                 Ok(self.step_clean_ack(slot, word, cpu, released))
             }

@@ -30,8 +30,7 @@ pub returns-clause-reports : goal.returns-clause-reports
 returns-clause-reports g c =
     let m = c.args.self in
     let n = c.close.new.self in
-    let shape = g.S.Schema.shape_of m.schema in
     let least = c.loop-cpu-test.false in
     let most = c.loop-cpu.auto.cpu-end in
     let all : c.loop-cpu.cpu ≡ n.config.cpus = omega (arith, least, most) in
-    reports_there m n (closing shape m.config (history m)) c.loop-cpu.reports c.loop-cpu.cpu c.in_ok-close.ensures.settled c.loop-cpu.invariant.1 all
+    reports_there m n (closing (g.S.Schema.shape_of m.schema) m.config (history m)) c.loop-cpu.reports c.loop-cpu.cpu c.in_ok-close.ensures.settled c.loop-cpu.invariant.1 all

@@ -32,9 +32,8 @@ measure-copies-requires g c =
 
 pub overflow_sub-slot : goal.overflow_sub-slot
 overflow_sub-slot g c =
-    let slot = place_aimed c.requires.kept c.args.cpu c.requires.cpu c.args.place.now c.requires.flight c.aim-id.result c.aim-id.ensures in
     let named = c.slot.ensures.value in
-    let low = slot.0 in
+    let low = (place_aimed c.requires.kept c.args.cpu c.requires.cpu c.args.place.now c.requires.flight c.aim-id.result c.aim-id.ensures).0 in
     omega arith
 
 pub index-word-requires : goal.index-word-requires
@@ -58,7 +57,6 @@ returns g c =
     let has = g.B.TraceBuffer.has in
     let capacity = g.B.TraceBuffer.capacity in
     let m = c.args.self.now in
-    let shape = g.S.Schema.shape_of m.schema in
     let a = c.args.cpu in
     let h = history m in
     let id = c.aim-id.result in
@@ -85,7 +83,7 @@ returns g c =
             let caller = caller_is _ _ m.config a h own.side shows.side id slot c.requires.cpu sound now' c.is_mine-mine.result tells in
             record {
               mine = among_is _ _ m.config a h own.side shows.side id slot c.requires.cpu sound now' c.is_mine-mine.result tells ∙ ap (λ j. is_among a (callers j h)) same;
-              copies = c.measure-copies.ensures.fits m.schema a h shows.side caller ∙ ap (fits_held shape m.config a h) same;
+              copies = c.measure-copies.ensures.fits m.schema a h shows.side caller ∙ ap (fits_held (g.S.Schema.shape_of m.schema) m.config a h) same;
               count = c.measure-copies.ensures.count m.schema a h shows.side caller ∙ ap (λ j. length (held a j h)) same;
             };
         missed = shows.side.parts.missed;

@@ -4,6 +4,5 @@ use Rattle.dspec_core.proofs.world.World.consumer.Goals as goal
 
 pub returns-clause-about : goal.returns-clause-about
 returns-clause-about g c =
-    let m = c.self.inside.machine in
-    let same : state_of m ≡ c.args.self.now.state = λ i. (c.self.view_is i).state in
+    let same : state_of c.self.inside.machine ≡ c.args.self.now.state = λ i. (c.self.view_is i).state in
     λ f is. subst (λ (st : PlayState). is_about st.config (consumer_op_of f) ≡ true) same (c.self.invariant.about f is)

@@ -5,6 +5,5 @@ use Rattle.dspec_core.proofs.world.World.is_stopped.Goals as goal
 
 pub returns : goal.returns
 returns g c =
-    let m = c.self.inside.machine in
-    let same : state_of m ≡ c.args.self.now.state = λ i. (c.self.view_is i).state in
+    let same : state_of c.self.inside.machine ≡ c.args.self.now.state = λ i. (c.self.view_is i).state in
     c.self.invariant.shown.active ∙ ap (λ (st : PlayState). halted st.deeds) same
