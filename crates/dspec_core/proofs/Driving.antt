@@ -1,17 +1,28 @@
 -- What a step's sight, its deeds and its CPU's progress make of a machine is the play's step.
-use Rattle.std.proofs.Common.{◌≡◌, ℕ, ◌<◌, Bool, true, List, ◌++◌, Option, Some, sym, ◌∙◌, subst}
+use Rattle.std.proofs.Common.{◌≡◌, ℕ, ◌<◌, Bool, true, List, ◌++◌, Option, Some, sym, ap, ◌∙◌, subst}
 use Rattle.std.specs.Prelude.{slice_set}
 use Rattle.dspec_record.specs.declared.field.Shape.{Shape}
-use Rattle.dspec_core.specs.Words.{Record, Piece, Speculation, HasAuthors, IsAllowed, IsSlot, progress_of, cpu_step, CpuStep, measured, StandsCpu, IsShownMachine, Machine, Adds, Makes, history}
-use Rattle.dspec_core.specs.Words.{state_of, WorldInvariant, IsSlotPlace, IsStep, MayCome, Move, Seen, TellsAt, TellsFit, aimed, entry_deeds, deeds_pass, moved_by}
+use Rattle.dspec_core.specs.Words.{Record, Piece, Speculation, HasAuthors, IsAllowed, IsSlot, progress_of, cpu_step, CpuStep, measured, StandsCpu, IsShownMachine, Machine, Adds, history, state_of}
+use Rattle.dspec_core.specs.Words.{WorldInvariant, IsSlotPlace, IsStep, MayCome, Move, Seen, TellsAt, TellsFit, aimed, entry_deeds, deeds_pass, moved_by, step, step_cpu}
+use Rattle.dspec_deeds.specs.declared.calls.Actor.TheVariants as actor
+use Rattle.dspec_deeds.specs.declared.calls.Answer.{Answer}
 use Rattle.dspec_interleaving.specs.declared.flight.CpuProgress.{CpuProgress}
 use Rattle.dspec_interleaving.specs.declared.flight.CallPlace.{CallPlace}
 use Rattle.dspec_deeds.proofs.SetUp.{set_up}
 use Rattle.dspec_interleaving.proofs.Coherence.{step_cpu_coherent}
 use Rattle.dspec_interleaving.proofs.StepReads.{flight_stands}
+use Rattle.dspec_core.proofs.Keepings.{made_kept}
 use Rattle.dspec_core.proofs.Makings.{step_made}
 use Rattle.dspec_core.proofs.Seeing.{aimed_slot, stands_inside, step_plays}
 use Rattle.dspec_core.proofs.StepRecords.{step_records}
+
+-- what a step of a CPU leaves, with that answer
+pub record LeftBy {S B : Type 0} (has : B → S → List Piece → Type 0) (capacity : B → ℕ) (shape_of : S → ℕ → Option Shape) (accepted : S → Record → Bool) (m left : Machine S B) (c : ℕ)
+    (answer : Option Answer) : Type 0 where
+  pub kept : WorldInvariant has capacity shape_of accepted left
+  pub state : state_of left ≡ (step (shape_of m.schema) (actor.Cpu c) (state_of m)).state
+  pub answered : answer ≡ (step (shape_of m.schema) (actor.Cpu c) (state_of m)).answer
+  pub schema : left.schema ≡ m.schema
 
 module _ {S B : Type 0} {has : B → S → List Piece → Type 0} {capacity : B → ℕ} {shape_of : S → ℕ → Option Shape} {accepted : S → Record → Bool} {m : Machine S B}
     (kept : WorldInvariant has capacity shape_of accepted m) (c : ℕ) (lt : c < m.config.cpus) (f : CallPlace) (flies : (progress_of (state_of m).progresses c).flight ≡ Some f) where
@@ -50,7 +61,15 @@ module _ {S B : Type 0} {has : B → S → List Piece → Type 0} {capacity : B 
         }
 
     -- and the machine that they and the progress leave is the play's
-    pub move_made : (n left : Machine S B) → Adds (entry_deeds c move.entry) m n → IsShownMachine has capacity left
+    pub move_leaves : (n left : Machine S B) → Adds (entry_deeds c move.entry) m n → IsShownMachine has capacity left
         → state_of left ≡ record (state_of n) { progresses = slice_set (state_of n).progresses c (moved_by move (progress_of (state_of n).progresses c)) } → left.schema ≡ n.schema
-        → Makes has capacity m left c (cpu_step (shape_of m.schema) m.config c (history m) (progress_of (state_of m).progresses c) f) move.answer
-    move_made n left adds shown state schema = step_made has capacity m n left c (entry_deeds c move.entry) (moved_by move) _ move.answer adds shown state schema moves
+        → LeftBy has capacity shape_of accepted m left c move.answer
+    move_leaves n left adds shown state schema =
+        let made = step_made has capacity m n left c (entry_deeds c move.entry) (moved_by move) _ move.answer adds shown state schema moves in
+        let steps = ap (step_cpu (shape_of m.schema) c (state_of m)) (sym flies) in
+        record {
+          kept = made_kept has capacity shape_of accepted m left c f move.answer kept lt flies made;
+          state = made.state ∙ (λ i. (steps i).state);
+          answered = made.answered ∙ (λ i. (steps i).answer);
+          schema = made.schema;
+        }

@@ -22,3 +22,4 @@ pub mod Settlings
 pub mod PromiseKept
 pub mod Collected
 pub mod Starts
+pub mod PlayerSteps

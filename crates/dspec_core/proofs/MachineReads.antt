@@ -1,11 +1,14 @@
 -- What a read of a machine's parts shows.
-use Rattle.std.proofs.Common.{ℕ, ◌≡◌, ◌-◌, ◌<◌, ◌≤◌, true, List, [], ◌∷◌, length, get_or, Some, refl, sym, arith}
+use Rattle.std.proofs.Common.{ℕ, ◌≡◌, ◌-◌, ◌<◌, ◌≤◌, true, List, [], ◌∷◌, length, get_or, Some, refl, sym, ap, ◌∙◌, arith}
 use Rattle.std.specs.Prelude.{slice_get}
 use Rattle.std.proofs.lemmas.Option.{slice_get_read}
 use Rattle.std.proofs.lemmas.Bool.Decides.{nat_tests}
-use Rattle.dspec_core.specs.Words.{Piece, Speculation, Machine, Cpu, ack, in_range, Offer, contents, IsSlot, ShowsCpu, IsShownMachine, history}
+use Rattle.dspec_core.specs.Words.{Piece, Speculation, Machine, Cpu, ack, in_range, Offer, contents, IsSlot, ShowsCpu, IsShownMachine, history, progress_of, state_of}
 use Rattle.dspec_deeds.specs.declared.config.Config.{Config}
+use Rattle.dspec_interleaving.specs.declared.flight.CpuProgress.{CpuProgress}
+use Rattle.dspec_interleaving.specs.declared.flight.CallPlace.{CallPlace}
 use Rattle.dspec_interleaving.proofs.CleanReads.{number_there}
+use Rattle.dspec_core.proofs.OneMore.{progress_there}
 
 pub slot_in_range : (k : Config) (id : Speculation) → in_range k id ≡ true → IsSlot k id.slot
 slot_in_range k id e = (grind (arith, nat_tests), grind (arith, nat_tests))
@@ -25,6 +28,11 @@ module _ {S B : Type 0} (has : B → S → List Piece → Type 0) (capacity : B 
   -- where what an index reads stands
   pub cpu_got : (c : ℕ) (own : Cpu B) → c < m.config.cpus → own ≡ get_or m.cpus.items c own → slice_get m.cpus.items c ≡ Some own
   cpu_got c own lt e = slice_get_read m.cpus.items m.config.cpus c own (sym shown.cpu_count) lt e
+
+  -- the call in flight of the progress there
+  pub flies : (c : ℕ) (own : Cpu B) (f : CallPlace) → c < m.config.cpus → own ≡ get_or m.cpus.items c own → own.progress.flight ≡ Some f
+      → (progress_of (state_of m).progresses c).flight ≡ Some f
+  flies c own f lt e is = ap (λ (me : CpuProgress). me.flight) (progress_there m.cpus.items c own (cpu_got c own lt e)) ∙ is
 
   -- and what it shows
   pub cpu_read : (c : ℕ) (own : Cpu B) → c < m.config.cpus → own ≡ get_or m.cpus.items c own → ShowsCpu has capacity m.schema m.config c (history m) own

@@ -95,11 +95,10 @@ module _ {S B : Type 0} (has : B → S → List Piece → Type 0) (capacity : B 
       → author d (history m) ≡ actor.Cpu c → halted (d ∷ history m) ≡ halted (history m) → ShowsWords m.config (d ∷ history m) ws.items → ShowsCpu has capacity m.schema m.config c (d ∷ history m) new
       → IsShownMachine has capacity (record m { deeds = ds; words = ws; cpus = with_item m.cpus c new })
   enters m ds ws d c new was lt is by runs words shows =
-      let count = was.cpu_count in
       shown_as _ (d ∷ history m) is record {
         words = words;
         active = was.active ∙ sym runs;
-        cpu_count = length-set m.cpus.items c _ ∙ count;
+        cpu_count = length-set m.cpus.items c _ ∙ was.cpu_count;
         cpus = cpus_set m.schema m.config (history m) m.cpus.items was.cpus d c new by (omega arith) shows;
       }
 

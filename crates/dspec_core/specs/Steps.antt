@@ -19,15 +19,6 @@ module _ {S B : Type 0} (m : Machine S B) where
   abbrev pub state_with : ℕ → (CpuProgress → CpuProgress) → PlayState
   state_with c change = record (state_of m) { progresses = slice_set (state_of m).progresses c (change (progress_at c)) }
 
-module _ {S B : Type 0} (shape_of : S → ℕ → Option Shape) (m : Machine S B) (c : ℕ) where
-  -- a CPU's step, as the play has it
-  abbrev pub step_at : CallPlace → CpuStep
-  step_at f = cpu_step (shape_of m.schema) m.config c (history m) (progress_at m c) f
-
--- the step of a CPU whose call is at that place makes this of a machine, with that answer
-abbrev pub StepsAs : {S B : Type 0} → (B → S → List Piece → Type 0) → (B → ℕ) → (S → ℕ → Option Shape) → Machine S B → Machine S B → ℕ → CallPlace → Option Answer → Type 0
-StepsAs has capacity shape_of m n c f answer = Makes has capacity m n c (step_at shape_of m c f) answer
-
 -- a take of a CPU's batch, by where its second buffer is
 abbrev pub takes_batch : {S B : Type 0} → Machine S B → ℕ → Spare → ConsumerStep
 takes_batch m c place = takes_at m.config (history m) m.consumer (state_of m).progresses c (progress_at m c) place

@@ -11,7 +11,7 @@
 //! | File | What is in it |
 //! |---|---|
 //! | `world.rt` | `World`, the public session, over any schema and buffer |
-//! | `player.rt`, `actor.rt` | `play`, over lists; whether there is an actor |
+//! | `player.rt`, `onlooker.rt` | `play`, over lists; `Onlooker`, who is shown a play step by step |
 //! | `machine.rt`, `machine/cpu.rt` | `Machine`, the state behind a world; `Cpu`: the call in flight, the side, the second principal buffer, the stream and what was taken. `enter_record` and `enter_block` take the room of a deed first |
 //! | `machine/`: `seen.rt`, `measuring.rt`, `showing.rt` | what a step sees, and what it makes of its CPU; how that is read off the machine |
 //! | `machine/`: `table.rt` | the one table of steps: what a step makes of what it sees |
@@ -22,11 +22,11 @@
 //! | `specs/`: Worlds, Table, Steps, Decisions, WorldViews | `WorldInvariant`, with `IsWithin` and what deeds may come; the table by what is seen; the steps; decisions; what a world keeps |
 //! | `proofs/`, of a CPU | KeptCpus (behind its own deed, another's, a release, a slot given out, a seal, a worn call), OwnSlots, OwnBlocks, DecidedCpus, Rooms, Within, Batches, WordsShown, OneMore, SlotReads |
 //! | `proofs/`, of a step | Seeing, StepRecords, Entries, Driving |
-//! | `proofs/`, of a machine and a world | Makings, CleanMakings, MachineReads, SoloDiscards, TakenBatches; Starts, Keepings, PromiseKept, Settlings, Collected |
+//! | `proofs/`, of a machine, a world and the player | Makings, CleanMakings, MachineReads, SoloDiscards, TakenBatches; Starts, Keepings, PromiseKept, Settlings, Collected; PlayerSteps |
 #![tactic(auto)]
 
-mod actor;
-pub mod machine;
+mod machine;
+mod onlooker;
 mod player;
 mod world;
 
@@ -43,5 +43,6 @@ pub use dspec_interleaving::{
     close_is_legal, schedule_answers, schedule_legality, solo_rule, whole_calls, whole_plays,
     whole_release, worn_rule, woven_close,
 };
-pub use player::play;
+pub use onlooker::Onlooker;
+pub use player::{play, play_shown};
 pub use world::World;

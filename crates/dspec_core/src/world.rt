@@ -1,10 +1,11 @@
 ghost use Rattle.std.specs.Prelude.{◌≡◌, ◌≢◌, ◌<◌, ◌+◌, ℕ, true, false, None, Some, IfOk, IfErr, OnOk, OnErr, reverse};
 ghost use Rattle.dspec_deeds.specs.declared.calls.Actor.{Actor};
 ghost use Rattle.dspec_deeds.specs.declared.config.StartFault.TheVariants as start;
+ghost use Rattle.dspec_interleaving.specs.declared.flight.ConsumerFlight.{ConsumerFlight};
 ghost use Rattle.dspec_interleaving.specs.declared.refusal.StepFault.TheVariants as refusal;
 ghost use Rattle.dspec_interleaving.specs.declared.refusal.Stepped.TheVariants as stepped;
 ghost use Rattle.dspec_interleaving.specs.Bounds.{steps_limit};
-ghost use Rattle.dspec_interleaving.specs.Calls.{begin_consumer_fault, begin_cpu_fault, call_of, idle_step_fault, is_about, is_actor, is_idle, record_passes, steps_of, told_step};
+ghost use Rattle.dspec_interleaving.specs.Calls.{begin_consumer_fault, begin_cpu_fault, call_of, consumer_op_of, idle_step_fault, is_about, is_actor, is_idle, record_passes, steps_of, told_step};
 ghost use Rattle.dspec_deeds.specs.Closes.{reports, streams, closing};
 ghost use Rattle.dspec_interleaving.specs.Coherent.{progress_of};
 ghost use Rattle.dspec_deeds.specs.Headline.{Headline};
@@ -18,12 +19,11 @@ ghost use Rattle.dspec_core.specs.Shown.{ShowsWords};
 ghost use Rattle.dspec_cpu_state.specs.CpuStates.{ShowsList};
 ghost use Rattle.dspec_interleaving.specs.Turns.{at_start, begin_consumer, begin_cpu, step};
 
-use crate::actor::is_actor;
 use crate::machine::Machine;
 use dspec_buffer::TraceBuffer;
 use dspec_cpu_state::CpuState;
 use dspec_deeds::{Actor, Answer, Config, ConsumerOp, CpuOp, Deed, Op, Report, StartFault};
-use dspec_interleaving::{BeginFault, Close, StepFault, Stepped};
+use dspec_interleaving::{BeginFault, Close, ConsumerProgress, CpuProgress, StepFault, Stepped};
 use dspec_record::{Rec, Schema};
 use dspec_word::Word;
 use std::alloc::{AllocError, Global};
@@ -153,12 +153,9 @@ impl<S: Schema, B: TraceBuffer<S>> World<S, B> {
         ensures memory { IfErr result (λ fault. fault ≡ refusal.Memory → idle_step_fault actor self.old.state ≡ None) }
         ensures unchanged { OnErr result (self.new ≡ self.old) }
     {
-        if !self.exists(actor) {
-            return Err(StepFault::NoSuchActor);
-        }
-        if self.is_idle(actor) {
-            return Err(StepFault::IdleStep);
-        }
+        // looked at, the machine shows what is promised where no step is made
+        let _machine = &self.machine;
+        let _call = self.call(actor)?;
         match self.advance(actor) {
             Err(_) => Err(StepFault::Memory),
             Ok(None) => Ok(Stepped::Going),
@@ -166,16 +163,8 @@ impl<S: Schema, B: TraceBuffer<S>> World<S, B> {
         }
     }
 
-    // Whether there is that actor.
-    fn exists(&self, actor: Actor) -> bool
-        ensures there { result ≡ is_actor self.now.state.config actor }
-        ensures promised { HasHeadline (S.shape_of self.now.schema) self.now.state }
-    {
-        is_actor(&self.machine.config, actor)
-    }
-
     // One atomic step of the actor's call in flight, with the answer where it is the call's last.
-    fn advance(&mut self, actor: Actor) -> Result<Option<Answer>, AllocError>
+    pub(crate) fn advance(&mut self, actor: Actor) -> Result<Option<Answer>, AllocError>
         requires actor { is_actor self.old.state.config actor ≡ true }
         requires busy { is_idle actor self.old.state ≡ false }
         ensures state { IfOk result (λ _. self.new ≡ record self.old { state = (step (S.shape_of self.old.schema) actor self.old.state).state }) }
@@ -201,23 +190,28 @@ impl<S: Schema, B: TraceBuffer<S>> World<S, B> {
         }
     }
 
-    // The actor's call in flight.
-    pub(crate) fn call(&self, actor: Actor) -> Op
-        requires actor { is_actor self.now.state.config actor ≡ true }
-        requires busy { is_idle actor self.now.state ≡ false }
-        ensures { result ≡ call_of actor self.now.state }
+    // The actor's call in flight, or why it can make no step.
+    pub(crate) fn call(&self, actor: Actor) -> Result<Op, StepFault>
+        ensures called { IfOk result (λ call. call ≡ call_of actor self.now.state) }
+        ensures there { OnOk result (is_actor self.now.state.config actor ≡ true) }
+        ensures busy { OnOk result (is_idle actor self.now.state ≡ false) }
+        ensures refused { IfErr result (λ fault. idle_step_fault actor self.now.state ≡ Some fault) }
+        ensures limited { IfErr result (λ fault. fault ≢ refusal.Memory) }
     {
         match actor {
             Actor::Cpu(cpu) => {
-                let flight = self.machine.cpus[cpu as usize].progress.flight;
-                let Some(flight) = flight else { unreachable!() };
-                Op::Cpu(flight.op())
+                if cpu >= self.machine.config.cpus {
+                    return Err(StepFault::NoSuchActor);
+                }
+                match self.machine.cpus[cpu as usize].progress.flight {
+                    None => Err(StepFault::IdleStep),
+                    Some(flight) => Ok(Op::Cpu(flight.op())),
+                }
             }
-            Actor::Consumer => {
-                let flight = self.machine.consumer.flight;
-                let Some(flight) = flight else { unreachable!() };
-                Op::Consumer(flight.op())
-            }
+            Actor::Consumer => match self.machine.consumer.flight {
+                None => Err(StepFault::IdleStep),
+                Some(flight) => Ok(Op::Consumer(flight.op())),
+            },
         }
     }
 
@@ -232,6 +226,36 @@ impl<S: Schema, B: TraceBuffer<S>> World<S, B> {
             Actor::Cpu(cpu) => self.machine.cpus[cpu as usize].progress.steps,
             Actor::Consumer => self.machine.consumer.steps,
         }
+    }
+
+    /// What the session was set up with.
+    pub fn config(&self) -> &Config
+        ensures { result.now ≡ self.now.state.config }
+    {
+        &self.machine.config
+    }
+
+    /// Which records there are, and of which bytes.
+    pub fn schema(&self) -> &S
+        ensures { result.now ≡ self.now.schema }
+    {
+        &self.machine.schema
+    }
+
+    /// The CPU's progress in its calls. Condition: the CPU exists.
+    pub fn progress(&self, cpu: u32) -> CpuProgress
+        requires { cpu < self.now.state.config.cpus }
+        ensures { result ≡ progress_of self.now.state.progresses cpu }
+    {
+        self.machine.cpus[cpu as usize].progress
+    }
+
+    /// The consumer's progress; the CPU that its call is about exists.
+    pub fn consumer(&self) -> ConsumerProgress
+        ensures value { result ≡ self.now.state.side }
+        ensures about { (flight : ConsumerFlight) → result.flight ≡ Some flight → is_about self.now.state.config (consumer_op_of flight) ≡ true }
+    {
+        self.machine.consumer
     }
 
     /// The deeds so far, in order of time.

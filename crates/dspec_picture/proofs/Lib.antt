@@ -1,3 +1,2 @@
 pub mod Rows
 pub mod Tellable
-pub mod Runs

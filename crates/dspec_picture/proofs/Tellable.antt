@@ -1,9 +1,9 @@
--- A call in flight of a machine that is kept can be told.
-use Rattle.std.proofs.Common.{◌≡◌, ℕ, suc, ◌<◌, ◌≤◌, ◌^◌, Bool, true, false, true≢false, List, [], ◌∷◌, Option, Some, None, refl, sym, ap, ◌∙◌, subst, ⊎_elim, inl, inr, arith}
+-- A call in flight of a coherent play can be told.
+use Rattle.std.proofs.Common.{◌≡◌, ℕ, suc, ◌<◌, ◌≤◌, ◌^◌, true, false, true≢false, List, [], ◌∷◌, Option, Some, None, refl, sym, ap, ◌∙◌, subst, ⊎_elim, inl, inr, arith}
 use Rattle.dspec_record.specs.declared.field.Shape.{Shape}
-use Rattle.dspec_picture.specs.Words.{Record, Piece, code_number, is_inactive, Speculation, SlotState, word_number, CanBeReleased, start_fault, issue, is_undecided, present, releases, verdict}
-use Rattle.dspec_picture.specs.Words.{word_at, IsSound, Follows, consumer_op_of, is_about, Expects, StandsConsumer, StandsCpu, progress_of, history, state_of, WorldInvariant, CanBeTold}
-use Rattle.dspec_picture.specs.Words.{ConsumerCanBeTold, IsTellable}
+use Rattle.dspec_picture.specs.Words.{code_number, is_inactive, Speculation, SlotState, word_number, CanBeReleased, start_fault, issue, is_undecided, present, releases, verdict, word_at, IsSound}
+use Rattle.dspec_picture.specs.Words.{Follows, consumer_op_of, is_about, Expects, StandsConsumer, StandsCpu, progress_of, PlayState, CanBeTold, ConsumerCanBeTold, IsCoherent, IsNamedSlot, IsSlot}
+use Rattle.dspec_picture.specs.Words.{in_range}
 use Rattle.dspec_word.specs.declared.act.Act.{Act}
 use Rattle.dspec_word.specs.declared.code.Code.{Code}
 use Rattle.dspec_word.specs.declared.code.Code.TheVariants.{Inactive, Active, ActiveOne, ActiveMany, Committing, CommittingMany, Discarding}
@@ -24,7 +24,6 @@ use Rattle.dspec_interleaving.specs.declared.flight.CallPlace.TheVariants as cpu
 use Rattle.dspec_interleaving.proofs.CleanReads.{clean_stands}
 use Rattle.dspec_interleaving.proofs.Counts.{issue_below, issues_fit}
 use Rattle.dspec_interleaving.proofs.StepReads.{can_be_released, flight_stands, slots_fit}
-use Rattle.dspec_core.specs.declared.machine.Machine.{Machine}
 use Rattle.dspec_core.proofs.MachineReads.{slot_in_range}
 
 -- what is released was decided
@@ -84,41 +83,40 @@ module _ (k : Config) (h : List Deed) (ranges : start_fault k ≡ None) (sound :
       let within = most_releases k id.slot h sound in
       expected from (word_at id.slot h) expects.rises (omega arith) (can_be_released k id.slot h ranges sound)
 
+  named : (s : ℕ) → IsSlot k s → IsNamedSlot k s
+  named s slot = let fit = slots_fit k ranges in let most = slot.1 in (slot, omega arith)
+
+  in_range_named : (id : Speculation) → in_range k id ≡ true → IsNamedSlot k id.slot
+  in_range_named id e = named id.slot (slot_in_range k id e)
+
+  first : IsNamedSlot k 1
+  first = named 1 (omega arith, (set_up k ranges).1)
+
   cpu_told : (c : ℕ) (me : CpuProgress) (f : CallPlace) → StandsCpu k c h me f → CanBeTold k f
-  cpu_told c me (cpu.Begun o) at = tt
-  cpu_told c me (cpu.ScanLoad s) at = at.0
-  cpu_told c me (cpu.ScanTry s from) at = (at.0, inactive_can from (open_inactive from at.3.0 k.max_issues at.3.1))
-  cpu_told c me (cpu.SpeculateLoad id r) at = slot_in_range k id at.0.in_range
-  cpu_told c me (cpu.SpeculateTry id r from) at = (slot_in_range k id at.0.in_range, tried id from _ at.1)
-  cpu_told c me (cpu.CommitLoad id) at = slot_in_range k id at.0.in_range
-  cpu_told c me (cpu.CommitTry id from) at = (slot_in_range k id at.0.in_range, tried id from _ at.1)
+  cpu_told c me (cpu.Begun o) at = first
+  cpu_told c me (cpu.ScanLoad s) at = named s at.0
+  cpu_told c me (cpu.ScanTry s from) at = (named s at.0, inactive_can from (open_inactive from at.3.0 k.max_issues at.3.1))
+  cpu_told c me (cpu.SpeculateLoad id r) at = in_range_named id at.0.in_range
+  cpu_told c me (cpu.SpeculateTry id r from) at = (in_range_named id at.0.in_range, tried id from _ at.1)
+  cpu_told c me (cpu.CommitLoad id) at = in_range_named id at.0.in_range
+  cpu_told c me (cpu.CommitTry id from) at = (in_range_named id at.0.in_range, tried id from _ at.1)
   cpu_told c me (cpu.CommitRelease id f) at = tt
-  cpu_told c me (cpu.DiscardLoad id) at = slot_in_range k id at.0.in_range
-  cpu_told c me (cpu.DiscardTry id from) at = (slot_in_range k id at.0.in_range, tried id from _ at.1)
+  cpu_told c me (cpu.DiscardLoad id) at = in_range_named id at.0.in_range
+  cpu_told c me (cpu.DiscardTry id from) at = (in_range_named id at.0.in_range, tried id from _ at.1)
   cpu_told c me cpu.ServicePop at = tt
   cpu_told c me cpu.ServicePush at = tt
-  cpu_told c me (cpu.ServiceLoad s sum) at = at.0
-  cpu_told c me (cpu.ServiceStore s w sum) at = at.0
+  cpu_told c me (cpu.ServiceLoad s sum) at = named s at.0
+  cpu_told c me (cpu.ServiceStore s w sum) at = named s at.0
 
   consumer_told : (side : ConsumerProgress) (f : ConsumerFlight) → is_about k (consumer_op_of f) ≡ true → StandsConsumer k h side f → ConsumerCanBeTold k f
-  consumer_told side (consumer.Begun o) about at = about
-  consumer_told side (consumer.CleanLoad s n) about at = at.0
-  consumer_told side (consumer.CleanAck s w c n) about at = (at.0, at.2)
-  consumer_told side (consumer.CleanReap s w n) about at = (at.0, subst CanBeReleased at.2.0 (can_be_released k s h ranges sound))
+  consumer_told side (consumer.Begun o) about at = (about, first)
+  consumer_told side (consumer.CleanLoad s n) about at = named s at.0
+  consumer_told side (consumer.CleanAck s w c n) about at = (named s at.0, at.2)
+  consumer_told side (consumer.CleanReap s w n) about at = (named s at.0, subst CanBeReleased at.2.0 (can_be_released k s h ranges sound))
 
-module _ {S B : Type 0} (has : B → S → List Piece → Type 0) (capacity : B → ℕ) (shape_of : S → ℕ → Option Shape) (accepted : S → Record → Bool) (m : Machine S B)
-    (kept : WorldInvariant has capacity shape_of accepted m) where
-  pub kept_tells : IsTellable has capacity m
-  kept_tells = record {
-    shown = kept.shown;
-    least = (set_up m.config kept.coherent.ranges).1;
-    most = let fit = slots_fit m.config kept.coherent.ranges in omega arith;
-  }
+module _ (shape : ℕ → Option Shape) (st : PlayState) (coherent : IsCoherent shape st) where
+  pub cpu_can_be_told : (c : ℕ) (f : CallPlace) → c < st.config.cpus → (progress_of st.progresses c).flight ≡ Some f → CanBeTold st.config f
+  cpu_can_be_told c f lt is = cpu_told st.config st.deeds coherent.ranges coherent.legal.0 c (progress_of st.progresses c) f (flight_stands shape st coherent c lt f is)
 
-  pub cpu_can_be_told : (c : ℕ) (f : CallPlace) → c < m.config.cpus → (progress_of (state_of m).progresses c).flight ≡ Some f → CanBeTold m.config f
-  cpu_can_be_told c f lt is = cpu_told m.config (history m) kept.coherent.ranges kept.coherent.legal.0 c (progress_of (state_of m).progresses c) f
-      (flight_stands (shape_of m.schema) (state_of m) kept.coherent c lt f is)
-
-  pub consumer_can_be_told : (f : ConsumerFlight) → m.consumer.flight ≡ Some f → ConsumerCanBeTold m.config f
-  consumer_can_be_told f is = consumer_told m.config (history m) kept.coherent.ranges kept.coherent.legal.0 m.consumer f (kept.about f is)
-      (clean_stands (shape_of m.schema) (state_of m) kept.coherent f is)
+  pub consumer_can_be_told : (f : ConsumerFlight) → st.side.flight ≡ Some f → is_about st.config (consumer_op_of f) ≡ true → ConsumerCanBeTold st.config f
+  consumer_can_be_told f is about = consumer_told st.config st.deeds coherent.ranges coherent.legal.0 st.side f about (clean_stands shape st coherent f is)

@@ -2,4 +2,4 @@
 pub mod Outside
 unfoldable pub use Outside.*
 pub use Rattle.dspec_picture.specs.Bands.{IsSmall}
-pub use Rattle.dspec_picture.specs.Tellable.{CanBeTold, ConsumerCanBeTold, IsTellable}
+pub use Rattle.dspec_picture.specs.Tellable.{CanBeTold, ConsumerCanBeTold, IsNamedSlot}

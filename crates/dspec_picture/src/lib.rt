@@ -9,8 +9,7 @@
 //! A picture has a box for each offered record, of the fate that it has in the end; one on its CPU's stream for each accepted record, in
 //! the stream's order; a segment for each state of each slot's word. It is XML without a script, with a title for each record, batch and
 //! state, which a screen reader reads; what varies in it are numbers, printed records and words of its own, so that nothing has to be
-//! escaped. Pictures play nothing and read nothing. Words are told while the machine of `dspec_core` is stepped, since only that shows
-//! which call is in flight.
+//! escaped. Pictures play nothing and read nothing. Words are told by an onlooker of `dspec_core`'s player.
 //!
 //! | File | What is in it |
 //! |---|---|
@@ -18,10 +17,10 @@
 //! | `svg.rt`, `boxes.rt`, `segments.rt`, `group.rt` | the text of shapes: head, words, lines and strokes; records and the legend; states of slots; what groups have in common |
 //! | `grid.rt`, `fates.rt`, `marks.rt` | where things stand; what became of each offer; what a deed shows in its CPU's band |
 //! | `bars.rt`, `band.rt`, `drawing.rt`, `sheet.rt` | the segments of a slot; a band; the whole; one shape more |
-//! | `walking.rt` | `steps_of`: the turns, over the machine of dspec_core; a line a step |
-//! | `showing.rt`, `telling.rt`, `room.rt`, `words.rt` | what the machine shows of slots, and the word attempted; what a step does, in words; how many bytes a refused record or block needed; deeds and words as text |
+//! | `walking.rt` | `steps_of`: who looks on at the player of dspec_core; a line a step |
+//! | `showing.rt`, `telling.rt`, `room.rt`, `words.rt` | what the world shows of slots, and the word attempted; what a step does, in words; how many bytes a refused record or block needed; deeds and words as text |
 //! | `specs/` | Bands (where a band may stand), Tellable (what a call in flight keeps so that its step can be told) |
-//! | `proofs/` | Rows (no row begins too low), Tellable, Runs (how far a play is that is told) |
+//! | `proofs/` | Rows (no row begins too low), Tellable |
 #![tactic(auto)]
 
 pub mod band;

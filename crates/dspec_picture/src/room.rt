@@ -2,13 +2,12 @@
 ghost use Rattle.std.specs.Prelude.{◌≡◌, ◌<◌, ◌^◌, true};
 ghost use Rattle.dspec_interleaving.specs.Calls.{is_actor};
 ghost use Rattle.dspec_interleaving.specs.Coherent.{IsSlot};
-ghost use Rattle.dspec_core.specs.Machines.{IsShownMachine};
-ghost use Rattle.dspec_core.specs.Worlds.{WorldInvariant};
-ghost use Rattle.dspec_picture.specs.Tellable.{CanBeTold, IsTellable};
+ghost use Rattle.dspec_interleaving.specs.Promised.{HasHeadline};
+ghost use Rattle.dspec_picture.specs.Tellable.{CanBeTold};
 
 use crate::showing::is_marked;
 use dspec_buffer::TraceBuffer;
-use dspec_core::machine::Machine;
+use dspec_core::World;
 use dspec_deeds::Actor;
 use dspec_interleaving::CallPlace;
 use dspec_record::Schema;
@@ -25,86 +24,66 @@ pub struct CpuBuffers {
     pub held: u32,
 }
 
-/// Whether the CPU's principal buffer is closed.
-fn is_closed<S: Schema, B: TraceBuffer<S>>(machine: &Machine<S, B>, cpu: u32) -> bool
-    requires shown { IsShownMachine B.has B.capacity machine.now }
-    requires cpu { cpu < machine.now.config.cpus }
-{
-    machine.cpus[cpu as usize].side.is_closed(&machine.config)
-}
-
-/// How far the CPU's active principal buffer reaches.
-fn reach<S: Schema, B: TraceBuffer<S>>(machine: &Machine<S, B>, cpu: u32) -> u32
-    requires shown { IsShownMachine B.has B.capacity machine.now }
-    requires cpu { cpu < machine.now.config.cpus }
-{
-    machine.cpus[cpu as usize].side.active.offset()
-}
+/// Nothing in them, and nothing closed.
+pub(crate) const NO_BUFFERS: CpuBuffers = CpuBuffers {
+    closed: false,
+    reach: 0,
+    held: 0,
+};
 
 /// What the CPU holds of a speculation, in bytes: nothing where it is no caller.
-fn held_bytes<S: Schema, B: TraceBuffer<S>>(machine: &Machine<S, B>, cpu: u32, id: SpecId) -> u32
-    requires shown { IsShownMachine B.has B.capacity machine.now }
-    requires cpu { cpu < machine.now.config.cpus }
-    requires slot { IsSlot machine.now.config id.slot }
+fn held_bytes<S: Schema, B: TraceBuffer<S>>(world: &World<S, B>, cpu: u32, id: SpecId) -> u32
+    requires cpu { cpu < world.now.state.config.cpus }
+    requires slot { IsSlot world.now.state.config id.slot }
 {
-    if is_marked(machine, cpu, id) {
-        return machine.cpus[cpu as usize].side.speculative[id.slot() as usize - 1].offset();
+    if is_marked(world, cpu, id) {
+        return world.side(cpu).speculative[id.slot() as usize - 1].offset();
     }
     0
 }
 
 /// The same of the speculation that the next step of a call is about, where that may find no room.
-fn aim_bytes<S: Schema, B: TraceBuffer<S>>(
-    machine: &Machine<S, B>,
-    cpu: u32,
-    flight: CallPlace,
-) -> u32
-    requires tellable { IsTellable B.has B.capacity machine.now }
-    requires cpu { cpu < machine.now.config.cpus }
-    requires told { CanBeTold machine.now.config flight }
+fn aim_bytes<S: Schema, B: TraceBuffer<S>>(world: &World<S, B>, cpu: u32, flight: CallPlace) -> u32
+    requires cpu { cpu < world.now.state.config.cpus }
+    requires told { CanBeTold world.now.state.config flight }
 {
     match flight {
-        CallPlace::SpeculateLoad(id, _) => held_bytes(machine, cpu, id),
-        CallPlace::SpeculateTry(id, _, _) => held_bytes(machine, cpu, id),
-        CallPlace::CommitTry(id, _) => held_bytes(machine, cpu, id),
+        CallPlace::SpeculateLoad(id, _) => held_bytes(world, cpu, id),
+        CallPlace::SpeculateTry(id, _, _) => held_bytes(world, cpu, id),
+        CallPlace::CommitTry(id, _) => held_bytes(world, cpu, id),
         CallPlace::ServiceStore(slot, word, _) => {
-            held_bytes(machine, cpu, SpecId::of(word.issue(), slot))
+            held_bytes(world, cpu, SpecId::of(word.issue(), slot))
         }
         _ => 0,
     }
 }
 
-/// The same of the call in flight, if one is.
-#[tactic(auto, using(crate::proofs::Tellable::kept_tells, crate::proofs::Tellable::cpu_can_be_told))]
-fn aimed_bytes<S: Schema, B: TraceBuffer<S>>(machine: &Machine<S, B>, cpu: u32) -> u32
-    requires kept { WorldInvariant B.has B.capacity S.shape_of S.accepted machine.now }
-    requires cpu { cpu < machine.now.config.cpus }
+/// The room that the CPU's next step finds.
+fn room_of_cpu<S: Schema, B: TraceBuffer<S>>(world: &World<S, B>, cpu: u32) -> CpuBuffers
+    requires promised { HasHeadline (S.shape_of world.now.schema) world.now.state }
+    requires cpu { cpu < world.now.state.config.cpus }
 {
-    match machine.cpus[cpu as usize].progress.flight {
+    let flight = world.progress(cpu).flight;
+    let held = match flight {
         None => 0,
-        Some(flight) => aim_bytes(machine, cpu, flight),
+        Some(flight) => aim_bytes(world, cpu, flight),
+    };
+    let side = world.side(cpu);
+    CpuBuffers {
+        closed: side.is_closed(world.config()),
+        reach: side.active.offset(),
+        held,
     }
 }
 
 /// The room that the actor's next step finds.
-pub(crate) fn room_at<S: Schema, B: TraceBuffer<S>>(
-    machine: &Machine<S, B>,
-    actor: Actor,
-) -> CpuBuffers
-    requires kept { WorldInvariant B.has B.capacity S.shape_of S.accepted machine.now }
-    requires exists { is_actor machine.now.config actor ≡ true }
+pub(crate) fn room_at<S: Schema, B: TraceBuffer<S>>(world: &World<S, B>, actor: Actor) -> CpuBuffers
+    requires promised { HasHeadline (S.shape_of world.now.schema) world.now.state }
+    requires exists { is_actor world.now.state.config actor ≡ true }
 {
     match actor {
-        Actor::Consumer => CpuBuffers {
-            closed: false,
-            reach: 0,
-            held: 0,
-        },
-        Actor::Cpu(cpu) => CpuBuffers {
-            closed: is_closed(machine, cpu),
-            reach: reach(machine, cpu),
-            held: aimed_bytes(machine, cpu),
-        },
+        Actor::Consumer => NO_BUFFERS,
+        Actor::Cpu(cpu) => room_of_cpu(world, cpu),
     }
 }
 

@@ -1,15 +1,13 @@
-//! What the next step of a call in flight does, in words, as the machine shows it.
+//! What the next step of a call in flight does, in words, as the world shows it.
 ghost use Rattle.std.specs.Prelude.{◌≡◌, ◌<◌, true};
 ghost use Rattle.dspec_interleaving.specs.Calls.{is_about, is_actor};
-ghost use Rattle.dspec_interleaving.specs.Coherent.{IsSlot};
-ghost use Rattle.dspec_core.specs.Machines.{IsShownMachine};
-ghost use Rattle.dspec_core.specs.Worlds.{WorldInvariant};
-ghost use Rattle.dspec_picture.specs.Tellable.{CanBeTold, ConsumerCanBeTold, IsTellable};
+ghost use Rattle.dspec_interleaving.specs.Promised.{HasHeadline};
+ghost use Rattle.dspec_picture.specs.Tellable.{CanBeTold, ConsumerCanBeTold, IsNamedSlot};
 
 use crate::showing::{ack, attempted, is_marked, word_at};
 use crate::words::{tell_about, tell_exchange, tell_load};
 use dspec_buffer::TraceBuffer;
-use dspec_core::machine::Machine;
+use dspec_core::World;
 use dspec_deeds::{Actor, ConsumerOp, CpuOp, Policy};
 use dspec_interleaving::{CallPlace, ConsumerFlight, Spare};
 use dspec_record::Schema;
@@ -19,33 +17,25 @@ use std::alloc::AllocError;
 /// A load of a slot's word.
 fn tell_slot<S: Schema, B: TraceBuffer<S>>(
     text: &mut String,
-    machine: &Machine<S, B>,
+    world: &World<S, B>,
     slot: u32,
 ) -> Result<(), AllocError>
-    requires tellable { IsTellable B.has B.capacity machine.now }
-    requires slot { IsSlot machine.now.config slot }
+    requires slot { IsNamedSlot world.now.state.config slot }
 {
-    tell_load(text, slot, word_at(machine, slot))
+    tell_load(text, slot, word_at(world, slot))
 }
 
 /// An exchange of a slot's word, by what the call does at the word that it was shown.
 fn tell_try<S: Schema, B: TraceBuffer<S>>(
     text: &mut String,
-    machine: &Machine<S, B>,
+    world: &World<S, B>,
     slot: u32,
     from: Word,
     act: Act,
 ) -> Result<(), AllocError>
-    requires tellable { IsTellable B.has B.capacity machine.now }
-    requires slot { IsSlot machine.now.config slot }
+    requires slot { IsNamedSlot world.now.state.config slot }
 {
-    tell_exchange(
-        text,
-        slot,
-        from,
-        attempted(act, from),
-        word_at(machine, slot),
-    )
+    tell_exchange(text, slot, from, attempted(act, from), word_at(world, slot))
 }
 
 fn tell_running(text: &mut String, stopped: bool) -> Result<(), AllocError> {
@@ -63,54 +53,44 @@ fn tell_ask(text: &mut String, wanted: bool) -> Result<(), AllocError> {
 }
 
 /// Whether the consumer asked for a batch that the CPU hasn't sealed.
-fn is_wanted<S: Schema, B: TraceBuffer<S>>(machine: &Machine<S, B>, cpu: u32) -> bool
-    requires shown { IsShownMachine B.has B.capacity machine.now }
-    requires cpu { cpu < machine.now.config.cpus }
+fn is_wanted<S: Schema, B: TraceBuffer<S>>(world: &World<S, B>, cpu: u32) -> bool
+    requires cpu { cpu < world.now.state.config.cpus }
 {
-    let own = &machine.cpus[cpu as usize];
-    own.side.seals < own.progress.want
+    world.side(cpu).seals < world.progress(cpu).want
 }
 
 /// The first step of a service.
 fn tell_service<S: Schema, B: TraceBuffer<S>>(
     text: &mut String,
-    machine: &Machine<S, B>,
+    world: &World<S, B>,
     cpu: u32,
 ) -> Result<(), AllocError>
-    requires tellable { IsTellable B.has B.capacity machine.now }
-    requires cpu { cpu < machine.now.config.cpus }
+    requires cpu { cpu < world.now.state.config.cpus }
+    requires slot { IsNamedSlot world.now.state.config 1 }
 {
-    match machine.config.policy {
-        Policy::Fill => tell_slot(text, machine, 1),
-        Policy::Switch => tell_ask(text, is_wanted(machine, cpu)),
+    match world.config().policy {
+        Policy::Fill => tell_slot(text, world, 1),
+        Policy::Switch => tell_ask(text, is_wanted(world, cpu)),
     }
 }
 
 /// The first step of a CPU's call.
 fn tell_begun<S: Schema, B: TraceBuffer<S>>(
     text: &mut String,
-    machine: &Machine<S, B>,
+    world: &World<S, B>,
     cpu: u32,
     op: CpuOp,
 ) -> Result<(), AllocError>
-    requires tellable { IsTellable B.has B.capacity machine.now }
-    requires cpu { cpu < machine.now.config.cpus }
+    requires cpu { cpu < world.now.state.config.cpus }
+    requires slot { IsNamedSlot world.now.state.config 1 }
 {
     if matches!(op, CpuOp::Service) {
-        return tell_service(text, machine, cpu);
+        return tell_service(text, world, cpu);
     }
-    if machine.is_worn(cpu) {
+    if world.side(cpu).calls >= world.config().max_calls {
         return text.push_str("has made all its calls");
     }
-    tell_running(text, machine.halted)
-}
-
-/// Where the CPU's second principal buffer is.
-fn spare_of<S: Schema, B: TraceBuffer<S>>(machine: &Machine<S, B>, cpu: u32) -> Spare
-    requires shown { IsShownMachine B.has B.capacity machine.now }
-    requires cpu { cpu < machine.now.config.cpus }
-{
-    machine.cpus[cpu as usize].progress.spare
+    tell_running(text, world.is_stopped())
 }
 
 fn tell_pop(text: &mut String, spare: Spare) -> Result<(), AllocError> {
@@ -137,40 +117,39 @@ fn tell_give_back(text: &mut String, spare: Spare, cpu: u32) -> Result<(), Alloc
 /// The next step of a CPU's call.
 fn tell_cpu<S: Schema, B: TraceBuffer<S>>(
     text: &mut String,
-    machine: &Machine<S, B>,
+    world: &World<S, B>,
     cpu: u32,
     flight: CallPlace,
 ) -> Result<(), AllocError>
-    requires tellable { IsTellable B.has B.capacity machine.now }
-    requires cpu { cpu < machine.now.config.cpus }
-    requires told { CanBeTold machine.now.config flight }
+    requires cpu { cpu < world.now.state.config.cpus }
+    requires told { CanBeTold world.now.state.config flight }
 {
     match flight {
-        CallPlace::Begun(op) => tell_begun(text, machine, cpu, op),
-        CallPlace::ScanLoad(slot) => tell_slot(text, machine, slot),
+        CallPlace::Begun(op) => tell_begun(text, world, cpu, op),
+        CallPlace::ScanLoad(slot) => tell_slot(text, world, slot),
         CallPlace::ScanTry(slot, from) => {
-            let act = open_at(from, machine.config.max_issues);
-            tell_try(text, machine, slot, from, act)
+            let act = open_at(from, world.config().max_issues);
+            tell_try(text, world, slot, from, act)
         }
-        CallPlace::SpeculateLoad(id, _) => tell_slot(text, machine, id.slot()),
+        CallPlace::SpeculateLoad(id, _) => tell_slot(text, world, id.slot()),
         CallPlace::SpeculateTry(id, _, from) => {
-            let act = speculate_at(from, id, is_marked(machine, cpu, id));
-            tell_try(text, machine, id.slot(), from, act)
+            let act = speculate_at(from, id, is_marked(world, cpu, id));
+            tell_try(text, world, id.slot(), from, act)
         }
-        CallPlace::CommitLoad(id) => tell_slot(text, machine, id.slot()),
+        CallPlace::CommitLoad(id) => tell_slot(text, world, id.slot()),
         CallPlace::CommitTry(id, from) => {
-            let act = commit_at(from, id, is_marked(machine, cpu, id));
-            tell_try(text, machine, id.slot(), from, act)
+            let act = commit_at(from, id, is_marked(world, cpu, id));
+            tell_try(text, world, id.slot(), from, act)
         }
         CallPlace::CommitRelease(id, _) => write!(text, "releases slot {}", id.slot()),
-        CallPlace::DiscardLoad(id) => tell_slot(text, machine, id.slot()),
+        CallPlace::DiscardLoad(id) => tell_slot(text, world, id.slot()),
         CallPlace::DiscardTry(id, from) => {
-            let act = discard_at(from, id, is_marked(machine, cpu, id));
-            tell_try(text, machine, id.slot(), from, act)
+            let act = discard_at(from, id, is_marked(world, cpu, id));
+            tell_try(text, world, id.slot(), from, act)
         }
-        CallPlace::ServicePop => tell_pop(text, spare_of(machine, cpu)),
+        CallPlace::ServicePop => tell_pop(text, world.progress(cpu).spare),
         CallPlace::ServicePush => text.push_str("pushes the batch"),
-        CallPlace::ServiceLoad(slot, _) => tell_slot(text, machine, slot),
+        CallPlace::ServiceLoad(slot, _) => tell_slot(text, world, slot),
         CallPlace::ServiceStore(slot, _, _) => {
             write!(text, "stores its acknowledgement of slot {slot}")
         }
@@ -180,17 +159,17 @@ fn tell_cpu<S: Schema, B: TraceBuffer<S>>(
 /// The first step of the consumer's call.
 fn tell_consumer_begun<S: Schema, B: TraceBuffer<S>>(
     text: &mut String,
-    machine: &Machine<S, B>,
+    world: &World<S, B>,
     op: ConsumerOp,
 ) -> Result<(), AllocError>
-    requires tellable { IsTellable B.has B.capacity machine.now }
-    requires about { is_about machine.now.config op ≡ true }
+    requires about { is_about world.now.state.config op ≡ true }
+    requires slot { IsNamedSlot world.now.state.config 1 }
 {
     match op {
         ConsumerOp::Ask(cpu) => write!(text, "stores the ask of cpu {cpu}"),
-        ConsumerOp::Take(cpu) => tell_take(text, spare_of(machine, cpu), cpu),
-        ConsumerOp::GiveBack(cpu) => tell_give_back(text, spare_of(machine, cpu), cpu),
-        ConsumerOp::Clean => tell_slot(text, machine, 1),
+        ConsumerOp::Take(cpu) => tell_take(text, world.progress(cpu).spare, cpu),
+        ConsumerOp::GiveBack(cpu) => tell_give_back(text, world.progress(cpu).spare, cpu),
+        ConsumerOp::Clean => tell_slot(text, world, 1),
         ConsumerOp::Stop => text.push_str("stores the stop"),
     }
 }
@@ -207,21 +186,20 @@ fn tell_ack(text: &mut String, cpu: u32, id: SpecId, there: bool) -> Result<(), 
 /// The next step of the consumer's call.
 fn tell_consumer<S: Schema, B: TraceBuffer<S>>(
     text: &mut String,
-    machine: &Machine<S, B>,
+    world: &World<S, B>,
     flight: ConsumerFlight,
 ) -> Result<(), AllocError>
-    requires tellable { IsTellable B.has B.capacity machine.now }
-    requires told { ConsumerCanBeTold machine.now.config flight }
+    requires told { ConsumerCanBeTold world.now.state.config flight }
 {
     match flight {
-        ConsumerFlight::Begun(op) => tell_consumer_begun(text, machine, op),
-        ConsumerFlight::CleanLoad(slot, _) => tell_slot(text, machine, slot),
+        ConsumerFlight::Begun(op) => tell_consumer_begun(text, world, op),
+        ConsumerFlight::CleanLoad(slot, _) => tell_slot(text, world, slot),
         ConsumerFlight::CleanAck(slot, word, cpu, _) => {
             let id = SpecId::of(word.issue(), slot);
-            tell_ack(text, cpu, id, word.issue() < ack(machine, cpu, slot))
+            tell_ack(text, cpu, id, word.issue() < ack(world, cpu, slot))
         }
         ConsumerFlight::CleanReap(slot, word, _) => {
-            tell_try(text, machine, slot, word, reap_at(word, true))
+            tell_try(text, world, slot, word, reap_at(word, true))
         }
     }
 }
@@ -266,13 +244,13 @@ fn tell_consumer_name(text: &mut String, op: ConsumerOp) -> Result<(), AllocErro
 /// The CPU's call; nothing where none is in flight.
 fn tell_cpu_call<S: Schema, B: TraceBuffer<S>>(
     text: &mut String,
-    machine: &Machine<S, B>,
+    world: &World<S, B>,
     cpu: u32,
 ) -> Result<(), AllocError>
-    requires shown { IsShownMachine B.has B.capacity machine.now }
-    requires cpu { cpu < machine.now.config.cpus }
+    requires { cpu < world.now.state.config.cpus }
 {
-    match machine.cpus[cpu as usize].progress.flight {
+    let flight = world.progress(cpu).flight;
+    match flight {
         None => Ok(()),
         Some(flight) => tell_cpu_name(text, flight.op()),
     }
@@ -281,61 +259,62 @@ fn tell_cpu_call<S: Schema, B: TraceBuffer<S>>(
 /// The consumer's call; nothing where none is in flight.
 fn tell_consumer_call<S: Schema, B: TraceBuffer<S>>(
     text: &mut String,
-    machine: &Machine<S, B>,
+    world: &World<S, B>,
 ) -> Result<(), AllocError> {
-    match machine.consumer.flight {
+    let flight = world.consumer().flight;
+    match flight {
         None => Ok(()),
         Some(flight) => tell_consumer_name(text, flight.op()),
     }
 }
 
 /// The next step of the CPU; nothing where no call is in flight.
-#[tactic(auto, using(crate::proofs::Tellable::kept_tells, crate::proofs::Tellable::cpu_can_be_told))]
 fn tell_cpu_step<S: Schema, B: TraceBuffer<S>>(
     text: &mut String,
-    machine: &Machine<S, B>,
+    world: &World<S, B>,
     cpu: u32,
 ) -> Result<(), AllocError>
-    requires kept { WorldInvariant B.has B.capacity S.shape_of S.accepted machine.now }
-    requires cpu { cpu < machine.now.config.cpus }
+    requires promised { HasHeadline (S.shape_of world.now.schema) world.now.state }
+    requires cpu { cpu < world.now.state.config.cpus }
 {
-    match machine.cpus[cpu as usize].progress.flight {
+    let flight = world.progress(cpu).flight;
+    match flight {
         None => Ok(()),
-        Some(flight) => tell_cpu(text, machine, cpu, flight),
+        Some(flight) => tell_cpu(text, world, cpu, flight),
     }
 }
 
 /// The next step of the consumer; nothing where no call is in flight.
-#[tactic(auto, using(crate::proofs::Tellable::kept_tells, crate::proofs::Tellable::consumer_can_be_told))]
 fn tell_consumer_step<S: Schema, B: TraceBuffer<S>>(
     text: &mut String,
-    machine: &Machine<S, B>,
+    world: &World<S, B>,
 ) -> Result<(), AllocError>
-    requires kept { WorldInvariant B.has B.capacity S.shape_of S.accepted machine.now }
+    requires { HasHeadline (S.shape_of world.now.schema) world.now.state }
 {
-    match machine.consumer.flight {
+    let flight = world.consumer().flight;
+    match flight {
         None => Ok(()),
-        Some(flight) => tell_consumer(text, machine, flight),
+        Some(flight) => tell_consumer(text, world, flight),
     }
 }
 
 /// The actor's call, and its next step.
 pub(crate) fn tell_step<S: Schema, B: TraceBuffer<S>>(
     text: &mut String,
-    machine: &Machine<S, B>,
+    world: &World<S, B>,
     actor: Actor,
 ) -> Result<(), AllocError>
-    requires kept { WorldInvariant B.has B.capacity S.shape_of S.accepted machine.now }
-    requires exists { is_actor machine.now.config actor ≡ true }
+    requires promised { HasHeadline (S.shape_of world.now.schema) world.now.state }
+    requires exists { is_actor world.now.state.config actor ≡ true }
 {
     match actor {
         Actor::Cpu(cpu) => {
-            tell_cpu_call(text, machine, cpu)?;
-            tell_cpu_step(text, machine, cpu)
+            tell_cpu_call(text, world, cpu)?;
+            tell_cpu_step(text, world, cpu)
         }
         Actor::Consumer => {
-            tell_consumer_call(text, machine)?;
-            tell_consumer_step(text, machine)
+            tell_consumer_call(text, world)?;
+            tell_consumer_step(text, world)
         }
     }
 }

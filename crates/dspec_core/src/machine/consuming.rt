@@ -126,8 +126,8 @@ impl<S: Schema, B: TraceBuffer<S>> Machine<S, B> {
         self.keep_on(ConsumerFlight::CleanLoad(slot + 1, released))
     }
 
-    // The load of a slot's word, by a clean that has released so many.
-    fn load_slot(&mut self, slot: u32, released: u32) -> Option<Answer>
+    /// The load of a slot's word, by a clean that has released so many.
+    pub fn load_slot(&mut self, slot: u32, released: u32) -> Option<Answer>
         requires shown { IsShownMachine B.has B.capacity self.old }
         requires ranges { start_fault self.old.config ≡ None }
         requires legal { IsAllowed (S.shape_of self.old.schema) self.old.config (history self.old) }
@@ -140,22 +140,6 @@ impl<S: Schema, B: TraceBuffer<S>> Machine<S, B> {
             Act::Attempt(_) => self.keep_on(ConsumerFlight::CleanAck(slot, word, 0, released)),
             _ => self.clean_next(slot, released),
         }
-    }
-
-    /// The first step of a clean: the load of the first slot's word.
-    pub fn step_clean(&mut self) -> Option<Answer>
-        requires stands { ConsumerStandsAt B.has B.capacity S.shape_of self.old (flight.Begun consumer_op.Clean) }
-        ensures { ConsumerStepsAs B.has B.capacity self.old self.new (flight.Begun consumer_op.Clean) result }
-    {
-        self.load_slot(1, 0)
-    }
-
-    /// The load of a slot's word.
-    pub fn step_clean_load(&mut self, slot: u32, released: u32) -> Option<Answer>
-        requires stands { ConsumerStandsAt B.has B.capacity S.shape_of self.old (flight.CleanLoad slot released) }
-        ensures { ConsumerStepsAs B.has B.capacity self.old self.new (flight.CleanLoad slot released) result }
-    {
-        self.load_slot(slot, released)
     }
 
     /// The load of a CPU's acknowledgement.

@@ -44,22 +44,11 @@ impl<B> Cpu<B> {
     {
         let before = deeds.len();
         deeds.push(deed)?;
-        if self.stream_record(rec, fate).is_err() {
+        if matches!(fate, TraceFate::Kept) && self.accepted.push(*rec).is_err() {
             deeds.truncate(before);
             return Err(AllocError);
         }
         Ok(())
-    }
-
-    // Adds a record to the stream where the fate keeps it. A refused growth changes nothing.
-    fn stream_record(&mut self, rec: &Rec, fate: TraceFate) -> Result<(), AllocError>
-        ensures ok { OnOk result (self.new ≡ record self.old { accepted = self.old.accepted ++ (if trace_kept fate then rec.now ∷ [] else []) }) }
-        ensures err { OnErr result (self.new ≡ self.old) }
-    {
-        if !matches!(fate, TraceFate::Kept) {
-            return Ok(());
-        }
-        self.accepted.push(*rec)
     }
 
     /// Enters a deed that ends the block of a slot's speculative buffer: the records go to the stream where the fate

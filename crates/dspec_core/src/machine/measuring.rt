@@ -38,7 +38,7 @@ impl<S: Schema, B: TraceBuffer<S>> Machine<S, B> {
             config: self.config,
             cpu,
             me: own.progress,
-            worn: self.is_worn(cpu),
+            worn: own.side.calls >= self.config.max_calls,
             stopped: self.halted,
             word,
             acked,
@@ -97,7 +97,9 @@ impl<S: Schema, B: TraceBuffer<S>> Machine<S, B> {
     {
         match *place {
             CallPlace::Begun(op) => match op {
-                CpuOp::Trace(rec) => self.fits_principal(cpu, &rec),
+                CpuOp::Trace(rec) => self.cpus[cpu as usize]
+                    .side
+                    .fits(&self.config, &self.schema, &rec),
                 _ => false,
             },
             CallPlace::SpeculateLoad(id, rec) => self.fits_speculative(cpu, id, &rec),

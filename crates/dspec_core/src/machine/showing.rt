@@ -1,9 +1,7 @@
-ghost use Rattle.std.specs.Prelude.{◌≡◌, ◌<◌, true, nat_le, slice_get, Some, IsTrue};
-ghost use Rattle.dspec_buffer.specs.Extent.{one};
+ghost use Rattle.std.specs.Prelude.{◌≡◌, ◌<◌, true, slice_get, Some, IsTrue};
 ghost use Rattle.dspec_deeds.specs.declared.calls.Actor.TheVariants as actor;
 ghost use Rattle.dspec_deeds.specs.History.{in_range, issue, part};
-ghost use Rattle.dspec_deeds.specs.Legal.{IsSound, fits_principal, fits_speculative};
-ghost use Rattle.dspec_deeds.specs.Own.{calls};
+ghost use Rattle.dspec_deeds.specs.Legal.{IsSound, fits_speculative};
 ghost use Rattle.dspec_deeds.specs.Settling.{settle_fate};
 ghost use Rattle.dspec_cpu_state.specs.CpuStates.{ShowsList};
 ghost use Rattle.dspec_core.specs.declared.machine.cpu.Cpu.{Cpu};
@@ -23,27 +21,6 @@ impl<S: Schema, B: TraceBuffer<S>> Machine<S, B> {
         ensures { (own : Cpu B) → slice_get self.now.cpus.items cpu ≡ Some own
             → ShowsList (λ b. B.has b self.now.schema) B.capacity self.now.config cpu (part (actor.Cpu cpu) (history self.now)) own.side }
     {}
-
-    /// Whether the CPU has made all its calls.
-    pub fn is_worn(&self, cpu: u32) -> bool
-        requires shown { IsShownMachine B.has B.capacity self.now }
-        requires cpu { cpu < self.now.config.cpus }
-        ensures { result ≡ nat_le self.now.config.max_calls (calls cpu (history self.now)) }
-    {
-        self.cpus[cpu as usize].side.calls >= self.config.max_calls
-    }
-
-    /// Whether a record fits the rest of the CPU's active principal buffer, and that isn't closed.
-    pub fn fits_principal(&self, cpu: u32, rec: &Rec) -> bool
-        requires shown { IsShownMachine B.has B.capacity self.now }
-        requires cpu { cpu < self.now.config.cpus }
-        requires accepted { IsTrue (S.accepted self.now.schema rec.now) }
-        ensures { result ≡ fits_principal (S.shape_of self.now.schema) self.now.config cpu (one rec.now) (history self.now) }
-    {
-        self.cpus[cpu as usize]
-            .side
-            .fits(&self.config, &self.schema, rec)
-    }
 
     /// Whether a record fits the rest of the CPU's buffer of a speculation, which is its slot's present one.
     pub fn fits_speculative(&self, cpu: u32, id: SpecId, rec: &Rec) -> bool

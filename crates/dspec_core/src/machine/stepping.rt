@@ -1,9 +1,8 @@
 ghost use Rattle.std.specs.Prelude.{◌≡◌, ◌<◌, ◌^◌, Some, IfOk, OnErr};
 ghost use Rattle.dspec_deeds.specs.declared.calls.Actor.TheVariants as actor;
-ghost use Rattle.dspec_interleaving.specs.declared.flight.ConsumerFlight.TheVariants as consumer;
 ghost use Rattle.dspec_interleaving.specs.Coherent.{progress_of};
 ghost use Rattle.dspec_core.specs.Machines.{IsShownMachine, state_of};
-ghost use Rattle.dspec_core.specs.Steps.{StepsAs, ConsumerStepsAs, state_with};
+ghost use Rattle.dspec_core.specs.Steps.{ConsumerStepsAs, state_with};
 ghost use Rattle.dspec_core.specs.Table.{moved_by, steps_behind};
 ghost use Rattle.dspec_interleaving.specs.Turns.{step};
 ghost use Rattle.dspec_core.specs.Worlds.{WorldInvariant};
@@ -17,22 +16,6 @@ use dspec_record::Schema;
 use std::alloc::AllocError;
 
 impl<S: Schema, B: TraceBuffer<S>> Machine<S, B> {
-    // The step of a CPU's call at that place: what it sees, what the table makes of that, the deeds, and the CPU's progress.
-    fn step_place(&mut self, cpu: u32, place: CallPlace) -> Result<Option<Answer>, AllocError>
-        requires kept { WorldInvariant B.has B.capacity S.shape_of S.accepted self.old }
-        requires cpu { cpu < self.old.config.cpus }
-        requires flight { (progress_of (state_of self.old).progresses cpu).flight ≡ Some place }
-        ensures makes { IfOk result (λ answer. StepsAs B.has B.capacity S.shape_of self.old self.new cpu place answer) }
-        ensures refused { OnErr result (self.new ≡ self.old) }
-    {
-        let seen = self.see(cpu, &place);
-        let step = seen.next(place);
-        let answer = step.answer;
-        self.enter(cpu, step.entry)?;
-        self.move_cpu(cpu, step);
-        Ok(answer)
-    }
-
     // The CPU's progress is what its step makes of it.
     fn move_cpu(&mut self, cpu: u32, step: Move)
         requires shown { IsShownMachine B.has B.capacity self.old }
@@ -50,7 +33,8 @@ impl<S: Schema, B: TraceBuffer<S>> Machine<S, B> {
         own.side.counts.worn = step.worn;
     }
 
-    /// One atomic step of a CPU, with the answer where it is its call's last; nothing where no call is in flight.
+    /// One atomic step of a CPU, with the answer where it is its call's last; nothing where no call is in flight: what it sees, what
+    /// the table makes of that, the deeds, and the CPU's progress.
     pub fn step_cpu(&mut self, cpu: u32) -> Result<Option<Answer>, AllocError>
         requires kept { WorldInvariant B.has B.capacity S.shape_of S.accepted self.old }
         requires cpu { cpu < self.old.config.cpus }
@@ -60,27 +44,15 @@ impl<S: Schema, B: TraceBuffer<S>> Machine<S, B> {
         ensures schema { self.new.schema ≡ self.old.schema }
         ensures refused { OnErr result (self.new ≡ self.old) }
     {
-        let flight = self.cpus[cpu as usize].progress.flight;
-        match flight {
-            None => Ok(None),
-            Some(place) => self.step_place(cpu, place),
-        }
-    }
-
-    // The first step of the consumer's call.
-    fn step_consumer_begun(&mut self, op: ConsumerOp) -> Result<Option<Answer>, AllocError>
-        requires kept { WorldInvariant B.has B.capacity S.shape_of S.accepted self.old }
-        requires flight { self.old.consumer.flight ≡ Some (consumer.Begun op) }
-        ensures cleans { IfOk result (λ answer. ConsumerStepsAs B.has B.capacity self.old self.new (consumer.Begun op) answer) }
-        ensures refused { OnErr result (self.new ≡ self.old) }
-    {
-        match op {
-            ConsumerOp::Ask(cpu) => Ok(self.step_ask(cpu)),
-            ConsumerOp::Take(cpu) => self.step_take(cpu),
-            ConsumerOp::GiveBack(cpu) => Ok(self.step_give_back(cpu)),
-            ConsumerOp::Clean => Ok(self.step_clean()),
-            ConsumerOp::Stop => self.step_stop(),
-        }
+        let Some(place) = self.cpus[cpu as usize].progress.flight else {
+            return Ok(None);
+        };
+        let seen = self.see(cpu, &place);
+        let step = seen.next(place);
+        let answer = step.answer;
+        self.enter(cpu, step.entry)?;
+        self.move_cpu(cpu, step);
+        Ok(answer)
     }
 
     // The next step of the consumer's call.
@@ -91,8 +63,14 @@ impl<S: Schema, B: TraceBuffer<S>> Machine<S, B> {
         ensures refused { OnErr result (self.new ≡ self.old) }
     {
         match flight {
-            ConsumerFlight::Begun(op) => self.step_consumer_begun(op),
-            ConsumerFlight::CleanLoad(slot, released) => Ok(self.step_clean_load(slot, released)),
+            ConsumerFlight::Begun(op) => match op {
+                ConsumerOp::Ask(cpu) => Ok(self.step_ask(cpu)),
+                ConsumerOp::Take(cpu) => self.step_take(cpu),
+                ConsumerOp::GiveBack(cpu) => Ok(self.step_give_back(cpu)),
+                ConsumerOp::Clean => Ok(self.load_slot(1, 0)),
+                ConsumerOp::Stop => self.step_stop(),
+            },
+            ConsumerFlight::CleanLoad(slot, released) => Ok(self.load_slot(slot, released)),
             ConsumerFlight::CleanAck(slot, word, cpu, released) => {
                 Ok(self.step_clean_ack(slot, word, cpu, released))
             }

@@ -34,9 +34,8 @@ returns-in_default g c =
 
 pub settle_fate-fate-requires-clause-present : goal.settle_fate-fate-requires-clause-present
 settle_fate-fate-requires-clause-present g c =
-    let h = history c.args.self.now in
     let reads = slot_read c.requires.closable.shown c.args.cpu c.args.slot c.requires.cpu c.requires.slot c.index.ensures c.index-word.ensures c.index-2.ensures in
-    subst (λ (id : Speculation). id.issue ≡ issue id.slot h) (sym (named_present reads c.of-id.ensures c.issue.ensures.value)) refl
+    subst (λ (id : Speculation). id.issue ≡ issue id.slot (history c.args.self.now)) (sym (named_present reads c.of-id.ensures c.issue.ensures.value)) refl
 
 pub enter_settle-requires-clause-may : goal.enter_settle-requires-clause-may
 enter_settle-requires-clause-may g c =

@@ -1,6 +1,7 @@
 -- Each deed is entered as what is asked of it.
-use Rattle.std.proofs.Common.{refl, subst}
-use Rattle.dspec_core.specs.Words.{Entry, entry_deeds, history, MayCome}
+use Rattle.std.proofs.Common.{arith, refl}
+use Rattle.std.proofs.lemmas.Bool.Decides.{nat_tests}
+use Rattle.dspec_core.specs.Words.{history}
 use Rattle.dspec_core.proofs.Entries.{few_calls, few_takes, may_next, may_next_on, one_comes, opened_slot, passes, released_slot}
 use Rattle.dspec_core.proofs.OwnSlots.{settled_slot}
 use Rattle.dspec_core.proofs.machine.Machine.enter.Goals as goal
@@ -36,16 +37,10 @@ enter_speculate-requires g c =
     record { may = may_next_on next is _ refl; few = few_calls next is _ refl; accepted = passes next is }
 
 pub enter_decision-requires : goal.enter_decision-requires
-enter_decision-requires g c =
-    let next = one_comes c.args.cpu c.args.entry c.in-One.deed c.in-One.is c.requires.next in
-    let is = c.in-Commit.is in
-    record { may = may_next_on next is _ refl; few = few_calls next is _ refl }
+enter_decision-requires g c = grind (arith, nat_tests, one_comes, may_next_on, few_calls, c.in-One.is, c.requires.next, c.in-Commit.is)
 
 pub enter_decision-requires-in-Discard : goal.enter_decision-requires-in-Discard
-enter_decision-requires-in-Discard g c =
-    let next = one_comes c.args.cpu c.args.entry c.in-One.deed c.in-One.is c.requires.next in
-    let is = c.in-Discard.is in
-    record { may = may_next_on next is _ refl; few = few_calls next is _ refl }
+enter_decision-requires-in-Discard g c = grind (arith, nat_tests, one_comes, may_next_on, few_calls, c.in-One.is, c.requires.next, c.in-Discard.is)
 
 pub enter_settle-requires : goal.enter_settle-requires
 enter_settle-requires g c =
@@ -69,7 +64,4 @@ pub enter_halt-requires : goal.enter_halt-requires
 enter_halt-requires g c = record { may = may_next (one_comes c.args.cpu c.args.entry c.in-One.deed c.in-One.is c.requires.next) c.in-Halt.is }
 
 pub enter_solo_discard-requires : goal.enter_solo_discard-requires
-enter_solo_discard-requires g c =
-    let may = MayCome g.B.TraceBuffer.has g.B.TraceBuffer.capacity g.S.Schema.shape_of g.S.Schema.accepted c.args.self.now in
-    let next = subst (λ (x : Entry). may (entry_deeds c.args.cpu x)) c.in-Alone.is c.requires.next in
-    record { may = record { shown = next.kept.shown; ranges = next.kept.coherent.ranges; legal = next.legal; cpu = c.requires.cpu }; discard = refl }
+enter_solo_discard-requires g c = grind (arith, nat_tests, c.in-Alone.is, c.requires.next, c.requires.cpu)

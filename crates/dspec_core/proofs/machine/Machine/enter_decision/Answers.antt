@@ -26,13 +26,10 @@ leave_undecided-requires g c =
     let d = deed_of c.args.decision c.args.cpu c.args.id c.args.fate in
     let was = may.shown in
     let own = c.index_mut-own.result.now in
-    let got = cpu_got _ _ m was a own may.cpu c.index_mut-own.ensures.value in
-    let shows = was.cpus a own got in
-    let id = c.args.id in
-    let pushed : c.push.new.self ≡ m.deeds ++ d ∷ [] = c.in_ok-push.ensures.ok ∙ ap (λ (x : Deed). m.deeds ++ x ∷ []) c.deed-deed.ensures in
+    let shows = was.cpus a own (cpu_got _ _ m was a own may.cpu c.index_mut-own.ensures.value) in
     let legal = may.legal in
     record {
-      nothing = nothing_decided m.config a id c.args.fate h c.args.decision nothing legal.0;
+      nothing = nothing_decided m.config a c.args.id c.args.fate h c.args.decision nothing legal.0;
       calls = call_fits (g.S.Schema.shape_of m.schema) m.config a _ _ h own.side shows.side may.ranges d legal c.requires.few;
       counts = counts_fit (g.S.Schema.shape_of m.schema) m.config a _ _ h own.side shows.side may.ranges d legal c.requires.few;
     }
@@ -123,25 +120,22 @@ pub index-word-requires : goal.index-word-requires
 index-word-requires g c =
     let may = c.requires.may in
     let decides = sym c.decides.ensures ∙ c.if-not-decides.false in
-    let m = c.args.self.now in
     let block = decided_block may.shown c.args.cpu may.cpu c.index_mut-own-2.ensures.value may.ranges c.args.id c.args.fate c.args.decision decides may.legal.0 in
-    read_place m may.shown c.args.id.slot c.slot.result block.slot c.slot.ensures.value
+    read_place c.args.self.now may.shown c.args.id.slot c.slot.result block.slot c.slot.ensures.value
 
 pub leaves-requires : goal.leaves-requires
 leaves-requires g c =
     let may = c.requires.may in
     let decides = sym c.decides.ensures ∙ c.if-not-decides.false in
-    let m = c.args.self.now in
     let block = decided_block may.shown c.args.cpu may.cpu c.index_mut-own-2.ensures.value may.ranges c.args.id c.args.fate c.args.decision decides may.legal.0 in
-    read_released m may.shown may.ranges block.sound c.args.id.slot c.slot.result c.index-word.result.now block.slot c.slot.ensures.value c.index-word.ensures
+    read_released c.args.self.now may.shown may.ranges block.sound c.args.id.slot c.slot.result c.index-word.result.now block.slot c.slot.ensures.value c.index-word.ensures
 
 pub index_mut-requires : goal.index_mut-requires
 index_mut-requires g c =
     let may = c.requires.may in
     let decides = sym c.decides.ensures ∙ c.if-not-decides.false in
-    let m = c.args.self.now in
     let block = decided_block may.shown c.args.cpu may.cpu c.index_mut-own-2.ensures.value may.ranges c.args.id c.args.fate c.args.decision decides may.legal.0 in
-    read_place m may.shown c.args.id.slot c.slot.result block.slot c.slot.ensures.value
+    read_place c.args.self.now may.shown c.args.id.slot c.slot.result block.slot c.slot.ensures.value
 
 pub returns : goal.returns
 returns g c =

@@ -15,15 +15,12 @@ miss-requires g c =
     let may = c.requires.may in
     let m = c.args.self.now in
     let a = c.args.cpu in
-    let h = history m in
     let d = deed.Miss c.args.cpu c.args.slot c.args.busy in
     let was = may.shown in
     let own = c.index_mut-own.result.now in
-    let got = cpu_got _ _ m was a own may.cpu c.index_mut-own.ensures.value in
-    let shows = was.cpus a own got in
-    let legal = may.legal in
+    let shows = was.cpus a own (cpu_got _ _ m was a own may.cpu c.index_mut-own.ensures.value) in
     record {
-      counts = counts_fit (g.S.Schema.shape_of m.schema) m.config a _ _ h own.side shows.side may.ranges d legal c.requires.few;
+      counts = counts_fit (g.S.Schema.shape_of m.schema) m.config a _ _ (history m) own.side shows.side may.ranges d may.legal c.requires.few;
     }
 
 pub returns : goal.returns

@@ -18,8 +18,7 @@ overflow_sub-place g c =
     let m = c.args.self.now in
     let h = history m in
     let sound = may.legal.0 in
-    let given = decided_given m.config h (present c.args.slot h) sound.0 sound.1.1.0.0 in
-    (opened_in_range m.config h (present c.args.slot h) (set_up m.config may.ranges).1 sound.0 given).0
+    (opened_in_range m.config h (present c.args.slot h) (set_up m.config may.ranges).1 sound.0 (decided_given m.config h (present c.args.slot h) sound.0 sound.1.1.0.0)).0
 
 pub of-requires : goal.of-requires
 of-requires g c =
@@ -45,8 +44,7 @@ returns-clause-shown g c =
     let d = deed.Release slot in
     let was = may.shown in
     let sound = may.legal.0 in
-    let given = decided_given m.config h (present slot h) sound.0 sound.1.1.0.0 in
-    let least = (opened_in_range m.config h (present slot h) (set_up m.config may.ranges).1 sound.0 given).0 in
+    let least = (opened_in_range m.config h (present slot h) (set_up m.config may.ranges).1 sound.0 (decided_given m.config h (present slot h) sound.0 sound.1.1.0.0)).0 in
     let read = word_there m.config h m.words.items slot c.index.result.now least c.requires.slot was.words c.index.ensures in
     let issued : c.issue-issue.result ≡ issue slot h = c.issue-issue.ensures.value ∙ ap (λ w. w.issue) read in
     let word : c.of.result ≡ word_at slot (d ∷ h) = c.of.ensures ∙ (ap (λ (i : ℕ). record { issue = i + 1; code = Inactive }) issued ∙ sym (released_word m.config slot h sound.0)) in

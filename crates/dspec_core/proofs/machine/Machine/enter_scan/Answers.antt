@@ -19,8 +19,7 @@ scan-requires g c =
     let d = deed.Scan c.args.cpu c.args.running in
     let was = may.shown in
     let own = c.index_mut-own.result.now in
-    let got = cpu_got _ _ m was a own may.cpu c.index_mut-own.ensures.value in
-    let shows = was.cpus a own got in
+    let shows = was.cpus a own (cpu_got _ _ m was a own may.cpu c.index_mut-own.ensures.value) in
     let legal = may.legal in
     record {
       calls = call_fits (g.S.Schema.shape_of m.schema) m.config a _ _ h own.side shows.side may.ranges d legal c.requires.few;

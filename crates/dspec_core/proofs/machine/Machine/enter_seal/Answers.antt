@@ -20,8 +20,7 @@ seal-own-requires g c =
     let d = deed.Seal c.args.cpu in
     let was = may.shown in
     let own = c.index_mut-own.result.now in
-    let got = cpu_got _ _ m was a own may.cpu c.index_mut-own.ensures.value in
-    let shows = was.cpus a own got in
+    let shows = was.cpus a own (cpu_got _ _ m was a own may.cpu c.index_mut-own.ensures.value) in
     record { seals = seal_counts (g.S.Schema.shape_of m.schema) m.config a _ _ h own.side shows.side m.deeds c.push.new.self d c.in_ok-push.ensures.ok c.in_ok-push.ensures.countable refl }
 
 pub returns : goal.returns

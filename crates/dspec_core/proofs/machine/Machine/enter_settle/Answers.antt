@@ -16,8 +16,7 @@ use Rattle.dspec_core.proofs.machine.Machine.enter_settle.Goals as goal
 pub overflow_sub-place : goal.overflow_sub-place
 overflow_sub-place g c =
     let may = c.requires.may in
-    let block = settled_block may.shown c.args.cpu may.cpu c.index_mut-own.ensures.value may.ranges c.args.id c.args.fate may.legal.0 in
-    subst (λ n. 1 ≤ n) (sym c.slot.ensures.value) block.slot.0
+    subst (λ n. 1 ≤ n) (sym c.slot.ensures.value) (settled_block may.shown c.args.cpu may.cpu c.index_mut-own.ensures.value may.ranges c.args.id c.args.fate may.legal.0).slot.0
 
 pub enter_block-requires : goal.enter_block-requires
 enter_block-requires g c =
@@ -52,11 +51,10 @@ settle-requires g c =
     let block = settled_block may.shown a may.cpu c.index_mut-own.ensures.value may.ranges id f may.legal.0 in
     let after = block_streamed block c.slot.result c.slot.ensures.value f c.enter_block.new.self c.in_ok-enter_block.ensures.streamed in
     let place = place_there _ _ _ _ _ _ after.shows id block.slot in
-    let acks = ack_there _ _ _ _ _ _ after.shows id block.slot in
     let pushed = c.in_ok-enter_block.ensures.deeds in
     let lt = c.in_ok-enter_block.ensures.countable in
     record {
-      slot = (place.0, place.1, acks.1);
+      slot = (place.0, place.1, (ack_there _ _ _ _ _ _ after.shows id block.slot).1);
       drops = lost_counts shape m.config a _ _ _ _ after.shows m.deeds c.enter_block.new.deeds (Settle a id f) pushed lt refl f;
       room = decide_counts shape m.config a _ _ _ _ after.shows m.deeds c.enter_block.new.deeds (Settle a id f) pushed lt refl f
           (λ w. settle_counts m.config a w (history m) id f (settles_on f (settles_as m.config a id f (history m) may.legal.0))) may.legal;

@@ -28,10 +28,9 @@ overflow_sub-place g c =
 pub index-requires : goal.index-requires
 index-requires g c =
     let may = c.requires.may in
-    let m = c.args.self.now in
     let block = decided_block may.shown c.args.cpu may.cpu c.index_mut-own.ensures.value may.ranges c.args.id c.args.fate decision.Discard c.requires.discard
     may.legal.0.0 in
-    read_place m may.shown c.args.id.slot c.slot-2.result block.slot c.slot-2.ensures.value
+    read_place c.args.self.now may.shown c.args.id.slot c.slot-2.result block.slot c.slot-2.ensures.value
 
 pub is_mine-mine-requires : goal.is_mine-mine-requires
 is_mine-mine-requires g c =
@@ -77,10 +76,9 @@ of-requires g c =
 pub index_mut-requires : goal.index_mut-requires
 index_mut-requires g c =
     let may = c.requires.may in
-    let m = c.args.self.now in
     let block = decided_block may.shown c.args.cpu may.cpu c.index_mut-own.ensures.value may.ranges c.args.id c.args.fate decision.Discard c.requires.discard
     may.legal.0.0 in
-    read_place m may.shown c.args.id.slot c.slot-2.result block.slot c.slot-2.ensures.value
+    read_place c.args.self.now may.shown c.args.id.slot c.slot-2.result block.slot c.slot-2.ensures.value
 
 pub returns : goal.returns
 returns g c =
@@ -105,7 +103,6 @@ returns g c =
           let kept = own_deed _ _ m.schema k a h own block.shows d c.decide.new.self own.accepted refl side (ap (λ (x : CpuState g.row.B.Denot). x.counts.worn) c.decide.ensures.rest)
           block.shows.accepted in
           let count = was.cpu_count in
-          let all = cpus_set _ _ m.schema k h m.cpus.items was.cpus d a _ refl (let lt = may.cpu in omega arith) kept in
           shown_as g.B.TraceBuffer.has g.B.TraceBuffer.capacity _ (Release id.slot ∷ d ∷ h) deeds record {
             words =
                 let read = read_word m was id.slot c.slot-2.result c.index.result.now block.slot c.slot-2.ensures.value c.index.ensures in
@@ -115,7 +112,7 @@ returns g c =
                 (solo_words k a id f h m.words.items c.of.result block.slot left was.words);
             active = was.active;
             cpu_count = length-set m.cpus.items a _ ∙ was.cpu_count;
-            cpus = cpus_released _ _ m.schema k (d ∷ h) _ all id.slot;
+            cpus = cpus_released _ _ m.schema k (d ∷ h) _ (cpus_set _ _ m.schema k h m.cpus.items was.cpus d a _ refl (let lt = may.cpu in omega arith) kept) id.slot;
           };
       entered = adds_all m _ (Release id.slot ∷ d ∷ []) refl refl refl deeds (map_set (λ own. own.progress) m.cpus.items a own _ block.got refl);
       refused = search rules;

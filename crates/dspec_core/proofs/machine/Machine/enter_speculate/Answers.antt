@@ -17,26 +17,23 @@ use Rattle.dspec_core.proofs.machine.Machine.enter_speculate.Goals as goal
 pub speculate_nowhere-requires : goal.speculate_nowhere-requires
 speculate_nowhere-requires g c =
     let may = c.requires.may in
-    let granted = sym c.is_granted.ensures ∙ c.if-not-is_granted.true in
     let m = c.args.self.now in
     let a = c.args.cpu in
     let h = history m in
     let d = Speculate a c.args.id c.args.rec.now c.args.fate in
     let was = may.shown in
     let own = c.index_mut-own.result.now in
-    let got = cpu_got _ _ m was a own may.cpu c.index_mut-own.ensures.value in
-    let shows = was.cpus a own got in
+    let shows = was.cpus a own (cpu_got _ _ m was a own may.cpu c.index_mut-own.ensures.value) in
     let legal = may.legal in
     record {
       calls = call_fits (g.S.Schema.shape_of m.schema) m.config a _ _ h own.side shows.side may.ranges d legal c.requires.few;
       counts = counts_fit (g.S.Schema.shape_of m.schema) m.config a _ _ h own.side shows.side may.ranges d legal c.requires.few;
-      nowhere = granted;
+      nowhere = sym c.is_granted.ensures ∙ c.if-not-is_granted.true;
     }
 
 pub returns-then-not-is_granted : goal.returns-then-not-is_granted
 returns-then-not-is_granted g c =
     let may = c.requires.may in
-    let granted = sym c.is_granted.ensures ∙ c.if-not-is_granted.true in
     let m = c.args.self.now in
     let a = c.args.cpu in
     let h = history m in
@@ -51,7 +48,7 @@ returns-then-not-is_granted g c =
           c.args.rec.now shows.side)
           (ap (λ (x : CpuState g.row.B.Denot). x.counts.worn) c.speculate_nowhere.ensures.rest) shows.accepted in
           enters _ _ m c.push.new.self m.words d a _ was may.cpu (latest_first m.deeds c.push.new.self d c.in_ok-push.ensures.ok) refl refl
-          (words_stay m.config d h m.words.items (λ t. rw granted refl) was.words) now;
+          (words_stay m.config d h m.words.items (λ t. rw (sym c.is_granted.ensures ∙ c.if-not-is_granted.true) refl) was.words) now;
       entered = adds_own m c.push.new.self m.words d a own _ (latest_first m.deeds c.push.new.self d c.in_ok-push.ensures.ok) got refl;
       refused = search rules;
     }
@@ -59,16 +56,14 @@ returns-then-not-is_granted g c =
 pub overflow_sub-place : goal.overflow_sub-place
 overflow_sub-place g c =
     let may = c.requires.may in
-    let granted = sym c.is_granted.ensures ∙ c.if-not-is_granted.false in
-    let slot = granted_slot c.args.self.now may.ranges c.args.cpu c.args.id c.args.rec.now c.args.fate granted may.legal.0 in
+    let slot = granted_slot c.args.self.now may.ranges c.args.cpu c.args.id c.args.rec.now c.args.fate (sym c.is_granted.ensures ∙ c.if-not-is_granted.false) may.legal.0 in
     subst (λ n. 1 ≤ n) (sym c.slot.ensures.value) slot.0
 
 pub index-word-requires : goal.index-word-requires
 index-word-requires g c =
     let may = c.requires.may in
-    let granted = sym c.is_granted.ensures ∙ c.if-not-is_granted.false in
     let m = c.args.self.now in
-    let slot = granted_slot m may.ranges c.args.cpu c.args.id c.args.rec.now c.args.fate granted may.legal.0 in
+    let slot = granted_slot m may.ranges c.args.cpu c.args.id c.args.rec.now c.args.fate (sym c.is_granted.ensures ∙ c.if-not-is_granted.false) may.legal.0 in
     read_place m may.shown c.args.id.slot c.slot.result slot c.slot.ensures.value
 
 pub is_mine-mine-requires : goal.is_mine-mine-requires
@@ -89,10 +84,8 @@ grant-requires g c =
     let shape = g.S.Schema.shape_of m.schema in
     let block = granted_block may.shown a may.cpu c.index_mut-own.ensures.value may.ranges id c.args.rec.now c.args.fate granted may.legal.0 in
     let place = place_there _ _ _ _ _ _ block.shows.side id block.slot in
-    let marks = mark_there _ _ _ _ _ _ block.shows.side id block.slot in
-    let specdrops = specdrop_there _ _ _ _ _ _ block.shows.side id block.slot in
     record {
-      slot = (place.0, place.1, marks.1, specdrops.1);
+      slot = (place.0, place.1, (mark_there _ _ _ _ _ _ block.shows.side id block.slot).1, (specdrop_there _ _ _ _ _ _ block.shows.side id block.slot).1);
       marked = c.is_mine-mine.ensures.marked;
       accepted = c.requires.accepted;
       laid = tt;
@@ -103,17 +96,15 @@ grant-requires g c =
 pub speculate_at-requires : goal.speculate_at-requires
 speculate_at-requires g c =
     let may = c.requires.may in
-    let granted = sym c.is_granted.ensures ∙ c.if-not-is_granted.false in
     let m = c.args.self.now in
-    let slot = granted_slot m may.ranges c.args.cpu c.args.id c.args.rec.now c.args.fate granted may.legal.0 in
+    let slot = granted_slot m may.ranges c.args.cpu c.args.id c.args.rec.now c.args.fate (sym c.is_granted.ensures ∙ c.if-not-is_granted.false) may.legal.0 in
     read_released m may.shown may.ranges may.legal.0.0 c.args.id.slot c.slot.result c.index-word.result.now slot c.slot.ensures.value c.index-word.ensures
 
 pub index_mut-requires : goal.index_mut-requires
 index_mut-requires g c =
     let may = c.requires.may in
-    let granted = sym c.is_granted.ensures ∙ c.if-not-is_granted.false in
     let m = c.args.self.now in
-    let slot = granted_slot m may.ranges c.args.cpu c.args.id c.args.rec.now c.args.fate granted may.legal.0 in
+    let slot = granted_slot m may.ranges c.args.cpu c.args.id c.args.rec.now c.args.fate (sym c.is_granted.ensures ∙ c.if-not-is_granted.false) may.legal.0 in
     read_place m may.shown c.args.id.slot c.slot.result slot c.slot.ensures.value
 
 pub returns : goal.returns

@@ -31,8 +31,7 @@ trace_stopped-requires g c =
     let a = c.args.cpu in
     let d = deed.Trace a c.args.rec.now c.args.fate in
     let shape = g.S.Schema.shape_of m.schema in
-    let shows = cpu_read _ _ m may.shown a _ may.cpu c.index_mut-own.ensures.value in
-    let mid = put_side _ _ _ _ _ _ _ shows c.enter_record.new.self _ c.in_ok-enter_record.ensures.streamed in
+    let mid = put_side _ _ _ _ _ _ _ (cpu_read _ _ m may.shown a _ may.cpu c.index_mut-own.ensures.value) c.enter_record.new.self _ c.in_ok-enter_record.ensures.streamed in
     record {
       calls = call_fits shape m.config a _ _ _ _ mid may.ranges d may.legal c.requires.few;
       counts = counts_fit shape m.config a _ _ _ _ mid may.ranges d may.legal c.requires.few;
@@ -45,8 +44,7 @@ trace-requires g c =
     let a = c.args.cpu in
     let d = deed.Trace a c.args.rec.now c.args.fate in
     let shape = g.S.Schema.shape_of m.schema in
-    let shows = cpu_read _ _ m may.shown a _ may.cpu c.index_mut-own.ensures.value in
-    let mid = put_side _ _ _ _ _ _ _ shows c.enter_record.new.self _ c.in_ok-enter_record.ensures.streamed in
+    let mid = put_side _ _ _ _ _ _ _ (cpu_read _ _ m may.shown a _ may.cpu c.index_mut-own.ensures.value) c.enter_record.new.self _ c.in_ok-enter_record.ensures.streamed in
     record {
       accepted = c.requires.accepted;
       laid = tt;
@@ -71,10 +69,9 @@ returns-then-matches g c =
     record {
       shown =
           let shows = cpu_read _ _ m may.shown a own may.cpu c.index_mut-own.ensures.value in
-          let mid = put_side _ _ _ _ _ _ _ shows c.enter_record.new.self _ streamed in
           let stopped : f ≡ traced.Stopped = elim c.match-matches.branch [ in-Stopped w ↦ w.in-Stopped.is | in_default w ↦ absurd (true≢false (sym c.if-matches.true ∙ w.matches-is)) ] in
           let side = subst (λ f. ShowsList (λ b. g.B.TraceBuffer.has b m.schema) g.B.TraceBuffer.capacity k a (deed.Trace a r f ∷ h) c.trace_stopped.new.self) (sym stopped)
-          (c.trace_stopped.ensures.shows m.schema k a h r mid) in
+          (c.trace_stopped.ensures.shows m.schema k a h r (put_side _ _ _ _ _ _ _ shows c.enter_record.new.self _ streamed)) in
           let now = put_deed _ _ m.schema k a h own shows d c.enter_record.new.self _ c.trace_stopped.new.self streamed refl side
           (ap (λ (x : CpuState g.row.B.Denot). x.counts.worn) c.trace_stopped.ensures.rest) (stream_traces a r f h own.accepted shows.accepted) in
           enters _ _ m c.enter_record.new.deeds m.words d a _ may.shown may.cpu deeds refl refl (words_stay k d h m.words.items (λ t. refl) may.shown.words) now;

@@ -1,6 +1,7 @@
 -- One CPU more is collected, and in the end all of them are.
-use Rattle.std.proofs.Common.{◌≡◌, ◌∙◌, arith}
-use Rattle.dspec_core.specs.Words.{progress_of, history, state_of, stream, report, closing}
+use Rattle.std.proofs.lemmas.Bool.Decides.{nat_tests}
+use Rattle.std.proofs.Common.{◌∙◌, arith}
+use Rattle.dspec_core.specs.Words.{progress_of, history, state_of, stream, report}
 use Rattle.dspec_core.proofs.Collected.{one_more_cpu, streams_there, reports_there}
 use Rattle.dspec_core.proofs.MachineReads.{cpu_read}
 use Rattle.dspec_core.proofs.machine.Machine.finish.Goals as goal
@@ -17,21 +18,7 @@ loop-cpu-preserved g c =
     )
 
 pub returns-clause-accepted : goal.returns-clause-accepted
-returns-clause-accepted g c =
-    let m = c.args.self in
-    let n = c.close.new.self in
-    let shape = g.S.Schema.shape_of m.schema in
-    let least = c.loop-cpu-test.false in
-    let most = c.loop-cpu.auto.cpu-end in
-    let all : c.loop-cpu.cpu ≡ n.config.cpus = omega (arith, least, most) in
-    streams_there m n (closing shape m.config (history m)) c.loop-cpu.accepted c.loop-cpu.cpu c.in_ok-close.ensures.settled c.loop-cpu.invariant.0 all
+returns-clause-accepted g c = grind (arith, nat_tests, streams_there, c.loop-cpu-test.false, c.in_ok-close.ensures.settled, c.loop-cpu.invariant.0)
 
 pub returns-clause-reports : goal.returns-clause-reports
-returns-clause-reports g c =
-    let m = c.args.self in
-    let n = c.close.new.self in
-    let shape = g.S.Schema.shape_of m.schema in
-    let least = c.loop-cpu-test.false in
-    let most = c.loop-cpu.auto.cpu-end in
-    let all : c.loop-cpu.cpu ≡ n.config.cpus = omega (arith, least, most) in
-    reports_there m n (closing shape m.config (history m)) c.loop-cpu.reports c.loop-cpu.cpu c.in_ok-close.ensures.settled c.loop-cpu.invariant.1 all
+returns-clause-reports g c = grind (arith, nat_tests, reports_there, c.loop-cpu-test.false, c.in_ok-close.ensures.settled, c.loop-cpu.invariant.1)

@@ -9,11 +9,9 @@ is_mine-mine-requires g c =
     let m = c.args.self.now in
     let a = c.args.cpu in
     let id = c.args.id in
-    let h = history m in
     let own = c.index.result.now in
-    let shows = cpu_read _ _ m c.requires.shown a own c.requires.cpu c.index.ensures in
     let slot = slot_in_range m.config id c.requires.slot in
-    record { slot = mark_there _ _ m.config a h own.side shows.side id slot }
+    record { slot = mark_there _ _ m.config a (history m) own.side (cpu_read _ _ m c.requires.shown a own c.requires.cpu c.index.ensures).side id slot }
 
 pub fits_slot-requires : goal.fits_slot-requires
 fits_slot-requires g c =

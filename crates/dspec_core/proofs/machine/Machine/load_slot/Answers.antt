@@ -19,21 +19,19 @@ returns-in-Attempt g c =
     let m = c.args.self.now in
     let h = history m in
     let word = c.index-word.result.now in
-    let is = word_there m.config h m.words.items c.args.slot word c.requires.slot.0 c.requires.slot.1 c.requires.shown.words c.index-word.ensures in
     let awaited = tried_awaits word _ (sym c.reap_at.ensures ∙ c.in-Attempt.is) in
     subst (λ (w : SlotState). ConsumerMakes g.B.TraceBuffer.has g.B.TraceBuffer.capacity m c.keep_on.new.self
     (if awaits w.code then keeps_on m.config h m.consumer (state_of m).progresses [] (flight.CleanAck c.args.slot w 0 c.args.released) else next_slot m.config h m.consumer
     (state_of m).progresses c.args.slot [] c.args.released) c.keep_on.result)
-    is (rw awaited c.keep_on.ensures)
+    (word_there m.config h m.words.items c.args.slot word c.requires.slot.0 c.requires.slot.1 c.requires.shown.words c.index-word.ensures) (rw awaited c.keep_on.ensures)
 
 pub returns-in_default : goal.returns-in_default
 returns-in_default g c =
     let m = c.args.self.now in
     let h = history m in
     let word = c.index-word.result.now in
-    let is = word_there m.config h m.words.items c.args.slot word c.requires.slot.0 c.requires.slot.1 c.requires.shown.words c.index-word.ensures in
     let awaited = untried_awaits word (λ to e. c.in_default.not-Attempt to (c.reap_at.ensures ∙ e)) in
     subst (λ (w : SlotState). ConsumerMakes g.B.TraceBuffer.has g.B.TraceBuffer.capacity m c.clean_next.new.self
     (if awaits w.code then keeps_on m.config h m.consumer (state_of m).progresses [] (flight.CleanAck c.args.slot w 0 c.args.released) else next_slot m.config h m.consumer
     (state_of m).progresses c.args.slot [] c.args.released) c.clean_next.result)
-    is (rw awaited c.clean_next.ensures)
+    (word_there m.config h m.words.items c.args.slot word c.requires.slot.0 c.requires.slot.1 c.requires.shown.words c.index-word.ensures) (rw awaited c.clean_next.ensures)

@@ -23,11 +23,10 @@ returns g c =
     let own = c.index_mut-own.result.now in
     let got = cpu_got has capacity m c.requires.shown c.args.cpu own c.requires.cpu c.index_mut-own.ensures.value in
     let few : c.args.step.worn < 2 ^ 64 = omega arith in
-    let counted = c.count_steps-own.ensures in
     let moved = moving has capacity m.schema m.config c.args.cpu (history m) own (c.requires.shown.cpus c.args.cpu own got) _ _ refl refl few in
     record {
       shown = cpu_puts has capacity m c.args.cpu own _ c.requires.shown got moved;
       state = state_moves m c.args.cpu own _ (moved_by c.args.step) got
-          (ap (λ n. record own.progress { flight = c.args.step.flight; steps = n; spare = c.args.step.spare; worn = c.args.step.worn }) counted);
+          (ap (λ n. record own.progress { flight = c.args.step.flight; steps = n; spare = c.args.step.spare; worn = c.args.step.worn }) c.count_steps-own.ensures);
       schema = refl;
     }

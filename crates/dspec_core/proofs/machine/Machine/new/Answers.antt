@@ -41,5 +41,4 @@ returns-clause-state g c =
     let m : Machine g.row.S.Denot g.row.B.Denot =
     record { config = k; schema = c.args.schema; words = c.loop.words; halted = false; cpus = c.loop-2.cpus; consumer = record { flight = None; steps = 0 }; deeds = c.new.result } in
     let all_cpus : c.loop-2.counter ≡ k.cpus = omega arith in
-    let cpus = subst (λ n. Made (HasBegun has capacity k) n c.loop-2.cpus.items) all_cpus c.loop-2.invariant in
-    state_at_start has capacity m c.new.ensures refl cpus
+    state_at_start has capacity m c.new.ensures refl (subst (λ n. Made (HasBegun has capacity k) n c.loop-2.cpus.items) all_cpus c.loop-2.invariant)

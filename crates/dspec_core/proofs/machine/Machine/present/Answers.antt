@@ -1,5 +1,6 @@
 -- The word that is read is the slot's.
-use Rattle.std.proofs.Common.{refl, ap, ◌∙◌, arith}
+use Rattle.std.proofs.lemmas.Bool.Decides.{nat_tests}
+use Rattle.std.proofs.Common.{ap, ◌∙◌, arith}
 use Rattle.dspec_core.specs.Words.{history}
 use Rattle.dspec_interleaving.proofs.StepReads.{slots_fit}
 use Rattle.dspec_core.proofs.MachineReads.{place_within}
@@ -7,16 +8,10 @@ use Rattle.dspec_core.proofs.OneMore.{word_there}
 use Rattle.dspec_core.proofs.machine.Machine.present.Goals as goal
 
 pub index-requires : goal.index-requires
-index-requires g c =
-    let m = c.args.self.now in
-    let slot = c.requires.slot in
-    place_within c.args.slot c.args.slot m.config.nspec m.words.len refl slot.0 slot.1 (m.words.ok.0 ∙ c.requires.shown.words.count)
+index-requires g c = grind (arith, nat_tests, place_within, c.requires.slot, c.requires.shown.words.count)
 
 pub of-requires-clause-slot : goal.of-requires-clause-slot
-of-requires-clause-slot g c =
-    let most = slots_fit c.args.self.now.config c.requires.ranges in
-    let slot = c.requires.slot.1 in
-    omega arith
+of-requires-clause-slot g c = grind (arith, nat_tests, slots_fit, c.requires.ranges, c.requires.slot.1)
 
 pub returns : goal.returns
 returns g c =

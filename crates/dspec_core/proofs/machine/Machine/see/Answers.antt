@@ -1,6 +1,8 @@
 -- What the machine keeps of the call's slot and of the CPU, and whether its record fits.
+use Rattle.std.proofs.lemmas.Bool.Decides.{nat_tests}
 use Rattle.std.proofs.Common.{◌≡◌, length, refl, sym, ap, ◌∙◌, subst, arith}
-use Rattle.dspec_core.specs.Words.{ack, aimed, callers, fits_held, held, history, is_among, issue, IsSlot, Speculation, word_at}
+use Rattle.std.specs.Prelude.{nat_le}
+use Rattle.dspec_core.specs.Words.{ack, callers, fits_held, held, history, is_among, issue, IsSlot, Speculation, word_at}
 use Rattle.dspec_core.proofs.Driving.{place_aimed, place_slot}
 use Rattle.dspec_core.proofs.MachineReads.{ack_read, cpu_got, cpu_read, slot_inside}
 use Rattle.dspec_core.proofs.OneMore.{progress_there, read_place, read_word}
@@ -11,9 +13,7 @@ pub aim-id-requires-clause-slot : goal.aim-id-requires-clause-slot
 aim-id-requires-clause-slot g c = place_slot c.requires.kept c.args.cpu c.requires.cpu c.args.place.now c.requires.flight
 
 pub fits_call-fits-requires-clause-slot : goal.fits_call-fits-requires-clause-slot
-fits_call-fits-requires-clause-slot g c =
-    let m = c.args.self.now in
-    slot_inside m.config (aimed (history m) c.args.place.now) (place_slot c.requires.kept c.args.cpu c.requires.cpu c.args.place.now c.requires.flight)
+fits_call-fits-requires-clause-slot g c = grind (arith, nat_tests, slot_inside, place_slot, c.requires.kept, c.requires.cpu, c.requires.flight)
 
 pub is_mine-mine-requires : goal.is_mine-mine-requires
 is_mine-mine-requires g c =
@@ -30,16 +30,10 @@ measure-copies-requires g c =
     record { slot = place_there _ _ m.config c.args.cpu (history m) _ shows.side c.aim-id.result slot }
 
 pub overflow_sub-slot : goal.overflow_sub-slot
-overflow_sub-slot g c =
-    let slot = place_aimed c.requires.kept c.args.cpu c.requires.cpu c.args.place.now c.requires.flight c.aim-id.result c.aim-id.ensures in
-    let named = c.slot.ensures.value in
-    let low = slot.0 in
-    omega arith
+overflow_sub-slot g c = grind (arith, nat_tests, place_aimed, c.slot.ensures.value, c.requires.kept, c.requires.cpu, c.requires.flight, c.aim-id.ensures)
 
 pub index-word-requires : goal.index-word-requires
-index-word-requires g c =
-    let slot = place_aimed c.requires.kept c.args.cpu c.requires.cpu c.args.place.now c.requires.flight c.aim-id.result c.aim-id.ensures in
-    read_place c.args.self.now c.requires.kept.shown c.aim-id.result.slot c.slot.result slot c.slot.ensures.value
+index-word-requires g c = grind (arith, nat_tests, place_aimed, read_place, c.requires.kept, c.requires.cpu, c.requires.flight, c.aim-id.ensures, c.requires.kept.shown, c.slot.ensures.value)
 
 pub index-acked-requires : goal.index-acked-requires
 index-acked-requires g c =
@@ -57,7 +51,6 @@ returns g c =
     let has = g.B.TraceBuffer.has in
     let capacity = g.B.TraceBuffer.capacity in
     let m = c.args.self.now in
-    let shape = g.S.Schema.shape_of m.schema in
     let a = c.args.cpu in
     let h = history m in
     let id = c.aim-id.result in
@@ -74,7 +67,7 @@ returns g c =
       at = record {
         config = refl;
         cpu = refl;
-        worn = c.is_worn.ensures;
+        worn = ap (nat_le m.config.max_calls) shows.side.parts.called;
         stopped = shown.active;
         word = read_word m shown id.slot c.slot.result c.index-word.result.now slot named c.index-word.ensures ∙ ap (λ (j : Speculation). word_at j.slot h) same;
         acked = ack_read has capacity m shown a c.slot.result own c.index-acked.result.now c.requires.cpu (subst (IsSlot m.config) (sym named) slot) c.index-own.ensures c.index-acked.ensures
@@ -84,7 +77,7 @@ returns g c =
             let caller = caller_is _ _ m.config a h own.side shows.side id slot c.requires.cpu sound now' c.is_mine-mine.result tells in
             record {
               mine = among_is _ _ m.config a h own.side shows.side id slot c.requires.cpu sound now' c.is_mine-mine.result tells ∙ ap (λ j. is_among a (callers j h)) same;
-              copies = c.measure-copies.ensures.fits m.schema a h shows.side caller ∙ ap (fits_held shape m.config a h) same;
+              copies = c.measure-copies.ensures.fits m.schema a h shows.side caller ∙ ap (fits_held (g.S.Schema.shape_of m.schema) m.config a h) same;
               count = c.measure-copies.ensures.count m.schema a h shows.side caller ∙ ap (λ j. length (held a j h)) same;
             };
         missed = shows.side.parts.missed;

@@ -24,6 +24,5 @@ returns g c =
     let shows = cpu_read _ _ m c.requires.shown a c.index.result.now c.requires.cpu c.index.ensures in
     let caller = caller_is _ _ m.config a h _ shows.side c.args.id (slot_in_range m.config c.args.id c.requires.slot) c.requires.cpu c.requires.sound (sym c.requires.present)
     c.is_mine-mine.result c.is_mine-mine.ensures.tells in
-    let fits = c.measure-fits.ensures.fits m.schema a h shows.side caller in
     let count = c.measure-fits.ensures.count m.schema a h shows.side caller in
-    c.settled_as.ensures ∙ (λ i. settled_fate c.args.code (fits i) (count i))
+    c.settled_as.ensures ∙ (λ i. settled_fate c.args.code ((c.measure-fits.ensures.fits m.schema a h shows.side caller) i) (count i))

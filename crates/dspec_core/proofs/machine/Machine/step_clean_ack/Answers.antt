@@ -46,8 +46,7 @@ returns-then-cpu-self g c =
     let at = clean_stands (g.S.Schema.shape_of m.schema) (state_of m) c.requires.stands.coherent _ c.requires.stands.flight in
     let acked = ack_read _ _ m c.requires.stands.shown c.args.cpu c.args.slot c.index.result.now c.index-2.result.now at.2 at.0 c.index.ensures c.index-2.ensures in
     let is = waited_for c.index-2.result.now c.issue.result c.args.word.issue (ack c.args.cpu c.args.slot (history m)) acked c.issue.ensures.value c.if-index-issue.false in
-    let last = eq-eqb (c.args.cpu + 1) m.config.cpus c.if-cpu-self.true in
-    rw (is, last) c.keep_on.ensures
+    rw (is, (eq-eqb (c.args.cpu + 1) m.config.cpus c.if-cpu-self.true)) c.keep_on.ensures
 
 pub returns : goal.returns
 returns g c =
@@ -55,5 +54,4 @@ returns g c =
     let at = clean_stands (g.S.Schema.shape_of m.schema) (state_of m) c.requires.stands.coherent _ c.requires.stands.flight in
     let acked = ack_read _ _ m c.requires.stands.shown c.args.cpu c.args.slot c.index.result.now c.index-2.result.now at.2 at.0 c.index.ensures c.index-2.ensures in
     let is = waited_for c.index-2.result.now c.issue.result c.args.word.issue (ack c.args.cpu c.args.slot (history m)) acked c.issue.ensures.value c.if-index-issue.false in
-    let last = other_number (c.args.cpu + 1) m.config.cpus c.if-cpu-self.false in
-    rw (is, last) c.keep_on-2.ensures
+    rw (is, (other_number (c.args.cpu + 1) m.config.cpus c.if-cpu-self.false)) c.keep_on-2.ensures

@@ -11,8 +11,6 @@ use Rattle.dspec_deeds.proofs.Items.{kept_item}
 use Rattle.dspec_core.proofs.MachineReads.{length_contents, cpu_got}
 use Rattle.dspec_core.proofs.KeptCpus.{taking}
 use Rattle.dspec_core.proofs.Makings.{cpu_puts, state_puts}
-use Rattle.dspec_core.proofs.KeptCpus.{taking}
-use Rattle.dspec_core.proofs.Makings.{cpu_puts, state_puts}
 use Rattle.dspec_core.proofs.OneMore.{progress_there}
 use Rattle.dspec_core.proofs.TakenBatches.{next_batch, taken_more}
 use Rattle.dspec_core.proofs.OwnSlots.{on_err}
@@ -35,9 +33,8 @@ stop_consumer-requires g c =
     let got = cpu_got g.B.TraceBuffer.has g.B.TraceBuffer.capacity m c.requires.shown a own c.requires.cpu c.index_mut-own.ensures.value in
     let shows = c.requires.shown.cpus a own got in
     let sealed : seals a h ≡ own.progress.takes + 1 = subst (λ (x : CpuProgress). seals a h ≡ x.takes + 1) (progress_there m.cpus.items a own got) c.requires.sealed in
-    let grown = c.in_ok-append_records.ensures.ok shows.second.pieces shows.second.has_pieces in
     let took : c.append_records.new.to ≡ taken (own.progress.takes + 1) a h
-    = grown ∙ (ap (λ (rs : List Record). own.taken ++ reverse rs) shows.second.are
+    = (c.in_ok-append_records.ensures.ok shows.second.pieces shows.second.has_pieces) ∙ (ap (λ (rs : List Record). own.taken ++ reverse rs) shows.second.are
     ∙ (ap (λ (rs : List Record). rs ++ reverse (contents (batch_of_last_seal a h).offers)) shows.took ∙ sym (taken_more a h own.progress.takes sealed))) in
     record {
       shown = cpu_puts g.B.TraceBuffer.has g.B.TraceBuffer.capacity m a own _ c.requires.shown got

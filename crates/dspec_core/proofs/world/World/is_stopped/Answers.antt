@@ -1,10 +1,7 @@
 -- Activity shows the list, by what a world keeps.
-use Rattle.std.proofs.Common.{◌≡◌, ◌∙◌, ap}
-use Rattle.dspec_core.specs.Words.{halted, PlayState, state_of}
+use Rattle.std.proofs.Common.{arith}
+use Rattle.std.proofs.lemmas.Bool.Decides.{nat_tests}
 use Rattle.dspec_core.proofs.world.World.is_stopped.Goals as goal
 
 pub returns : goal.returns
-returns g c =
-    let m = c.self.inside.machine in
-    let same : state_of m ≡ c.args.self.now.state = λ i. (c.self.view_is i).state in
-    c.self.invariant.shown.active ∙ ap (λ (st : PlayState). halted st.deeds) same
+returns g c = grind (arith, nat_tests, c.self.view_is, c.self.invariant.shown.active)

@@ -1,5 +1,6 @@
 -- The steps stay below the bound of the call in flight.
-use Rattle.std.proofs.Common.{◌≡◌, ◌<◌, true, refl, sym, ap, subst}
+use Rattle.std.proofs.Common.{arith, ◌≡◌, ◌<◌, true, sym, ap, subst}
+use Rattle.std.proofs.lemmas.Bool.Decides.{nat_tests}
 use Rattle.dspec_deeds.specs.declared.calls.Actor.{Actor}
 use Rattle.dspec_deeds.specs.declared.calls.Actor.TheVariants as actor
 use Rattle.dspec_interleaving.specs.declared.flight.CpuProgress.{CpuProgress}
@@ -17,17 +18,11 @@ returns-in-Cpu-clause-bounded g c =
     let same : state_of m ≡ c.args.self.now.state = λ i. (c.self.view_is i).state in
     let there : is_actor m.config (actor.Cpu a) ≡ true =
     subst (λ (x : Actor). is_actor m.config x ≡ true) c.in-Cpu.is (subst (λ (st : PlayState). is_actor st.config c.args.actor ≡ true) (sym same) c.requires) in
-    let low = steps_below (g.S.Schema.shape_of m.schema) (state_of m) (actor.Cpu a) c.self.invariant.coherent there in
     let got = cpu_got g.B.TraceBuffer.has g.B.TraceBuffer.capacity m c.self.invariant.shown a side (is_below m.config a there) c.index.ensures in
     let made = ap (λ (x : CpuProgress). x.steps) (progress_there m.cpus.items a side got) in
     subst (λ (st : PlayState). side.progress.steps < steps_limit c.args.actor st) same
     (subst (λ (x : Actor). side.progress.steps < steps_limit x (state_of m)) (sym c.in-Cpu.is)
-    (subst (λ n. n < steps_limit (actor.Cpu a) (state_of m)) made low))
+    (subst (λ n. n < steps_limit (actor.Cpu a) (state_of m)) made (steps_below (g.S.Schema.shape_of m.schema) (state_of m) (actor.Cpu a) c.self.invariant.coherent there)))
 
 pub returns-in-Consumer-clause-bounded : goal.returns-in-Consumer-clause-bounded
-returns-in-Consumer-clause-bounded g c =
-    let m = c.self.inside.machine in
-    let same : state_of m ≡ c.args.self.now.state = λ i. (c.self.view_is i).state in
-    subst (λ (st : PlayState). m.consumer.steps < steps_limit c.args.actor st) same
-    (subst (λ (x : Actor). m.consumer.steps < steps_limit x (state_of m)) (sym c.in-Consumer.is)
-    (steps_below (g.S.Schema.shape_of m.schema) (state_of m) actor.Consumer c.self.invariant.coherent refl))
+returns-in-Consumer-clause-bounded g c = grind (arith, nat_tests, steps_below, c.self.view_is, c.in-Consumer.is, c.self.invariant.coherent)

@@ -1,19 +1,12 @@
-use Rattle.std.proofs.Common.{◌≡◌, ◌≤◌, length, reverse, sym, ap, ◌∙◌, subst, arith}
+use Rattle.std.proofs.lemmas.Bool.Decides.{nat_tests}
+use Rattle.std.proofs.Common.{◌≡◌, ◌≤◌, length, reverse, ap, ◌∙◌, subst, arith}
 use Rattle.dspec_core.specs.Words.{reports, IsCoherent, progress_of, Headline, IsPlayingAt, all_ran, all_turned, playing_at_start, worn_count}
 use Rattle.dspec_deeds.specs.declared.config.Config.{Config}
 use Rattle.dspec_interleaving.proofs.PlayerRuns.{IsSoFar, all_idle, same_reports, so_far_first, so_far_last, so_far_unrefused, worn_as_told}
-use Rattle.dspec_core.proofs.player.play.Goals as goal
+use Rattle.dspec_core.proofs.player.play_shown.Goals as goal
 
 pub loop-number-init : goal.loop-number-init
-loop-number-init g c =
-    let shape = g.S.Schema.shape_of c.args.schema in
-    let accepts = g.S.Schema.accepted c.args.schema in (
-      subst (λ l. IsSoFar shape accepts c.args.config.now c.args.turns.now 0 c.in-Ok.world.state l) (sym c.new-answers.ensures)
-          (so_far_first shape accepts c.args.config.now c.args.turns.now c.in-Ok.world.state (λ i. (c.in-Ok.ensures.empty i).state)),
-      λ i. (c.in-Ok.ensures.empty i).schema,
-      λ i. (c.in-Ok.ensures.empty i).state.config,
-      c.in-Ok.ensures.promised,
-    )
+loop-number-init g c = grind (arith, nat_tests, IsSoFar, so_far_first, c.new-answers.ensures, c.in-Ok.ensures.empty, c.in-Ok.ensures.promised)
 
 pub finish-requires : goal.finish-requires
 finish-requires g c = record {

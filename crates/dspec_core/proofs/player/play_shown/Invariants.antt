@@ -2,7 +2,7 @@
 use Rattle.std.proofs.Common.{◌≡◌}
 use Rattle.dspec_core.specs.Words.{HasHeadline}
 use Rattle.dspec_interleaving.proofs.PlayerRuns.{IsSoFar}
-use Rattle.dspec_core.proofs.player.play.Given as goal
+use Rattle.dspec_core.proofs.player.play_shown.Given as goal
 
 abbrev pub invariant-loop-number : goal.invariant-loop-number
 invariant-loop-number g l =

@@ -1,6 +1,0 @@
--- What is promised, from coherence.
-use Rattle.dspec_core.proofs.PromiseKept.{promise_kept}
-use Rattle.dspec_core.proofs.world.World.exists.Goals as goal
-
-pub returns-clause-promised : goal.returns-clause-promised
-returns-clause-promised g c = promise_kept g.S.Schema.shape_of c.self.inside.machine c.args.self.now c.self.view_is c.self.invariant.coherent
