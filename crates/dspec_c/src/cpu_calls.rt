@@ -5,10 +5,6 @@ ghost use Rattle.dspec_c.specs.Handles.{held_in, is_full};
 ghost use Rattle.dspec_c.specs.CpuCalls.{CommitAnswers, CommitIfRoomAnswers, DiscardAnswers, DroppedInAnswers, OpenAtAnswers, ReportAnswers, ServiceAnswers, SpeculateAnswers, SpeculationAnswers, TraceAnswers};
 
 use crate::handle::Handle;
-use crate::held_calls::{
-    held_commit, held_commit_if_room, held_discard, held_dropped_in, held_open_at, held_report,
-    held_service, held_speculate, held_speculation, held_trace,
-};
 use crate::reports::CReport;
 use crate::statuses::{BAD_HANDLE, bad_handle};
 
@@ -21,7 +17,10 @@ pub extern "C" fn dspec_trace(cpu: &mut Handle, epid: u32, stamp: u64, values: &
     if !cpu.is_held() {
         return bad_handle();
     }
-    held_trace(cpu.lend(), epid, stamp, values)
+    let Some(side) = cpu.lend().cpu() else {
+        return bad_handle();
+    };
+    side.trace(epid, stamp, values)
 }
 
 /// Opens a speculation.
@@ -33,7 +32,10 @@ pub extern "C" fn dspec_speculation(cpu: &mut Handle, id: &mut u64) -> u32
     if !cpu.is_held() {
         return BAD_HANDLE;
     }
-    held_speculation(cpu.lend(), id)
+    let Some(side) = cpu.lend().cpu() else {
+        return BAD_HANDLE;
+    };
+    side.speculation(id)
 }
 
 /// Offers a record to a speculation.
@@ -51,7 +53,10 @@ pub extern "C" fn dspec_speculate(
     if !cpu.is_held() {
         return bad_handle();
     }
-    held_speculate(cpu.lend(), id, epid, stamp, values)
+    let Some(side) = cpu.lend().cpu() else {
+        return bad_handle();
+    };
+    side.speculate(id, epid, stamp, values)
 }
 
 /// Commits a speculation.
@@ -63,7 +68,10 @@ pub extern "C" fn dspec_commit(cpu: &mut Handle, id: u64, count: &mut u32) -> u3
     if !cpu.is_held() {
         return BAD_HANDLE;
     }
-    held_commit(cpu.lend(), id, count)
+    let Some(side) = cpu.lend().cpu() else {
+        return BAD_HANDLE;
+    };
+    side.commit(id, count)
 }
 
 /// Commits a speculation, but not where that would lose the CPU's block.
@@ -75,7 +83,10 @@ pub extern "C" fn dspec_commit_if_room(cpu: &mut Handle, id: u64, count: &mut u3
     if !cpu.is_held() {
         return BAD_HANDLE;
     }
-    held_commit_if_room(cpu.lend(), id, count)
+    let Some(side) = cpu.lend().cpu() else {
+        return BAD_HANDLE;
+    };
+    side.commit_if_room(id, count)
 }
 
 /// Discards a speculation.
@@ -87,7 +98,10 @@ pub extern "C" fn dspec_discard(cpu: &mut Handle, id: u64, count: &mut u32) -> u
     if !cpu.is_held() {
         return BAD_HANDLE;
     }
-    held_discard(cpu.lend(), id, count)
+    let Some(side) = cpu.lend().cpu() else {
+        return BAD_HANDLE;
+    };
+    side.discard(id, count)
 }
 
 /// Does what the CPU owes the consumer and the other CPUs.
@@ -100,7 +114,10 @@ pub extern "C" fn dspec_service(cpu: &mut Handle, sealed: &mut bool, settled: &m
     if !cpu.is_held() {
         return BAD_HANDLE;
     }
-    held_service(cpu.lend(), sealed, settled)
+    let Some(side) = cpu.lend().cpu() else {
+        return BAD_HANDLE;
+    };
+    side.service(sealed, settled)
 }
 
 /// How many records were dropped from the CPU's buffer of a speculation.
@@ -112,7 +129,10 @@ pub extern "C" fn dspec_dropped_in(cpu: &mut Handle, id: u64, count: &mut u32) -
     if !cpu.is_held() {
         return BAD_HANDLE;
     }
-    held_dropped_in(cpu.lend(), id, count)
+    let Some(side) = cpu.lend().cpu() else {
+        return BAD_HANDLE;
+    };
+    side.dropped_in(id, count)
 }
 
 /// The speculation of a slot of which the CPU has records.
@@ -124,7 +144,10 @@ pub extern "C" fn dspec_open_at(cpu: &mut Handle, slot: u32, id: &mut u64) -> u3
     if !cpu.is_held() {
         return BAD_HANDLE;
     }
-    held_open_at(cpu.lend(), slot, id)
+    let Some(side) = cpu.lend().cpu() else {
+        return BAD_HANDLE;
+    };
+    side.open_at(slot, id)
 }
 
 /// The CPU's counts so far.
@@ -136,5 +159,8 @@ pub extern "C" fn dspec_cpu_report(cpu: &mut Handle, report: &mut CReport) -> u3
     if !cpu.is_held() {
         return BAD_HANDLE;
     }
-    held_report(cpu.lend(), report)
+    let Some(side) = cpu.lend().cpu() else {
+        return BAD_HANDLE;
+    };
+    side.report(report)
 }
