@@ -32,9 +32,6 @@ with_held h x = record h { seal = with_inside h.seal (with_contents h.seal.insid
 abbrev pub LendsInside : MutBor Seal → MutBor HandleContents → Fml
 LendsInside s r = Lends seal_row kept_row s r (with_inside s.now)
 
-abbrev pub LendsContents : MutBor HandleContents → MutBor HandleValue → Fml
-LendsContents k r = Lends kept_row held_row k r (with_contents k.now)
-
 abbrev pub LendsHeld : MutBor Handle → MutBor HandleValue → Fml
 LendsHeld h r = Lends handle_row held_row h r (with_held h.now)
 

@@ -5,8 +5,31 @@ ghost use Rattle.dspec_c.specs.Handles.{held_in, is_full};
 ghost use Rattle.dspec_c.specs.CpuCalls.{CommitAnswers, CommitIfRoomAnswers, DiscardAnswers, DroppedInAnswers, OpenAtAnswers, ReportAnswers, ServiceAnswers, SpeculateAnswers, SpeculationAnswers, TraceAnswers};
 
 use crate::handle::Handle;
+use crate::held::HandleValue;
 use crate::reports::CReport;
 use crate::statuses::{BAD_HANDLE, bad_handle};
+
+// A call of its own: an export that takes values saves registers before it asks whether its handle is empty, where all stands in it.
+#[inline(never)]
+fn held_trace(held: &mut HandleValue, epid: u32, stamp: u64, values: &[u64]) -> u32
+    ensures { TraceAnswers epid stamp values.now held.old result held.new }
+{
+    match held {
+        HandleValue::Cpu(side) => side.trace(epid, stamp, values),
+        _ => bad_handle(),
+    }
+}
+
+// A call of its own, as `held_trace`.
+#[inline(never)]
+fn held_speculate(held: &mut HandleValue, id: u64, epid: u32, stamp: u64, values: &[u64]) -> u32
+    ensures { SpeculateAnswers id epid stamp values.now held.old result held.new }
+{
+    match held {
+        HandleValue::Cpu(side) => side.speculate(id, epid, stamp, values),
+        _ => bad_handle(),
+    }
+}
 
 /// Traces a record.
 #[unsafe(no_mangle)]
@@ -17,10 +40,7 @@ pub extern "C" fn dspec_trace(cpu: &mut Handle, epid: u32, stamp: u64, values: &
     if !cpu.is_held() {
         return bad_handle();
     }
-    let Some(side) = cpu.lend().cpu() else {
-        return bad_handle();
-    };
-    side.trace(epid, stamp, values)
+    held_trace(cpu.lend(), epid, stamp, values)
 }
 
 /// Opens a speculation.
@@ -53,10 +73,7 @@ pub extern "C" fn dspec_speculate(
     if !cpu.is_held() {
         return bad_handle();
     }
-    let Some(side) = cpu.lend().cpu() else {
-        return bad_handle();
-    };
-    side.speculate(id, epid, stamp, values)
+    held_speculate(cpu.lend(), id, epid, stamp, values)
 }
 
 /// Commits a speculation.

@@ -94,8 +94,7 @@ impl OutCpu {
     }
 
     /// Traces the record with these values.
-    // A call of its own: an export that takes values saves registers before it asks whether its handle is empty, where all stands in it.
-    #[inline(never)]
+    #[inline(always)]
     pub fn trace(&mut self, epid: u32, stamp: u64, values: &[u64]) -> u32
         ensures { TraceTold epid stamp values.now result self.old self.new }
     {
@@ -124,8 +123,7 @@ impl OutCpu {
     }
 
     /// Offers the record with these values to a speculation.
-    // A call of its own, as `trace`.
-    #[inline(never)]
+    #[inline(always)]
     pub fn speculate(&mut self, id: u64, epid: u32, stamp: u64, values: &[u64]) -> u32
         ensures { SpeculateTold id epid stamp values.now result self.old self.new }
     {
