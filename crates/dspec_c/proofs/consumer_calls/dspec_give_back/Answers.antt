@@ -1,9 +1,6 @@
-use Rattle.std.specs.Prelude.{⊤}
-use Rattle.dspec_c.specs.Words.{Answered, returned_status, Returns}
 use Rattle.dspec_c.proofs.Calls.{on_lent_consumer}
 use Rattle.dspec_c.proofs.consumer_calls.dspec_give_back.Goals as goal
 
 pub returns-in-Consumer-clause-answers : goal.returns-in-Consumer-clause-answers
-returns-in-Consumer-clause-answers c = on_lent_consumer (λ old new. Answered returned_status (λ a. Returns c.args.cpu a old new) c.of_returned.result) ⊤
-    c.args.consumer.now _ c.of_returned.result _ _ c.lend.ensures.value c.in-Consumer.is
+returns-in-Consumer-clause-answers c = on_lent_consumer _ _ c.args.consumer.now _ _ _ _ c.lend.ensures.value c.in-Consumer.is
     (record { answer = c.give_back.result; numbered = c.of_returned.ensures; done = c.give_back.ensures })

@@ -1,7 +1,5 @@
-use Rattle.std.specs.Prelude.{⊤}
-use Rattle.dspec_c.specs.Words.{PutTold}
 use Rattle.dspec_c.proofs.Calls.{on_lent}
 use Rattle.dspec_c.proofs.put_calls.dspec_put.Goals as goal
 
 pub returns-clause-answers : goal.returns-clause-answers
-returns-clause-answers c = on_lent (PutTold c.args.claim c.args.stamp c.args.words.now c.put.result) ⊤ c.args.cpu.now _ c.put.result _ _ c.lend.ensures.value c.in-Some.ensures.found c.put.ensures
+returns-clause-answers c = on_lent _ _ c.args.cpu.now _ _ _ _ c.lend.ensures.value c.in-Some.ensures.found c.put.ensures
