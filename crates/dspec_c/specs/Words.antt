@@ -7,7 +7,7 @@ pub use Rattle.dspec_c.specs.ConsumerCalls.{OnConsumer, OnTheirs, ToldSo}
 pub use Rattle.dspec_c.specs.ConsumerHomes.{AreSameTheirs, HasGoneTheirs, IsDeskTheirs, IsOutTheirs, IsSameTheirs, IsTheirPlaceWith, LeaveTheirs, Theirs, theirs_of, TheirStay}
 pub use Rattle.dspec_c.specs.CpuCalls.{CommittedIfRoom, OnCpu, one_refused, OnSide, Put, put_record, PutIn, Reports, ServicedSo}
 pub use Rattle.dspec_c.specs.Handles.{held_in, is_full}
-pub use Rattle.dspec_c.specs.Homes.{at_home, AtHome, Came, CpuSide, CpuStay, HasGone, IsDesk, IsOut, IsPlaceWith, IsSameAsAll, IsSameSide, IsUnused, LeavesPlace, side_of, Stay}
+pub use Rattle.dspec_c.specs.Homes.{at_home, AtHome, Came, cpu_side_of, CpuSide, CpuStay, HasGone, IsDesk, IsOut, IsPlaceWith, IsSameAsAll, IsSameSide, IsUnused, LeavesPlace, Stay}
 pub use Rattle.dspec_c.specs.Lending.{with_held, with_inside}
 pub use Rattle.dspec_c.specs.Puts.{is_header, PutAs, PutInAs, record_as}
 pub use Rattle.dspec_c.specs.Seals.{seal_owns}

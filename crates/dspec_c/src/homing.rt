@@ -18,11 +18,11 @@ pub struct Homing {
 impl Model for Homing {
     ghost use Rattle.std.specs.Arc.{arc_value};
     ghost use Rattle.dspec_cpu.specs.Standing.{IsCallable};
-    ghost use Rattle.dspec_c.specs.Homes.{CpuSide, side_of};
+    ghost use Rattle.dspec_c.specs.Homes.{CpuSide, cpu_side_of};
 
     ghost Value = { CpuSide };
 
-    ghost view = { λ s. side_of (arc_value s.shared) s.cpu.value s.refused };
+    ghost view = { λ s. cpu_side_of (arc_value s.shared) s.cpu.value s.refused };
 
     ghost invariant = { λ s. IsCallable (arc_value s.shared) s.cpu.value };
 }
@@ -41,11 +41,11 @@ impl Homing {
     ghost use Rattle.std.specs.Prelude.{◌≡◌};
     ghost use Rattle.std.specs.Arc.{arc_value};
     ghost use Rattle.dspec_cpu.specs.Standing.{IsCallable};
-    ghost use Rattle.dspec_c.specs.Homes.{at_home, side_of};
+    ghost use Rattle.dspec_c.specs.Homes.{at_home, cpu_side_of};
 
     pub fn of(shared: Arc<Shared, Global>, home: HomeCpu) -> Homing
         requires { IsCallable (arc_value shared) home.cpu }
-        ensures { result ≡ side_of (arc_value shared) home.cpu home.refused }
+        ensures { result ≡ cpu_side_of (arc_value shared) home.cpu home.refused }
     {
         let refused = home.refused();
         Homing {

@@ -27,13 +27,13 @@ impl Model for OutCpu {
     ghost use Rattle.std.specs.Arc.{arc_value};
     ghost use Rattle.rtrb.specs.Ring.{known_free, sent};
     ghost use Rattle.dspec_cpu.specs.Standing.{IsCallable};
-    ghost use Rattle.dspec_c.specs.Homes.{CpuSide, IsOut, side_of};
+    ghost use Rattle.dspec_c.specs.Homes.{CpuSide, IsOut, cpu_side_of};
 
     ghost Value = { CpuSide };
 
-    ghost view = { λ s. side_of (arc_value s.shared) s.cpu.value s.refused };
+    ghost view = { λ s. cpu_side_of (arc_value s.shared) s.cpu.value s.refused };
 
-    ghost invariant = { λ s. IsCallable (arc_value s.shared) s.cpu.value × IsOut (sent s.way) (side_of (arc_value s.shared) s.cpu.value s.refused) × (0 < known_free s.way) };
+    ghost invariant = { λ s. IsCallable (arc_value s.shared) s.cpu.value × IsOut (sent s.way) (cpu_side_of (arc_value s.shared) s.cpu.value s.refused) × (0 < known_free s.way) };
 }
 
 impl OutCpu {
