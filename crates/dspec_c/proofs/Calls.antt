@@ -1,11 +1,13 @@
 -- A call on what a handle holds is one on the CPU, or the consumer, that is there.
-use Rattle.std.proofs.Common.{◌≡◌, ℕ, Bool, Option, Some, None, sym, subst, ap, ◌∙◌}
-use Rattle.std.specs.Prelude.{Result, Ok, Err, IfErr, IfNone, IfSome, MatchOption, MatchResult, OnErr, OnOk}
+use Rattle.std.proofs.Common.{◌≡◌, ℕ, Bool, true, false, refl, Option, Some, None, sym, subst, ap, ◌∙◌}
+use Rattle.std.specs.Prelude.{if◌then◌else◌, Result, Ok, Err, IfErr, IfNone, IfSome, MatchOption, MatchResult, OnErr, OnOk}
 use Rattle.dspec_ring.specs.declared.batch.Batch.{Batch}
 use Rattle.dspec_c.specs.Words.{EnabledRows, FoundNone, GaveBack, IsNotTakenBack, Took, Consuming, OnConsumer, OnTheirs, Theirs, OnCpu, OnSide, one_refused, CpuSide, ConsumerSide, HandleValue}
+use Rattle.dspec_c.specs.Words.{held_in, with_held, is_consumer_in, is_cpu_in, Handle}
 use Rattle.dspec_cpu.specs.declared.cpu.Cpu.{Cpu}
 use Rattle.dspec_cpu.specs.declared.shared.Shared.{Shared}
 use Rattle.dspec_c.specs.declared.held.HandleValue.TheVariants as held
+use Rattle.dspec_c.proofs.Options.{unless}
 
 pub on_side : (refuses : Bool) (did : Cpu EnabledRows → Cpu EnabledRows → Type 0) (old was new : CpuSide) → was ≡ old → new.shared ≡ was.shared → did was.cpu new.cpu
     → new.refused ≡ one_refused refuses was.refused → OnSide refuses did old new
@@ -21,14 +23,26 @@ pub on_cpu : (did : CpuSide → CpuSide → Type 0) (stays : Type 0) (was : Hand
     → OnCpu did stays was status now
 on_cpu did stays was status now old new e f done = subst (λ (h : HandleValue). OnCpu did stays h status now) (sym e) (new, f, done)
 
--- where it is out, which shows it as it is there
-pub on_out : (did : CpuSide → CpuSide → Type 0) (stays : Type 0) (was : HandleValue) (status : ℕ) (now : HandleValue) (side old new : CpuSide) → old ≡ side → was ≡ held.Cpu side
-    → now ≡ held.Cpu new → did old new → OnCpu did stays was status now
-on_out did stays was status now side old new v e f done = on_cpu did stays was status now old new (e ∙ ap held.Cpu (sym v)) f done
+-- a handle that isn't empty has what is put into it
+holds : (full : Bool) (was kind now : HandleValue) → (held.Nothing ≡ kind → ⊥) → (if full then was else held.Nothing) ≡ kind → (if full then now else held.Nothing) ≡ now
+holds true was kind now differ e = refl
+holds false was kind now differ e = absurd (differ e)
+
+-- what is lent of a handle
+pub on_lent : (did : CpuSide → CpuSide → Type 0) (stays : Type 0) (h : Handle) (v : HandleValue) (status : ℕ) (old new : CpuSide) → v ≡ held_in h → v ≡ held.Cpu old → did old new
+    → OnCpu did stays (held_in h) status (held_in (with_held h (held.Cpu new)))
+on_lent did stays h v status old new e f done = on_cpu did stays (held_in h) status (held_in (with_held h (held.Cpu new))) old new (sym e ∙ f)
+    (holds h.held h.seal.inside.held (held.Cpu old) (held.Cpu new) (λ n. subst (λ y. unless y) (ap is_cpu_in n) tt) (sym e ∙ f)) done
 
 pub on_consumer : (did : ConsumerSide → ConsumerSide → Type 0) (stays : Type 0) (was : HandleValue) (status : ℕ) (now : HandleValue) (old new : ConsumerSide) → was ≡ held.Consumer old
     → now ≡ held.Consumer new → did old new → OnConsumer did stays was status now
 on_consumer did stays was status now old new e f done = subst (λ (h : HandleValue). OnConsumer did stays h status now) (sym e) (new, f, done)
+
+pub on_lent_consumer : (did : ConsumerSide → ConsumerSide → Type 0) (stays : Type 0) (h : Handle) (v : HandleValue) (status : ℕ) (old new : ConsumerSide) → v ≡ held_in h
+    → v ≡ held.Consumer old → did old new → OnConsumer did stays (held_in h) status (held_in (with_held h (held.Consumer new)))
+on_lent_consumer did stays h v status old new e f done =
+    on_consumer did stays (held_in h) status (held_in (with_held h (held.Consumer new))) old new (sym e ∙ f)
+    (holds h.held h.seal.inside.held (held.Consumer old) (held.Consumer new) (λ n. subst (λ y. unless y) (ap is_consumer_in n) tt) (sym e ∙ f)) done
 
 pub on_theirs : (did : Consuming → Consuming → Type 0) (old was new : Theirs) → was ≡ old → new.shared ≡ was.shared → did was.consumer new.consumer → OnTheirs did old new
 on_theirs did old was new e shared done = subst (λ (s : Theirs). OnTheirs did s new) e (record { shared = shared; consumer = done })

@@ -7,7 +7,7 @@ use Rattle.rtrb.specs.Ring.{known_free, sent}
 use Rattle.rtrb.specs.declared.producer.Producer.{Producer}
 use Rattle.dspec_cpu.specs.declared.shared.Shared.{Shared}
 use Rattle.dspec_c.specs.Words.{words_of, Consuming, IsConsumerOf, IsSameConsumer, pairs_of, set_up_of, IsDeskTheirs, IsOutTheirs, AreSameTheirs, IsSameTheirs, LeaveTheirs, TheirStay, Theirs}
-use Rattle.dspec_c.specs.Words.{IsUnused, ConsumerRule}
+use Rattle.dspec_c.specs.Words.{theirs_of, IsUnused, ConsumerRule}
 use Rattle.dspec_c.proofs.Options.{if_none, or_this, the_none, unless}
 
 pub after : (a b c : Theirs) → IsSameTheirs a b → IsSameTheirs b c → IsSameTheirs a c
@@ -15,6 +15,10 @@ after a b c was is = grind (arith, nat_tests)
 
 pub kept : (sent : List Theirs) (a b : Theirs) → IsOutTheirs sent a → IsSameTheirs a b → IsOutTheirs sent b
 kept sent a b is same = record { first = is.first; was = is.was; same = after is.first a b is.same same }
+
+-- it stays out, as the same consumer of that session
+pub stays_out : (sent : List Theirs) (shared : Shared) (old new : Consuming) → IsOutTheirs sent (theirs_of shared old) → IsSameConsumer old new → IsOutTheirs sent (theirs_of shared new)
+stays_out sent shared old new is same = kept sent (theirs_of shared old) (theirs_of shared new) is (record { shared = refl; consumer = same })
 
 pub allowed : (sent : List Theirs) (a : Theirs) → IsOutTheirs sent a → AreSameTheirs sent a
 allowed sent a is = subst (λ xs. AreSameTheirs xs a) (sym is.was) (is.same, tt)

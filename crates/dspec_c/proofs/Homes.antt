@@ -6,7 +6,7 @@ use Rattle.core.specs.Option.{is_some}
 use Rattle.rtrb.specs.Ring.{known_free, sent}
 use Rattle.rtrb.specs.declared.producer.Producer.{Producer}
 use Rattle.dspec_c.specs.Words.{EnabledRows, words_of, Belongs, CpuIdentity, IsCallable, identity, AtHome, CpuStay, IsDesk, IsOut, IsSameAsAll, IsSameSide, IsUnused, LeavesPlace, CpuSide, at_home}
-use Rattle.dspec_c.specs.Words.{HomingProtocol}
+use Rattle.dspec_c.specs.Words.{cpu_side_of, HomingProtocol}
 use Rattle.dspec_cpu.specs.declared.cpu.Cpu.{Cpu}
 use Rattle.dspec_cpu.specs.declared.shared.Shared.{Shared}
 use Rattle.dspec_c.proofs.Options.{if_none, if_true, or_this, the_none, unless}
@@ -16,6 +16,15 @@ after a b c was is = record { shared = is.shared ∙ was.shared; cpu = is.cpu �
 
 pub kept : (sent : List CpuSide) (a b : CpuSide) → IsOut sent a → IsSameSide a b → IsOut sent b
 kept sent a b is same = record { first = is.first; was = is.was; same = after is.first a b is.same same }
+
+-- what a call leaves of a CPU that is out
+pub stays_out : (sent : List CpuSide) (shared : Shared) (old new : Cpu EnabledRows) (n m free : ℕ) → IsCallable shared old × IsOut sent (cpu_side_of shared old n) × (0 < free)
+    → identity new ≡ identity old → IsCallable shared new × IsOut sent (cpu_side_of shared new m) × (0 < free)
+stays_out sent shared old new n m free is same = (
+  subst (λ (i : CpuIdentity EnabledRows). Belongs (words_of shared) i) (sym same) is.0,
+  kept sent (cpu_side_of shared old n) (cpu_side_of shared new m) is.1 (record { shared = refl; cpu = same }),
+  is.2,
+)
 
 pub allowed : (sent : List CpuSide) (a : CpuSide) → IsOut sent a → IsSameAsAll sent a
 allowed sent a is = subst (λ xs. IsSameAsAll xs a) (sym is.was) (is.same, tt)

@@ -9,6 +9,9 @@ pub record Theirs : Type 0 where
   pub shared : Shared
   pub consumer : Consuming
 
+abbrev pub theirs_of : Shared → Consuming → Theirs
+theirs_of shared consumer = record { shared = shared; consumer = consumer }
+
 -- the same consumer of the same session
 pub record IsSameTheirs (old new : Theirs) : Type 0 where
   pub shared : new.shared ≡ old.shared

@@ -112,30 +112,61 @@ pub record IsNumberOf (number : ℕ) (id : Speculation) : Type 0 where
   pub numbered : id_number id ≡ number
   pub slot : id.slot < 64
 
+-- what each call told of what it did on a CPU, by its status and its out parameters
+abbrev pub TraceTold : ℕ → ℕ → List ℕ → ℕ → CpuSide → CpuSide → Type 0
+TraceTold epid stamp values status old new = Answered traced_status (λ a. OnSide (is_none a) (CpuRecorded epid stamp values a) old new) status
+
+abbrev pub PutTold : ℕ → ℕ → List ℕ → ℕ → CpuSide → CpuSide → Type 0
+PutTold claim stamp ws status old new = Answered traced_status (λ a. OnSide (is_none a) (Put claim stamp ws a) old new) status
+
+abbrev pub OpeningTold : ℕ → ℕ → ℕ → CpuSide → CpuSide → Type 0
+OpeningTold status before id old new = AnsweredWith opening_status opened_number (λ a. OnSide false (CpuOpened a) old new) status before id
+
+abbrev pub SpeculateTold : ℕ → ℕ → ℕ → List ℕ → ℕ → CpuSide → CpuSide → Type 0
+SpeculateTold number epid stamp values status old new =
+    (id : Speculation) × IsNumberOf number id × Answered spoken_status (λ a. OnSide (is_none a) (CpuOffered id epid stamp values a) old new) status
+
+abbrev pub PutInTold : ℕ → ℕ → ℕ → List ℕ → ℕ → CpuSide → CpuSide → Type 0
+PutInTold number claim stamp ws status old new =
+    (id : Speculation) × IsNumberOf number id × Answered spoken_status (λ a. OnSide (is_none a) (PutIn id claim stamp ws a) old new) status
+
+abbrev pub DecideTold : By → ℕ → ℕ → ℕ → ℕ → CpuSide → CpuSide → Type 0
+DecideTold b number status before count old new =
+    (id : Speculation) × IsNumberOf number id × AnsweredWith decided_status decided_number (λ a. OnSide false (DecidedAs b id a) old new) status before count
+
+abbrev pub CommitIfRoomTold : ℕ → ℕ → ℕ → ℕ → CpuSide → CpuSide → Type 0
+CommitIfRoomTold number status before count old new =
+    (id : Speculation) × IsNumberOf number id × AnsweredWith committed_status committed_number (λ a. OnSide false (CommittedIfRoom id a) old new) status before count
+
+abbrev pub ServiceTold : ℕ → Served → CpuSide → CpuSide → Type 0
+ServiceTold status told old new = (status ≡ 0) × OnSide false (ServicedSo told) old new
+
+abbrev pub ReportTold : ℕ → CReport → CpuSide → CpuSide → Type 0
+ReportTold status told old new = (status ≡ 0) × (new ≡ old) × ((r : Report) × Reports old.cpu r × TellsReport told r old.refused)
+
+abbrev pub DroppedInTold : ℕ → ℕ → ℕ → CpuSide → CpuSide → Type 0
+DroppedInTold number status count old new = (status ≡ 0) × (new ≡ old) × ((id : Speculation) × IsNumberOf number id × Drops id old.cpu count)
+
+abbrev pub OpenAtTold : ℕ → ℕ → ℕ → CpuSide → CpuSide → Type 0
+OpenAtTold slot status id old new = (status ≡ 0) × (new ≡ old) × ((a : Option Speculation) × OpensAt slot old.cpu a × (id ≡ id_or_zero a))
+
 abbrev pub TraceAnswers : ℕ → ℕ → List ℕ → HandleValue → ℕ → HandleValue → Type 0
-TraceAnswers epid stamp values was status now =
-    OnCpu (λ old new. Answered traced_status (λ a. OnSide (is_none a) (CpuRecorded epid stamp values a) old new) status) ⊤ was status now
+TraceAnswers epid stamp values was status now = OnCpu (TraceTold epid stamp values status) ⊤ was status now
 
 abbrev pub PutAnswers : ℕ → ℕ → List ℕ → HandleValue → ℕ → HandleValue → Type 0
-PutAnswers claim stamp ws was status now =
-    OnCpu (λ old new. Answered traced_status (λ a. OnSide (is_none a) (Put claim stamp ws a) old new) status) ⊤ was status now
+PutAnswers claim stamp ws was status now = OnCpu (PutTold claim stamp ws status) ⊤ was status now
 
 abbrev pub SpeculationAnswers : HandleValue → ℕ → ℕ → ℕ → HandleValue → Type 0
-SpeculationAnswers was status before id now =
-    OnCpu (λ old new. AnsweredWith opening_status opened_number (λ a. OnSide false (CpuOpened a) old new) status before id) (id ≡ before) was status now
+SpeculationAnswers was status before id now = OnCpu (OpeningTold status before id) (id ≡ before) was status now
 
 abbrev pub SpeculateAnswers : ℕ → ℕ → ℕ → List ℕ → HandleValue → ℕ → HandleValue → Type 0
-SpeculateAnswers number epid stamp values was status now =
-    OnCpu (λ old new. (id : Speculation) × IsNumberOf number id × Answered spoken_status (λ a. OnSide (is_none a) (CpuOffered id epid stamp values a) old new) status) ⊤ was status now
+SpeculateAnswers number epid stamp values was status now = OnCpu (SpeculateTold number epid stamp values status) ⊤ was status now
 
 abbrev pub PutInAnswers : ℕ → ℕ → ℕ → List ℕ → HandleValue → ℕ → HandleValue → Type 0
-PutInAnswers number claim stamp ws was status now =
-    OnCpu (λ old new. (id : Speculation) × IsNumberOf number id × Answered spoken_status (λ a. OnSide (is_none a) (PutIn id claim stamp ws a) old new) status) ⊤ was status now
+PutInAnswers number claim stamp ws was status now = OnCpu (PutInTold number claim stamp ws status) ⊤ was status now
 
 abbrev pub DecideAnswers : By → ℕ → HandleValue → ℕ → ℕ → ℕ → HandleValue → Type 0
-DecideAnswers b number was status before count now =
-    OnCpu (λ old new. (id : Speculation) × IsNumberOf number id × AnsweredWith decided_status decided_number (λ a. OnSide false (DecidedAs b id a) old new) status before count)
-    (count ≡ before) was status now
+DecideAnswers b number was status before count now = OnCpu (DecideTold b number status before count) (count ≡ before) was status now
 
 abbrev pub CommitAnswers : ℕ → HandleValue → ℕ → ℕ → ℕ → HandleValue → Type 0
 CommitAnswers = DecideAnswers commit
@@ -144,21 +175,16 @@ abbrev pub DiscardAnswers : ℕ → HandleValue → ℕ → ℕ → ℕ → Hand
 DiscardAnswers = DecideAnswers discard
 
 abbrev pub CommitIfRoomAnswers : ℕ → HandleValue → ℕ → ℕ → ℕ → HandleValue → Type 0
-CommitIfRoomAnswers number was status before count now =
-    OnCpu (λ old new. (id : Speculation) × IsNumberOf number id × AnsweredWith committed_status committed_number (λ a. OnSide false (CommittedIfRoom id a) old new) status before count)
-    (count ≡ before) was status now
+CommitIfRoomAnswers number was status before count now = OnCpu (CommitIfRoomTold number status before count) (count ≡ before) was status now
 
 abbrev pub ServiceAnswers : HandleValue → ℕ → Served → Served → HandleValue → Type 0
-ServiceAnswers was status before told now = OnCpu (λ old new. (status ≡ 0) × OnSide false (ServicedSo told) old new) (told ≡ before) was status now
+ServiceAnswers was status before told now = OnCpu (ServiceTold status told) (told ≡ before) was status now
 
 abbrev pub ReportAnswers : HandleValue → ℕ → CReport → CReport → HandleValue → Type 0
-ReportAnswers was status before told now =
-    OnCpu (λ old new. (status ≡ 0) × (new ≡ old) × ((r : Report) × Reports old.cpu r × TellsReport told r old.refused)) (told ≡ before) was status now
+ReportAnswers was status before told now = OnCpu (ReportTold status told) (told ≡ before) was status now
 
 abbrev pub DroppedInAnswers : ℕ → HandleValue → ℕ → ℕ → ℕ → HandleValue → Type 0
-DroppedInAnswers number was status before count now =
-    OnCpu (λ old new. (status ≡ 0) × (new ≡ old) × ((id : Speculation) × IsNumberOf number id × Drops id old.cpu count)) (count ≡ before) was status now
+DroppedInAnswers number was status before count now = OnCpu (DroppedInTold number status count) (count ≡ before) was status now
 
 abbrev pub OpenAtAnswers : ℕ → HandleValue → ℕ → ℕ → ℕ → HandleValue → Type 0
-OpenAtAnswers slot was status before id now =
-    OnCpu (λ old new. (status ≡ 0) × (new ≡ old) × ((a : Option Speculation) × OpensAt slot old.cpu a × (id ≡ id_or_zero a))) (id ≡ before) was status now
+OpenAtAnswers slot was status before id now = OnCpu (OpenAtTold slot status id) (id ≡ before) was status now

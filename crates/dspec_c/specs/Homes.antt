@@ -11,6 +11,9 @@ pub record CpuSide : Type 0 where
   pub cpu : Cpu EnabledRows
   pub refused : ℕ
 
+abbrev pub cpu_side_of : Shared → Cpu EnabledRows → ℕ → CpuSide
+cpu_side_of shared cpu refused = record { shared = shared; cpu = cpu; refused = refused }
+
 -- a CPU that shares nothing, as it is at home
 pub record AtHome : Type 0 where
   pub cpu : Cpu EnabledRows

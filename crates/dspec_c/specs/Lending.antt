@@ -11,6 +11,8 @@ use Rattle.dspec_c.specs.declared.handle.HandleContents.{HandleContents}
 use Rattle.dspec_c.specs.declared.seal.Seal.{Seal}
 use Rattle.dspec_c.specs.contracts.handle.Handle.{the_row as handle_row}
 use Rattle.dspec_c.specs.contracts.held.HandleValue.{the_row as held_row}
+use Rattle.dspec_c.specs.contracts.out_cpu.OutCpu.{the_row as cpu_row}
+use Rattle.dspec_c.specs.Homes.{CpuSide}
 use Rattle.dspec_c.specs.contracts.handle.HandleContents.{the_row as kept_row}
 use Rattle.dspec_c.specs.contracts.seal.Seal.{the_row as seal_row}
 
@@ -30,15 +32,15 @@ with_held h x = record h { seal = with_inside h.seal (with_contents h.seal.insid
 abbrev pub LendsInside : MutBor Seal → MutBor HandleContents → Fml
 LendsInside s r = Lends seal_row kept_row s r (with_inside s.now)
 
-abbrev pub LendsContents : MutBor HandleContents → MutBor HandleValue → Fml
-LendsContents k r = Lends kept_row held_row k r (with_contents k.now)
-
 abbrev pub LendsHeld : MutBor Handle → MutBor HandleValue → Fml
 LendsHeld h r = Lends handle_row held_row h r (with_held h.now)
 
--- a schema that is held is lent, or the files of a CPU; what is held otherwise stays
+-- what is held is lent where it is of that kind; what is held otherwise stays
 abbrev pub LendsSchema : MutBor HandleValue → Option (MutBor EnabledRows) → Fml
 LendsSchema h r = LendsIf held_row schema_row h r (λ e. held.Schema e) h.now
+
+abbrev pub LendsCpu : MutBor HandleValue → Option (MutBor CpuSide) → Fml
+LendsCpu h r = LendsIf held_row cpu_row h r (λ side. held.Cpu side) h.now
 
 abbrev pub LendsFiles : MutBor HandleValue → Option (MutBor CpuFiling) → Fml
 LendsFiles h r = LendsIf held_row files_row h r (λ files. held.Files files) h.now
@@ -47,6 +49,10 @@ LendsFiles h r = LendsIf held_row files_row h r (λ files. held.Files files) h.n
 abbrev pub IsNoSchema : HandleValue → Type 0
 IsNoSchema (held.Schema e) = ⊥
 IsNoSchema h = ⊤
+
+abbrev pub IsNoCpu : HandleValue → Type 0
+IsNoCpu (held.Cpu side) = ⊥
+IsNoCpu h = ⊤
 
 abbrev pub AreNoFiles : HandleValue → Type 0
 AreNoFiles (held.Files files) = ⊥

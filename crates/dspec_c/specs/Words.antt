@@ -1,23 +1,20 @@
 -- Serves proofs. The words of this crate for its proofs and for the crates above, in one place. Declares nothing.
 pub mod Outside
 unfoldable pub use Outside.*
-pub use Rattle.dspec_c.specs.Answered.{Answered, AnsweredWith}
 pub use Rattle.dspec_c.specs.ClosedCalls.{TellsCountsOf}
 pub use Rattle.dspec_c.specs.Closing.{fulls, held_in_each, KeepAll, KeepsHeld, names}
-pub use Rattle.dspec_c.specs.ConsumerCalls.{Asks, CleansSo, Finds, OnConsumer, OnOut, OnTheirs, Returns, ToldSo, WaitsSo}
-pub use Rattle.dspec_c.specs.ConsumerHomes.{AreSameTheirs, HasGoneTheirs, IsDeskTheirs, IsOutTheirs, IsSameTheirs, IsTheirPlaceWith, LeaveTheirs, Theirs, TheirStay}
-pub use Rattle.dspec_c.specs.CpuCalls.{CommittedIfRoom, CpuOffered, CpuOpened, CpuRecorded, DecidedAs, Drops, IsNumberOf, OnCpu, one_refused, OnSide, OpensAt, Put, put_record, PutIn, Reports}
-pub use Rattle.dspec_c.specs.CpuCalls.{ServicedSo}
+pub use Rattle.dspec_c.specs.ConsumerCalls.{OnConsumer, OnTheirs, ToldSo}
+pub use Rattle.dspec_c.specs.ConsumerHomes.{AreSameTheirs, HasGoneTheirs, IsDeskTheirs, IsOutTheirs, IsSameTheirs, IsTheirPlaceWith, LeaveTheirs, Theirs, theirs_of, TheirStay}
+pub use Rattle.dspec_c.specs.CpuCalls.{CommittedIfRoom, OnCpu, one_refused, OnSide, Put, put_record, PutIn, Reports, ServicedSo}
 pub use Rattle.dspec_c.specs.Handles.{held_in, is_full}
-pub use Rattle.dspec_c.specs.Homes.{at_home, AtHome, Came, CpuSide, CpuStay, HasGone, IsDesk, IsOut, IsPlaceWith, IsSameAsAll, IsSameSide, IsUnused, LeavesPlace, Stay}
-pub use Rattle.dspec_c.specs.Lending.{with_inside}
+pub use Rattle.dspec_c.specs.Homes.{at_home, AtHome, Came, cpu_side_of, CpuSide, CpuStay, HasGone, IsDesk, IsOut, IsPlaceWith, IsSameAsAll, IsSameSide, IsUnused, LeavesPlace, Stay}
+pub use Rattle.dspec_c.specs.Lending.{with_held, with_inside}
 pub use Rattle.dspec_c.specs.Puts.{is_header, PutAs, PutInAs, record_as}
 pub use Rattle.dspec_c.specs.Seals.{seal_owns}
-pub use Rattle.dspec_c.specs.SessionCalls.{consumer_due, ConsumerOfAnswers, cpu_due, CpuOfAnswers, EndsSo, FinishAnswers, GivesConsumer, GivesCpu, HandsOut, HandsOutCpu, HomeAnswers, is_cpu_in}
-pub use Rattle.dspec_c.specs.SessionCalls.{KeptSo, LooksHome, StartsSo}
+pub use Rattle.dspec_c.specs.SessionCalls.{consumer_due, ConsumerOfAnswers, cpu_due, CpuOfAnswers, EndsSo, FinishAnswers, GivesConsumer, GivesCpu, HandsOut, HandsOutCpu, HomeAnswers, is_consumer_in}
+pub use Rattle.dspec_c.specs.SessionCalls.{is_cpu_in, KeptSo, LooksHome, StartsSo}
 pub use Rattle.dspec_c.specs.Shows.{TellsReport}
-pub use Rattle.dspec_c.specs.Statuses.{already_out, asked_status, busy, committed_number, committed_status, decided_number, decided_status, found_status, id_or_zero, no_memory, no_such_cpu}
-pub use Rattle.dspec_c.specs.Statuses.{not_home, opened_number, opening_status, returned_status, spoken_status, traced_status}
+pub use Rattle.dspec_c.specs.Statuses.{already_out, busy, no_memory, no_such_cpu, not_home}
 pub use Rattle.dspec_c.specs.Tending.{AreTended, IsTended, IsTendedWhole, ServedAtHome, ServedIfThere, ServedThere, TendAnswers, TendsOne}
 pub use Rattle.dspec_c.specs.Whole.{AllCalled, AllInside, AreCame, ClosedBy, cpu_inside, EachFrom, EndedBy, firsts, GoesOut, Going, HasAll, inside_at, insides, IsAway, IsCpuAt, IsEnding, IsFreshIn}
 pub use Rattle.dspec_c.specs.Whole.{IsHome, IsInsideAt, IsJustStarted, IsPlaceOf, IsStarted, IsWhole, LeavesOne, LookedLater, LooksAt, LooksAtOne, LooksIfThere, new_side, OneOutside, refusals}

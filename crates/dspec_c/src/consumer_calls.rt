@@ -6,10 +6,8 @@ ghost use Rattle.dspec_c.specs.ConsumerCalls.{AskAnswers, CleanAnswers, GiveBack
 
 use crate::batches::CBatch;
 use crate::handle::Handle;
-use crate::held_consumer_calls::{
-    held_ask, held_clean, held_give_back, held_stop, held_take, held_waiting_for,
-};
-use crate::statuses::BAD_HANDLE;
+use crate::held::HandleValue;
+use crate::statuses::{BAD_HANDLE, NO_SUCH_CPU, OK, of_asked, of_found, of_returned};
 
 /// Asks a CPU for a batch more.
 #[unsafe(no_mangle)]
@@ -20,7 +18,10 @@ pub extern "C" fn dspec_ask(consumer: &mut Handle, cpu: u32) -> u32
     if !consumer.is_held() {
         return BAD_HANDLE;
     }
-    held_ask(consumer.lend(), cpu)
+    match consumer.lend() {
+        HandleValue::Consumer(side) => of_asked(side.out.ask(cpu)),
+        _ => BAD_HANDLE,
+    }
 }
 
 /// Takes the next batch of a CPU.
@@ -32,7 +33,10 @@ pub extern "C" fn dspec_take(consumer: &mut Handle, cpu: u32, batch: &mut CBatch
     if !consumer.is_held() {
         return BAD_HANDLE;
     }
-    held_take(consumer.lend(), cpu, batch)
+    match consumer.lend() {
+        HandleValue::Consumer(side) => of_found(side.take(cpu, batch)),
+        _ => BAD_HANDLE,
+    }
 }
 
 /// Gives the batch of a CPU that is out back.
@@ -44,7 +48,10 @@ pub extern "C" fn dspec_give_back(consumer: &mut Handle, cpu: u32) -> u32
     if !consumer.is_held() {
         return BAD_HANDLE;
     }
-    held_give_back(consumer.lend(), cpu)
+    match consumer.lend() {
+        HandleValue::Consumer(side) => of_returned(side.give_back(cpu)),
+        _ => BAD_HANDLE,
+    }
 }
 
 /// Frees the slots of speculations that every CPU has settled.
@@ -56,7 +63,13 @@ pub extern "C" fn dspec_clean(consumer: &mut Handle, released: &mut u32) -> u32
     if !consumer.is_held() {
         return BAD_HANDLE;
     }
-    held_clean(consumer.lend(), released)
+    match consumer.lend() {
+        HandleValue::Consumer(side) => {
+            *released = side.out.clean();
+            OK
+        }
+        _ => BAD_HANDLE,
+    }
 }
 
 /// Tells how many slots wait for a CPU.
@@ -68,7 +81,16 @@ pub extern "C" fn dspec_waiting_for(consumer: &mut Handle, cpu: u32, count: &mut
     if !consumer.is_held() {
         return BAD_HANDLE;
     }
-    held_waiting_for(consumer.lend(), cpu, count)
+    match consumer.lend() {
+        HandleValue::Consumer(side) => match side.out.waiting_for(cpu) {
+            Some(number) => {
+                *count = number;
+                OK
+            }
+            None => NO_SUCH_CPU,
+        },
+        _ => BAD_HANDLE,
+    }
 }
 
 /// Stops the session.
@@ -80,5 +102,11 @@ pub extern "C" fn dspec_stop(consumer: &mut Handle) -> u32
     if !consumer.is_held() {
         return BAD_HANDLE;
     }
-    held_stop(consumer.lend())
+    match consumer.lend() {
+        HandleValue::Consumer(side) => {
+            side.out.stop();
+            OK
+        }
+        _ => BAD_HANDLE,
+    }
 }

@@ -36,7 +36,7 @@ pub enum GiveBackOutcome {
 
 /// The consumer that was handed out, and the batch of each CPU that it took and has not given back.
 pub struct ConsumerSide {
-    out: OutConsumer,
+    pub(crate) out: OutConsumer,
     taken: Vec<Option<Batch>>,
     ghost all: { length taken.items ≡ (set_up_of out.consumer).cpus },
 }
@@ -45,9 +45,8 @@ impl ConsumerSide {
     ghost use Rattle.std.specs.Prelude.{◌≡◌, length};
     ghost use Rattle.dspec_session_core.specs.Consumers.{set_up_of};
     ghost use Rattle.rtrb.specs.Ring.{sent};
-    ghost use Rattle.dspec_session_core.specs.Stopping.{Stopped};
     ghost use Rattle.dspec_c.specs.ConsumerHomes.{HasGoneTheirs};
-    ghost use Rattle.dspec_c.specs.ConsumerCalls.{Asks, CleansSo, Finds, OnOut, Returns, WaitsSo};
+    ghost use Rattle.dspec_c.specs.ConsumerCalls.{Finds, Returns};
 
     pub fn new(out: OutConsumer, taken: Vec<Option<Batch>>) -> ConsumerSide
         requires { length taken.items ≡ (set_up_of out.consumer).cpus }
@@ -55,30 +54,6 @@ impl ConsumerSide {
         ensures taken { result.taken.items ≡ taken.items }
     {
         ConsumerSide { out, taken }
-    }
-
-    pub fn ask(&mut self, cpu: u32) -> bool
-        ensures { OnOut (Asks cpu result) self.old self.new }
-    {
-        self.out.ask(cpu)
-    }
-
-    pub fn clean(&mut self) -> u32
-        ensures { OnOut (CleansSo result) self.old self.new }
-    {
-        self.out.clean()
-    }
-
-    pub fn waiting_for(&mut self, cpu: u32) -> Option<u32>
-        ensures { OnOut (WaitsSo cpu result) self.old self.new }
-    {
-        self.out.waiting_for(cpu)
-    }
-
-    pub fn stop(&mut self)
-        ensures { OnOut Stopped self.old self.new }
-    {
-        self.out.stop();
     }
 
     /// Takes the next batch of a CPU, one at a time, and tells of it. Its bytes stay where they are until it goes back.

@@ -5,12 +5,31 @@ ghost use Rattle.dspec_c.specs.Handles.{held_in, is_full};
 ghost use Rattle.dspec_c.specs.CpuCalls.{CommitAnswers, CommitIfRoomAnswers, DiscardAnswers, DroppedInAnswers, OpenAtAnswers, ReportAnswers, ServiceAnswers, SpeculateAnswers, SpeculationAnswers, TraceAnswers};
 
 use crate::handle::Handle;
-use crate::held_calls::{
-    held_commit, held_commit_if_room, held_discard, held_dropped_in, held_open_at, held_report,
-    held_service, held_speculate, held_speculation, held_trace,
-};
+use crate::held::HandleValue;
 use crate::reports::CReport;
 use crate::statuses::{BAD_HANDLE, bad_handle};
+
+// A call of its own: an export that takes values saves registers before it asks whether its handle is empty, where all stands in it.
+#[inline(never)]
+fn held_trace(held: &mut HandleValue, epid: u32, stamp: u64, values: &[u64]) -> u32
+    ensures { TraceAnswers epid stamp values.now held.old result held.new }
+{
+    match held {
+        HandleValue::Cpu(side) => side.trace(epid, stamp, values),
+        _ => bad_handle(),
+    }
+}
+
+// A call of its own, as `held_trace`.
+#[inline(never)]
+fn held_speculate(held: &mut HandleValue, id: u64, epid: u32, stamp: u64, values: &[u64]) -> u32
+    ensures { SpeculateAnswers id epid stamp values.now held.old result held.new }
+{
+    match held {
+        HandleValue::Cpu(side) => side.speculate(id, epid, stamp, values),
+        _ => bad_handle(),
+    }
+}
 
 /// Traces a record.
 #[unsafe(no_mangle)]
@@ -33,7 +52,10 @@ pub extern "C" fn dspec_speculation(cpu: &mut Handle, id: &mut u64) -> u32
     if !cpu.is_held() {
         return BAD_HANDLE;
     }
-    held_speculation(cpu.lend(), id)
+    let Some(side) = cpu.lend().cpu() else {
+        return BAD_HANDLE;
+    };
+    side.speculation(id)
 }
 
 /// Offers a record to a speculation.
@@ -63,7 +85,10 @@ pub extern "C" fn dspec_commit(cpu: &mut Handle, id: u64, count: &mut u32) -> u3
     if !cpu.is_held() {
         return BAD_HANDLE;
     }
-    held_commit(cpu.lend(), id, count)
+    let Some(side) = cpu.lend().cpu() else {
+        return BAD_HANDLE;
+    };
+    side.commit(id, count)
 }
 
 /// Commits a speculation, but not where that would lose the CPU's block.
@@ -75,7 +100,10 @@ pub extern "C" fn dspec_commit_if_room(cpu: &mut Handle, id: u64, count: &mut u3
     if !cpu.is_held() {
         return BAD_HANDLE;
     }
-    held_commit_if_room(cpu.lend(), id, count)
+    let Some(side) = cpu.lend().cpu() else {
+        return BAD_HANDLE;
+    };
+    side.commit_if_room(id, count)
 }
 
 /// Discards a speculation.
@@ -87,7 +115,10 @@ pub extern "C" fn dspec_discard(cpu: &mut Handle, id: u64, count: &mut u32) -> u
     if !cpu.is_held() {
         return BAD_HANDLE;
     }
-    held_discard(cpu.lend(), id, count)
+    let Some(side) = cpu.lend().cpu() else {
+        return BAD_HANDLE;
+    };
+    side.discard(id, count)
 }
 
 /// Does what the CPU owes the consumer and the other CPUs.
@@ -100,7 +131,10 @@ pub extern "C" fn dspec_service(cpu: &mut Handle, sealed: &mut bool, settled: &m
     if !cpu.is_held() {
         return BAD_HANDLE;
     }
-    held_service(cpu.lend(), sealed, settled)
+    let Some(side) = cpu.lend().cpu() else {
+        return BAD_HANDLE;
+    };
+    side.service(sealed, settled)
 }
 
 /// How many records were dropped from the CPU's buffer of a speculation.
@@ -112,7 +146,10 @@ pub extern "C" fn dspec_dropped_in(cpu: &mut Handle, id: u64, count: &mut u32) -
     if !cpu.is_held() {
         return BAD_HANDLE;
     }
-    held_dropped_in(cpu.lend(), id, count)
+    let Some(side) = cpu.lend().cpu() else {
+        return BAD_HANDLE;
+    };
+    side.dropped_in(id, count)
 }
 
 /// The speculation of a slot of which the CPU has records.
@@ -124,7 +161,10 @@ pub extern "C" fn dspec_open_at(cpu: &mut Handle, slot: u32, id: &mut u64) -> u3
     if !cpu.is_held() {
         return BAD_HANDLE;
     }
-    held_open_at(cpu.lend(), slot, id)
+    let Some(side) = cpu.lend().cpu() else {
+        return BAD_HANDLE;
+    };
+    side.open_at(slot, id)
 }
 
 /// The CPU's counts so far.
@@ -136,5 +176,8 @@ pub extern "C" fn dspec_cpu_report(cpu: &mut Handle, report: &mut CReport) -> u3
     if !cpu.is_held() {
         return BAD_HANDLE;
     }
-    held_report(cpu.lend(), report)
+    let Some(side) = cpu.lend().cpu() else {
+        return BAD_HANDLE;
+    };
+    side.report(report)
 }

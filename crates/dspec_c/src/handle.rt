@@ -19,17 +19,6 @@ impl Drop for HandleContents {
 
 impl HandleContents {
     ghost use Rattle.std.specs.Prelude.{◌≡◌};
-    ghost use Rattle.std.specs.Borrow.{sem};
-    ghost use Rattle.dspec_c.specs.Lending.{LendsContents};
-
-    /// What is in the box, for a call.
-    #[inline(always)]
-    fn lend(&mut self) -> &mut HandleValue
-        ensures* writes_back { sem 𝓛 (LendsContents self.entry result) }
-        ensures value { result.now ≡ self.old.held }
-    {
-        &mut self.held
-    }
 
     fn into_held(self) -> HandleValue
         ensures { result ≡ self.held }
@@ -108,7 +97,7 @@ impl Handle {
         ensures* writes_back { sem 𝓛 (LendsHeld self.entry result) }
         ensures value { result.now ≡ held_in self.old }
     {
-        self.seal.lend().lend()
+        &mut self.seal.lend().held
     }
 
     /// Fills the handle, which was empty.

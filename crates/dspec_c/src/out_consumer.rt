@@ -1,26 +1,33 @@
 use crate::consumer_homing::{ConsumerHoming, ConsumerRule};
+use dspec_cpu::Shared;
 use dspec_ring::Batch;
+use dspec_session_core::Consumer;
 use rtrb::Producer;
 use std::alloc::Global;
 use std::marker::Model;
+use std::sync::Arc;
 
-/// The consumer that was handed out, with its way home, on which there is room for it. It can't be let go: `go_home` is the one way to be
-/// rid of it.
+/// The consumer that was handed out, with what it shares, and its way home, on which there is room for it. It can't be let go: `go_home`
+/// is the one way to be rid of it.
 pub struct OutConsumer {
     way: Producer<ConsumerHoming, Global, ConsumerRule>,
-    homing: ConsumerHoming,
+    shared: Arc<Shared, Global>,
+    consumer: Consumer,
 }
 
 impl Model for OutConsumer {
     ghost use Rattle.std.specs.Prelude.{◌<◌};
+    ghost use Rattle.std.specs.Arc.{arc_value};
     ghost use Rattle.rtrb.specs.Ring.{known_free, sent};
-    ghost use Rattle.dspec_c.specs.ConsumerHomes.{IsOutTheirs, Theirs};
+    ghost use Rattle.dspec_cpu.specs.Lists.{words_of};
+    ghost use Rattle.dspec_session_core.specs.Consumers.{IsConsumerOf};
+    ghost use Rattle.dspec_c.specs.ConsumerHomes.{IsOutTheirs, Theirs, theirs_of};
 
     ghost Value = { Theirs };
 
-    ghost view = { λ s. s.homing };
+    ghost view = { λ s. theirs_of (arc_value s.shared) s.consumer };
 
-    ghost invariant = { λ s. IsOutTheirs (sent s.way) s.homing × (0 < known_free s.way) };
+    ghost invariant = { λ s. IsConsumerOf (words_of (arc_value s.shared)) s.consumer × IsOutTheirs (sent s.way) (theirs_of (arc_value s.shared) s.consumer) × (0 < known_free s.way) };
 }
 
 impl OutConsumer {
@@ -39,58 +46,67 @@ impl OutConsumer {
         requires room { 0 < known_free way }
         ensures { result ≡ homing }
     {
-        OutConsumer { way, homing }
+        let ConsumerHoming { shared, consumer } = homing;
+        OutConsumer {
+            way,
+            shared,
+            consumer,
+        }
     }
 
     pub fn ask(&mut self, cpu: u32) -> bool
         ensures same { IsSameTheirs self.old self.new }
         ensures did { OnTheirs (Asks cpu result) self.old self.new }
     {
-        self.homing.ask(cpu)
+        self.consumer.ask(&self.shared, cpu)
     }
 
     pub fn clean(&mut self) -> u32
         ensures same { IsSameTheirs self.old self.new }
         ensures did { OnTheirs (CleansSo result) self.old self.new }
     {
-        self.homing.clean()
+        self.consumer.clean(&self.shared)
     }
 
     pub fn waiting_for(&mut self, cpu: u32) -> Option<u32>
         ensures same { IsSameTheirs self.old self.new }
         ensures did { OnTheirs (WaitsSo cpu result) self.old self.new }
     {
-        self.homing.waiting_for(cpu)
+        self.consumer.waiting_for(&self.shared, cpu)
     }
 
     pub fn stop(&mut self)
         ensures same { IsSameTheirs self.old self.new }
         ensures did { OnTheirs Stopped self.old self.new }
     {
-        self.homing.stop()
+        self.consumer.stop(&self.shared);
     }
 
     pub fn take(&mut self, cpu: u32) -> Option<Batch>
         ensures same { IsSameTheirs self.old self.new }
         ensures did { MatchOption result (OnTheirs (FoundNone cpu) self.old self.new) (λ batch. OnTheirs (Took cpu batch) self.old self.new) }
     {
-        self.homing.take(cpu)
+        self.consumer.take(&self.shared, cpu)
     }
 
     pub fn give_back(&mut self, batch: Batch) -> Result<(), Batch>
         ensures same { IsSameTheirs self.old self.new }
         ensures did { MatchResult result (λ _. OnTheirs (GaveBack batch) self.old self.new) (λ back. (back ≡ batch) × OnTheirs (IsNotTakenBack batch) self.old self.new) }
     {
-        self.homing.give_back(batch)
+        self.consumer.give_back(&self.shared, batch)
     }
 
     /// Sends the consumer home, by the way that it gives back.
     pub fn go_home(self) -> Producer<ConsumerHoming, Global, ConsumerRule>
         ensures { HasGoneTheirs self (sent result) }
     {
-        let OutConsumer { way, homing } = self;
+        let OutConsumer {
+            way,
+            shared,
+            consumer,
+        } = self;
         let mut way = way;
-        way.push_reserved(homing);
+        way.push_reserved(ConsumerHoming { shared, consumer });
         way
     }
 }

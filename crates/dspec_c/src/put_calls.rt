@@ -6,7 +6,6 @@ ghost use Rattle.dspec_c.specs.Handles.{held_in, is_full};
 ghost use Rattle.dspec_c.specs.CpuCalls.{PutAnswers, PutInAnswers};
 
 use crate::handle::Handle;
-use crate::held_calls::{held_put, held_put_in};
 use crate::statuses::bad_handle;
 use crate::word_counts::{AllWords, OneWord, ThreeWords, TwoWords};
 
@@ -19,7 +18,10 @@ pub extern "C" fn dspec_put_1(cpu: &mut Handle, claim: u64, stamp: u64, w0: u64)
     if !cpu.is_held() {
         return bad_handle();
     }
-    held_put::<OneWord>(cpu.lend(), claim, stamp, &[w0])
+    let Some(side) = cpu.lend().cpu() else {
+        return bad_handle();
+    };
+    side.put::<OneWord>(claim, stamp, &[w0])
 }
 
 /// Traces the record of a claim whose text is two words.
@@ -31,7 +33,10 @@ pub extern "C" fn dspec_put_2(cpu: &mut Handle, claim: u64, stamp: u64, w0: u64,
     if !cpu.is_held() {
         return bad_handle();
     }
-    held_put::<TwoWords>(cpu.lend(), claim, stamp, &[w0, w1])
+    let Some(side) = cpu.lend().cpu() else {
+        return bad_handle();
+    };
+    side.put::<TwoWords>(claim, stamp, &[w0, w1])
 }
 
 /// Traces the record of a claim whose text is three words.
@@ -50,7 +55,10 @@ pub extern "C" fn dspec_put_3(
     if !cpu.is_held() {
         return bad_handle();
     }
-    held_put::<ThreeWords>(cpu.lend(), claim, stamp, &[w0, w1, w2])
+    let Some(side) = cpu.lend().cpu() else {
+        return bad_handle();
+    };
+    side.put::<ThreeWords>(claim, stamp, &[w0, w1, w2])
 }
 
 /// Traces the record of a claim whose text is so many words.
@@ -62,7 +70,10 @@ pub extern "C" fn dspec_put(cpu: &mut Handle, claim: u64, stamp: u64, words: &[u
     if !cpu.is_held() {
         return bad_handle();
     }
-    held_put::<AllWords>(cpu.lend(), claim, stamp, words)
+    let Some(side) = cpu.lend().cpu() else {
+        return bad_handle();
+    };
+    side.put::<AllWords>(claim, stamp, words)
 }
 
 /// Offers the record of a claim whose text is one word, to a speculation.
@@ -74,7 +85,10 @@ pub extern "C" fn dspec_put_in_1(cpu: &mut Handle, id: u64, claim: u64, stamp: u
     if !cpu.is_held() {
         return bad_handle();
     }
-    held_put_in::<OneWord>(cpu.lend(), id, claim, stamp, &[w0])
+    let Some(side) = cpu.lend().cpu() else {
+        return bad_handle();
+    };
+    side.put_in::<OneWord>(id, claim, stamp, &[w0])
 }
 
 /// Offers the record of a claim whose text is two words, to a speculation.
@@ -93,7 +107,10 @@ pub extern "C" fn dspec_put_in_2(
     if !cpu.is_held() {
         return bad_handle();
     }
-    held_put_in::<TwoWords>(cpu.lend(), id, claim, stamp, &[w0, w1])
+    let Some(side) = cpu.lend().cpu() else {
+        return bad_handle();
+    };
+    side.put_in::<TwoWords>(id, claim, stamp, &[w0, w1])
 }
 
 /// Offers the record of a claim whose text is three words, to a speculation.
@@ -113,7 +130,10 @@ pub extern "C" fn dspec_put_in_3(
     if !cpu.is_held() {
         return bad_handle();
     }
-    held_put_in::<ThreeWords>(cpu.lend(), id, claim, stamp, &[w0, w1, w2])
+    let Some(side) = cpu.lend().cpu() else {
+        return bad_handle();
+    };
+    side.put_in::<ThreeWords>(id, claim, stamp, &[w0, w1, w2])
 }
 
 /// Offers the record of a claim whose text is so many words, to a speculation.
@@ -131,5 +151,8 @@ pub extern "C" fn dspec_put_in(
     if !cpu.is_held() {
         return bad_handle();
     }
-    held_put_in::<AllWords>(cpu.lend(), id, claim, stamp, words)
+    let Some(side) = cpu.lend().cpu() else {
+        return bad_handle();
+    };
+    side.put_in::<AllWords>(id, claim, stamp, words)
 }

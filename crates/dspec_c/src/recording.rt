@@ -1,8 +1,7 @@
-//! A record by its EPID and its values, or by a claim and the words of its text, on a CPU.
+//! A record by a claim and the words of its text, on a CPU.
 
-ghost use Rattle.std.specs.Prelude.{◌≡◌};
 ghost use Rattle.dspec_cpu.specs.Standing.{IsCallable};
-ghost use Rattle.dspec_c.specs.CpuCalls.{CpuOffered, Put, PutIn, CpuRecorded};
+ghost use Rattle.dspec_c.specs.CpuCalls.{Put, PutIn};
 ghost use Rattle.dspec_c.specs.Puts.{PutAs, PutInAs};
 
 use crate::word_counts::Worded;
@@ -10,39 +9,6 @@ use dspec_cpu::{Cpu, Shared};
 use dspec_deeds::{Spoken, Traced};
 use dspec_record::{Enablings, KnownHeader, Schema, Stamped, Unstamped};
 use dspec_word::SpecId;
-
-/// Traces the record with these values. None: the schema doesn't accept it.
-#[inline(always)]
-pub fn trace(
-    cpu: &mut Cpu<Enablings>,
-    shared: &Shared,
-    epid: u32,
-    stamp: u64,
-    values: &[u64],
-) -> Option<Traced>
-    requires of { IsCallable shared.now cpu.old }
-    ensures { CpuRecorded epid stamp values.now result cpu.old cpu.new }
-{
-    let rec = cpu.schema().borrowed(epid, stamp, values)?;
-    Some(cpu.trace_recorded(shared, rec))
-}
-
-/// Offers the record with these values to a speculation. None: the schema doesn't accept it.
-#[inline(always)]
-pub fn offer(
-    cpu: &mut Cpu<Enablings>,
-    id: SpecId,
-    shared: &Shared,
-    epid: u32,
-    stamp: u64,
-    values: &[u64],
-) -> Option<Spoken>
-    requires of { IsCallable shared.now cpu.old }
-    ensures { CpuOffered id epid stamp values.now result cpu.old cpu.new }
-{
-    let rec = cpu.schema().borrowed(epid, stamp, values)?;
-    Some(cpu.speculate_recorded(shared, id, rec))
-}
 
 // Traces the record that these words stand for, where records have this header.
 #[inline(always)]

@@ -1,5 +1,6 @@
-use Rattle.dspec_c.proofs.ConsumerHomes.{kept}
+use Rattle.std.proofs.Common.{rules}
+use Rattle.dspec_c.proofs.ConsumerHomes.{stays_out}
 use Rattle.dspec_c.proofs.out_consumer.OutConsumer.stop.Goals as goal
 
 pub invariant_of-self : goal.invariant_of-self
-invariant_of-self c = (kept _ _ _ c.self.invariant.0 c.stop.ensures.same, c.self.invariant.1)
+invariant_of-self c = (search rules, stays_out _ _ _ _ c.self.invariant.1 c.stop.ensures.same, c.self.invariant.2)

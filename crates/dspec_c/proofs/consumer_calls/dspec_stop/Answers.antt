@@ -1,0 +1,7 @@
+use Rattle.std.proofs.Common.{refl}
+use Rattle.dspec_c.proofs.Calls.{on_lent_consumer}
+use Rattle.dspec_c.proofs.consumer_calls.dspec_stop.Goals as goal
+
+pub returns-in-Consumer-clause-answers : goal.returns-in-Consumer-clause-answers
+returns-in-Consumer-clause-answers c = on_lent_consumer _ _ c.args.consumer.now _ _ _ _ c.lend.ensures.value c.in-Consumer.is
+    (refl, record { out = c.stop.ensures.did; taken = refl })

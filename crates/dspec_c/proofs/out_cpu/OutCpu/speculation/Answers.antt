@@ -1,0 +1,9 @@
+use Rattle.std.proofs.Common.{ap, ◌∙◌}
+use Rattle.dspec_c.specs.Words.{EnabledRows, identity}
+use Rattle.dspec_cpu.specs.declared.cpu.Cpu.{Cpu}
+use Rattle.dspec_c.proofs.Homes.{stays_out}
+use Rattle.dspec_c.proofs.out_cpu.OutCpu.speculation.Goals as goal
+
+pub invariant_of-self : goal.invariant_of-self
+invariant_of-self c = stays_out _ _ c.self.inside.cpu.value c.speculation.new.self _ _ _ c.self.invariant
+    (c.speculation.ensures.same ∙ ap (λ (x : Cpu EnabledRows). identity x) c.deref_mut.ensures.value)
