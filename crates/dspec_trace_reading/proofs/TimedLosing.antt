@@ -1,11 +1,12 @@
 -- What one batch makes of a trace by time, where some of it may be lost.
-use Rattle.std.proofs.Common.{◌≡◌, ◌≢◌, ◌<◌, ◌≤◌, ◌+◌, ◌^◌, ◌++◌, ◌⊎◌, inl, inr, ℕ, List, [], Some, sym, ap, subst, ◌∙◌, arith, length, length-set, get_or, slice_index}
+use Rattle.std.proofs.Common.{◌≡◌, ◌≢◌, ◌<◌, ◌≤◌, ◌+◌, ◌^◌, ◌++◌, ◌⊎◌, inl, inr, ℕ, List, [], Some, None, sym, ap, subst, ◌∙◌, arith, length, length-set, get_or, slice_index}
 use Rattle.std.proofs.lemmas.List.{get_or-set_same, get_or-set_other}
 use Rattle.std.proofs.lemmas.Option.{slice_get_within}
 use Rattle.dspec_trace_reading.specs.Words.{Record, EnabledRows, IsText, run_packets, AddsBatch, capped, FileWrite, file_of, HasSoManyRecords, IsBatchLoss, LosesBatch, LosesOfFiles, LosesRest}
 use Rattle.dspec_trace_reading.specs.Words.{row_name, TimedTracing, missed_by_time}
 use Rattle.dspec_ring.specs.declared.batch.Batch.{Batch}
 use Rattle.dspec_ctf_sink.specs.declared.losing.Loss.{Loss}
+use Rattle.dspec_trace_reading.proofs.Asking.{some_lost}
 use Rattle.dspec_trace_reading.proofs.Losing.{uncapped}
 use Rattle.dspec_trace_reading.proofs.Taking.{Telling, row_writes, stays_elsewhere, telling, took_all}
 use Rattle.dspec_trace_reading.proofs.TimedAsking.{asked_then, lasts_elsewhere, lasts_of, lasts_others, missed_before, missed_elsewhere, missed_here, stays_then, told_elsewhere, told_others}
@@ -15,6 +16,15 @@ use Rattle.dspec_trace_reading.proofs.TimedFiles.{StaysSame, not_taken, stopped,
 -- what may come of a batch
 abbrev pub CameByTime : EnabledRows → TimedTracing → Batch → TimedTracing → Type 0
 CameByTime e old b new = AddsBatch e old b new ⊎ LosesBatch e old b new
+
+-- nothing was lost, or 64 bits are enough for what the CPU missed
+abbrev pub IsExactByTime : ℕ → TimedTracing → Type 0
+IsExactByTime c t = (t.lost ≡ None) ⊎ (missed_by_time t c + 1 < 2 ^ 64)
+
+-- of a batch of which something is lost they are
+pub small_then : (e : EnabledRows) (old new : TimedTracing) (b : Batch) (c : ℕ) → LosesBatch e old b new → IsExactByTime c new → missed_by_time new c + 1 < 2 ^ 64
+small_then e old new b c loses (inl none) = absurd (some_lost old.lost loses.loss (sym loses.lost ∙ none))
+small_then e old new b c loses (inr small) = small
 
 -- the place was asked for these writes, behind which each file stays that isn't of this CPU
 abbrev pub StayElsewhere : TimedTracing → Batch → TimedTracing → List FileWrite → Type 0
@@ -113,9 +123,9 @@ module _ (e : EnabledRows) (old new : TimedTracing) (b : Batch) (low : b.cpu < 6
   pub exact : missed_by_time new b.cpu + 1 < 2 ^ 64 → (loses : LosesBatch e old b new) → missed_by_time new b.cpu ≡ missed_by_time old b.cpu + (b.drops + loses.loss.records)
   exact small loses = lost_counted loses ∙ uncapped _ (subst (λ n. n + 1 < 2 ^ 64) (lost_counted loses) small)
 
-  pub own_rises : missed_by_time new b.cpu + 1 < 2 ^ 64 → CameByTime e old b new → missed_by_time old b.cpu ≤ missed_by_time new b.cpu
-  own_rises small (inl adds) = omega (arith, missed_here e old new b adds, missed_before e old new b adds)
-  own_rises small (inr loses) = omega (arith, exact small loses)
+  pub own_rises : IsExactByTime b.cpu new → CameByTime e old b new → missed_by_time old b.cpu ≤ missed_by_time new b.cpu
+  own_rises is (inl adds) = omega (arith, missed_here e old new b adds, missed_before e old new b adds)
+  own_rises is (inr loses) = omega (arith, exact (small_then e old new b b.cpu loses is) loses)
 
 -- the batch's records, and that its text has no others
 module _ (e : EnabledRows) (b : Batch) (rs : List Record) (is_text : IsText e b.buffer.text rs) (unique : (qs : List Record) → IsText e b.buffer.text qs → qs ≡ rs) where
