@@ -98,7 +98,8 @@ module _ (form : Form) (start : Option ClockStart) {K T : Type 0} (gets : K → 
   -- what comes of a folder that was begun so and ran so
   abbrev pub EndsSo : (List ℕ → T → Type 0) → (Ran T → FolderTrace → Type 0) → Type 0
   EndsSo begins ends = (b : Begun T) (r : Ran T) (t : FolderTrace) → begins b.at_end.uuid b.sink.sink → Carries gets sees does e k old r.closed new b.sink.sink r.sink → ends r t
-      → start_fault k ≡ None → (t.closed ≡ r.closed) × (t.uuid ≡ r.uuid) × IsInFolder gets does e form start (Keeps form e) (λ u. Reads form u e) ps path name k old r.closed new b.at_end.uuid t.lost (written_in t.folder)
+      → start_fault k ≡ None → (t.closed ≡ r.closed) × (t.uuid ≡ r.uuid)
+      × IsInFolder gets does e form start (Keeps form e) (λ u. Reads form u e) ps path name k old r.closed new b.at_end.uuid t.lost (written_in t.folder)
 
   -- so it is of one that was begun and ran, whatever was answered
   pub read_if : (begins : List ℕ → T → Type 0) (ends : Ran T → FolderTrace → Type 0) → EndsSo begins ends → (begun : Result (Begun T) ToFolderFault) (ran : Result (Ran T) ToFolderFault)

@@ -70,6 +70,6 @@ module _ (metadata : MetadataReads) (laws : FilesLaws) {K : Type 0} (gets : K â†
     so.closed,
     so.uuid,
     in_folder (ByTime hertz) start gets (GetsRuns e) does e ps path name k old new r.closed b.sink.sink r.sink c b.at_end.uuid t.lost (written_in t.folder)
-    (told_by_time r.sink) (missed_by_time r.sink)
+        (told_by_time r.sink) (missed_by_time r.sink)
         (ended_so r.closed b.sink.sink r.sink b.at_end.uuid is c so.counts fine t.lost (written_in t.folder) so.loses so.puts),
   ))
