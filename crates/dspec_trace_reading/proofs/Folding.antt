@@ -1,5 +1,5 @@
 -- What proofs of folders have in common.
-use Rattle.std.proofs.Common.{◌≡◌, ℕ, List, [], ◌∷◌, Some, None, refl}
+use Rattle.std.proofs.Common.{◌++◌, ◌≡◌, ℕ, List, [], ◌∷◌, Some, None, refl}
 use Rattle.dspec_trace_reading.specs.Words.{FilledFilesReadBack, HasNumbers, MetadataTells, last_missed, origin_fault, Record, EnabledRows, enabled, table_shape, table_accepts, table_text}
 use Rattle.dspec_trace_reading.specs.Words.{enabled-IsLimited, table-shapes_fit, table-texts_fit, table-texts_differ, IsText, FileWrite, file_of, Tracing, HoldRecords}
 use Rattle.dspec_ctf.specs.declared.form.Form.{Form}
@@ -40,9 +40,9 @@ module _ (e : EnabledRows) where
   one_text b rs read has is =
       one_reading (table_shape e.header (enabled e.rows)) (table_accepts e.header (enabled e.rows)) (table_text e.header (enabled e.rows)) laws 0 b.buffer.text read rs is has
 
-  -- the place took writes, which left the file of this name as it was
+  -- the place took writes behind those of before, which left the file of this name as it was
   abbrev pub Stays : List ℕ → Tracing → List FileWrite → Type 0
-  Stays name new was = (writes : List FileWrite) × ((new.written ≡ Some writes) × (file_of name writes ≡ file_of name was))
+  Stays name new was = (added : List FileWrite) × ((new.written ≡ Some (was ++ added)) × (file_of name (was ++ added) ≡ file_of name was))
 
 -- that metadata is read as its layout, and a file of packets as their events
 abbrev pub MetadataReads : Type 0

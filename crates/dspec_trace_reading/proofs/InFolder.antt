@@ -1,9 +1,9 @@
 -- What is read of a folder into which a session was traced by one call, of either form.
-use Rattle.std.proofs.Common.{◌≡◌, ◌<◌, ◌≤◌, ◌+◌, ◌-◌, ◌^◌, ℕ, List, ◌⊎◌, inl, inr, Option, Some, None, sym, ◌∙◌, subst, arith, length, slice_get, codes, Result, Ok, IfOk, IsOk, Err}
+use Rattle.std.proofs.Common.{◌∷◌, ◌≡◌, ◌<◌, ◌≤◌, ◌+◌, ◌-◌, ◌^◌, ℕ, List, ◌⊎◌, inl, inr, Option, Some, None, sym, ◌∙◌, subst, arith, length, slice_get, codes, Result, Ok, IfOk, IsOk, Err}
 use Rattle.std.proofs.lemmas.Bool.Decides.{nat_tests}
 use Rattle.dspec_trace_reading.specs.Words.{EnabledRows, start_fault, CallsMade, passed_from, layout_of, read_metadata, origin_text, HasNumbers, FileWrite, file_of, drops_carried, IsInFolder}
 use Rattle.dspec_trace_reading.specs.Words.{missed_in, RanBegun, FolderTrace, ToFolderFault, Begun, Ran, HasOriginNumbers, AreCountable, AreNamesOf, ticks_of, TellsProgram, all_counted, lost_of}
-use Rattle.dspec_trace_reading.specs.Words.{lost_records, path_of, written_in, Keeps, Reads, ReadsKept, ReadsPart}
+use Rattle.dspec_trace_reading.specs.Words.{lost_records, made_at, path_of, written_in, Keeps, Reads, ReadsKept, ReadsPart}
 use Rattle.dspec_deeds.specs.declared.config.Config.{Config}
 use Rattle.dspec_ring.specs.declared.batch.Batch.{Batch}
 use Rattle.dspec_session_core.specs.declared.left.Left.{Left}
@@ -34,6 +34,7 @@ pub record Ended (form : Form) (start : Option ClockStart) (e : EnabledRows) (ps
   pub writes : List FileWrite
   pub asked : written ≡ Some writes
   pub at : path_of writes ≡ path
+  pub made : (later : List FileWrite) × (writes ≡ made_at path ∷ later)
   pub text : file_of (codes "metadata") writes ≡ origin_text origin form e names
   pub metadata : AreCountable e ps → read_metadata (file_of (codes "metadata") writes) ≡ Some (layout_of e names form)
   pub reads : (d : ℕ) (l : Left) → slice_get left d ≡ Some l → (lost ≡ None) ⊎ (missed d + 1 < 2 ^ 64) → ReadsKept form uuid e names d (batches d) writes (told d) (missed d)
@@ -85,6 +86,7 @@ module _ (form : Form) (start : Option ClockStart) {K T : Type 0} (gets : K → 
       writes = x.writes;
       asked = x.asked;
       at = x.at;
+      made = x.made;
       origin = x.origin;
       whose = x.whose;
       text = x.text;
@@ -98,7 +100,8 @@ module _ (form : Form) (start : Option ClockStart) {K T : Type 0} (gets : K → 
   -- what comes of a folder that was begun so and ran so
   abbrev pub EndsSo : (List ℕ → T → Type 0) → (Ran T → FolderTrace → Type 0) → Type 0
   EndsSo begins ends = (b : Begun T) (r : Ran T) (t : FolderTrace) → begins b.at_end.uuid b.sink.sink → Carries gets sees does e k old r.closed new b.sink.sink r.sink → ends r t
-      → start_fault k ≡ None → (t.closed ≡ r.closed) × (t.uuid ≡ r.uuid) × IsInFolder gets does e form start (Keeps form e) (λ u. Reads form u e) ps path name k old r.closed new b.at_end.uuid t.lost (written_in t.folder)
+      → start_fault k ≡ None → (t.closed ≡ r.closed) × (t.uuid ≡ r.uuid)
+      × IsInFolder gets does e form start (Keeps form e) (λ u. Reads form u e) ps path name k old r.closed new b.at_end.uuid t.lost (written_in t.folder)
 
   -- so it is of one that was begun and ran, whatever was answered
   pub read_if : (begins : List ℕ → T → Type 0) (ends : Ran T → FolderTrace → Type 0) → EndsSo begins ends → (begun : Result (Begun T) ToFolderFault) (ran : Result (Ran T) ToFolderFault)

@@ -26,22 +26,28 @@ Came e old b new = (IsNothing old b × (new ≡ record old { last = None })) ⊎
 module _ (e : EnabledRows) where
   -- a file that is none of a CPU's stays as it was
   module _ (name : List ℕ) (apart : (c : ℕ) → cpu_name c ≢ name) where
-    next_stays : (old mid new : Tracing) (b : Batch) (was : List FileWrite) → old.written ≡ Some was → ((next : List FileWrite) → mid.written ≡ Some next → Stays e name new next)
-        → Came e old b mid → Stays e name new was
-    next_stays old mid new b was asked stays (inl nothing) = stays was (ap (λ (t : Tracing). t.written) nothing.1 ∙ asked)
-    next_stays old mid new b was asked stays (inr (some, inl adds)) =
+    one_stays : (old new : Tracing) (b : Batch) (was : List FileWrite) → old.written ≡ Some was → Came e old b new → Stays e name new was
+    one_stays old new b was asked (inl nothing) =
+        ([], (ap (λ (t : Tracing). t.written) nothing.1 ∙ asked ∙ ap Some (sym (append-nil was)), ap (λ ws. file_of name ws) (append-nil was)))
+    one_stays old new b was asked (inr (some, inl adds)) =
         let w : FileWrite = record { name = cpu_name b.cpu; bytes = adds.bytes; refused = None } in
-        let all = stays (was ++ w ∷ []) (took old.written mid.written was (cpu_name b.cpu) adds.bytes asked adds.written) in
-        let none_here : brought_to name w ≡ [] = brought_elsewhere name w (apart b.cpu) in
-        (all.0, (all.1.0, all.1.1 ∙ file_of_more name was w ∙ ap (λ xs. file_of name was ++ xs) none_here ∙ append-nil (file_of name was)))
-    next_stays old mid new b was asked stays (inr (some, inr loses)) =
-        let kept = files_stay e old mid b was asked loses in
-        let all = stays kept.0 kept.1.0 in
-        (all.0, (all.1.0, all.1.1 ∙ kept.1.1 name))
+        let none_here : brought_to name w ≡ [] = brought_elsewhere name w (apart b.cpu) in (
+          w ∷ [],
+          (
+            took old.written new.written was (cpu_name b.cpu) adds.bytes asked adds.written,
+            file_of_more name was w ∙ ap (λ xs. file_of name was ++ xs) none_here ∙ append-nil (file_of name was),
+          ),
+        )
+    one_stays old new b was asked (inr (some, inr loses)) = let kept = files_stay e old new b was asked loses in (kept.0, (kept.1.0, kept.1.1 name))
 
     pub stays : (bs : List Passed) (old new : Tracing) (was : List FileWrite) → GotAll (GetsPacket e) old bs new → old.written ≡ Some was → Stays e name new was
-    stays [] old new was got asked = (was, (ap (λ (t : Tracing). t.written) (sym got) ∙ asked, refl))
-    stays (x ∷ xs) old new was (mid, gets, rest) asked = next_stays old mid new x.batch was asked (λ next there. stays xs mid new next rest there) gets.came
+    stays [] old new was got asked =
+        ([], (ap (λ (t : Tracing). t.written) (sym got) ∙ asked ∙ ap Some (sym (append-nil was)), ap (λ ws. file_of name ws) (append-nil was)))
+    stays (x ∷ xs) old new was (mid, gets, rest) asked =
+        let one = one_stays old mid x.batch was asked gets.came in
+        let all = stays xs mid new (was ++ one.0) rest one.1.0 in
+        let both = append_assoc was one.0 all.0 in
+        (one.0 ++ all.0, (all.1.0 ∙ ap Some both, ap (λ ws. file_of name ws) (sym both) ∙ all.1.1 ∙ one.1.1))
 
   module _ (uuid : List ℕ) (c : ℕ) (low : c < 64) where
     abbrev pub Told : Tracing → ℕ × List Record → Type 0
@@ -184,20 +190,20 @@ module _ (e : EnabledRows) where
     next_kept old mid new x xs was rs u wide broad asked exact unlost own more_kept (inr (some, inr loses)) false is holds =
         let kept = files_stay e old mid x.batch was asked loses in
         let apart : x.batch.cpu ≢ c = λ s. eqb-false x.from c is (sym own ∙ s) in
-        passes old mid new (passed_from c xs) was kept.0 (kept.1.1 (cpu_name c)) (others_missed e old mid x.batch loses wide c apart)
+        passes old mid new (passed_from c xs) was (was ++ kept.0) (kept.1.1 (cpu_name c)) (others_missed e old mid x.batch loses wide c apart)
         (ap (λ (ns : List ℕ). slice_index ns c) loses.counted.told)
-        (more_kept kept.0 rs (still_wide e old mid x.batch loses wide) (ap length loses.counted.told ∙ broad) kept.1.0 holds)
+        (more_kept (was ++ kept.0) rs (still_wide e old mid x.batch loses wide) (ap length loses.counted.told ∙ broad) kept.1.0 holds)
     next_kept old mid new x xs was rs u wide broad asked exact unlost own more_kept (inr (some, inr loses)) true is (ps, more, has, many, sum, holds) =
         let kept = files_stay e old mid x.batch was asked loses in
         let here : x.batch.cpu ≡ c = own ∙ eqb-true x.from c is in
-        let later : Kept mid new (passed_from c xs) kept.0 =
-        more_kept kept.0 more (still_wide e old mid x.batch loses wide) (ap length loses.counted.told ∙ broad) kept.1.0 holds in
+        let later : Kept mid new (passed_from c xs) (was ++ kept.0) =
+        more_kept (was ++ kept.0) more (still_wide e old mid x.batch loses wide) (ap length loses.counted.told ∙ broad) kept.1.0 holds in
         let some : new.lost ≡ None → ⊥ = λ none. some_lost old.lost _ (sym loses.counted.lost ∙ unlost none) in
         let below : missed_on mid c + 1 < 2 ^ 64 = elim exact [
           | inl none ↦ absurd (some none)
           | inr small ↦ omega (arith, small, later.counted)
         ] in
-        loses_one old mid new x.batch (passed_from c xs) ps was kept.0 has (kept.1.1 (cpu_name c))
+        loses_one old mid new x.batch (passed_from c xs) ps was (was ++ kept.0) has (kept.1.1 (cpu_name c))
         (own_missed e old mid x.batch loses wide c low here below ps has (λ qs text. one_text e x.batch ps qs has text))
         (ap (λ (ns : List ℕ). slice_index ns c) loses.counted.told) (λ none. absurd (some none)) later
 

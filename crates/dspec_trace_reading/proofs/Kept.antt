@@ -27,7 +27,8 @@ module _ (e : EnabledRows) where
   -- where none are lost, all that the batches hold are kept
   pub kept_whole : (form : Form) (bs : List Batch) (kept rs : List Record) (lost : ℕ) → lost ≡ 0 → Keeps form e bs kept lost → Holds e bs rs → kept ≡ rs
   kept_whole AsTaken [] kept rs lost none are hold = are.0 ∙ sym hold
-  kept_whole AsTaken (b ∷ bs) kept rs lost none (ps, more, rest, text, later, which) (qs, after, has, many, sum, holds) = go (λ none_more. kept_whole AsTaken bs more after rest none_more later holds) which where
+  kept_whole AsTaken (b ∷ bs) kept rs lost none (ps, more, rest, text, later, which) (qs, after, has, many, sum, holds) =
+      go (λ none_more. kept_whole AsTaken bs more after rest none_more later holds) which where
     same : ps ≡ qs
     same = one_text e b qs ps has text
 

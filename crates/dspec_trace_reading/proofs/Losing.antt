@@ -21,7 +21,7 @@ uncapped n below = omega (arith, below)
 module _ (e : EnabledRows) where
   -- every file stays where a batch is lost
   pub files_stay : (old new : Tracing) (b : Batch) (was : List FileWrite) → old.written ≡ Some was → LosesPacket e old b new
-      → (next : List FileWrite) × ((new.written ≡ Some next) × ((name : List ℕ) → file_of name next ≡ file_of name was))
+      → (added : List FileWrite) × ((new.written ≡ Some (was ++ added)) × ((name : List ℕ) → file_of name (was ++ added) ≡ file_of name was))
   files_stay old new b was asked loses = grind (arith, nat_tests, refused_there, file_of_more, append-nil)
 
   module _ (old new : Tracing) (b : Batch) (loses : LosesPacket e old b new) (wide : length old.missed ≡ 64) where

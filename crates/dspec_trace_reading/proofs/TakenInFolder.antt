@@ -1,5 +1,5 @@
 -- What is read of a folder into which a session was traced by one call, as its batches were taken.
-use Rattle.std.proofs.Common.{◌≡◌, ◌<◌, ◌≤◌, ◌+◌, ◌^◌, ◌⊎◌, inl, ℕ, List, [], ◌∷◌, Option, None, Some, sym, ap, ◌∙◌, subst, arith, length, slice_get, codes, Result, IfOk, IsOk}
+use Rattle.std.proofs.Common.{◌≡◌, ◌<◌, ◌≤◌, ◌+◌, ◌^◌, ◌⊎◌, inl, ℕ, List, [], ◌∷◌, Option, None, Some, refl, sym, ap, ◌∙◌, subst, arith, length, slice_get, Result, IfOk, IsOk}
 use Rattle.dspec_trace_reading.specs.Words.{EnabledRows, start_fault, CallsMade, passed_from, GetsPacket, Tracing, missed_on, told_on, IsBegunTrace, IsInFolder, missed_in, IsOfTrace, RanBegun}
 use Rattle.dspec_trace_reading.specs.Words.{FileWrite, written_in, FolderTrace, ToFolderFault, Begun, Ran, lost_records, made_at, BegunNew, ReadsKept, Keeps, Reads}
 use Rattle.dspec_deeds.specs.declared.config.Config.{Config}
@@ -9,12 +9,12 @@ use Rattle.dspec_probe.specs.declared.probes.ProbeNames.{ProbeNames}
 use Rattle.dspec_ctf.specs.declared.form.Form.TheVariants.{AsTaken}
 use Rattle.dspec_ctf_sink.specs.declared.losing.Loss.{Loss}
 use Rattle.dspec_trace_reading.proofs.Answered.{lost_answered}
-use Rattle.dspec_trace_reading.proofs.Begun.{begun_with, none_missed}
+use Rattle.dspec_trace_reading.proofs.Begun.{none_missed, first}
 use Rattle.dspec_trace_reading.proofs.Bounded.{bounded}
 use Rattle.dspec_trace_reading.proofs.Carried.{Carries}
-use Rattle.dspec_trace_reading.proofs.Folding.{FilesRead, MetadataReads, Stays}
+use Rattle.dspec_trace_reading.proofs.Folding.{FilesRead, MetadataReads}
 use Rattle.dspec_trace_reading.proofs.InFolder.{Ended, all_numbers, in_folder, read_if}
-use Rattle.dspec_trace_reading.proofs.Partly.{all_writes, metadata_read, metadata_text, none_lost, path_kept, stream_kept}
+use Rattle.dspec_trace_reading.proofs.Partly.{all_writes, writes, metadata_read, metadata_text, none_lost, path_kept, stream_kept}
 use Rattle.dspec_trace_reading.proofs.Placing.{made_new, made_there}
 use Rattle.dspec_trace_reading.proofs.Summing.{most}
 
@@ -25,8 +25,8 @@ module _ (metadata : MetadataReads) (files : FilesRead) {K : Type 0} (gets : K �
     abbrev begins : BegunNew is.origin e is.names begun
     begins = record { before = made_at path ∷ []; new = made_new path; begins = is.is }
 
-    abbrev all : Stays e (codes "metadata") ended (begun_with is.origin e is.names begun begins)
-    all = all_writes metadata files is.origin e is.names begun ended begins c.all c.got
+    abbrev all : List FileWrite
+    all = writes metadata files is.origin e is.names begun ended begins c.all c.got
 
     -- no more was missed of a CPU than its report counts
     missed_few : (d : ℕ) (l : Left) → slice_get left d ≡ Some l → missed_on ended d ≤ l.report.accepted + missed_in l.report
@@ -41,13 +41,14 @@ module _ (metadata : MetadataReads) (files : FilesRead) {K : Type 0} (gets : K �
       whose = is.whose;
       names = is.names;
       named = is.named;
-      writes = all.0;
-      asked = sym puts ∙ all.1.0;
+      writes = all;
+      asked = sym puts ∙ (all_writes metadata files is.origin e is.names begun ended begins c.all c.got).1.0;
+      made = (first is.origin e is.names ∷ (all_writes metadata files is.origin e is.names begun ended begins c.all c.got).0, refl);
       at = path_kept metadata files is.origin e is.names begun ended begins c.all c.got ∙ made_there path;
       text = metadata_text metadata files is.origin e is.names begun ended begins c.all c.got;
       metadata = λ few. metadata_read metadata files is.origin e is.names begun ended begins c.all c.got (all_numbers is.origin AsTaken e ps is.names is.numbers (omega arith) is.named few);
       reads = λ d l at exact.
-          subst (λ u. ReadsKept AsTaken u e is.names d (passed_from d c.all) all.0 (told_on ended d) (missed_on ended d)) is.whose.trace
+          subst (λ u. ReadsKept AsTaken u e is.names d (passed_from d c.all) all (told_on ended d) (missed_on ended d)) is.whose.trace
           (stream_kept metadata files is.origin e is.names begun ended begins c.all c.got d (c.low start d l at) ((c.kept.page.each d l at).seen) is.long (counts d)
           (subst (λ o. (o ≡ None) ⊎ (missed_on ended d + 1 < 2 ^ 64)) (sym loses) exact) c.own (c.holds d l at));
       whole = λ d l at none.

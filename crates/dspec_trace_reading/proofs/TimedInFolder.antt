@@ -1,5 +1,5 @@
 -- What is read of a folder into which a session was traced by one call, by time.
-use Rattle.std.proofs.Common.{◌≡◌, ◌<◌, ◌≤◌, ◌+◌, ◌^◌, ◌⊎◌, inl, ℕ, List, [], ◌∷◌, Option, None, Some, sym, ap, ◌∙◌, subst, arith, length, slice_get, codes, Result, IfOk, IsOk}
+use Rattle.std.proofs.Common.{◌≡◌, ◌<◌, ◌≤◌, ◌+◌, ◌^◌, ◌⊎◌, inl, ℕ, List, [], ◌∷◌, Option, None, Some, refl, sym, ap, ◌∙◌, subst, arith, length, slice_get, Result, IfOk, IsOk}
 use Rattle.dspec_trace_reading.specs.Words.{EnabledRows, start_fault, CallsMade, passed_from, GetsRuns, TimedTracing, missed_by_time, told_by_time, IsBegunByTime, IsInFolder, missed_in}
 use Rattle.dspec_trace_reading.specs.Words.{IsOfTimedTrace, RanBegun, FileWrite, written_in, FolderTrace, ToFolderFault, Begun, Ran, lost_records, made_at, TimedBegunNew, ReadsKept, Keeps, Reads}
 use Rattle.dspec_deeds.specs.declared.config.Config.{Config}
@@ -10,14 +10,13 @@ use Rattle.dspec_ctf.specs.declared.form.Form.TheVariants.{ByTime}
 use Rattle.dspec_ctf.specs.declared.origin.ClockStart.{ClockStart}
 use Rattle.dspec_ctf_sink.specs.declared.losing.Loss.{Loss}
 use Rattle.dspec_trace_reading.proofs.TimedAnswered.{lost_answered}
-use Rattle.dspec_trace_reading.proofs.TimedBegun.{begun_with, none_missed}
+use Rattle.dspec_trace_reading.proofs.TimedBegun.{none_missed, timed_first}
 use Rattle.dspec_trace_reading.proofs.TimedBounded.{bounded}
 use Rattle.dspec_trace_reading.proofs.Carried.{Carries}
 use Rattle.dspec_trace_reading.proofs.Folding.{MetadataReads}
 use Rattle.dspec_filing_reading.proofs.FilesLaws.{FilesLaws}
-use Rattle.dspec_trace_reading.proofs.TimedKeeping.{TimedStays}
 use Rattle.dspec_trace_reading.proofs.InFolder.{Ended, all_numbers, in_folder, read_if}
-use Rattle.dspec_trace_reading.proofs.TimedPartly.{all_writes, metadata_read, metadata_text, none_lost, path_kept, stream_kept}
+use Rattle.dspec_trace_reading.proofs.TimedPartly.{all_writes, writes, metadata_read, metadata_text, none_lost, path_kept, stream_kept}
 use Rattle.dspec_trace_reading.proofs.Placing.{made_new, made_there}
 use Rattle.dspec_trace_reading.proofs.Summing.{most}
 
@@ -28,8 +27,8 @@ module _ (metadata : MetadataReads) (laws : FilesLaws) {K : Type 0} (gets : K �
     abbrev at_first : TimedBegunNew is.origin hertz e is.names begun
     at_first = record { before = made_at path ∷ []; new = made_new path; begins = is.is }
 
-    abbrev all : TimedStays (codes "metadata") ended (begun_with is.origin hertz e is.names begun at_first)
-    all = all_writes metadata laws is.origin hertz e is.names begun ended at_first c.all c.got
+    abbrev all : List FileWrite
+    all = writes metadata laws is.origin hertz e is.names begun ended at_first c.all c.got
 
     -- no more was missed of a CPU than its report counts
     missed_few : (d : ℕ) (l : Left) → slice_get left d ≡ Some l → missed_by_time ended d ≤ l.report.accepted + missed_in l.report
@@ -44,14 +43,15 @@ module _ (metadata : MetadataReads) (laws : FilesLaws) {K : Type 0} (gets : K �
       whose = is.whose;
       names = is.names;
       named = is.named;
-      writes = all.0;
-      asked = sym puts ∙ all.1.0;
+      writes = all;
+      asked = sym puts ∙ (all_writes metadata laws is.origin hertz e is.names begun ended at_first c.all c.got).1.0;
+      made = (timed_first is.origin hertz e is.names ∷ (all_writes metadata laws is.origin hertz e is.names begun ended at_first c.all c.got).0, refl);
       at = path_kept metadata laws is.origin hertz e is.names begun ended at_first c.all c.got ∙ made_there path;
       text = metadata_text metadata laws is.origin hertz e is.names begun ended at_first c.all c.got;
       metadata = λ few.
           metadata_read metadata laws is.origin hertz e is.names begun ended at_first c.all c.got (all_numbers is.origin (ByTime hertz) e ps is.names is.numbers is.frequency is.named few);
       reads = λ d l at exact.
-          subst (λ u. ReadsKept (ByTime hertz) u e is.names d (passed_from d c.all) all.0 (told_by_time ended d) (missed_by_time ended d)) is.whose.trace
+          subst (λ u. ReadsKept (ByTime hertz) u e is.names d (passed_from d c.all) all (told_by_time ended d) (missed_by_time ended d)) is.whose.trace
           (stream_kept metadata laws is.origin hertz e is.names begun ended at_first c.all c.got d (c.low fine d l at) ((c.kept.page.each d l at).seen) is.long (counts d)
           (subst (λ o. (o ≡ None) ⊎ (missed_by_time ended d + 1 < 2 ^ 64)) (sym loses) exact) c.own (c.holds d l at));
       whole = λ d l at none.
@@ -70,6 +70,6 @@ module _ (metadata : MetadataReads) (laws : FilesLaws) {K : Type 0} (gets : K �
     so.closed,
     so.uuid,
     in_folder (ByTime hertz) start gets (GetsRuns e) does e ps path name k old new r.closed b.sink.sink r.sink c b.at_end.uuid t.lost (written_in t.folder)
-    (told_by_time r.sink) (missed_by_time r.sink)
+        (told_by_time r.sink) (missed_by_time r.sink)
         (ended_so r.closed b.sink.sink r.sink b.at_end.uuid is c so.counts fine t.lost (written_in t.folder) so.loses so.puts),
   ))

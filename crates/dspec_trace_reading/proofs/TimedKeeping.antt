@@ -17,18 +17,20 @@ use Rattle.dspec_trace_reading.proofs.TimedBounded.{rises}
 use Rattle.dspec_trace_reading.proofs.TimedFronts.{KeepsFront, StandsInPart, keeps}
 use Rattle.dspec_trace_reading.proofs.TimedLosing.{CameByTime, IsExactByTime, Leaves, leaves}
 
--- the place took writes, which left the file of this name as it was
+-- the place took writes behind those of before, which left the file of this name as it was
 abbrev pub TimedStays : List ℕ → TimedTracing → List FileWrite → Type 0
-TimedStays name new was = (writes : List FileWrite) × ((new.written ≡ Some writes) × (file_of name writes ≡ file_of name was))
+TimedStays name new was = (added : List FileWrite) × ((new.written ≡ Some (was ++ added)) × (file_of name (was ++ added) ≡ file_of name was))
 
 -- a file that is none of a CPU's stays, whatever is lost
 pub stays : (e : EnabledRows) (name : List ℕ) → ((c file : ℕ) → row_name c file ≢ name) → (bs : List Passed) (old new : TimedTracing) (was : List FileWrite)
     → GotAll (GetsRuns e) old bs new → old.written ≡ Some was → TimedStays name new was
-stays e name apart [] old new was got asked = (was, (ap (λ (t : TimedTracing). t.written) (sym got) ∙ asked, refl))
+stays e name apart [] old new was got asked =
+    ([], (ap (λ (t : TimedTracing). t.written) (sym got) ∙ asked ∙ ap Some (sym (append-nil was)), ap (λ ws. file_of name ws) (append-nil was)))
 stays e name apart (x ∷ xs) old new was (mid, gets, rest) asked =
     let one = (leaves e old mid x.batch gets.came).files was asked in
-    let all = stays e name apart xs mid new one.0 rest one.1.0 in
-    (all.0, (all.1.0, all.1.1 ∙ one.1.1 name (λ there file. apart x.batch.cpu file)))
+    let all = stays e name apart xs mid new (was ++ one.0) rest one.1.0 in
+    let both = append_assoc was one.0 all.0 in
+    (one.0 ++ all.0, (all.1.0 ∙ ap Some both, ap (λ ws. file_of name ws) (sym both) ∙ all.1.1 ∙ one.1.1 name (λ there file. apart x.batch.cpu file)))
 
 module _ (laws : FilesLaws) (uuid : List ℕ) (e : EnabledRows) (names : Names) (hertz c : ℕ) (low : c < 64) (long : length uuid ≡ 16) (stamped : e.header ≡ header.Two) where
   -- the records that are kept of a CPU's batches, behind those of before

@@ -1,7 +1,8 @@
 -- A folder that was written by time, of which some may be lost, and what is read of it.
-use Rattle.std.proofs.Common.{◌≡◌, ◌<◌, ◌+◌, ◌^◌, ℕ, inl, inr, List, [], Some, None, sym, ap, ◌∙◌, subst, arith, length, map, codes, slice_get}
-use Rattle.dspec_trace_reading.specs.Words.{Record, EnabledRows, Passed, GotAll, passed_from, origin_text, of_file, told_by, FileTells, event_of, layout_of, read_metadata, HasNumbers, GetsRuns}
-use Rattle.dspec_trace_reading.specs.Words.{TimedTracing, row_name, file_of, HaveNumbers, drops_carried, missed_by_time, told_by_time, path_of, TimedBegunNew, ReadsAllKept, ReadsBack, ReadsKept}
+use Rattle.std.proofs.Common.{◌++◌, ◌≡◌, ◌<◌, ◌+◌, ◌^◌, ℕ, inl, inr, List, [], Some, None, sym, ap, ◌∙◌, subst, arith, length, map, codes, slice_get}
+use Rattle.dspec_trace_reading.specs.Words.{FileWrite, Record, EnabledRows, Passed, GotAll, passed_from, origin_text, of_file, told_by, FileTells, event_of, layout_of, read_metadata, HasNumbers}
+use Rattle.dspec_trace_reading.specs.Words.{GetsRuns, TimedTracing, row_name, file_of, HaveNumbers, drops_carried, missed_by_time, told_by_time, path_of, TimedBegunNew, ReadsAllKept, ReadsBack}
+use Rattle.dspec_trace_reading.specs.Words.{ReadsKept}
 use Rattle.dspec_session_core.specs.declared.left.Left.{Left}
 use Rattle.dspec_ctf.specs.declared.form.Form.TheVariants.{ByTime}
 use Rattle.dspec_ctf.specs.declared.names.Names.{Names}
@@ -21,18 +22,21 @@ module _ (metadata_law : MetadataReads) (laws : FilesLaws) (origin : Origin) (he
   pub all_writes : TimedStays (codes "metadata") ended (begun_with origin hertz e names begun is)
   all_writes = stays e (codes "metadata") row_not_metadata passed begun ended (begun_with origin hertz e names begun is) got (asked origin hertz e names begun is)
 
+  abbrev pub writes : List FileWrite
+  writes = begun_with origin hertz e names begun is ++ all_writes.0
+
   -- the folder is where it was made
-  pub path_kept : path_of all_writes.0 ≡ path_of is.before
+  pub path_kept : path_of writes ≡ path_of is.before
   path_kept =
       let one = stays e [] row_named passed begun ended (begun_with origin hertz e names begun is) got (asked origin hertz e names begun is) in
-      let both : Some all_writes.0 ≡ Some one.0 = sym all_writes.1.0 ∙ one.1.0 in
-      let same : all_writes.0 ≡ one.0 = cc (both) in
+      let both : Some writes ≡ Some (begun_with origin hertz e names begun is ++ one.0) = sym all_writes.1.0 ∙ one.1.0 in
+      let same : writes ≡ begun_with origin hertz e names begun is ++ one.0 = cc (both) in
       ap path_of same ∙ one.1.1 ∙ path_stays is.before (timed_first origin hertz e names) metadata_named
 
-  pub metadata_text : file_of (codes "metadata") all_writes.0 ≡ origin_text origin (ByTime hertz) e names
+  pub metadata_text : file_of (codes "metadata") writes ≡ origin_text origin (ByTime hertz) e names
   metadata_text = all_writes.1.1 ∙ metadata_is origin hertz e names begun is
 
-  pub metadata_read : HasNumbers origin (ByTime hertz) e names → read_metadata (file_of (codes "metadata") all_writes.0) ≡ Some (layout_of e names (ByTime hertz))
+  pub metadata_read : HasNumbers origin (ByTime hertz) e names → read_metadata (file_of (codes "metadata") writes) ≡ Some (layout_of e names (ByTime hertz))
   metadata_read numbers = ap read_metadata metadata_text ∙ metadata_law origin (ByTime hertz) e names is.begins.allowed numbers
 
   module _ (c : ℕ) (low : c < 64) (rs : List Record) (long : length origin.uuid ≡ 16) (small : missed_by_time ended c < 2 ^ 64) (exact : IsExactByTime c ended)
@@ -50,11 +54,11 @@ module _ (metadata_law : MetadataReads) (laws : FilesLaws) (origin : Origin) (he
           w.1 (none_told origin hertz e names begun is c ∙ sym (none_missed origin hertz e names begun is c)),
         )
 
-    pub stream_kept : ReadsKept (ByTime hertz) origin.uuid e names c (passed_from c passed) all_writes.0 (told_by_time ended c) (missed_by_time ended c)
+    pub stream_kept : ReadsKept (ByTime hertz) origin.uuid e names c (passed_from c passed) writes (told_by_time ended c) (missed_by_time ended c)
     stream_kept =
         let f = all.stands.filed in
-        let both : Some f.writes ≡ Some all_writes.0 = sym f.asked ∙ all_writes.1.0 in
-        let same : f.writes ≡ all_writes.0 = cc (both) in
+        let both : Some f.writes ≡ Some writes = sym f.asked ∙ all_writes.1.0 in
+        let same : f.writes ≡ writes = cc (both) in
         record {
           kept = all.kept;
           lost = all.lost;
@@ -76,7 +80,7 @@ module _ (metadata_law : MetadataReads) (laws : FilesLaws) (origin : Origin) (he
     pub reads_kept : ((c : ℕ) → missed_by_time ended c + 1 < 2 ^ 64)
         → ReadsAllKept (ByTime hertz) origin.uuid e names left (λ c. passed_from c passed) ended.written (told_by_time ended) (missed_by_time ended)
     reads_kept small = record {
-      writes = all_writes.0;
+      writes = writes;
       asked = all_writes.1.0;
       metadata = metadata_read numbers;
       streams = λ c l low there. stream_kept c low (seen c l there) long (omega (arith, small c)) (inr (small c)) own (holds c l there);
@@ -84,12 +88,12 @@ module _ (metadata_law : MetadataReads) (laws : FilesLaws) (origin : Origin) (he
 
     pub reads_back : ended.lost ≡ None → ((c : ℕ) → missed_by_time ended c < 2 ^ 64) → ReadsBack (ByTime hertz) origin.uuid e names left seen (λ c. passed_from c passed) ended.written
     reads_back none small = record {
-      writes = all_writes.0;
+      writes = writes;
       asked = all_writes.1.0;
       metadata = metadata_read numbers;
       streams = λ c l low there.
           let rs = seen c l there in
           let hold = holds c l there in
-          whole_read e (ByTime hertz) origin.uuid names c (passed_from c passed) all_writes.0 (told_by_time ended c) (missed_by_time ended c) rs
+          whole_read e (ByTime hertz) origin.uuid names c (passed_from c passed) writes (told_by_time ended c) (missed_by_time ended c) rs
           (stream_kept c low rs long (small c) (inl none) own hold) hold (none_lost c low rs long (small c) (inl none) own hold none);
     }

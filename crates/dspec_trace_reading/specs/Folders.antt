@@ -2,7 +2,7 @@
 use Rattle.std.specs.Prelude.{ℕ, zero, suc, ◌≡◌, ◌<◌, ◌≤◌, ◌+◌, ◌^◌, List, [], ◌∷◌, length, slice_get, codes, Option, Some, None, IfSome, IsSome}
 use Rattle.std.specs.Option.{option_map_or}
 use Rattle.dspec_trace_reading.specs.Words.Outside.{Record, EnabledRows, enabled, table_accepts, table_shape, table_text, CallsMade, passed_from, IsKept, layout_of, read_metadata, untold, FileWrite}
-use Rattle.dspec_trace_reading.specs.Words.Outside.{file_of, labels_at, event_fields, origin_text, path_of}
+use Rattle.dspec_trace_reading.specs.Words.Outside.{file_of, labels_at, event_fields, origin_text, made_at, path_of}
 use Rattle.dspec_deeds.specs.declared.config.Config.{Config}
 use Rattle.dspec_deeds.specs.declared.report.Report.{Report}
 use Rattle.dspec_ring.specs.declared.batch.Batch.{Batch}
@@ -79,6 +79,7 @@ module _ {K : Type 0} (gets : K → Batch → K → Type 0) (does : ℕ → Call
     pub writes : List FileWrite
     pub asked : written ≡ Some writes
     pub at : path_of writes ≡ path
+    pub made : (later : List FileWrite) × (writes ≡ made_at path ∷ later)
     pub origin : Origin
     pub whose : TellsProgram origin uuid name start
     pub text : file_of (codes "metadata") writes ≡ origin_text origin form e names
