@@ -1,17 +1,17 @@
 -- What all batches of a session bring to one CPU's file, where some may be lost.
 use Rattle.std.proofs.Common.{◌≡◌, ◌≢◌, ◌<◌, ◌≤◌, ◌+◌, ◌^◌, ◌==◌, ℕ, Bool, true, false, if◌then◌else◌, ◌⊎◌, inl, inr, List, [], ◌∷◌, ◌++◌, Some, None}
-use Rattle.std.proofs.Common.{refl, sym, ap, ◌∙◌, subst, arith, length, length-set, All, append_assoc, slice_index}
+use Rattle.std.proofs.Common.{refl, sym, ap, ◌∙◌, subst, arith, length, All, append_assoc, slice_index}
 use Rattle.std.specs.List.{flat_map}
-use Rattle.std.proofs.lemmas.List.{append-nil, get_or-set_same, get_or-set_other}
+use Rattle.std.proofs.lemmas.List.{append-nil, get_or-set_same}
 use Rattle.std.proofs.lemmas.List.Elements.{All-cons, All-nil}
 use Rattle.std.proofs.lemmas.Bool.{eqb-true, eqb-false}
-use Rattle.dspec_trace_reading.specs.Words.{Record, EnabledRows, Passed, GotAll, passed_from, filled_packets, Accepts, IsText, missed_on, FileWrite, brought_to, file_of, AddsPacket, AreNextOf}
-use Rattle.dspec_trace_reading.specs.Words.{GetsPacket, IsNothing, LosesPacket, Tracing, cpu_name, AreKept, HaveNumbers, drops_carried, told_on}
+use Rattle.dspec_trace_reading.specs.Words.{Record, EnabledRows, Passed, GotAll, passed_from, filled_packets, Accepts, IsText, missed_on, FileWrite, file_of, AreNextOf, GetsPacket, Tracing}
+use Rattle.dspec_trace_reading.specs.Words.{cpu_name, AreKept, HaveNumbers, drops_carried, told_on}
 use Rattle.dspec_ring.specs.declared.batch.Batch.{Batch}
-use Rattle.dspec_ctf_sink.proofs.Written.{brought_elsewhere, brought_whole, file_of_more}
+use Rattle.dspec_ctf_sink.proofs.Written.{brought_whole, file_of_more}
 use Rattle.dspec_trace_reading.proofs.Naming.{names_differ}
-use Rattle.dspec_trace_reading.proofs.Asking.{few, missed_before, missed_elsewhere, missed_here, some_lost, stays_wide, took, unlost}
-use Rattle.dspec_trace_reading.proofs.Losing.{files_stay, others_missed, own_missed, still_wide}
+use Rattle.dspec_trace_reading.proofs.Asking.{missed_before, missed_here, some_lost, took, unlost}
+use Rattle.dspec_trace_reading.proofs.Losing.{Came, files_stay, leaves, own_missed}
 use Rattle.dspec_trace_reading.proofs.Folding.{Holds, Stays, last_from, one_text}
 use Rattle.dspec_filing_reading.proofs.Fronts.{all_accepted}
 
@@ -19,35 +19,17 @@ use Rattle.dspec_filing_reading.proofs.Fronts.{all_accepted}
 abbrev pub IsExact : ℕ → Tracing → Type 0
 IsExact c t = (t.lost ≡ None) ⊎ (missed_on t c + 1 < 2 ^ 64)
 
--- what may come of a batch
-abbrev pub Came : EnabledRows → Tracing → Batch → Tracing → Type 0
-Came e old b new = (IsNothing old b × (new ≡ record old { last = None })) ⊎ ((IsNothing old b → ⊥) × (AddsPacket e old b new ⊎ LosesPacket e old b new))
-
 module _ (e : EnabledRows) where
   -- a file that is none of a CPU's stays as it was
-  module _ (name : List ℕ) (apart : (c : ℕ) → cpu_name c ≢ name) where
-    one_stays : (old new : Tracing) (b : Batch) (was : List FileWrite) → old.written ≡ Some was → Came e old b new → Stays e name new was
-    one_stays old new b was asked (inl nothing) =
-        ([], (ap (λ (t : Tracing). t.written) nothing.1 ∙ asked ∙ ap Some (sym (append-nil was)), ap (λ ws. file_of name ws) (append-nil was)))
-    one_stays old new b was asked (inr (some, inl adds)) =
-        let w : FileWrite = record { name = cpu_name b.cpu; bytes = adds.bytes; refused = None } in
-        let none_here : brought_to name w ≡ [] = brought_elsewhere name w (apart b.cpu) in (
-          w ∷ [],
-          (
-            took old.written new.written was (cpu_name b.cpu) adds.bytes asked adds.written,
-            file_of_more name was w ∙ ap (λ xs. file_of name was ++ xs) none_here ∙ append-nil (file_of name was),
-          ),
-        )
-    one_stays old new b was asked (inr (some, inr loses)) = let kept = files_stay e old new b was asked loses in (kept.0, (kept.1.0, kept.1.1 name))
-
-    pub stays : (bs : List Passed) (old new : Tracing) (was : List FileWrite) → GotAll (GetsPacket e) old bs new → old.written ≡ Some was → Stays e name new was
-    stays [] old new was got asked =
-        ([], (ap (λ (t : Tracing). t.written) (sym got) ∙ asked ∙ ap Some (sym (append-nil was)), ap (λ ws. file_of name ws) (append-nil was)))
-    stays (x ∷ xs) old new was (mid, gets, rest) asked =
-        let one = one_stays old mid x.batch was asked gets.came in
-        let all = stays xs mid new (was ++ one.0) rest one.1.0 in
-        let both = append_assoc was one.0 all.0 in
-        (one.0 ++ all.0, (all.1.0 ∙ ap Some both, ap (λ ws. file_of name ws) (sym both) ∙ all.1.1 ∙ one.1.1))
+  pub stays : (name : List ℕ) → ((c : ℕ) → cpu_name c ≢ name) → (bs : List Passed) (old new : Tracing) (was : List FileWrite) → GotAll (GetsPacket e) old bs new → old.written ≡ Some was
+      → Stays e name new was
+  stays name apart [] old new was got asked =
+      ([], (ap (λ (t : Tracing). t.written) (sym got) ∙ asked ∙ ap Some (sym (append-nil was)), ap (λ ws. file_of name ws) (append-nil was)))
+  stays name apart (x ∷ xs) old new was (mid, gets, rest) asked =
+      let one = (leaves e old mid x.batch gets.came).files was asked in
+      let all = stays name apart xs mid new (was ++ one.0) rest one.1.0 in
+      let both = append_assoc was one.0 all.0 in
+      (one.0 ++ all.0, (all.1.0 ∙ ap Some both, ap (λ ws. file_of name ws) (sym both) ∙ all.1.1 ∙ one.1.1 name (λ there. apart x.batch.cpu)))
 
   module _ (uuid : List ℕ) (c : ℕ) (low : c < 64) where
     abbrev pub Told : Tracing → ℕ × List Record → Type 0
@@ -156,26 +138,23 @@ module _ (e : EnabledRows) where
         → Kept mid new (passed_from c xs) next)
         → Came e old x.batch mid → (q : Bool) → (x.from == c) ≡ q
         → Holds e (if q then x.batch ∷ passed_from c xs else passed_from c xs) rs → Kept old new (if q then x.batch ∷ passed_from c xs else passed_from c xs) was
-    next_kept old mid new x xs was rs u wide broad asked exact unlost own more_kept (inl nothing) false is holds =
-        passes old mid new (passed_from c xs) was was refl (ap (λ (t : Tracing). missed_on t c) nothing.1) (ap (λ (t : Tracing). told_on t c) nothing.1)
-        (more_kept was rs (ap (λ (t : Tracing). length t.missed) nothing.1 ∙ wide) (ap (λ (t : Tracing). length t.told) nothing.1 ∙ broad) (ap (λ (t : Tracing). t.written) nothing.1 ∙ asked) holds)
+    next_kept old mid new x xs was rs u wide broad asked exact unlost own more_kept came false is holds =
+        let l = leaves e old mid x.batch came in
+        let apart : x.batch.cpu ≢ c = λ s. eqb-false x.from c is (sym own ∙ s) in
+        let one = l.files was asked in
+        passes old mid new (passed_from c xs) was (was ++ one.0)
+        (one.1.1 (cpu_name c) (λ there. names_differ x.batch.cpu c (subst (λ n. x.batch.cpu < n) wide there) low apart)) (l.missed c apart) (l.told c apart)
+        (more_kept (was ++ one.0) rs (l.wide ∙ wide) (l.broad ∙ broad) one.1.0 holds)
     next_kept old mid new x xs was rs u wide broad asked exact unlost own more_kept (inl nothing) true is (ps, more, has, many, sum, holds) =
+        let l = leaves e old mid x.batch (inl nothing) in
         let same : missed_on mid c ≡ missed_on old c = ap (λ (t : Tracing). missed_on t c) nothing.1 in
         loses_one old mid new x.batch (passed_from c xs) [] was was nothing.0.0 refl (omega (arith, same, nothing.0.1)) (ap (λ (t : Tracing). told_on t c) nothing.1)
         (λ none. omega (arith, nothing.0.1))
-        (more_kept was more (ap (λ (t : Tracing). length t.missed) nothing.1 ∙ wide) (ap (λ (t : Tracing). length t.told) nothing.1 ∙ broad) (ap (λ (t : Tracing). t.written) nothing.1 ∙ asked) holds)
-    next_kept old mid new x xs was rs u wide broad asked exact unlost own more_kept (inr (some, inl adds)) false is holds =
-        let w : FileWrite = record { name = cpu_name x.batch.cpu; bytes = adds.bytes; refused = None } in
-        let apart : x.batch.cpu ≢ c = λ s. eqb-false x.from c is (sym own ∙ s) in
-        let other : brought_to (cpu_name c) w ≡ [] = brought_elsewhere (cpu_name c) w (names_differ x.batch.cpu c (few e old mid x.batch adds wide) low apart) in
-        passes old mid new (passed_from c xs) was (was ++ w ∷ [])
-        (file_of_more (cpu_name c) was w ∙ ap (λ ys. file_of (cpu_name c) was ++ ys) other ∙ append-nil (file_of (cpu_name c) was)) (missed_elsewhere e old mid x.batch adds wide c apart)
-        (ap (λ (ns : List ℕ). slice_index ns c) adds.told ∙ get_or-set_other old.told x.batch.cpu c adds.total 0 (λ s. apart (sym s)))
-        (more_kept (was ++ w ∷ []) rs (stays_wide e old mid x.batch adds wide) (ap length adds.told ∙ length-set old.told x.batch.cpu adds.total ∙ broad)
-        (took old.written mid.written was (cpu_name x.batch.cpu) adds.bytes asked adds.written) holds)
+        (more_kept was more (l.wide ∙ wide) (l.broad ∙ broad) (ap (λ (t : Tracing). t.written) nothing.1 ∙ asked) holds)
     next_kept old mid new x xs was rs u wide broad asked exact unlost own more_kept (inr (some, inl adds)) true is (ps, more, has, many, sum, holds) =
         let w : FileWrite = record { name = cpu_name x.batch.cpu; bytes = adds.bytes; refused = None } in
         let here : x.batch.cpu ≡ c = own ∙ eqb-true x.from c is in
+        let l = leaves e old mid x.batch (inr (some, inl adds)) in
         let there : x.batch.cpu < length old.told = omega (arith, low, here, broad) in
         let before : ℕ = slice_index old.told x.batch.cpu in
         let packets : AreNextOf e uuid adds.total c x.batch.buffer.text before adds.bytes =
@@ -185,19 +164,14 @@ module _ (e : EnabledRows) where
         (file_of_more (cpu_name c) was w ∙ ap (λ ys. file_of (cpu_name c) was ++ ys) (brought_whole (cpu_name x.batch.cpu) (cpu_name c) adds.bytes (ap cpu_name here)))
         (missed_here e old mid x.batch adds wide c here) (missed_before e old mid x.batch adds wide c here)
         (subst (λ n. slice_index mid.told n ≡ adds.total) here (ap (λ (ns : List ℕ). slice_index ns x.batch.cpu) adds.told ∙ get_or-set_same old.told x.batch.cpu adds.total 0 there))
-        (more_kept (was ++ w ∷ []) more (stays_wide e old mid x.batch adds wide) (ap length adds.told ∙ length-set old.told x.batch.cpu adds.total ∙ broad)
+        (more_kept (was ++ w ∷ []) more (l.wide ∙ wide) (l.broad ∙ broad)
         (took old.written mid.written was (cpu_name x.batch.cpu) adds.bytes asked adds.written) holds)
-    next_kept old mid new x xs was rs u wide broad asked exact unlost own more_kept (inr (some, inr loses)) false is holds =
-        let kept = files_stay e old mid x.batch was asked loses in
-        let apart : x.batch.cpu ≢ c = λ s. eqb-false x.from c is (sym own ∙ s) in
-        passes old mid new (passed_from c xs) was (was ++ kept.0) (kept.1.1 (cpu_name c)) (others_missed e old mid x.batch loses wide c apart)
-        (ap (λ (ns : List ℕ). slice_index ns c) loses.counted.told)
-        (more_kept (was ++ kept.0) rs (still_wide e old mid x.batch loses wide) (ap length loses.counted.told ∙ broad) kept.1.0 holds)
     next_kept old mid new x xs was rs u wide broad asked exact unlost own more_kept (inr (some, inr loses)) true is (ps, more, has, many, sum, holds) =
+        let l = leaves e old mid x.batch (inr (some, inr loses)) in
         let kept = files_stay e old mid x.batch was asked loses in
         let here : x.batch.cpu ≡ c = own ∙ eqb-true x.from c is in
         let later : Kept mid new (passed_from c xs) (was ++ kept.0) =
-        more_kept (was ++ kept.0) more (still_wide e old mid x.batch loses wide) (ap length loses.counted.told ∙ broad) kept.1.0 holds in
+        more_kept (was ++ kept.0) more (l.wide ∙ wide) (l.broad ∙ broad) kept.1.0 holds in
         let some : new.lost ≡ None → ⊥ = λ none. some_lost old.lost _ (sym loses.counted.lost ∙ unlost none) in
         let below : missed_on mid c + 1 < 2 ^ 64 = elim exact [
           | inl none ↦ absurd (some none)

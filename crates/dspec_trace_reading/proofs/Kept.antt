@@ -29,14 +29,14 @@ module _ (e : EnabledRows) where
   kept_whole AsTaken [] kept rs lost none are hold = are.0 ∙ sym hold
   kept_whole AsTaken (b ∷ bs) kept rs lost none (ps, more, rest, text, later, which) (qs, after, has, many, sum, holds) =
       go (λ none_more. kept_whole AsTaken bs more after rest none_more later holds) which where
-    same : ps ≡ qs
-    same = one_text e b qs ps has text
+        same : ps ≡ qs
+        same = one_text e b qs ps has text
 
-    go : (rest ≡ 0 → more ≡ after) → ((kept ≡ ps ++ more) × (lost ≡ rest)) ⊎ ((kept ≡ more) × (lost ≡ length ps + rest)) → kept ≡ rs
-    go whole (inl (is, so_many)) = is ∙ ap (λ xs. xs ++ more) same ∙ ap (λ xs. qs ++ xs) (whole (sym so_many ∙ none)) ∙ sym sum
-    go whole (inr (is, so_many)) =
-        let empty : qs ≡ [] = sym same ∙ none_of ps (omega (arith, none, so_many)) in
-        is ∙ whole (omega (arith, none, so_many)) ∙ sym (sum ∙ ap (λ xs. xs ++ after) empty)
+        go : (rest ≡ 0 → more ≡ after) → ((kept ≡ ps ++ more) × (lost ≡ rest)) ⊎ ((kept ≡ more) × (lost ≡ length ps + rest)) → kept ≡ rs
+        go whole (inl (is, so_many)) = is ∙ ap (λ xs. xs ++ more) same ∙ ap (λ xs. qs ++ xs) (whole (sym so_many ∙ none)) ∙ sym sum
+        go whole (inr (is, so_many)) =
+            let empty : qs ≡ [] = sym same ∙ none_of ps (omega (arith, none, so_many)) in
+            is ∙ whole (omega (arith, none, so_many)) ∙ sym (sum ∙ ap (λ xs. xs ++ after) empty)
   kept_whole (ByTime hertz) [] kept rs lost none are hold = are.0 ∙ sym hold
   kept_whole (ByTime hertz) (b ∷ bs) kept rs lost none (front, back, more, rest, text, later, is, so_many) (qs, after, has, many, sum, holds) =
       let empty : back ≡ [] = none_of back (omega (arith, none, so_many)) in

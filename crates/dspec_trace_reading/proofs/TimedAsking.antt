@@ -1,5 +1,5 @@
 -- What one batch asks of a folder by time, where nothing is lost.
-use Rattle.std.proofs.Common.{arith, ◌≡◌, ◌≢◌, ◌<◌, ◌+◌, ℕ, List, [], ◌∷◌, ◌++◌, Some, None, get_or, sym, ap, ◌∙◌, subst, append_assoc, length, length-set, slice_index}
+use Rattle.std.proofs.Common.{arith, ◌≡◌, ◌≢◌, ◌<◌, ◌+◌, ℕ, List, [], ◌∷◌, ◌++◌, Some, None, get_or, sym, ap, ◌∙◌, append_assoc, length, slice_index}
 use Rattle.std.proofs.lemmas.Bool.Decides.{nat_tests}
 use Rattle.std.proofs.lemmas.List.{get_or-set_same, get_or-set_other}
 use Rattle.std.proofs.lemmas.Option.{slice_get_within, get_or_from_slice_get}
@@ -73,12 +73,6 @@ module _ (e : EnabledRows) where
     -- what is known of the CPU's files
     within : b.cpu < length old.missed
     within = slice_get_within old.missed b.cpu adds.before adds.has.missed
-
-    pub few : length old.missed ≡ 64 → b.cpu < 64
-    few wide = subst (λ n. b.cpu < n) wide within
-
-    pub stays_wide : length old.missed ≡ 64 → length new.missed ≡ 64
-    stays_wide wide = ap length adds.missed ∙ length-set old.missed b.cpu (adds.before + b.drops) ∙ wide
 
     pub missed_here : missed_by_time new b.cpu ≡ adds.before + b.drops
     missed_here = ap (λ (xs : List ℕ). slice_index xs b.cpu) adds.missed ∙ get_or-set_same old.missed b.cpu (adds.before + b.drops) 0 within
