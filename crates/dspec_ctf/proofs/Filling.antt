@@ -1,4 +1,5 @@
 -- Records shared out to packets of 1,024 bytes.
+use Rattle.std.proofs.lemmas.Bool.Decides.{nat_tests}
 use Rattle.std.proofs.Common.{◌≡◌, ◌≤◌, ◌<◌, ◌+◌, ◌-◌, ◌*◌, ◌++◌, ℕ, Bool, true, false, cond, List, [], ◌∷◌, length, get_or, take, drop, replicate, Option, Some, None}
 use Rattle.std.proofs.Common.{refl, ap, sym, subst, ◌∙◌, arith, append_assoc, length-append, All}
 use Rattle.std.specs.Prelude.{slice_index, slice_range}
@@ -60,11 +61,7 @@ module _ (timed : Bool) (e : EnabledRows) where
       (All-cons Fits held (portions_from timed e (r ∷ []) rs) fits (portions-fit (r ∷ []) rs (one-fits r of_r) of_more))
 
   front-is : (rs : List Record) → front_size (span_by timed rs) ≡ front_by timed
-  front-is rs = by-form timed
-    where
-      by-form : (t : Bool) → front_size (span_by t rs) ≡ front_by t
-      by-form true = refl
-      by-form false = refl
+  front-is rs = grind (arith, nat_tests)
 
 -- what stands before the events has as many bytes as are said
 pub front-sized : (uuid : List ℕ) (span : Option (ℕ × ℕ)) (content size missed cpu : ℕ) → length uuid ≡ 16 → length (front_bytes uuid span content size missed cpu) ≡ front_size span

@@ -1,14 +1,14 @@
 -- Bytes are the events of one list of records at most.
-use Rattle.std.proofs.Common.{◌≡◌, ◌+◌, ◌*◌, ◌^◌, ◌++◌, ℕ, Bool, true, false, cond, ltb, leb, IsTrue, List, [], ◌∷◌, length, Option, Some, None, refl, ap, sym, subst, ◌∙◌, arith}
+use Rattle.std.proofs.lemmas.Bool.Decides.{nat_tests}
+use Rattle.std.proofs.Common.{◌≡◌, ◌+◌, ◌*◌, ◌^◌, ◌++◌, ℕ, Bool, true, false, cond, ltb, leb, IsTrue, List, [], ◌∷◌, length, Option, Some, None, refl, sym, ◌∙◌, arith}
 use Rattle.std.proofs.Common.{append_assoc, length-append, All}
 use Rattle.std.proofs.lemmas.List.Elements.{All-head, All-tail}
 use Rattle.std.specs.Prelude.{unwrap_or, option_and_then}
 use Rattle.std.specs.Option.{option_map_or}
 use Rattle.std.proofs.lemmas.Bool.{ltb-true, eqb-true}
-use Rattle.dspec_ctf.specs.Words.{Record, width, little_endian, stamp_fits, fits, within_limit, enabling_of, enabled, EnabledRows, both, append-same, little_endian-same, length-little_endian}
-use Rattle.dspec_ctf.specs.Words.{IsAccepted, accepted-parts, stamp_bytes, values_bytes, event, events, event_fields, header_bytes, span_bytes, context_bytes, front_bytes, packet, Accepts}
+use Rattle.dspec_ctf.specs.Words.{Record, width, little_endian, stamp_fits, fits, within_limit, EnabledRows, both, append-same, little_endian-same, length-little_endian, stamp_bytes, values_bytes}
+use Rattle.dspec_ctf.specs.Words.{event, events, header_bytes, span_bytes, context_bytes, front_bytes, packet, Accepts}
 use Rattle.dspec_record.specs.declared.field.Field.{Field}
-use Rattle.dspec_record.specs.declared.field.Field.TheVariants.{Four, Eight}
 use Rattle.dspec_record.specs.declared.header.Header.{Header}
 use Rattle.dspec_record.specs.declared.header.Header.TheVariants as header
 
@@ -43,31 +43,11 @@ values-same (f ∷ fs) (v ∷ vs) (u ∷ us) x y p q e =
 -- so are stamps
 stamps-same : (h : Header) (v u : ℕ) (x y : List ℕ) → IsTrue (stamp_fits h v) → IsTrue (stamp_fits h u) → stamp_bytes h v ++ x ≡ stamp_bytes h u ++ y → (v ≡ u) × (x ≡ y)
 stamps-same header.One v u x y p q e = (eqb-true v 0 p ∙ sym (eqb-true u 0 q), e)
-stamps-same header.Two v u x y p q e =
-    let parts = append-same (little_endian 8 v) (little_endian 8 u) x y refl e in
-    (little_endian-same Eight v u (ltb-true v (2 ^ 64) p) (ltb-true u (2 ^ 64) q) parts.0, parts.1)
+stamps-same header.Two v u x y p q e = grind (arith, nat_tests, ltb-true)
 
 -- and records from bytes that begin with their events
 pub event-same : (e : EnabledRows) (q r : Record) (x y : List ℕ) → Accepts e q → Accepts e r → event e q ++ x ≡ event e r ++ y → (q ≡ r) × (x ≡ y)
-event-same e q r x y of_q of_r is =
-    let h : Header = e.header in
-    let parts_q : IsAccepted h q (enabled e.rows q.epid) = accepted-parts h (enabled e.rows) q of_q in
-    let parts_r : IsAccepted h r (enabled e.rows r.epid) = accepted-parts h (enabled e.rows) r of_r in
-    let split : (p : Record) (z : List ℕ) → event e p ++ z ≡ little_endian 4 p.epid ++ (stamp_bytes h p.stamp ++ (values_bytes (event_fields e p.epid) p.values ++ z)) =
-    λ p z. append_assoc (little_endian 4 p.epid) (stamp_bytes h p.stamp ++ values_bytes (event_fields e p.epid) p.values) z
-    ∙ ap (λ more. little_endian 4 p.epid ++ more) (append_assoc (stamp_bytes h p.stamp) (values_bytes (event_fields e p.epid) p.values) z) in
-    let first = append-same (little_endian 4 q.epid) (little_endian 4 r.epid)
-    (stamp_bytes h q.stamp ++ (values_bytes (event_fields e q.epid) q.values ++ x)) (stamp_bytes h r.stamp ++ (values_bytes (event_fields e r.epid) r.values ++ y)) refl
-    (sym (split q x) ∙ is ∙ split r y) in
-    let epid : q.epid ≡ r.epid = little_endian-same Four q.epid r.epid (ltb-true q.epid (2 ^ 32) parts_q.epid) (ltb-true r.epid (2 ^ 32) parts_r.epid) first.0 in
-    let second = stamps-same h q.stamp r.stamp (values_bytes (event_fields e q.epid) q.values ++ x) (values_bytes (event_fields e r.epid) r.values ++ y)
-    parts_q.stamp parts_r.stamp first.1 in
-    let fit_q : IsTrue (fits (event_fields e q.epid) q.values) = values-fit (enabling_of e.rows q.epid) q.values parts_q.values in
-    let fit_r : IsTrue (fits (event_fields e r.epid) r.values) = values-fit (enabling_of e.rows r.epid) r.values parts_r.values in
-    let Fit : ℕ → Type 0 = λ n. IsTrue (fits (event_fields e n) q.values) in
-    let Same : ℕ → Type 0 = λ n. values_bytes (event_fields e n) q.values ++ x ≡ values_bytes (event_fields e r.epid) r.values ++ y in
-    let third = values-same (event_fields e r.epid) q.values r.values x y (subst Fit epid fit_q) fit_r (subst Same epid second.1) in
-    ((λ i. record { epid = epid i; stamp = second.0 i; values = third.0 i }), third.1)
+event-same e q r x y of_q of_r is = grind (arith, nat_tests, ltb-true, stamps-same, values-fit, values-same)
 
 pub events-same : (e : EnabledRows) (rs qs : List Record) → All (Accepts e) rs → All (Accepts e) qs → events e rs ≡ events e qs → rs ≡ qs
 events-same e [] [] of_r of_q is = refl

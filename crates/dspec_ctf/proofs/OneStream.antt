@@ -1,4 +1,5 @@
 -- Bytes are the packets by time of one list of records at most.
+use Rattle.std.proofs.lemmas.Bool.Decides.{nat_tests}
 use Rattle.std.proofs.Common.{◌≡◌, ◌≤◌, ◌<◌, ◌+◌, ◌*◌, ◌^◌, ◌/◌, ◌==◌, ◌++◌, ℕ, zero, suc, Bool, true, false, cond, leb, IsTrue, List, [], ◌∷◌, length, take, drop, Option, Some, None}
 use Rattle.std.proofs.Common.{refl, ap, sym, subst, ◌∙◌, arith, append_assoc, length-append, All}
 use Rattle.std.specs.Prelude.{option_and_then}
@@ -110,14 +111,8 @@ module _ (f g : ℕ → List ℕ) (rs qs : List Record) where
   walk : (are : AreKnown) (k l a : ℕ) → length rs ≤ 4096 * (a + k) → length qs ≤ 4096 * (a + l)
       → flat_map f (range_with_len a k) ≡ flat_map g (range_with_len a l) → drop (4096 * a) rs ≡ drop (4096 * a) qs
   walk are zero zero a short short' is = drop_all (4096 * a) rs (omega (arith, short)) ∙ sym (drop_all (4096 * a) qs (omega (arith, short')))
-  walk are zero (suc l) a short short' is =
-      let long = are.right_long a (flat_map g (range_with_len (a + 1) l)) in
-      let none : 0 ≡ length (g a ++ flat_map g (range_with_len (a + 1) l)) = ap length is in
-      absurd (omega (arith, none, long))
-  walk are (suc k) zero a short short' is =
-      let long = are.left_long a (flat_map f (range_with_len (a + 1) k)) in
-      let none : length (f a ++ flat_map f (range_with_len (a + 1) k)) ≡ 0 = ap length is in
-      absurd (omega (arith, none, long))
+  walk are zero (suc l) a short short' is = grind (arith, nat_tests)
+  walk are (suc k) zero a short short' is = grind (arith, nat_tests)
   walk are (suc k) (suc l) a short short' is =
       let parts = are.step a (flat_map f (range_with_len (a + 1) k)) (flat_map g (range_with_len (a + 1) l)) is in
       let behind : drop (4096 * (a + 1)) rs ≡ drop (4096 * (a + 1)) qs = walk are k l (a + 1) (omega (arith, short)) (omega (arith, short')) parts.1 in
@@ -143,9 +138,7 @@ packets-known e uuid missed cpu missed' cpu' rs qs n m of_r of_q = record {
 
 -- there are packets for all records
 covers-test : (missed n : ℕ) (none : Bool) → (n == 0) ≡ none → n ≤ 4096 * (0 + cond none (cond (missed == 0) 0 1) ((n + 4095) / 4096))
-covers-test missed n true is =
-    let nothing : n ≡ 0 = eqb-true n 0 is in
-    omega (arith, nothing)
+covers-test missed n true is = grind (arith, nat_tests, eqb-true)
 covers-test missed n false is = omega arith
 
 covers : (missed n : ℕ) → n ≤ 4096 * (0 + packet_count missed n)

@@ -1,12 +1,11 @@
 -- A text that has a piece for each number of a range, while it is written.
-use Rattle.std.proofs.Common.{◌≡◌, ◌<◌, Option, Some, None, false, is_some, refl, ◌+◌, ◌-◌, ◌++◌, ◌∷◌, ◌∙◌, ℕ, suc, List, ap, sym, append_assoc, arith}
+use Rattle.std.proofs.lemmas.Bool.Decides.{nat_tests}
+use Rattle.std.proofs.Common.{◌≡◌, ◌<◌, Option, Some, None, false, is_some, refl, ◌+◌, ◌-◌, ◌++◌, ◌∷◌, ◌∙◌, ℕ, List, ap, sym, append_assoc, arith}
 use Rattle.std.specs.List.{flat_map, range_with_len}
-use Rattle.dspec_ctf.specs.Words.{earlier, first_found}
+use Rattle.dspec_ctf.specs.Words.{first_found}
 
 range-next : (p n : ℕ) → p < n → range_with_len p (n - p) ≡ p ∷ range_with_len (p + 1) (n - (p + 1))
-range-next p n below =
-    let left : n - p ≡ suc (n - (p + 1)) = omega (arith, below) in
-    ap (range_with_len p) left
+range-next p n below = grind (arith, nat_tests)
 
 pub range-piece : (f : ℕ → List ℕ) (p n : ℕ) (text longer whole : List ℕ) → p < n
     → text ++ flat_map f (range_with_len p (n - p)) ≡ whole → longer ≡ text ++ f p
@@ -19,9 +18,7 @@ range-piece f p n text longer whole below so_far more =
 -- nothing at this place: the first is behind it
 pub first-behind : {A : Type 0} (f : ℕ → Option A) (p n : ℕ) (whole : Option A) → p < n → f p ≡ None
     → first_found f (range_with_len p (n - p)) ≡ whole → first_found f (range_with_len (p + 1) (n - (p + 1))) ≡ whole
-first-behind f p n whole below none so_far =
-    sym (ap (λ x. earlier x (first_found f (range_with_len (p + 1) (n - (p + 1))))) none)
-    ∙ sym (ap (first_found f) (range-next p n below)) ∙ so_far
+first-behind f p n whole below none so_far = grind (arith, nat_tests, range-next)
 
 pub none_of : {A : Type 0} (o : Option A) → is_some o ≡ false → o ≡ None
 none_of None e = refl

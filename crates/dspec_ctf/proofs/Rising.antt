@@ -1,5 +1,6 @@
 -- What files have whose records went to them one after another.
-use Rattle.std.proofs.Common.{◌≡◌, ◌<◌, ◌≤◌, ◌==◌, inl, inr, ℕ, zero, suc, Bool, true, false, cond, List, [], ◌∷◌, length, get_or, map, refl, ap, sym, subst, ◌∙◌, arith, All}
+use Rattle.std.proofs.lemmas.Bool.Decides.{nat_tests}
+use Rattle.std.proofs.Common.{◌≡◌, ◌<◌, ◌≤◌, ◌==◌, inl, inr, ℕ, zero, suc, Bool, true, false, cond, List, [], ◌∷◌, length, get_or, map, refl, ap, sym, subst, arith, All}
 use Rattle.std.specs.Prelude.{slice_index, filter, zip}
 use Rattle.std.specs.List.Sorted.{IsNonDecreasingBy}
 use Rattle.std.proofs.lemmas.Bool.{eqb-true, eqb-false}
@@ -10,22 +11,14 @@ use Rattle.dspec_ctf.specs.Words.{Record, GoesToFile, Spreads, of_file}
 
 -- the file that a record goes to has its stamp
 pub goes-here : (lasts mid : List ℕ) (stamp file : ℕ) → GoesToFile lasts stamp file mid → (file < length mid) × (slice_index mid file ≡ stamp)
-goes-here lasts mid stamp file (inl goes) =
-    subst (λ m. (file < length m) × (slice_index m file ≡ stamp)) (sym goes.1)
-    (omega (arith, length-set lasts file stamp, goes.0.there), get_or-set_same lasts file stamp 0 goes.0.there)
-goes-here lasts mid stamp file (inr goes) =
-    subst (λ m. (file < length m) × (slice_index m file ≡ stamp)) (sym goes.3)
-    (omega (arith, length_push lasts stamp, goes.2), get_or_push lasts stamp 0 file (sym goes.2))
+goes-here lasts mid stamp file (inl goes) = grind (arith, nat_tests, length-set, get_or-set_same)
+goes-here lasts mid stamp file (inr goes) = grind (arith, nat_tests, length_push, get_or_push)
 
 -- others have theirs
 goes-kept : (lasts mid : List ℕ) (stamp file other : ℕ) → GoesToFile lasts stamp file mid → (other ≡ file → ⊥) → other < length lasts
     → (other < length mid) × (slice_index mid other ≡ slice_index lasts other)
-goes-kept lasts mid stamp file other (inl goes) differs there =
-    subst (λ m. (other < length m) × (slice_index m other ≡ slice_index lasts other)) (sym goes.1)
-    (omega (arith, length-set lasts file stamp, there), get_or-set_other lasts file other stamp 0 differs)
-goes-kept lasts mid stamp file other (inr goes) differs there =
-    subst (λ m. (other < length m) × (slice_index m other ≡ slice_index lasts other)) (sym goes.3)
-    (omega (arith, length_push lasts stamp, there), get_or_append_left lasts (stamp ∷ []) 0 other there)
+goes-kept lasts mid stamp file other (inl goes) differs there = grind (arith, nat_tests, length-set, get_or-set_other)
+goes-kept lasts mid stamp file other (inr goes) differs there = grind (arith, nat_tests, length_push, get_or_append_left)
 
 -- a record doesn't go before the last of its file
 goes-behind : (lasts mid : List ℕ) (stamp file : ℕ) → GoesToFile lasts stamp file mid → file < length lasts → slice_index lasts file ≤ stamp
@@ -34,12 +27,8 @@ goes-behind lasts mid stamp file (inr goes) there = absurd (omega (arith, there,
 
 -- files are added one at a time, up to 64
 goes-longer : (lasts mid : List ℕ) (stamp file : ℕ) → GoesToFile lasts stamp file mid → length lasts ≤ 64 → (length lasts ≤ length mid) × (length mid ≤ 64)
-goes-longer lasts mid stamp file (inl goes) few =
-    let same = ap length goes.1 ∙ length-set lasts file stamp in
-    (omega (arith, same), omega (arith, same, few))
-goes-longer lasts mid stamp file (inr goes) few =
-    let more = ap length goes.3 ∙ length_push lasts stamp in
-    (omega (arith, more), omega (arith, more, goes.1))
+goes-longer lasts mid stamp file (inl goes) few = grind (arith, nat_tests, length-set)
+goes-longer lasts mid stamp file (inr goes) few = grind (arith, nat_tests, length_push)
 
 -- records that don't fall, behind one that is before them
 cons-at : (r : Record) (rs : List Record) → All (λ q. r.stamp ≤ q.stamp) rs → IsNonDecreasingBy (λ q. q.stamp) rs → (i j : ℕ) (d : Record) → i ≤ j → j < length (r ∷ rs)
@@ -80,10 +69,7 @@ one-more lasts mid r file other ps false is goes rises =
     }
 
 rises-from : (lasts new : List ℕ) (rs : List Record) (files : List ℕ) (file : ℕ) → Spreads lasts rs files new → Rises lasts file (of_file file files rs)
-rises-from lasts new [] [] file is = record {
-  behind = λ inside. All-nil (λ q. slice_index lasts file ≤ q.stamp);
-  rising = IsNonDecreasingBy-short (λ q. q.stamp) [] (omega arith);
-}
+rises-from lasts new [] [] file is = grind (arith, nat_tests, All-nil, IsNonDecreasingBy-short)
 rises-from lasts new [] (f ∷ fs) file is = elim is [ ]
 rises-from lasts new (r ∷ rs) [] file is = elim is [ ]
 rises-from lasts new (r ∷ rs) (f ∷ fs) file (mid, (goes, rest)) =
@@ -104,9 +90,7 @@ record Fills (rs : List Record) (files lasts new : List ℕ) : Type 0 where
   pub few : length new ≤ 64
 
 fills-from : (lasts new : List ℕ) (rs : List Record) (files : List ℕ) → length lasts ≤ 64 → Spreads lasts rs files new → Fills rs files lasts new
-fills-from lasts new [] [] few is =
-    let same = ap length is in
-    record { records = refl; numbers = refl; there = All-nil (λ file. file < length new); longer = omega (arith, same); few = omega (arith, same, few) }
+fills-from lasts new [] [] few is = grind (arith, nat_tests, All-nil)
 fills-from lasts new [] (f ∷ fs) few is = elim is [ ]
 fills-from lasts new (r ∷ rs) [] few is = elim is [ ]
 fills-from lasts new (r ∷ rs) (f ∷ fs) few (mid, (goes, rest)) =
@@ -123,6 +107,4 @@ fills-from lasts new (r ∷ rs) (f ∷ fs) few (mid, (goes, rest)) =
 
 pub files-have-all : (lasts : List ℕ) (rs : List Record) (files new : List ℕ) → length lasts ≤ 64 → Spreads lasts rs files new
     → (map (λ p. p.1) (zip files rs) ≡ rs) × (map (λ p. p.0) (zip files rs) ≡ files) × All (λ file. file < length new) files × (length new ≤ 64)
-files-have-all lasts rs files new few is =
-    let fills = fills-from lasts new rs files few is in
-    (fills.records, fills.numbers, fills.there, fills.few)
+files-have-all lasts rs files new few is = grind (arith, nat_tests, fills-from)

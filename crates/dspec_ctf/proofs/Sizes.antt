@@ -1,7 +1,8 @@
 -- How many bytes events have at most.
-use Rattle.std.proofs.Common.{◌≡◌, ◌≤◌, ◌*◌, ◌++◌, ℕ, zero, suc, List, [], ◌∷◌, length, refl, ap, arith, length-append}
+use Rattle.std.proofs.lemmas.Bool.Decides.{nat_tests}
+use Rattle.std.proofs.Common.{◌≡◌, ◌≤◌, ◌*◌, ℕ, zero, suc, List, [], ◌∷◌, length, refl, ap, arith}
 use Rattle.std.specs.Int.{bytes_low_first}
-use Rattle.dspec_ctf.specs.Words.{Record, width, little_endian, EnabledRows, stamp_bytes, values_bytes, event, event_fields}
+use Rattle.dspec_ctf.specs.Words.{Record, width, little_endian, EnabledRows, stamp_bytes, values_bytes, event}
 use Rattle.dspec_record.specs.declared.field.Field.{Field}
 use Rattle.dspec_record.specs.declared.field.Field.TheVariants.{One, Two, Four, Eight}
 use Rattle.dspec_record.specs.declared.header.Header.{Header}
@@ -27,13 +28,7 @@ stamp-small header.Two stamp = omega (arith, length-little 8 stamp)
 values-small : (fs : List Field) (vs : List ℕ) → length (values_bytes fs vs) ≤ 8 * length vs
 values-small [] vs = omega arith
 values-small (f ∷ fs) [] = omega arith
-values-small (f ∷ fs) (v ∷ vs) =
-    let whole = length-append (little_endian (width f) v) (values_bytes fs vs) in
-    omega (arith, whole, length-little (width f) v, narrow f, values-small fs vs)
+values-small (f ∷ fs) (v ∷ vs) = grind (arith, nat_tests, values-small fs vs, length-little, narrow)
 
 pub event_small : (e : EnabledRows) (r : Record) → length r.values ≤ 8 → length (event e r) ≤ 76
-event_small e r few =
-    let id : List ℕ = little_endian 4 r.epid in
-    let stamp : List ℕ = stamp_bytes e.header r.stamp in
-    let values : List ℕ = values_bytes (event_fields e r.epid) r.values in
-    omega (arith, few, length-append id (stamp ++ values), length-append stamp values, length-little 4 r.epid, stamp-small e.header r.stamp, values-small (event_fields e r.epid) r.values)
+event_small e r few = grind (arith, nat_tests, length-little, stamp-small, values-small)

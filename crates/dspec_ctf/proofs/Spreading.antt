@@ -1,6 +1,7 @@
 -- Records that go to files one after another.
+use Rattle.std.proofs.lemmas.Bool.Decides.{nat_tests}
 use Rattle.std.proofs.Common.{◌≡◌, ◌<◌, ◌≤◌, ◌+◌, ◌-◌, inl, inr, ℕ, suc, List, [], ◌∷◌, ◌++◌, Option, Some, None, length, get_or, take, drop, replicate, refl, ap, sym, subst, ◌∙◌, arith}
-use Rattle.std.specs.Prelude.{slice_get, slice_index, slice_range}
+use Rattle.std.specs.Prelude.{slice_get, slice_range}
 use Rattle.std.proofs.lemmas.List.{length-drop, get_or-drop, take_more, drop_more, drop-drop, replicate_more}
 use Rattle.std.proofs.Math.Seq.{take-add}
 use Rattle.std.proofs.lemmas.Option.{slice_get-get_or}
@@ -8,13 +9,7 @@ use Rattle.dspec_ctf.specs.Words.{Record, IsLatestOf, IsFoundOf, GoesToFile, Spr
 
 -- one file alone is the latest
 latest-one : (lasts : List ℕ) (n stamp f g : ℕ) → IsLatestOf lasts n stamp f → IsLatestOf lasts n stamp g → f ≡ g
-latest-one lasts n stamp f g p q =
-    let up = p.greatest g q.there q.not_above in
-    let down = q.greatest f p.there p.not_above in
-    let level : slice_index lasts f ≡ slice_index lasts g = omega (arith, up, down) in
-    let one : f < g → ⊥ = λ below. q.first f below level in
-    let other : g < f → ⊥ = λ below. p.first g below (sym level) in
-    omega arith
+latest-one lasts n stamp f g p q = grind (arith, nat_tests)
 
 -- a record doesn't go to a file that is there, and isn't the one that was found
 pub goes-elsewhere : (lasts : List ℕ) (stamp file : ℕ) (found : Option ℕ) (after : List ℕ) → file < length lasts → IsFoundOf lasts (length lasts) stamp found
@@ -88,13 +83,7 @@ pub record Covers (lasts : List ℕ) (rs : List Record) (from : ℕ) (runs : Lis
   pub goes : Spreads lasts (slice_range rs from to) (run_files from runs) new
 
 pub runs-cover : (lasts : List ℕ) (rs : List Record) (from : ℕ) (runs : List Run) (to : ℕ) (new : List ℕ) → AreRuns lasts rs from runs to new → Covers lasts rs from runs to new
-runs-cover lasts rs from [] to new is =
-    let none : 0 ≡ to - from = omega (arith, is.0) in
-    record {
-      forward = omega (arith, is.0);
-      records = ap (λ n. take n (drop from rs)) none;
-      goes = subst (λ n. Spreads lasts (take n (drop from rs)) [] new) none is.1;
-    }
+runs-cover lasts rs from [] to new is = grind (arith, nat_tests)
 runs-cover lasts rs from (run ∷ runs) to new (mid, (one, more)) =
     let rest = runs-cover mid rs run.end runs to new more in
     let below : from ≤ run.end = omega (arith, one.some) in

@@ -1,9 +1,8 @@
 -- The records of a text are accepted, and no more than its size allows.
-use Rattle.std.proofs.Common.{ℕ, ◌≡◌, ◌≤◌, ◌+◌, ◌*◌, ◌/◌, ◌++◌, Bool, IsTrue, List, [], ◌∷◌, length, Option, All, refl, ap, sym, subst, arith, length-append}
-use Rattle.std.specs.Prelude.{unwrap_or}
+use Rattle.std.proofs.lemmas.Bool.Decides.{nat_tests}
+use Rattle.std.proofs.Common.{ℕ, ◌≡◌, ◌≤◌, ◌+◌, ◌*◌, ◌++◌, Bool, IsTrue, List, [], ◌∷◌, length, Option, All, ap, arith, length-append}
 use Rattle.std.proofs.lemmas.List.Elements.{All-nil, All-cons}
-use Rattle.dspec_ctf.specs.Words.{Record, EnabledRows, enabled, table_shape, table_accepts, table_text, fields_start, fields_text, header_text, BufferText, most_records, Accepts, IsText}
-use Rattle.dspec_record.specs.declared.field.Field.{Field}
+use Rattle.dspec_ctf.specs.Words.{Record, EnabledRows, enabled, table_shape, table_accepts, table_text, BufferText, most_records, Accepts, IsText}
 use Rattle.dspec_record.specs.declared.field.Shape.{Shape}
 use Rattle.dspec_record.specs.declared.header.Header.TheVariants.{Two}
 
@@ -18,11 +17,7 @@ text-accepted e text rs is = read-accepted (table_shape e.header (enabled e.rows
 
 -- A record with a stamp has 12 bytes or more.
 stamped-wide : (e : EnabledRows) → e.header ≡ Two → (r : Record) → 12 ≤ length (table_text e.header (enabled e.rows) r)
-stamped-wide e stamped r =
-    let fs : List Field = unwrap_or (enabled e.rows r.epid) [] in
-    let more : List ℕ = fields_text (fields_start e.header) fs r.values in
-    let long : length (header_text e.header r) ≡ 12 = subst (λ h. length (header_text h r) ≡ 12) (sym stamped) refl in
-    omega (arith, long, length-append (header_text e.header r) more)
+stamped-wide e stamped r = grind (arith, nat_tests)
 
 read-few : (shape : ℕ → Option Shape) (accepted : Record → Bool) (text : Record → List ℕ) → ((r : Record) → 12 ≤ length (text r)) → (place : ℕ) (bytes : List ℕ) (rs : List Record)
     → BufferText shape accepted text place bytes rs → 12 * length rs ≤ length bytes

@@ -1,5 +1,5 @@
 -- A trace that is written as batches are taken answers as many records as its CPUs lost.
-use Rattle.std.proofs.Common.{◌≡◌, ◌<◌, ◌≤◌, ◌+◌, ◌^◌, ℕ, inl, inr, List, [], Some, refl, sym, ap, ◌∙◌, subst, arith, length, slice_get}
+use Rattle.std.proofs.Common.{◌≡◌, ◌≢◌, ◌<◌, ◌≤◌, ◌+◌, ◌^◌, ℕ, inl, inr, List, [], Some, refl, sym, ap, ◌∙◌, subst, arith, length, slice_get}
 use Rattle.dspec_trace_reading.specs.Words.{EnabledRows, AreFrom, GotAll, Passed, passed_from, GetsPacket, Tracing, missed_on, HaveNumbers, drops_carried, whole_loss, all_counted, lost_of}
 use Rattle.dspec_trace_reading.specs.Words.{lost_records, missed_in, BegunNew}
 use Rattle.dspec_ring.specs.declared.batch.Batch.{Batch}
@@ -8,11 +8,11 @@ use Rattle.dspec_ctf.specs.declared.names.Names.{Names}
 use Rattle.dspec_ctf.specs.declared.origin.Origin.{Origin}
 use Rattle.dspec_trace_reading.proofs.Adding.{AddsUp, all_answered}
 use Rattle.dspec_trace_reading.proofs.Apart.{none_from}
-use Rattle.dspec_trace_reading.proofs.Asking.{missed_before, missed_elsewhere, missed_here, stays_wide}
+use Rattle.dspec_trace_reading.proofs.Asking.{missed_before, missed_here}
 use Rattle.dspec_trace_reading.proofs.Begun.{none_missed}
 use Rattle.dspec_trace_reading.proofs.Bounded.{bounded}
 use Rattle.dspec_trace_reading.proofs.Folding.{Holds}
-use Rattle.dspec_trace_reading.proofs.Losing.{counted_here, others_missed, still_wide, uncapped}
+use Rattle.dspec_trace_reading.proofs.Losing.{counted_here, leaves, uncapped}
 use Rattle.dspec_trace_reading.proofs.OwnNumbers.{is_there}
 use Rattle.dspec_trace_reading.proofs.Summing.{all_within}
 
@@ -20,40 +20,36 @@ abbrev IsWide : Tracing → Type 0
 IsWide t = length t.missed ≡ 64
 
 module _ (e : EnabledRows) where
-  -- whatever comes of a batch
   stays : (old : Tracing) (b : Batch) (new : Tracing) → GetsPacket e old b new → IsWide old → IsWide new
-  stays old b new got wide = elim got.came [
-    | inl nothing ↦ ap (λ (t : Tracing). length t.missed) nothing.1 ∙ wide
-    | inr (some, inl adds) ↦ stays_wide e old new b adds wide
-    | inr (some, inr loses) ↦ still_wide e old new b loses wide
-  ]
+  stays old b new got wide = (leaves e old new b got.came).wide ∙ wide
 
   adds_up : (old : Tracing) (b : Batch) (new : Tracing) → GetsPacket e old b new → IsWide old → b.cpu < 64 → missed_on new b.cpu + 1 < 2 ^ 64
       → AddsUp (missed_on old) (missed_on new) old.lost new.lost b
-  adds_up old b new got wide low small = elim got.came [
-    | inl nothing ↦
-        let same : missed_on new b.cpu ≡ missed_on old b.cpu = ap (λ (t : Tracing). missed_on t b.cpu) nothing.1 in
-        record {
+  adds_up old b new got wide low small =
+      let others : (c : ℕ) → b.cpu ≢ c → missed_on new c ≡ missed_on old c = (leaves e old new b got.came).missed in elim got.came [
+        | inl nothing ↦
+            let same : missed_on new b.cpu ≡ missed_on old b.cpu = ap (λ (t : Tracing). missed_on t b.cpu) nothing.1 in
+            record {
+              records = 0;
+              here = omega (arith, same, nothing.0.1);
+              others = others;
+              loses = inl (refl, ap (λ (t : Tracing). t.lost) nothing.1);
+            }
+        | inr (some, inl adds) ↦ record {
           records = 0;
-          here = omega (arith, same, nothing.0.1);
-          others = λ c apart. ap (λ (t : Tracing). missed_on t c) nothing.1;
-          loses = inl (refl, ap (λ (t : Tracing). t.lost) nothing.1);
+          here = omega (arith, missed_here e old new b adds wide b.cpu refl, missed_before e old new b adds wide b.cpu refl);
+          others = others;
+          loses = inl (refl, adds.lost);
         }
-    | inr (some, inl adds) ↦ record {
-      records = 0;
-      here = omega (arith, missed_here e old new b adds wide b.cpu refl, missed_before e old new b adds wide b.cpu refl);
-      others = λ c apart. missed_elsewhere e old new b adds wide c apart;
-      loses = inl (refl, adds.lost);
-    }
-    | inr (some, inr loses) ↦
-        let read = counted_here e old new b loses wide b.cpu low refl in
-        record {
-          records = loses.counted.records;
-          here = read ∙ uncapped _ (subst (λ n. n + 1 < 2 ^ 64) read small);
-          others = λ c apart. others_missed e old new b loses wide c apart;
-          loses = inr (whole_loss b loses.fault loses.counted.records, refl, loses.counted.lost);
-        }
-  ]
+        | inr (some, inr loses) ↦
+            let read = counted_here e old new b loses wide b.cpu low refl in
+            record {
+              records = loses.counted.records;
+              here = read ∙ uncapped _ (subst (λ n. n + 1 < 2 ^ 64) read small);
+              others = others;
+              loses = inr (whole_loss b loses.fault loses.counted.records, refl, loses.counted.lost);
+            }
+      ]
 
   -- a trace that was begun, and whose CPUs missed no more than their reports count
   module _ (origin : Origin) (names : Names) (begun ended : Tracing) (is : BegunNew origin e names begun) (xs : List Passed) (got : GotAll (GetsPacket e) begun xs ended)

@@ -1,7 +1,7 @@
 -- What one batch asks of the folder, where nothing is lost.
-use Rattle.std.proofs.Common.{arith, ◌≡◌, ◌≢◌, ◌<◌, ◌+◌, ℕ, ◌⊎◌, List, [], ◌∷◌, ◌++◌, Option, Some, None, sym, ap, ◌∙◌, subst, length, length-set, slice_index}
+use Rattle.std.proofs.Common.{arith, ◌≡◌, ◌<◌, ◌+◌, ℕ, ◌⊎◌, List, [], ◌∷◌, ◌++◌, Option, Some, None, sym, ap, ◌∙◌, subst, length, slice_index}
 use Rattle.std.proofs.lemmas.Bool.Decides.{nat_tests}
-use Rattle.std.proofs.lemmas.List.{get_or-set_same, get_or-set_other}
+use Rattle.std.proofs.lemmas.List.{get_or-set_same}
 use Rattle.std.proofs.lemmas.Option.{slice_get_within, get_or_from_slice_get}
 use Rattle.dspec_trace_reading.specs.Words.{EnabledRows, Passed, GotAll, missed_on, lost_more, FileWrite, Takes, AddsPacket, GetsPacket, IsNothing, Tracing}
 use Rattle.dspec_ring.specs.declared.batch.Batch.{Batch}
@@ -35,12 +35,6 @@ module _ (e : EnabledRows) where
     within : b.cpu < length old.missed
     within = slice_get_within old.missed b.cpu adds.packet_is.before adds.packet_is.there
 
-    pub few : b.cpu < 64
-    few = subst (λ n. b.cpu < n) wide within
-
-    pub stays_wide : length new.missed ≡ 64
-    stays_wide = ap length adds.missed ∙ length-set old.missed b.cpu adds.total ∙ wide
-
     pub missed_here : (c : ℕ) → b.cpu ≡ c → missed_on new c ≡ adds.total
     missed_here c same =
         subst (λ n. slice_index new.missed n ≡ adds.total) same (ap (λ (xs : List ℕ). slice_index xs b.cpu) adds.missed ∙ get_or-set_same old.missed b.cpu adds.total 0 within)
@@ -48,6 +42,3 @@ module _ (e : EnabledRows) where
     pub missed_before : (c : ℕ) → b.cpu ≡ c → adds.total ≡ missed_on old c + b.drops
     missed_before c same =
         adds.packet_is.missed_is ∙ ap (λ n. n + b.drops) (sym (get_or_from_slice_get old.missed b.cpu adds.packet_is.before 0 adds.packet_is.there) ∙ ap (λ n. missed_on old n) same)
-
-    pub missed_elsewhere : (c : ℕ) → b.cpu ≢ c → missed_on new c ≡ missed_on old c
-    missed_elsewhere c apart = ap (λ (xs : List ℕ). slice_index xs c) adds.missed ∙ get_or-set_other old.missed b.cpu c adds.total 0 (λ s. apart (sym s))

@@ -1,36 +1,23 @@
 -- What a trace counts of a CPU as missed is no more than its batches' drops and its records, however many are lost.
-use Rattle.std.proofs.lemmas.Bool.Decides.{nat_tests}
-use Rattle.std.proofs.Common.{◌≡◌, ◌≢◌, ◌<◌, ◌≤◌, ◌+◌, ◌==◌, ℕ, Bool, true, false, if◌then◌else◌, inl, inr, List, [], ◌∷◌, refl, sym, ap, ◌∙◌, subst, arith, length}
+use Rattle.std.proofs.Common.{◌≡◌, ◌<◌, ◌≤◌, ◌+◌, ◌==◌, ℕ, Bool, true, false, if◌then◌else◌, List, [], ◌∷◌, refl, sym, ap, ◌∙◌, subst, arith, length}
 use Rattle.std.proofs.lemmas.List.{length-append}
 use Rattle.std.proofs.lemmas.Bool.{eqb-true, eqb-false}
 use Rattle.dspec_trace_reading.specs.Words.{Record, EnabledRows, Passed, GotAll, passed_from, missed_on, GetsPacket, Tracing, HaveNumbers, drops_carried}
-use Rattle.dspec_trace_reading.proofs.Asking.{missed_before, missed_elsewhere, missed_here, stays_wide}
 use Rattle.dspec_trace_reading.proofs.Folding.{Holds, one_text}
-use Rattle.dspec_trace_reading.proofs.Keeping.{Came}
-use Rattle.dspec_trace_reading.proofs.Losing.{others_missed, own_at_most, still_wide}
+use Rattle.dspec_trace_reading.proofs.Losing.{Came, leaves, own_few}
 
 module _ (e : EnabledRows) (c : ℕ) (low : c < 64) where
   next_bounded : (old mid new : Tracing) (x : Passed) (xs : List Passed) (rs : List Record) → length old.missed ≡ 64 → x.batch.cpu ≡ x.from
       → ((more : List Record) → length mid.missed ≡ 64 → Holds e (passed_from c xs) more → missed_on new c ≤ missed_on mid c + drops_carried (passed_from c xs) + length more)
       → Came e old x.batch mid → (q : Bool) → (x.from == c) ≡ q → Holds e (if q then x.batch ∷ passed_from c xs else passed_from c xs) rs
       → missed_on new c ≤ missed_on old c + drops_carried (if q then x.batch ∷ passed_from c xs else passed_from c xs) + length rs
-  next_bounded old mid new x xs rs wide own later (inl nothing) false is holds = grind (arith, nat_tests)
-  next_bounded old mid new x xs rs wide own later (inl nothing) true is (ps, more, has, many, sum, holds) = grind (arith, nat_tests, length-append)
-  next_bounded old mid new x xs rs wide own later (inr (some, inl adds)) false is holds =
-      let apart : x.batch.cpu ≢ c = λ s. eqb-false x.from c is (sym own ∙ s) in
-      omega (arith, missed_elsewhere e old mid x.batch adds wide c apart, later rs (stays_wide e old mid x.batch adds wide) holds)
-  next_bounded old mid new x xs rs wide own later (inr (some, inl adds)) true is (ps, more, has, many, sum, holds) =
-      let here : x.batch.cpu ≡ c = own ∙ eqb-true x.from c is in
+  next_bounded old mid new x xs rs wide own later came false is holds =
+      let l = leaves e old mid x.batch came in
+      omega (arith, l.missed c (λ s. eqb-false x.from c is (sym own ∙ s)), later rs (l.wide ∙ wide) holds)
+  next_bounded old mid new x xs rs wide own later came true is (ps, more, has, many, sum, holds) =
       let all : length rs ≡ length ps + length more = ap length sum ∙ length-append ps more in
-      omega (arith, missed_here e old mid x.batch adds wide c here, missed_before e old mid x.batch adds wide c here, all, later more (stays_wide e old mid x.batch adds wide) holds)
-  next_bounded old mid new x xs rs wide own later (inr (some, inr loses)) false is holds =
-      let apart : x.batch.cpu ≢ c = λ s. eqb-false x.from c is (sym own ∙ s) in
-      omega (arith, others_missed e old mid x.batch loses wide c apart, later rs (still_wide e old mid x.batch loses wide) holds)
-  next_bounded old mid new x xs rs wide own later (inr (some, inr loses)) true is (ps, more, has, many, sum, holds) =
-      let here : x.batch.cpu ≡ c = own ∙ eqb-true x.from c is in
-      let all : length rs ≡ length ps + length more = ap length sum ∙ length-append ps more in
-      let few = own_at_most e old mid x.batch loses wide c low here ps has (λ qs text. one_text e x.batch ps qs has text) in
-      omega (arith, few, all, later more (still_wide e old mid x.batch loses wide) holds)
+      let few = own_few e old mid x.batch c came wide low (own ∙ eqb-true x.from c is) ps has (λ qs text. one_text e x.batch ps qs has text) in
+      omega (arith, few, all, later more ((leaves e old mid x.batch came).wide ∙ wide) holds)
 
   pub bounded : (bs : List Passed) (old new : Tracing) (rs : List Record) → GotAll (GetsPacket e) old bs new → length old.missed ≡ 64 → HaveNumbers bs → Holds e (passed_from c bs) rs
       → missed_on new c ≤ missed_on old c + drops_carried (passed_from c bs) + length rs

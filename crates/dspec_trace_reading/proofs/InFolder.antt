@@ -1,43 +1,22 @@
--- What is read of a folder into which a session was traced by one call.
+-- What is read of a folder into which a session was traced by one call, of either form.
+use Rattle.std.proofs.Common.{◌∷◌, ◌≡◌, ◌<◌, ◌≤◌, ◌+◌, ◌-◌, ◌^◌, ℕ, List, ◌⊎◌, inl, inr, Option, Some, None, sym, ◌∙◌, subst, arith, length, slice_get, codes, Result, Ok, IfOk, IsOk, Err}
 use Rattle.std.proofs.lemmas.Bool.Decides.{nat_tests}
-use Rattle.std.proofs.Common.{◌≡◌, ◌<◌, ◌≤◌, ◌+◌, ◌-◌, ◌^◌, ℕ, List, [], ◌∷◌, ◌++◌, ◌⊎◌, inl, inr, Option, Some, None, sym, ap, ◌∙◌, subst, arith, length, map, slice_get, codes}
-use Rattle.dspec_trace_reading.specs.Words.{Record, EnabledRows, enabled, table_accepts, table_shape, table_text, start_fault, CallsMade, passed_from, IsBare, FileTells, event_of, layout_of}
-use Rattle.dspec_trace_reading.specs.Words.{HasNumbers, FileWrite, file_of, GetsPacket, Tracing, cpu_name, missed_on, AreKept, ReadsKept, ReadsPart, drops_carried, told_on, IsBegunTrace, IsInFolder}
-use Rattle.dspec_trace_reading.specs.Words.{missed_in, IsOfTrace, RanBegun, written_in, FolderTrace, ToFolderFault, Begun, Ran, HasOriginNumbers, AreCountable, AreNamesOf, ticks_of, TellsProgram}
-use Rattle.dspec_trace_reading.specs.Words.{all_counted, lost_of, lost_records, made_at, BegunNew}
+use Rattle.dspec_trace_reading.specs.Words.{EnabledRows, start_fault, CallsMade, passed_from, layout_of, read_metadata, origin_text, HasNumbers, FileWrite, file_of, drops_carried, IsInFolder}
+use Rattle.dspec_trace_reading.specs.Words.{missed_in, RanBegun, FolderTrace, ToFolderFault, Begun, Ran, HasOriginNumbers, AreCountable, AreNamesOf, ticks_of, TellsProgram, all_counted, lost_of}
+use Rattle.dspec_trace_reading.specs.Words.{lost_records, made_at, path_of, written_in, Keeps, Reads, ReadsKept, ReadsPart}
+use Rattle.dspec_deeds.specs.declared.config.Config.{Config}
+use Rattle.dspec_ring.specs.declared.batch.Batch.{Batch}
+use Rattle.dspec_session_core.specs.declared.left.Left.{Left}
+use Rattle.dspec_probe.specs.declared.probes.ProbeNames.{ProbeNames}
 use Rattle.dspec_ctf.specs.declared.form.Form.{Form}
 use Rattle.dspec_ctf.specs.declared.names.Names.{Names}
 use Rattle.dspec_ctf.specs.declared.names.Names.TheVariants.{Numbered, Given}
+use Rattle.dspec_ctf.specs.declared.origin.ClockStart.{ClockStart}
 use Rattle.dspec_ctf.specs.declared.origin.Origin.{Origin}
-use Rattle.dspec_deeds.specs.declared.config.Config.{Config}
-use Rattle.dspec_probe.specs.declared.probes.ProbeNames.{ProbeNames}
-use Rattle.dspec_ring.specs.declared.batch.Batch.{Batch}
-use Rattle.dspec_session_core.specs.declared.left.Left.{Left}
-use Rattle.dspec_ctf.specs.declared.form.Form.TheVariants.{AsTaken}
 use Rattle.dspec_ctf_sink.specs.declared.losing.Loss.{Loss}
-use Rattle.dspec_buffer.proofs.OneReading.{one_reading}
-use Rattle.dspec_trace_reading.proofs.Answered.{lost_answered}
-use Rattle.dspec_trace_reading.proofs.Bounded.{bounded}
-use Rattle.dspec_trace_reading.proofs.Folding.{Stays, laws}
-use Rattle.dspec_trace_reading.proofs.Partly.{all_writes, metadata_read, metadata_text, path_kept, stream_kept}
-use Rattle.dspec_trace_reading.proofs.Placing.{made_new, made_there}
-use Rattle.dspec_trace_reading.proofs.Summing.{most, one_within}
-use Rattle.dspec_trace_reading.proofs.Begun.{begun_with, none_missed}
-use Rattle.dspec_trace_reading.proofs.Whole.{FilesRead, MetadataReads, stream_read, all as whole_writes}
 use Rattle.dspec_trace_reading.proofs.Carried.{Carries, in_both}
-use Rattle.std.proofs.Common.{Result, Ok, IfOk, IsOk, Err}
-
--- the batch that tells the end has no records, so none of it are kept or lost
-kept_before : (e : EnabledRows) (bs : List Batch) (b : Batch) (kept : List Record) (lost : ℕ) → IsBare b → AreKept e (bs ++ b ∷ []) kept lost → AreKept e bs kept lost
-kept_before e [] b kept lost bare (rs, more, rest, text, later, which) = go which where
-  none : rs ≡ []
-  none =
-      one_reading (table_shape e.header (enabled e.rows)) (table_accepts e.header (enabled e.rows)) (table_text e.header (enabled e.rows)) (laws e) 0 b.buffer.text rs [] text bare.0
-
-  go : ((kept ≡ rs ++ more) × (lost ≡ rest)) ⊎ ((kept ≡ more) × (lost ≡ length rs + rest)) → (kept ≡ []) × (lost ≡ 0)
-  go (inl (is, so_many)) = (is ∙ ap (λ xs. xs ++ more) none ∙ later.0, so_many ∙ later.1)
-  go (inr (is, so_many)) = let few : length rs ≡ 0 = ap length none in (is ∙ later.0, omega (arith, so_many, few, later.1))
-kept_before e (x ∷ bs) b kept lost bare (rs, more, rest, text, later, which) = (rs, more, rest, text, kept_before e bs b more rest bare later, which)
+use Rattle.dspec_trace_reading.proofs.Kept.{kept_before, whole_read}
+use Rattle.dspec_trace_reading.proofs.Summing.{one_within}
 
 -- with what is so of the probes
 pub all_numbers : (origin : Origin) (form : Form) (e : EnabledRows) (ps : List ProbeNames) (names : Names) → HasOriginNumbers origin → ticks_of form < 2 ^ 64 → AreNamesOf ps names
@@ -45,98 +24,97 @@ pub all_numbers : (origin : Origin) (form : Form) (e : EnabledRows) (ps : List P
 all_numbers origin form e ps Numbered told rate named few = absurd named
 all_numbers origin form e ps (Given ns) told rate named few = grind (arith, nat_tests)
 
-module _ (metadata : MetadataReads) (files : FilesRead) {K : Type 0} (gets : K → Batch → K → Type 0) (does : ℕ → CallsMade → CallsMade → Type 0) (e : EnabledRows)
-    (ps : List ProbeNames) (path name : List ℕ) (k : Config) (old new : K) (left : List Left) (begun ended : Tracing) (uuid : List ℕ) (is : IsBegunTrace e ps path name uuid begun)
-    (c : Carries gets (GetsPacket e) does e k old left new begun ended) (counts : (d : ℕ) → missed_on ended d < 2 ^ 64) (start : start_fault k ≡ None) where
-  abbrev begins : BegunNew is.origin e is.names begun
-  begins = record { before = made_at path ∷ []; new = made_new path; begins = is.is }
+-- what is known of a folder that was begun so and got these batches, by what its trace told and counted as missed of each CPU
+pub record Ended (form : Form) (start : Option ClockStart) (e : EnabledRows) (ps : List ProbeNames) (path name uuid : List ℕ) (left : List Left) (batches : ℕ → List Batch)
+    (lost : Option Loss) (written : Option (List FileWrite)) (told missed : ℕ → ℕ) : Type 0 where
+  pub origin : Origin
+  pub whose : TellsProgram origin uuid name start
+  pub names : Names
+  pub named : AreNamesOf ps names
+  pub writes : List FileWrite
+  pub asked : written ≡ Some writes
+  pub at : path_of writes ≡ path
+  pub made : (later : List FileWrite) × (writes ≡ made_at path ∷ later)
+  pub text : file_of (codes "metadata") writes ≡ origin_text origin form e names
+  pub metadata : AreCountable e ps → read_metadata (file_of (codes "metadata") writes) ≡ Some (layout_of e names form)
+  pub reads : (d : ℕ) (l : Left) → slice_get left d ≡ Some l → (lost ≡ None) ⊎ (missed d + 1 < 2 ^ 64) → ReadsKept form uuid e names d (batches d) writes (told d) (missed d)
+  pub whole : (d : ℕ) (l : Left) → slice_get left d ≡ Some l → lost ≡ None → (missed d ≡ drops_carried (batches d)) × (told d ≡ missed d)
+  pub few : (d : ℕ) (l : Left) → slice_get left d ≡ Some l → missed d ≤ l.report.accepted + missed_in l.report
+  pub answered : (lost_on : ℕ → ℕ) → ((d : ℕ) (l : Left) → slice_get left d ≡ Some l → missed d ≡ drops_carried (batches d) + lost_on d) → all_counted left + 1 < 2 ^ 64
+      → lost_records lost ≡ lost_of lost_on (length left)
 
-  abbrev all : Stays e (codes "metadata") ended (begun_with is.origin e is.names begun begins)
-  all = all_writes metadata files is.origin e is.names begun ended begins c.all c.got
+module _ (form : Form) (start : Option ClockStart) {K T : Type 0} (gets : K → Batch → K → Type 0) (sees : T → Batch → T → Type 0) (does : ℕ → CallsMade → CallsMade → Type 0)
+    (e : EnabledRows) (ps : List ProbeNames) (path name : List ℕ) (k : Config) (old new : K) where
+  module _ (left : List Left) (begun ended : T) (c : Carries gets sees does e k old left new begun ended) (uuid : List ℕ) (lost : Option Loss) (written : Option (List FileWrite))
+      (told missed : ℕ → ℕ) (x : Ended form start e ps path name uuid left (λ d. passed_from d c.all) lost written told missed) where
+    whole : lost ≡ None → (d : ℕ) (l : Left) (at : slice_get left d ≡ Some l) → Reads form uuid e x.names d ((c.kept.page.each d l at).seen) (missed_in l.report) x.writes
+    whole none d l at =
+        let rs = (c.kept.page.each d l at).seen in
+        subst (λ n. Reads form uuid e x.names d rs n x.writes) (c.missed d l at)
+        (whole_read e form uuid x.names d (passed_from d c.all) x.writes (told d) (missed d) rs (x.reads d l at (inl none)) (c.holds d l at) (x.whole d l at none))
 
-  abbrev Tells : ℕ → List Record → ℕ → Type 0
-  Tells d rs missed = FileTells (layout_of e is.names AsTaken) is.origin.uuid d (file_of (cpu_name d) all.0) (map (event_of e is.names AsTaken) rs) missed
+    -- what a CPU missed beyond the drops that its batches carried is lost
+    abbrev lost_on : ℕ → ℕ
+    lost_on d = missed d - drops_carried (passed_from d c.all)
 
-  whole : ended.lost ≡ None → (d : ℕ) (l : Left) (at : slice_get left d ≡ Some l) → Tells d ((c.kept.page.each d l at).seen) (missed_in l.report)
-  whole none d l at =
-      let w = whole_writes metadata files is.origin e is.names begun ended begins c.all c.got none in
-      let both : Some w.0 ≡ Some all.0 = sym w.1.0 ∙ all.1.0 in
-      let same : w.0 ≡ all.0 = cc (both) in
-      let read = stream_read metadata files is.origin e is.names begun ended begins c.all c.got none d (c.low start d l at) ((c.kept.page.each d l at).seen) is.long (counts d) c.own
-      (c.holds d l at) in
-      subst (λ n. Tells d ((c.kept.page.each d l at).seen) n) (c.missed d l at)
-      (subst (λ ws. FileTells (layout_of e is.names AsTaken) is.origin.uuid d (file_of (cpu_name d) ws) (map (event_of e is.names AsTaken) ((c.kept.page.each d l at).seen))
-      (drops_carried (passed_from d c.all))) same read)
+    part : (d : ℕ) (l : Left) → slice_get left d ≡ Some l → l.report.accepted + missed_in l.report + 1 < 2 ^ 64
+        → ReadsPart (Keeps form e) (Reads form uuid e x.names d) (passed_from d c.kept.passed) (missed_in l.report) (lost_on d) x.writes
+    part d l at below =
+        let r = x.reads d l at (inr (omega (arith, x.few d l at, below))) in
+        let end = c.ends d l at in
+        let so_many : r.lost ≡ lost_on d = omega (arith, r.counted) in
+        record {
+          kept = r.kept;
+          are_kept =
+              subst (λ n. Keeps form e (passed_from d c.kept.passed) r.kept n) so_many
+              (kept_before e form (passed_from d c.kept.passed) end.0 r.kept r.lost end.1.bare (subst (λ bs. Keeps form e bs r.kept r.lost) end.2 r.are_kept));
+          told = told d;
+          tells = r.tells;
+          no_more = omega (arith, r.no_more, r.counted, c.missed d l at, so_many);
+        }
 
-  -- no more was missed of a CPU than its report counts
-  missed_few : (d : ℕ) (l : Left) → slice_get left d ≡ Some l → missed_on ended d ≤ l.report.accepted + missed_in l.report
-  missed_few d l at =
-      let few = bounded e d (c.low start d l at) c.all begun ended ((c.kept.page.each d l at).seen) c.got (ap length is.is.missed) c.own (c.holds d l at) in
-      omega (arith, few, none_missed is.origin e is.names begun begins d, c.missed d l at, c.accepted d l at)
+    counted : all_counted left + 1 < 2 ^ 64 → (d : ℕ) (l : Left) → slice_get left d ≡ Some l → missed d ≡ drops_carried (passed_from d c.all) + lost_on d
+    counted small d l at =
+        let r = x.reads d l at (inr (omega (arith, x.few d l at, one_within left d l at, small))) in
+        omega (arith, r.counted)
 
-  read : (d : ℕ) (l : Left) → slice_get left d ≡ Some l → l.report.accepted + missed_in l.report + 1 < 2 ^ 64
-      → ReadsKept is.origin.uuid e is.names d (passed_from d c.all) (file_of (cpu_name d) all.0) ended
-  read d l at below =
-      stream_kept metadata files is.origin e is.names begun ended begins c.all c.got d (c.low start d l at) ((c.kept.page.each d l at).seen) is.long
-      (omega (arith, missed_few d l at, below)) c.own (c.holds d l at)
+    pub in_folder : IsInFolder gets does e form start (Keeps form e) (λ u. Reads form u e) ps path name k old left new uuid lost written
+    in_folder = record {
+      kept = c.kept;
+      names = x.names;
+      named = x.named;
+      writes = x.writes;
+      asked = x.asked;
+      at = x.at;
+      made = x.made;
+      origin = x.origin;
+      whose = x.whose;
+      text = x.text;
+      metadata = x.metadata;
+      whole = whole;
+      lost_on = lost_on;
+      part = part;
+      told = λ small. x.answered lost_on (counted small) small;
+    }
 
-  -- what a CPU missed beyond the drops that its batches carried is lost
-  abbrev lost_on : ℕ → ℕ
-  lost_on d = missed_on ended d - drops_carried (passed_from d c.all)
+  -- what comes of a folder that was begun so and ran so
+  abbrev pub EndsSo : (List ℕ → T → Type 0) → (Ran T → FolderTrace → Type 0) → Type 0
+  EndsSo begins ends = (b : Begun T) (r : Ran T) (t : FolderTrace) → begins b.at_end.uuid b.sink.sink → Carries gets sees does e k old r.closed new b.sink.sink r.sink → ends r t
+      → start_fault k ≡ None → (t.closed ≡ r.closed) × (t.uuid ≡ r.uuid)
+      × IsInFolder gets does e form start (Keeps form e) (λ u. Reads form u e) ps path name k old r.closed new b.at_end.uuid t.lost (written_in t.folder)
 
-  part : (d : ℕ) (l : Left) → slice_get left d ≡ Some l → l.report.accepted + missed_in l.report + 1 < 2 ^ 64
-      → ReadsPart is.origin.uuid e is.names d (passed_from d c.kept.passed) (missed_in l.report) (lost_on d) (file_of (cpu_name d) all.0)
-  part d l at below =
-      let r = read d l at below in
-      let end = c.ends d l at in
-      let so_many : r.lost ≡ lost_on d = omega (arith, r.counted) in
-      record {
-        kept = r.kept;
-        are_kept =
-            subst (λ n. AreKept e (passed_from d c.kept.passed) r.kept n) so_many
-            (kept_before e (passed_from d c.kept.passed) end.0 r.kept r.lost end.1.bare (subst (λ bs. AreKept e bs r.kept r.lost) end.2 r.are_kept));
-        told = told_on ended d;
-        tells = r.tells;
-        no_more = omega (arith, r.no_more, r.counted, c.missed d l at, so_many);
-      }
-
-  told : all_counted left + 1 < 2 ^ 64 → lost_records ended.lost ≡ lost_of lost_on (length left)
-  told small =
-      lost_answered e is.origin is.names begun ended begins c.all c.got left (most left (c.low start)) c.from c.own missed_few lost_on
-      (λ d l at. let r = read d l at (omega (arith, one_within left d l at, small)) in omega (arith, r.counted)) small
-
-  pub in_folder : (lost : Option Loss) (written : Option (List FileWrite)) → ended.lost ≡ lost → ended.written ≡ written → IsInFolder gets does e ps path name k old left new uuid lost written
-  in_folder lost written loses puts = subst (λ u. IsInFolder gets does e ps path name k old left new u lost written) is.whose.trace (record {
-    kept = c.kept;
-    names = is.names;
-    named = is.named;
-    writes = all.0;
-    asked = sym puts ∙ all.1.0;
-    at = path_kept metadata files is.origin e is.names begun ended begins c.all c.got ∙ made_there path;
-    origin = is.origin;
-    whose = subst (λ u. TellsProgram is.origin u name None) (sym is.whose.trace) is.whose;
-    text = metadata_text metadata files is.origin e is.names begun ended begins c.all c.got;
-    metadata = λ few. metadata_read metadata files is.origin e is.names begun ended begins c.all c.got (all_numbers is.origin AsTaken e ps is.names is.numbers (omega arith) is.named few);
-    whole = λ none. whole (loses ∙ none);
-    lost_on = lost_on;
-    part = part;
-    told = λ small. ap lost_records (sym loses) ∙ told small;
-  })
-
--- so it is of one that was begun and ran, whatever was answered
-pub read_if : MetadataReads → FilesRead → {K : Type 0} (gets : K → Batch → K → Type 0) (does : ℕ → CallsMade → CallsMade → Type 0) (e : EnabledRows) (ps : List ProbeNames)
-    (path name : List ℕ) (k : Config) (old new : K) (begun : Result (Begun Tracing) ToFolderFault) (ran : Result (Ran Tracing) ToFolderFault) (answer : Result FolderTrace ToFolderFault)
-    → IfOk ran (λ _. start_fault k ≡ None)
-    → IfOk begun (λ b. IsBegunTrace e ps path name b.at_end.uuid b.sink.sink) → IfOk ran (λ r. RanBegun (GetsPacket e) gets does e k old begun r new)
-    → IfOk answer (λ t. IfOk ran (λ r. IsOfTrace r t)) → IfOk answer (λ _. IsOk ran) → IfOk answer (λ t. IsInFolder gets does e ps path name k old t.closed new t.uuid t.lost (written_in t.folder))
-read_if metadata files gets does e ps path name k old new begun ran (Err fault) start is has ends well = record {}
-read_if metadata files gets does e ps path name k old new begun (Err fault) (Ok t) start is has ends well = absurd (cc (well))
-read_if metadata files gets does e ps path name k old new (Err fault) (Ok r) (Ok t) start is (b, rest) ends well = let same = rest.0 in absurd (cc (same))
-read_if metadata files gets does e ps path name k old new (Ok c) (Ok r) (Ok t) start is (b, rest) ends well =
-    let same = rest.0 in
-    let one : c ≡ b = cc (same) in
-    let begun = subst (λ (x : Begun Tracing). IsBegunTrace e ps path name x.at_end.uuid x.sink.sink) one is in
-    let carries = in_both (GetsPacket e) gets does e k old new b.sink r.closed r.sink rest.2 in
-    subst (λ l. IsInFolder gets does e ps path name k old l new t.uuid t.lost (written_in t.folder)) (sym ends.closed)
-    (subst (λ u. IsInFolder gets does e ps path name k old r.closed new u t.lost (written_in t.folder)) (sym (ends.uuid ∙ rest.1))
-    (in_folder metadata files gets does e ps path name k old new r.closed b.sink.sink r.sink b.at_end.uuid begun carries ends.counts start t.lost (written_in t.folder) ends.loses ends.puts))
+  -- so it is of one that was begun and ran, whatever was answered
+  pub read_if : (begins : List ℕ → T → Type 0) (ends : Ran T → FolderTrace → Type 0) → EndsSo begins ends → (begun : Result (Begun T) ToFolderFault) (ran : Result (Ran T) ToFolderFault)
+      (answer : Result FolderTrace ToFolderFault) → IfOk ran (λ _. start_fault k ≡ None) → IfOk begun (λ b. begins b.at_end.uuid b.sink.sink)
+      → IfOk ran (λ r. RanBegun sees gets does e k old begun r new) → IfOk answer (λ t. IfOk ran (λ r. ends r t)) → IfOk answer (λ _. IsOk ran)
+      → IfOk answer (λ t. IsInFolder gets does e form start (Keeps form e) (λ u. Reads form u e) ps path name k old t.closed new t.uuid t.lost (written_in t.folder))
+  read_if begins ends each begun ran (Err fault) fine is has so well = record {}
+  read_if begins ends each begun (Err fault) (Ok t) fine is has so well = absurd (cc (well))
+  read_if begins ends each (Err fault) (Ok r) (Ok t) fine is (b, rest) so well = let same = rest.0 in absurd (cc (same))
+  read_if begins ends each (Ok c) (Ok r) (Ok t) fine is (b, rest) so well =
+      let same = rest.0 in
+      let one : c ≡ b = cc (same) in
+      let begun = subst (λ (x : Begun T). begins x.at_end.uuid x.sink.sink) one is in
+      let all = each b r t begun (in_both sees gets does e k old new b.sink r.closed r.sink rest.2) so fine in
+      subst (λ l. IsInFolder gets does e form start (Keeps form e) (λ u. Reads form u e) ps path name k old l new t.uuid t.lost (written_in t.folder)) (sym all.0)
+      (subst (λ u. IsInFolder gets does e form start (Keeps form e) (λ u. Reads form u e) ps path name k old r.closed new u t.lost (written_in t.folder)) (sym (all.1 ∙ rest.1)) all.2)

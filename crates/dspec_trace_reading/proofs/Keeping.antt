@@ -1,43 +1,35 @@
 -- What all batches of a session bring to one CPU's file, where some may be lost.
 use Rattle.std.proofs.Common.{◌≡◌, ◌≢◌, ◌<◌, ◌≤◌, ◌+◌, ◌^◌, ◌==◌, ℕ, Bool, true, false, if◌then◌else◌, ◌⊎◌, inl, inr, List, [], ◌∷◌, ◌++◌, Some, None}
-use Rattle.std.proofs.Common.{refl, sym, ap, ◌∙◌, subst, arith, length, length-set, All, append_assoc, slice_index}
+use Rattle.std.proofs.Common.{refl, sym, ap, ◌∙◌, subst, arith, length, All, append_assoc, slice_index}
 use Rattle.std.specs.List.{flat_map}
-use Rattle.std.proofs.lemmas.List.{append-nil, get_or-set_same, get_or-set_other}
+use Rattle.std.proofs.lemmas.List.{append-nil, get_or-set_same}
 use Rattle.std.proofs.lemmas.List.Elements.{All-cons, All-nil}
 use Rattle.std.proofs.lemmas.Bool.{eqb-true, eqb-false}
-use Rattle.dspec_trace_reading.specs.Words.{Record, EnabledRows, Passed, GotAll, passed_from, filled_packets, Accepts, IsText, missed_on, FileWrite, brought_to, file_of, AddsPacket, AreNextOf}
-use Rattle.dspec_trace_reading.specs.Words.{GetsPacket, IsNothing, LosesPacket, Tracing, cpu_name, AreKept, HaveNumbers, drops_carried, told_on}
+use Rattle.dspec_trace_reading.specs.Words.{Record, EnabledRows, Passed, GotAll, passed_from, filled_packets, Accepts, IsText, missed_on, FileWrite, file_of, AreNextOf, GetsPacket, Tracing}
+use Rattle.dspec_trace_reading.specs.Words.{cpu_name, AreKept, HaveNumbers, drops_carried, told_on}
 use Rattle.dspec_ring.specs.declared.batch.Batch.{Batch}
-use Rattle.dspec_ctf_sink.proofs.Written.{brought_elsewhere, brought_whole, file_of_more}
+use Rattle.dspec_ctf_sink.proofs.Written.{brought_whole, file_of_more}
 use Rattle.dspec_trace_reading.proofs.Naming.{names_differ}
-use Rattle.dspec_trace_reading.proofs.Asking.{few, missed_before, missed_elsewhere, missed_here, stays_wide, took}
-use Rattle.dspec_trace_reading.proofs.Losing.{files_stay, others_missed, own_missed, still_wide}
+use Rattle.dspec_trace_reading.proofs.Asking.{missed_before, missed_here, some_lost, took, unlost}
+use Rattle.dspec_trace_reading.proofs.Losing.{Came, files_stay, leaves, own_missed}
 use Rattle.dspec_trace_reading.proofs.Folding.{Holds, Stays, last_from, one_text}
 use Rattle.dspec_filing_reading.proofs.Fronts.{all_accepted}
 
--- what may come of a batch
-abbrev pub Came : EnabledRows → Tracing → Batch → Tracing → Type 0
-Came e old b new = (IsNothing old b × (new ≡ record old { last = None })) ⊎ ((IsNothing old b → ⊥) × (AddsPacket e old b new ⊎ LosesPacket e old b new))
+-- nothing was lost, or 64 bits are enough for what the CPU missed
+abbrev pub IsExact : ℕ → Tracing → Type 0
+IsExact c t = (t.lost ≡ None) ⊎ (missed_on t c + 1 < 2 ^ 64)
 
 module _ (e : EnabledRows) where
   -- a file that is none of a CPU's stays as it was
-  module _ (name : List ℕ) (apart : (c : ℕ) → cpu_name c ≢ name) where
-    next_stays : (old mid new : Tracing) (b : Batch) (was : List FileWrite) → old.written ≡ Some was → ((next : List FileWrite) → mid.written ≡ Some next → Stays e name new next)
-        → Came e old b mid → Stays e name new was
-    next_stays old mid new b was asked stays (inl nothing) = stays was (ap (λ (t : Tracing). t.written) nothing.1 ∙ asked)
-    next_stays old mid new b was asked stays (inr (some, inl adds)) =
-        let w : FileWrite = record { name = cpu_name b.cpu; bytes = adds.bytes; refused = None } in
-        let all = stays (was ++ w ∷ []) (took old.written mid.written was (cpu_name b.cpu) adds.bytes asked adds.written) in
-        let none_here : brought_to name w ≡ [] = brought_elsewhere name w (apart b.cpu) in
-        (all.0, (all.1.0, all.1.1 ∙ file_of_more name was w ∙ ap (λ xs. file_of name was ++ xs) none_here ∙ append-nil (file_of name was)))
-    next_stays old mid new b was asked stays (inr (some, inr loses)) =
-        let kept = files_stay e old mid b was asked loses in
-        let all = stays kept.0 kept.1.0 in
-        (all.0, (all.1.0, all.1.1 ∙ kept.1.1 name))
-
-    pub stays : (bs : List Passed) (old new : Tracing) (was : List FileWrite) → GotAll (GetsPacket e) old bs new → old.written ≡ Some was → Stays e name new was
-    stays [] old new was got asked = (was, (ap (λ (t : Tracing). t.written) (sym got) ∙ asked, refl))
-    stays (x ∷ xs) old new was (mid, gets, rest) asked = next_stays old mid new x.batch was asked (λ next there. stays xs mid new next rest there) gets.came
+  pub stays : (name : List ℕ) → ((c : ℕ) → cpu_name c ≢ name) → (bs : List Passed) (old new : Tracing) (was : List FileWrite) → GotAll (GetsPacket e) old bs new → old.written ≡ Some was
+      → Stays e name new was
+  stays name apart [] old new was got asked =
+      ([], (ap (λ (t : Tracing). t.written) (sym got) ∙ asked ∙ ap Some (sym (append-nil was)), ap (λ ws. file_of name ws) (append-nil was)))
+  stays name apart (x ∷ xs) old new was (mid, gets, rest) asked =
+      let one = (leaves e old mid x.batch gets.came).files was asked in
+      let all = stays name apart xs mid new (was ++ one.0) rest one.1.0 in
+      let both = append_assoc was one.0 all.0 in
+      (one.0 ++ all.0, (all.1.0 ∙ ap Some both, ap (λ ws. file_of name ws) (sym both) ∙ all.1.1 ∙ one.1.1 name (λ there. apart x.batch.cpu)))
 
   module _ (uuid : List ℕ) (c : ℕ) (low : c < 64) where
     abbrev pub Told : Tracing → ℕ × List Record → Type 0
@@ -54,6 +46,7 @@ module _ (e : EnabledRows) where
       pub counted : missed_on new c ≡ missed_on old c + drops_carried bs + lost
       pub told : last_from (told_on old c) packets ≡ told_on new c
       pub each : All (Told new) packets
+      pub whole : new.lost ≡ None → (lost ≡ 0) × (told_on old c ≡ missed_on old c → told_on new c ≡ missed_on new c)
 
     -- another CPU's batch
     passes : (old mid new : Tracing) (bs : List Batch) (was next : List FileWrite) → file_of (cpu_name c) next ≡ file_of (cpu_name c) was → missed_on mid c ≡ missed_on old c
@@ -68,13 +61,14 @@ module _ (e : EnabledRows) where
       counted = omega (arith, k.counted, missed);
       told = ap (λ n. last_from n k.packets) (sym told) ∙ k.told;
       each = k.each;
+      whole = λ none. let w = k.whole none in (w.0, λ same. w.1 (told ∙ same ∙ sym missed));
     }
 
     -- one of its own of which nothing had to be written, or which is lost: so many records
     loses_one : (old mid new : Tracing) (b : Batch) (bs : List Batch) (rs : List Record) (was next : List FileWrite) → IsText e b.buffer.text rs
-        → file_of (cpu_name c) next ≡ file_of (cpu_name c) was → missed_on mid c ≡ missed_on old c + b.drops + length rs → told_on mid c ≡ told_on old c → Kept mid new bs next
-        → Kept old new (b ∷ bs) was
-    loses_one old mid new b bs rs was next text file missed told k = record {
+        → file_of (cpu_name c) next ≡ file_of (cpu_name c) was → missed_on mid c ≡ missed_on old c + b.drops + length rs → told_on mid c ≡ told_on old c
+        → (new.lost ≡ None → b.drops + length rs ≡ 0) → Kept mid new bs next → Kept old new (b ∷ bs) was
+    loses_one old mid new b bs rs was next text file missed told free k = record {
       packets = k.packets;
       lost = length rs + k.lost;
       writes = k.writes;
@@ -84,6 +78,7 @@ module _ (e : EnabledRows) where
       counted = omega (arith, k.counted, missed);
       told = ap (λ n. last_from n k.packets) (sym told) ∙ k.told;
       each = k.each;
+      whole = λ none. let w = k.whole none in let nothing = free none in (omega (arith, w.0, nothing), λ same. w.1 (omega (arith, told, same, missed, nothing)));
     }
 
     -- one of its own whose packet was taken
@@ -101,6 +96,7 @@ module _ (e : EnabledRows) where
       counted = omega (arith, k.counted, missed, sum);
       told = ap (λ n. last_from n k.packets) (sym told) ∙ k.told;
       each = All-cons (Told new) (total, read) k.packets (omega (arith, k.counted, missed), all_accepted e read 0 b.buffer.text text) k.each;
+      whole = λ none. let w = k.whole none in (w.0, λ same. w.1 (told ∙ sym missed));
     }
 
     -- the same behind a packet of no records, which tells of none missed
@@ -123,6 +119,7 @@ module _ (e : EnabledRows) where
           told = ap (λ n. last_from n k.packets) (sym told) ∙ k.told;
           each = All-cons (Told new) (0, []) ((total, read) ∷ k.packets) (omega arith, All-nil (Accepts e))
               (All-cons (Told new) (total, read) k.packets (omega (arith, k.counted, missed), all_accepted e read 0 b.buffer.text text) k.each);
+          whole = λ none. let w = k.whole none in (w.0, λ same. w.1 (told ∙ sym missed));
         }
 
     -- the next packets of its file
@@ -136,30 +133,28 @@ module _ (e : EnabledRows) where
         keeps_one old mid new b bs p.read total was next p.is_text (file ∙ ap (λ xs. file_of (cpu_name c) was ++ xs) p.bytes_are) missed sum told k
 
     next_kept : (old mid new : Tracing) (x : Passed) (xs : List Passed) (was : List FileWrite) (rs : List Record) → old.uuid ≡ uuid → length old.missed ≡ 64 → length old.told ≡ 64
-        → old.written ≡ Some was → missed_on new c + 1 < 2 ^ 64 → x.batch.cpu ≡ x.from
+        → old.written ≡ Some was → IsExact c new → (new.lost ≡ None → mid.lost ≡ None) → x.batch.cpu ≡ x.from
         → ((next : List FileWrite) (more : List Record) → length mid.missed ≡ 64 → length mid.told ≡ 64 → mid.written ≡ Some next → Holds e (passed_from c xs) more
         → Kept mid new (passed_from c xs) next)
         → Came e old x.batch mid → (q : Bool) → (x.from == c) ≡ q
         → Holds e (if q then x.batch ∷ passed_from c xs else passed_from c xs) rs → Kept old new (if q then x.batch ∷ passed_from c xs else passed_from c xs) was
-    next_kept old mid new x xs was rs u wide broad asked small own more_kept (inl nothing) false is holds =
-        passes old mid new (passed_from c xs) was was refl (ap (λ (t : Tracing). missed_on t c) nothing.1) (ap (λ (t : Tracing). told_on t c) nothing.1)
-        (more_kept was rs (ap (λ (t : Tracing). length t.missed) nothing.1 ∙ wide) (ap (λ (t : Tracing). length t.told) nothing.1 ∙ broad) (ap (λ (t : Tracing). t.written) nothing.1 ∙ asked) holds)
-    next_kept old mid new x xs was rs u wide broad asked small own more_kept (inl nothing) true is (ps, more, has, many, sum, holds) =
+    next_kept old mid new x xs was rs u wide broad asked exact unlost own more_kept came false is holds =
+        let l = leaves e old mid x.batch came in
+        let apart : x.batch.cpu ≢ c = λ s. eqb-false x.from c is (sym own ∙ s) in
+        let one = l.files was asked in
+        passes old mid new (passed_from c xs) was (was ++ one.0)
+        (one.1.1 (cpu_name c) (λ there. names_differ x.batch.cpu c (subst (λ n. x.batch.cpu < n) wide there) low apart)) (l.missed c apart) (l.told c apart)
+        (more_kept (was ++ one.0) rs (l.wide ∙ wide) (l.broad ∙ broad) one.1.0 holds)
+    next_kept old mid new x xs was rs u wide broad asked exact unlost own more_kept (inl nothing) true is (ps, more, has, many, sum, holds) =
+        let l = leaves e old mid x.batch (inl nothing) in
         let same : missed_on mid c ≡ missed_on old c = ap (λ (t : Tracing). missed_on t c) nothing.1 in
         loses_one old mid new x.batch (passed_from c xs) [] was was nothing.0.0 refl (omega (arith, same, nothing.0.1)) (ap (λ (t : Tracing). told_on t c) nothing.1)
-        (more_kept was more (ap (λ (t : Tracing). length t.missed) nothing.1 ∙ wide) (ap (λ (t : Tracing). length t.told) nothing.1 ∙ broad) (ap (λ (t : Tracing). t.written) nothing.1 ∙ asked) holds)
-    next_kept old mid new x xs was rs u wide broad asked small own more_kept (inr (some, inl adds)) false is holds =
-        let w : FileWrite = record { name = cpu_name x.batch.cpu; bytes = adds.bytes; refused = None } in
-        let apart : x.batch.cpu ≢ c = λ s. eqb-false x.from c is (sym own ∙ s) in
-        let other : brought_to (cpu_name c) w ≡ [] = brought_elsewhere (cpu_name c) w (names_differ x.batch.cpu c (few e old mid x.batch adds wide) low apart) in
-        passes old mid new (passed_from c xs) was (was ++ w ∷ [])
-        (file_of_more (cpu_name c) was w ∙ ap (λ ys. file_of (cpu_name c) was ++ ys) other ∙ append-nil (file_of (cpu_name c) was)) (missed_elsewhere e old mid x.batch adds wide c apart)
-        (ap (λ (ns : List ℕ). slice_index ns c) adds.told ∙ get_or-set_other old.told x.batch.cpu c adds.total 0 (λ s. apart (sym s)))
-        (more_kept (was ++ w ∷ []) rs (stays_wide e old mid x.batch adds wide) (ap length adds.told ∙ length-set old.told x.batch.cpu adds.total ∙ broad)
-        (took old.written mid.written was (cpu_name x.batch.cpu) adds.bytes asked adds.written) holds)
-    next_kept old mid new x xs was rs u wide broad asked small own more_kept (inr (some, inl adds)) true is (ps, more, has, many, sum, holds) =
+        (λ none. omega (arith, nothing.0.1))
+        (more_kept was more (l.wide ∙ wide) (l.broad ∙ broad) (ap (λ (t : Tracing). t.written) nothing.1 ∙ asked) holds)
+    next_kept old mid new x xs was rs u wide broad asked exact unlost own more_kept (inr (some, inl adds)) true is (ps, more, has, many, sum, holds) =
         let w : FileWrite = record { name = cpu_name x.batch.cpu; bytes = adds.bytes; refused = None } in
         let here : x.batch.cpu ≡ c = own ∙ eqb-true x.from c is in
+        let l = leaves e old mid x.batch (inr (some, inl adds)) in
         let there : x.batch.cpu < length old.told = omega (arith, low, here, broad) in
         let before : ℕ = slice_index old.told x.batch.cpu in
         let packets : AreNextOf e uuid adds.total c x.batch.buffer.text before adds.bytes =
@@ -169,27 +164,26 @@ module _ (e : EnabledRows) where
         (file_of_more (cpu_name c) was w ∙ ap (λ ys. file_of (cpu_name c) was ++ ys) (brought_whole (cpu_name x.batch.cpu) (cpu_name c) adds.bytes (ap cpu_name here)))
         (missed_here e old mid x.batch adds wide c here) (missed_before e old mid x.batch adds wide c here)
         (subst (λ n. slice_index mid.told n ≡ adds.total) here (ap (λ (ns : List ℕ). slice_index ns x.batch.cpu) adds.told ∙ get_or-set_same old.told x.batch.cpu adds.total 0 there))
-        (more_kept (was ++ w ∷ []) more (stays_wide e old mid x.batch adds wide) (ap length adds.told ∙ length-set old.told x.batch.cpu adds.total ∙ broad)
+        (more_kept (was ++ w ∷ []) more (l.wide ∙ wide) (l.broad ∙ broad)
         (took old.written mid.written was (cpu_name x.batch.cpu) adds.bytes asked adds.written) holds)
-    next_kept old mid new x xs was rs u wide broad asked small own more_kept (inr (some, inr loses)) false is holds =
-        let kept = files_stay e old mid x.batch was asked loses in
-        let apart : x.batch.cpu ≢ c = λ s. eqb-false x.from c is (sym own ∙ s) in
-        passes old mid new (passed_from c xs) was kept.0 (kept.1.1 (cpu_name c)) (others_missed e old mid x.batch loses wide c apart)
-        (ap (λ (ns : List ℕ). slice_index ns c) loses.counted.told)
-        (more_kept kept.0 rs (still_wide e old mid x.batch loses wide) (ap length loses.counted.told ∙ broad) kept.1.0 holds)
-    next_kept old mid new x xs was rs u wide broad asked small own more_kept (inr (some, inr loses)) true is (ps, more, has, many, sum, holds) =
+    next_kept old mid new x xs was rs u wide broad asked exact unlost own more_kept (inr (some, inr loses)) true is (ps, more, has, many, sum, holds) =
+        let l = leaves e old mid x.batch (inr (some, inr loses)) in
         let kept = files_stay e old mid x.batch was asked loses in
         let here : x.batch.cpu ≡ c = own ∙ eqb-true x.from c is in
-        let later : Kept mid new (passed_from c xs) kept.0 =
-        more_kept kept.0 more (still_wide e old mid x.batch loses wide) (ap length loses.counted.told ∙ broad) kept.1.0 holds in
-        let below : missed_on mid c + 1 < 2 ^ 64 = omega (arith, small, later.counted) in
-        loses_one old mid new x.batch (passed_from c xs) ps was kept.0 has (kept.1.1 (cpu_name c))
+        let later : Kept mid new (passed_from c xs) (was ++ kept.0) =
+        more_kept (was ++ kept.0) more (l.wide ∙ wide) (l.broad ∙ broad) kept.1.0 holds in
+        let some : new.lost ≡ None → ⊥ = λ none. some_lost old.lost _ (sym loses.counted.lost ∙ unlost none) in
+        let below : missed_on mid c + 1 < 2 ^ 64 = elim exact [
+          | inl none ↦ absurd (some none)
+          | inr small ↦ omega (arith, small, later.counted)
+        ] in
+        loses_one old mid new x.batch (passed_from c xs) ps was (was ++ kept.0) has (kept.1.1 (cpu_name c))
         (own_missed e old mid x.batch loses wide c low here below ps has (λ qs text. one_text e x.batch ps qs has text))
-        (ap (λ (ns : List ℕ). slice_index ns c) loses.counted.told) later
+        (ap (λ (ns : List ℕ). slice_index ns c) loses.counted.told) (λ none. absurd (some none)) later
 
     pub all_kept : (bs : List Passed) (old new : Tracing) (was : List FileWrite) (rs : List Record) → GotAll (GetsPacket e) old bs new → old.uuid ≡ uuid → length old.missed ≡ 64
-        → length old.told ≡ 64 → old.written ≡ Some was → missed_on new c + 1 < 2 ^ 64 → HaveNumbers bs → Holds e (passed_from c bs) rs → Kept old new (passed_from c bs) was
-    all_kept [] old new was rs got u wide broad asked small own hold = subst (λ t. Kept old t [] was) got (record {
+        → length old.told ≡ 64 → old.written ≡ Some was → IsExact c new → HaveNumbers bs → Holds e (passed_from c bs) rs → Kept old new (passed_from c bs) was
+    all_kept [] old new was rs got u wide broad asked exact own hold = subst (λ t. Kept old t [] was) got (record {
       packets = [];
       lost = 0;
       writes = was;
@@ -199,8 +193,9 @@ module _ (e : EnabledRows) where
       counted = omega arith;
       told = refl;
       each = All-nil (Told old);
+      whole = λ none. (refl, λ same. same);
     })
-    all_kept (x ∷ xs) old new was rs (mid, gets, rest) u wide broad asked small (own, owns) hold =
-        next_kept old mid new x xs was rs u wide broad asked small own
-        (λ next more still large there holds. all_kept xs mid new next more rest (gets.uuid ∙ u) still large there small owns holds)
+    all_kept (x ∷ xs) old new was rs (mid, gets, rest) u wide broad asked exact (own, owns) hold =
+        next_kept old mid new x xs was rs u wide broad asked exact (unlost e xs mid new rest) own
+        (λ next more still large there holds. all_kept xs mid new next more rest (gets.uuid ∙ u) still large there exact owns holds)
         gets.came (x.from == c) refl hold

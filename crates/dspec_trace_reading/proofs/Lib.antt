@@ -9,8 +9,8 @@ mod Counted
 mod Filing
 mod Folding
 mod InFolder
-mod InTimedFolder
 mod Keeping
+mod Kept
 mod Losing
 mod Naming
 mod OwnNumbers
@@ -20,6 +20,7 @@ mod Read
 mod RowNaming
 mod RanInto
 mod Summing
+mod TakenInFolder
 mod Taking
 mod Through
 mod TimedAnswered
@@ -27,11 +28,9 @@ mod TimedAsking
 mod TimedBegun
 mod TimedBounded
 mod TimedFiles
-mod TimedFolding
 mod TimedFronts
+mod TimedInFolder
 mod TimedKeeping
 mod TimedLosing
 mod TimedPartly
-mod TimedWhole
 mod Told
-mod Whole

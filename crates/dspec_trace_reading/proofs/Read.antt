@@ -6,12 +6,10 @@ use Rattle.dspec_deeds.specs.declared.config.Config.{Config}
 use Rattle.dspec_ring.specs.declared.batch.Batch.{Batch}
 use Rattle.dspec_session_core.specs.declared.left.Left.{Left}
 use Rattle.dspec_filing_reading.proofs.FilesLaws.{FilesLaws}
-use Rattle.dspec_trace_reading.proofs.Folding.{Holds}
+use Rattle.dspec_trace_reading.proofs.Folding.{FilesRead, Holds, MetadataReads}
 use Rattle.dspec_trace_reading.proofs.OwnNumbers.{Numbered, have_numbers, is_there, taken_numbered}
-use Rattle.dspec_trace_reading.proofs.Partly.{reads_kept}
-use Rattle.dspec_trace_reading.proofs.TimedPartly.{reads_kept as timed_reads_kept}
-use Rattle.dspec_trace_reading.proofs.TimedWhole.{reads_by_time}
-use Rattle.dspec_trace_reading.proofs.Whole.{FilesRead, MetadataReads, reads_back}
+use Rattle.dspec_trace_reading.proofs.Partly.{reads_back, reads_kept}
+use Rattle.dspec_trace_reading.proofs.TimedPartly.{reads_back as timed_reads_back, reads_kept as timed_reads_kept}
 
 module _ (e : EnabledRows) (does : ℕ → CallsMade → CallsMade → Type 0) where
   module _ {K : Type 0} (gets : K → Batch → K → Type 0) (k : Config) (begun : K) (left : List Left) (ended : K) (t : TracedBy e does gets k begun left ended) where
@@ -29,20 +27,20 @@ module _ (e : EnabledRows) (does : ℕ → CallsMade → CallsMade → Type 0) w
 
   pub taken_read : MetadataReads → FilesRead → TakenIsRead e does
   taken_read metadata files origin names k begun ended left is t h none long numbers small =
-      reads_back metadata files origin e names begun ended is t.passed t.got none left (λ c l there. (t.promised.each c l there).seen) long numbers small
-      (numbered _ k begun left ended t h) (held _ k begun left ended t)
+      reads_back metadata files origin e names begun ended is t.passed t.got left (λ c l there. (t.promised.each c l there).seen) long numbers
+      (numbered _ k begun left ended t h) (held _ k begun left ended t) none small
 
   pub kept_read : MetadataReads → FilesRead → KeptIsRead e does
   kept_read metadata files origin names k begun ended left is t h long numbers small =
-      reads_kept metadata files origin e names begun ended is t.passed t.got left (λ c l there. (t.promised.each c l there).seen) long numbers (λ c l there. small c)
-      (numbered _ k begun left ended t h) (held _ k begun left ended t)
+      reads_kept metadata files origin e names begun ended is t.passed t.got left (λ c l there. (t.promised.each c l there).seen) long numbers
+      (numbered _ k begun left ended t h) (held _ k begun left ended t) small
 
   pub timed_read : MetadataReads → FilesLaws → TimedIsRead e does
   timed_read metadata laws origin hertz names k begun ended left is t h none long numbers small =
-      reads_by_time metadata laws origin hertz e names begun ended is t.passed t.got none left (λ c l there. (t.promised.each c l there).seen) long numbers small
-      (numbered _ k begun left ended t h) (held _ k begun left ended t)
+      timed_reads_back metadata laws origin hertz e names begun ended is t.passed t.got left (λ c l there. (t.promised.each c l there).seen) long numbers
+      (numbered _ k begun left ended t h) (held _ k begun left ended t) none small
 
   pub timed_kept_read : MetadataReads → FilesLaws → TimedKeptIsRead e does
   timed_kept_read metadata laws origin hertz names k begun ended left is t h long numbers small =
-      timed_reads_kept metadata laws origin hertz e names begun ended is t.passed t.got left (λ c l there. (t.promised.each c l there).seen) long numbers small
-      (numbered _ k begun left ended t h) (held _ k begun left ended t)
+      timed_reads_kept metadata laws origin hertz e names begun ended is t.passed t.got left (λ c l there. (t.promised.each c l there).seen) long numbers
+      (numbered _ k begun left ended t h) (held _ k begun left ended t) small

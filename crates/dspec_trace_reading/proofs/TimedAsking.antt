@@ -1,5 +1,5 @@
 -- What one batch asks of a folder by time, where nothing is lost.
-use Rattle.std.proofs.Common.{arith, ◌≡◌, ◌≢◌, ◌<◌, ◌+◌, ℕ, List, [], ◌∷◌, ◌++◌, Some, None, get_or, sym, ap, ◌∙◌, subst, length, length-set, slice_index}
+use Rattle.std.proofs.Common.{arith, ◌≡◌, ◌≢◌, ◌<◌, ◌+◌, ℕ, List, [], ◌∷◌, ◌++◌, Some, None, get_or, sym, ap, ◌∙◌, append_assoc, length, slice_index}
 use Rattle.std.proofs.lemmas.Bool.Decides.{nat_tests}
 use Rattle.std.proofs.lemmas.List.{get_or-set_same, get_or-set_other}
 use Rattle.std.proofs.lemmas.Option.{slice_get_within, get_or_from_slice_get}
@@ -53,30 +53,26 @@ module _ (e : EnabledRows) where
     run_parts : List (ℕ × List ℕ)
     run_parts = run_packets old.uuid e (adds.before + b.drops) b.cpu adds.added.read 0 adds.added.added.runs
 
-    pub writes_then : List FileWrite → List FileWrite
-    writes_then was = (was ++ row_writes b.cpu tells.packets) ++ row_writes b.cpu run_parts
+    pub added : List FileWrite
+    added = row_writes b.cpu tells.packets ++ row_writes b.cpu run_parts
 
-    pub asked_then : (was : List FileWrite) → old.written ≡ Some was → new.written ≡ Some (writes_then was)
-    unfolding writes_then run_parts
+    pub asked_then : (was : List FileWrite) → old.written ≡ Some was → new.written ≡ Some (was ++ added)
+    unfolding added run_parts
     asked_then was asked =
         adds.changes.written
         ∙ took_all b.cpu run_parts adds.added.mid adds.after.written (was ++ row_writes b.cpu tells.packets)
         (took_all b.cpu tells.packets adds.files.written adds.added.mid was (adds.has.written ∙ asked) tells.takes) adds.added.added.taken
+        ∙ ap Some (append_assoc was (row_writes b.cpu tells.packets) (row_writes b.cpu run_parts))
 
-    pub stays_then : (name : List ℕ) → ((file : ℕ) → row_name b.cpu file ≢ name) → (was : List FileWrite) → file_of name (writes_then was) ≡ file_of name was
-    unfolding writes_then
+    pub stays_then : (name : List ℕ) → ((file : ℕ) → row_name b.cpu file ≢ name) → (was : List FileWrite) → file_of name (was ++ added) ≡ file_of name was
+    unfolding added
     stays_then name apart was =
-        stays_elsewhere b.cpu name apart (was ++ row_writes b.cpu tells.packets) run_parts ∙ stays_elsewhere b.cpu name apart was tells.packets
+        ap (λ ws. file_of name ws) (sym (append_assoc was (row_writes b.cpu tells.packets) (row_writes b.cpu run_parts)))
+        ∙ stays_elsewhere b.cpu name apart (was ++ row_writes b.cpu tells.packets) run_parts ∙ stays_elsewhere b.cpu name apart was tells.packets
 
     -- what is known of the CPU's files
     within : b.cpu < length old.missed
     within = slice_get_within old.missed b.cpu adds.before adds.has.missed
-
-    pub few : length old.missed ≡ 64 → b.cpu < 64
-    few wide = subst (λ n. b.cpu < n) wide within
-
-    pub stays_wide : length old.missed ≡ 64 → length new.missed ≡ 64
-    stays_wide wide = ap length adds.missed ∙ length-set old.missed b.cpu (adds.before + b.drops) ∙ wide
 
     pub missed_here : missed_by_time new b.cpu ≡ adds.before + b.drops
     missed_here = ap (λ (xs : List ℕ). slice_index xs b.cpu) adds.missed ∙ get_or-set_same old.missed b.cpu (adds.before + b.drops) 0 within

@@ -16,7 +16,7 @@ use Rattle.dspec_trace_reading.proofs.Naming.{metadata_named}
 use Rattle.dspec_trace_reading.proofs.Placing.{alone}
 use Rattle.dspec_trace_reading.proofs.RowNaming.{row_named, row_not_metadata}
 use Rattle.dspec_trace_reading.proofs.TimedAsking.{lasts_of}
-use Rattle.dspec_trace_reading.proofs.TimedFolding.{Stands}
+use Rattle.dspec_trace_reading.proofs.TimedFronts.{StandsInPart}
 
 all_empty : (n i : ℕ) (d : List ℕ) → get_or (replicate n d) i d ≡ d
 all_empty zero i d = refl
@@ -64,16 +64,16 @@ module _ (origin : Origin) (hertz : ℕ) (e : EnabledRows) (names : Names) where
     pub none_missed : (c : ℕ) → missed_by_time begun c ≡ 0
     none_missed c = ap (λ (xs : List ℕ). slice_index xs c) is.begins.missed ∙ all_zero 64 c
 
-    none_told : (c : ℕ) → slice_index begun.told c ≡ 0
+    pub none_told : (c : ℕ) → slice_index begun.told c ≡ 0
     none_told c = ap (λ (xs : List ℕ). slice_index xs c) is.begins.told ∙ all_zero 64 c
 
     no_lasts : (c : ℕ) → lasts_of begun c ≡ []
     no_lasts c = ap (λ (xs : List (List ℕ)). get_or xs c []) is.begins.lasts ∙ all_empty 64 c []
 
     -- no file tells anything
-    pub begins : (uuid : List ℕ) (c : ℕ) → Stands uuid e names hertz c begun []
+    pub begins : (uuid : List ℕ) (c : ℕ) → StandsInPart uuid e names hertz c begun []
     begins uuid c = record {
-      told = none_told c ∙ sym (none_missed c);
+      told = omega (arith, none_told c);
       filed = record {
         writes = begun_with;
         asked = asked;
@@ -83,7 +83,7 @@ module _ (origin : Origin) (hertz : ℕ) (e : EnabledRows) (names : Names) where
         each = refl;
         below = All-nil (λ file. file < 64);
         tells = λ file few.
-            subst (λ n. FileTells (layout_of e names (ByTime hertz)) uuid c (file_of (row_name c file) (begun_with)) [] (told_by file n)) (sym (none_missed c))
+            subst (λ n. FileTells (layout_of e names (ByTime hertz)) uuid c (file_of (row_name c file) (begun_with)) [] (told_by file n)) (sym (none_told c))
             (subst (λ xs. FileTells (layout_of e names (ByTime hertz)) uuid c xs [] (told_by file 0)) (sym (nothing_yet c file)) (record {
               packets = [];
               read = refl;

@@ -1,27 +1,36 @@
 -- What a trace by time counts of a CPU as missed never falls, and is no more than its batches' drops and its records, however many are lost.
 use Rattle.std.proofs.lemmas.Bool.Decides.{nat_tests}
-use Rattle.std.proofs.Common.{◌≡◌, ◌≢◌, ◌<◌, ◌≤◌, ◌+◌, ◌^◌, ◌==◌, ℕ, Bool, true, false, if◌then◌else◌, List, [], ◌∷◌, refl, sym, ◌∙◌, subst, arith, length}
+use Rattle.std.proofs.Common.{◌≡◌, ◌≢◌, ◌<◌, ◌≤◌, ◌+◌, ◌==◌, ℕ, Bool, true, false, if◌then◌else◌, List, [], ◌∷◌, inl, inr, refl, sym, ◌∙◌, subst, arith, length}
 use Rattle.std.proofs.lemmas.List.{length-append}
 use Rattle.std.proofs.lemmas.Bool.{eqb-true, eqb-false}
 use Rattle.dspec_trace_reading.specs.Words.{Record, EnabledRows, Passed, GotAll, passed_from, GetsRuns, TimedTracing, HaveNumbers, drops_carried, missed_by_time}
 use Rattle.dspec_ring.specs.declared.batch.Batch.{Batch}
 use Rattle.dspec_trace_reading.proofs.Folding.{Holds, one_text}
-use Rattle.dspec_trace_reading.proofs.TimedLosing.{CameByTime, leaves, own_at_most, own_rises}
+use Rattle.dspec_trace_reading.proofs.TimedLosing.{CameByTime, IsExactByTime, leaves, own_at_most, own_rises}
+use Rattle.dspec_trace_reading.proofs.TimedAsking.{none_before}
 
 module _ (e : EnabledRows) (c : ℕ) (low : c < 64) where
-  one_rises : (old new : TimedTracing) (b : Batch) → CameByTime e old b new → length old.missed ≡ 64 → missed_by_time new c + 1 < 2 ^ 64 → (q : Bool) → (b.cpu == c) ≡ q
+  one_rises : (old new : TimedTracing) (b : Batch) → CameByTime e old b new → length old.missed ≡ 64 → IsExactByTime c new → (q : Bool) → (b.cpu == c) ≡ q
       → missed_by_time old c ≤ missed_by_time new c
-  one_rises old new b came wide small true is =
-      let here : b.cpu ≡ c = eqb-true b.cpu c is in
-      subst (λ n. n < 64 → missed_by_time new n + 1 < 2 ^ 64 → missed_by_time old n ≤ missed_by_time new n) here (λ few fits. own_rises e old new b few wide fits came) low small
-  one_rises old new b came wide small false is = omega (arith, (leaves e old new b came).missed c (eqb-false b.cpu c is))
+  one_rises old new b came wide is true same =
+      let here : b.cpu ≡ c = eqb-true b.cpu c same in
+      subst (λ n. n < 64 → IsExactByTime n new → missed_by_time old n ≤ missed_by_time new n) here (λ few fits. own_rises e old new b few wide fits came) low is
+  one_rises old new b came wide is false apart = omega (arith, (leaves e old new b came).missed c (eqb-false b.cpu c apart))
 
-  pub rises : (bs : List Passed) (old new : TimedTracing) → GotAll (GetsRuns e) old bs new → length old.missed ≡ 64 → missed_by_time new c + 1 < 2 ^ 64
-      → missed_by_time old c ≤ missed_by_time new c
-  rises [] old new got wide small = subst (λ (t : TimedTracing). missed_by_time old c ≤ missed_by_time t c) got (omega arith)
-  rises (x ∷ xs) old new (mid, gets, rest) wide small =
-      let more = rises xs mid new rest ((leaves e old mid x.batch gets.came).wide ∙ wide) small in
-      omega (arith, more, one_rises old mid x.batch gets.came wide (omega (arith, more, small)) (x.batch.cpu == c) refl)
+  -- and what is so in the end of what it counts was so before
+  pub rises : (bs : List Passed) (old new : TimedTracing) → GotAll (GetsRuns e) old bs new → length old.missed ≡ 64 → IsExactByTime c new
+      → (missed_by_time old c ≤ missed_by_time new c) × IsExactByTime c old
+  rises [] old new got wide is =
+      (subst (λ (t : TimedTracing). missed_by_time old c ≤ missed_by_time t c) got (omega arith), subst (λ (t : TimedTracing). IsExactByTime c t → IsExactByTime c old) got (λ so. so) is)
+  rises (x ∷ xs) old new (mid, gets, rest) wide is =
+      let more = rises xs mid new rest ((leaves e old mid x.batch gets.came).wide ∙ wide) is in
+      let one = one_rises old mid x.batch gets.came wide more.1 (x.batch.cpu == c) refl in (
+        omega (arith, more.0, one),
+        elim more.1 [
+          | inl none ↦ inl (none_before e (x ∷ []) old mid (mid, gets, refl) none)
+          | inr small ↦ inr (omega (arith, one, small))
+        ],
+      )
 
   next_bounded : (old mid new : TimedTracing) (x : Passed) (xs : List Passed) (rs : List Record) → length old.missed ≡ 64 → x.batch.cpu ≡ x.from → CameByTime e old x.batch mid
       → ((more : List Record) → Holds e (passed_from c xs) more → missed_by_time new c ≤ missed_by_time mid c + drops_carried (passed_from c xs) + length more)

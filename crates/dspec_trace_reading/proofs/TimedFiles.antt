@@ -1,6 +1,6 @@
 -- What one batch brings to the files of its CPU by time, where some of it may be lost.
 use Rattle.std.proofs.lemmas.Bool.Decides.{nat_tests}
-use Rattle.std.proofs.Common.{◌≡◌, ◌<◌, ◌≤◌, ◌+◌, ◌^◌, ◌++◌, inl, inr, ℕ, List, Option, Some, refl, sym, subst, ◌∙◌, arith, length, All, slice_index}
+use Rattle.std.proofs.Common.{◌≡◌, ◌<◌, ◌≤◌, ◌+◌, ◌^◌, ◌++◌, inl, inr, ℕ, List, [], ap, Option, Some, sym, subst, ◌∙◌, arith, length, All, slice_index}
 use Rattle.std.specs.Prelude.{slice_range}
 use Rattle.std.proofs.lemmas.List.{append-nil}
 use Rattle.dspec_trace_reading.specs.Words.{Record, EnabledRows, AddsRuns, ChangesFiles, CpuFiles, FileWrite, file_of, HasFiles, IsNotTaken, LosesAll, LosesRest, RefusesRun, row_name, StopsRun}
@@ -20,10 +20,10 @@ use Rattle.dspec_trace_reading.proofs.TimedAsking.{lasts_now, lasts_of, lasts_th
 
 -- a place was asked for nothing that it took: every file stays
 abbrev pub StaysSame : Option (List FileWrite) → List FileWrite → Type 0
-StaysSame new was = (next : List FileWrite) × ((new ≡ Some next) × ((name : List ℕ) → file_of name next ≡ file_of name was))
+StaysSame new was = (added : List FileWrite) × ((new ≡ Some (was ++ added)) × ((name : List ℕ) → file_of name (was ++ added) ≡ file_of name was))
 
 pub unasked : (old new : Option (List FileWrite)) (was : List FileWrite) → old ≡ Some was → new ≡ old → StaysSame new was
-unasked old new was asked same = (was, (same ∙ asked, λ name. refl))
+unasked old new was asked same = ([], (same ∙ asked ∙ ap Some (sym (append-nil was)), λ name. ap (λ ws. file_of name ws) (append-nil was)))
 
 pub not_taken : (old new : Option (List FileWrite)) (was : List FileWrite) (name bytes : List ℕ) (fault : FolderFault) → old ≡ Some was → IsNotTaken old name bytes new fault
     → StaysSame new was
@@ -39,7 +39,10 @@ module _ (uuid : List ℕ) (e : EnabledRows) (missed cpu : ℕ) (rs : List Recor
   ]
 
   pub stopped : (was : List FileWrite) → old ≡ Some was → StopsRun uuid e missed cpu rs from lasts old after new loss → StaysSame new was
-  stopped was asked s = grind (arith, nat_tests, unasked, refused)
+  stopped was asked s = elim s.why [
+    | inl n ↦ unasked old new was asked n.same
+    | inr r ↦ refused was asked r
+  ]
 
   pub stopped_lasts : FilesHaveAll → RunsHaveAll → length lasts ≤ 64 → slice_index lasts 0 < 2 ^ 64 → All (λ r. r.stamp < 2 ^ 64) rs
       → StopsRun uuid e missed cpu rs from lasts old after new loss → (length after ≤ 64) × (slice_index after 0 < 2 ^ 64)
@@ -81,7 +84,7 @@ module _ (laws : FilesLaws) (e : EnabledRows) (names : Names) (hertz : ℕ) (sta
       let lasts = stopped_lasts uuid e total b.cpu rest.read s.to s.mid s.between new.lasts new.written loss laws.have_all laws.runs_have some.few some.first
       (stamps_low e rest.read accepted) s.stops in
       subst (λ n. Filed uuid e names hertz b.cpu new.written new.lasts n (stream ++ slice_range rest.read 0 s.to)) (sym rest.told)
-      (still_filed uuid e names hertz b.cpu s.between new.written s.mid new.lasts total (stream ++ slice_range rest.read 0 s.to) some still.0 still.1.0
+      (still_filed uuid e names hertz b.cpu s.between new.written s.mid new.lasts total (stream ++ slice_range rest.read 0 s.to) some (some.writes ++ still.0) still.1.0
       (λ file few. still.1.1 (row_name b.cpu file)) lasts.0 lasts.1)
 
   -- or none, where what was missed wasn't told
@@ -89,7 +92,7 @@ module _ (laws : FilesLaws) (e : EnabledRows) (names : Names) (hertz : ℕ) (sta
   none_added loss f all =
       let still = not_taken old.written new.written f.writes _ _ all.fault f.asked all.why.1 in
       subst (λ n. Filed uuid e names hertz b.cpu new.written new.lasts n stream) (sym all.told)
-      (still_filed uuid e names hertz b.cpu old.written new.written old.lasts new.lasts old.told stream f still.0 still.1.0 (λ file few. still.1.1 (row_name b.cpu file))
+      (still_filed uuid e names hertz b.cpu old.written new.written old.lasts new.lasts old.told stream f (f.writes ++ still.0) still.1.0 (λ file few. still.1.1 (row_name b.cpu file))
       (subst (λ (xs : List ℕ). length xs ≤ 64) (sym all.lasts) f.few) (subst (λ (xs : List ℕ). slice_index xs 0 < 2 ^ 64) (sym all.lasts) f.first))
 
 -- what a trace's files of a CPU tell

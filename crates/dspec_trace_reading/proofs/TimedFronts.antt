@@ -1,8 +1,8 @@
 -- What one batch brings to a CPU's files by time, where some may be lost: its first records are kept.
-use Rattle.std.proofs.Common.{◌≡◌, ◌<◌, ◌≤◌, ◌+◌, ◌-◌, ◌^◌, ◌++◌, inl, inr, ℕ, List, [], sym, ap, subst, ◌∙◌, arith, length, drop, take, get_or, slice_index}
+use Rattle.std.proofs.Common.{◌≡◌, ◌<◌, ◌≤◌, ◌+◌, ◌-◌, ◌^◌, ◌++◌, inl, inr, ℕ, List, [], None, refl, sym, ap, subst, ◌∙◌, arith, length, drop, take, get_or, slice_index}
 use Rattle.std.specs.Prelude.{slice_range}
 use Rattle.std.proofs.lemmas.List.{append-nil, length-drop, take-append-drop}
-use Rattle.dspec_trace_reading.specs.Words.{Record, EnabledRows, IsText, AddsBatch, HasNoCpu, HasSoManyRecords, LosesBatch, LosesOfFiles, LosesRest, TimedTracing, missed_by_time}
+use Rattle.dspec_trace_reading.specs.Words.{Record, EnabledRows, IsText, AddsBatch, HasNoCpu, HasSoManyRecords, LosesBatch, LosesOfFiles, LosesRest, TimedTracing, missed_by_time, told_by_time}
 use Rattle.dspec_record.specs.declared.header.Header.TheVariants as header
 use Rattle.dspec_ring.specs.declared.batch.Batch.{Batch}
 use Rattle.dspec_ctf.specs.declared.names.Names.{Names}
@@ -10,7 +10,8 @@ use Rattle.dspec_trace_reading.proofs.Filing.{Filed}
 use Rattle.dspec_filing_reading.proofs.FilesLaws.{FilesLaws}
 use Rattle.dspec_trace_reading.proofs.TimedAsking.{lasts_of, missed_before, missed_here, missed_then, told_here, told_now, told_then}
 use Rattle.dspec_trace_reading.proofs.TimedFiles.{HasFiled, all_added, filed_now, filed_then, front_added, none_added}
-use Rattle.dspec_trace_reading.proofs.TimedLosing.{CameByTime, exact, exactly}
+use Rattle.dspec_trace_reading.proofs.TimedLosing.{CameByTime, IsExactByTime, exact, exactly, small_then}
+use Rattle.dspec_trace_reading.proofs.Asking.{some_lost}
 
 -- what is known of a CPU after some batches, of whose records these are kept so far
 pub record StandsInPart (uuid : List ℕ) (e : EnabledRows) (names : Names) (hertz c : ℕ) (t : TimedTracing) (stream : List Record) : Type 0 where
@@ -24,10 +25,11 @@ pub record KeepsFront (uuid : List ℕ) (e : EnabledRows) (names : Names) (hertz
   pub text : IsText e b.buffer.text (front ++ back)
   pub counted : missed_by_time new c ≡ missed_by_time old c + b.drops + length back
   pub stands : StandsInPart uuid e names hertz c new (stream ++ front)
+  pub whole : new.lost ≡ None → (length back ≡ 0) × (told_by_time new c ≡ missed_by_time new c)
 
 -- A batch of these records, whose text has no others: where 64 bits are enough, those that are lost are counted.
 module _ (laws : FilesLaws) (e : EnabledRows) (names : Names) (hertz : ℕ) (stamped : e.header ≡ header.Two) (b : Batch) (old new : TimedTracing) (long : length old.uuid ≡ 16)
-    (low : b.cpu < 64) (wide : length old.missed ≡ 64) (small : missed_by_time new b.cpu + 1 < 2 ^ 64) (rs : List Record) (is_text : IsText e b.buffer.text rs)
+    (low : b.cpu < 64) (wide : length old.missed ≡ 64) (fits : missed_by_time new b.cpu < 2 ^ 64) (is : IsExactByTime b.cpu new) (rs : List Record) (is_text : IsText e b.buffer.text rs)
     (unique : (qs : List Record) → IsText e b.buffer.text qs → qs ≡ rs) (stream : List Record) (s : StandsInPart old.uuid e names hertz b.cpu old stream) where
   abbrev Keeps : Type 0
   Keeps = KeepsFront old.uuid e names hertz b.cpu old b new stream
@@ -47,16 +49,24 @@ module _ (laws : FilesLaws) (e : EnabledRows) (names : Names) (hertz : ℕ) (sta
         stands = record {
           told = omega (arith, told_here e old new b adds, now);
           filed = filed_now old.uuid e names hertz old new b adds.before adds.files adds.after adds.has adds.changes (stream ++ adds.added.read)
-              (all_added laws e names hertz stamped old.uuid long adds.before b low adds.files adds.after stream (omega (arith, told, s.told, before)) (omega (arith, small, now)) first adds.added);
+              (all_added laws e names hertz stamped old.uuid long adds.before b low adds.files adds.after stream (omega (arith, told, s.told, before)) (omega (arith, fits, now)) first adds.added);
         };
+        whole = λ none. (refl, told_here e old new b adds ∙ sym now);
       }
+
+  -- where something of it is lost
+  some_of : (loses : LosesBatch e old b new) → new.lost ≡ None → (rs : List Record) → (length rs ≡ 0) × (told_by_time new b.cpu ≡ missed_by_time new b.cpu)
+  some_of loses none qs = absurd (some_lost old.lost loses.loss (sym loses.lost ∙ none))
+
+  small : (loses : LosesBatch e old b new) → missed_by_time new b.cpu + 1 < 2 ^ 64
+  small loses = small_then e old new b b.cpu loses is
 
   -- nothing of it is written
   keeps_none : (loses : LosesBatch e old b new) → HasSoManyRecords e b loses.loss.records → slice_index new.told b.cpu ≡ slice_index old.told b.cpu
       → HasFiled old.uuid e names hertz b.cpu new stream → Keeps
   keeps_none loses has told filed =
-      let sum = exact e old new b low wide small loses in
-      let many = exactly e b rs is_text unique loses.loss.records (omega (arith, sum, small)) has in
+      let sum = exact e old new b low wide (small loses) loses in
+      let many = exactly e b rs is_text unique loses.loss.records (omega (arith, sum, small loses)) has in
       record {
         front = [];
         back = rs;
@@ -66,12 +76,13 @@ module _ (laws : FilesLaws) (e : EnabledRows) (names : Names) (hertz : ℕ) (sta
           told = omega (arith, told, s.told, sum);
           filed = subst (λ qs. HasFiled old.uuid e names hertz b.cpu new qs) (sym (append-nil stream)) filed;
         };
+        whole = λ none. some_of loses none rs;
       }
 
   -- its first records are written
   keeps_front : (loses : LosesBatch e old b new) (l : LosesOfFiles e old b new loses.loss) → LosesRest old.uuid e l.before b l.files l.after loses.loss → Keeps
   keeps_front loses l r =
-      let sum = exact e old new b low wide small loses in
+      let sum = exact e old new b low wide (small loses) loses in
       let before = missed_then old new b l.before l.files l.after l.has l.changes in
       let told = told_then old new b l.before l.files l.after l.has l.changes in
       let now = told_now old new b l.before l.files l.after l.has l.changes in
@@ -87,9 +98,10 @@ module _ (laws : FilesLaws) (e : EnabledRows) (names : Names) (hertz : ℕ) (sta
         stands = record {
           told = omega (arith, now, r.told, before, sum);
           filed = filed_now old.uuid e names hertz old new b l.before l.files l.after l.has l.changes (stream ++ slice_range r.read 0 to)
-              (front_added laws e names hertz stamped old.uuid long l.before b low l.files l.after stream loses.loss (omega (arith, told, s.told, before)) (omega (arith, small, sum, before))
+              (front_added laws e names hertz stamped old.uuid long l.before b low l.files l.after stream loses.loss (omega (arith, told, s.told, before)) (omega (arith, small loses, sum, before))
               first r);
         };
+        whole = λ none. some_of loses none (drop to r.read);
       }
 
   -- some of its CPU's files

@@ -1,10 +1,10 @@
 -- What all batches of a session bring to one CPU's files by time, where some of them may be lost.
 use Rattle.std.proofs.lemmas.Bool.Decides.{nat_tests}
-use Rattle.std.proofs.Common.{◌≡◌, ◌≢◌, ◌<◌, ◌+◌, ◌^◌, ◌==◌, ℕ, Bool, true, false, if◌then◌else◌, List, [], ◌∷◌, ◌++◌, Some, refl, sym, ap, ◌∙◌, subst, arith, length, append_assoc}
+use Rattle.std.proofs.Common.{◌≡◌, ◌≢◌, ◌<◌, ◌+◌, ◌^◌, ◌==◌, ℕ, Bool, true, false, if◌then◌else◌, List, [], ◌∷◌, ◌++◌, Some, None, refl, sym, ap, ◌∙◌, subst, arith, length, append_assoc}
 use Rattle.std.proofs.lemmas.List.{append-nil}
 use Rattle.std.proofs.lemmas.Bool.{eqb-true, eqb-false}
 use Rattle.dspec_trace_reading.specs.Words.{Record, EnabledRows, Passed, GotAll, passed_from, GetsRuns, TimedTracing, row_name, FileWrite, file_of, HaveNumbers, drops_carried, AreKeptInFront}
-use Rattle.dspec_trace_reading.specs.Words.{missed_by_time}
+use Rattle.dspec_trace_reading.specs.Words.{missed_by_time, told_by_time}
 use Rattle.dspec_record.specs.declared.header.Header.TheVariants as header
 use Rattle.dspec_ring.specs.declared.batch.Batch.{Batch}
 use Rattle.dspec_ctf.specs.declared.names.Names.{Names}
@@ -12,23 +12,25 @@ use Rattle.dspec_trace_reading.proofs.Filing.{Filed, still_filed}
 use Rattle.dspec_filing_reading.proofs.FilesLaws.{FilesLaws}
 use Rattle.dspec_trace_reading.proofs.Folding.{Holds, one_text}
 use Rattle.dspec_trace_reading.proofs.RowNaming.{cpus_differ}
-use Rattle.dspec_trace_reading.proofs.TimedAsking.{lasts_of}
+use Rattle.dspec_trace_reading.proofs.TimedAsking.{lasts_of, none_before}
 use Rattle.dspec_trace_reading.proofs.TimedBounded.{rises}
 use Rattle.dspec_trace_reading.proofs.TimedFronts.{KeepsFront, StandsInPart, keeps}
-use Rattle.dspec_trace_reading.proofs.TimedLosing.{CameByTime, Leaves, leaves}
+use Rattle.dspec_trace_reading.proofs.TimedLosing.{CameByTime, IsExactByTime, Leaves, leaves}
 
--- the place took writes, which left the file of this name as it was
+-- the place took writes behind those of before, which left the file of this name as it was
 abbrev pub TimedStays : List ℕ → TimedTracing → List FileWrite → Type 0
-TimedStays name new was = (writes : List FileWrite) × ((new.written ≡ Some writes) × (file_of name writes ≡ file_of name was))
+TimedStays name new was = (added : List FileWrite) × ((new.written ≡ Some (was ++ added)) × (file_of name (was ++ added) ≡ file_of name was))
 
 -- a file that is none of a CPU's stays, whatever is lost
 pub stays : (e : EnabledRows) (name : List ℕ) → ((c file : ℕ) → row_name c file ≢ name) → (bs : List Passed) (old new : TimedTracing) (was : List FileWrite)
     → GotAll (GetsRuns e) old bs new → old.written ≡ Some was → TimedStays name new was
-stays e name apart [] old new was got asked = (was, (ap (λ (t : TimedTracing). t.written) (sym got) ∙ asked, refl))
+stays e name apart [] old new was got asked =
+    ([], (ap (λ (t : TimedTracing). t.written) (sym got) ∙ asked ∙ ap Some (sym (append-nil was)), ap (λ ws. file_of name ws) (append-nil was)))
 stays e name apart (x ∷ xs) old new was (mid, gets, rest) asked =
     let one = (leaves e old mid x.batch gets.came).files was asked in
-    let all = stays e name apart xs mid new one.0 rest one.1.0 in
-    (all.0, (all.1.0, all.1.1 ∙ one.1.1 name (λ there file. apart x.batch.cpu file)))
+    let all = stays e name apart xs mid new (was ++ one.0) rest one.1.0 in
+    let both = append_assoc was one.0 all.0 in
+    (one.0 ++ all.0, (all.1.0 ∙ ap Some both, ap (λ ws. file_of name ws) (sym both) ∙ all.1.1 ∙ one.1.1 name (λ there file. apart x.batch.cpu file)))
 
 module _ (laws : FilesLaws) (uuid : List ℕ) (e : EnabledRows) (names : Names) (hertz c : ℕ) (low : c < 64) (long : length uuid ≡ 16) (stamped : e.header ≡ header.Two) where
   -- the records that are kept of a CPU's batches, behind those of before
@@ -38,6 +40,7 @@ module _ (laws : FilesLaws) (uuid : List ℕ) (e : EnabledRows) (names : Names) 
     pub are_kept : AreKeptInFront e bs kept lost
     pub counted : missed_by_time new c ≡ missed_by_time old c + drops_carried bs + lost
     pub stands : StandsInPart uuid e names hertz c new (stream ++ kept)
+    pub whole : new.lost ≡ None → (lost ≡ 0) × (told_by_time old c ≡ missed_by_time old c → told_by_time new c ≡ missed_by_time new c)
 
   -- a batch of another CPU changes nothing of it
   passes : (old new : TimedTracing) (b : Batch) (stream : List Record) → Leaves old b new → length old.missed ≡ 64 → b.cpu ≢ c → StandsInPart uuid e names hertz c old stream
@@ -46,26 +49,32 @@ module _ (laws : FilesLaws) (uuid : List ℕ) (e : EnabledRows) (names : Names) 
 
   -- one of its own
   own_kept : (old new : TimedTracing) (b : Batch) (rs stream : List Record) → Holds e (b ∷ []) rs → old.uuid ≡ uuid → b.cpu ≡ c → length old.missed ≡ 64
-      → missed_by_time new c + 1 < 2 ^ 64 → CameByTime e old b new → StandsInPart uuid e names hertz c old stream → KeepsFront uuid e names hertz c old b new stream
-  own_kept old new b rs stream (ps, more, has, many, sum, holds) u here wide small came s =
-      subst (λ n. n < 64 → missed_by_time new n + 1 < 2 ^ 64 → StandsInPart uuid e names hertz n old stream → KeepsFront uuid e names hertz n old b new stream) here
-      (subst (λ id. b.cpu < 64 → missed_by_time new b.cpu + 1 < 2 ^ 64 → StandsInPart id e names hertz b.cpu old stream → KeepsFront id e names hertz b.cpu old b new stream) u
-      (λ few fits so. keeps laws e names hertz stamped b old new (ap length u ∙ long) few wide fits ps has (λ qs text. one_text e b ps qs has text) stream so
-      came))
-      low small s
+      → missed_by_time new c < 2 ^ 64 → IsExactByTime c new → CameByTime e old b new → StandsInPart uuid e names hertz c old stream → KeepsFront uuid e names hertz c old b new stream
+  own_kept old new b rs stream (ps, more, has, many, sum, holds) u here wide small is came s =
+      subst (λ n. n < 64 → missed_by_time new n < 2 ^ 64 → IsExactByTime n new → StandsInPart uuid e names hertz n old stream → KeepsFront uuid e names hertz n old b new stream) here
+      (subst (λ id. b.cpu < 64 → missed_by_time new b.cpu < 2 ^ 64 → IsExactByTime b.cpu new → StandsInPart id e names hertz b.cpu old stream → KeepsFront id e names hertz b.cpu old b new stream)
+      u (λ few fits exact so. keeps laws e names hertz stamped b old new (ap length u ∙ long) few wide fits exact ps has (λ qs text. one_text e b ps qs has text) stream so came))
+      low small is s
 
   next_kept : (old mid new : TimedTracing) (x : Passed) (xs : List Passed) (stream rest : List Record) → CameByTime e old x.batch mid → old.uuid ≡ uuid → length old.missed ≡ 64
-      → x.batch.cpu ≡ x.from → missed_by_time mid c + 1 < 2 ^ 64
+      → x.batch.cpu ≡ x.from → missed_by_time mid c < 2 ^ 64 → IsExactByTime c mid → (new.lost ≡ None → mid.lost ≡ None)
       → ((so_far more : List Record) → Holds e (passed_from c xs) more → StandsInPart uuid e names hertz c mid so_far → KeptByTime mid new (passed_from c xs) so_far)
       → StandsInPart uuid e names hertz c old stream → (q : Bool) → (x.from == c) ≡ q → Holds e (if q then x.batch ∷ passed_from c xs else passed_from c xs) rest
       → KeptByTime old new (if q then x.batch ∷ passed_from c xs else passed_from c xs) stream
-  next_kept old mid new x xs stream rest came u wide own small on s false is holds =
+  next_kept old mid new x xs stream rest came u wide own small exact before on s false is holds =
       let apart : x.batch.cpu ≢ c = λ same. eqb-false x.from c is (sym own ∙ same) in
       let l = leaves e old mid x.batch came in
       let k = on stream rest holds (passes old mid x.batch stream l wide apart s) in
-      record { kept = k.kept; lost = k.lost; are_kept = k.are_kept; counted = omega (arith, k.counted, l.missed c apart); stands = k.stands }
-  next_kept old mid new x xs stream rest came u wide own small on s true is (ps, more, has, many, sum, holds) =
-      let o = own_kept old mid x.batch ps stream (ps, [], has, many, sym (append-nil ps), refl) u (own ∙ eqb-true x.from c is) wide small came s in
+      record {
+        kept = k.kept;
+        lost = k.lost;
+        are_kept = k.are_kept;
+        counted = omega (arith, k.counted, l.missed c apart);
+        stands = k.stands;
+        whole = λ none. let w = k.whole none in (w.0, λ same. w.1 (l.told c apart ∙ same ∙ sym (l.missed c apart)));
+      }
+  next_kept old mid new x xs stream rest came u wide own small exact before on s true is (ps, more, has, many, sum, holds) =
+      let o = own_kept old mid x.batch ps stream (ps, [], has, many, sym (append-nil ps), refl) u (own ∙ eqb-true x.from c is) wide small exact came s in
       let k = on (stream ++ o.front) more holds o.stands in
       record {
         kept = o.front ++ k.kept;
@@ -73,14 +82,22 @@ module _ (laws : FilesLaws) (uuid : List ℕ) (e : EnabledRows) (names : Names) 
         are_kept = (o.front, o.back, k.kept, k.lost, o.text, k.are_kept, refl, refl);
         counted = omega (arith, k.counted, o.counted);
         stands = subst (λ rs. StandsInPart uuid e names hertz c new rs) (append_assoc stream o.front k.kept) k.stands;
+        whole = λ none. let w = k.whole none in let here = o.whole (before none) in (omega (arith, w.0, here.0), λ same. w.1 here.1);
       }
 
   pub all_kept : (bs : List Passed) (old new : TimedTracing) (stream rest : List Record) → GotAll (GetsRuns e) old bs new → old.uuid ≡ uuid → length old.missed ≡ 64
-      → missed_by_time new c + 1 < 2 ^ 64 → HaveNumbers bs → Holds e (passed_from c bs) rest → StandsInPart uuid e names hertz c old stream
+      → missed_by_time new c < 2 ^ 64 → IsExactByTime c new → HaveNumbers bs → Holds e (passed_from c bs) rest → StandsInPart uuid e names hertz c old stream
       → KeptByTime old new (passed_from c bs) stream
-  all_kept [] old new stream rest got u wide small own hold s = grind (arith, nat_tests, StandsInPart, append-nil)
-  all_kept (x ∷ xs) old new stream rest (mid, gets, after) u wide small (own, owns) hold s =
+  all_kept [] old new stream rest got u wide small exact own hold s = subst (λ t. KeptByTime old t [] stream) got (record {
+    kept = [];
+    lost = 0;
+    are_kept = (refl, refl);
+    counted = omega arith;
+    stands = subst (λ rs. StandsInPart uuid e names hertz c old rs) (sym (append-nil stream)) s;
+    whole = λ none. (refl, λ same. same);
+  })
+  all_kept (x ∷ xs) old new stream rest (mid, gets, after) u wide small exact (own, owns) hold s =
       let still = (leaves e old mid x.batch gets.came).wide ∙ wide in
-      let below : missed_by_time mid c + 1 < 2 ^ 64 = omega (arith, rises e c low xs mid new after still small, small) in
-      next_kept old mid new x xs stream rest gets.came u wide own below
-      (λ so_far more holds so. all_kept xs mid new so_far more after (gets.uuid ∙ u) still small owns holds so) s (x.from == c) refl hold
+      let below = rises e c low xs mid new after still exact in
+      next_kept old mid new x xs stream rest gets.came u wide own (omega (arith, below.0, small)) below.1 (none_before e xs mid new after)
+      (λ so_far more holds so. all_kept xs mid new so_far more after (gets.uuid ∙ u) still small exact owns holds so) s (x.from == c) refl hold

@@ -1,25 +1,34 @@
 -- What one batch makes of a trace by time, where some of it may be lost.
-use Rattle.std.proofs.Common.{◌≡◌, ◌≢◌, ◌<◌, ◌≤◌, ◌+◌, ◌^◌, ◌++◌, ◌⊎◌, inl, inr, ℕ, List, [], Some, sym, ap, subst, ◌∙◌, arith, length, length-set, get_or, slice_index}
+use Rattle.std.proofs.Common.{◌≡◌, ◌≢◌, ◌<◌, ◌≤◌, ◌+◌, ◌^◌, ◌++◌, ◌⊎◌, inl, inr, ℕ, List, [], Some, None, sym, ap, subst, ◌∙◌, append_assoc, arith, length, length-set, get_or, slice_index}
 use Rattle.std.proofs.lemmas.List.{get_or-set_same, get_or-set_other}
 use Rattle.std.proofs.lemmas.Option.{slice_get_within}
 use Rattle.dspec_trace_reading.specs.Words.{Record, EnabledRows, IsText, run_packets, AddsBatch, capped, FileWrite, file_of, HasSoManyRecords, IsBatchLoss, LosesBatch, LosesOfFiles, LosesRest}
 use Rattle.dspec_trace_reading.specs.Words.{row_name, TimedTracing, missed_by_time}
 use Rattle.dspec_ring.specs.declared.batch.Batch.{Batch}
 use Rattle.dspec_ctf_sink.specs.declared.losing.Loss.{Loss}
+use Rattle.dspec_trace_reading.proofs.Asking.{some_lost}
 use Rattle.dspec_trace_reading.proofs.Losing.{uncapped}
 use Rattle.dspec_trace_reading.proofs.Taking.{Telling, row_writes, stays_elsewhere, telling, took_all}
-use Rattle.dspec_trace_reading.proofs.TimedAsking.{asked_then, lasts_elsewhere, lasts_of, lasts_others, missed_before, missed_elsewhere, missed_here, stays_then, told_elsewhere, told_others}
-use Rattle.dspec_trace_reading.proofs.TimedAsking.{writes_then}
+use Rattle.dspec_trace_reading.proofs.TimedAsking.{asked_then, lasts_elsewhere, lasts_of, lasts_others, missed_before, missed_elsewhere, missed_here, stays_then, told_elsewhere, told_others, added}
 use Rattle.dspec_trace_reading.proofs.TimedFiles.{StaysSame, not_taken, stopped, unasked}
 
 -- what may come of a batch
 abbrev pub CameByTime : EnabledRows → TimedTracing → Batch → TimedTracing → Type 0
 CameByTime e old b new = AddsBatch e old b new ⊎ LosesBatch e old b new
 
+-- nothing was lost, or 64 bits are enough for what the CPU missed
+abbrev pub IsExactByTime : ℕ → TimedTracing → Type 0
+IsExactByTime c t = (t.lost ≡ None) ⊎ (missed_by_time t c + 1 < 2 ^ 64)
+
+-- of a batch of which something is lost they are
+pub small_then : (e : EnabledRows) (old new : TimedTracing) (b : Batch) (c : ℕ) → LosesBatch e old b new → IsExactByTime c new → missed_by_time new c + 1 < 2 ^ 64
+small_then e old new b c loses (inl none) = absurd (some_lost old.lost loses.loss (sym loses.lost ∙ none))
+small_then e old new b c loses (inr small) = small
+
 -- the place was asked for these writes, behind which each file stays that isn't of this CPU
 abbrev pub StayElsewhere : TimedTracing → Batch → TimedTracing → List FileWrite → Type 0
-StayElsewhere old b new was = (next : List FileWrite) × ((new.written ≡ Some next)
-    × ((name : List ℕ) → (b.cpu < length old.missed → (file : ℕ) → row_name b.cpu file ≢ name) → file_of name next ≡ file_of name was))
+StayElsewhere old b new was = (added : List FileWrite) × ((new.written ≡ Some (was ++ added))
+    × ((name : List ℕ) → (b.cpu < length old.missed → (file : ℕ) → row_name b.cpu file ≢ name) → file_of name (was ++ added) ≡ file_of name was))
 
 -- what a batch leaves as it was
 pub record Leaves (old : TimedTracing) (b : Batch) (new : TimedTracing) : Type 0 where
@@ -44,13 +53,15 @@ module _ (e : EnabledRows) (old new : TimedTracing) (b : Batch) where
       let parts : List (ℕ × List ℕ) = run_packets old.uuid e total b.cpu r.read 0 s.runs in
       let then : s.between ≡ Some (first ++ row_writes b.cpu parts) =
       took_all b.cpu parts r.mid s.between first (took_all b.cpu t.packets l.files.written r.mid was (l.has.written ∙ asked) t.takes) s.taken in
-      let still = stopped old.uuid e total b.cpu r.read s.to s.mid s.between l.after.lasts l.after.written loss (first ++ row_writes b.cpu parts) then s.stops in (
-        still.0,
+      let still = stopped old.uuid e total b.cpu r.read s.to s.mid s.between l.after.lasts l.after.written loss (first ++ row_writes b.cpu parts) then s.stops in
+      let both : (first ++ row_writes b.cpu parts) ++ still.0 ≡ was ++ (row_writes b.cpu t.packets ++ (row_writes b.cpu parts ++ still.0)) =
+      append_assoc first (row_writes b.cpu parts) still.0 ∙ append_assoc was (row_writes b.cpu t.packets) (row_writes b.cpu parts ++ still.0) in (
+        row_writes b.cpu t.packets ++ (row_writes b.cpu parts ++ still.0),
         (
-          l.changes.written ∙ still.1.0,
+          l.changes.written ∙ still.1.0 ∙ ap Some both,
           λ name apart.
               let other = apart (slice_get_within old.missed b.cpu l.before l.has.missed) in
-              still.1.1 name ∙ stays_elsewhere b.cpu name other first parts ∙ stays_elsewhere b.cpu name other was t.packets,
+              ap (λ ws. file_of name ws) (sym both) ∙ still.1.1 name ∙ stays_elsewhere b.cpu name other first parts ∙ stays_elsewhere b.cpu name other was t.packets,
         ),
       )
 
@@ -95,7 +106,7 @@ module _ (e : EnabledRows) (old new : TimedTracing) (b : Batch) where
     told = λ c apart. told_elsewhere e old new b adds c apart;
     lasts = λ c apart. lasts_elsewhere e old new b adds c apart;
     files = λ was asked. (
-      writes_then e old new b adds was,
+      added e old new b adds,
       (
         asked_then e old new b adds was asked,
         λ name apart. stays_then e old new b adds name (apart (slice_get_within old.missed b.cpu adds.before adds.has.missed)) was,
@@ -113,9 +124,9 @@ module _ (e : EnabledRows) (old new : TimedTracing) (b : Batch) (low : b.cpu < 6
   pub exact : missed_by_time new b.cpu + 1 < 2 ^ 64 → (loses : LosesBatch e old b new) → missed_by_time new b.cpu ≡ missed_by_time old b.cpu + (b.drops + loses.loss.records)
   exact small loses = lost_counted loses ∙ uncapped _ (subst (λ n. n + 1 < 2 ^ 64) (lost_counted loses) small)
 
-  pub own_rises : missed_by_time new b.cpu + 1 < 2 ^ 64 → CameByTime e old b new → missed_by_time old b.cpu ≤ missed_by_time new b.cpu
-  own_rises small (inl adds) = omega (arith, missed_here e old new b adds, missed_before e old new b adds)
-  own_rises small (inr loses) = omega (arith, exact small loses)
+  pub own_rises : IsExactByTime b.cpu new → CameByTime e old b new → missed_by_time old b.cpu ≤ missed_by_time new b.cpu
+  own_rises is (inl adds) = omega (arith, missed_here e old new b adds, missed_before e old new b adds)
+  own_rises is (inr loses) = omega (arith, exact (small_then e old new b b.cpu loses is) loses)
 
 -- the batch's records, and that its text has no others
 module _ (e : EnabledRows) (b : Batch) (rs : List Record) (is_text : IsText e b.buffer.text rs) (unique : (qs : List Record) → IsText e b.buffer.text qs → qs ≡ rs) where

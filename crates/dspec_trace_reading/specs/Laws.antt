@@ -1,5 +1,5 @@
 -- Cited by calls. What is read of a folder in which a session was traced, whatever its work did.
-use Rattle.std.specs.Prelude.{ℕ, ◌≡◌, ◌<◌, ◌+◌, ◌^◌, List, [], Some, None, length}
+use Rattle.std.specs.Prelude.{ℕ, ◌≡◌, ◌<◌, ◌+◌, ◌^◌, List, Some, None, length}
 use Rattle.dspec_trace_reading.specs.Words.Outside.{EnabledRows, enabled, table_accepts, table_shape, table_text, CallsMade, HasLists, passed_from, IsTraced, HasNumbers, missed_on, GetsRuns}
 use Rattle.dspec_trace_reading.specs.Words.Outside.{TimedTracing, GetsPacket, Tracing}
 use Rattle.dspec_deeds.specs.declared.config.Config.{Config}
@@ -8,9 +8,10 @@ use Rattle.dspec_session_core.specs.declared.left.Left.{Left}
 use Rattle.dspec_ctf.specs.declared.form.Form.TheVariants.{AsTaken, ByTime}
 use Rattle.dspec_ctf.specs.declared.names.Names.{Names}
 use Rattle.dspec_ctf.specs.declared.origin.Origin.{Origin}
-use Rattle.dspec_trace_reading.specs.AsTaken.{ReadsAllKept, ReadsBack}
+use Rattle.dspec_trace_reading.specs.AsTaken.{told_on}
 use Rattle.dspec_trace_reading.specs.Begun.{BegunNew, TimedBegunNew}
-use Rattle.dspec_trace_reading.specs.ByTime.{ReadsAllKeptByTime, ReadsByTime, missed_by_time}
+use Rattle.dspec_trace_reading.specs.ByTime.{missed_by_time, told_by_time}
+use Rattle.dspec_trace_reading.specs.Reads.{ReadsAllKept, ReadsBack}
 
 module _ (e : EnabledRows) (does : ℕ → CallsMade → CallsMade → Type 0) where
   -- a session of these enablings was traced, in which the work did that, and its sink went from one state to another
@@ -28,25 +29,25 @@ module _ (e : EnabledRows) (does : ℕ → CallsMade → CallsMade → Type 0) w
   TakenIsRead = (origin : Origin) (names : Names) (k : Config) (begun ended : Tracing) (left : List Left) → BegunNew origin e names begun
       → (t : TracedBy (GetsPacket e) k begun left ended) → ListedBy (GetsPacket e) k begun left ended → ended.lost ≡ None
       → length origin.uuid ≡ 16 → HasNumbers origin AsTaken e names → ((c : ℕ) → missed_on ended c < 2 ^ 64)
-      → ReadsBack origin.uuid e names left (λ c l there. (t.promised.each c l there).seen) (λ c. passed_from c t.passed) ended.written
+      → ReadsBack AsTaken origin.uuid e names left (λ c l there. (t.promised.each c l there).seen) (λ c. passed_from c t.passed) ended.written
 
   -- Some of it may have been lost: the folder is read as each CPU's stream without the batches that were.
   abbrev pub KeptIsRead : Type 0
   KeptIsRead = (origin : Origin) (names : Names) (k : Config) (begun ended : Tracing) (left : List Left) → BegunNew origin e names begun
       → (t : TracedBy (GetsPacket e) k begun left ended) → ListedBy (GetsPacket e) k begun left ended
       → length origin.uuid ≡ 16 → HasNumbers origin AsTaken e names → ((c : ℕ) → missed_on ended c + 1 < 2 ^ 64)
-      → ReadsAllKept origin.uuid e names left (λ c. passed_from c t.passed) ended
+      → ReadsAllKept AsTaken origin.uuid e names left (λ c. passed_from c t.passed) ended.written (told_on ended) (missed_on ended)
 
   -- It was traced into a folder that had no file, by time, and nothing was lost: the folder is read as each CPU's stream, shared out to its files.
   abbrev pub TimedIsRead : Type 0
   TimedIsRead = (origin : Origin) (hertz : ℕ) (names : Names) (k : Config) (begun ended : TimedTracing) (left : List Left) → TimedBegunNew origin hertz e names begun
       → (t : TracedBy (GetsRuns e) k begun left ended) → ListedBy (GetsRuns e) k begun left ended → ended.lost ≡ None
       → length origin.uuid ≡ 16 → HasNumbers origin (ByTime hertz) e names → ((c : ℕ) → missed_by_time ended c < 2 ^ 64)
-      → ReadsByTime origin.uuid e names hertz left (λ c l there. (t.promised.each c l there).seen) (λ c. passed_from c t.passed) ended.written
+      → ReadsBack (ByTime hertz) origin.uuid e names left (λ c l there. (t.promised.each c l there).seen) (λ c. passed_from c t.passed) ended.written
 
   -- Some of it may have been lost: the folder is read as each CPU's stream without the records of its batches that were.
   abbrev pub TimedKeptIsRead : Type 0
   TimedKeptIsRead = (origin : Origin) (hertz : ℕ) (names : Names) (k : Config) (begun ended : TimedTracing) (left : List Left) → TimedBegunNew origin hertz e names begun
       → (t : TracedBy (GetsRuns e) k begun left ended) → ListedBy (GetsRuns e) k begun left ended
       → length origin.uuid ≡ 16 → HasNumbers origin (ByTime hertz) e names → ((c : ℕ) → missed_by_time ended c + 1 < 2 ^ 64)
-      → ReadsAllKeptByTime origin.uuid e names hertz left (λ c. passed_from c t.passed) ended
+      → ReadsAllKept (ByTime hertz) origin.uuid e names left (λ c. passed_from c t.passed) ended.written (told_by_time ended) (missed_by_time ended)

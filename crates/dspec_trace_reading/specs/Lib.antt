@@ -5,5 +5,5 @@ pub mod Folders
 pub mod IntoFolders
 pub mod Laws
 pub mod Ran
-pub mod TimedFolders
+pub mod Reads
 pub mod Words

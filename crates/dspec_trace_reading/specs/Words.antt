@@ -1,13 +1,13 @@
 -- Serves proofs. The words of this crate for its proofs and for the crates above, in one place. Declares nothing.
 pub mod Outside
 unfoldable pub use Outside.*
-pub use Rattle.dspec_trace_reading.specs.AsTaken.{AreKept, drops_carried, HaveNumbers, ReadsAllKept, ReadsBack, ReadsKept, ReadsPart, told_on}
+pub use Rattle.dspec_trace_reading.specs.AsTaken.{AreKept, drops_carried, HaveNumbers, told_on}
 pub use Rattle.dspec_trace_reading.specs.Begun.{BegunNew, HasOriginNumbers, IsBegunByTime, IsBegunTrace, TimedBegunNew}
-pub use Rattle.dspec_trace_reading.specs.ByTime.{AreKeptInFront, missed_by_time, ReadsAllKeptByTime, ReadsByTime, ReadsFiles, ReadsKeptByTime, ReadsPartByTime, told_by_time}
-pub use Rattle.dspec_trace_reading.specs.Folders.{all_counted, AreCountable, AreNamesOf, IsInFolder, lost_of, lost_records, missed_in, TellsProgram}
+pub use Rattle.dspec_trace_reading.specs.ByTime.{AreKeptInFront, missed_by_time, told_by_time}
+pub use Rattle.dspec_trace_reading.specs.Folders.{all_counted, AreCountable, AreNamesOf, IsInFolder, lost_of, lost_records, missed_in, ReadsPart, TellsProgram}
 pub use Rattle.dspec_trace_reading.specs.Laws.{KeptIsRead, ListedBy, TakenIsRead, TimedIsRead, TimedKeptIsRead, TracedBy}
 pub use Rattle.dspec_trace_reading.specs.Ran.{BothGet, IsOfTimedTrace, IsOfTrace, RanBegun, RanInto}
-pub use Rattle.dspec_trace_reading.specs.TimedFolders.{IsInTimedFolder}
+pub use Rattle.dspec_trace_reading.specs.Reads.{Keeps, Reads, ReadsAllKept, ReadsBack, ReadsKept}
 pub use Rattle.dspec_trace_reading.specs.declared.fault.ToFolderFault.{ToFolderFault}
 pub use Rattle.dspec_trace_reading.specs.declared.folder_trace.FolderTrace.{FolderTrace}
 pub use Rattle.dspec_trace_reading.specs.declared.running.Begun.{Begun}

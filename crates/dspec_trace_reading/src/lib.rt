@@ -7,12 +7,12 @@
 //! | `running.rt`, `folder_trace.rt`, `fault.rt` | a session that runs into a folder which is begun; what came of it; why there is none |
 //! | `laws.rt`, `numbers.rt` | the laws, and what the types of an origin say of its numbers, as clauses of functions that have nothing to do |
 //! | `specs/`: Laws | what is read of a session that was traced, whatever its work did: as taken and by time, and of either where some was lost |
-//! | `specs/`: Folders, TimedFolders, IntoFolders, Begun, Ran | what is read of a folder into which a session was traced by one call; such a trace before its session, and behind it |
-//! | `specs/`: AsTaken, ByTime | what is read of a folder that was written as batches were taken, of all of them or of those that were kept; what is read of one by time |
-//! | `proofs/` | Naming (each CPU has a file of its own), OwnNumbers (each batch has its CPU's number), Asking and Losing (what one batch asks of the folder, where nothing or some is lost), Folding and Keeping (what all batches bring to one CPU's file), Begun (the folder with its metadata alone), Placing (where the folder was made), Whole and Partly (what is read as taken, of all or of what was kept) |
-//! | `proofs/`, by time | RowNaming (each file of a CPU has a name of its own), Taking (packets that a place took), Filing (one batch, and a CPU's files), TimedAsking, TimedFolding, TimedBegun and TimedWhole; where some was lost TimedFiles, TimedLosing and TimedFronts (one batch), TimedBounded, TimedKeeping and TimedPartly |
+//! | `specs/`: Reads, Folders, IntoFolders, Begun, Ran | what is read of a folder of either form, and of one into which a session was traced by one call; such a trace before its session, and behind it |
+//! | `specs/`: AsTaken, ByTime | which records are kept of batches where some are lost, as taken and by time; a CPU's files by time |
+//! | `proofs/` | Naming (each CPU has a file of its own), OwnNumbers (each batch has its CPU's number), Asking and Losing (what one batch asks of the folder, where nothing or some is lost), Folding (what proofs of folders have in common), Keeping (what all batches bring to one CPU's file), Begun (the folder with its metadata alone), Placing (where the folder was made), Kept (where nothing is lost all is kept), Partly (what is read as taken) |
+//! | `proofs/`, by time | RowNaming (each file of a CPU has a name of its own), Taking (packets that a place took), Filing (one batch, and a CPU's files), TimedAsking, TimedFiles, TimedLosing and TimedFronts (one batch), TimedBegun, TimedBounded, TimedKeeping and TimedPartly |
 //! | `proofs/`, what was lost in all | Adding (one induction for both kinds of trace, over what one batch adds), Apart, Summing, Answered, TimedAnswered |
-//! | `proofs/`: Read; Told, Through, Carried, Counted, Bounded, InFolder, InTimedFolder | the four laws, of a session whose promise is known; what one call's trace carried, by the numbers of its reports, how much it counts at most, and what is read of its folder |
+//! | `proofs/`: Read; Told, Through, Carried, Counted, Bounded, InFolder, TakenInFolder, TimedInFolder | the four laws, of a session whose promise is known; what one call's trace carried, by the numbers of its reports, how much it counts at most, and what is read of its folder |
 #![tactic(auto)]
 
 mod fault;

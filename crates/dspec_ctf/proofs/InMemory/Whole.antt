@@ -1,4 +1,5 @@
 -- All packets of a batch have all its records.
+use Rattle.std.proofs.lemmas.Bool.Decides.{nat_tests}
 use Rattle.std.proofs.Common.{◌≡◌, ◌-◌, ◌<◌, ◌≤◌, ◌==◌, ◌∷◌, ◌∙◌, ℕ, List, [], inl, inr, length, ap, refl, subst, arith}
 use Rattle.std.specs.Prelude.{None, if◌then◌else◌}
 use Rattle.dspec_ctf.specs.Words.{IsFileRun, Run, CpuFiling, FindsAndHands, HandsMissed, IsAllHanded, IsFoundRun, as_written, HaveAllLeft, PutsPackets, parts_of, Packet}
@@ -12,9 +13,7 @@ some_part file n rest some = grind (arith)
 
 -- one with records is the first of them
 one_of : (p : Packet) (ps : List Packet) (file n : ℕ) → p.file ≡ file → p.records ≡ n → 0 < n → parts_of (p ∷ ps) ≡ (file, n) ∷ parts_of ps
-one_of p ps file n is_file is some =
-    ap (λ k. if k == 0 then parts_of ps else (p.file, k) ∷ parts_of ps) is
-    ∙ (some_part p.file n (parts_of ps) some ∙ ap (λ k. (k, n) ∷ parts_of ps) is_file)
+one_of p ps file n is_file is some = grind (arith, nat_tests, some_part)
 
 -- what was missed is handed out: the files are these then, and their records, runs and stamps are as they were
 told_all : CpuFiling → CpuFiling

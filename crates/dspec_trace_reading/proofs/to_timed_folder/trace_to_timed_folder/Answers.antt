@@ -1,7 +1,7 @@
 use Rattle.std.proofs.Common.{ℕ, IfOk, subst}
 use Rattle.dspec_trace_reading.specs.Words.{EnabledRows, CallsMade, ThenServed, GetsRuns, RanBegun}
 use Rattle.dspec_filing_reading.proofs.FilesLaws.{FilesLaws}
-use Rattle.dspec_trace_reading.proofs.InTimedFolder.{timed_if}
+use Rattle.dspec_trace_reading.proofs.TimedInFolder.{timed_if}
 use Rattle.dspec_trace_reading.proofs.to_timed_folder.trace_to_timed_folder.Goals as goal
 
 pub returns-clause-read : goal.returns-clause-read
