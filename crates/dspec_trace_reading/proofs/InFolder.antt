@@ -3,7 +3,7 @@ use Rattle.std.proofs.Common.{◌∷◌, ◌≡◌, ◌<◌, ◌≤◌, ◌+◌,
 use Rattle.std.proofs.lemmas.Bool.Decides.{nat_tests}
 use Rattle.dspec_trace_reading.specs.Words.{EnabledRows, start_fault, CallsMade, passed_from, layout_of, read_metadata, origin_text, HasNumbers, FileWrite, file_of, drops_carried, IsInFolder}
 use Rattle.dspec_trace_reading.specs.Words.{missed_in, RanBegun, FolderTrace, ToFolderFault, Begun, Ran, HasOriginNumbers, AreCountable, AreNamesOf, ticks_of, TellsProgram, all_counted, lost_of}
-use Rattle.dspec_trace_reading.specs.Words.{lost_records, made_at, path_of, written_in, Keeps, Reads, ReadsKept, ReadsPart}
+use Rattle.dspec_trace_reading.specs.Words.{lost_records, made_at, path_of, written_in, KeptOf, Reads, ReadsKept, ReadsPart}
 use Rattle.dspec_deeds.specs.declared.config.Config.{Config}
 use Rattle.dspec_ring.specs.declared.batch.Batch.{Batch}
 use Rattle.dspec_session_core.specs.declared.left.Left.{Left}
@@ -58,7 +58,7 @@ module _ (form : Form) (start : Option ClockStart) {K T : Type 0} (gets : K → 
     lost_on d = missed d - drops_carried (passed_from d c.all)
 
     part : (d : ℕ) (l : Left) → slice_get left d ≡ Some l → l.report.accepted + missed_in l.report + 1 < 2 ^ 64
-        → ReadsPart (Keeps form e) (Reads form uuid e x.names d) (passed_from d c.kept.passed) (missed_in l.report) (lost_on d) x.writes
+        → ReadsPart (KeptOf form e) (Reads form uuid e x.names d) (passed_from d c.kept.passed) (missed_in l.report) (lost_on d) x.writes
     part d l at below =
         let r = x.reads d l at (inr (omega (arith, x.few d l at, below))) in
         let end = c.ends d l at in
@@ -66,8 +66,8 @@ module _ (form : Form) (start : Option ClockStart) {K T : Type 0} (gets : K → 
         record {
           kept = r.kept;
           are_kept =
-              subst (λ n. Keeps form e (passed_from d c.kept.passed) r.kept n) so_many
-              (kept_before e form (passed_from d c.kept.passed) end.0 r.kept r.lost end.1.bare (subst (λ bs. Keeps form e bs r.kept r.lost) end.2 r.are_kept));
+              subst (λ n. KeptOf form e (passed_from d c.kept.passed) r.kept n) so_many
+              (kept_before e form (passed_from d c.kept.passed) end.0 r.kept r.lost end.1.bare (subst (λ bs. KeptOf form e bs r.kept r.lost) end.2 r.are_kept));
           told = told d;
           tells = r.tells;
           no_more = omega (arith, r.no_more, r.counted, c.missed d l at, so_many);
@@ -78,7 +78,7 @@ module _ (form : Form) (start : Option ClockStart) {K T : Type 0} (gets : K → 
         let r = x.reads d l at (inr (omega (arith, x.few d l at, one_within left d l at, small))) in
         omega (arith, r.counted)
 
-    pub in_folder : IsInFolder gets does e form start (Keeps form e) (λ u. Reads form u e) ps path name k old left new uuid lost written
+    pub in_folder : IsInFolder gets does e form start (KeptOf form e) (λ u. Reads form u e) ps path name k old left new uuid lost written
     in_folder = record {
       kept = c.kept;
       names = x.names;
@@ -101,13 +101,13 @@ module _ (form : Form) (start : Option ClockStart) {K T : Type 0} (gets : K → 
   abbrev pub EndsSo : (List ℕ → T → Type 0) → (Ran T → FolderTrace → Type 0) → Type 0
   EndsSo begins ends = (b : Begun T) (r : Ran T) (t : FolderTrace) → begins b.at_end.uuid b.sink.sink → Carries gets sees does e k old r.closed new b.sink.sink r.sink → ends r t
       → start_fault k ≡ None → (t.closed ≡ r.closed) × (t.uuid ≡ r.uuid)
-      × IsInFolder gets does e form start (Keeps form e) (λ u. Reads form u e) ps path name k old r.closed new b.at_end.uuid t.lost (written_in t.folder)
+      × IsInFolder gets does e form start (KeptOf form e) (λ u. Reads form u e) ps path name k old r.closed new b.at_end.uuid t.lost (written_in t.folder)
 
   -- so it is of one that was begun and ran, whatever was answered
   pub read_if : (begins : List ℕ → T → Type 0) (ends : Ran T → FolderTrace → Type 0) → EndsSo begins ends → (begun : Result (Begun T) ToFolderFault) (ran : Result (Ran T) ToFolderFault)
       (answer : Result FolderTrace ToFolderFault) → IfOk ran (λ _. start_fault k ≡ None) → IfOk begun (λ b. begins b.at_end.uuid b.sink.sink)
       → IfOk ran (λ r. RanBegun sees gets does e k old begun r new) → IfOk answer (λ t. IfOk ran (λ r. ends r t)) → IfOk answer (λ _. IsOk ran)
-      → IfOk answer (λ t. IsInFolder gets does e form start (Keeps form e) (λ u. Reads form u e) ps path name k old t.closed new t.uuid t.lost (written_in t.folder))
+      → IfOk answer (λ t. IsInFolder gets does e form start (KeptOf form e) (λ u. Reads form u e) ps path name k old t.closed new t.uuid t.lost (written_in t.folder))
   read_if begins ends each begun ran (Err fault) fine is has so well = record {}
   read_if begins ends each begun (Err fault) (Ok t) fine is has so well = absurd (cc (well))
   read_if begins ends each (Err fault) (Ok r) (Ok t) fine is (b, rest) so well = let same = rest.0 in absurd (cc (same))
@@ -116,5 +116,5 @@ module _ (form : Form) (start : Option ClockStart) {K T : Type 0} (gets : K → 
       let one : c ≡ b = cc (same) in
       let begun = subst (λ (x : Begun T). begins x.at_end.uuid x.sink.sink) one is in
       let all = each b r t begun (in_both sees gets does e k old new b.sink r.closed r.sink rest.2) so fine in
-      subst (λ l. IsInFolder gets does e form start (Keeps form e) (λ u. Reads form u e) ps path name k old l new t.uuid t.lost (written_in t.folder)) (sym all.0)
-      (subst (λ u. IsInFolder gets does e form start (Keeps form e) (λ u. Reads form u e) ps path name k old r.closed new u t.lost (written_in t.folder)) (sym (all.1 ∙ rest.1)) all.2)
+      subst (λ l. IsInFolder gets does e form start (KeptOf form e) (λ u. Reads form u e) ps path name k old l new t.uuid t.lost (written_in t.folder)) (sym all.0)
+      (subst (λ u. IsInFolder gets does e form start (KeptOf form e) (λ u. Reads form u e) ps path name k old r.closed new u t.lost (written_in t.folder)) (sym (all.1 ∙ rest.1)) all.2)

@@ -1,7 +1,7 @@
 -- What is kept of a CPU's batches, of folders of either form.
 use Rattle.std.proofs.Common.{◌≡◌, ◌+◌, ◌++◌, ◌⊎◌, ℕ, inl, inr, List, [], ◌∷◌, refl, sym, ap, subst, ◌∙◌, arith, length}
 use Rattle.std.proofs.lemmas.List.{append-nil}
-use Rattle.dspec_trace_reading.specs.Words.{IsText, Record, EnabledRows, enabled, table_accepts, table_shape, table_text, FileWrite, IsBare, drops_carried, Keeps, Reads, ReadsKept}
+use Rattle.dspec_trace_reading.specs.Words.{IsText, Record, EnabledRows, enabled, table_accepts, table_shape, table_text, FileWrite, IsBare, drops_carried, KeptOf, Reads, ReadsKept}
 use Rattle.dspec_ring.specs.declared.batch.Batch.{Batch}
 use Rattle.dspec_ctf.specs.declared.form.Form.{Form}
 use Rattle.dspec_ctf.specs.declared.form.Form.TheVariants.{AsTaken, ByTime}
@@ -25,7 +25,7 @@ module _ (e : EnabledRows) where
       one_reading (table_shape e.header (enabled e.rows)) (table_accepts e.header (enabled e.rows)) (table_text e.header (enabled e.rows)) (laws e) 0 b.buffer.text rs [] text bare.0
 
   -- where none are lost, all that the batches hold are kept
-  pub kept_whole : (form : Form) (bs : List Batch) (kept rs : List Record) (lost : ℕ) → lost ≡ 0 → Keeps form e bs kept lost → Holds e bs rs → kept ≡ rs
+  pub kept_whole : (form : Form) (bs : List Batch) (kept rs : List Record) (lost : ℕ) → lost ≡ 0 → KeptOf form e bs kept lost → Holds e bs rs → kept ≡ rs
   kept_whole AsTaken [] kept rs lost none are hold = are.0 ∙ sym hold
   kept_whole AsTaken (b ∷ bs) kept rs lost none (ps, more, rest, text, later, which) (qs, after, has, many, sum, holds) =
       go (λ none_more. kept_whole AsTaken bs more after rest none_more later holds) which where
@@ -44,7 +44,7 @@ module _ (e : EnabledRows) where
       is ∙ ap (λ xs. xs ++ more) same ∙ ap (λ xs. qs ++ xs) (kept_whole (ByTime hertz) bs more after rest (omega (arith, none, so_many)) later holds) ∙ sym sum
 
   -- the batch that tells the end has no records, so none of it are kept or lost
-  pub kept_before : (form : Form) (bs : List Batch) (b : Batch) (kept : List Record) (lost : ℕ) → IsBare b → Keeps form e (bs ++ b ∷ []) kept lost → Keeps form e bs kept lost
+  pub kept_before : (form : Form) (bs : List Batch) (b : Batch) (kept : List Record) (lost : ℕ) → IsBare b → KeptOf form e (bs ++ b ∷ []) kept lost → KeptOf form e bs kept lost
   kept_before AsTaken [] b kept lost bare (rs, more, rest, text, later, which) = go which where
     none : rs ≡ []
     none = bare_none b rs text bare

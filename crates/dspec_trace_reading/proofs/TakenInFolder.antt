@@ -1,7 +1,7 @@
 -- What is read of a folder into which a session was traced by one call, as its batches were taken.
 use Rattle.std.proofs.Common.{◌≡◌, ◌<◌, ◌≤◌, ◌+◌, ◌^◌, ◌⊎◌, inl, ℕ, List, [], ◌∷◌, Option, None, Some, refl, sym, ap, ◌∙◌, subst, arith, length, slice_get, Result, IfOk, IsOk}
 use Rattle.dspec_trace_reading.specs.Words.{EnabledRows, start_fault, CallsMade, passed_from, GetsPacket, Tracing, missed_on, told_on, IsBegunTrace, IsInFolder, missed_in, IsOfTrace, RanBegun}
-use Rattle.dspec_trace_reading.specs.Words.{FileWrite, written_in, FolderTrace, ToFolderFault, Begun, Ran, lost_records, made_at, BegunNew, ReadsKept, Keeps, Reads}
+use Rattle.dspec_trace_reading.specs.Words.{FileWrite, written_in, FolderTrace, ToFolderFault, Begun, Ran, lost_records, made_at, BegunNew, ReadsKept, KeptOf, Reads}
 use Rattle.dspec_deeds.specs.declared.config.Config.{Config}
 use Rattle.dspec_ring.specs.declared.batch.Batch.{Batch}
 use Rattle.dspec_session_core.specs.declared.left.Left.{Left}
@@ -62,7 +62,7 @@ module _ (metadata : MetadataReads) (files : FilesRead) {K : Type 0} (gets : K �
   pub taken_if : (begun : Result (Begun Tracing) ToFolderFault) (ran : Result (Ran Tracing) ToFolderFault) (answer : Result FolderTrace ToFolderFault) → IfOk ran (λ _. start_fault k ≡ None)
       → IfOk begun (λ b. IsBegunTrace e ps path name b.at_end.uuid b.sink.sink) → IfOk ran (λ r. RanBegun (GetsPacket e) gets does e k old begun r new)
       → IfOk answer (λ t. IfOk ran (λ r. IsOfTrace r t)) → IfOk answer (λ _. IsOk ran)
-      → IfOk answer (λ t. IsInFolder gets does e AsTaken None (Keeps AsTaken e) (λ u. Reads AsTaken u e) ps path name k old t.closed new t.uuid t.lost (written_in t.folder))
+      → IfOk answer (λ t. IsInFolder gets does e AsTaken None (KeptOf AsTaken e) (λ u. Reads AsTaken u e) ps path name k old t.closed new t.uuid t.lost (written_in t.folder))
   taken_if = read_if AsTaken None gets (GetsPacket e) does e ps path name k old new (IsBegunTrace e ps path name) IsOfTrace (λ b r t is c so fine. (
     so.closed,
     so.uuid,

@@ -1,7 +1,7 @@
 -- What is read of a folder into which a session was traced by one call, by time.
 use Rattle.std.proofs.Common.{◌≡◌, ◌<◌, ◌≤◌, ◌+◌, ◌^◌, ◌⊎◌, inl, ℕ, List, [], ◌∷◌, Option, None, Some, refl, sym, ap, ◌∙◌, subst, arith, length, slice_get, Result, IfOk, IsOk}
 use Rattle.dspec_trace_reading.specs.Words.{EnabledRows, start_fault, CallsMade, passed_from, GetsRuns, TimedTracing, missed_by_time, told_by_time, IsBegunByTime, IsInFolder, missed_in}
-use Rattle.dspec_trace_reading.specs.Words.{IsOfTimedTrace, RanBegun, FileWrite, written_in, FolderTrace, ToFolderFault, Begun, Ran, lost_records, made_at, TimedBegunNew, ReadsKept, Keeps, Reads}
+use Rattle.dspec_trace_reading.specs.Words.{IsOfTimedTrace, RanBegun, FileWrite, written_in, FolderTrace, ToFolderFault, Begun, Ran, lost_records, made_at, TimedBegunNew, ReadsKept, KeptOf, Reads}
 use Rattle.dspec_deeds.specs.declared.config.Config.{Config}
 use Rattle.dspec_ring.specs.declared.batch.Batch.{Batch}
 use Rattle.dspec_session_core.specs.declared.left.Left.{Left}
@@ -65,7 +65,7 @@ module _ (metadata : MetadataReads) (laws : FilesLaws) {K : Type 0} (gets : K �
   pub timed_if : (begun : Result (Begun TimedTracing) ToFolderFault) (ran : Result (Ran TimedTracing) ToFolderFault) (answer : Result FolderTrace ToFolderFault) → IfOk ran (λ _. start_fault k ≡ None)
       → IfOk begun (λ b. IsBegunByTime e ps path name hertz start b.at_end.uuid b.sink.sink) → IfOk ran (λ r. RanBegun (GetsRuns e) gets does e k old begun r new)
       → IfOk answer (λ t. IfOk ran (λ r. IsOfTimedTrace r t)) → IfOk answer (λ _. IsOk ran)
-      → IfOk answer (λ t. IsInFolder gets does e (ByTime hertz) start (Keeps (ByTime hertz) e) (λ u. Reads (ByTime hertz) u e) ps path name k old t.closed new t.uuid t.lost (written_in t.folder))
+      → IfOk answer (λ t. IsInFolder gets does e (ByTime hertz) start (KeptOf (ByTime hertz) e) (λ u. Reads (ByTime hertz) u e) ps path name k old t.closed new t.uuid t.lost (written_in t.folder))
   timed_if = read_if (ByTime hertz) start gets (GetsRuns e) does e ps path name k old new (IsBegunByTime e ps path name hertz start) IsOfTimedTrace (λ b r t is c so fine. (
     so.closed,
     so.uuid,

@@ -15,9 +15,9 @@ Reads AsTaken = ReadsFile
 Reads (ByTime hertz) = λ uuid e names c stream missed writes. ReadsFiles uuid e names hertz c stream missed writes
 
 -- these records are kept of a CPU's batches, and so many are lost
-abbrev pub Keeps : Form → EnabledRows → List Batch → List Record → ℕ → Type 0
-Keeps AsTaken = AreKept
-Keeps (ByTime hertz) = AreKeptInFront
+abbrev pub KeptOf : Form → EnabledRows → List Batch → List Record → ℕ → Type 0
+KeptOf AsTaken = AreKept
+KeptOf (ByTime hertz) = AreKeptInFront
 
 -- It is known what the folder was asked for. What that leaves of the file `metadata` is read as the layout of these enablings and names; and what it leaves of a
 -- CPU as the records that came out of that CPU, with as many missed as the CPU's batches carried drops.
@@ -35,7 +35,7 @@ pub record ReadsBack (form : Form) (uuid : List ℕ) (e : EnabledRows) (names : 
 pub record ReadsKept (form : Form) (uuid : List ℕ) (e : EnabledRows) (names : Names) (c : ℕ) (batches : List Batch) (writes : List FileWrite) (told missed : ℕ) : Type 0 where
   pub kept : List Record
   pub lost : ℕ
-  pub are_kept : Keeps form e batches kept lost
+  pub are_kept : KeptOf form e batches kept lost
   pub tells : Reads form uuid e names c kept told writes
   pub counted : missed ≡ drops_carried batches + lost
   pub no_more : told ≤ missed

@@ -7,7 +7,7 @@ pub use Rattle.dspec_trace_reading.specs.ByTime.{AreKeptInFront, missed_by_time,
 pub use Rattle.dspec_trace_reading.specs.Folders.{all_counted, AreCountable, AreNamesOf, IsInFolder, lost_of, lost_records, missed_in, ReadsPart, TellsProgram}
 pub use Rattle.dspec_trace_reading.specs.Laws.{KeptIsRead, ListedBy, TakenIsRead, TimedIsRead, TimedKeptIsRead, TracedBy}
 pub use Rattle.dspec_trace_reading.specs.Ran.{BothGet, IsOfTimedTrace, IsOfTrace, RanBegun, RanInto}
-pub use Rattle.dspec_trace_reading.specs.Reads.{Keeps, Reads, ReadsAllKept, ReadsBack, ReadsKept}
+pub use Rattle.dspec_trace_reading.specs.Reads.{KeptOf, Reads, ReadsAllKept, ReadsBack, ReadsKept}
 pub use Rattle.dspec_trace_reading.specs.declared.fault.ToFolderFault.{ToFolderFault}
 pub use Rattle.dspec_trace_reading.specs.declared.folder_trace.FolderTrace.{FolderTrace}
 pub use Rattle.dspec_trace_reading.specs.declared.running.Begun.{Begun}

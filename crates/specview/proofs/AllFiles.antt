@@ -1,10 +1,10 @@
 -- The file of each CPU stands at its place.
-use Rattle.std.proofs.Common.{◌≡◌, ℕ, ◌+◌, ◌<◌, List, [], ◌∷◌, ◌++◌, Option, Bool, true, false, if◌then◌else◌, Some, length}
+use Rattle.std.proofs.lemmas.Bool.Decides.{nat_tests}
+use Rattle.std.proofs.Common.{◌≡◌, ℕ, ◌+◌, ◌<◌, List, [], ◌∷◌, ◌++◌, Option, Bool, true, false, if◌then◌else◌, Some, length, None, ◌==◌, slice_get}
 use Rattle.std.proofs.Common.{reverse, get_or, refl, sym, ap, ◌∙◌, subst, below_more, ⊎_elim, ◌⊎◌, zero, suc, add-one, arith}
-use Rattle.std.proofs.Common.{None, ◌==◌, slice_get}
 use Rattle.std.proofs.lemmas.Option.{get_or_from_slice_get, slice_get_within}
 use Rattle.std.proofs.lemmas.List.{length-append, length-map, get_or_append_left, get_or_at, get_or_default, get_or-map}
-use Rattle.specview.specs.Words.{Record, EnabledRows, numbers_below, reports, stream, Offer, accepts, held, accepts_now, report, IsLegal, is_taken, ViewFault, Line, NoStamp, LateStamp, NoFrequency}
+use Rattle.specview.specs.Words.{Record, EnabledRows, numbers_below, reports, stream, Offer, accepts, accepts_now, report, IsLegal, ViewFault, Line, NoStamp, LateStamp, NoFrequency}
 use Rattle.specview.specs.Words.{GreatestFrequency, NoEvent, Memory, Read, Write, TooLong, NotEmpty, TellsCounts, IsClockFault, AreFiles, AreStreams, IsFile, HasUnknown, IsFileFault, IsFormFault}
 use Rattle.specview.specs.Words.{IsOfNumbered, IsPlayTraceFault, fault_of_metadata, earlier, form_fault, names_fault}
 use Rattle.dspec_record.specs.declared.header.Header.{Header}
@@ -47,13 +47,7 @@ streams_long cpus deeds rss streams = ap length streams ∙ (length-map (numbers
 pub file_next : (uuid : List ℕ) (e : EnabledRows) (form : Form) (h : List Deed) (reps : List Report) (old new : List (List ℕ)) (file : List ℕ) (n : ℕ) (r : Report)
     → length old ≡ n → AreFiles uuid e form h reps old n → n < length reps → r ≡ get_or reps n r → IsFile uuid e n form h r file → new ≡ old ++ file ∷ []
     → AreFiles uuid e form h reps new (n + 1)
-file_next uuid e form h reps old new file n r long before lt is here more c p less there =
-    below_more (λ k. (q : Report) → q ≡ get_or reps k q → IsFile uuid e k form h q (get_or new k [])) n
-    (λ k below q at. subst (IsFile uuid e k form h q)
-    (sym (ap (λ l. get_or l k []) more ∙ get_or_append_left old (file ∷ []) [] k (let l = long in omega arith))) (before k q below at))
-    (λ q at. subst (λ (x : Report). IsFile uuid e n form h x (get_or new n [])) (is ∙ (get_or_default reps n r q lt ∙ sym at))
-    (subst (IsFile uuid e n form h r) (sym (ap (λ l. get_or l n []) more ∙ get_or_at old file [] [] n long)) here))
-    c less p there
+file_next uuid e form h reps old new file n r long before lt is here more = grind (arith, nat_tests, get_or_append_left, get_or_default, get_or_at)
 
 -- why there is no file is why there is no trace
 pub no_trace : (form : Form) (e : EnabledRows) (rss : List (List Record)) (rs : List Record) (c : ℕ) (fault : ViewFault) → c < length rss → rs ≡ get_or rss c rs
@@ -76,9 +70,7 @@ one_or_none true os = refl
 one_or_none false os = refl
 
 effect_told : (c : ℕ) (d : Deed) (h : List Deed) → Effect c d h → accepts_now c d ≡ length (accepts c d h)
-effect_told c d h (idle i) = i.counts.accepts ∙ sym (ap length i.accepted)
-effect_told c d h (offering r f o) = o.counts.accepts ∙ (one_or_none (is_taken f) (next_offer c r h ∷ []) ∙ sym (ap length o.accepted))
-effect_told c d h (emptying id f m) = m.counts.accepts ∙ (one_or_none (is_taken f) (held c id h) ∙ sym (ap length m.accepted))
+effect_told = grind (arith, nat_tests, idle, offering, one_or_none, next_offer, emptying)
 
 accounts_told : (c : ℕ) (h : List Deed) → Accounts c h → TellsCounts c h
 accounts_told c [] a = tt
@@ -136,9 +128,4 @@ of_numbered form e f why = ⊎_elim (λ memory. subst IsOfNumbered (sym memory) 
 -- a fault of the metadata as it is told
 pub form_told : (form : Form) (e : EnabledRows) (rss : List (List Record)) (f : MetadataFault) (told : ViewFault) → (f ≡ metadata_fault.Memory) ⊎ (fault_of_metadata form e Numbered ≡ Some f)
     → IsFormFault f told → IsPlayTraceFault form e rss told
-form_told form e rss metadata_fault.NoStamp told why is = subst (IsPlayTraceFault form e rss) (sym is) (⊎_elim (λ q. cc) (λ q. q) why)
-form_told form e rss metadata_fault.NoFrequency told why is = subst (IsPlayTraceFault form e rss) (sym is) (⊎_elim (λ q. cc) (λ q. q) why)
-form_told form e rss (metadata_fault.Name fault) told why is = absurd is
-form_told form e rss metadata_fault.HostName told why is = absurd is
-form_told form e rss metadata_fault.ProcessName told why is = absurd is
-form_told form e rss metadata_fault.Memory told why is = subst (IsPlayTraceFault form e rss) (sym is) tt
+form_told = grind (arith, nat_tests)

@@ -1,4 +1,5 @@
 -- A CPU's stream, cut into its batches.
+use Rattle.std.proofs.lemmas.Bool.Decides.{nat_tests}
 use Rattle.std.proofs.Common.{◌≡◌, ℕ, suc, ◌+◌, ◌≤◌, ◌<◌, Bool, true, false, List, [], ◌∷◌, ◌++◌}
 use Rattle.std.proofs.Common.{length, map, reverse, take, drop, get_or, refl, sym, ap, ◌∙◌, subst, append_assoc, arith, if◌then◌else◌}
 use Rattle.std.proofs.lemmas.List.{reverse-append, append-nil, append_cancel_left, take-append-drop, take_all, take_at, drop_at, take_more, map-append, length-append, length-reverse}
@@ -105,13 +106,7 @@ module _ (c : ℕ) (all : List Record) where
   cut_grown : (h : List Deed) (d : Deed) (cut : List ShareOf) (rest : List Record) (count drops more one : ℕ) → IsCut c h all cut rest count drops
       → TellsCounts c (d ∷ h) → seals_now c d ≡ false → more ≡ accepts_now c d → one ≡ (if is_drop c d then 1 else 0)
       → IsCut c (d ∷ h) all cut rest (count + more) (drops + one)
-  cut_grown h d cut rest count drops more one is tells seal adds loses =
-      record {
-        done = rw seal is.done;
-        left = rw seal is.left;
-        counted = rw seal (let long = length-append (accepts c d h) (growing c h).offers in let told = tells.1 in let before = is.counted in omega arith);
-        dropped = rw seal (let before = is.dropped in omega arith);
-      }
+  cut_grown h d cut rest count drops more one is tells seal adds loses = grind (arith, nat_tests, length-append)
 
   -- after one more deed, by which a batch was sealed
   pub sealed_at : (ds : List Deed) (i : ℕ) (d : Deed) (cut new : List ShareOf) (front rest back : List Record) (count drops : ℕ) → all ≡ stream c (reverse ds)
@@ -140,11 +135,7 @@ module _ (c : ℕ) (all : List Record) where
 
   -- a batch that grows has no more records than there are
   growing_within : (h : List Deed) → Begins c h all → length (growing c h).offers ≤ length all
-  growing_within h begins =
-      let whole = ap length begins.1 ∙ length-append (stream c h) begins.0 in
-      let parts = ap length (stream_in_batches c h) ∙ length-append (batch_records (reverse (batches c h))) (reverse (contents (growing c h).offers)) in
-      let long = growing_long h in
-      omega arith
+  growing_within h begins = grind (arith, nat_tests, length-append, stream_in_batches, growing_long)
 
   -- one more deed's records are among them
   pub grown_within : (ds : List Deed) (i : ℕ) (d : Deed) (cut : List ShareOf) (rest : List Record) (count drops more one : ℕ) → TellsCounts c (reverse ds) → all ≡ stream c (reverse ds)
@@ -167,20 +158,12 @@ module _ (c : ℕ) (all : List Record) where
   pub ended_at : (ds : List Deed) (i : ℕ) (cut found : List ShareOf) (rest : List Record) (count drops : ℕ) → all ≡ stream c (reverse ds)
       → IsCut c (reverse (take i ds)) all cut rest count drops → length ds ≤ i → found ≡ cut ++ last_share (record { drops = drops; records = rest })
       → found ≡ shares c (reverse ds)
-  ended_at ds i cut found rest count drops ends is le found_is =
-      let cut_is : IsCut c (reverse ds) all cut rest count drops = subst (λ (xs : List Deed). IsCut c (reverse xs) all cut rest count drops) (take_all i ds le) is in
-      let last = ended (reverse ds) cut rest count drops cut_is ends in
-      found_is ∙ (ap (λ xs. xs ++ last_share (record { drops = drops; records = rest })) cut_is.done ∙ ap (λ s. map share_of (reverse (batches c (reverse ds))) ++ last_share s) last)
+  ended_at ds i cut found rest count drops ends is le found_is = grind (arith, nat_tests, take_all, ended)
 
 -- there are no more drops than deeds
 pub drops_few : (c : ℕ) (h : List Deed) → (growing c h).drops ≤ length h
 drops_few c [] = omega arith
-drops_few c (d ∷ h) = step (seals_now c d) (is_drop c d) refl refl (drops_few c h)
-  where
-    step : (seal drop : Bool) → seals_now c d ≡ seal → is_drop c d ≡ drop → (growing c h).drops ≤ length h → (growing c (d ∷ h)).drops ≤ length (d ∷ h)
-    step true drop e f before = rw e (omega arith)
-    step false true e f before = rw (e, f) (omega arith)
-    step false false e f before = rw (e, f) (omega arith)
+drops_few c (d ∷ h) = grind (arith, nat_tests, drops_few c h)
 
 pub at_most_one : (b : Bool) → (if b then 1 else 0) ≤ 1
 at_most_one true = omega arith

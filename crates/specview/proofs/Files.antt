@@ -1,5 +1,6 @@
 -- Files that come behind others in a folder.
-use Rattle.std.proofs.Common.{◌≡◌, ℕ, ◌+◌, ◌<◌, ◌≤◌, List, [], ◌∷◌, ◌++◌, Option, Some, None, length, map, take, get_or, refl, sym, ap, ◌∙◌, subst, append_assoc, arith}
+use Rattle.std.proofs.lemmas.Bool.Decides.{nat_tests}
+use Rattle.std.proofs.Common.{◌≡◌, ℕ, ◌+◌, ◌<◌, ◌≤◌, List, [], ◌∷◌, ◌++◌, Option, Some, None, length, map, take, get_or, sym, ap, ◌∙◌, subst, append_assoc, arith}
 use Rattle.std.proofs.lemmas.List.{append-nil, take_more, take_all, map-append, length-map, length-take-le}
 use Rattle.specview.specs.Words.{NamedFile, AddsFiles, written_files, cpu_files}
 
@@ -14,13 +15,8 @@ adds_none None = tt
 adds_none (Some olds) = sym (append-nil olds)
 
 files_more : (n : ℕ) (fs : List (List ℕ)) (f : List ℕ) → cpu_files n (fs ++ f ∷ []) ≡ cpu_files n fs ++ written_files (n + length fs) f
-files_more n [] f =
-    let here : n + 0 ≡ n = omega arith in
-    rw here (append-nil (written_files n f))
-files_more n (g ∷ fs) f =
-    let there : n + 1 + length fs ≡ n + length (g ∷ fs) = omega arith in
-    ap (λ l. written_files n g ++ l) (files_more (n + 1) fs f ∙ ap (λ m. cpu_files (n + 1) fs ++ written_files m f) there)
-    ∙ sym (append_assoc (written_files n g) (cpu_files (n + 1) fs) (written_files (n + length (g ∷ fs)) f))
+files_more n [] f = grind (arith, nat_tests, append-nil)
+files_more n (g ∷ fs) f = grind (arith, nat_tests, files_more (n + 1) fs f)
 
 module _ {V : Type 0} (items : V → List ℕ) where
   -- the files so far and one more

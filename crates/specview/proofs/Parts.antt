@@ -1,6 +1,6 @@
 -- The records of a CPU's batches, and what is put around them.
-use Rattle.std.proofs.Common.{◌≡◌, ℕ, ◌+◌, ◌<◌, List, [], ◌∷◌, ◌++◌, length, map, reverse, Some, drop}
-use Rattle.std.proofs.Common.{get_or, refl, sym, ap, ◌∙◌, subst, append_assoc, All, arith, Bool, true, false, ◌==◌, ◌&&◌, if◌then◌else◌}
+use Rattle.std.proofs.lemmas.Bool.Decides.{nat_tests}
+use Rattle.std.proofs.Common.{◌≡◌, ℕ, ◌+◌, ◌<◌, List, [], ◌∷◌, ◌++◌, length, map, reverse, Some, drop, get_or, refl, sym, ap, ◌∙◌, subst, append_assoc, All, arith, Bool, true, false, if◌then◌else◌}
 use Rattle.std.proofs.Common.{◌^◌, suc, add-one, drop-cons}
 use Rattle.std.proofs.lemmas.List.{take_at, drop_at, get_or-map, length-map}
 use Rattle.std.proofs.lemmas.List.Elements.{All-nil, All-cons, All-append, All-take, All-drop, All-get_or}
@@ -34,11 +34,7 @@ module _ (P : Record → Type 0) where
       (batches_all bs (back_all (reverse (contents b.offers)) (batch_records bs) all))
 
   pub last_all : (s : ShareOf) → All P s.records → Within (last_share s)
-  last_all s all = step (s.drops == 0 && length s.records == 0)
-    where
-      step : (b : Bool) → Within (if b then [] else s ∷ [])
-      step true = All-nil (λ (t : ShareOf). All P t.records)
-      step false = All-cons (λ (t : ShareOf). All P t.records) s [] all (All-nil (λ (t : ShareOf). All P t.records))
+  last_all s all = grind (arith, nat_tests, All-nil, All-cons)
 
   -- those of a CPU, where it is true of all that it accepted
   pub shares_all : (c : ℕ) (h : List Deed) → All P (stream c h) → Within (shares c h)
@@ -89,11 +85,7 @@ module _ (e : EnabledRows) (missed : ℕ) (ss : List Share) (i : ℕ) (s : Share
 -- records whose numbers are small have a packet, where memory isn't wanting
 pub memory_alone : (e : EnabledRows) (missed drops : ℕ) (rs : List Record) (f : PacketFault) → missed + drops < 2 ^ 64 → length (events e rs) < 2 ^ 60
     → HasNoRecordPacket e missed drops rs f → f ≡ packet.Memory
-memory_alone e missed drops rs (packet.Text fault) counted short why = absurd why
-memory_alone e missed drops rs packet.Missed counted short why = absurd (omega arith)
-memory_alone e missed drops rs packet.TooLong counted short why = let long = why.1 in absurd (omega arith)
-memory_alone e missed drops rs (packet.Clock place) counted short why = absurd why
-memory_alone e missed drops rs packet.Memory counted short why = refl
+memory_alone = grind (arith, nat_tests)
 
 -- what is said of each batch is said of the one at a place
 pub short_at : (e : EnabledRows) (ss : List Share) (i : ℕ) (s : Share) → HaveShortEvents e (map shown_share ss) → i < length ss → s ≡ get_or ss i s → length (events e s.records.now) < 2 ^ 60

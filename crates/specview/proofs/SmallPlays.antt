@@ -1,16 +1,15 @@
 -- The packets of a play tell small numbers: what was refused and missed is among what a report counts, and each batch comes out of a buffer of a
 -- mebibyte at the most.
-use Rattle.std.proofs.Common.{◌≡◌, ◌≤◌, ◌<◌, ◌+◌, ◌*◌, ◌^◌, ◌==◌, ◌⊎◌, ℕ, zero, suc, Bool, true, false, IsTrue, if◌then◌else◌, ltb, nat_le, List, [], ◌∷◌, ◌++◌, length, reverse}
+use Rattle.std.proofs.lemmas.Bool.Decides.{nat_tests}
+use Rattle.std.proofs.Common.{◌≡◌, ◌≤◌, ◌<◌, ◌*◌, ◌^◌, ◌==◌, ◌⊎◌, ℕ, zero, suc, Bool, true, IsTrue, if◌then◌else◌, ltb, List, [], ◌∷◌, length, reverse}
 use Rattle.std.proofs.Common.{Option, Some, None, refl, sym, ap, ◌∙◌, subst, inl, inr, ⊎_elim, arith, All, length-append}
-use Rattle.std.specs.Option.{option_map_or}
 use Rattle.std.proofs.lemmas.Bool.{leb-true}
 use Rattle.std.proofs.lemmas.List.{reverse-append, reverse-reverse}
 use Rattle.std.proofs.lemmas.List.Elements.{All-nil, All-cons, All-head, All-tail, All-push, All-weaker}
-use Rattle.specview.specs.Words.{Record, EnabledRows, fits, little_endian, layout, width, layout-IsShape, accepted-parts, both, length-little_endian, default_fields, enabled, enabling_of}
-use Rattle.specview.specs.Words.{table_shape, within_limit, one, records, event, event_fields, events, stamp_bytes, values_bytes, Accepts, contents, accepted, batches, stream, is_between, is_size}
-use Rattle.specview.specs.Words.{start_fault, or_else, setup_fault, worn_count, Plan, header_of, IsPlayOf, shapes_of, table_of, ShareOf, HaveShortEvents, TellsSmall, event_rows, greatest_epid}
-use Rattle.specview.specs.Words.{written_shares}
-use Rattle.std.specs.Prelude.{option_and_then, unwrap_or, min, replicate, slice_get, ◌%◌, not}
+use Rattle.specview.specs.Words.{Record, EnabledRows, fits, layout, width, layout-IsShape, both, length-little_endian, default_fields, enabled, written_shares, table_shape, within_limit, one}
+use Rattle.specview.specs.Words.{records, event, events, stamp_bytes, values_bytes, Accepts, contents, accepted, stream, start_fault, or_else, setup_fault, worn_count, Plan, header_of, IsPlayOf}
+use Rattle.specview.specs.Words.{shapes_of, table_of, ShareOf, HaveShortEvents, TellsSmall, event_rows, greatest_epid}
+use Rattle.std.specs.Prelude.{option_and_then, unwrap_or, min, replicate, slice_get, not}
 use Rattle.std.specs.Option.{option_map}
 use Rattle.dspec_record.specs.declared.field.Field.{Field}
 use Rattle.dspec_record.specs.declared.field.Field.TheVariants.{One, Two, Four, Eight}
@@ -53,18 +52,10 @@ pub record HasFields (e : EnabledRows) (r : Record) : Type 0 where
 
 limited : (o : Option (List Field)) (fs : List Field) → option_and_then within_limit o ≡ Some fs → length fs ≤ 8
 limited None fs is = absurd (cc)
-limited (Some gs) fs is = step (nat_le (length gs) 8) refl is
-  where
-    step : (b : Bool) → nat_le (length gs) 8 ≡ b → (if b then Some gs else None) ≡ Some fs → length fs ≤ 8
-    step true few is = let same : gs ≡ fs = cc in subst (λ xs. length xs ≤ 8) same (leb-true (length gs) 8 few)
-    step false few is = absurd (cc)
+limited (Some gs) fs is = grind (arith, nat_tests, leb-true)
 
 pub fields_of : (e : EnabledRows) (r : Record) → Accepts e r → HasFields e r
-fields_of e r ok = step (enabled e.rows r.epid) refl (accepted-parts e.header (enabled e.rows) r ok).values
-  where
-    step : (o : Option (List Field)) → enabled e.rows r.epid ≡ o → IsTrue (option_map_or (λ fs. fits fs r.values) o false) → HasFields e r
-    step None is h = absurd (cc)
-    step (Some fs) is h = record { fields = fs; are = is; few = limited (enabling_of e.rows r.epid) fs is; values = fits-long fs r.values h }
+fields_of e r ok = grind (arith, nat_tests, limited, fits-long)
 
 width_most : (f : Field) → width f ≤ 8
 width_most One = omega arith
@@ -79,23 +70,10 @@ stamp_most header.Two stamp = let long = length-little_endian Eight stamp in ome
 values_most : (fs : List Field) (vs : List ℕ) → length (values_bytes fs vs) ≤ 8 * length vs
 values_most [] vs = omega arith
 values_most (f ∷ fs) [] = omega arith
-values_most (f ∷ fs) (v ∷ vs) =
-    let long = length-append (little_endian (width f) v) (values_bytes fs vs) in
-    let own = length-little_endian f v in
-    let most = width_most f in
-    let before = values_most fs vs in
-    omega arith
+values_most (f ∷ fs) (v ∷ vs) = grind (arith, nat_tests, values_most fs vs, width_most)
 
 event_most : (e : EnabledRows) (r : Record) → length r.values ≤ 8 → length (event e r) ≤ 76
-event_most e r few =
-    let stamp : List ℕ = stamp_bytes e.header r.stamp in
-    let values : List ℕ = values_bytes (event_fields e r.epid) r.values in
-    let epid = length-little_endian Four r.epid in
-    let front = length-append (little_endian 4 r.epid) (stamp ++ values) in
-    let back = length-append stamp values in
-    let short = stamp_most e.header r.stamp in
-    let most = values_most (event_fields e r.epid) r.values in
-    omega arith
+event_most e r few = grind (arith, nat_tests, stamp_most, values_most)
 
 events_small : (e : EnabledRows) (rs : List Record) → All (Accepts e) rs → length (events e rs) ≤ 76 * length rs
 events_small e [] all = omega arith
@@ -137,25 +115,14 @@ plan_room p rss r ok = step p.enablings ok
 
 -- batches that have few records have short events
 short_events : (e : EnabledRows) (n : ℕ) (ss : List ShareOf) → 76 * n < 2 ^ 60 → All (λ s. length s.records ≤ n) ss → Within (Accepts e) ss → HaveShortEvents e ss
-short_events e n [] small few known = All-nil (λ s. length (events e s.records) < 2 ^ 60)
-short_events e n (s ∷ ss) small few known =
-    let own = events_small e s.records (All-head (λ t. All (Accepts e) t.records) s ss known) in
-    let count : length s.records ≤ n = All-head (λ t. length t.records ≤ n) s ss few in
-    All-cons (λ t. length (events e t.records) < 2 ^ 60) s ss (omega arith)
-    (short_events e n ss small (All-tail (λ t. length t.records ≤ n) s ss few) (All-tail (λ t. All (Accepts e) t.records) s ss known))
+short_events = grind (arith, nat_tests, All-nil, events_small, All-head, All-cons, All-tail)
 
 -- a buffer has a mebibyte at the most
 size_tells : (b0 b1 b2 : Bool) (rest : Option StartFault) → (if not b0 then Some Cpus else (if not b1 then Some Specs else (if not b2 then Some BufSize else rest))) ≡ None → b2 ≡ true
-size_tells true true true rest is = refl
-size_tells true true false rest is = absurd (cc (is))
-size_tells true false b2 rest is = absurd (cc (is))
-size_tells false b1 b2 rest is = absurd (cc (is))
+size_tells = grind (arith, nat_tests)
 
 buffer_fits : (k : Config) → start_fault k ≡ None → k.bufsize ≤ 1048576
-buffer_fits k is =
-    let sized = size_tells (is_between 1 64 k.cpus) (is_between 1 63 k.nspec) (is_size k.bufsize) _ is in
-    let between = (and_tells (is_between 8 1048576 k.bufsize) (k.bufsize % 8 == 0) sized).0 in
-    leb-true k.bufsize 1048576 (and_tells (nat_le 8 k.bufsize) (nat_le k.bufsize 1048576) between).1
+buffer_fits k is = grind (arith, nat_tests, size_tells, and_tells, leb-true)
 
 set_up : (o : Option StartFault) (rest : Option PlayFault) → or_else (setup_fault o) rest ≡ None → o ≡ None
 set_up None rest is = refl

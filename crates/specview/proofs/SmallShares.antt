@@ -1,8 +1,8 @@
 -- How many drops and bytes the shares of a CPU's stream have.
+use Rattle.std.proofs.lemmas.Bool.Decides.{nat_tests, eqb_tells}
 use Rattle.std.proofs.Common.{◌≡◌, ◌≤◌, ◌+◌, ◌==◌, ◌&&◌, ◌⊎◌, ℕ, Bool, true, false, if◌then◌else◌, List, [], ◌∷◌, ◌++◌, length, map, reverse}
 use Rattle.std.proofs.Common.{Option, refl, sym, ap, ◌∙◌, subst, inr, ⊎_elim, arith, All, length-append}
 use Rattle.std.proofs.lemmas.Bool.{leb-true}
-use Rattle.std.proofs.lemmas.Bool.Decides.{eqb_tells}
 use Rattle.std.proofs.lemmas.List.{map-append, reverse-append, length-reverse}
 use Rattle.std.proofs.lemmas.List.Elements.{All-nil, All-cons, All-head, All-tail, All-append, All-push, All-map, All-weaker}
 use Rattle.specview.specs.Words.{Record, Piece, one, block, records, reserved, size_of, align_of, extent, extent_of_records, IsAllowed, Offer, contents, accepted, accepts, active, Sealing}
@@ -44,11 +44,7 @@ sealed_drops (b ∷ bs) =
     omega arith
 
 last_drops : (s : ShareOf) → refused_in (last_share s) ≤ s.drops
-last_drops s = step (s.drops == 0 && length s.records == 0)
-  where
-    step : (b : Bool) → refused_in (if b then [] else s ∷ []) ≤ s.drops
-    step true = omega arith
-    step false = omega arith
+last_drops s = grind (arith, nat_tests)
 
 abbrev pub drops : ℕ → List Deed → ℕ
 drops c h = total (λ d. one_if (is_drop c d)) h
@@ -56,28 +52,13 @@ drops c h = total (λ d. one_if (is_drop c d)) h
 -- the batches of a list refuse what it refuses
 batches_drop : (c : ℕ) (h : List Deed) → (growing c h).drops + drops_of (batches c h) ≤ drops c h
 batches_drop c [] = omega arith
-batches_drop c (d ∷ h) = step (seals_now c d) (batches_drop c h)
-  where
-    step : (b : Bool) → (growing c h).drops + drops_of (batches c h) ≤ drops c h
-        → (if b then empty_batch else record { offers = accepts c d h ++ (growing c h).offers; drops = (growing c h).drops + one_if (is_drop c d) }).drops
-        + drops_of (if b then growing c h ∷ batches c h else batches c h) ≤ drops c h + one_if (is_drop c d)
-    step true before = omega arith
-    step false before = omega arith
+batches_drop c (d ∷ h) = grind (arith, nat_tests, batches_drop c h)
 
 shares_drop : (c : ℕ) (h : List Deed) → refused_in (shares c h) ≤ drops c h
-shares_drop c h =
-    let split = refused_in-append (map share_of (reverse (batches c h))) (last_share (share_of (growing c h))) in
-    let sealed = sealed_drops (batches c h) in
-    let last = last_drops (share_of (growing c h)) in
-    let few = batches_drop c h in
-    omega arith
+shares_drop c h = grind (arith, nat_tests, refused_in-append, sealed_drops, last_drops, batches_drop)
 
 pub written_drop : (c : ℕ) (h : List Deed) → refused_in (written_shares c h (drops c h)) ≤ drops c h
-written_drop c h = step (length (stream c h) == 0)
-  where
-    step : (b : Bool) → refused_in (if b then last_share (record { drops = drops c h; records = [] }) else shares c h) ≤ drops c h
-    step true = last_drops (record { drops = drops c h; records = [] })
-    step false = shares_drop c h
+written_drop c h = grind (arith, nat_tests, last_drops, shares_drop)
 
 -- ---- how far records reach
 
@@ -96,21 +77,11 @@ module _ (shape : ℕ → Option Shape) where
 
   records_reach : (rs : List Record) → All TakesRoom rs → length rs ≤ extent_of_records shape rs
   records_reach [] all = omega arith
-  records_reach (r ∷ rs) all =
-      let own : TakesRoom r = All-head TakesRoom r rs all in
-      let some = own.0 in
-      let more = reserved-more (extent_of_records shape rs) (align_of shape r) (size_of shape r) own.1 in
-      let before = records_reach rs (All-tail TakesRoom r rs all) in
-      omega arith
+  records_reach (r ∷ rs) all = grind (arith, nat_tests, records_reach rs (All-tail TakesRoom r rs all), All-head, reserved-more, All-tail)
 
   pieces_reach : (ps : List Piece) → All TakesRoom (records ps) → length (records ps) ≤ extent shape ps
   pieces_reach [] all = omega arith
-  pieces_reach (one r ∷ ps) all =
-      let own : TakesRoom r = All-head TakesRoom r (records ps) all in
-      let some = own.0 in
-      let more = reserved-more (extent shape ps) (align_of shape r) (size_of shape r) own.1 in
-      let before = pieces_reach ps (All-tail TakesRoom r (records ps) all) in
-      omega arith
+  pieces_reach (one r ∷ ps) all = grind (arith, nat_tests, pieces_reach ps (All-tail TakesRoom r (records ps) all), All-head, reserved-more, All-tail)
   pieces_reach (block rs ∷ ps) all =
       let own = records_reach rs (front_all TakesRoom rs (records ps) all) in
       let more = reserved-more (extent shape ps) 8 (extent_of_records shape rs) (inr refl) in

@@ -4,7 +4,7 @@ unfoldable pub use Outside.*
 pub use Rattle.specview.specs.Batches.{last_share, share_of, ShareOf, shares, shown_share, TellsCounts}
 pub use Rattle.specview.specs.Clocks.{IsClockFault}
 pub use Rattle.specview.specs.Faults.{view_of_schedule}
-pub use Rattle.specview.specs.Folders.{AddsFiles, cpu_files, named_file, NamedFile, written_files}
+pub use Rattle.specview.specs.Folders.{AddsFiles, cpu_files, NamedFile, written_files}
 pub use Rattle.specview.specs.Pictures.{IsPictureFault, IsPlayPictureFault}
 pub use Rattle.specview.specs.Stepping.{IsStepsFault}
 pub use Rattle.specview.specs.Traces.{AreFiles, AreStreams, event_rows, greatest_epid, greatest_of, HasUnknown, HaveShortEvents, IsFile, IsFileFault, IsFormFault, IsOfNumbered, IsPlayTraceFault}

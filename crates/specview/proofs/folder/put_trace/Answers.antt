@@ -1,6 +1,4 @@
-use Rattle.std.proofs.Common.{subst, sym, map, codes, string_bytes}
-use Rattle.specview.specs.Words.{AddsFiles, cpu_files, named_file}
-use Rattle.specview.proofs.Files.{adds_more, adds_none, next_file, all_files}
+use Rattle.specview.proofs.Files.{next_file}
 use Rattle.specview.proofs.folder.put_trace.Goals as goal
 
 pub loop-cpu-preserved : goal.loop-cpu-preserved

@@ -1,4 +1,4 @@
-use Rattle.std.proofs.Common.{map, take, ◌++◌}
+use Rattle.std.proofs.Common.{map, take}
 use Rattle.specview.specs.Words.{AddsFiles, cpu_files}
 use Rattle.specview.proofs.folder.put_trace.Given as goal
 
