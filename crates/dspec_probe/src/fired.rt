@@ -84,13 +84,13 @@ impl<F: Fields, H: KnownHeader> Recorded for Fired<F, H> {
     }
 
     #[inline(always)]
-    fn values(&self) -> Option<&[u64]> {
-        None
+    fn stamp(&self) -> u64 {
+        self.stamp
     }
 
     #[inline(always)]
-    fn stamp(&self) -> u64 {
-        self.stamp
+    fn values(&self) -> Option<&[u64]> {
+        None
     }
 
     #[inline(always)]
