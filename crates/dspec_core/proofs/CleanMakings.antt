@@ -1,6 +1,7 @@
 -- How an atomic step of the consumer is put together that changes what is kept of one CPU, and then its own side.
-use Rattle.std.proofs.Common.{◌≡◌, ℕ, List, [], set, Option, None, ap, ◌∙◌}
-use Rattle.dspec_core.specs.Words.{Piece, Machine, changes, stops, PlayState, ConsumerMakes, history, state_of}
+use Rattle.std.proofs.Common.{arith, ◌≡◌, ℕ, List, [], set, Option}
+use Rattle.std.proofs.lemmas.Bool.Decides.{nat_tests}
+use Rattle.dspec_core.specs.Words.{Piece, Machine, changes, stops, ConsumerMakes, history, state_of}
 use Rattle.dspec_deeds.specs.declared.calls.Answer.{Answer}
 use Rattle.dspec_interleaving.specs.declared.flight.CpuProgress.{CpuProgress}
 
@@ -10,9 +11,4 @@ module _ {S B : Type 0} (has : B → S → List Piece → Type 0) (capacity : B 
       → state_of n ≡ record (state_of m) { progresses = set (state_of m).progresses c me } → n.schema ≡ m.schema
       → ConsumerMakes has capacity n left (stops n.config (history n) n.consumer (state_of n).progresses [] last) a
       → ConsumerMakes has capacity m left (changes m.config (history m) m.consumer (state_of m).progresses c me last) a
-  puts_stops m n left c me last a state schema done = record {
-    shown = done.shown;
-    state = done.state ∙ ap (λ (st : PlayState). record st { side = record { flight = None; steps = 0 } }) state;
-    schema = done.schema ∙ schema;
-    answered = done.answered;
-  }
+  puts_stops m n left c me last a state schema done = grind (arith, nat_tests)

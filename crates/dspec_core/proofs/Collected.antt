@@ -1,5 +1,6 @@
 -- What is collected of each CPU at the close.
-use Rattle.std.proofs.Common.{◌≡◌, ℕ, ◌+◌, List, [], ◌∷◌, ◌++◌, map, sym, ap, ◌∙◌, add-one}
+use Rattle.std.proofs.Common.{arith, ◌≡◌, ℕ, ◌+◌, List, [], ◌∷◌, ◌++◌, map, sym, ap, ◌∙◌, add-one}
+use Rattle.std.proofs.lemmas.Bool.Decides.{nat_tests}
 use Rattle.std.proofs.lemmas.List.{map-append}
 use Rattle.dspec_core.specs.Words.{Record, Machine, numbers_below, streams, reports, PlayState, progress_of, history, state_of, stream, report}
 use Rattle.dspec_deeds.specs.declared.deed.Deed.{Deed}
@@ -18,6 +19,4 @@ streams_there m n g xs c state is all = is ∙ (ap (λ a. map (λ a. stream a (h
 pub reports_there : {S B : Type 0} (m n : Machine S B) (g : List Deed) (xs : List Report) (c : ℕ) → state_of n ≡ record (state_of m) { deeds = g }
     → xs ≡ map (λ a. report n.config a (progress_of (state_of n).progresses a).worn (history n)) (numbers_below c) → c ≡ n.config.cpus
     → xs ≡ reports m.config (λ a. (progress_of (state_of m).progresses a).worn) g
-reports_there m n g xs c state is all =
-    is ∙ (ap (λ b. map (λ a. report n.config a (progress_of (state_of n).progresses a).worn (history n)) (numbers_below b)) all
-    ∙ ap (λ (st : PlayState). reports st.config (λ a. (progress_of st.progresses a).worn) st.deeds) state)
+reports_there m n g xs c state is all = grind (arith, nat_tests)

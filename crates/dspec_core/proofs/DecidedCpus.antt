@@ -1,12 +1,12 @@
 -- What a commit or a discard leaves of a CPU, said of both as one.
-use Rattle.std.proofs.Common.{◌≡◌, ℕ, ◌-◌, Bool, true, false, ◌||◌, List, ◌∷◌, ◌++◌, [], reverse, set, if◌then◌else◌, Option, refl, true≢false}
+use Rattle.std.proofs.Common.{arith, ◌≡◌, ℕ, ◌-◌, Bool, true, false, ◌||◌, List, ◌∷◌, ◌++◌, [], reverse, set, if◌then◌else◌, Option, refl}
+use Rattle.std.proofs.lemmas.Bool.Decides.{nat_tests}
 use Rattle.dspec_record.specs.declared.field.Shape.{Shape}
 use Rattle.dspec_core.specs.Words.{Speculation, SlotState, author, halted, is_commit, is_copied, is_discard, is_open, word_at, IsSound, CpuLegal, contents, held, seals_now, stream, IsSlot, Decision}
 use Rattle.dspec_core.specs.Words.{Commit, Discard, decides, deed_of, ShowsWords}
 use Rattle.dspec_deeds.specs.declared.calls.Actor.TheVariants.{Cpu}
 use Rattle.dspec_deeds.specs.declared.config.Config.{Config}
 use Rattle.dspec_deeds.specs.declared.deed.DecideFate.{DecideFate}
-use Rattle.dspec_deeds.specs.declared.deed.DecideFate.TheVariants as decided
 use Rattle.dspec_deeds.specs.declared.deed.Deed.{Deed}
 use Rattle.dspec_deeds.specs.declared.deed.Deed.TheVariants as deed
 use Rattle.dspec_deeds.proofs.WordChanges.{commit_open, discard_open}
@@ -48,11 +48,7 @@ module _ (k : Config) (c : ℕ) (id : Speculation) (f : DecideFate) (h : List De
   undecided_either P Discard commits discards = discards
 
   pub undecided_stream : (x : Decision) → decides x f ≡ false → stream c h ≡ stream c (deed_of x c id f ∷ h)
-  undecided_stream Commit e = go f e
-    where
-      go : (f : DecideFate) → is_commit f ≡ false → stream c h ≡ stream c (deed.Commit c id f ∷ h)
-      go (decided.Copied n) e = absurd (true≢false e)
-      go f e = refl
+  undecided_stream Commit e = grind (arith, nat_tests)
   undecided_stream Discard e = refl
 
   undecided_is : (a b : Bool) → a ≡ false → b ≡ false → (a || b) ≡ false

@@ -1,13 +1,12 @@
 -- What deeds that may come next ask of the entering of one, and the words that deeds leave.
-use Rattle.std.proofs.Common.{◌≡◌, ℕ, ◌≤◌, Bool, true, false, ◌&&◌, List, [], ◌∷◌, Option, None, refl, sym, ap, ◌∙◌, subst, arith}
+use Rattle.std.proofs.lemmas.Bool.Decides.{nat_tests}
+use Rattle.std.proofs.Common.{◌≡◌, ℕ, ◌≤◌, Bool, true, List, [], ◌∷◌, Option, None, refl, sym, ap, ◌∙◌, subst, arith}
 use Rattle.dspec_record.specs.declared.field.Shape.{Shape}
 use Rattle.dspec_word.specs.declared.act.Act.{Act}
 use Rattle.dspec_word.specs.declared.act.Act.TheVariants.{Void, Granted, Attempt, Idle}
-use Rattle.dspec_word.specs.declared.code.Code.TheVariants.{Discarding}
 use Rattle.dspec_core.specs.Words.{Record, Piece, Speculation, SlotState, author, callers, calls, commit_at, in_range, is_among, is_commit, is_open, IsSound, present, progress_of, seals}
 use Rattle.dspec_core.specs.Words.{speculate_at, spoken_granted, start_fault, word_at, OnItsWay, Machine, history, MayEnterOn, state_of, MayCome, MayEnter, deed_passes, Decision, decided_left}
 use Rattle.dspec_core.specs.Words.{decides, deed_of, word_left, One, Entry, entry_deeds}
-use Rattle.dspec_core.specs.declared.machine.decision.Decision.TheVariants as decision
 use Rattle.dspec_deeds.specs.declared.calls.Actor.TheVariants.{Cpu}
 use Rattle.dspec_deeds.specs.declared.config.Config.{Config}
 use Rattle.dspec_deeds.specs.declared.deed.DecideFate.{DecideFate}
@@ -52,11 +51,7 @@ module _ {S B : Type 0} {has : B → S → List Piece → Type 0} {capacity : B 
   few_takes c by = takes_sealed _ _ _ (next.kept.coherent.stands c (told.authors.1 c by)).counts
 
   pub passes : deed_passes (accepted m.schema) e ≡ true
-  passes = go (deed_passes (accepted m.schema) e) told.records
-    where
-      go : (b : Bool) → (b && true) ≡ true → b ≡ true
-      go true p = refl
-      go false p = cc (p)
+  passes = grind (arith, nat_tests, told)
 
 -- the slots of deeds that come next
 module _ (k : Config) (h : List Deed) (fine : start_fault k ≡ None) where
@@ -73,10 +68,7 @@ module _ (k : Config) (h : List Deed) (fine : start_fault k ≡ None) where
 -- a granted record, whether it is kept or not
 as_kept : (k : Config) (c : ℕ) (id : Speculation) (r : Record) (f : SpeculateFate) (h : List Deed) → spoken_granted f ≡ true → IsSound k (Speculate c id r f ∷ h)
     → IsSound k (Speculate c id r spoken.Kept ∷ h) × (word_at id.slot (Speculate c id r spoken.Kept ∷ h) ≡ word_at id.slot (Speculate c id r f ∷ h))
-as_kept k c id r spoken.Kept h e sound = (sound, refl)
-as_kept k c id r spoken.Dropped h e sound = (sound, refl)
-as_kept k c id r spoken.Void h e sound = absurd (cc (e))
-as_kept k c id r spoken.Stopped h e sound = absurd (cc (e))
+as_kept k c id r f h h1 h2 = grind (arith, nat_tests)
 
 module _ (k : Config) (c : ℕ) (h : List Deed) (id : Speculation) (r : Record) (f : SpeculateFate) (fine : start_fault k ≡ None) (granted : spoken_granted f ≡ true)
     (comes : IsSound k (Speculate c id r f ∷ h)) where
@@ -111,6 +103,4 @@ module _ (k : Config) (c : ℕ) (h : List Deed) (id : Speculation) (f : DecideFa
   -- and behind a call that decides
   pub decision_left : (x : Decision) (w : SlotState) (mine : Bool) → decides x f ≡ true → IsSound k (deed_of x c id f ∷ h) → w ≡ word_at id.slot h → mine ≡ is_among c (callers id h)
       → decided_left x w id mine ≡ word_at id.slot (deed_of x c id f ∷ h)
-  decision_left decision.Commit w mine e comes is tells =
-      ap (λ (v : SlotState). word_left v (commit_at v id mine)) is ∙ (ap (λ b. word_left (word_at id.slot h) (commit_at (word_at id.slot h) id b)) tells ∙ committed_left e comes)
-  decision_left decision.Discard w mine e comes is tells = ap (λ (v : SlotState). record { issue = v.issue; code = Discarding }) is ∙ sym (discarded_word k c id f h comes e)
+  decision_left x w mine h1 h2 h3 h4 = grind (arith, nat_tests, committed_left, discarded_word)

@@ -1,5 +1,6 @@
 -- What begins a call and what steps keep a machine that is kept.
-use Rattle.std.proofs.Common.{◌≡◌, ℕ, ◌<◌, Bool, true, List, Option, Some, None, sym, ◌∙◌, subst}
+use Rattle.std.proofs.Common.{arith, ◌≡◌, ℕ, ◌<◌, Bool, true, List, Option, Some, None, sym, ◌∙◌, subst}
+use Rattle.std.proofs.lemmas.Bool.Decides.{nat_tests}
 use Rattle.dspec_record.specs.declared.field.Shape.{Shape}
 use Rattle.dspec_core.specs.Words.{Record, Piece, Machine, consumer_op_of, record_passes, is_about, PlayState, IsCoherent, progress_of, IsShownMachine, Makes, ConsumerMakes, history, state_of}
 use Rattle.dspec_core.specs.Words.{cpu_step, consumer_step, begin_cpu, moved_to, cleaned_to, WorldInvariant, IsWithin}
@@ -33,9 +34,7 @@ module _ {S B : Type 0} (has : B → S → List Piece → Type 0) (capacity : B 
   -- a machine that shows its list and whose state is kept
   pub kept_as : (m : Machine S B) (schema : S) (st : PlayState) → IsShownMachine has capacity m → state_of m ≡ st → m.schema ≡ schema → KeepsState schema st
       → WorldInvariant has capacity shape_of accepted m
-  kept_as m schema st shown state same keeps =
-      let here : KeepsState m.schema (state_of m) = subst (λ s. KeepsState s (state_of m)) (sym same) (subst (KeepsState schema) (sym state) keeps) in
-      record { shown = shown; coherent = here.coherent; accepted_records = here.accepted_records; within = here.within; about = here.about }
+  kept_as m schema st shown state same keeps = grind (arith, nat_tests)
 
   -- a call of a CPU that begins
   pub begin_keeps : (schema : S) (st : PlayState) (c : ℕ) (o : CpuOp) → c < st.config.cpus → (progress_of st.progresses c).flight ≡ None

@@ -1,5 +1,6 @@
 -- What is kept of a CPU shows the list after a deed: the CPU's own, another's, or a release by whomever.
-use Rattle.std.proofs.Common.{[], ◌≡◌, ℕ, ◌<◌, ◌≤◌, ◌^◌, false, List, ◌∷◌, length, reverse, take, refl, sym, ap, ◌∙◌, subst, arith, add-zero}
+use Rattle.std.proofs.lemmas.Bool.Decides.{nat_tests}
+use Rattle.std.proofs.Common.{[], ◌≡◌, ℕ, ◌<◌, ◌≤◌, ◌^◌, false, List, ◌∷◌, length, reverse, take, refl, sym, ap, ◌∙◌, subst, arith}
 use Rattle.std.proofs.lemmas.List.{reverse-append, length-reverse, take-append-le}
 use Rattle.dspec_core.specs.Words.{Record, Piece, Speculation, author, part, same_actor, active, batches, batch_records, contents, growing, seals, seals_now, stream, OwnState, ShowsOwnState}
 use Rattle.dspec_core.specs.Words.{own_side, ReadsApart, counts_of, IsFilledWith, ShowsList, parts_of_side, Cpu, HasRecords, ShowsCpu, first_or_empty}
@@ -41,19 +42,7 @@ counts_alike k c w g h e = ap told_counts (e.reporting w)
 
 -- a slot given out counts nothing
 opened_counts : (k : Config) (c w : ℕ) (a : ℕ) (id : Speculation) (p : List Deed) → counts_of k c w (Opened a id ∷ p) ≡ counts_of k c w p
-opened_counts k c w a id p = let n = counts_of k c w p in λ i. record n {
-  offered = add-zero n.offered i;
-  accepted = add-zero n.accepted i;
-  dropped = add-zero n.dropped i;
-  specdropped = add-zero n.specdropped i;
-  lost = add-zero n.lost i;
-  discarded = add-zero n.discarded i;
-  void = add-zero n.void i;
-  drops = add-zero n.drops i;
-  unavailable = add-zero n.unavailable i;
-  busy = add-zero n.busy i;
-  stopped = add-zero n.stopped i;
-}
+opened_counts k c w a id p = grind (arith, nat_tests)
 
 module _ {B : Type 0} (keeps : B → List Piece → Type 0) (capacity : B → ℕ) (k : Config) (c : ℕ) (side : CpuState B) where
   -- it shows the CPU's own list where it shows the list of all
@@ -76,17 +65,7 @@ module _ {S B : Type 0} (has : B → S → List Piece → Type 0) (capacity : B 
   -- the CPU's own deed, but a Seal: its side shows it, and the stream is that of the longer list
   pub own_deed : (d : Deed) (side : CpuState B) (rs : List Record) → seals_now c d ≡ false → ShowsList (λ b. has b schema) capacity k c (d ∷ h) side
       → side.counts.worn ≡ own.side.counts.worn → rs ≡ stream c (d ∷ h) → ShowsCpu has capacity schema k c (d ∷ h) (record own { side = side; accepted = rs })
-  own_deed d side rs unsealed shows worn accepts =
-      let sealed : batches c (d ∷ h) ≡ batches c h = rw unsealed refl in
-      record {
-        side = shows;
-        worn = worn ∙ was.worn;
-        few_worn = was.few_worn;
-        second = subst (λ bs. HasRecords has capacity schema k.bufsize (contents (first_or_empty bs).offers) own.second) (sym sealed) was.second;
-        accepted = accepts;
-        took = was.took ∙ ap (λ bs. batch_records (take own.progress.takes (reverse bs))) (sym sealed);
-        sealed_drops = was.sealed_drops ∙ ap (λ bs. (first_or_empty bs).drops) (sym sealed);
-      }
+  own_deed d side rs unsealed shows worn accepts = grind (arith, nat_tests)
 
   -- the same where the stream came first
   pub put_side : (mid : Cpu B) (rs : List Record) → mid ≡ record own { accepted = rs } → ShowsList (λ b. has b schema) capacity k c h mid.side
@@ -94,9 +73,7 @@ module _ {S B : Type 0} (has : B → S → List Piece → Type 0) (capacity : B 
 
   pub put_deed : (d : Deed) (mid : Cpu B) (rs : List Record) (side : CpuState B) → mid ≡ record own { accepted = rs } → seals_now c d ≡ false → ShowsList (λ b. has b schema) capacity k c (d ∷ h) side
       → side.counts.worn ≡ mid.side.counts.worn → rs ≡ stream c (d ∷ h) → ShowsCpu has capacity schema k c (d ∷ h) (record mid { side = side })
-  put_deed d mid rs side is unsealed shows worn accepts =
-      subst (λ (x : Cpu B). ShowsCpu has capacity schema k c (d ∷ h) (record x { side = side })) (sym is)
-      (own_deed d side rs unsealed shows (worn ∙ ap (λ (x : Cpu B). x.side.counts.worn) is) accepts)
+  put_deed d mid rs side is unsealed shows worn accepts = grind (arith, nat_tests, own_deed)
 
   -- another's deed
   pub other_deed : (d : Deed) → same_actor (CpuActor c) (author d h) ≡ false → ShowsCpu has capacity schema k c (d ∷ h) own
@@ -112,29 +89,11 @@ module _ {S B : Type 0} (has : B → S → List Piece → Type 0) (capacity : B 
 
   -- a slot given out
   pub opening : (a : ℕ) (id : Speculation) → ShowsCpu has capacity schema k c (Opened a id ∷ h) own
-  opening a id = record {
-    side = quiet_shown (λ b. has b schema) capacity h was.side (Opened a id) refl own.side.calls own.side.missed_busy own.side.drops own.side.counts
-        (was.side.parts.called ∙ sym (add-zero _)) was.side.parts.missed (was.side.parts.drops ∙ sym (add-zero _)) (was.side.counted ∙ sym (opened_counts k c own.side.counts.worn a id h));
-    worn = was.worn;
-    few_worn = was.few_worn;
-    second = was.second;
-    accepted = was.accepted;
-    took = was.took;
-    sealed_drops = was.sealed_drops;
-  }
+  opening a id = grind (arith, nat_tests, quiet_shown, opened_counts)
 
   -- a slot released
   pub releasing : (s : ℕ) → ShowsCpu has capacity schema k c (Release s ∷ h) own
-  releasing s = record {
-    side = quiet_shown (λ b. has b schema) capacity h was.side (Release s) refl own.side.calls own.side.missed_busy own.side.drops own.side.counts
-        (was.side.parts.called ∙ sym (add-zero _)) was.side.parts.missed (was.side.parts.drops ∙ sym (add-zero _)) (was.side.counted ∙ sym (released_counts k c own.side.counts.worn h s));
-    worn = was.worn;
-    few_worn = was.few_worn;
-    second = was.second;
-    accepted = was.accepted;
-    took = was.took;
-    sealed_drops = was.sealed_drops;
-  }
+  releasing s = grind (arith, nat_tests, quiet_shown, released_counts)
 
   -- a batch sealed, of whose CPU no more were taken than were sealed before
   pub sealing : (side : CpuState B) (b : B) (n : ℕ) → ShowsList (λ x. has x schema) capacity k c (Seal c ∷ h) side → side.counts.worn ≡ own.side.counts.worn → b ≡ own.side.active → n ≡ own.side.drops
@@ -158,41 +117,14 @@ module _ {S B : Type 0} (has : B → S → List Piece → Type 0) (capacity : B 
 
   -- whatever its progress is next
   pub calling : (me : CpuProgress) → me.takes ≡ own.progress.takes → me.worn ≡ own.progress.worn → ShowsCpu has capacity schema k c h (record own { progress = me })
-  calling me takes worn = record {
-    side = was.side;
-    worn = was.worn ∙ sym worn;
-    few_worn = subst (λ n. n < 2 ^ 64) (sym worn) was.few_worn;
-    second = was.second;
-    accepted = was.accepted;
-    took = was.took ∙ ap (λ n. batch_records (take n (reverse (batches c h)))) (sym takes);
-    sealed_drops = was.sealed_drops;
-  }
+  calling me takes worn = grind (arith, nat_tests)
 
   -- a batch more was taken
   pub taking : (me : CpuProgress) (rs : List Record) → rs ≡ batch_records (take me.takes (reverse (batches c h))) → me.worn ≡ own.progress.worn
       → ShowsCpu has capacity schema k c h (record own { progress = me; taken = rs })
-  taking me rs took worn = record {
-    side = was.side;
-    worn = was.worn ∙ sym worn;
-    few_worn = subst (λ n. n < 2 ^ 64) (sym worn) was.few_worn;
-    second = was.second;
-    accepted = was.accepted;
-    took = took;
-    sealed_drops = was.sealed_drops;
-  }
+  taking me rs took worn = grind (arith, nat_tests)
 
   -- a step of the CPU, which counts the worn calls in both places
   pub moving : (counts : Counts) (me : CpuProgress) → counts ≡ record own.side.counts { worn = me.worn } → me.takes ≡ own.progress.takes → me.worn < 2 ^ 64
       → ShowsCpu has capacity schema k c h (record own { progress = me; side = record own.side { counts = counts } })
-  moving counts me is takes few =
-      let told : counts.worn ≡ me.worn = ap (λ (x : Counts). x.worn) is in
-      let recounted : counts ≡ counts_of k c counts.worn h = is ∙ (ap (λ (x : Counts). record x { worn = me.worn }) was.side.counted ∙ ap (λ m. counts_of k c m h) (sym told)) in
-      record {
-        side = record { parts = was.side.parts; counted = recounted };
-        worn = told;
-        few_worn = few;
-        second = was.second;
-        accepted = was.accepted;
-        took = was.took ∙ ap (λ m. batch_records (take m (reverse (batches c h)))) (sym takes);
-        sealed_drops = was.sealed_drops;
-      }
+  moving counts me is takes few = grind (arith, nat_tests)

@@ -1,10 +1,11 @@
 -- How an atomic step is put together: what its deeds enter, and then what becomes of its CPU's progress.
-use Rattle.std.proofs.Common.{◌≡◌, ℕ, ◌==◌, true, false, List, set, Option, Some, refl, sym, ap, ◌∙◌, subst, ⊎_elim}
+use Rattle.std.proofs.Common.{arith, ◌≡◌, ℕ, ◌==◌, true, false, List, set, Option, Some, sym, ap, ◌∙◌, subst, ⊎_elim}
+use Rattle.std.proofs.lemmas.Bool.Decides.{nat_tests}
 use Rattle.std.specs.Prelude.{slice_get}
 use Rattle.std.specs.Vec.{with_item}
 use Rattle.std.proofs.lemmas.List.{length-set, map-set}
 use Rattle.std.proofs.lemmas.Option.{slice_get_within}
-use Rattle.dspec_core.specs.Words.{Piece, Machine, Cpu, CpuStep, PlayState, progress_of, ShowsCpu, IsShownMachine, Adds, Makes, history, state_of}
+use Rattle.dspec_core.specs.Words.{Piece, Machine, Cpu, CpuStep, progress_of, ShowsCpu, IsShownMachine, Adds, Makes, history, state_of}
 use Rattle.dspec_deeds.specs.declared.calls.Answer.{Answer}
 use Rattle.dspec_deeds.specs.declared.deed.Deed.{Deed}
 use Rattle.dspec_interleaving.specs.declared.flight.CpuProgress.{CpuProgress}
@@ -53,7 +54,4 @@ module _ {S B : Type 0} (has : B → S → List Piece → Type 0) (capacity : B 
   pub step_made : (m n left : Machine S B) (c : ℕ) (ds : List Deed) (change : CpuProgress → CpuProgress) (moved : CpuStep) (answer : Option Answer) → Adds ds m n → IsShownMachine has capacity left
       → state_of left ≡ record (state_of n) { progresses = set (state_of n).progresses c (change (progress_of (state_of n).progresses c)) } → left.schema ≡ n.schema
       → record { progress = change (progress_of (state_of m).progresses c); deeds = ds; answer = answer } ≡ moved → Makes has capacity m left c moved answer
-  step_made m n left c ds change moved answer adds shown state schema is =
-      let Leaves : PlayState → PlayState = λ st. record st { progresses = set st.progresses c (change (progress_of st.progresses c)) } in
-      subst (λ (x : CpuStep). Makes has capacity m left c x answer) is
-      record { shown = shown; state = state ∙ ap Leaves adds.state; schema = schema ∙ adds.schema; answered = refl }
+  step_made m n left c ds change moved answer adds shown state schema is = grind (arith, nat_tests)

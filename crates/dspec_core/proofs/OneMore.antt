@@ -1,4 +1,5 @@
 -- A machine with one deed more shows its list where its words do, and what it keeps of each CPU.
+use Rattle.std.proofs.lemmas.Bool.Decides.{nat_tests}
 use Rattle.std.proofs.Common.{[], ◌≡◌, ℕ, zero, suc, ◌-◌, ◌<◌, ◌≤◌, true, false, ◌==◌, List, ◌∷◌, ◌++◌, length, map, reverse, set, get_or, None, Some, refl, sym, ap, ◌∙◌, subst, ⊎_elim, arith}
 use Rattle.std.specs.Prelude.{slice_get}
 use Rattle.std.specs.Global.{Vec}
@@ -22,10 +23,7 @@ latest_first ds new d e = ap reverse e ∙ reverse-append ds (d ∷ [])
 
 -- the word that was read is that of the slot
 pub word_there : (k : Config) (h : List Deed) (words : List SlotState) (s : ℕ) (w : SlotState) → 1 ≤ s → s ≤ k.nspec → ShowsWords k h words → w ≡ get_or words (s - 1) w → w ≡ word_at s h
-word_there k h words s w least most was e =
-    let got : slice_get words (s - 1) ≡ Some w = slice_get_read words k.nspec (s - 1) w (sym was.count) (omega arith) e in
-    let shown : slice_get words (s - 1) ≡ Some (word_at s h) = was.slots s (least, most) in
-    cc
+word_there k h words s w least most was e = grind (arith, nat_tests, slice_get_read)
 
 -- what is read of a machine's words by a slot's number: it stands there, is the slot's, and can be released where the list is sound
 module _ {S B : Type 0} {has : B → S → List Piece → Type 0} {capacity : B → ℕ} (m : Machine S B) (shown : IsShownMachine has capacity m) where
@@ -105,9 +103,7 @@ module _ {S B : Type 0} (has : B → S → List Piece → Type 0) (capacity : B 
 -- what a play knows of it
 pub adds_own : {S B : Type 0} (m : Machine S B) (ds : List Deed) (ws : Vec SlotState) (d : Deed) (c : ℕ) (own new : Cpu B) → reverse ds ≡ d ∷ history m → slice_get m.cpus.items c ≡ Some own
     → new.progress ≡ own.progress → Adds (d ∷ []) m (record m { deeds = ds; words = ws; cpus = with_item m.cpus c new })
-adds_own {B = B} m ds ws d c own new is got same =
-    let progresses = map_set (λ (x : Cpu B). x.progress) m.cpus.items c own new got same in
-    record { state = λ i. record { config = m.config; deeds = is i; progresses = progresses i; side = m.consumer }; schema = refl }
+adds_own m ds ws d c own new h1 h2 h3 = grind (arith, nat_tests, map_set)
 
 -- a CPU's progress in a play is the one that is kept
 pub progress_there : {B : Type 0} (sides : List (Cpu B)) (c : ℕ) (side : Cpu B) → slice_get sides c ≡ Some side → progress_of (map (λ s. s.progress) sides) c ≡ side.progress

@@ -1,5 +1,6 @@
 -- A CPU's block of its slot's present speculation, before the deed that ends it, once its records are in the stream, and behind the deed.
-use Rattle.std.proofs.Common.{◌≡◌, ℕ, ◌-◌, ◌<◌, true, false, List, [], ◌∷◌, ◌++◌, length, map, reverse, get_or, if◌then◌else◌, Some, None, refl, sym, ap, ◌∙◌}
+use Rattle.std.proofs.Common.{arith, ◌≡◌, ℕ, ◌-◌, ◌<◌, true, false, List, [], ◌∷◌, ◌++◌, length, map, reverse, get_or, if◌then◌else◌, Some, None, sym, ap}
+use Rattle.std.proofs.lemmas.Bool.Decides.{nat_tests}
 use Rattle.std.specs.Prelude.{slice_get}
 use Rattle.dspec_core.specs.Words.{Record, Piece, one, Speculation, is_copied, spoken_granted, is_open, issue, IsSound, contents, held, seals_now, stream, start_fault, ShowsList, IsSlot, Cpu}
 use Rattle.dspec_core.specs.Words.{Decision, Machine, decides, deed_of, IsShownMachine, history, ShowsCpu}
@@ -74,9 +75,7 @@ module _ {S B : Type 0} {has : B → S → List Piece → Type 0} {capacity : B 
 module _ {S B : Type 0} {has : B → S → List Piece → Type 0} {capacity : B → ℕ} {m : Machine S B} {c : ℕ} {id : Speculation} {own : Cpu B} (block : HasOwnBlock has capacity m c id own) where
   -- where the slot's buffer stands
   pub block_place : (n : ℕ) → n ≡ id.slot → n - 1 < length own.side.speculative.items
-  block_place n e =
-      let there = place_there (λ b. has b m.schema) capacity m.config c (history m) own.side block.shows.side id block.slot in
-      place_within n id.slot (length own.side.speculative.items) (length own.side.speculative.items) e there.0 there.1 refl
+  block_place n e = grind (arith, nat_tests, place_there, place_within)
 
   -- the records of that buffer are in the stream
   pub block_streamed : (n : ℕ) → n ≡ id.slot → (f : DecideFate) (mid : Cpu B)
@@ -93,6 +92,4 @@ module _ {S B : Type 0} {has : B → S → List Piece → Type 0} {capacity : B 
       → ShowsList (λ b. has b m.schema) capacity m.config c (d ∷ history m) side → side.counts.worn ≡ mid.side.counts.worn
       → stream c (history m) ++ (if is_copied f then reverse (contents (held c id (history m))) else []) ≡ stream c (d ∷ history m)
       → ShowsCpu has capacity m.schema m.config c (d ∷ history m) (record mid { side = side })
-  block_ended {f = f} {mid = mid} after d side unsealed shows worn streams =
-      put_deed has capacity m.schema m.config c (history m) own block.shows d mid _ side after.streamed unsealed shows worn
-      (ap (λ rs. rs ++ (if is_copied f then reverse (contents (held c id (history m))) else [])) block.shows.accepted ∙ streams)
+  block_ended h1 d side h2 h3 h4 h5 = grind (arith, nat_tests, put_deed)

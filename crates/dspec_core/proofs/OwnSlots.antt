@@ -1,4 +1,5 @@
 -- What a CPU's side tells of a slot's present speculation: whether the CPU is a caller, and its records.
+use Rattle.std.proofs.lemmas.Bool.Decides.{nat_tests}
 use Rattle.std.proofs.Common.{◌≡◌, ℕ, zero, suc, ◌+◌, ◌-◌, ◌<◌, ◌≤◌, ◌==◌, Bool, true, false, ◌&&◌, ◌||◌, List, []}
 use Rattle.std.proofs.Common.{◌∷◌, ◌++◌, length, map, reverse, if◌then◌else◌, Option, Some, None, refl, sym, ap, ◌∙◌, subst, arith, append-nil, true≢false}
 use Rattle.std.specs.Prelude.{Result, Ok, Err, OnOk, OnErr, slice_get}
@@ -84,30 +85,16 @@ stream_traces c r traced.Stopped h rs e = append-nil rs ∙ e
 -- what was told of a record that was traced is its fate
 pub traced_as : (shape : ℕ → Option Shape) (k : Config) (c : ℕ) (r : Record) (f : TraceFate) (fits : Bool) (h : List Deed) → (f ≡ traced.Stopped → ⊥) → CpuLegal shape k h (Trace c r f)
     → fits ≡ fits_principal shape k c (one r) h → (if fits then traced.Kept else traced.Dropped) ≡ f
-traced_as shape k c r traced.Kept fits h runs row is = let yes : fits ≡ true = is ∙ sym row in rw yes refl
-traced_as shape k c r traced.Dropped fits h runs row is = let no : fits ≡ false = is ∙ sym row in rw no refl
-traced_as shape k c r traced.Stopped fits h runs row is = absurd (runs refl)
+traced_as shape k c r f fits h h1 h2 h3 = grind (arith, nat_tests)
 
 -- and of one that was granted
 pub spoken_as : (shape : ℕ → Option Shape) (k : Config) (c : ℕ) (id : Speculation) (r : Record) (f : SpeculateFate) (fits : Bool) (h : List Deed) → spoken_granted f ≡ true
     → CpuLegal shape k h (Speculate c id r f) → fits ≡ fits_speculative shape k c id r h → (if fits then spoken.Kept else spoken.Dropped) ≡ f
-spoken_as shape k c id r spoken.Kept fits h granted row is = let yes : fits ≡ true = is ∙ sym row in rw yes refl
-spoken_as shape k c id r spoken.Dropped fits h granted row is = let no : fits ≡ false = is ∙ sym row in rw no refl
-spoken_as shape k c id r spoken.Void fits h granted row is = absurd (true≢false (sym granted))
-spoken_as shape k c id r spoken.Stopped fits h granted row is = absurd (true≢false (sym granted))
+spoken_as shape k c id r f fits h h1 h2 h3 = grind (arith, nat_tests)
 
 -- a settlement commits or discards
 pub settles_as : (k : Config) (c : ℕ) (id : Speculation) (f : DecideFate) (h : List Deed) → IsSound k (Settle c id f ∷ h) → (is_commit f || is_discard f) ≡ true
-settles_as k c id f h sound = go (verdict id h) f sound.1.1.1.1
-  where
-    go : (v : Ruling) (f : DecideFate) → SettlesAs v f → (is_commit f || is_discard f) ≡ true
-    go undecided f e = absurd e
-    go (committed a) f e = rw e refl
-    go (discarded a) (decided.Thrown n) e = refl
-    go (discarded a) (decided.Copied n) e = refl
-    go (discarded a) (decided.Lost n) e = refl
-    go (discarded a) decided.Void e = e
-    go (discarded a) decided.Stopped e = e
+settles_as k c id f h sound = grind (arith, nat_tests)
 
 pub settles_on : (f : DecideFate) → (is_commit f || is_discard f) ≡ true → decided_stopped f ≡ false
 settles_on decided.Stopped e = absurd (true≢false (sym e))
@@ -132,9 +119,7 @@ module _ {B : Type 0} (keeps : B → List Piece → Type 0) (capacity : B → �
     (id : Speculation) (slot : IsSlot k id.slot) (lt : c < k.cpus) (sound : IsSound k h) (now : issue id.slot h ≡ id.issue) where
   -- the mark tells whether the CPU is a caller
   pub among_is : (mine : Bool) → ((m : ℕ) → slice_get side.marks (id.slot - 1) ≡ Some m → mine ≡ (m == id.issue + 1)) → mine ≡ is_among c (callers id h)
-  among_is mine tells =
-      tells (mark c id.slot h) (was.parts.marks id.slot slot.0 slot.1)
-      ∙ (ap (λ n. mark c id.slot h == n + 1) (sym now) ∙ (sym (mark_tells k c id.slot h sound).now ∙ ap (λ j. is_among c (callers j h)) (present_is id h now)))
+  among_is mine tells = grind (arith, nat_tests, mark_tells, present_is)
 
   pub caller_is : (mine : Bool) → ((m : ℕ) → slice_get side.marks (id.slot - 1) ≡ Some m → mine ≡ (m == id.issue + 1)) → IsCaller c id mine h
   caller_is mine tells =

@@ -1,15 +1,13 @@
 -- What a player's step finds, and what it leaves of the call in flight.
-use Rattle.std.proofs.Common.{◌≡◌, ℕ, ◌+◌, ◌<◌, Bool, true, false, not, if◌then◌else◌, List, Option, Some, None, refl, sym, subst, ⊎_elim}
+use Rattle.std.proofs.Common.{arith, ◌≡◌, ℕ, ◌+◌, ◌<◌, Bool, true, false, not, if◌then◌else◌, List, Option, Some, None, refl, sym, subst, ⊎_elim}
+use Rattle.std.proofs.lemmas.Bool.Decides.{nat_tests}
 use Rattle.std.specs.Prelude.{Result, Ok, Err, OnOk, is_err}
 use Rattle.dspec_record.specs.declared.field.Shape.{Shape}
 use Rattle.dspec_deeds.specs.declared.calls.Actor.{Actor}
-use Rattle.dspec_deeds.specs.declared.calls.Actor.TheVariants as actor
 use Rattle.dspec_deeds.specs.declared.calls.Answer.{Answer}
-use Rattle.dspec_interleaving.specs.declared.flight.CallPlace.{CallPlace}
-use Rattle.dspec_interleaving.specs.declared.flight.ConsumerFlight.{ConsumerFlight}
 use Rattle.dspec_interleaving.specs.declared.refusal.StepFault.{StepFault}
 use Rattle.dspec_interleaving.specs.declared.refusal.StepFault.TheVariants.{NoSuchActor, IdleStep}
-use Rattle.dspec_core.specs.Words.{is_actor, is_idle, IsCoherent, PlayState, progress_of, step, step_cpu, step_consumer, EndedCall, IsPlayingAt, Playing, stepped}
+use Rattle.dspec_core.specs.Words.{is_actor, is_idle, IsCoherent, PlayState, step, EndedCall, IsPlayingAt, Playing, stepped}
 use Rattle.dspec_interleaving.proofs.PlayerMoves.{RunsOn, runs_on}
 use Rattle.dspec_interleaving.proofs.StepCounts.{Ends, StaysOn, step_ends}
 
@@ -45,16 +43,7 @@ ends_idle shape st now a x ok there busy is told = ⊎_elim
 
 -- no step changes the configuration
 pub step_config : (shape : ℕ → Option Shape) (a : Actor) (st : PlayState) → (step shape a st).state.config ≡ st.config
-step_config shape (actor.Cpu c) st = of_cpu (progress_of st.progresses c).flight
-  where
-    of_cpu : (f : Option CallPlace) → (step_cpu shape c st f).state.config ≡ st.config
-    of_cpu None = refl
-    of_cpu (Some f) = refl
-step_config shape actor.Consumer st = of_consumer st.side.flight
-  where
-    of_consumer : (f : Option ConsumerFlight) → (step_consumer shape st f).state.config ≡ st.config
-    of_consumer None = refl
-    of_consumer (Some f) = refl
+step_config shape a st = grind (arith, nat_tests)
 
 -- one more step of a run
 pub more_runs : {S : Type 0} (shape_of : S → ℕ → Option Shape) (old schema : S) (a : Actor) (total done : ℕ) (st : PlayState) (before : List EndedCall) (now new : PlayState)

@@ -1,11 +1,11 @@
 -- The counts of a CPU have room for its next deed.
-use Rattle.std.proofs.Common.{◌≡◌, ℕ, ◌+◌, ◌-◌, ◌<◌, ◌≤◌, ◌^◌, Bool, true, false, if◌then◌else◌, List, [], ◌∷◌, ◌++◌, length, reverse, Option, None, refl, sym, ap, ◌∙◌, subst, arith, true≢false}
+use Rattle.std.proofs.lemmas.Bool.Decides.{nat_tests}
+use Rattle.std.proofs.Common.{◌≡◌, ℕ, ◌+◌, ◌-◌, ◌<◌, ◌≤◌, ◌^◌, Bool, true, false, if◌then◌else◌, List, [], ◌∷◌, ◌++◌, length, reverse, Option, None, sym, ap, ◌∙◌, subst, arith}
 use Rattle.dspec_record.specs.declared.field.Shape.{Shape}
 use Rattle.dspec_core.specs.Words.{Piece, Speculation, is_lost, IsAllowed, calls, is_drop, start_fault, one_if, report, speculative, total, HasRoom, IsRoomy, counts_of, with_decided, with_fate}
 use Rattle.dspec_core.specs.Words.{ShowsList, Decision, decides, deed_of}
 use Rattle.dspec_deeds.specs.declared.config.Config.{Config}
 use Rattle.dspec_deeds.specs.declared.deed.DecideFate.{DecideFate}
-use Rattle.dspec_deeds.specs.declared.deed.DecideFate.TheVariants as decided
 use Rattle.dspec_deeds.specs.declared.deed.Deed.{Deed}
 use Rattle.dspec_deeds.specs.declared.report.Report.{Report}
 use Rattle.dspec_deeds.proofs.Balance.{balance}
@@ -16,7 +16,6 @@ use Rattle.dspec_cpu_state.specs.declared.cpu_state.CpuState.{CpuState}
 use Rattle.dspec_cpu_state.proofs.Tallies.{commit_counts, discard_counts, drops_since}
 use Rattle.dspec_interleaving.proofs.CleanReads.{calls_fit}
 use Rattle.dspec_interleaving.proofs.Counts.{calls_counted, drops_counted, one_more, seals_counted}
-use Rattle.dspec_core.specs.declared.machine.decision.Decision.TheVariants as decision
 
 -- the report that is told of counts
 abbrev told_of : Counts → Report
@@ -76,16 +75,7 @@ module _ (shape : ℕ → Option Shape) (k : Config) (c : ℕ) where
 
   -- a commit is no discard, and a discard no commit
   pub decided_counts : (x : Decision) (id : Speculation) (f : DecideFate) (w : ℕ) (h : List Deed) → decides x f ≡ true → counts_of k c w (deed_of x c id f ∷ h) ≡ with_decided f (counts_of k c w h)
-  decided_counts decision.Commit id (decided.Copied n) w h e = commit_counts k c w h id (decided.Copied n) refl
-  decided_counts decision.Commit id (decided.Lost n) w h e = commit_counts k c w h id (decided.Lost n) refl
-  decided_counts decision.Commit id (decided.Thrown n) w h e = absurd (true≢false (sym e))
-  decided_counts decision.Commit id decided.Void w h e = absurd (true≢false (sym e))
-  decided_counts decision.Commit id decided.Stopped w h e = absurd (true≢false (sym e))
-  decided_counts decision.Discard id (decided.Thrown n) w h e = discard_counts k c w h id (decided.Thrown n) refl
-  decided_counts decision.Discard id (decided.Copied n) w h e = absurd (true≢false (sym e))
-  decided_counts decision.Discard id (decided.Lost n) w h e = absurd (true≢false (sym e))
-  decided_counts decision.Discard id decided.Void w h e = absurd (true≢false (sym e))
-  decided_counts decision.Discard id decided.Stopped w h e = absurd (true≢false (sym e))
+  decided_counts x id f w h h1 = grind (arith, nat_tests, commit_counts, discard_counts)
 
   module _ {B : Type 0} (keeps : B → List Piece → Type 0) (capacity : B → ℕ) (h : List Deed) (side : CpuState B) (was : ShowsList keeps capacity k c h side) where
     -- a call more fits the numbers of a CPU that has made no more than it may

@@ -1,5 +1,6 @@
 -- What the close makes of a machine, slot by slot.
-use Rattle.std.proofs.Common.{◌≡◌, ◌≢◌, ℕ, ◌+◌, ◌<◌, List, [], ◌∷◌, Option, if◌then◌else◌, refl, sym, ap, ◌∙◌, subst, add-one}
+use Rattle.std.proofs.Common.{arith, ◌≡◌, ◌≢◌, ℕ, ◌+◌, ◌<◌, List, [], ◌∷◌, Option, if◌then◌else◌, refl, sym, ap, ◌∙◌, subst, add-one}
+use Rattle.std.proofs.lemmas.Bool.Decides.{nat_tests}
 use Rattle.std.specs.Prelude.{Result, Ok, Err, OnOk}
 use Rattle.dspec_record.specs.declared.field.Shape.{Shape}
 use Rattle.dspec_core.specs.Words.{Piece, Speculation, settle_at, SlotState, Machine, present, word_at, IsSlot, PlayState, CanClose, is_granted, closed_slot, closed_slots, closed_cpus, IsClosable}
@@ -24,9 +25,7 @@ unless_granted Idle xs ys bare = refl
 module _ {c s : ℕ} {h : List Deed} {w : SlotState} {a : ℕ} (shows : ShowsSlot c s h w a) where
   -- the identifier that the word names
   pub named_present : {n : ℕ} {id : Speculation} → id ≡ record { issue = n; slot = s } → n ≡ w.issue → id ≡ present s h
-  named_present made issued =
-      let named : ℕ → Speculation = λ n. record { issue = n; slot = s } in
-      made ∙ ap named (issued ∙ ap (λ (x : SlotState). x.issue) shows.word)
+  named_present made issued = grind (arith, nat_tests)
 
   module _ (shape : ℕ → Option Shape) (k : Config) {act : Act} (acts : act ≡ settle_at w a) where
     -- what the close enters for a slot that waits
@@ -61,13 +60,7 @@ module _ {S B : Type 0} {has : B → S → List Piece → Type 0} {capacity : B 
   -- a stretch of the close more
   pub closes_further : (step : (ℕ → Option Shape) → Config → List Deed → List Deed) {n left : Machine S B} {g f : List Deed} → ClosesTo has capacity shape_of m n g
       → ClosesTo has capacity shape_of n left (step (shape_of n.schema) n.config (history n)) → f ≡ step (shape_of m.schema) m.config g → ClosesTo has capacity shape_of m left f
-  closes_further step is more e =
-      let with_step : S → PlayState → PlayState = λ x st. record st { deeds = step (shape_of x) st.config st.deeds } in
-      record {
-        closable = more.closable;
-        settled = more.settled ∙ ((λ i. with_step (is.schema i) (is.settled i)) ∙ ap (λ ds. record (state_of m) { deeds = ds }) (sym e));
-        schema = more.schema ∙ is.schema;
-      }
+  closes_further step is more e = grind (arith, nat_tests)
 
   module _ (can : IsClosable has capacity shape_of m) (c s : ℕ) (lt : c < m.config.cpus) (slot : IsSlot m.config s) where
     -- the list once the slot is closed

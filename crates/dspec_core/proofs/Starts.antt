@@ -1,9 +1,10 @@
 -- What a machine shows before its first deed, and how its parts are made one by one.
+use Rattle.std.proofs.lemmas.Bool.Decides.{nat_tests}
 use Rattle.std.proofs.Common.{◌≡◌, ℕ, zero, suc, ◌+◌, ◌-◌, ◌<◌, Bool, false, List, [], ◌∷◌, ◌++◌, length, map, reverse, get_or, Option, Some, None, refl, sym, ap, subst, arith}
 use Rattle.std.specs.Prelude.{slice_get}
 use Rattle.std.proofs.lemmas.Option.{slice_get-get_or}
 use Rattle.dspec_record.specs.declared.field.Shape.{Shape}
-use Rattle.dspec_core.specs.Words.{Record, Piece, SlotState, Machine, Cpu, progress_of, idle_progress, start_fault, idle_cpus, at_start, ShowsCpu, IsShownMachine, history, state_of, IsWithin}
+use Rattle.dspec_core.specs.Words.{Record, Piece, SlotState, Machine, Cpu, progress_of, idle_progress, start_fault, idle_cpus, at_start, ShowsCpu, IsShownMachine, state_of, IsWithin}
 use Rattle.dspec_word.specs.declared.code.Code.TheVariants.{Inactive}
 use Rattle.dspec_deeds.specs.declared.config.Config.{Config}
 use Rattle.dspec_interleaving.proofs.Coherence.{start_coherent}
@@ -93,7 +94,4 @@ module _ {S B : Type 0} (has : B → S → List Piece → Type 0) (capacity : B 
       }
 
   pub state_at_start : (m : Machine S B) → m.deeds ≡ [] → m.consumer ≡ record { flight = None; steps = 0 } → Made (HasBegun m.config) m.config.cpus m.cpus.items → state_of m ≡ at_start m.config
-  state_at_start m none idle cpus =
-      let deeds : history m ≡ [] = ap reverse none in
-      let progresses = progresses_idle m.config.cpus m.cpus.items cpus.count (λ i own got. (cpus.each i own got).1) in
-      λ i. record { config = m.config; deeds = deeds i; progresses = progresses i; side = idle i }
+  state_at_start m none idle cpus = grind (arith, nat_tests, progresses_idle)

@@ -1,12 +1,11 @@
 -- The record of a step's deed is its call's.
-use Rattle.std.proofs.Common.{◌≡◌, ℕ, ◌==◌, Bool, true, false, ◌&&◌, if◌then◌else◌, refl}
-use Rattle.std.specs.Prelude.{nat_lt}
+use Rattle.std.proofs.Common.{arith, ◌≡◌, ℕ, ◌==◌, Bool, true, false, ◌&&◌, if◌then◌else◌, refl}
+use Rattle.std.proofs.lemmas.Bool.Decides.{nat_tests}
 use Rattle.dspec_word.specs.declared.act.Act.{Act}
 use Rattle.dspec_word.specs.declared.act.Act.TheVariants.{Granted, Attempt}
-use Rattle.dspec_core.specs.Words.{Record, in_range, commit_at, discard_at, open_at, settle_at, Speculation, speculate_at, SlotState, call_step, CpuStep, Measured, missed, op_of, record_passes}
-use Rattle.dspec_core.specs.Words.{shown_commit, shown_discard, shown_speculate, spoken_at, asked, deeds_pass, is_alone, is_fill, is_release, popped, shown_scan, shown_service}
+use Rattle.dspec_core.specs.Words.{Record, Speculation, SlotState, call_step, CpuStep, Measured, missed, op_of, record_passes, shown_commit, shown_discard, shown_speculate, spoken_at, asked}
+use Rattle.dspec_core.specs.Words.{deeds_pass, popped, shown_scan, shown_service}
 use Rattle.dspec_deeds.specs.declared.calls.CpuOp.{CpuOp}
-use Rattle.dspec_deeds.specs.declared.calls.CpuOp.TheVariants as cpu_op
 use Rattle.dspec_deeds.specs.declared.calls.Served.{Served}
 use Rattle.dspec_deeds.specs.declared.config.Config.{Config}
 use Rattle.dspec_interleaving.specs.declared.flight.CpuProgress.{CpuProgress}
@@ -63,27 +62,7 @@ module _ (ok : Record → Bool) (k : Config) (c : ℕ) (m : Measured) (me : CpuP
   pops place = refl
 
   begins : (o : CpuOp) → record_passes ok o ≡ true → Pass (call_step k c m me (flight.Begun o))
-  begins (cpu_op.Trace r) p = either m.worn _ _ refl (either m.stopped _ _ (one (ok r) p) (either (m.traces r) _ _ (one (ok r) p) (one (ok r) p)))
-  begins cpu_op.Speculation p = either m.worn _ _ refl (either m.stopped _ _ refl refl)
-  begins (cpu_op.Speculate id r) p = either m.worn _ _ refl (either m.stopped _ _ (one (ok r) p) (either (in_range k id) _ _ refl (one (ok r) p)))
-  begins (cpu_op.Commit id) p = either m.worn _ _ refl (either m.stopped _ _ refl (either (in_range k id) _ _ refl refl))
-  begins (cpu_op.Discard id) p = either m.worn _ _ refl (either m.stopped _ _ refl (either (in_range k id) _ _ refl refl))
-  begins cpu_op.Service p = either (is_fill k.policy) _ _ (services 1 _ (m.word 1) (settle_at (m.word 1) (m.acked 1))) (asks (nat_lt m.seals me.want && nat_lt m.seals k.max_calls) me.spare)
+  begins o h1 = grind (arith, nat_tests, either, one, services, asks)
 
   pub step_records : (f : CallPlace) → record_passes ok (op_of f) ≡ true → deeds_pass ok (call_step k c m me f).deeds ≡ true
-  step_records (flight.Begun o) p = begins o p
-  step_records (flight.ScanLoad s) p = scans s (m.word s) (open_at (m.word s) k.max_issues)
-  step_records (flight.ScanTry s from) p = either (m.hits s from) _ _ refl (misses s (m.word s))
-  step_records (flight.SpeculateLoad id r) p = shows id r (m.word id.slot) (speculate_at (m.word id.slot) id (m.mine id)) p
-  step_records (flight.SpeculateTry id r from) p = either (m.hits id.slot from) _ _ (speaks id r p) (shows id r (m.word id.slot) (speculate_at (m.word id.slot) id (m.mine id)) p)
-  step_records (flight.CommitLoad id) p = commits id (m.word id.slot) (commit_at (m.word id.slot) id (m.mine id))
-  step_records (flight.CommitTry id from) p = either (m.hits id.slot from) _ _ (either (is_alone (commit_at from id (m.mine id))) _ _ refl refl)
-      (commits id (m.word id.slot) (commit_at (m.word id.slot) id (m.mine id)))
-  step_records (flight.CommitRelease id f) p = refl
-  step_records (flight.DiscardLoad id) p = discards id (m.word id.slot) (discard_at (m.word id.slot) id (m.mine id))
-  step_records (flight.DiscardTry id from) p = either (m.hits id.slot from) _ _ (either (is_release (discard_at from id (m.mine id))) _ _ refl refl)
-      (discards id (m.word id.slot) (discard_at (m.word id.slot) id (m.mine id)))
-  step_records flight.ServicePop p = pops me.spare
-  step_records flight.ServicePush p = refl
-  step_records (flight.ServiceLoad s sum) p = services s sum (m.word s) (settle_at (m.word s) (m.acked s))
-  step_records (flight.ServiceStore s w sum) p = either (s == k.nspec) _ _ refl refl
+  step_records f h1 = grind (arith, nat_tests, begins, scans, either, misses, shows, speaks, commits, discards, pops, services)

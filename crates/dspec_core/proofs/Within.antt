@@ -1,5 +1,5 @@
 -- A step leaves each CPU within the most calls that it may make.
-use Rattle.std.proofs.Common.{◌≡◌, ℕ, ◌+◌, ◌<◌, ◌≤◌, Bool, true, false, ◌&&◌, List, [], ◌∷◌, ◌++◌, set, if◌then◌else◌, Option, Some, None, refl, sym, ap, ◌∙◌, subst, ⊎_elim, arith}
+use Rattle.std.proofs.Common.{◌≡◌, ℕ, ◌+◌, ◌<◌, ◌≤◌, true, false, ◌&&◌, List, [], ◌∷◌, ◌++◌, set, if◌then◌else◌, Option, Some, None, refl, sym, ap, ◌∙◌, subst, ⊎_elim, arith}
 use Rattle.std.specs.Prelude.{nat_le}
 use Rattle.std.proofs.lemmas.Bool.Decides.{nat_tests}
 use Rattle.dspec_record.specs.declared.field.Shape.{Shape}
@@ -11,13 +11,12 @@ use Rattle.dspec_deeds.specs.declared.calls.Op.TheVariants as op
 use Rattle.dspec_deeds.specs.declared.config.Config.{Config}
 use Rattle.dspec_deeds.specs.declared.deed.Deed.{Deed}
 use Rattle.dspec_core.specs.Words.{author, same_actor, calls, op_of, IsCoherent, PlayState, StandsState, progress_of, CpuStep, ConsumerStep, cpu_step, consumer_step, is_counted, is_first}
-use Rattle.dspec_core.specs.Words.{is_told_worn, enters_call, is_due, IsWithin}
+use Rattle.dspec_core.specs.Words.{is_told_worn, is_due, IsWithin}
 use Rattle.dspec_deeds.proofs.Going.{AllBy}
 use Rattle.dspec_deeds.proofs.StayingOwn.{calls_other}
-use Rattle.dspec_deeds.proofs.TestLemmas.{either_way, same_actor_tells}
+use Rattle.dspec_deeds.proofs.TestLemmas.{same_actor_tells}
 use Rattle.dspec_interleaving.specs.declared.flight.CpuProgress.{CpuProgress}
 use Rattle.dspec_interleaving.specs.declared.flight.CallPlace.{CallPlace}
-use Rattle.dspec_interleaving.specs.declared.flight.CallPlace.TheVariants as cpu
 use Rattle.dspec_interleaving.specs.declared.flight.ConsumerFlight.{ConsumerFlight}
 use Rattle.dspec_interleaving.proofs.ConsumerSteps.{consumer_keeps}
 use Rattle.dspec_interleaving.proofs.CpuSteps.{cpu_step_stands}
@@ -32,46 +31,16 @@ abbrev spent : Option CallPlace → ℕ
 spent x = ahead x + (if is_due x then 1 else 0)
 
 spent_once : (x : CallPlace) → spent (Some x) ≤ 1
-spent_once (cpu.Begun o) = omega arith
-spent_once (cpu.ScanLoad s) = omega arith
-spent_once (cpu.ScanTry s w) = omega arith
-spent_once (cpu.SpeculateLoad id r) = omega arith
-spent_once (cpu.SpeculateTry id r w) = omega arith
-spent_once (cpu.CommitLoad id) = omega arith
-spent_once (cpu.CommitTry id w) = omega arith
-spent_once (cpu.CommitRelease id f) = omega arith
-spent_once (cpu.DiscardLoad id) = omega arith
-spent_once (cpu.DiscardTry id w) = omega arith
-spent_once cpu.ServicePop = omega arith
-spent_once cpu.ServicePush = omega arith
-spent_once (cpu.ServiceLoad s sum) = omega arith
-spent_once (cpu.ServiceStore s w sum) = omega arith
+spent_once x = grind (arith, nat_tests)
 
 -- a call that doesn't count has none
 spent_never : (x : CallPlace) → is_counted (op.Cpu (op_of x)) ≡ false → spent (Some x) ≡ 0
-spent_never (cpu.Begun o) e = refl
-spent_never (cpu.ScanLoad s) e = absurd (cc (e))
-spent_never (cpu.ScanTry s w) e = absurd (cc (e))
-spent_never (cpu.SpeculateLoad id r) e = absurd (cc (e))
-spent_never (cpu.SpeculateTry id r w) e = absurd (cc (e))
-spent_never (cpu.CommitLoad id) e = absurd (cc (e))
-spent_never (cpu.CommitTry id w) e = absurd (cc (e))
-spent_never (cpu.CommitRelease id f) e = absurd (cc (e))
-spent_never (cpu.DiscardLoad id) e = absurd (cc (e))
-spent_never (cpu.DiscardTry id w) e = absurd (cc (e))
-spent_never cpu.ServicePop e = refl
-spent_never cpu.ServicePush e = refl
-spent_never (cpu.ServiceLoad s sum) e = refl
-spent_never (cpu.ServiceStore s w sum) e = refl
+spent_never x h1 = grind (arith, nat_tests)
 
 -- one at the most, and none of a call that doesn't count, or was worn
 enters_one : (o : CpuOp) (a : Option Answer) → enters (op.Cpu o) a ≤ 1
 enters_one o None = omega arith
-enters_one o (Some a) = go (enters_call (op.Cpu o) a)
-  where
-    go : (b : Bool) → (if b then 1 else 0) ≤ 1
-    go true = omega arith
-    go false = omega arith
+enters_one o (Some a) = grind (arith, nat_tests)
 
 enters_never : (o : CpuOp) (a : Option Answer) → is_counted (op.Cpu o) ≡ false → enters (op.Cpu o) a ≡ 0
 enters_never o None e = refl
@@ -79,39 +48,12 @@ enters_never o (Some a) e = rw e refl
 
 enters_unworn : (o : CpuOp) (a : Option Answer) → is_told_worn a ≡ true → enters (op.Cpu o) a ≡ 0
 enters_unworn o None e = refl
-enters_unworn o (Some a) e = rw e (go (is_counted (op.Cpu o)))
-  where
-    go : (b : Bool) → ◌≡◌ {A = ℕ} (if b && false then 1 else 0) 0
-    go true = refl
-    go false = refl
+enters_unworn o (Some a) e = grind (arith, nat_tests)
 
 -- a call that counts and isn't worn at its first step leaves room for one deed that counts, which it enters once
 room : (k : Config) (c : ℕ) (h : List Deed) (f : CallPlace) (a : Option Answer) (e : ℕ) → IsWithin k c h (Some f) → is_told_worn a ≡ (is_first (Some f) && nat_le k.max_calls (calls c h))
     → e ≤ 1 → (is_counted (op.Cpu (op_of f)) ≡ false → e ≡ 0) → (is_told_worn a ≡ true → e ≡ 0) → calls c h + e ≤ k.max_calls + ahead (Some f)
-room k c h (cpu.Begun o) a e was told few uncounted unworn = ⊎_elim
-    (λ (t : is_counted (op.Cpu o) ≡ true). ⊎_elim
-    (λ (full : nat_le k.max_calls (calls c h) ≡ true).
-    let none = unworn (told ∙ (ap (λ b. b && nat_le k.max_calls (calls c h)) t ∙ full)) in
-    omega arith)
-    (λ (left : nat_le k.max_calls (calls c h) ≡ false).
-    let less : calls c h < k.max_calls = grind (arith, nat_tests) in
-    omega arith)
-    (either_way (nat_le k.max_calls (calls c h))))
-    (λ (t : is_counted (op.Cpu o) ≡ false). let none = uncounted t in omega arith)
-    (either_way (is_counted (op.Cpu o)))
-room k c h (cpu.ScanLoad s) a e was told few uncounted unworn = omega arith
-room k c h (cpu.ScanTry s w) a e was told few uncounted unworn = omega arith
-room k c h (cpu.SpeculateLoad id r) a e was told few uncounted unworn = omega arith
-room k c h (cpu.SpeculateTry id r w) a e was told few uncounted unworn = omega arith
-room k c h (cpu.CommitLoad id) a e was told few uncounted unworn = omega arith
-room k c h (cpu.CommitTry id w) a e was told few uncounted unworn = omega arith
-room k c h (cpu.CommitRelease id f) a e was told few uncounted unworn = omega arith
-room k c h (cpu.DiscardLoad id) a e was told few uncounted unworn = omega arith
-room k c h (cpu.DiscardTry id w) a e was told few uncounted unworn = omega arith
-room k c h cpu.ServicePop a e was told few uncounted unworn = let none = uncounted refl in omega arith
-room k c h cpu.ServicePush a e was told few uncounted unworn = let none = uncounted refl in omega arith
-room k c h (cpu.ServiceLoad s sum) a e was told few uncounted unworn = let none = uncounted refl in omega arith
-room k c h (cpu.ServiceStore s w sum) a e was told few uncounted unworn = let none = uncounted refl in omega arith
+room k c h f a e h1 h2 h3 h4 h5 = grind (arith, nat_tests)
 
 -- the CPU whose step it is
 step_within : (shape : ℕ → Option Shape) (k : Config) (c : ℕ) (h : List Deed) (me : CpuProgress) (f : CallPlace) → IsWithin k c h (Some f)

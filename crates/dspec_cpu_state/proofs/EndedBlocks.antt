@@ -32,11 +32,7 @@ module _ {B : Type 0} (keeps : B → List Piece → Type 0) (capacity : B → �
   have = contents (held c id p)
 
   pub mine_held : (if mine then have else []) ≡ have
-  mine_held = go mine (λ f. ap contents (caller.empty f))
-    where
-      go : (m : Bool) → (m ≡ false → have ≡ []) → (if m then have else []) ≡ have
-      go true e = refl
-      go false e = sym (e refl)
+  mine_held = grind (arith, nat_tests)
 
   pub inside : id.slot ≤ k.nspec
   inside = let count = was.parts.buffer_count in omega arith

@@ -34,13 +34,7 @@ module _ {B : Type 0} (keeps : B → List Piece → Type 0) (capacity : B → �
   last = map extent.one (contents (held c (last_called c id.slot p) p))
 
   pub pieces : (if mine then last else []) ≡ map extent.one have
-  pieces = ⊎_elim
-      (λ (t : mine ≡ true).
-      ap (λ b. if b then last else []) t
-      ∙ ap (λ j. map extent.one (contents (held c j p))) (last_is c id p (same_number (mark c id.slot p) (id.issue + 1) (sym caller.marked ∙ t))))
-      (λ (f : mine ≡ false).
-      ap (λ b. if b then last else []) f ∙ ap (λ l. map extent.one (contents l)) (sym (caller.empty f)))
-      (either_way mine)
+  pieces = grind (arith, nat_tests, last_is, same_number)
 
   -- what the buffer answered, and what became of it
   abbrev pub IsGranted : Bool → Vec B → Type 0
@@ -55,11 +49,7 @@ module _ {B : Type 0} (keeps : B → List Piece → Type 0) (capacity : B → �
 
   -- it answered by what the list tells
   pub as_granted : (kept : Bool) (new : Vec B) → IsGranted kept new → kept ≡ fits_speculative shape k c id r p
-  as_granted kept new told =
-      let b0 = get_or side.speculative.items (id.slot - 1) side.active in
-      let shows = was.parts.speculative id.slot b0 low inside at in
-      let answered : kept ≡ piece_fits shape (if mine then last else []) (extent.one r) (capacity b0) = ((told b0 at).3 last shows.has).0 in
-      answered ∙ ((λ i. piece_fits shape (pieces i) (extent.one r) (capacity b0)) ∙ ap (piece_fits shape (map extent.one have) (extent.one r)) shows.sized)
+  as_granted kept new told = grind (arith, nat_tests, inside, at, pieces)
 
   module _ (kept : Bool) (f : SpeculateFate) (is_granted : spoken_granted f ≡ true) (is_kept : spoken_kept f ≡ kept) where
     abbrev deed : Deed

@@ -1,12 +1,10 @@
 -- A deed that touches neither a buffer nor a mark, an acknowledgement or a batch of its CPU.
-use Rattle.std.proofs.Common.{◌≡◌, ℕ, ◌+◌, ◌-◌, Bool, true, false, not, List, ◌∷◌, map, Some, refl, sym, ap, ◌∙◌, subst, true≢false, add-zero}
+use Rattle.std.proofs.Common.{arith, ◌≡◌, ℕ, ◌+◌, ◌-◌, Bool, true, false, not, List, ◌∷◌, map, Some, sym, ap, ◌∙◌, subst, true≢false, add-zero}
+use Rattle.std.proofs.lemmas.Bool.Decides.{nat_tests}
 use Rattle.dspec_buffer.specs.Extent as extent
 use Rattle.dspec_cpu_state.specs.Words.{Piece, Speculation, trace_kept, spoken_granted, is_commit, is_discard, ack, mark, active, contents, dropped_in, growing, held, seals, calls, last_called}
 use Rattle.dspec_cpu_state.specs.Words.{missed_busy, Counts, counts_of, CpuState, IsFilledWith, ShowsList}
 use Rattle.dspec_deeds.specs.declared.config.Config.{Config}
-use Rattle.dspec_deeds.specs.declared.deed.TraceFate.TheVariants as traced
-use Rattle.dspec_deeds.specs.declared.deed.SpeculateFate.TheVariants as spoken
-use Rattle.dspec_deeds.specs.declared.deed.DecideFate.TheVariants as decided
 use Rattle.dspec_deeds.specs.declared.deed.Deed.{Deed}
 use Rattle.dspec_deeds.specs.declared.deed.Deed.TheVariants.{Trace, Speculate, Commit, Discard, Settle, Seal}
 
@@ -34,15 +32,7 @@ still : (c : ℕ) (p : List Deed) → seals c p + 0 ≡ seals c p
 still c p = add-zero (seals c p)
 
 pub leaves : (c : ℕ) (d : Deed) (p : List Deed) → quiet d ≡ true → Leaves c d p
-leaves c (Trace a r traced.Kept) p e = no e
-leaves c (Speculate a id r spoken.Kept) p e = no e
-leaves c (Speculate a id r spoken.Dropped) p e = no e
-leaves c (Commit a id (decided.Copied n)) p e = no e
-leaves c (Commit a id (decided.Lost n)) p e = no e
-leaves c (Discard a id (decided.Thrown n)) p e = no e
-leaves c (Settle a id f) p e = no e
-leaves c (Seal a) p e = no e
-leaves c d p e = record { marks = λ s. refl; acks = λ s. refl; holds = λ id. refl; drops = λ id. refl; principal = refl; sealing = still c p }
+leaves c d p h1 = grind (arith, nat_tests, no, still)
 
 module _ {B : Type 0} (keeps : B → List Piece → Type 0) (capacity : B → ℕ) {k : Config} {c : ℕ} {side : CpuState B} (p : List Deed) (was : ShowsList keeps capacity k c p side) where
   -- what shows the list shows it with such a deed in front, once numbers and counts are those of the longer list

@@ -1,10 +1,9 @@
 -- What an offer to a speculation, a decision, a settlement and a release add to the counts; how drops are counted.
-use Rattle.std.proofs.Common.{◌≡◌, ℕ, ◌+◌, ◌≤◌, Bool, true, false, List, [], ◌∷◌, ◌++◌, if◌then◌else◌, arith, refl, add-zero, true≢false}
-use Rattle.dspec_cpu_state.specs.Words.{Record, Speculation, is_commit, is_discard, decided_stopped, empty_batch, growing, is_drop, seals_now, accepts, total, one_if, Counts, counts_of}
-use Rattle.dspec_cpu_state.specs.Words.{with_decided, with_spoken}
+use Rattle.std.proofs.lemmas.Bool.Decides.{nat_tests}
+use Rattle.std.proofs.Common.{◌≡◌, ℕ, ◌≤◌, false, List, [], ◌∷◌, arith, refl, add-zero}
+use Rattle.dspec_cpu_state.specs.Words.{Record, Speculation, is_commit, is_discard, decided_stopped, growing, is_drop, total, one_if, Counts, counts_of, with_decided, with_spoken}
 use Rattle.dspec_deeds.specs.declared.config.Config.{Config}
 use Rattle.dspec_deeds.specs.declared.deed.DecideFate.{DecideFate}
-use Rattle.dspec_deeds.specs.declared.deed.DecideFate.TheVariants as decided
 use Rattle.dspec_deeds.specs.declared.deed.SpeculateFate.{SpeculateFate}
 use Rattle.dspec_deeds.specs.declared.deed.SpeculateFate.TheVariants as spoken
 use Rattle.dspec_deeds.specs.declared.deed.Deed.{Deed}
@@ -14,20 +13,7 @@ use Rattle.dspec_deeds.proofs.TestLemmas.{number_is_itself}
 -- counts are the same, number by number
 pub same_counts : {n m : Counts} → n.offered ≡ m.offered → n.accepted ≡ m.accepted → n.dropped ≡ m.dropped → n.specdropped ≡ m.specdropped → n.lost ≡ m.lost → n.discarded ≡ m.discarded
     → n.void ≡ m.void → n.drops ≡ m.drops → n.unavailable ≡ m.unavailable → n.busy ≡ m.busy → n.stopped ≡ m.stopped → n.worn ≡ m.worn → n ≡ m
-same_counts offered accepted dropped specdropped lost discarded void drops unavailable busy stopped worn = λ i. record {
-  offered = offered i;
-  accepted = accepted i;
-  dropped = dropped i;
-  specdropped = specdropped i;
-  lost = lost i;
-  discarded = discarded i;
-  void = void i;
-  drops = drops i;
-  unavailable = unavailable i;
-  busy = busy i;
-  stopped = stopped i;
-  worn = worn i;
-}
+same_counts offered accepted dropped specdropped lost discarded void drops unavailable busy stopped worn = grind (arith, nat_tests)
 
 module _ (k : Config) (c w : ℕ) (p : List Deed) where
   abbrev n : Counts
@@ -35,22 +21,15 @@ module _ (k : Config) (c w : ℕ) (p : List Deed) where
 
   -- a commit is never thrown
   pub commit_counts : (id : Speculation) (f : DecideFate) → is_discard f ≡ false → counts_of k c w (Commit c id f ∷ p) ≡ with_decided f n
-  commit_counts id (decided.Thrown m) lawful = absurd (true≢false lawful)
-  commit_counts id decided.Void lawful = same_counts (add-zero _) refl (add-zero _) (add-zero _) refl refl (add-zero _) refl (add-zero _) (add-zero _) refl refl
-  commit_counts id f lawful = rw (number_is_itself c) (same_counts (add-zero _) refl (add-zero _) (add-zero _) refl refl (add-zero _) refl (add-zero _) (add-zero _) refl refl)
+  commit_counts id f h1 = grind (arith, nat_tests, same_counts, number_is_itself)
 
   -- and a discard never a commit
   pub discard_counts : (id : Speculation) (f : DecideFate) → is_commit f ≡ false → counts_of k c w (Discard c id f ∷ p) ≡ with_decided f n
-  discard_counts id (decided.Copied m) lawful = absurd (true≢false lawful)
-  discard_counts id (decided.Lost m) lawful = absurd (true≢false lawful)
-  discard_counts id decided.Void lawful = same_counts (add-zero _) refl (add-zero _) (add-zero _) refl refl (add-zero _) refl (add-zero _) (add-zero _) refl refl
-  discard_counts id f lawful = rw (number_is_itself c) (same_counts (add-zero _) refl (add-zero _) (add-zero _) refl refl (add-zero _) refl (add-zero _) (add-zero _) refl refl)
+  discard_counts id f h1 = grind (arith, nat_tests, same_counts, number_is_itself)
 
   -- a settlement is never stopped
   pub settle_counts : (id : Speculation) (f : DecideFate) → decided_stopped f ≡ false → counts_of k c w (Settle c id f ∷ p) ≡ with_decided f n
-  settle_counts id decided.Stopped lawful = absurd (true≢false lawful)
-  settle_counts id decided.Void lawful = same_counts (add-zero _) refl (add-zero _) (add-zero _) refl refl (add-zero _) refl (add-zero _) (add-zero _) refl refl
-  settle_counts id f lawful = rw (number_is_itself c) (same_counts (add-zero _) refl (add-zero _) (add-zero _) refl refl (add-zero _) refl (add-zero _) (add-zero _) refl refl)
+  settle_counts id f h1 = grind (arith, nat_tests, same_counts, number_is_itself)
 
   -- an offer to a speculation
   pub spoken_counts : (id : Speculation) (r : Record) (f : SpeculateFate) → counts_of k c w (Speculate c id r f ∷ p) ≡ with_spoken f n
@@ -64,10 +43,4 @@ module _ (k : Config) (c w : ℕ) (p : List Deed) where
 -- the drops since the last Seal are among all drops
 pub drops_since : (c : ℕ) (p : List Deed) → (growing c p).drops ≤ total (λ d. one_if (is_drop c d)) p
 drops_since c [] = omega arith
-drops_since c (d ∷ p) = go (seals_now c d) (drops_since c p)
-  where
-    go : (b : Bool) → (growing c p).drops ≤ total (λ d. one_if (is_drop c d)) p
-        → (if b then empty_batch else record { offers = accepts c d p ++ (growing c p).offers; drops = (growing c p).drops + (if is_drop c d then 1 else 0) }).drops ≤ total
-        (λ d. one_if (is_drop c d)) p + one_if (is_drop c d)
-    go true le = omega arith
-    go false le = omega arith
+drops_since c (d ∷ p) = grind (arith, nat_tests, drops_since c p)

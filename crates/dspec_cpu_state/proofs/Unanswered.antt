@@ -1,5 +1,6 @@
 -- A call that decided nothing, and a record that was granted nothing.
-use Rattle.std.proofs.Common.{◌≡◌, ℕ, ◌+◌, ◌||◌, false, List, ◌∷◌, refl, sym, ap, ◌∙◌, add-zero, true≢false}
+use Rattle.std.proofs.Common.{arith, ◌≡◌, ℕ, ◌+◌, ◌||◌, false, List, ◌∷◌, true≢false}
+use Rattle.std.proofs.lemmas.Bool.Decides.{nat_tests}
 use Rattle.dspec_cpu_state.specs.Words.{Record, Piece, Speculation, is_commit, is_discard, spoken_granted, Counts, CpuState, counts_of, with_decided, with_spoken, ShowsList}
 use Rattle.dspec_deeds.specs.declared.config.Config.{Config}
 use Rattle.dspec_deeds.specs.declared.deed.DecideFate.{DecideFate}
@@ -16,32 +17,24 @@ module _ {B : Type 0} (keeps : B → List Piece → Type 0) (capacity : B → �
     (id : Speculation) (now : Counts) where
   counted : (deed : Deed) → (x : Counts → Counts) → ((n : Counts) → (x n).worn ≡ n.worn) → now ≡ x side.counts
       → counts_of k c side.counts.worn (deed ∷ p) ≡ x (counts_of k c side.counts.worn p) → now ≡ counts_of k c now.worn (deed ∷ p)
-  counted deed x worn plus adds =
-      let same : now.worn ≡ side.counts.worn = ap (λ (n : Counts). n.worn) plus ∙ worn side.counts in
-      plus ∙ (ap x was.counted ∙ (sym adds ∙ ap (λ n. counts_of k c n (deed ∷ p)) (sym same)))
+  counted deed x worn plus adds = grind (arith, nat_tests)
 
   pub commit_left : (f : DecideFate) → (is_commit f || is_discard f) ≡ false → now ≡ with_decided f side.counts
       → ShowsList keeps capacity k c (Commit c id f ∷ p) (record side { calls = side.calls + 1; counts = now })
   commit_left (decided.Copied n) e plus = absurd (true≢false e)
   commit_left (decided.Lost n) e plus = absurd (true≢false e)
   commit_left (decided.Thrown n) e plus = absurd (true≢false e)
-  commit_left f e plus = quiet_shown keeps capacity p was (Commit c id f) refl (side.calls + 1) side.missed_busy side.drops now
-      (ap (λ n. n + 1) was.parts.called ∙ one_call c _) was.parts.missed (was.parts.drops ∙ sym (add-zero _))
-      (counted (Commit c id f) (with_decided f) (λ n. refl) plus (commit_counts k c side.counts.worn p id f refl))
+  commit_left f e plus = grind (arith, nat_tests, quiet_shown, one_call, counted, commit_counts)
 
   pub discard_left : (f : DecideFate) → (is_commit f || is_discard f) ≡ false → now ≡ with_decided f side.counts
       → ShowsList keeps capacity k c (Discard c id f ∷ p) (record side { calls = side.calls + 1; counts = now })
   discard_left (decided.Copied n) e plus = absurd (true≢false e)
   discard_left (decided.Lost n) e plus = absurd (true≢false e)
   discard_left (decided.Thrown n) e plus = absurd (true≢false e)
-  discard_left f e plus = quiet_shown keeps capacity p was (Discard c id f) refl (side.calls + 1) side.missed_busy side.drops now
-      (ap (λ n. n + 1) was.parts.called ∙ one_call c _) was.parts.missed (was.parts.drops ∙ sym (add-zero _))
-      (counted (Discard c id f) (with_decided f) (λ n. refl) plus (discard_counts k c side.counts.worn p id f refl))
+  discard_left f e plus = grind (arith, nat_tests, quiet_shown, one_call, counted, discard_counts)
 
   pub spoken_left : (r : Record) (f : SpeculateFate) → spoken_granted f ≡ false → now ≡ with_spoken f side.counts
       → ShowsList keeps capacity k c (Speculate c id r f ∷ p) (record side { calls = side.calls + 1; counts = now })
   spoken_left r spoken.Kept e plus = absurd (true≢false e)
   spoken_left r spoken.Dropped e plus = absurd (true≢false e)
-  spoken_left r f e plus = quiet_shown keeps capacity p was (Speculate c id r f) refl (side.calls + 1) side.missed_busy side.drops now
-      (ap (λ n. n + 1) was.parts.called ∙ one_call c _) was.parts.missed (was.parts.drops ∙ sym (add-zero _))
-      (counted (Speculate c id r f) (with_spoken f) (λ n. refl) plus (spoken_counts k c side.counts.worn p id r f))
+  spoken_left r f e plus = grind (arith, nat_tests, quiet_shown, one_call, counted, spoken_counts)

@@ -1,4 +1,5 @@
 -- What a clean's loads and exchanges leave its seat.
+use Rattle.std.proofs.lemmas.Bool.Decides.{nat_tests}
 use Rattle.std.proofs.Common.{true≢false, ◌≡◌, ℕ, zero, suc, ◌+◌, ◌*◌, ◌<◌, ◌≤◌, ◌==◌, Bool, true, false, if◌then◌else◌, List, [], ◌∷◌, ◌++◌, length, map, refl, sym, ap, ◌∙◌, subst, arith}
 use Rattle.std.proofs.Common.{append_assoc}
 use Rattle.std.proofs.lemmas.List.{map-append}
@@ -25,13 +26,7 @@ pub idled_none : (v : View) → Idled 0 v v
 idled_none v = record { who = refl; config = refl; own = refl; asks = refl; steps = omega arith }
 
 pub idled_more : {place : ℕ} (n : ℕ) (v u w : View) (log : List Deed) → Idled n v u → w ≡ acted place u log [] → Idled (suc n) v w
-idled_more n v u w log i is = record {
-  who = ap (λ (x : View). x.who) is ∙ i.who;
-  config = ap (λ (x : View). x.config) is ∙ i.config;
-  own = ap (λ (x : View). x.own) is ∙ i.own;
-  asks = ap (λ (x : View). x.asks) is ∙ i.asks;
-  steps = let e = ap (λ (x : View). x.steps) is in let f = i.steps in omega arith;
-}
+idled_more n v u w log i is = grind (arith, nat_tests)
 
 pub idled_load : (slot : ℕ) (v w : View) (shown : SlotState) → LookedWord slot v shown w → Idled 1 v w
 idled_load slot v w shown step = idled_more 0 v v w step.0 (idled_none v) step.3
@@ -42,11 +37,7 @@ idled_acks slot issue (suc n) v w step = idled_more n v step.0 w step.3.0 (idled
 
 -- a word that waits, as it was loaded
 pub shown_waits : (slot : ℕ) (v w : View) (shown : SlotState) → LookedWord slot v shown w → awaits shown.code ≡ true → Waits slot w.seen × (shown ≡ word_at slot w.seen)
-shown_waits slot v w shown step waits =
-    let log = step.0 in
-    let seen : w.seen ≡ log = ap (λ (x : View). x.seen) step.3 in
-    let is = awaiting v.config slot log shown.code step.1.sound step.1.rests (ap (λ (x : SlotState). x.code) (sym step.2)) waits in
-    (subst (λ h. Waits slot h) (sym seen) (awaited_waits slot log shown.code is), step.2 ∙ ap (λ h. word_at slot h) (sym seen))
+shown_waits slot v w shown step waits = grind (arith, nat_tests, awaiting, Waits, awaited_waits)
 
 -- it stands while acknowledgements are loaded, and those shown stand too
 pub record Stood (slot issue n : ℕ) (v w : View) : Type 0 where
@@ -122,24 +113,11 @@ done_on {ss = ss} {ts = ts} most v u w le a b = record {
 }
 
 missed_done : (k : Config) (slot : ℕ) (v u w : View) (shown : SlotState) → LookedWord slot v shown u → MissesOne k slot shown.issue u w → Done (k.cpus + 2) [] v w
-missed_done k slot v u w shown step m =
-    let lt = m.3 in
-    let now = idled_more m.0 u m.2 w m.5.0 (idled_acks slot shown.issue m.0 u m.2 m.4) m.5.3 in
-    done_on (k.cpus + 2) v u w (omega arith) (idled_done 1 1 v u (omega arith) (idled_load slot v u shown step)) (idled_done (suc m.0) (k.cpus + 1) u w (omega arith) now)
+missed_done k slot v u w shown step m = grind (arith, nat_tests, idled_more, idled_acks, done_on, idled_done, idled_load)
 
 reaped_done : (k : Config) (slot : ℕ) (v u x w : View) (shown : SlotState) → LookedWord slot v shown u → Acknowledged slot shown.issue u k.cpus x
     → ReapedWord slot x shown true w → Done (k.cpus + 2) (slot ∷ []) v w
-reaped_done k slot v u x w shown step acks done =
-    let one = idled_load slot v u shown step in
-    let all = idled_acks slot shown.issue k.cpus u x acks in
-    let is = done.3.view in
-    record {
-      who = ap (λ (y : View). y.who) is ∙ (all.who ∙ one.who);
-      config = ap (λ (y : View). y.config) is ∙ (all.config ∙ one.config);
-      own = ap (λ (y : View). y.own) is ∙ ap (λ l. Release slot ∷ l) (all.own ∙ one.own);
-      asks = ap (λ (y : View). y.asks) is ∙ (all.asks ∙ one.asks);
-      steps = let a = ap (λ (y : View). y.steps) is in let b = all.steps in let d = one.steps in omega arith;
-    }
+reaped_done k slot v u x w shown step acks done = grind (arith, nat_tests, idled_load, idled_acks)
 
 slot_done : (k : Config) (slot : ℕ) (v w : View) (hit : Bool) → CleanedSlot k slot v hit w → Done (k.cpus + 2) (if hit then slot ∷ [] else []) v w
 slot_done k slot v w _ (waits_for_none step none) = idled_done 1 (k.cpus + 2) v w (omega arith) (idled_load slot v w _ step)
@@ -147,29 +125,12 @@ slot_done k slot v w _ (waits_for_one step waits m) = missed_done k slot v _ w _
 slot_done k slot v w _ (released step waits acks done) = reaped_done k slot v _ _ w _ step acks done
 
 pub slots_done : (k : Config) (v : View) (n : ℕ) (slots : List ℕ) (w : View) → CleanedSlots k v n slots w → Done (n * (k.cpus + 2)) slots v w × (length slots ≤ n)
-slots_done k v zero slots w h =
-    let none : 0 * (k.cpus + 2) ≡ 0 = omega arith in
-    subst (λ ss. Done (0 * (k.cpus + 2)) ss v w × (length ss ≤ 0)) (sym h.0)
-    (subst (λ (x : View). Done (0 * (k.cpus + 2)) [] v x × (0 ≤ 0)) h.1 (idled_done 0 (0 * (k.cpus + 2)) v v (omega arith) (idled_none v), omega arith))
-slots_done k v (suc n) slots w h =
-    let was = slots_done k v n h.0 h.1 h.3 in
-    let m : ℕ = k.cpus + 2 in
-    let p : ℕ = n * m in
-    let e : suc n * m ≡ p + m = omega arith in
-    subst (λ ss. Done (suc n * m) ss v w × (length ss ≤ suc n)) (sym h.5)
-    (go h.2 h.0 (done_on (suc n * m) v h.1 w (omega arith) was.0 (slot_done k (suc n) h.1 w h.2 h.4)) was.1)
-  where
-    go : (hit : Bool) (before : List ℕ) {m : ℕ} → Done m ((if hit then suc n ∷ [] else []) ++ before) v w → length before ≤ n
-        → Done m (if hit then suc n ∷ before else before) v w × (length (if hit then suc n ∷ before else before) ≤ suc n)
-    go true before done le = (done, omega arith)
-    go false before done le = (done, omega arith)
+slots_done k v zero slots w h = grind (arith, nat_tests, idled_done, idled_none)
+slots_done k v (suc n) slots w h = grind (arith, nat_tests, slots_done k v n h.0 h.1 h.3, done_on, slot_done)
 
 -- a whole clean
 pub all_cleaned : (v : View) (k : Config) (count : ℕ) (slots : List ℕ) (w : View) → v.config ≡ k → count ≡ length slots → CleanedSlots k v k.nspec slots w → Cleaned count v w
-all_cleaned v k count slots w same number chain =
-    let here : CleanedSlots v.config v v.config.nspec slots w = subst (λ (x : Config). CleanedSlots x v x.nspec slots w) (sym same) chain in
-    let done = (slots_done v.config v v.config.nspec slots w here).0 in
-    record { slots = slots; steps_made = here; number = number; own = done.own; asks = done.asks; few = done.steps }
+all_cleaned v k count slots w same number chain = grind (arith, nat_tests, slots_done)
 
 -- one slot more
 pub one_more : (k : Config) (v u w : View) (n count : ℕ) (slots : List ℕ) (hit : Bool) → CleanedSlots k v n slots u → CleanedSlot k (n + 1) u hit w → count ≡ length slots

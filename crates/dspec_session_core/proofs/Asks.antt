@@ -1,4 +1,5 @@
 -- The asks that the consumer knows, behind one more.
+use Rattle.std.proofs.lemmas.Bool.Decides.{nat_tests}
 use Rattle.std.proofs.Common.{◌≡◌, ℕ, ◌==◌, ◌+◌, ◌≤◌, length, arith, Bool, true, false, if◌then◌else◌, List, refl, ap, ◌∙◌, subst}
 use Rattle.std.specs.Prelude.{slice_get, slice_index, slice_index_or, Some}
 use Rattle.dspec_deeds.proofs.TestLemmas.{same_number, numbers_differ}
@@ -8,11 +9,7 @@ use Rattle.dspec_session_core.proofs.Ends.{end_at}
 use Rattle.dspec_table.proofs.AsksKept.{with_ask_same, with_ask_other}
 
 asks_after : (xs : List ℕ) (c n a : ℕ) → slice_index (with_ask xs c n) a ≡ (if a == c then n else slice_index xs a)
-asks_after xs c n a = go (a == c) refl
-  where
-    go : (b : Bool) → (a == c) ≡ b → slice_index (with_ask xs c n) a ≡ (if b then n else slice_index xs a)
-    go true e = ap (λ x. slice_index (with_ask xs c n) x) (same_number a c e) ∙ with_ask_same xs c n
-    go false e = with_ask_other xs c a n (numbers_differ a c e)
+asks_after xs c n a = grind (arith, nat_tests, same_number, with_ask_same, with_ask_other, numbers_differ)
 
 pub stored_asks : (v w : View) (c n : ℕ) → StoredAsk c n v w → (a : ℕ) → slice_index w.asks a ≡ (if a == c then n else slice_index v.asks a)
 stored_asks v w c n step a = ap (λ (x : View). slice_index x.asks a) step.2 ∙ asks_after v.asks c n a

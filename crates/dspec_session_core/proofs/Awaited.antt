@@ -1,9 +1,9 @@
 -- What looks at the slots that wait for a CPU leave the consumer's seat.
-use Rattle.std.proofs.Common.{◌≡◌, ℕ, zero, suc, ◌+◌, ◌*◌, ◌≤◌, Bool, true, false, if◌then◌else◌, refl, sym, ◌∙◌, subst, arith}
+use Rattle.std.proofs.lemmas.Bool.Decides.{nat_tests}
+use Rattle.std.proofs.Common.{◌≡◌, ℕ, zero, suc, ◌+◌, ◌*◌, ◌≤◌, Bool, true, false, if◌then◌else◌, ◌∙◌, subst, arith}
 use Rattle.dspec_deeds.specs.declared.config.Config.{Config}
 use Rattle.dspec_table.specs.declared.rule.View.{View}
-use Rattle.dspec_session_core.specs.Words.{AwaitedIn, waits_for_all, AwaitedSlots, Awaited}
-use Rattle.dspec_session_core.specs.Awaiting.{waits_for_none}
+use Rattle.dspec_session_core.specs.Words.{AwaitedIn, AwaitedSlots, Awaited}
 use Rattle.dspec_session_core.proofs.Acknowledging.{Idled, idled_none, idled_more, idled_load}
 
 -- so many steps at most, and nothing entered
@@ -18,9 +18,7 @@ looked : (n most : ℕ) (v w : View) → n ≤ most → Idled n v w → Looked m
 looked n most v w le i = record { who = i.who; config = i.config; own = i.own; asks = i.asks; steps = let e = i.steps in omega arith }
 
 slot_looked : (cpu slot : ℕ) (v w : View) (hit : Bool) → AwaitedIn cpu slot v hit w → Looked 2 v w
-slot_looked cpu slot v w _ (waits_for_none step none) = looked 1 2 v w (omega arith) (idled_load slot v w _ step)
-slot_looked cpu slot v w _ (waits_for_all {shown} {a} {u} step waits ack) =
-    looked 2 2 v w (omega arith) (idled_more 1 v u w ack.0 (idled_load slot v u shown step) ack.3)
+slot_looked cpu slot v w hit h1 = grind (arith, nat_tests, looked, idled_load, idled_more)
 
 pub slots_looked : (cpu : ℕ) (v : View) (n count : ℕ) (w : View) → AwaitedSlots cpu v n count w → Looked (n * 2) v w × (count ≤ n)
 slots_looked cpu v zero count w h =
@@ -46,15 +44,9 @@ slots_looked cpu v (suc n) count w h =
 
 -- all of them
 pub all_looked : (v : View) (k : Config) (cpu count : ℕ) (w : View) → v.config ≡ k → AwaitedSlots cpu v k.nspec count w → Awaited cpu count v w
-all_looked v k cpu count w same chain =
-    let here : AwaitedSlots cpu v v.config.nspec count w = subst (λ (x : Config). AwaitedSlots cpu v x.nspec count w) (sym same) chain in
-    let done = (slots_looked cpu v v.config.nspec count w here).0 in
-    record { steps_made = here; own = done.own; asks = done.asks; few = done.steps }
+all_looked v k cpu count w same chain = grind (arith, nat_tests, slots_looked)
 
 -- one slot more
 pub one_more_looked : (cpu : ℕ) (v u w : View) (n before : ℕ) (hit : Bool) → AwaitedSlots cpu v n before u → AwaitedIn cpu (n + 1) u hit w
     → AwaitedSlots cpu v (n + 1) (if hit then before + 1 else before) w
-one_more_looked cpu v u w n before hit chain step =
-    let e : n + 1 ≡ suc n = omega arith in
-    subst (λ m. AwaitedSlots cpu v m (if hit then before + 1 else before) w) (sym e)
-    (before, u, hit, chain, subst (λ m. AwaitedIn cpu m u hit w) e step, refl)
+one_more_looked cpu v u w n before hit chain step = grind (arith, nat_tests)

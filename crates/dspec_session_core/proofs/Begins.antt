@@ -1,4 +1,5 @@
 -- A session's CPUs, made one by one.
+use Rattle.std.proofs.lemmas.Bool.Decides.{nat_tests}
 use Rattle.std.proofs.Common.{◌≡◌, ℕ, zero, suc, ◌+◌, ◌<◌, ◌⊎◌, inl, inr, ⊎_elim, List, [], ◌∷◌, ◌++◌, length, map, refl, sym, ap, ◌∙◌, subst, arith}
 use Rattle.std.specs.Prelude.{Some, None, All, remove, slice_get, slice_index_or}
 use Rattle.std.proofs.lemmas.List.{length-append, length-map, map-append}
@@ -7,7 +8,6 @@ use Rattle.dspec_deeds.specs.declared.config.Config.{Config}
 use Rattle.dspec_deeds.specs.declared.deed.Deed.{Deed}
 use Rattle.dspec_session_core.specs.Words.{start_fault, Pair, ConsumerKnows, IsUnusedConsumer, known, cpu_of, fresh_seat, set_up, FreshSeats, IsAt, IsConsumerAt, end_of, words_of, identity, Session}
 use Rattle.dspec_session_core.specs.Words.{IsConsumerOf, pairs_of, IsCpuOf, IsSession, IsFresh}
-use Rattle.dspec_table.specs.declared.rule.View.{View}
 use Rattle.dspec_table.specs.declared.seats.ConsumerSeat.{ConsumerSeat}
 use Rattle.dspec_table.specs.declared.seats.CpuSeat.{CpuSeat}
 use Rattle.dspec_table.specs.declared.seats.Words.{Words}
@@ -64,35 +64,16 @@ pub record Begun {S : Type 0} (has : Cpu S → List Deed → Type 0) (schema : S
 module _ {S : Type 0} (has : Cpu S → List Deed → Type 0) (schema : S) (words : Words) (k : Config) where
   pub none_begun : (seats : List CpuSeat) (cpus : List (Cpu S)) (ends : List ConsumerKnows) → length seats ≡ k.cpus → ((i : ℕ) (s : CpuSeat) → slice_get seats i ≡ Some s → IsSeatOf words k i s)
       → cpus ≡ [] → ends ≡ [] → Begun has schema words k 0 seats cpus ends
-  none_begun seats cpus ends all are cpus_none ends_none =
-      subst (λ xs. Begun has schema words k 0 seats xs ends) (sym cpus_none)
-      (subst (λ es. Begun has schema words k 0 seats [] es) (sym ends_none)
-      record {
-        count = refl;
-        ends_count = refl;
-        left = omega (arith, all);
-        seats_are = λ i s e. let z : 0 + i ≡ i = omega arith in subst (λ n. IsSeatOf words k n s) (sym z) (are i s e);
-        each = λ c cpu e. absurd (cc (e));
-        unused = All-nil IsUnusedConsumer;
-      })
+  none_begun seats cpus ends all are cpus_none ends_none = grind (arith, nat_tests, All-nil)
 
   there_kept : (c : ℕ) (cpu : Cpu S) (es : List ConsumerKnows) (e : ConsumerKnows) → IsCpuOf schema words c (slice_get (pairs es) c) (identity cpu)
       → IsCpuOf schema words c (slice_get (pairs (es ++ e ∷ [])) c) (identity cpu)
-  there_kept c cpu es e is = record {
-    belongs = is.belongs;
-    number = is.number;
-    one = is.one;
-    pair = ap (λ ps. slice_get ps c) (map-append (λ (x : ConsumerKnows). x.pair) es (e ∷ [])) ∙ still_there (pairs es) e.pair c (end_of cpu).pair is.pair;
-  }
+  there_kept c cpu es e is = grind (arith, nat_tests, map-append, still_there)
 
   there_new : (n : ℕ) (cpu : Cpu S) (es : List ConsumerKnows) (e : ConsumerKnows) → length es ≡ n
       → ((p : Pair) → p ≡ (end_of cpu).pair → IsCpuOf schema words n (Some p) (identity cpu)) → e.pair ≡ (end_of cpu).pair
       → IsCpuOf schema words n (slice_get (pairs (es ++ e ∷ [])) n) (identity cpu)
-  there_new n cpu es e count is same =
-      let mapped : slice_get (pairs (es ++ e ∷ [])) (length (pairs es)) ≡ Some e.pair
-      = ap (λ ps. slice_get ps (length (pairs es))) (map-append (λ (x : ConsumerKnows). x.pair) es (e ∷ [])) ∙ last_there (pairs es) e.pair in
-      let at : slice_get (pairs (es ++ e ∷ [])) n ≡ Some e.pair = subst (λ m. slice_get (pairs (es ++ e ∷ [])) m ≡ Some e.pair) (length-map es (λ (x : ConsumerKnows). x.pair) ∙ count) mapped in
-      subst (λ o. IsCpuOf schema words n o (identity cpu)) (sym at) (is e.pair same)
+  there_new n cpu es e count is same = grind (arith, nat_tests, map-append, last_there, length-map)
 
   -- one more
   pub one_begun : (n : ℕ) (seats after : List CpuSeat) (cpus new : List (Cpu S)) (ends more : List ConsumerKnows) (cpu : Cpu S) (e : ConsumerKnows)
@@ -137,6 +118,4 @@ module _ {S : Type 0} (has : Cpu S → List Deed → Type 0) (schema : S) (words
 
 -- the seats that a start gave
 pub seats_wait : (words : Words) (k : Config) (seats : List CpuSeat) → set_up words ≡ k → FreshSeats words seats → (i : ℕ) (s : CpuSeat) → slice_get seats i ≡ Some s → IsSeatOf words k i s
-seats_wait words k seats config are i s e =
-    let it = are i s e in
-    record { at = (it.0, ap (λ (v : View). v.config) it.2); number = it.1; fresh = it.2 ∙ ap (λ x. fresh_seat x i) config }
+seats_wait words k seats config are i s e = grind (arith, nat_tests)

@@ -1,5 +1,6 @@
 -- A session stays one where a CPU of it is called, or its consumer, or where both meet.
-use Rattle.std.proofs.Common.{◌≡◌, ℕ, zero, suc, ◌<◌, ◌⊎◌, inl, inr, ⊎_elim, List, ◌∷◌, length, length-set, refl, sym, ap, ◌∙◌, subst}
+use Rattle.std.proofs.Common.{arith, ◌≡◌, ℕ, zero, suc, ◌<◌, ◌⊎◌, inl, inr, ⊎_elim, List, ◌∷◌, length, length-set, refl, sym, ap, ◌∙◌, subst}
+use Rattle.std.proofs.lemmas.Bool.Decides.{nat_tests}
 use Rattle.std.specs.Prelude.{Some, slice_get, slice_set, slice_index_or}
 use Rattle.std.proofs.lemmas.Option.{slice_get_read}
 use Rattle.dspec_session_core.specs.Words.{start_fault, set_up, words_of, identity, Session, IsConsumerOf, IsSameConsumer, pairs_of, IsCpuOf, IsSession}
@@ -42,14 +43,4 @@ module _ {S : Type 0} (schema : S) where
   -- the consumer was called
   pub consumer_called : (old new : Session S) → IsSession schema old → IsConsumerOf (words_of old.shared) new.consumer → IsSameConsumer old.consumer new.consumer
       → new.shared ≡ old.shared → new.cpus ≡ old.cpus → IsSession schema new
-  consumer_called old new is consumer same shared cpus =
-      let words = ap (λ (x : Shared). words_of x) shared in
-      record {
-        checked = ap (λ w. start_fault (set_up w)) words ∙ is.checked;
-        consumer = subst (λ w. IsConsumerOf w new.consumer) (sym words) consumer;
-        all = ap (λ xs. length xs.items) cpus ∙ (is.all ∙ ap (λ w. (set_up w).cpus) (sym words));
-        each = λ n x there.
-            subst (λ w. IsCpuOf schema w n (slice_get (pairs_of new.consumer) n) (identity x)) (sym words)
-            (subst (λ ps. IsCpuOf schema (words_of old.shared) n (slice_get ps n) (identity x)) (sym same.pairs)
-            (is.each n x (ap (λ xs. slice_get xs.items n) (sym cpus) ∙ there)));
-      }
+  consumer_called old new is consumer same shared cpus = grind (arith, nat_tests)

@@ -1,5 +1,6 @@
 -- The batches of a CPU and its last active buffer hold what it accepted, in order.
-use Rattle.std.proofs.Common.{◌≡◌, ℕ, ◌+◌, Bool, true, false, ◌&&◌, ◌==◌, if◌then◌else◌, List, [], ◌∷◌, ◌++◌, reverse, length, take, Option, refl, sym, ap, ◌∙◌, subst, subst₂, append_assoc}
+use Rattle.std.proofs.Common.{arith, ◌≡◌, ℕ, ◌+◌, Bool, true, false, ◌&&◌, ◌==◌, if◌then◌else◌, List, [], ◌∷◌, ◌++◌, reverse, length, take, Option, refl, sym, ap, ◌∙◌, subst, subst₂, append_assoc}
+use Rattle.std.proofs.lemmas.Bool.Decides.{nat_tests}
 use Rattle.std.proofs.lemmas.List.{reverse-append, reverse-reverse, append-nil}
 use Rattle.dspec_session_core.specs.Words.{Record, Piece, one, block, records, HasPieces, trace_kept, is_copied, Offer, contents, offers, held, active, growing, batches, batch_records, empty_batch}
 use Rattle.dspec_session_core.specs.Words.{stream, taken, Sealing, IsOwn, IsSealed, AreSealed, HoldInOrder}
@@ -39,9 +40,7 @@ active_grows c [] = refl
 active_grows c (Trace a r f ∷ h) = kept_grows (trace_kept f && (c == a)) (offers c h) r (active c h) (growing c h).offers (active_grows c h)
 active_grows c (Commit a id f ∷ h) = copied_grows (is_copied f && (c == a)) (held c id h) (active c h) (growing c h).offers (active_grows c h)
 active_grows c (Settle a id f ∷ h) = copied_grows (is_copied f && (c == a)) (held c id h) (active c h) (growing c h).offers (active_grows c h)
-active_grows c (Seal a ∷ h) =
-    let still : Sealing = record { offers = (growing c h).offers; drops = (growing c h).drops + 0 } in
-    sealed_grows (c == a) (active c h) (growing c h) still (active_grows c h) refl
+active_grows c (Seal a ∷ h) = grind (arith, nat_tests, active_grows c h, sealed_grows)
 active_grows c (d ∷ h) = active_grows c h
 
 -- the records of batches, and of one more
@@ -83,13 +82,7 @@ module _ (shape : ℕ → Option Shape) (accepted : Record → Bool) (text : Rec
 
   match_hold : (bs : List Batch) (ss : List Sealing) → Match bs ss → HoldInOrder shape accepted text bs (batch_records ss)
   match_hold [] [] m = refl
-  match_hold (b ∷ bs) (s ∷ ss) m = (
-    m.0.pieces,
-    batch_records ss,
-    m.0.has,
-    ap (λ rs. reverse rs ++ batch_records ss) (sym m.0.same),
-    match_hold bs ss m.1,
-  )
+  match_hold (b ∷ bs) (s ∷ ss) m = grind (arith, nat_tests, match_hold bs ss m.1)
   match_hold bs ss m = absurd m
 
   module _ (k : Config) (c : ℕ) where

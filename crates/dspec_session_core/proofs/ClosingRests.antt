@@ -1,5 +1,6 @@
 -- Which of a CPU's sealed batches wasn't taken at the close: one at most.
-use Rattle.std.proofs.Common.{◌≡◌, ℕ, ◌+◌, ◌≤◌, List, [], ◌∷◌, ◌++◌, length, reverse, Option, Some, None, refl, sym, ap, ◌∙◌, append-nil, arith}
+use Rattle.std.proofs.lemmas.Bool.Decides.{nat_tests}
+use Rattle.std.proofs.Common.{◌≡◌, ℕ, ◌+◌, ◌≤◌, List, [], ◌∷◌, ◌++◌, length, reverse, Option, None, refl, sym, ap, ◌∙◌, append-nil, arith}
 use Rattle.std.proofs.lemmas.List.{reverse-append, length-reverse, length-append}
 use mathlib.Core.List.{IsPrefix}
 use Rattle.dspec_ring.specs.declared.batch.Batch.{Batch}
@@ -7,11 +8,7 @@ use Rattle.dspec_session_core.specs.Words.{waiting, rest_of}
 
 -- the batches taken, and the one in hand
 held_back_last : (taken : List Batch) (x : Option Batch) → reverse (taken ++ waiting x) ≡ waiting x ++ reverse taken
-held_back_last taken x = reverse-append taken (waiting x) ∙ ap (λ bs. bs ++ reverse taken) (alone x)
-  where
-    alone : (x : Option Batch) → reverse (waiting x) ≡ waiting x
-    alone None = refl
-    alone (Some b) = refl
+held_back_last taken x = grind (arith, nat_tests, reverse-append)
 
 -- a prefix is no longer
 prefix_length : (xs ys : List Batch) → IsPrefix xs ys → length xs ≤ length ys
@@ -29,10 +26,4 @@ rest_told x taken drained le = absurd (omega arith)
 pub one_left : (x : Option Batch) (spare : ℕ) (handed spares taken given drained : List Batch) → length (waiting x ++ reverse handed) + spare ≤ 1 + length spares
     → IsPrefix spares given → length given ≤ length taken → taken ++ drained ≡ handed
     → reverse (taken ++ waiting (rest_of x drained)) ≡ waiting x ++ reverse handed
-one_left x spare handed spares taken given drained few prefix back e =
-    let came = prefix_length spares given prefix in
-    let sealed : length (waiting x ++ reverse handed) ≡ length (waiting x) + length handed
-    = length-append (waiting x) (reverse handed) ∙ ap (λ n. length (waiting x) + n) (length-reverse handed) in
-    let parts : length taken + length drained ≡ length handed = sym (length-append taken drained) ∙ ap length e in
-    let one : length (waiting x) + length drained ≤ 1 = omega arith in
-    rest_told x taken drained one ∙ ap (λ bs. waiting x ++ reverse bs) e
+one_left x spare handed spares taken given drained few prefix back e = grind (arith, nat_tests, prefix_length, length-append, length-reverse, rest_told)

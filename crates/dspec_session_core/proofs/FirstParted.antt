@@ -1,11 +1,11 @@
 -- One CPU parts from its seat, before those behind it.
-use Rattle.std.proofs.Common.{◌≡◌, ℕ, ◌+◌, ◌<◌, ◌≤◌, List, [], ◌∷◌, ◌++◌, length, map, reverse, Option, Some, None, refl, sym, ap, ◌∙◌, subst, if◌then◌else◌, arith}
+use Rattle.std.proofs.lemmas.Bool.Decides.{nat_tests}
+use Rattle.std.proofs.Common.{◌≡◌, ℕ, ◌+◌, ◌≤◌, List, [], ◌∷◌, ◌++◌, length, map, reverse, Option, Some, None, refl, sym, ap, ◌∙◌, subst, if◌then◌else◌, arith}
 use Rattle.std.specs.Prelude.{Bool, Result, Ok, is_ok, slice_get}
 use Rattle.std.proofs.lemmas.List.{length-append}
 use Rattle.dspec_session_core.specs.Words.{Record, start_fault, Ended, last_set_up, set_up, CpuKnows, ConsumerKnows, config_of, end_of, number_in, seat_of, worn_of, AreItsWords, RestHasList}
 use Rattle.dspec_session_core.specs.Words.{waiting, Left, IsClosing, IsRestOf, Leaves, IsLeft, AreLeft, AreParting}
 use Rattle.dspec_record.specs.declared.field.Shape.{Shape}
-use Rattle.dspec_deeds.specs.declared.config.Config.{Config}
 use Rattle.dspec_deeds.specs.declared.deed.Deed.{Deed}
 use Rattle.dspec_table.specs.declared.last.LastWords.{LastWords}
 use Rattle.dspec_table.specs.declared.rule.View.{View}
@@ -30,9 +30,7 @@ module _ {S : Type 0} (shape_of : S → ℕ → Option Shape) (accepted : S → 
     (cpu : Cpu S) (rest : List (Cpu S)) (other : ConsumerKnows) (others : List ConsumerKnows) (cpus_are : cpu ∷ rest ≡ cpus) (ends_are : other ∷ others ≡ ends) where
   -- with the first of the CPUs and of the ends
   split : AreParting shape_of accepted text schema words p seats (cpu ∷ rest) (other ∷ others)
-  split =
-      subst (λ xs. AreParting shape_of accepted text schema words p seats xs (other ∷ others)) (sym cpus_are)
-      (subst (λ es. AreParting shape_of accepted text schema words p seats cpus es) (sym ends_are) are)
+  split = grind (arith, nat_tests)
 
   pub next_pair : other.pair ≡ (end_of cpu).pair
   next_pair = let it = (split.each 0 cpu refl).0.pair in cc (it)
@@ -58,11 +56,7 @@ module _ {S : Type 0} (shape_of : S → ℕ → Option Shape) (accepted : S → 
       omega arith
 
   pub next_words : (last : LastWords) (end : CpuKnows) (x : CpuRest S) → IsRestOf cpu end x → last_set_up last ≡ set_up words → AreItsWords last x.config x.cpu
-  next_words last end x is same =
-      let config : x.config ≡ set_up words = is.config ∙ next_config in
-      let number : x.cpu ≡ length seats = is.number ∙ next_number in
-      let lt : length seats < (set_up words).cpus = let a = split.all in omega arith in
-      record { set_up = same ∙ sym config; one = subst (λ (k : Config). x.cpu < k.cpus) (sym config) (subst (λ n. n < (set_up words).cpus) (sym number) lt) }
+  next_words last end x is same = grind (arith, nat_tests, next_config, next_number, split)
 
   -- what the close knows of the CPU's list
   pub next_closing : (last : List ℕ) (consumer : View) (e : Ended (set_up words) last (seats ++ map (λ (x : Cpu S). seat_of x) cpus) consumer) (end : CpuKnows) (x : CpuRest S) → IsRestOf cpu end x

@@ -1,4 +1,5 @@
 -- What is left of one CPU.
+use Rattle.std.proofs.lemmas.Bool.Decides.{nat_tests}
 use Rattle.std.proofs.Common.{◌≡◌, ℕ, ◌+◌, ◌≤◌, List, ◌++◌, length, reverse, Option, Some, None, sym, ap, ◌∙◌, subst, arith}
 use Rattle.std.specs.Prelude.{Bool}
 use Rattle.std.specs.Option.{option_or}
@@ -23,18 +24,12 @@ rest_is (Some b) x drained after yields = ap (rest_of x) (sym yields)
 module _ {S : Type 0} (shape_of : S → ℕ → Option Shape) (accepted : S → Record → Bool) (text : S → Record → List ℕ) where
   -- of what is left of a CPU, before and behind its settlements
   pub legal_now : (old now : CpuRest S) → IsSameRest old now → (g q : List Deed) → IsLegalPart (shape_of old.schema) old.config old.cpu g q → IsLegalPart (shape_of now.schema) now.config now.cpu g q
-  legal_now old now same g q is =
-      subst (λ s. IsLegalPart (shape_of s) now.config now.cpu g q) (sym same.schema)
-      (subst (λ k. IsLegalPart (shape_of old.schema) k now.cpu g q) (sym same.config) (subst (λ c. IsLegalPart (shape_of old.schema) old.config c g q) (sym same.number) is))
+  legal_now old now same g q is = grind (arith, nat_tests)
 
   pub shows_before : (old now : CpuRest S) → IsSameRest old now → (taken : List Batch) (q : List Deed) (l : Left)
       → LeftShows (shape_of now.schema) (accepted now.schema) (text now.schema) now.config now.cpu now.side.counts.worn taken q l
       → LeftShows (shape_of old.schema) (accepted old.schema) (text old.schema) old.config old.cpu old.side.counts.worn taken q l
-  shows_before old now same taken q l is =
-      subst (λ s. LeftShows (shape_of s) (accepted s) (text s) old.config old.cpu old.side.counts.worn taken q l) same.schema
-      (subst (λ k. LeftShows (shape_of now.schema) (accepted now.schema) (text now.schema) k old.cpu old.side.counts.worn taken q l) same.config
-      (subst (λ c. LeftShows (shape_of now.schema) (accepted now.schema) (text now.schema) now.config c old.side.counts.worn taken q l) same.number
-      (subst (λ n. LeftShows (shape_of now.schema) (accepted now.schema) (text now.schema) now.config now.cpu n taken q l) same.worn is)))
+  shows_before old now same taken q l is = grind (arith, nat_tests)
 
   -- of another name for the same CPU
   pub leaves_same : (had : List Deed → Type 0) (words : List ℕ) (taken : List Batch) (l : Left) (s t : S) (k j : Config) (c d v w : ℕ) → s ≡ t → k ≡ j → c ≡ d → v ≡ w

@@ -1,12 +1,11 @@
 -- The settlements of the close are those that each CPU owes by the list before it, CPU by CPU.
+use Rattle.std.proofs.lemmas.Bool.Decides.{nat_tests}
 use Rattle.std.proofs.Common.{◌≡◌, ℕ, zero, suc, ◌<◌, ◌≤◌, Bool, true, false, not, ◌&&◌, if◌then◌else◌, List, ◌∷◌, ◌++◌, Option, None, refl, sym, ap, ◌∙◌, subst, ⊎_elim, true≢false, arith}
 use Rattle.std.specs.Prelude.{is_none, nat_le}
 use Rattle.dspec_record.specs.declared.field.Shape.{Shape}
 use Rattle.dspec_word.specs.declared.act.Act.TheVariants.{Granted, Idle}
-use Rattle.dspec_word.specs.declared.code.Code.TheVariants.{Inactive, Committing, CommittingMany}
-use Rattle.dspec_session_core.specs.Words.{awaits, Speculation, settle_at, CanClose, is_granted, closed_slot, closed_slots, closed_cpus, closing, Ruling, undecided, committed, discarded, verdict}
-use Rattle.dspec_session_core.specs.Words.{is_undecided, callers, is_busy, is_sole_or_none, standing, issue, present, owed, settled, solo, word_at, ack, IsSound, start_fault, settle_fate}
-use Rattle.dspec_session_core.specs.Words.{owes_settlement, owed_fate, owed_more, owed_in, owed_up, settle_deeds}
+use Rattle.dspec_session_core.specs.Words.{awaits, Speculation, settle_at, CanClose, is_granted, closed_slot, closed_slots, closed_cpus, closing, verdict, is_undecided, is_busy, issue, present}
+use Rattle.dspec_session_core.specs.Words.{owed, settled, solo, word_at, ack, IsSound, start_fault, settle_fate, owes_settlement, owed_fate, owed_more, owed_in, owed_up, settle_deeds}
 use Rattle.dspec_deeds.specs.declared.config.Config.{Config}
 use Rattle.dspec_deeds.specs.declared.deed.DecideFate.{DecideFate}
 use Rattle.dspec_deeds.specs.declared.deed.Deed.{Deed}
@@ -34,18 +33,7 @@ module _ (shape : ℕ → Option Shape) (k : Config) where
   -- what the word's code says is what the decision says
   fate_said : (c s : ℕ) (h : List Deed) → IsSound k h → is_undecided (verdict (present s h) h) ≡ false
       → settle_fate shape k c h (present s h) (word_at s h).code ≡ owed_fate shape k c (present s h) h (verdict (present s h) h)
-  fate_said c s h sound ruled =
-      ap (λ b. settle_fate shape k c h (present s h) (if b then standing (verdict (present s h) h) (callers (present s h) h) else Inactive))
-      (decided_given k h (present s h) sound ruled) ∙ go (verdict (present s h) h) (callers (present s h) h) ruled
-    where
-      by : (a : ℕ) (b : Bool) → settle_fate shape k c h (present s h) (if b then Committing else CommittingMany) ≡ owed_fate shape k c (present s h) h (committed a)
-      by a true = refl
-      by a false = refl
-
-      go : (v : Ruling) (cs : List ℕ) → is_undecided v ≡ false → settle_fate shape k c h (present s h) (standing v cs) ≡ owed_fate shape k c (present s h) h v
-      go undecided cs r = absurd (true≢false r)
-      go (committed a) cs r = by a (is_sole_or_none a cs)
-      go (discarded a) cs r = refl
+  fate_said c s h sound ruled = grind (arith, nat_tests, decided_given)
 
   slot_said : (c s : ℕ) (ss : List (Speculation × DecideFate)) (h : List Deed) → IsSound k (settle_deeds c ss ++ h) → owed (settle_deeds c ss ++ h) ≡ 0
       → settle_deeds c (owed_more shape k c s ss (settle_deeds c ss ++ h)) ++ h ≡ closed_slot shape k c s (settle_deeds c ss ++ h)

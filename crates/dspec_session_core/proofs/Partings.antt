@@ -1,10 +1,11 @@
 -- The CPUs part from their seats, one by one, and say what is left once all seats are back.
+use Rattle.std.proofs.lemmas.Bool.Decides.{nat_tests}
 use Rattle.std.proofs.Common.{◌≡◌, ℕ, zero, suc, ◌+◌, ◌<◌, ◌⊎◌, inl, inr, ⊎_elim, List, [], ◌∷◌, ◌++◌, length, map, reverse, Option, Some, None, refl, sym, ap, ◌∙◌, subst, arith}
 use Rattle.std.specs.Prelude.{Bool, option_map, slice_get}
 use Rattle.std.proofs.lemmas.List.{length-append, length-map, reverse-append}
 use Rattle.std.proofs.lemmas.Option.{slice_get_within, slice_get-map}
-use Rattle.dspec_session_core.specs.Words.{Record, scan, IsOwn, start_fault, AreSeats, Ended, known, set_up, ConsumerKnows, seat_of, config_of, number_in, schema_of, identity, Left, IsAtRest}
-use Rattle.dspec_session_core.specs.Words.{IsClosing, IsParted, Steady, IsLeft, AreLeft, AreParting, IsCpuOf}
+use Rattle.dspec_session_core.specs.Words.{Record, scan, start_fault, AreSeats, Ended, known, set_up, ConsumerKnows, seat_of, config_of, number_in, schema_of, identity, Left, IsAtRest, IsClosing}
+use Rattle.dspec_session_core.specs.Words.{IsParted, Steady, IsLeft, AreLeft, AreParting, IsCpuOf}
 use Rattle.dspec_record.specs.declared.field.Shape.{Shape}
 use Rattle.dspec_deeds.specs.declared.config.Config.{Config}
 use Rattle.dspec_deeds.specs.declared.deed.Deed.{Deed}
@@ -20,9 +21,7 @@ use Rattle.dspec_session_core.proofs.ClosingLists.{close_of_ended}
 -- places in two lists, one behind the other
 pub behind_there : {A : Type 0} (xs ys : List A) (i : ℕ) (y : A) → slice_get ys i ≡ Some y → slice_get (xs ++ ys) (length xs + i) ≡ Some y
 behind_there [] ys i y e = let z : 0 + i ≡ i = omega arith in subst (λ n. slice_get ys n ≡ Some y) (sym z) e
-behind_there (x ∷ xs) ys i y e =
-    let z : suc (length xs) + i ≡ suc (length xs + i) = omega arith in
-    subst (λ n. slice_get (x ∷ xs ++ ys) n ≡ Some y) (sym z) (behind_there xs ys i y e)
+behind_there (x ∷ xs) ys i y e = grind (arith, nat_tests, behind_there xs ys i y e)
 
 pub either_there : {A : Type 0} (xs ys : List A) (i : ℕ) (y : A) → slice_get (xs ++ ys) i ≡ Some y → (slice_get xs i ≡ Some y) ⊎ ((j : ℕ) × (i ≡ length xs + j) × (slice_get ys j ≡ Some y))
 either_there [] ys i y e = inr (i, omega arith, e)
@@ -42,15 +41,7 @@ module _ {S : Type 0} (shape_of : S → ℕ → Option Shape) (accepted : S → 
   pub at_rest : (schema : S) (words : Words) (c : ℕ) (cpu : Cpu S) (p : List Deed) → Steady shape_of accepted text cpu → number_in cpu ≡ c → config_of cpu ≡ set_up words
       → schema_of cpu ≡ schema → Has shape_of accepted text cpu p
       → IsAtRest (shape_of schema) (set_up words) c (known (seat_of cpu)).own p
-  at_rest schema words c cpu p steady number config one has =
-      let legal : IsOwn (shape_of schema) (set_up words) c p
-      = subst (λ s. IsOwn (shape_of s) (set_up words) c p) one
-      (subst (λ k. IsOwn (shape_of cpu.schema) k c p) config (subst (λ n. IsOwn (shape_of cpu.schema) cpu.config n p) number has.shown.legal)) in
-      record {
-        legal = legal;
-        own = has.own;
-        idle = subst (λ k. scan k c (known cpu.seat).own ≡ 0) config (subst (λ n. scan cpu.config n (known cpu.seat).own ≡ 0) number steady.idle);
-      }
+  at_rest schema words c cpu p steady number config one has = grind (arith, nat_tests)
 
   module _ (schema : S) (words : Words) (p : ℕ → List Deed) (seats : List CpuSeat) (cpus : List (Cpu S)) (ends : List ConsumerKnows)
       (are : AreParting shape_of accepted text schema words p seats cpus ends) where

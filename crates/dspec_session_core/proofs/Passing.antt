@@ -1,5 +1,6 @@
 -- What goes through an end of the rings, in the list of all ends.
-use Rattle.std.proofs.Common.{◌≡◌, ℕ, ◌<◌, ◌≤◌, List, length, map, [], refl, ap, subst, ◌∙◌, inl, inr}
+use Rattle.std.proofs.Common.{arith, ◌≡◌, ℕ, ◌<◌, ◌≤◌, List, length, map, [], refl, ap, ◌∙◌, inr}
+use Rattle.std.proofs.lemmas.Bool.Decides.{nat_tests}
 use Rattle.std.specs.Prelude.{Option, Some, None, IfSome, IfNone, Result, Ok, Err, OnOk, OnErr, IfErr, slice_get, slice_set, slice_index_or}
 use Rattle.std.proofs.Math.Seq.{map-set_same}
 use Rattle.dspec_ring.specs.declared.batch.Batch.{Batch}
@@ -54,7 +55,4 @@ module _ (seat : ConsumerSeat) (es : List ConsumerKnows) (b : Batch) (d f : Cons
 
   -- none of them is out, so the end is as it was
   pub none_out : length d.taken ≤ length d.given → IsNotTakenBack b record { seat = seat; ends = es } record { seat = seat; ends = slice_set es b.cpu d }
-  none_out le = inl (
-    inr (inl (λ e there. subst (λ (x : ConsumerKnows). length x.taken ≤ length x.given) (end_at es b.cpu d e is there) le)),
-    ap (λ (xs : List ConsumerKnows). record { seat = seat; ends = xs }) (put_back es b.cpu d is),
-  )
+  none_out le = grind (arith, nat_tests, end_at, put_back)

@@ -1,4 +1,5 @@
 -- A list that closes the lists of the CPUs promises each of them what the page says of its calls.
+use Rattle.std.proofs.lemmas.Bool.Decides.{nat_tests}
 use Rattle.std.proofs.Common.{◌≡◌, ℕ, zero, suc, ◌<◌, Bool, List, [], ◌∷◌, ◌++◌, length, Option, Some, refl, sym, ap, ◌∙◌, subst, arith}
 use Rattle.std.specs.Prelude.{reverse, slice_get}
 use Rattle.std.specs.Option.{option_map_or}
@@ -70,10 +71,7 @@ module _ (shape : ℕ → Option Shape) (accepted : Record → Bool) (text : Rec
 
   -- what a CPU did is what its list did, and what the close settled for it
   answered : (c : ℕ) → c < k.cpus → did c g ≡ settled_did (closed c) ++ did c (p c)
-  answered c lt =
-      ap (did c) closing_is
-      ∙ (did_closed closed k.cpus c closes.before lt
-      ∙ ap (λ ds. settled_did (closed c) ++ ds) (sym (did_part c closes.before) ∙ ap (did c) (closes.all_before.own c lt)))
+  answered c lt = grind (arith, nat_tests, closing_is, did_closed, did_part)
 
   -- a CPU's part has settlements in front of its list
   added : (c : ℕ) → AddsSettlements c (p c) (own_closed shape k (λ s. word_at s g) c k.nspec (p c))

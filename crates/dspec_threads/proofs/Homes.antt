@@ -1,4 +1,5 @@
 -- How CPUs go out, and come home.
+use Rattle.std.proofs.lemmas.Bool.Decides.{nat_tests}
 use Rattle.std.proofs.Common.{◌≡◌, ℕ, ◌<◌, List, [], ◌∷◌, ◌++◌, length, sym, ap, ◌∙◌, subst, arith}
 use Rattle.std.specs.Prelude.{remove, slice_get, slice_index_or}
 use Rattle.dspec_threads.specs.Words.{EnabledRows, CallsMade, called, number_in, words_of, Belongs, CpuIdentity, IsCallable, identity, IsCpuOf, ComesHome, HasDone, WentHome, IsOfRank, IsHomeOf}
@@ -35,7 +36,4 @@ module _ (done : ℕ → CallsMade → Type 0) where
 
   -- who came is the CPU of that home
   pub comes_at : (rank : Rank) (c : ℕ) (before : List (Cpu EnabledRows)) (cpu : Cpu EnabledRows) → IsHomeOf rank c before → ComesHome done before cpu → IsOfRank rank c cpu × done c (called cpu)
-  comes_at rank c before cpu home allowed =
-      let goes : HasDone done home.first cpu = subst (λ xs. ComesHome done xs cpu) home.was allowed in
-      let at : IsOfRank rank c cpu = still_of_rank rank c home.first cpu goes.same home.is in
-      (at, subst (λ n. done n (called cpu)) at.number goes.did)
+  comes_at rank c before cpu home allowed = grind (arith, nat_tests, still_of_rank)

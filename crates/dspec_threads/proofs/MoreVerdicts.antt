@@ -1,12 +1,13 @@
 -- A verdict more is said to one lane, and done behind others.
-use Rattle.std.proofs.Common.{◌≡◌, ℕ, ◌+◌, ◌<◌, ◌≤◌, Bool, true, false, List, [], ◌∷◌, ◌++◌, length, map, refl, sym, ap, ◌∙◌, subst, arith, append_assoc, get_or}
-use Rattle.std.specs.Prelude.{MatchBool, slice_get, slice_set, option_map, Some}
+use Rattle.std.proofs.lemmas.Bool.Decides.{nat_tests}
+use Rattle.std.proofs.Common.{◌≡◌, ℕ, ◌+◌, ◌<◌, ◌≤◌, Bool, true, false, List, [], ◌∷◌, ◌++◌, length, refl, sym, ap, ◌∙◌, subst, arith, append_assoc, get_or}
+use Rattle.std.specs.Prelude.{MatchBool, slice_set}
 use Rattle.std.proofs.lemmas.List.{append-nil, map-set, length-append, length-map}
 use Rattle.std.proofs.lemmas.Option.{slice_get-map, slice_get_read, slice_get_within}
 use Rattle.std.proofs.Math.Seq.{map-set_same}
 use mathlib.Core.List.{IsPrefix}
 use Rattle.dspec_record.specs.declared.schema.Schema.{Ghosts}
-use Rattle.dspec_threads.specs.Words.{Speculation, SaysTo, SaysWithin, room_of_lane, rooms_of_lanes, said_by, said_to_each, DoesVerdict, DoesVerdicts, SettlesNext, Sayer, Verdict}
+use Rattle.dspec_threads.specs.Words.{Speculation, SaysTo, SaysWithin, room_of_lane, rooms_of_lanes, said_by, DoesVerdict, DoesVerdicts, SettlesNext, Sayer, Verdict}
 use Rattle.dspec_deeds.specs.declared.deed.Deed.{Deed}
 use Rattle.dspec_cpu.specs.declared.cpu.Cpu.{Cpu}
 use Rattle.dspec.specs.declared.lane.Lane.{Lane}
@@ -45,12 +46,7 @@ module _ {J : Type 0} where
   -- what was said to one of the lanes
   pub said_to_one : (ss : List (Sayer J)) (i : ℕ) (s t : Sayer J) (v : Verdict) (a : Bool) → i < length ss → s ≡ get_or ss i s
       → MatchBool a (said_by t ≡ said_by s ++ v ∷ []) (said_by t ≡ said_by s) → SaysTo i v a ss (slice_set ss i t)
-  said_to_one ss i s t v true lt is said =
-      let f : Sayer J → List Verdict = said_by in (
-        said_by s,
-        slice_get-map f ss i ∙ ap (option_map f) (slice_get_read ss (length ss) i s refl lt is),
-        map-set f ss i t ∙ ap (λ x. slice_set (said_to_each ss) i x) said,
-      )
+  said_to_one ss i s t v true lt is said = grind (arith, nat_tests, slice_get-map, slice_get_read, map-set)
   said_to_one ss i s t v false lt is said =
       let f : Sayer J → List Verdict = said_by in map-set_same f ss i t s (said ∙ ap f is)
 
@@ -65,16 +61,8 @@ module _ {J : Type 0} where
   -- a lane that is there was told, and has one place less at the most; or it has none
   pub said_within : (ss : List (Sayer J)) (i : ℕ) (s t : Sayer J) (a : Bool) → i < length ss → s ≡ get_or ss i s
       → MatchBool a (room_of_lane s ≤ room_of_lane t + 1) (room_of_lane s ≡ 0) → SaysWithin i a ss (slice_set ss i t)
-  said_within ss i s t a lt is room r at =
-      let f : Sayer J → ℕ = room_of_lane in
-      let there : slice_get (map f ss) i ≡ Some (f s) = slice_get-map f ss i ∙ ap (option_map f) (slice_get_read ss (length ss) i s refl lt is) in
-      let same : f s ≡ r = cc (there, at) in
-      within ss i s t a r same room
+  said_within ss i s t a lt is room = grind (arith, nat_tests, slice_get-map, slice_get_read, within)
 
   -- there is no such lane
   pub no_lane : (ss : List (Sayer J)) (i : ℕ) → length ss ≤ i → SaysWithin i false ss ss
-  no_lane ss i over r at =
-      let within = slice_get_within (rooms_of_lanes ss) i r at in
-      let f : Sayer J → ℕ = room_of_lane in
-      let same = length-map ss f in
-      absurd (omega arith)
+  no_lane ss i over = grind (arith, nat_tests, within, slice_get_within, length-map)

@@ -1,4 +1,5 @@
 -- A lane serves once more, asks once more in vain, or attends once more to what is said to it.
+use Rattle.std.proofs.lemmas.Bool.Decides.{nat_tests}
 use Rattle.std.proofs.Common.{◌≡◌, ℕ, ◌+◌, ◌≤◌, ◌++◌, suc, Bool, List, append_assoc, ap, refl, ◌∙◌, subst, sym, arith}
 use mathlib.Core.List.{IsPrefix}
 use Rattle.dspec_record.specs.declared.schema.Schema.{Ghosts}
@@ -21,11 +22,7 @@ module _ {S : Type 0} {g : Ghosts S} (has : Cpu S → List Deed → Type 0) wher
 
   -- behind a look that found a path no call was made
   pub serves_no_more : (n most : ℕ) (old mid new : Lane S g) → n ≤ most → ServesTimes has n old mid → new ≡ mid → ServesWithin has most old new
-  serves_no_more n most old mid new few before same = record {
-    count = n;
-    few = few;
-    serves = subst (λ l. ServesTimes has n old l) (sym same) before;
-  }
+  serves_no_more n most old mid new few before same = grind (arith, nat_tests)
 
 module _ {S : Type 0} {g : Ghosts S} (has : Cpu S → List Deed → Type 0) (may : Speculation → Bool → Type 0) where
   pub attends_once_more : (n : ℕ) (before now after : List Verdict) (old mid new : Lane S g) → AttendsTimes has may n before now old mid → AttendsOnce has may now after mid new
@@ -39,11 +36,7 @@ module _ {S : Type 0} {g : Ghosts S} (has : Cpu S → List Deed → Type 0) (may
   -- behind a look that found a path nothing was done
   pub attends_no_more : (n most : ℕ) (before now after : List Verdict) (old mid new : Lane S g) → n ≤ most → AttendsTimes has may n before now old mid → new ≡ mid → after ≡ now
       → AttendsWithin has may most before after old new
-  attends_no_more n most before now after old mid new few earlier same none = record {
-    count = n;
-    few = few;
-    attends = subst (λ vs. AttendsTimes has may n before vs old new) (sym none) (subst (λ l. AttendsTimes has may n before now old l) (sym same) earlier);
-  }
+  attends_no_more n most before now after old mid new few earlier same none = grind (arith, nat_tests)
 
   -- where a path was opened nothing was settled
   pub opens_attending : {J : Type 0} (n most : ℕ) (answer : Opening) (before : List Verdict) (s t : Settler J) (old mid new : Lane S g) → n ≤ most

@@ -1,13 +1,14 @@
 -- Places of CPUs, looked at, tended and left one after another.
+use Rattle.std.proofs.lemmas.Bool.Decides.{nat_tests}
 use Rattle.std.proofs.Common.{◌≡◌, ℕ, zero, suc, ◌+◌, ◌<◌, ◌≤◌, ◌⊎◌, inl, inr, ⊎_elim, Bool, true, false, List, [], ◌∷◌, ◌++◌, length, map, append_assoc, Option, Some, None, refl, sym, ap}
 use Rattle.std.proofs.Common.{◌∙◌, subst, arith}
 use Rattle.std.specs.Prelude.{◌&&◌, Result, Ok, Err, MatchBool, MatchResult, IsSome, is_some, slice_get, slice_index_or, slice_set}
 use Rattle.std.specs.Option.{option_map, option_map_or}
 use Rattle.std.proofs.lemmas.List.{map-set, map_push}
 use Rattle.std.proofs.lemmas.Option.{slice_get_read, slice_get-map}
-use Rattle.dspec_threads.specs.Words.{EnabledRows, CallsMade, called, no_calls, words_of, Belongs, IsCallable, identity, ServedOnce, ComesHome, IsHomeOf, IsOfRank, Rank, AllIn, AreCpusOf}
-use Rattle.dspec_threads.specs.Words.{AreAtPlaces, AtOne, ComesIn, EachPair, IsCallableInside, IsOneOut, IsAtPlace, IsAtPlaceSo, KeepsPlace, LooksAndSends, Rests, SendsOut, ServesInside, StaysIn}
-use Rattle.dspec_threads.specs.Words.{TendsPlace, Whereabouts, all_whereabouts, is_in_at, waits_inside, whereabouts, who_is_in, LanePlace}
+use Rattle.dspec_threads.specs.Words.{EnabledRows, CallsMade, called, no_calls, IsCallable, identity, ServedOnce, ComesHome, IsHomeOf, IsOfRank, Rank, AllIn, AreCpusOf, AreAtPlaces, AtOne, ComesIn}
+use Rattle.dspec_threads.specs.Words.{EachPair, IsCallableInside, IsOneOut, IsAtPlace, IsAtPlaceSo, KeepsPlace, LooksAndSends, Rests, SendsOut, ServesInside, StaysIn, TendsPlace, Whereabouts}
+use Rattle.dspec_threads.specs.Words.{all_whereabouts, is_in_at, waits_inside, whereabouts, who_is_in, LanePlace}
 use Rattle.dspec_cpu.specs.declared.cpu.Cpu.{Cpu}
 use Rattle.dspec_cpu.specs.declared.shared.Shared.{Shared}
 use Rattle.dspec.proofs.Serving.{not_served, served_again}
@@ -18,27 +19,14 @@ module _ {D : Type 0} (R : Whereabouts → Whereabouts → Type 0) where
   -- of one place, as it was read and written
   pub at_one : (ps : List (LanePlace D)) (i : ℕ) (p q : LanePlace D) → i < length ps → p ≡ slice_index_or ps i p → R (whereabouts p) (whereabouts q)
       → AtOne R i (all_whereabouts ps) (all_whereabouts (slice_set ps i q))
-  at_one ps i p q lt at does =
-      let f : LanePlace D → Whereabouts = whereabouts in
-      record {
-        was = f p;
-        is = f q;
-        there = slice_get-map f ps i ∙ ap (option_map f) (slice_get_read ps (length ps) i p refl lt at);
-        does = does;
-        all = map-set f ps i q;
-      }
+  at_one ps i p q lt at does = grind (arith, nat_tests, slice_get-map, slice_get_read, map-set)
 
 pub there_read : {D : Type 0} (ps : List (LanePlace D)) (i : ℕ) (p : LanePlace D) → i < length ps → p ≡ slice_index_or ps i p → slice_get (all_whereabouts ps) i ≡ Some (whereabouts p)
-there_read {D} ps i p lt at =
-    let f : LanePlace D → Whereabouts = whereabouts in
-    slice_get-map f ps i ∙ ap (option_map f) (slice_get_read ps (length ps) i p refl lt at)
+there_read ps i p h1 h2 = grind (arith, nat_tests, slice_get-map, slice_get_read)
 
 pub in_at_one : {D : Type 0} (ps : List (LanePlace D)) (i : ℕ) (p q : LanePlace D) → i < length ps → p ≡ slice_index_or ps i p
     → is_in_at i (all_whereabouts (slice_set ps i q)) ≡ is_some (whereabouts q).inside
-in_at_one {D} ps i p q lt at =
-    let f : LanePlace D → Whereabouts = whereabouts in
-    let there : slice_get (map f ps) i ≡ Some (f p) = slice_get-map f ps i ∙ ap (option_map f) (slice_get_read ps (length ps) i p refl lt at) in
-    ap (λ ws. is_in_at i ws) (map-set f ps i q) ∙ ap (λ o. option_map_or (λ (w : Whereabouts). is_some w.inside) o false) (set_there (map f ps) i (f p) (f q) there)
+in_at_one ps i p q h1 h2 = grind (arith, nat_tests, slice_get-map, slice_get_read, map-set, set_there)
 
 -- of the first so many all are inside, or one isn't
 abbrev pub InTo : List Whereabouts → ℕ → Type 0
@@ -167,20 +155,11 @@ module _ (done : ℕ → CallsMade → Type 0) where
 
   -- a CPU that came home rests
   came_home : (r : Rank) (c : ℕ) (before : List (Cpu EnabledRows)) (cpu : Cpu EnabledRows) → IsHomeOf r c before → ComesHome done before cpu → IsOfRank r c cpu × Rests done c (called cpu)
-  came_home r c before cpu home allowed =
-      let here = comes_at done r c before cpu home allowed in
-      (here.0, record { returned = called cpu; worked = inr here.1; served = not_served (called cpu) })
+  came_home r c before cpu home allowed = grind (arith, nat_tests, comes_at, not_served)
 
   pub comes_in : (x y : Whereabouts) (before : List (Cpu EnabledRows)) (cpu : Cpu EnabledRows) → false ≡ is_some x.inside → x.came ≡ Some before → ComesHome done before cpu
       → y.inside ≡ Some cpu → ComesIn done x y
-  comes_in x y before cpu out came allowed now =
-      let none : x.inside ≡ None = no_one x.inside out in
-      record {
-        keeps = λ r c is.
-            let home : IsHomeOf r c before = subst (λ o. IsAtPlaceSo done r c None o) came (subst (λ (o : Option (Cpu EnabledRows)). IsAtPlaceSo done r c o x.came) none is) in
-            subst (λ (o : Option (Cpu EnabledRows)). IsAtPlaceSo done r c o y.came) (sym now) (came_home r c before cpu home allowed);
-        stays = subst (λ (o : Option (Cpu EnabledRows)). StaysIn o y.inside) (sym none) tt;
-      }
+  comes_in x y before cpu out came allowed now = grind (arith, nat_tests, no_one, came_home)
 
   -- a CPU that never moved
   pub begins : (r : Rank) (c : ℕ) (cpu : Cpu EnabledRows) → IsOfRank r c cpu → no_calls ≡ called cpu → IsAtPlace done r c (waits_inside cpu)
@@ -215,9 +194,7 @@ module _ (done : ℕ → CallsMade → Type 0) where
   callable_so : (r : Rank) (c : ℕ) (shared : Shared) (o : Option (Cpu EnabledRows)) (came : Option (List (Cpu EnabledRows))) → r.shared ≡ shared → IsAtPlaceSo done r c o came
       → (cpu : Cpu EnabledRows) → o ≡ Some cpu → IsCallable shared cpu
   callable_so r c shared None came same is cpu e = absurd (cc (e))
-  callable_so r c shared (Some x) came same is cpu e =
-      let one : x ≡ cpu = cc (e) in
-      subst (λ (s : Shared). Belongs (words_of s) (identity cpu)) same (subst (λ (y : Cpu EnabledRows). Belongs (words_of r.shared) (identity y)) one is.0.belongs)
+  callable_so r c shared (Some x) came same is cpu e = grind (arith, nat_tests)
 
   pub callable_there : (shared : Shared) (ws : List Whereabouts) (c : ℕ) (w : Whereabouts) → AreCpusOf done shared ws → slice_get ws c ≡ Some w → IsCallableInside shared w
   callable_there shared ws c w (r, same, all) at cpu e = callable_so r c shared w.inside w.came same (all c w at) cpu e

@@ -1,18 +1,18 @@
 -- Serves proofs. Words from the crates below, in one place. Declares nothing.
 pub use Rattle.dspec_record.specs.Words.{Record}
-pub use Rattle.dspec_buffer.specs.Words.{block, one, Piece, records}
-pub use Rattle.dspec_word.specs.Words.{awaits, CanBeReleased, commit_at, discard_at, is_decided, open_at, settle_at, SlotState, speculate_at, Speculation}
+pub use Rattle.dspec_buffer.specs.Words.{one, Piece, records}
+pub use Rattle.dspec_word.specs.Words.{awaits, CanBeReleased, commit_at, is_decided, settle_at, SlotState, speculate_at, Speculation}
 pub use Rattle.dspec_deeds.specs.Own.{taken}
 pub use Rattle.dspec_deeds.specs.Words.{accepted, ack, active, author, batch_records, batches, callers, calls, CanClose, closed_cpus, closed_slot, closed_slots, closing, committed, contents}
 pub use Rattle.dspec_deeds.specs.Words.{CpuLegal, decided_stopped, discarded, empty_batch, fits_held, fits_principal, fits_speculative, growing, halted, HasAuthors, Headline, held, in_range}
-pub use Rattle.dspec_deeds.specs.Words.{is_among, is_commit, is_copied, is_discard, is_drop, is_fill, is_granted, is_lost, is_open, is_undecided, IsAllowed, IsLegal, IsSound, issue, last_called}
-pub use Rattle.dspec_deeds.specs.Words.{mark, missed_busy, numbers_below, Offer, offers, one_if, own_side, OwnState, part, present, ReadsApart, report, reports, Ruling, same_actor, Sealing, seals}
+pub use Rattle.dspec_deeds.specs.Words.{is_among, is_commit, is_copied, is_discard, is_drop, is_granted, is_lost, is_open, is_undecided, IsAllowed, IsLegal, IsSound, issue, last_called, mark}
+pub use Rattle.dspec_deeds.specs.Words.{missed_busy, numbers_below, Offer, offers, one_if, own_side, OwnState, part, present, ReadsApart, report, reports, Ruling, same_actor, Sealing, seals}
 pub use Rattle.dspec_deeds.specs.Words.{seals_now, settle_fate, settled_fate, SettlesAs, ShowsOwnState, speculative, spoken_granted, start_fault, stream, streams, total, trace_kept, undecided}
 pub use Rattle.dspec_deeds.specs.Words.{verdict, word_at}
 pub use Rattle.dspec_cpu_state.specs.Words.{counts_of, HasRoom, IsCaller, IsFilledWith, IsRoomy, parts_of_side, ShowsList, with_decided, with_fate}
 pub use Rattle.dspec_interleaving.specs.Words.{all_ran, all_turned, asked, at_start, batch_at, begin_consumer, begin_cpu, begun_consumer, call_step, changes, cleaned_to, committed_by}
-pub use Rattle.dspec_interleaving.specs.Words.{consumer_op_of, consumer_step, ConsumerStep, cpu_step, CpuStep, EndedCall, enters_call, gives_at, HasHeadline, idle_cpus, idle_progress, is_about}
-pub use Rattle.dspec_interleaving.specs.Words.{is_actor, is_alone, is_counted, is_first, is_idle, is_release, is_told_worn, is_worn, IsCoherent, IsPlayingAt, IsSlot, keeps_on, Measured, measured}
-pub use Rattle.dspec_interleaving.specs.Words.{missed, most_steps, moved_to, next_slot, OnItsWay, op_of, Playing, playing_at_start, PlayState, popped, progress_of, ran, record_passes, same_word}
-pub use Rattle.dspec_interleaving.specs.Words.{shown_commit, shown_discard, shown_scan, shown_service, shown_speculate, spoken_at, StandsCpu, StandsState, step, step_consumer, step_cpu, stepped}
-pub use Rattle.dspec_interleaving.specs.Words.{steps_limit, stops, takes_at, to_end, turned, worn_count}
+pub use Rattle.dspec_interleaving.specs.Words.{consumer_op_of, consumer_step, ConsumerStep, cpu_step, CpuStep, EndedCall, gives_at, HasHeadline, idle_cpus, idle_progress, is_about, is_actor}
+pub use Rattle.dspec_interleaving.specs.Words.{is_counted, is_first, is_idle, is_told_worn, is_worn, IsCoherent, IsPlayingAt, IsSlot, keeps_on, Measured, measured, missed, most_steps, moved_to}
+pub use Rattle.dspec_interleaving.specs.Words.{next_slot, OnItsWay, op_of, Playing, playing_at_start, PlayState, popped, progress_of, ran, record_passes, same_word, shown_commit, shown_discard}
+pub use Rattle.dspec_interleaving.specs.Words.{shown_scan, shown_service, shown_speculate, spoken_at, StandsCpu, StandsState, step, step_cpu, stepped, steps_limit, stops, takes_at, to_end, turned}
+pub use Rattle.dspec_interleaving.specs.Words.{worn_count}

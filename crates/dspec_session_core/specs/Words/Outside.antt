@@ -3,14 +3,14 @@ pub use Rattle.dspec_record.specs.Words.{enabled, EnabledRows, Record, table_acc
 pub use Rattle.dspec_buffer.specs.Words.{block, BufferText, HasPieces, one, Piece, records}
 pub use Rattle.dspec_word.specs.Words.{awaits, settle_at, SlotState, Speculation}
 pub use Rattle.dspec_deeds.specs.Own.{taken}
-pub use Rattle.dspec_deeds.specs.Words.{accepted_first, ack, active, author, bare, batch_records, batches, callers, CanClose, closed_cpus, closed_slot, closed_slots, closing, committed, contents}
-pub use Rattle.dspec_deeds.specs.Words.{discarded, empty_batch, fits_principal, growing, halted, HasAuthors, HaveLists, Headline, held, is_busy, is_copied, is_granted, is_halt, is_sole_or_none}
-pub use Rattle.dspec_deeds.specs.Words.{is_undecided, IsLegal, IsOwn, IsSound, issue, IsWoven, Offer, offers, opened, opens, owed, part, present, releaser, releases, report, Ruling, same_actor}
-pub use Rattle.dspec_deeds.specs.Words.{scan, Sealing, settle_fate, settled, solo, standing, start_fault, stream, trace_kept, undecided, verdict, WaitsUndecided, word_at, woven}
+pub use Rattle.dspec_deeds.specs.Words.{accepted_first, ack, active, author, bare, batch_records, batches, CanClose, closed_cpus, closed_slot, closed_slots, closing, contents, discarded}
+pub use Rattle.dspec_deeds.specs.Words.{empty_batch, fits_principal, growing, halted, HasAuthors, HaveLists, Headline, held, is_busy, is_copied, is_granted, is_undecided, IsLegal, IsOwn, IsSound}
+pub use Rattle.dspec_deeds.specs.Words.{issue, IsWoven, Offer, offers, opened, owed, part, present, releases, report, Ruling, scan, Sealing, settle_fate, settled, solo, start_fault, stream}
+pub use Rattle.dspec_deeds.specs.Words.{trace_kept, verdict, WaitsUndecided, word_at, woven}
 pub use Rattle.dspec_promise.specs.Words.{all_did, AtEachMoment, DecidedSoFar, Did, did, emptied, GivenOnce, HaveReasons, Promise, service}
 pub use Rattle.dspec_interleaving.specs.Words.{IsCloseOf, own_closed}
 pub use Rattle.dspec_table.specs.Words.{acted, AreSeats, at_stop, cpu_of, doer, Ended, fresh_seat, FreshSeats, here, IsAt, IsConsumerAt, known, known_there, last_set_up, last_words, LoadedAck}
-pub use Rattle.dspec_table.specs.Words.{LookedWord, MayReap, more, of_consumer, part_of, ReapedWord, same_holder, set_up, Shows, Since, StoredActivity, StoredAsk, with_ask}
+pub use Rattle.dspec_table.specs.Words.{LookedWord, MayReap, more, of_consumer, ReapedWord, same_holder, set_up, Shows, Since, StoredActivity, StoredAsk, with_ask}
 pub use Rattle.dspec_ring.specs.Words.{consumer_moved, ConsumerKnows, CpuKnows, IsUnusedConsumer, IsUnusedCpu, Pair}
 pub use Rattle.dspec_cpu.specs.Words.{AreItsWords, AreSealed, Belongs, called, CallsMade, config_of, config_of_rest, CpuIdentity, end_of, HasList, held_back_of, held_back_of_rest, identity}
 pub use Rattle.dspec_cpu.specs.Words.{IsLegalPart, IsPartOf, IsSameRest, IsSealed, IsSteady, no_calls, number_in, number_of_rest, rest_with, RestHasList, schema_of, schema_of_rest, seat_of}

@@ -1,6 +1,5 @@
-use Rattle.std.proofs.Common.{◌≡◌, ◌∙◌, ◌&&◌, ℕ, not, List, Some, sym, ap}
-use Rattle.dspec_cpu_state.specs.Words.{one, piece_fits, is_closed, active, ShowsList}
-use Rattle.dspec_deeds.specs.declared.deed.Deed.{Deed}
+use Rattle.std.proofs.Common.{◌∙◌, ◌&&◌, not, sym, ap}
+use Rattle.dspec_cpu_state.specs.Words.{one, piece_fits, is_closed, active}
 use Rattle.dspec_cpu_state.proofs.Rooms.{behind_fits}
 use Rattle.dspec_cpu_state.proofs.cpu_state.CpuState.fits.Goals as goal
 
