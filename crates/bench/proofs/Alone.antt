@@ -1,8 +1,7 @@
 -- The last element of a list of one is its first.
-use Rattle.std.proofs.Common.{◌≡◌, List, [], ◌∷◌, ◌++◌, length, Some, ap, sym, ◌∙◌, arith}
+use Rattle.std.proofs.{Common.◌≡◌, Common.List, Common.[], Common.◌∷◌, Common.◌++◌, Common.length, Common.Some, Common.ap, Common.sym, Common.◌∙◌, Common.arith, lemmas.List.length_push}
 use Rattle.std.specs.Prelude.{slice_get}
-use Rattle.std.proofs.lemmas.List.{length_push}
-use Rattle.dspec_table.specs.declared.seats.CpuSeat.{CpuSeat}
+use Rattle.bench.specs.Words.{CpuSeat}
 use Rattle.dspec_table.proofs.AtEnd.{got_last}
 
 pub first_is : (items rest : List CpuSeat) (x : CpuSeat) → items ≡ rest ++ x ∷ [] → length items ≡ 1 → slice_get items 0 ≡ Some x

@@ -1,10 +1,6 @@
 -- Each CPU of a session can be lent to a thread.
-use Rattle.std.proofs.Common.{◌≡◌, ℕ, ◌<◌, List, length, refl, get_or}
-use Rattle.std.proofs.lemmas.Option.{slice_get_read}
-use Rattle.dspec_cpu.specs.declared.cpu.Cpu.{Cpu}
-use Rattle.dspec_cpu.specs.declared.shared.Shared.{Shared}
-use Rattle.bench.specs.Words.{IsCallable, IsSession, AllCallable}
-use Rattle.dspec_session_core.specs.declared.session.Session.{Session}
+use Rattle.std.proofs.{Common.◌≡◌, Common.ℕ, Common.◌<◌, Common.List, Common.length, Common.refl, Common.get_or, lemmas.Option.slice_get_read}
+use Rattle.bench.specs.Words.{Cpu, Shared, IsCallable, IsSession, AllCallable, Session}
 
 module _ {S : Type 0} where
   pub of_session : (schema : S) (session : Session S) → IsSession schema session → AllCallable session.shared session.cpus.items

@@ -1,9 +1,8 @@
 -- The last two seats of a session that starts.
 use Rattle.std.proofs.Common.{◌≡◌, ℕ, List, [], ◌∷◌, ◌++◌, length, Some, ap, ◌∙◌}
 use Rattle.std.specs.Prelude.{slice_get}
-use Rattle.dspec_table.specs.declared.seats.CpuSeat.{CpuSeat}
+use Rattle.bench.specs.Words.{CpuSeat, known, FreshSeats, IsAt, set_up, cpu_of, Unused}
 use Rattle.dspec_table.specs.declared.seats.Words.{Words}
-use Rattle.bench.specs.Words.{known, FreshSeats, IsAt, set_up, cpu_of, Unused}
 use Rattle.dspec_table.proofs.AtEnd.{got_front, got_last}
 use Rattle.test_words.proofs.Openers.{none_unused}
 

@@ -1,7 +1,6 @@
 //! Speculations by several CPUs at once, each in a thread of its own, while the consumer goes its rounds, or without it.
 ghost use Rattle.std.specs.Prelude.{◌≡◌};
-ghost use Rattle.dspec.specs.Lanes.{place_of};
-ghost use Rattle.dspec.specs.Lent.{AllCallable};
+ghost use Rattle.dspec.specs.{Lanes.place_of, Lent.AllCallable};
 ghost use Rattle.dspec_cpu.specs.Standing.{IsCallable};
 
 use crate::push::number_of;

@@ -1,12 +1,10 @@
 -- What a sink keeps of a session of one CPU is what that CPU's batches hold.
 use Rattle.std.proofs.Common.{◌≡◌, ◌<◌, ◌==◌, true, if◌then◌else◌, List, [], ◌∷◌, ◌++◌, Option, Some, None, refl, sym, ap, ◌∙◌, subst, arith}
-use Rattle.std.proofs.lemmas.Bool.Decides.{nat_tests}
-use Rattle.std.proofs.lemmas.List.{append-nil, append_assoc}
-use Rattle.std.proofs.lemmas.List.Elements.{All-head, All-tail}
+use Rattle.std.proofs.lemmas.{Bool.Decides.nat_tests, List.append-nil, List.append_assoc, List.Elements.All-head, List.Elements.All-tail}
 use Rattle.dspec.specs.Words.{Record, EnabledRows, enabled, table_shape, table_accepts, table_text, enabled-IsLimited, table-shapes_fit, table-texts_fit, table-texts_differ, HoldRecords}
-use Rattle.dspec.specs.Words.{RecordSinkFault, SinkRecords, KeepsBatch, Passed, AreFrom, GotAll, passed_from}
-use Rattle.dspec_buffer.proofs.SchemaLaws.{SchemaLaws}
-use Rattle.dspec_buffer.proofs.OneReading.{one_reading}
+use Rattle.dspec.specs.Words.{SinkRecords, KeepsBatch, Passed, AreFrom, GotAll, passed_from}
+use Rattle.dspec.specs.declared.record_sink.RecordSinkFault.{RecordSinkFault}
+use Rattle.dspec_buffer.proofs.{OneReading.one_reading, SchemaLaws.SchemaLaws}
 
 module _ (e : EnabledRows) where
   laws : SchemaLaws (table_shape e.header (enabled e.rows)) (table_accepts e.header (enabled e.rows)) (table_text e.header (enabled e.rows))

@@ -1,15 +1,10 @@
 -- What calls of a path that keeps its last records come to.
 use Rattle.std.proofs.Common.{arith, ◌≡◌, ◌∙◌, ◌&&◌, ℕ, nat_le, length, Bool, List, Option, Ok, IsTrue, subst, sym}
 use Rattle.std.proofs.lemmas.Bool.Decides.{nat_tests}
-use Rattle.dspec.specs.Words.{Record, Speculation, id_given, By, schema_of, with_values, Lane, LastPath, DecisionOn, SpeculateOn, DecidesIfThere, FollowsOn, LastEndOn, LastRecordOn, LastValuesOn}
-use Rattle.dspec.specs.Words.{OffersNextOn, SettlesOn}
-use Rattle.dspec_record.specs.declared.schema.Schema.{Ghosts}
-use Rattle.dspec_deeds.specs.declared.calls.Decided.{Decided}
-use Rattle.dspec_deeds.specs.declared.calls.Opening.{Opening}
+use Rattle.dspec.specs.Words.{Record, Speculation, id_given, By, schema_of, with_values, DecisionOn, SpeculateOn, DecidesIfThere, FollowsOn, LastEndOn, LastRecordOn, LastValuesOn, OffersNextOn}
+use Rattle.dspec.specs.Words.{SettlesOn, Ghosts, Decided, Opening, Spoken, Deed, Cpu}
+use Rattle.dspec.specs.declared.{lane.Lane.Lane, last_path.LastPath.LastPath}
 use Rattle.dspec_deeds.specs.declared.calls.Opening.TheVariants as opening
-use Rattle.dspec_deeds.specs.declared.calls.Spoken.{Spoken}
-use Rattle.dspec_deeds.specs.declared.deed.Deed.{Deed}
-use Rattle.dspec_cpu.specs.declared.cpu.Cpu.{Cpu}
 
 module _ {S : Type 0} {g : Ghosts S} (has : Cpu S → List Deed → Type 0) where
   pub ends_so : (b : By) (p : LastPath) (id : Speculation) (older : Option Decided) (newer : Decided) (old mid new : Lane S g)

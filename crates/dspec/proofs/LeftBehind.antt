@@ -1,8 +1,7 @@
 -- What is left of the CPUs of a closed session, one CPU after another.
 use Rattle.std.proofs.Common.{◌≡◌, ℕ, zero, suc, ◌+◌, ◌<◌, List, [], ◌∷◌, drop, length, Some, refl, sym, ap, ◌∙◌, arith}
 use Rattle.std.specs.Prelude.{slice_get, option_copied}
-use Rattle.dspec_session_core.specs.declared.left.Left.{Left}
-use Rattle.dspec.specs.Words.{ClosedCpu, left_shown, lefts_from}
+use Rattle.dspec.specs.{Words.Left, Words.left_shown, Words.lefts_from, declared.closing.ClosedCpu.ClosedCpu}
 
 -- behind the first n there is one, and the others
 one_more : (xs : List Left) (n : ℕ) → n < length xs → (l : Left) × (slice_get xs n ≡ Some l) × (drop n xs ≡ l ∷ drop (suc n) xs)

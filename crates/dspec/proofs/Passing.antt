@@ -1,21 +1,10 @@
 -- What a sink gets, and what is taken meanwhile.
 use Rattle.std.proofs.Common.{◌≡◌, ℕ, zero, suc, ◌+◌, ◌<◌, ◌==◌, ⊎_elim, Bool, true, false, if◌then◌else◌, List, [], ◌∷◌, ◌++◌, length, map, take, refl, sym, ap, ◌∙◌, subst, arith}
-use Rattle.std.specs.Prelude.{slice_get, slice_set, Some, None, Result, Ok, Err, OnOk, OnErr, MatchBool}
-use Rattle.std.specs.Option.{option_map_or}
-use Rattle.std.proofs.lemmas.Bool.Decides.{nat_tests}
-use Rattle.std.proofs.lemmas.List.{append-nil, append_assoc}
-use Rattle.std.proofs.lemmas.List.Elements.{All-append, All-cons, All-nil}
-use Rattle.std.proofs.lemmas.Option.{slice_get_within}
-use Rattle.dspec_deeds.specs.declared.config.Config.{Config}
-use Rattle.dspec_deeds.specs.declared.deed.Deed.{Deed}
-use Rattle.dspec_deeds.specs.declared.deed.Deed.TheVariants.{Release}
-use Rattle.dspec_table.specs.declared.rule.View.{View}
-use Rattle.dspec_table.specs.declared.seats.ConsumerSeat.{ConsumerSeat}
+use Rattle.std.proofs.lemmas.{Bool.Decides.nat_tests, List.append-nil, List.append_assoc, List.Elements.All-append, List.Elements.All-cons, List.Elements.All-nil, Option.slice_get_within}
+use Rattle.std.specs.{Option.option_map_or, Prelude.slice_get, Prelude.slice_set, Prelude.Some, Prelude.None, Prelude.Result, Prelude.Ok, Prelude.Err, Prelude.OnOk, Prelude.OnErr, Prelude.MatchBool}
+use Rattle.dspec.specs.Words.{Config, Deed, Release, View, ConsumerSeat, known_there, ConsumerKnows, waiting, Took, FoundNone, GaveBack, IsNotTakenBack, Asked, Consuming, IsConsumerOf, Stays}
+use Rattle.dspec.specs.Words.{set_up_of, view_of, taken_at, Passed, AreFrom, passed_from, each_from, left_batches, rests_passed, GotAll, PassesOn, Batch, Left}
 use Rattle.dspec_table.specs.declared.seats.Words.{Words}
-use Rattle.dspec.specs.Words.{known_there, ConsumerKnows, waiting, Took, FoundNone, GaveBack, IsNotTakenBack, Asked, Consuming, IsConsumerOf, Stays, set_up_of, view_of, taken_at, Passed, AreFrom}
-use Rattle.dspec.specs.Words.{passed_from, each_from, left_batches, rests_passed, GotAll, PassesOn}
-use Rattle.dspec_ring.specs.declared.batch.Batch.{Batch}
-use Rattle.dspec_session_core.specs.declared.left.Left.{Left}
 use Rattle.dspec_session_core.proofs.PromisedBy.{there_is}
 
 -- a batch more stands before the others of its CPU

@@ -1,14 +1,8 @@
 -- What was lent of a session is given back.
-use Rattle.std.proofs.Common.{arith, ◌≡◌, ℕ, ◌<◌, ◌++◌, List, length, take, drop, Some, refl, get_or}
-use Rattle.std.proofs.lemmas.Bool.Decides.{nat_tests}
+use Rattle.std.proofs.{Common.arith, Common.◌≡◌, Common.ℕ, Common.◌<◌, Common.◌++◌, Common.List, Common.length, Common.take, Common.drop, Common.Some, Common.refl, Common.get_or}
+use Rattle.std.proofs.{Math.Seq.take-append_seam, lemmas.Bool.Decides.nat_tests, lemmas.Option.slice_get_read}
 use Rattle.std.specs.Prelude.{slice_get}
-use Rattle.std.proofs.lemmas.Option.{slice_get_read}
-use Rattle.std.proofs.Math.Seq.{take-append_seam}
-use Rattle.dspec_cpu.specs.declared.cpu.Cpu.{Cpu}
-use Rattle.dspec_cpu.specs.declared.shared.Shared.{Shared}
-use Rattle.dspec_deeds.specs.declared.deed.Deed.{Deed}
-use Rattle.dspec.specs.Words.{CallsMade, called, no_calls, words_of, IsCallable, Stays, IsFresh, IsSession, AllCallable, AllReturned}
-use Rattle.dspec_session_core.specs.declared.session.Session.{Session}
+use Rattle.dspec.specs.Words.{Cpu, Shared, Deed, CallsMade, called, no_calls, words_of, IsCallable, Stays, IsFresh, IsSession, AllCallable, AllReturned, Session}
 
 module _ {S : Type 0} where
   -- each CPU of a session can be lent

@@ -1,8 +1,7 @@
 -- Services behind a work: one more, and what all of them settled.
 use Rattle.std.proofs.Common.{◌≡◌, ℕ, zero, suc, List, [], ◌++◌, refl, sym, ap, ◌∙◌, append_assoc}
 use Rattle.std.proofs.lemmas.List.{map-append}
-use Rattle.dspec.specs.Words.{Speculation, emptied, service, CallsMade, settled_did, ServedOn, ServedOnce, ServedTimes}
-use Rattle.dspec_deeds.specs.declared.deed.DecideFate.{DecideFate}
+use Rattle.dspec.specs.Words.{Speculation, emptied, service, CallsMade, settled_did, ServedOn, ServedOnce, ServedTimes, DecideFate}
 
 -- none
 pub not_served : (x : CallsMade) → ServedOn x x

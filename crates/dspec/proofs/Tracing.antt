@@ -1,21 +1,11 @@
 -- A session that closed: what the sink got is what its CPUs accepted, and what each is promised.
-use Rattle.std.proofs.lemmas.Bool.Decides.{nat_tests}
 use Rattle.std.proofs.Common.{◌≡◌, ℕ, zero, suc, ◌+◌, ◌<◌, Bool, List, [], ◌∷◌, ◌++◌, length, map, All, refl, sym, ap, ◌∙◌, subst, arith}
-use Rattle.std.specs.Prelude.{slice_get, Option, Some}
-use Rattle.std.specs.Option.{option_map_or}
-use Rattle.std.proofs.lemmas.List.{append-nil, append_assoc}
-use Rattle.std.proofs.lemmas.List.Elements.{All-append, All-head, All-tail}
+use Rattle.std.proofs.lemmas.{Bool.Decides.nat_tests, List.append-nil, List.append_assoc, List.Elements.All-append, List.Elements.All-head, List.Elements.All-tail}
+use Rattle.std.specs.{Option.option_map_or, Prelude.slice_get, Prelude.Option, Prelude.Some}
 use Rattle.dspec.specs.Words.{Record, stream, known, ConsumerKnows, IsUnusedConsumer, CallsMade, called, no_calls, number_in, seat_of, waiting, ClosesAs, HoldInOrder, IsClosedBy, Consuming}
 use Rattle.dspec.specs.Words.{set_up_of, view_of, AllSteady, Has, IsPromised, IsPromisedBy, called_at, entered_at, HasAt, IsFresh, taken_at, all_did, did, Passed, AreFrom, passed_from, left_batches}
-use Rattle.dspec.specs.Words.{rests_passed, GotAll, PassesOn, HasLists, IsOneList, IsKept, IsTraced}
-use Rattle.dspec_record.specs.declared.field.Shape.{Shape}
-use Rattle.dspec_deeds.specs.declared.config.Config.{Config}
-use Rattle.dspec_deeds.specs.declared.deed.Deed.{Deed}
-use Rattle.dspec_deeds.specs.declared.deed.Deed.TheVariants.{Release}
+use Rattle.dspec.specs.Words.{rests_passed, GotAll, PassesOn, HasLists, IsOneList, IsKept, IsTraced, Shape, Config, Deed, Release, Batch, Cpu, Left}
 use Rattle.dspec_table.specs.declared.seats.Words.{Words}
-use Rattle.dspec_ring.specs.declared.batch.Batch.{Batch}
-use Rattle.dspec_cpu.specs.declared.cpu.Cpu.{Cpu}
-use Rattle.dspec_session_core.specs.declared.left.Left.{Left}
 use Rattle.dspec_session_core.proofs.PromisedBy.{there_is, called_there, entered_there, had_tells}
 use Rattle.dspec.proofs.Passing.{from_both, got_both, rest_there, rests_from}
 

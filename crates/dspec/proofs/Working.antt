@@ -1,15 +1,11 @@
 -- CPUs that are paired with workers, what those did, and both apart again.
 use Rattle.std.proofs.Common.{◌≡◌, ℕ, zero, suc, ◌<◌, List, [], ◌∷◌, ◌++◌, length, map, take, drop, append_assoc, Some, refl, sym, ap, ◌∙◌, subst, get_or, arith}
-use Rattle.std.specs.Prelude.{slice_get, slice_index_or, remove}
-use Rattle.std.specs.Option.{option_map}
-use Rattle.std.proofs.lemmas.List.{length-map, map_push}
-use Rattle.std.proofs.lemmas.Option.{slice_get-map, slice_get_read}
 use Rattle.std.proofs.Math.Seq.{take-append_seam}
+use Rattle.std.proofs.lemmas.{List.length-map, List.map_push, Option.slice_get-map, Option.slice_get_read}
+use Rattle.std.specs.{Option.option_map, Prelude.slice_get, Prelude.slice_index_or, Prelude.remove}
 use Rattle.dspec.specs.Words.{EnabledRows, CallsMade, called, number_in, schema_of, IsCallable, IsSession, AllCallable, AllReturned, Returned, ThenServed, AllNumbered, AllWorked, WorkedBy, cpus_of}
-use Rattle.dspec.specs.Words.{workers_of, Working}
-use Rattle.dspec_cpu.specs.declared.cpu.Cpu.{Cpu}
-use Rattle.dspec_cpu.specs.declared.shared.Shared.{Shared}
-use Rattle.dspec_session_core.specs.declared.session.Session.{Session}
+use Rattle.dspec.specs.Words.{workers_of, Cpu, Shared, Session}
+use Rattle.dspec.specs.declared.workers.Working.{Working}
 
 -- the first element, and what is left when it is removed
 pub first_and_rest : {A : Type 0} (xs : List A) (x : A) → 0 < length xs → x ≡ slice_index_or xs 0 x → x ∷ remove xs 0 ≡ xs

@@ -1,11 +1,8 @@
 -- A call by its values does what its relation says, as a work tells it.
 use Rattle.std.proofs.Common.{◌≡◌, ℕ, Bool, List, ap, subst}
 use Rattle.std.specs.Prelude.{Option, Some, None, IfSome, IfNone}
-use Rattle.dspec.specs.Words.{Record, Speculation, called, with_speculate, with_trace, schema_of, TracesOne, SpeculatesOne, RecordsValues, OffersValues, with_values, DidRecord, DidStep}
-use Rattle.dspec_deeds.specs.declared.calls.Spoken.{Spoken}
-use Rattle.dspec_deeds.specs.declared.calls.Traced.{Traced}
-use Rattle.dspec_deeds.specs.declared.deed.Deed.{Deed}
-use Rattle.dspec_cpu.specs.declared.cpu.Cpu.{Cpu}
+use Rattle.dspec.specs.Words.{Record, Speculation, called, with_speculate, with_trace, schema_of, TracesOne, SpeculatesOne, RecordsValues, OffersValues, with_values, DidRecord, DidStep, Spoken}
+use Rattle.dspec.specs.Words.{Traced, Deed, Cpu}
 
 module _ {S : Type 0} (has : Cpu S → List Deed → Type 0) (accepted : S → Record → Bool) (schema : S) (epid stamp : ℕ) (values : List ℕ) (old new : Cpu S)
     (same : schema_of old ≡ schema) where

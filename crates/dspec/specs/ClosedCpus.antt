@@ -1,8 +1,6 @@
 -- Cited by calls. What is left of the CPUs of a closed session, with their numbers.
 use Rattle.std.specs.Prelude.{ℕ, ◌+◌, ◌∷◌, [], List, drop, option_copied}
-use Rattle.dspec_session_core.specs.declared.left.Left.{Left}
-use Rattle.dspec.specs.declared.closing.ClosedCpu.{ClosedCpu}
-use Rattle.dspec.specs.declared.each_closed.ClosedCpus.{ClosedCpus}
+use Rattle.dspec.specs.{Words.Outside.Left, declared.closing.ClosedCpu.ClosedCpu, declared.each_closed.ClosedCpus.ClosedCpus}
 
 -- a CPU by its number, and what is left of it
 pub record LeftOf : Type 0 where

@@ -1,7 +1,5 @@
 -- Cited by calls. What the system's clock counts.
-use Rattle.std.specs.Prelude.{ℕ, ◌-◌, ◌^◌, min}
-use Rattle.std.specs.Time.{instant_nanos}
-use Rattle.std.specs.declared.time.SystemTime.{SystemTime}
+use Rattle.std.specs.{Prelude.ℕ, Prelude.◌-◌, Prelude.◌^◌, Prelude.min, Time.instant_nanos, declared.time.SystemTime.SystemTime}
 use Rattle.dspec.specs.declared.system.SystemClock.{SystemClock}
 
 -- the reading at which it started, in nanoseconds

@@ -1,7 +1,6 @@
 -- Cited by calls. What a path is that was taken up.
 use Rattle.std.specs.Prelude.{◌==◌, if◌then◌else◌}
-use Rattle.dspec.specs.Words.Outside.{Speculation, id_number}
-use Rattle.dspec_deeds.specs.declared.calls.Opening.{Opening}
+use Rattle.dspec.specs.Words.Outside.{Speculation, id_number, Opening}
 use Rattle.dspec_deeds.specs.declared.calls.Opening.TheVariants as opening
 
 -- none where the word names none

@@ -1,21 +1,8 @@
 -- Cited by calls. What a call on a lane, or of a path on a lane, did: what the call of the lane's CPU did.
-use Rattle.std.specs.Prelude.{ℕ, ◌≡◌, Bool, List, Option, MatchOption, Result}
-use Rattle.std.specs.Result.{result_ok}
+use Rattle.std.specs.{Prelude.ℕ, Prelude.◌≡◌, Prelude.Bool, Prelude.List, Prelude.Option, Prelude.MatchOption, Prelude.Result, Result.result_ok}
 use Rattle.dspec.specs.Words.Outside.{Record, Speculation, dropped_in, report, id_given, By, cpu_block_fits, drops_told, config_of, number_in, schema_of, worn_of, IsOpenAt, CommitsIfRoom, TracesOne}
-use Rattle.dspec.specs.Words.Outside.{SpeculatesOne, OpensOne, DecidesOne, ServesOnce, RecordsValues, OffersValues}
-use Rattle.dspec_record.specs.declared.field.Shape.{Shape}
-use Rattle.dspec_record.specs.declared.schema.Schema.{Ghosts}
-use Rattle.dspec_deeds.specs.declared.calls.Decided.{Decided}
-use Rattle.dspec_deeds.specs.declared.calls.Opening.{Opening}
-use Rattle.dspec_deeds.specs.declared.calls.Served.{Served}
-use Rattle.dspec_deeds.specs.declared.calls.Spoken.{Spoken}
-use Rattle.dspec_deeds.specs.declared.calls.Traced.{Traced}
-use Rattle.dspec_deeds.specs.declared.deed.Deed.{Deed}
-use Rattle.dspec_deeds.specs.declared.report.Report.{Report}
-use Rattle.dspec_cpu.specs.declared.cpu.Cpu.{Cpu}
-use Rattle.dspec.specs.declared.bad_record.BadRecord.{BadRecord}
-use Rattle.dspec.specs.declared.lane.Lane.{Lane}
-use Rattle.dspec.specs.declared.path.Path.{Path}
+use Rattle.dspec.specs.Words.Outside.{SpeculatesOne, OpensOne, DecidesOne, ServesOnce, RecordsValues, OffersValues, Shape, Ghosts, Decided, Opening, Served, Spoken, Traced, Deed, Report, Cpu}
+use Rattle.dspec.specs.declared.{bad_record.BadRecord.BadRecord, lane.Lane.Lane, path.Path.Path}
 
 module _ {S : Type 0} {g : Ghosts S} (has : Cpu S → List Deed → Type 0) where
   abbrev pub TraceOn : Record → Traced → Lane S g → Lane S g → Type 0

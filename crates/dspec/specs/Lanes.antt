@@ -1,9 +1,6 @@
 -- Cited by calls. Which lane of which session a lane is.
 use Rattle.std.specs.Borrow.{GName}
-use Rattle.dspec_record.specs.declared.schema.Schema.{Ghosts}
-use Rattle.dspec_cpu.specs.declared.shared.Shared.{Shared}
-use Rattle.dspec.specs.Words.Outside.{CpuIdentity, identity}
-use Rattle.dspec.specs.declared.lane.Lane.{Lane}
+use Rattle.dspec.specs.{Words.Outside.Ghosts, Words.Outside.Shared, Words.Outside.CpuIdentity, Words.Outside.identity, declared.lane.Lane.Lane}
 
 -- the CPU that it is lent, and what that shares: no call changes it
 pub record LanePosition (S : Type 0) : Type 0 where

@@ -1,19 +1,10 @@
 -- Cited by calls. What calls did of a path of which the last records are kept.
 use Rattle.std.specs.Prelude.{ℕ, ◌≡◌, ◌+◌, ◌-◌, ◌^◌, min, Bool, List, Option, Some, None, Result, IsOk, IfOk, IfErr, ◌↔◌, IsTrue}
-use Rattle.dspec.specs.Words.Outside.{Record, Speculation, id_given, By, discard, takes_values, with_values}
-use Rattle.dspec_record.specs.declared.schema.Schema.{Ghosts}
-use Rattle.dspec_deeds.specs.declared.calls.Decided.{Decided}
-use Rattle.dspec_deeds.specs.declared.calls.Decided.TheVariants as decided
-use Rattle.dspec_deeds.specs.declared.calls.Opening.{Opening}
-use Rattle.dspec_deeds.specs.declared.calls.Opening.TheVariants as opening
-use Rattle.dspec_deeds.specs.declared.calls.Spoken.{Spoken}
-use Rattle.dspec_deeds.specs.declared.calls.Spoken.TheVariants.{Kept, Dropped}
-use Rattle.dspec_deeds.specs.declared.deed.Deed.{Deed}
-use Rattle.dspec_cpu.specs.declared.cpu.Cpu.{Cpu}
-use Rattle.dspec.specs.declared.bad_record.BadRecord.{BadRecord}
-use Rattle.dspec.specs.declared.lane.Lane.{Lane}
-use Rattle.dspec.specs.declared.last_path.LastPath.{LastPath}
 use Rattle.dspec.specs.LaneCalls.{DecisionOn, OpeningOn, SpeculateOn}
+use Rattle.dspec.specs.Words.Outside.{Record, Speculation, id_given, By, discard, takes_values, with_values, Ghosts, Decided, Opening, Spoken, Kept, Dropped, Deed, Cpu}
+use Rattle.dspec.specs.declared.{bad_record.BadRecord.BadRecord, lane.Lane.Lane, last_path.LastPath.LastPath}
+use Rattle.dspec_deeds.specs.declared.calls.Decided.TheVariants as decided
+use Rattle.dspec_deeds.specs.declared.calls.Opening.TheVariants as opening
 
 -- of one speculation, and nothing was cut
 abbrev pub path_begun : Opening → LastPath

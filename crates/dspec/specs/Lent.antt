@@ -1,8 +1,6 @@
 -- Serves proofs. What the threads of a session are lent, and give back.
 use Rattle.std.specs.Prelude.{ℕ, ◌≡◌, List, length, slice_get, Some}
-use Rattle.dspec_cpu.specs.declared.cpu.Cpu.{Cpu}
-use Rattle.dspec_cpu.specs.declared.shared.Shared.{Shared}
-use Rattle.dspec.specs.Words.Outside.{CallsMade, called, number_in, schema_of, IsCallable, identity}
+use Rattle.dspec.specs.Words.Outside.{Cpu, Shared, CallsMade, called, number_in, schema_of, IsCallable, identity}
 
 -- each CPU can be called by those who share this
 abbrev pub AllCallable : {S : Type 0} → Shared → List (Cpu S) → Type 0

@@ -1,14 +1,9 @@
 -- Believed. What a sink got of a session.
-use Rattle.std.specs.Prelude.{ℕ, ◌≡◌, ◌+◌, ◌<◌, ◌==◌, Bool, List, [], ◌∷◌, ◌++◌, map, slice_get, Option, Some, None, if◌then◌else◌}
 use Rattle.std.specs.List.{All}
+use Rattle.std.specs.Prelude.{ℕ, ◌≡◌, ◌+◌, ◌<◌, ◌==◌, Bool, List, [], ◌∷◌, ◌++◌, map, slice_get, Option, Some, None, if◌then◌else◌}
 use Rattle.dspec.specs.Words.Outside.{EnabledRows, Record, enabled, table_accepts, table_shape, table_text, stream, waiting, ClosesAs, HoldInOrder, Consuming, Stays, set_up_of, view_of, taken_at}
-use Rattle.dspec_record.specs.declared.field.Shape.{Shape}
-use Rattle.dspec_deeds.specs.declared.config.Config.{Config}
-use Rattle.dspec_deeds.specs.declared.deed.Deed.{Deed}
-use Rattle.dspec_deeds.specs.declared.deed.Deed.TheVariants.{Release}
+use Rattle.dspec.specs.Words.Outside.{Shape, Config, Deed, Release, Batch, Left}
 use Rattle.dspec_table.specs.declared.seats.Words.{Words}
-use Rattle.dspec_ring.specs.declared.batch.Batch.{Batch}
-use Rattle.dspec_session_core.specs.declared.left.Left.{Left}
 
 -- a batch, with the number of the CPU that it came from
 pub record Passed : Type 0 where

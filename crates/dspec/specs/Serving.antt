@@ -1,7 +1,6 @@
 -- Believed. What a CPU did once its work had returned: it made services, and nothing else.
 use Rattle.std.specs.Prelude.{ℕ, zero, suc, ◌≡◌}
-use Rattle.dspec_deeds.specs.declared.calls.Served.{Served}
-use Rattle.dspec.specs.Words.Outside.{CallsMade, WithService}
+use Rattle.dspec.specs.Words.Outside.{Served, CallsMade, WithService}
 
 -- a service, answered somehow
 abbrev pub ServedOnce : CallsMade → CallsMade → Type 0

@@ -1,11 +1,8 @@
 -- Cited by calls. What a sink keeps of the batches that it gets.
-use Rattle.std.specs.Prelude.{ℕ, ◌≡◌, ◌==◌, ◌-◌, Bool, false, List, [], ◌∷◌, ◌++◌, length, replicate, slice_get, Option, Some, None, if◌then◌else◌}
-use Rattle.std.specs.Option.{option_map_or}
-use Rattle.std.specs.List.{enumerate_from, flat_map}
-use Rattle.dspec.specs.Words.Outside.{Record, EnabledRows, enabled, table_shape, table_accepts, table_text, BufferText, StopsAt}
-use Rattle.dspec_ring.specs.declared.batch.Batch.{Batch}
-use Rattle.dspec.specs.declared.record_sink.RecordSinkFault.{RecordSinkFault}
-use Rattle.dspec.specs.declared.record_sink.RecordSinkFault.TheVariants.{Text, Memory}
+use Rattle.std.specs.{List.enumerate_from, List.flat_map, Option.option_map_or, Prelude.ℕ, Prelude.◌≡◌, Prelude.◌==◌, Prelude.◌-◌, Prelude.Bool, Prelude.false, Prelude.List, Prelude.[], Prelude.◌∷◌}
+use Rattle.std.specs.{Prelude.◌++◌, Prelude.length, Prelude.replicate, Prelude.slice_get, Prelude.Option, Prelude.Some, Prelude.None, Prelude.if◌then◌else◌}
+use Rattle.dspec.specs.Words.Outside.{Record, EnabledRows, enabled, table_shape, table_accepts, table_text, BufferText, StopsAt, Batch}
+use Rattle.dspec.specs.declared.record_sink.RecordSinkFault.{RecordSinkFault, TheVariants.Text, TheVariants.Memory}
 
 -- the records, in the order in which they came, of each the CPU, and why not all were kept
 pub record SinkRecords : Type 0 where

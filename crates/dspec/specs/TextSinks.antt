@@ -1,13 +1,8 @@
 -- Cited by calls. What a sink writes of the batches that it gets: a line for each record.
 use Rattle.std.specs.Prelude.{ℕ, ◌≡◌, ◌++◌, List, [], ◌∷◌, Option, Some, None, codes, decimal, option_and_then, option_map}
-use Rattle.dspec.specs.Words.Outside.{Record, EnabledRows, enabled, table_shape, table_accepts, table_text, BufferText, StopsAt, Declared, told_record, told_text}
-use Rattle.dspec_record.specs.declared.header.Header.{Header}
+use Rattle.dspec.specs.Words.Outside.{Record, EnabledRows, enabled, table_shape, table_accepts, table_text, BufferText, StopsAt, Declared, told_record, told_text, Header, Batch}
+use Rattle.dspec.specs.declared.text_sink.{TextSink.TextSink, TextSinkFault.TextSinkFault, TextSinkFault.TheVariants.Text, TextSinkFault.TheVariants.Write, ToldLine.ToldLine}
 use Rattle.dspec_record.specs.declared.header.Header.TheVariants as header
-use Rattle.dspec_ring.specs.declared.batch.Batch.{Batch}
-use Rattle.dspec.specs.declared.text_sink.TextSink.{TextSink}
-use Rattle.dspec.specs.declared.text_sink.ToldLine.{ToldLine}
-use Rattle.dspec.specs.declared.text_sink.TextSinkFault.{TextSinkFault}
-use Rattle.dspec.specs.declared.text_sink.TextSinkFault.TheVariants.{Text, Write}
 
 -- what stands in front of a record that is told
 abbrev pub line_front : ℕ → Option ℕ → List ℕ

@@ -1,13 +1,8 @@
 -- Believed. What a session that was traced whole promises, in the words of the page.
 use Rattle.std.specs.Prelude.{ℕ, ◌≡◌, ◌<◌, Bool, List, ◌++◌, map, slice_get, Option, Some}
-use Rattle.dspec.specs.Words.Outside.{EnabledRows, Record, enabled, table_accepts, table_shape, table_text, did, CallsMade, no_calls, IsPromisedBy, KeepsPage}
-use Rattle.dspec_record.specs.declared.field.Shape.{Shape}
-use Rattle.dspec_deeds.specs.declared.config.Config.{Config}
-use Rattle.dspec_deeds.specs.declared.deed.Deed.{Deed}
-use Rattle.dspec_deeds.specs.declared.deed.Deed.TheVariants.{Release}
-use Rattle.dspec_ring.specs.declared.batch.Batch.{Batch}
-use Rattle.dspec_session_core.specs.declared.left.Left.{Left}
 use Rattle.dspec.specs.Passed.{Passed, AreFrom, passed_from, left_batches, GotAll, HasLists}
+use Rattle.dspec.specs.Words.Outside.{EnabledRows, Record, enabled, table_accepts, table_shape, table_text, did, CallsMade, no_calls, IsPromisedBy, KeepsPage, Shape, Config, Deed, Release, Batch}
+use Rattle.dspec.specs.Words.Outside.{Left}
 
 module _ {K : Type 0} (gets : K → Batch → K → Type 0) (does : ℕ → CallsMade → CallsMade → Type 0) (shape : ℕ → Option Shape) (accepted : Record → Bool)
     (text : Record → List ℕ) where

@@ -1,7 +1,6 @@
 -- Serves proofs. What the consumer does in its rounds while a session is traced.
 use Rattle.std.specs.Prelude.{ℕ, ◌≡◌, ◌<◌, ◌+◌, ◌⊎◌}
-use Rattle.dspec_ring.specs.declared.batch.Batch.{Batch}
-use Rattle.dspec.specs.Words.Outside.{Asked, FoundNone, GaveBack, IsNotTakenBack, Took, Cleaned, Consuming, set_up_of, view_of}
+use Rattle.dspec.specs.Words.Outside.{Batch, Asked, FoundNone, GaveBack, IsNotTakenBack, Took, Cleaned, Consuming, set_up_of, view_of}
 
 module _ {K : Type 0} (gets : K → Batch → K → Type 0) where
   -- none came, or a batch came out of the CPU's ring, the sink got it, and it went back, unless that is refused

@@ -1,16 +1,7 @@
 -- Cited by calls. A path that is walked on a lane, with the clock of its steps.
-use Rattle.std.specs.Prelude.{ℕ, ◌≡◌, List, Option, MatchOption}
-use Rattle.std.specs.Borrow.{GName}
-use Rattle.dspec.specs.Words.Outside.{EnabledRows, Record, Speculation}
-use Rattle.dspec_record.specs.declared.schema.Schema.{Ghosts}
-use Rattle.dspec_deeds.specs.declared.calls.Spoken.{Spoken}
-use Rattle.dspec_deeds.specs.declared.deed.Deed.{Deed}
-use Rattle.dspec_cpu.specs.declared.cpu.Cpu.{Cpu}
-use Rattle.dspec.specs.declared.lane.Lane.{Lane}
-use Rattle.dspec.specs.declared.handing.Handed.{Handed}
-use Rattle.dspec.specs.LaneCalls.{SpeculateOn}
-use Rattle.dspec.specs.Lanes.{LanePosition, place_of}
-use Rattle.dspec.specs.declared.steps.Steps.{Steps}
+use Rattle.std.specs.{Borrow.GName, Prelude.ℕ, Prelude.◌≡◌, Prelude.List, Prelude.Option, Prelude.MatchOption}
+use Rattle.dspec.specs.{LaneCalls.SpeculateOn, Lanes.LanePosition, Lanes.place_of, Words.Outside.EnabledRows, Words.Outside.Record, Words.Outside.Speculation, Words.Outside.Ghosts}
+use Rattle.dspec.specs.{Words.Outside.Spoken, Words.Outside.Deed, Words.Outside.Cpu, declared.handing.Handed.Handed, declared.lane.Lane.Lane, declared.steps.Steps.Steps}
 
 -- whose lane it is and which, by which clock, and which path: no step changes it
 pub record Walk (C : Type 0) : Type 0 where

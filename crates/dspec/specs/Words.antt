@@ -14,8 +14,3 @@ pub use Rattle.dspec.specs.Traced.{IsKept, IsOneList, IsOneListWith, IsTraced}
 pub use Rattle.dspec.specs.Visits.{MakesRound, MakesRounds, no_rounds, none_visited, one_more, rounds_more, VisitsFirst}
 pub use Rattle.dspec.specs.Workers.{AllNumbered, AllWorked, cpus_of, one_for, with_cpus, WorkedBy, WorkedOn, WorkedOne, workers_of}
 pub use Rattle.dspec.specs.Works.{DidRecord, DidStep}
-pub use Rattle.dspec.specs.declared.closing.ClosedCpu.{ClosedCpu}
-pub use Rattle.dspec.specs.declared.lane.Lane.{Lane}
-pub use Rattle.dspec.specs.declared.last_path.LastPath.{LastPath}
-pub use Rattle.dspec.specs.declared.record_sink.RecordSinkFault.{RecordSinkFault}
-pub use Rattle.dspec.specs.declared.workers.Working.{Working}

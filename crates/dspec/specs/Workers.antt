@@ -1,10 +1,7 @@
 -- Cited by calls. What workers did, each on the CPU of its place.
 use Rattle.std.specs.Prelude.{ℕ, ◌≡◌, List, length, map, slice_get, Some}
-use Rattle.dspec.specs.Words.Outside.{EnabledRows, CallsMade, called, number_in, schema_of, identity}
-use Rattle.dspec_deeds.specs.declared.config.Config.{Config}
-use Rattle.dspec_cpu.specs.declared.cpu.Cpu.{Cpu}
-use Rattle.dspec.specs.Serving.{ThenServed}
-use Rattle.dspec.specs.declared.workers.Working.{Working}
+use Rattle.dspec.specs.{Serving.ThenServed, Words.Outside.EnabledRows, Words.Outside.CallsMade, Words.Outside.called, Words.Outside.number_in, Words.Outside.schema_of, Words.Outside.identity}
+use Rattle.dspec.specs.{Words.Outside.Config, Words.Outside.Cpu, declared.workers.Working.Working}
 
 -- a configuration of so many CPUs
 abbrev pub with_cpus : ℕ → Config → Config

@@ -1,8 +1,6 @@
 -- Cited by calls. What one call does to what a CPU's calls did, for a work that says what it does.
 use Rattle.std.specs.Prelude.{◌≡◌, ◌&&◌, ◌↔◌, nat_le, Bool, length, Option, IsSome, IfSome, IfNone, IsTrue}
-use Rattle.dspec.specs.Words.Outside.{Record, Speculation, CallsMade, with_speculate, with_trace}
-use Rattle.dspec_deeds.specs.declared.calls.Spoken.{Spoken}
-use Rattle.dspec_deeds.specs.declared.calls.Traced.{Traced}
+use Rattle.dspec.specs.Words.Outside.{Record, Speculation, CallsMade, with_speculate, with_trace, Spoken, Traced}
 
 -- a record by its values: there are eight at the most, and the schema accepts the record with them
 abbrev pub is_taken_by : (Record → Bool) → Record → Bool

@@ -3,9 +3,8 @@ ghost use Rattle.dspec_record.specs.LaidOut.{IsLaidBy};
 ghost use Rattle.dspec_deeds.specs.declared.calls.Opening.TheVariants as opening;
 ghost use Rattle.dspec_promise.specs.Promise.{commit, discard};
 ghost use Rattle.dspec_cpu.specs.Lists.{schema_of};
-ghost use Rattle.dspec.specs.LaneCalls.{OpeningOn};
-ghost use Rattle.dspec.specs.Lanes.{place_of};
-ghost use Rattle.dspec.specs.LastPaths.{DecidesIfThere, FollowsOn, LastEndOn, LastRecordOn, LastValuesOn, OffersNextOn, SettlesOn, TurnsOn, path_begun, records_thrown};
+ghost use Rattle.dspec.specs.{LaneCalls.OpeningOn, Lanes.place_of, LastPaths.DecidesIfThere, LastPaths.FollowsOn, LastPaths.LastEndOn, LastPaths.LastRecordOn, LastPaths.LastValuesOn};
+ghost use Rattle.dspec.specs.{LastPaths.OffersNextOn, LastPaths.SettlesOn, LastPaths.TurnsOn, LastPaths.path_begun, LastPaths.records_thrown};
 
 use crate::bad_record::BadRecord;
 use crate::lane::Lane;

@@ -1,7 +1,6 @@
 ghost use Rattle.std.specs.Prelude.{◌≡◌, IfErr};
 ghost use Rattle.dspec_promise.specs.Promise.{commit, discard};
-ghost use Rattle.dspec.specs.LaneCalls.{EndIfRoomOn, EndOn, OpeningOn, PathDropsOn, PathRecordOn};
-ghost use Rattle.dspec.specs.Lanes.{place_of};
+ghost use Rattle.dspec.specs.{LaneCalls.EndIfRoomOn, LaneCalls.EndOn, LaneCalls.OpeningOn, LaneCalls.PathDropsOn, LaneCalls.PathRecordOn, Lanes.place_of};
 
 use crate::bad_record::BadRecord;
 use crate::lane::Lane;

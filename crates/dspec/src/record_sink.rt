@@ -1,5 +1,5 @@
-ghost use Rattle.std.specs.Prelude.{◌≡◌, ◌-◌, ◌++◌, ◌⊎◌, IfOk, IfErr, OnOk, Some, None, length, replicate};
 ghost use Rattle.std.specs.List.{enumerate_from, flat_map};
+ghost use Rattle.std.specs.Prelude.{◌≡◌, ◌-◌, ◌++◌, ◌⊎◌, IfOk, IfErr, OnOk, Some, None, length, replicate};
 ghost use Rattle.dspec.specs.SinkRecords.{AddsText, KeepsBatch, IsRecordSinkFault, is_made_by, no_records, record_of_cpu, records_of_cpu};
 ghost use Rattle.dspec.specs.declared.record_sink.RecordSinkFault.TheVariants.{Memory};
 

@@ -1,11 +1,8 @@
 ghost use Rattle.std.specs.Prelude.{◌≡◌, ◌↔◌, ℕ, IfOk, IsOk, IsSome};
-ghost use Rattle.dspec_record.specs.EnablingRows.{EnabledRows};
-ghost use Rattle.dspec_record.specs.Record.{Record};
+ghost use Rattle.dspec_record.specs.{EnablingRows.EnabledRows, Record.Record};
 ghost use Rattle.dspec_deeds.specs.FateAnswers.{id_given};
 ghost use Rattle.dspec_cpu.specs.Lists.{schema_of};
-ghost use Rattle.dspec.specs.LaneCalls.{SpeculateIfOf, SpeculateOn, TraceIfOf, TraceOn};
-ghost use Rattle.dspec.specs.Lanes.{place_of};
-ghost use Rattle.dspec.specs.LastPaths.{LastRecordOn};
+ghost use Rattle.dspec.specs.{LaneCalls.SpeculateIfOf, LaneCalls.SpeculateOn, LaneCalls.TraceIfOf, LaneCalls.TraceOn, Lanes.place_of, LastPaths.LastRecordOn};
 
 use crate::fault::ForeignProbe;
 use crate::lane::Lane;

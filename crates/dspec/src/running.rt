@@ -2,18 +2,10 @@ ghost use Rattle.std.specs.Prelude.{◌≡◌, ◌≢◌, ◌<◌, ℕ, [], ◌�
 ghost use denote.Param.Send.{IsSync};
 ghost use Rattle.dspec_deeds.specs.declared.config.StartFault.TheVariants as start;
 ghost use Rattle.dspec_deeds.specs.Ranges.{start_fault};
-ghost use Rattle.dspec_cpu.specs.Called.{called};
-ghost use Rattle.dspec_cpu.specs.Lists.{number_in, schema_of, words_of};
-ghost use Rattle.dspec_cpu.specs.Standing.{IsCallable, identity};
-ghost use Rattle.dspec_session_core.specs.Consumers.{IsConsumerOf, set_up_of};
-ghost use Rattle.dspec_session_core.specs.declared.left.Left.{Left};
-ghost use Rattle.dspec_session_core.specs.Leaving.{AllSteady};
-ghost use Rattle.dspec_session_core.specs.Sessions.{IsSession};
-ghost use Rattle.dspec.specs.Lent.{AllCallable, AllReturned};
-ghost use Rattle.dspec.specs.Passed.{GotAll, HasListsWith, PassesOn, rests_passed};
-ghost use Rattle.dspec.specs.Serving.{ThenServed};
-ghost use Rattle.dspec.specs.Traced.{IsOneListWith, IsKeptWith, IsTracedWith};
-ghost use Rattle.dspec.specs.Visits.{MakesRound, MakesRounds, VisitsOne};
+ghost use Rattle.dspec_cpu.specs.{Called.called, Lists.number_in, Lists.schema_of, Lists.words_of, Standing.IsCallable, Standing.identity};
+ghost use Rattle.dspec_session_core.specs.{Consumers.IsConsumerOf, Consumers.set_up_of, Leaving.AllSteady, Sessions.IsSession, declared.left.Left.Left};
+ghost use Rattle.dspec.specs.{Lent.AllCallable, Lent.AllReturned, Passed.GotAll, Passed.HasListsWith, Passed.PassesOn, Passed.rests_passed, Serving.ThenServed, Traced.IsOneListWith};
+ghost use Rattle.dspec.specs.{Traced.IsKeptWith, Traced.IsTracedWith, Visits.MakesRound, Visits.MakesRounds, Visits.VisitsOne};
 
 use crate::lane::Lane;
 use crate::serving_on::WorkCounts;

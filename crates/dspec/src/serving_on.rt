@@ -1,7 +1,6 @@
 ghost use Rattle.std.specs.Prelude.{◌≡◌};
 ghost use Rattle.dspec_cpu.specs.Called.{called};
-ghost use Rattle.dspec.specs.Lanes.{place_of};
-ghost use Rattle.dspec.specs.Serving.{ServedOn, ServedOnce};
+ghost use Rattle.dspec.specs.{Lanes.place_of, Serving.ServedOn, Serving.ServedOnce};
 
 use crate::lane::Lane;
 use dspec_record::Schema;

@@ -2,9 +2,7 @@ ghost use Rattle.std.specs.Prelude.{◌≡◌, ◌↔◌, if◌then◌else◌, I
 ghost use Rattle.dspec_probe.specs.Probes.{IsProbeOf, probed_record};
 ghost use Rattle.dspec_promise.specs.Promise.{commit, discard};
 ghost use Rattle.dspec_cpu.specs.Lists.{schema_of};
-ghost use Rattle.dspec.specs.LaneCalls.{DecisionOn};
-ghost use Rattle.dspec.specs.Lanes.{place_of};
-ghost use Rattle.dspec.specs.Walks.{WalksOn, TriesOn, walk_of};
+ghost use Rattle.dspec.specs.{LaneCalls.DecisionOn, Lanes.place_of, Walks.WalksOn, Walks.TriesOn, Walks.walk_of};
 
 use crate::clock::Clock;
 use crate::handing::Handed;

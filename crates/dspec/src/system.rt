@@ -1,5 +1,4 @@
-ghost use Rattle.std.specs.Prelude.{◌≡◌, ◌≤◌, ℕ};
-ghost use Rattle.std.specs.Time.{instant_nanos};
+ghost use Rattle.std.specs.{Prelude.◌≡◌, Prelude.◌≤◌, Prelude.ℕ, Time.instant_nanos};
 ghost use Rattle.dspec.specs.Counts.{count_at, start_of, time_of_start};
 
 use crate::clock::Clock;

@@ -1,5 +1,4 @@
-ghost use Rattle.std.specs.Prelude.{◌≡◌, IfErr, IfOk, None, OnOk, Some};
-ghost use Rattle.std.specs.Fmt.{WritesText};
+ghost use Rattle.std.specs.{Fmt.WritesText, Prelude.◌≡◌, Prelude.IfErr, Prelude.IfOk, Prelude.None, Prelude.OnOk, Prelude.Some};
 ghost use Rattle.dspec.specs.TextSinks.{ToldInTurn, IsTextSinkFault, TellsWhole, TellsText, stamp_in_line, told_line, told_line_text};
 ghost use Rattle.dspec.specs.declared.text_sink.TextSinkFault.TheVariants.{Write};
 

@@ -1,6 +1,5 @@
 ghost use Rattle.std.specs.Prelude.{◌≡◌};
-ghost use Rattle.dspec_cpu.specs.Called.{called};
-ghost use Rattle.dspec_cpu.specs.Lists.{number_in, schema_of};
+ghost use Rattle.dspec_cpu.specs.{Called.called, Lists.number_in, Lists.schema_of};
 ghost use Rattle.dspec.specs.Lanes.{place_of};
 
 use crate::lane::Lane;

@@ -2,17 +2,10 @@ ghost use Rattle.std.specs.Prelude.{◌≡◌, ◌≢◌, ◌≤◌, ◌<◌, �
 ghost use denote.Param.Send.{IsSync};
 ghost use Rattle.dspec_deeds.specs.declared.config.StartFault.TheVariants as start;
 ghost use Rattle.dspec_deeds.specs.Ranges.{start_fault};
-ghost use Rattle.dspec_cpu.specs.Called.{called};
-ghost use Rattle.dspec_cpu.specs.Lists.{number_in, schema_of, words_of};
-ghost use Rattle.dspec_cpu.specs.Standing.{IsCallable, identity};
-ghost use Rattle.dspec_session_core.specs.Consumers.{IsConsumerOf, set_up_of};
-ghost use Rattle.dspec_session_core.specs.Sessions.{IsSession};
-ghost use Rattle.dspec.specs.Lent.{AllCallable, AllReturned};
-ghost use Rattle.dspec.specs.Passed.{HasListsWith, PassesOn};
-ghost use Rattle.dspec.specs.Serving.{ThenServed};
-ghost use Rattle.dspec.specs.Traced.{IsOneListWith, IsKeptWith, IsTracedWith};
-ghost use Rattle.dspec.specs.Visits.{MakesRounds};
-ghost use Rattle.dspec.specs.Workers.{AllNumbered, AllWorked, WorkedBy, WorkedOn, WorkedOne, cpus_of, one_for, workers_of};
+ghost use Rattle.dspec_cpu.specs.{Called.called, Lists.number_in, Lists.schema_of, Lists.words_of, Standing.IsCallable, Standing.identity};
+ghost use Rattle.dspec_session_core.specs.{Consumers.IsConsumerOf, Consumers.set_up_of, Sessions.IsSession};
+ghost use Rattle.dspec.specs.{Lent.AllCallable, Lent.AllReturned, Passed.HasListsWith, Passed.PassesOn, Serving.ThenServed, Traced.IsOneListWith, Traced.IsKeptWith, Traced.IsTracedWith};
+ghost use Rattle.dspec.specs.{Visits.MakesRounds, Workers.AllNumbered, Workers.AllWorked, Workers.WorkedBy, Workers.WorkedOn, Workers.WorkedOne, Workers.cpus_of, Workers.one_for, Workers.workers_of};
 
 use crate::lane::Lane;
 use crate::running::{MOST_CPUS, all_stand, drain, pass_rests};

@@ -1,7 +1,7 @@
 -- Lists of accepted records.
 use Rattle.std.proofs.Common.{◌++◌, Bool, IsTrue, List, [], ◌∷◌}
-use Rattle.std.specs.List.{All}
 use Rattle.std.proofs.lemmas.List.Elements.{All-head, All-tail, All-cons, All-nil}
+use Rattle.std.specs.List.{All}
 use Rattle.dspec_buffer.specs.Words.{Record}
 
 abbrev pub AllAccepted : (Record → Bool) → List Record → Type 0

@@ -1,13 +1,9 @@
 -- What one step of reading gives where the records ahead are known.
-use Rattle.std.proofs.lemmas.Bool.Decides.{nat_tests}
 use Rattle.std.proofs.Common.{◌≡◌, ℕ, Bool, Option, Some, None, Result, Ok, Err, MatchResult, List, [], ◌∷◌, length, drop, refl, sym, subst, arith}
-use Rattle.std.proofs.lemmas.List.{drop_all}
-use Rattle.dspec_buffer.specs.Words.{Record, StandsNext, BufferText, NextIs, FaultIs, ReadsNext, StepsAhead, HasAhead, ReadFault}
-use Rattle.dspec_record.specs.declared.field.Shape.{Shape}
-use Rattle.dspec_buffer.proofs.SchemaLaws.{SchemaLaws}
-use Rattle.dspec_buffer.proofs.Nexts.{next_same, next_not_nil}
-use Rattle.dspec_buffer.proofs.OneReading.{follows}
-use Rattle.dspec_buffer.proofs.Faulty.{no_text_here}
+use Rattle.std.proofs.lemmas.{Bool.Decides.nat_tests, List.drop_all}
+use Rattle.dspec_buffer.specs.Words.{Record, StandsNext, BufferText, NextIs, FaultIs, ReadsNext, StepsAhead, HasAhead, Shape}
+use Rattle.dspec_buffer.specs.declared.read_fault.ReadFault.{ReadFault}
+use Rattle.dspec_buffer.proofs.{Faulty.no_text_here, Nexts.next_same, Nexts.next_not_nil, OneReading.follows, SchemaLaws.SchemaLaws}
 
 module _ (shape : ℕ → Option Shape) (accepted : Record → Bool) (text : Record → List ℕ) (laws : SchemaLaws shape accepted text) where
   -- no record is next at the end

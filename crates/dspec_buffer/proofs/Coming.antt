@@ -1,11 +1,8 @@
 -- How far a reader has come: the bytes behind it are the text of the records that it has read.
-use Rattle.std.proofs.lemmas.Bool.Decides.{nat_tests}
 use Rattle.std.proofs.Common.{◌≡◌, ◌+◌, ◌++◌, ℕ, Bool, Option, List, [], ◌∷◌, length, take, drop, refl, sym, ap, subst, ◌∙◌, arith, length-append, append_assoc}
-use Rattle.std.proofs.lemmas.List.{append-nil, take-append-drop, length-take-le, take_at, take_all}
-use Rattle.dspec_buffer.specs.Words.{Record, BufferText, StopsAt, StopsBehind, HasRead, NextIs, FaultIs, ReadFault}
-use Rattle.dspec_record.specs.declared.field.Shape.{Shape}
-use Rattle.dspec_buffer.proofs.SchemaLaws.{SchemaLaws}
-use Rattle.dspec_buffer.proofs.Gluing.{glued}
+use Rattle.std.proofs.lemmas.{Bool.Decides.nat_tests, List.append-nil, List.take-append-drop, List.length-take-le, List.take_at, List.take_all}
+use Rattle.dspec_buffer.specs.{Words.Record, Words.BufferText, Words.StopsAt, Words.StopsBehind, Words.HasRead, Words.NextIs, Words.FaultIs, Words.Shape, declared.read_fault.ReadFault.ReadFault}
+use Rattle.dspec_buffer.proofs.{Gluing.glued, SchemaLaws.SchemaLaws}
 
 module _ (shape : ℕ → Option Shape) (accepted : Record → Bool) (text : Record → List ℕ) (laws : SchemaLaws shape accepted text) where
   -- one record more stands up to the next place

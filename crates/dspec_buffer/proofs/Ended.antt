@@ -1,11 +1,8 @@
 -- A reader that has come to a text's end or first fault: the records up to there are all of the text, or those before the fault.
-use Rattle.std.proofs.lemmas.Bool.Decides.{nat_tests}
 use Rattle.std.proofs.Common.{◌≡◌, ℕ, Bool, Option, Some, None, IfSome, IfNone, List, take, subst, arith}
-use Rattle.dspec_buffer.specs.Words.{Record, BufferText, StopsBehind, HasRead, EndsAt, Remaining, ReadFault}
-use Rattle.dspec_record.specs.declared.field.Shape.{Shape}
-use Rattle.dspec_buffer.proofs.SchemaLaws.{SchemaLaws}
-use Rattle.dspec_buffer.proofs.Coming.{reads_all, stops_behind}
-use Rattle.dspec_buffer.proofs.Left.{remaining_at_start}
+use Rattle.std.proofs.lemmas.Bool.Decides.{nat_tests}
+use Rattle.dspec_buffer.specs.{Words.Record, Words.BufferText, Words.StopsBehind, Words.HasRead, Words.EndsAt, Words.Remaining, Words.Shape, declared.read_fault.ReadFault.ReadFault}
+use Rattle.dspec_buffer.proofs.{Coming.reads_all, Coming.stops_behind, Left.remaining_at_start, SchemaLaws.SchemaLaws}
 
 module _ (shape : ℕ → Option Shape) (accepted : Record → Bool) (text : Record → List ℕ) (laws : SchemaLaws shape accepted text) where
   has_read : (b : List ℕ) (o : ℕ) (end : Option ReadFault) → EndsAt shape accepted text b o end → HasRead shape accepted text b o

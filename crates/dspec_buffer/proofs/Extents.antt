@@ -2,12 +2,9 @@
 -- many bytes as they make.
 use Rattle.std.proofs.Common.{◌≡◌, ◌+◌, ◌*◌, ◌%◌, ◌≤◌, ◌⊎◌, ◌++◌, ℕ, Bool, Option, List, [], ◌∷◌, length, inr, refl, sym, ap, ◌∙◌, arith, length-append}
 use Rattle.dspec_buffer.specs.Words.{Record, Piece, one, block, records, records_of, reserved, size_of, align_of, extent_of_records, extent, piece_size, piece_align, piece_bytes, bytes_of_records}
-use Rattle.dspec_buffer.specs.Words.{bytes, padded}
-use Rattle.dspec_record.specs.declared.field.Shape.{Shape}
-use Rattle.dspec_buffer.proofs.SchemaLaws.{SchemaLaws}
-use Rattle.dspec_buffer.proofs.Texts.{text_facts}
-use Rattle.dspec_buffer.proofs.Padding.{length-padded, reserved_facts}
-use Rattle.dspec_buffer.proofs.Accepted.{AllAccepted, front_accepted, back_accepted, first_accepted, others_accepted}
+use Rattle.dspec_buffer.specs.Words.{bytes, padded, Shape}
+use Rattle.dspec_buffer.proofs.{Accepted.AllAccepted, Accepted.front_accepted, Accepted.back_accepted, Accepted.first_accepted, Accepted.others_accepted, Padding.length-padded}
+use Rattle.dspec_buffer.proofs.{Padding.reserved_facts, SchemaLaws.SchemaLaws, Texts.text_facts}
 
 module _ (shape : ℕ → Option Shape) (accepted : Record → Bool) (text : Record → List ℕ) (laws : SchemaLaws shape accepted text) where
   -- n records reach to e, and make these bytes

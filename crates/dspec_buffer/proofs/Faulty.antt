@@ -1,12 +1,8 @@
 -- Bytes that reading stops in are the text of no list of records.
-use Rattle.std.proofs.lemmas.Bool.Decides.{nat_tests}
 use Rattle.std.proofs.Common.{◌≡◌, ◌+◌, ◌++◌, ℕ, Bool, Option, List, [], ◌∷◌, length, refl, subst, arith}
-use Rattle.dspec_buffer.specs.Words.{Record, IsGap, BufferText, FaultHere, StopsAt, ReadFault}
-use Rattle.dspec_record.specs.declared.field.Shape.{Shape}
-use Rattle.dspec_record.specs.declared.reading.ReadKind.{ReadKind}
-use Rattle.dspec_buffer.proofs.SchemaLaws.{SchemaLaws}
-use Rattle.dspec_buffer.proofs.NoRecord.{fault_long, fault_excludes}
-use Rattle.dspec_buffer.proofs.OneReading.{goes_on}
+use Rattle.std.proofs.lemmas.Bool.Decides.{nat_tests}
+use Rattle.dspec_buffer.specs.{Words.Record, Words.IsGap, Words.BufferText, Words.FaultHere, Words.StopsAt, Words.Shape, Words.ReadKind, declared.read_fault.ReadFault.ReadFault}
+use Rattle.dspec_buffer.proofs.{NoRecord.fault_long, NoRecord.fault_excludes, OneReading.goes_on, SchemaLaws.SchemaLaws}
 
 module _ (shape : ℕ → Option Shape) (accepted : Record → Bool) (text : Record → List ℕ) (laws : SchemaLaws shape accepted text) where
   -- behind a gap with a fault there is no text

@@ -1,14 +1,11 @@
 -- Where a piece is placed, and that it is refused just where it doesn't fit.
-use Rattle.std.proofs.lemmas.Bool.Decides.{nat_tests, leb_tells}
-use Rattle.std.proofs.Common.{◌≡◌, ◌≢◌, ◌+◌, ◌-◌, ◌%◌, ◌≤◌, ◌<◌, ◌⊎◌, ◌++◌, ℕ, true, false, List, [], ◌∷◌, length}
-use Rattle.std.proofs.Common.{take, drop, replicate, sym, ap, ◌∙◌, arith, ⊎_elim, nat_le, Option, Some, None, append_assoc, length-append}
-use Rattle.std.proofs.lemmas.Slice.{take-put_mid}
-use Rattle.std.proofs.lemmas.List.{length-take-le, take-take, take-append-le}
+use Rattle.std.proofs.Common.{◌≡◌, ◌≢◌, ◌+◌, ◌-◌, ◌%◌, ◌≤◌, ◌<◌, ◌⊎◌, ◌++◌, ℕ, true, false, List, [], ◌∷◌, length, take, drop, replicate, sym, ap, ◌∙◌, arith, ⊎_elim, nat_le, Option, Some, None}
+use Rattle.std.proofs.Common.{append_assoc, length-append}
+use Rattle.std.proofs.lemmas.{Bool.Decides.nat_tests, Bool.Decides.leb_tells, List.length-take-le, List.take-take, List.take-append-le, Slice.take-put_mid}
 use borrow.Rule.Slice.PartMut.{put_mid}
 use Rattle.std.specs.Option.{MatchOption, is_some}
 use Rattle.dspec_buffer.specs.Words.{rounded_up, after, reserved, padding, padded}
-use Rattle.dspec_buffer.proofs.Rounding.{rounded}
-use Rattle.dspec_buffer.proofs.Padding.{padding_facts, reserved_some, reserved_none}
+use Rattle.dspec_buffer.proofs.{Padding.padding_facts, Padding.reserved_some, Padding.reserved_none, Rounding.rounded}
 
 yes_le : (a b : ℕ) → a ≤ b → true ≡ nat_le a b
 yes_le a b h = ⊎_elim (λ p. sym p.0) (λ p. let q = p.1 in absurd (omega arith)) (leb_tells a b)

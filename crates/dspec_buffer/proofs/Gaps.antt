@@ -1,10 +1,8 @@
 -- Padding words in bytes: four zero bytes are an EPID of 0.
-use Rattle.std.proofs.lemmas.Bool.Decides.{nat_tests, eqb_tells}
 use Rattle.std.proofs.Common.{◌≡◌, ◌+◌, ◌-◌, ◌%◌, ◌≤◌, ◌<◌, ℕ, true, Option, Some, None, List, length, take, drop, get_or, ap, arith, ⊎_elim, nat_lt, nat_eq, if◌then◌else◌}
+use Rattle.std.proofs.lemmas.{Bool.cases_lt, Bool.lt-ltb, Bool.le-ltb, Bool.Decides.nat_tests, Bool.Decides.eqb_tells, List.length-take-le, List.get_or-take, List.get_or_past, List.take-append-drop}
+use Rattle.std.proofs.lemmas.{List.drop-drop, List.take_rest, Nat.le_bytes_4}
 use Rattle.std.specs.Option.{option_eq}
-use Rattle.std.proofs.lemmas.Nat.{le_bytes_4}
-use Rattle.std.proofs.lemmas.Bool.{cases_lt, lt-ltb, le-ltb}
-use Rattle.std.proofs.lemmas.List.{length-take-le, get_or-take, get_or_past, take-append-drop, drop-drop, take_rest}
 use Rattle.dspec_buffer.specs.Words.{front_epid, padding_word, SkipsGap}
 use Rattle.dspec_buffer.proofs.Texts.{front_epid-take}
 

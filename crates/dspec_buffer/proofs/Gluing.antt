@@ -1,12 +1,8 @@
 -- Texts put together: one behind another, one moved by a multiple of eight, one behind a gap.
-use Rattle.std.proofs.lemmas.Bool.Decides.{nat_tests}
 use Rattle.std.proofs.Common.{◌≡◌, ◌+◌, ◌%◌, ◌⊎◌, ◌++◌, ℕ, Bool, IsTrue, Option, List, [], ◌∷◌, length, inl, inr, ap, subst, ◌∙◌, arith, ⊎_elim, append_assoc}
-use Rattle.std.proofs.lemmas.List.{append-nil}
-use Rattle.dspec_buffer.specs.Words.{Record, align_of, IsGap, BufferText}
-use Rattle.dspec_record.specs.declared.field.Shape.{Shape}
-use Rattle.dspec_buffer.proofs.SchemaLaws.{SchemaLaws}
-use Rattle.dspec_buffer.proofs.Texts.{text_facts}
-use Rattle.dspec_buffer.proofs.Nexts.{next_long}
+use Rattle.std.proofs.lemmas.{Bool.Decides.nat_tests, List.append-nil}
+use Rattle.dspec_buffer.specs.Words.{Record, align_of, IsGap, BufferText, Shape}
+use Rattle.dspec_buffer.proofs.{Nexts.next_long, SchemaLaws.SchemaLaws, Texts.text_facts}
 
 multiple : (o k g a : ℕ) → (a ≡ 4) ⊎ (a ≡ 8) → k % 8 ≡ 0 → (o + g) % a ≡ 0 → (k + o + g) % a ≡ 0
 multiple = grind (arith, nat_tests)

@@ -1,13 +1,8 @@
 -- What a schema reads at the front of bytes, as a reader at some place answers it.
-use Rattle.std.proofs.lemmas.Bool.Decides.{nat_tests, eqb_tells}
 use Rattle.std.proofs.Common.{◌≡◌, ◌+◌, ◌-◌, ◌%◌, ◌<◌, ◌++◌, ℕ, Bool, Option, Err, List, length, drop, sym, ap, subst, ◌∙◌, arith, ⊎_elim, length-append, length-drop}
-use Rattle.std.proofs.lemmas.List.{take-append-drop, drop-drop}
-use Rattle.dspec_buffer.specs.Words.{Record, front_epid, NamesShape, BeginsWith, Answers, FaultHere, NoGapAt, StandsHere}
-use Rattle.dspec_record.specs.declared.field.Shape.{Shape}
-use Rattle.dspec_record.specs.declared.reading.ReadKind.{ReadKind}
-use Rattle.dspec_record.specs.declared.reading.ReadKind.TheVariants.{Misaligned}
-use Rattle.dspec_buffer.proofs.SchemaLaws.{SchemaLaws}
-use Rattle.dspec_buffer.proofs.Texts.{text_facts}
+use Rattle.std.proofs.lemmas.{Bool.Decides.nat_tests, Bool.Decides.eqb_tells, List.take-append-drop, List.drop-drop}
+use Rattle.dspec_buffer.specs.Words.{Record, front_epid, NamesShape, BeginsWith, Answers, FaultHere, NoGapAt, StandsHere, Shape, ReadKind, Misaligned}
+use Rattle.dspec_buffer.proofs.{SchemaLaws.SchemaLaws, Texts.text_facts}
 
 module _ (shape : ℕ → Option Shape) (accepted : Record → Bool) (text : Record → List ℕ) (laws : SchemaLaws shape accepted text) where
   -- where nothing is misaligned, an EPID that has a shape stands at a multiple of its alignment

@@ -1,8 +1,7 @@
 -- Readers that stand at the same place of the same text are the same reader.
 use Rattle.std.proofs.Common.{◌≡◌, ◌≤◌, ℕ, List, length, ap, ◌∙◌, Bor}
 use Rattle.std.specs.Coded.{le_prop}
-use Rattle.dspec_record.specs.declared.schema.Schema.{Ghosts}
-use Rattle.dspec_buffer.specs.Words.{Inside, Remaining, Remaining-prop}
+use Rattle.dspec_buffer.specs.{Words.Ghosts, Words.Remaining, Words.Remaining-prop, declared.records.Records.TheInside.Inside}
 
 pub same_inside : {D : Type 0} {G : Ghosts D} (schema : Bor D) (text : Bor (List ℕ)) (place : ℕ) (w w' : place ≤ length text.now)
     (m m' : Remaining (G.shape_of schema.now) (G.accepted schema.now) (G.text schema.now) text.now place)

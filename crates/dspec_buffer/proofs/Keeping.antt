@@ -1,15 +1,10 @@
 -- A `ByteBuffer` that gets a piece more.
-use Rattle.std.proofs.lemmas.Bool.Decides.{nat_tests}
 use Rattle.std.proofs.Common.{◌≡◌, ◌+◌, ◌*◌, ◌%◌, ◌≤◌, ◌++◌, ℕ, Bool, IsTrue, Option, Some, List, [], ◌∷◌, length, take, map, refl, sym, ap, subst, ◌∙◌, arith, length-append, nat_le}
-use Rattle.std.proofs.lemmas.List.{length-take-le, nil_from_length, append-nil}
-use Rattle.std.proofs.lemmas.List.Elements.{All-append, All-cons, All-nil}
+use Rattle.std.proofs.lemmas.{Bool.Decides.nat_tests, List.length-take-le, List.nil_from_length, List.append-nil, List.Elements.All-append, List.Elements.All-cons, List.Elements.All-nil}
 use Rattle.dspec_buffer.specs.Words.{Record, Piece, one, block, reserved, piece_fits, records, records_of, size_of, align_of, extent, extent_of_records, piece_align, piece_size, piece_bytes, padded}
-use Rattle.dspec_buffer.specs.Words.{bytes, bytes_of_records, Stored, HasPieces, IsInside, stored_of}
-use Rattle.dspec_record.specs.declared.field.Shape.{Shape}
+use Rattle.dspec_buffer.specs.Words.{bytes, bytes_of_records, Stored, HasPieces, IsInside, stored_of, Shape}
 use Rattle.dspec_buffer.specs.declared.byte_buffer.ByteBuffer.TheInside.{Inside}
-use Rattle.dspec_buffer.proofs.SchemaLaws.{SchemaLaws}
-use Rattle.dspec_buffer.proofs.Accepted.{AllAccepted}
-use Rattle.dspec_buffer.proofs.Extents.{IsExtent, records_extent, pieces_extent}
+use Rattle.dspec_buffer.proofs.{Accepted.AllAccepted, Extents.IsExtent, Extents.records_extent, Extents.pieces_extent, SchemaLaws.SchemaLaws}
 
 -- records alone reach as far, and make the same bytes, whether they are pieces or a block
 pub records-alone : (rs : List Record) → records (map one rs) ≡ rs

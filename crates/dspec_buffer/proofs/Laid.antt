@@ -1,7 +1,6 @@
 -- A record that says itself what its shape and its bytes are, and a schema that says the same.
 use Rattle.std.proofs.Common.{◌≡◌, ◌≤◌, ◌+◌, ◌∙◌, ℕ, true, arith, List, length, take, Option, Some, None, option_map, is_some, IfSome, sym, ap}
-use Rattle.dspec_buffer.specs.Words.{Record, Laid, IsLaidBy, rounded_up}
-use Rattle.dspec_record.specs.declared.field.Shape.{Shape}
+use Rattle.dspec_buffer.specs.Words.{Record, Laid, IsLaidBy, rounded_up, Shape}
 
 -- rounding up to whole words of eight bytes adds fewer than eight
 rounded_below : (n : ℕ) → rounded_up n 8 ≤ n + 7

@@ -1,11 +1,9 @@
 -- The one list of records that a reader of a checked text has before it.
 use Rattle.std.proofs.Common.{◌≡◌, ◌≤◌, ℕ, Bool, Option, Some, None, List, [], ◌∷◌, length, drop, refl, sym, ap, subst, ◌∙◌, arith}
 use Rattle.std.proofs.Math.Logic.{∥∥₁_elim}
-use Rattle.dspec_buffer.specs.Words.{Record, BufferText, StepsAhead, HasAhead, IsOneText, Remaining, StepsOn, records_set, Remaining-prop}
-use Rattle.dspec_record.specs.declared.field.Shape.{Shape}
+use Rattle.dspec_buffer.specs.Words.{Record, BufferText, StepsAhead, HasAhead, IsOneText, Remaining, StepsOn, records_set, Remaining-prop, Shape}
 use Rattle.std.specs.Coded.{le_prop}
-use Rattle.dspec_buffer.proofs.SchemaLaws.{SchemaLaws}
-use Rattle.dspec_buffer.proofs.OneReading.{one_reading}
+use Rattle.dspec_buffer.proofs.{OneReading.one_reading, SchemaLaws.SchemaLaws}
 
 module _ (shape : ℕ → Option Shape) (accepted : Record → Bool) (text : Record → List ℕ) (laws : SchemaLaws shape accepted text) where
   pub remaining_of : (b : List ℕ) (o : ℕ) (rs : List Record) → HasAhead shape accepted text b o rs → Remaining shape accepted text b o

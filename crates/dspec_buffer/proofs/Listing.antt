@@ -1,15 +1,10 @@
 -- A `ListBuffer` that gets a piece more.
-use Rattle.std.proofs.lemmas.Bool.Decides.{nat_tests}
 use Rattle.std.proofs.Common.{◌≡◌, ◌+◌, ◌++◌, ℕ, Bool, IsTrue, Option, List, [], ◌∷◌, length, map, reverse, sym, ap, ◌∙◌, arith, length-append}
-use Rattle.std.proofs.lemmas.List.{reverse-append, nil_from_length, append-nil}
-use Rattle.std.proofs.lemmas.List.Elements.{All-append, All-cons, All-nil}
-use Rattle.std.proofs.lemmas.Grind.{flat_map-append}
+use Rattle.std.proofs.lemmas.{Bool.Decides.nat_tests, Grind.flat_map-append, List.reverse-append, List.nil_from_length, List.append-nil, List.Elements.All-append, List.Elements.All-cons}
+use Rattle.std.proofs.lemmas.{List.Elements.All-nil}
 use Rattle.std.specs.List.{flat_map}
-use Rattle.dspec_buffer.specs.Words.{Record, Piece, one, block, records, records_of, extent, extent_of_records, ListView, HasListed}
-use Rattle.dspec_record.specs.declared.field.Shape.{Shape}
-use Rattle.dspec_buffer.proofs.Accepted.{AllAccepted}
-use Rattle.dspec_buffer.proofs.Keeping.{records-alone, extent-alone}
-use Rattle.dspec_buffer.proofs.Padding.{reserved_none}
+use Rattle.dspec_buffer.specs.Words.{Record, Piece, one, block, records, records_of, extent, extent_of_records, ListView, HasListed, Shape}
+use Rattle.dspec_buffer.proofs.{Accepted.AllAccepted, Keeping.records-alone, Keeping.extent-alone, Padding.reserved_none}
 
 module _ (shape : ℕ → Option Shape) (accepted : Record → Bool) (text : Record → List ℕ) where
   -- what a piece more makes of a buffer

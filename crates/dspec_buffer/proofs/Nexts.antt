@@ -1,11 +1,8 @@
 -- At a place of some bytes at most one record can be next.
-use Rattle.std.proofs.lemmas.Bool.Decides.{nat_tests}
 use Rattle.std.proofs.Common.{◌≡◌, ◌+◌, ◌≤◌, ◌++◌, ℕ, Bool, IsTrue, Option, List, [], length, ap, ◌∙◌, arith, length-append}
-use Rattle.std.proofs.lemmas.List.{append_cancel_left}
-use Rattle.dspec_buffer.specs.Words.{Record, padding_word, StandsNext}
-use Rattle.dspec_record.specs.declared.field.Shape.{Shape}
-use Rattle.dspec_buffer.proofs.SchemaLaws.{SchemaLaws}
-use Rattle.dspec_buffer.proofs.Texts.{text_facts, front_epid-padding}
+use Rattle.std.proofs.lemmas.{Bool.Decides.nat_tests, List.append_cancel_left}
+use Rattle.dspec_buffer.specs.Words.{Record, padding_word, StandsNext, Shape}
+use Rattle.dspec_buffer.proofs.{SchemaLaws.SchemaLaws, Texts.text_facts, Texts.front_epid-padding}
 
 module _ (shape : ℕ → Option Shape) (accepted : Record → Bool) (text : Record → List ℕ) (laws : SchemaLaws shape accepted text) where
   -- a record's text doesn't begin with a padding word

@@ -1,14 +1,8 @@
 -- Where there is a fault, no record can be next.
-use Rattle.std.proofs.lemmas.Bool.Decides.{nat_tests}
 use Rattle.std.proofs.Common.{◌≡◌, ◌≢◌, ◌+◌, ◌%◌, ◌≤◌, ◌<◌, ◌++◌, ℕ, Bool, IsTrue, Option, List, length, inl, inr, ap, ◌∙◌, arith, length-append}
-use Rattle.std.proofs.lemmas.List.{append_cancel_left, take_at}
-use Rattle.dspec_buffer.specs.Words.{Record, front_epid, NamesShape, align_of, padding_word, IsGap, StandsNext, FaultHere}
-use Rattle.dspec_record.specs.declared.field.Shape.{Shape}
-use Rattle.dspec_record.specs.declared.reading.ReadKind.{ReadKind}
-use Rattle.dspec_record.specs.declared.reading.ReadKind.TheVariants.{Truncated, UnknownEpid, Misaligned, GapNotZero, Padding}
-use Rattle.dspec_buffer.proofs.SchemaLaws.{SchemaLaws}
-use Rattle.dspec_buffer.proofs.Texts.{text_facts, front_epid-padding}
-use Rattle.dspec_buffer.proofs.Nexts.{text_no_padding}
+use Rattle.std.proofs.lemmas.{Bool.Decides.nat_tests, List.append_cancel_left, List.take_at}
+use Rattle.dspec_buffer.specs.Words.{Record, front_epid, NamesShape, align_of, padding_word, IsGap, StandsNext, FaultHere, Shape, ReadKind, Truncated, UnknownEpid, Misaligned, GapNotZero, Padding}
+use Rattle.dspec_buffer.proofs.{Nexts.text_no_padding, SchemaLaws.SchemaLaws, Texts.text_facts, Texts.front_epid-padding}
 
 module _ (shape : ℕ → Option Shape) (accepted : Record → Bool) (text : Record → List ℕ) (laws : SchemaLaws shape accepted text) where
   -- the text of this record stands at the front, at a place that is aligned for it

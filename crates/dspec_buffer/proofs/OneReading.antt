@@ -1,10 +1,8 @@
 -- No bytes are the text of two lists of records; and a text that goes on behind another is read on from there.
-use Rattle.std.proofs.lemmas.Bool.Decides.{nat_tests}
 use Rattle.std.proofs.Common.{◌≡◌, ◌+◌, ◌++◌, ℕ, Bool, Option, List, [], ◌∷◌, length, refl, ap, subst, ◌∙◌, arith, append_assoc}
-use Rattle.dspec_buffer.specs.Words.{Record, StandsNext, BufferText}
-use Rattle.dspec_record.specs.declared.field.Shape.{Shape}
-use Rattle.dspec_buffer.proofs.SchemaLaws.{SchemaLaws}
-use Rattle.dspec_buffer.proofs.Nexts.{SameNext, next_same, next_long, next_not_nil}
+use Rattle.std.proofs.lemmas.Bool.Decides.{nat_tests}
+use Rattle.dspec_buffer.specs.Words.{Record, StandsNext, BufferText, Shape}
+use Rattle.dspec_buffer.proofs.{Nexts.SameNext, Nexts.next_same, Nexts.next_long, Nexts.next_not_nil, SchemaLaws.SchemaLaws}
 
 module _ (shape : ℕ → Option Shape) (accepted : Record → Bool) (text : Record → List ℕ) (laws : SchemaLaws shape accepted text) where
   -- what follows a record follows it wherever the same record is next

@@ -1,10 +1,8 @@
 -- A padding word that is always written, and a text over it where there is no padding.
-use Rattle.std.proofs.lemmas.Bool.Decides.{nat_tests}
 use Rattle.std.proofs.Common.{◌≡◌, ◌≤◌, ◌⊎◌, inl, inr, ◌+◌, ◌-◌, ◌++◌, ℕ, List, length, take, drop, replicate, sym, ap, ◌∙◌, arith, append_assoc, append-nil, length-append}
-use Rattle.std.proofs.lemmas.List.{take-take, take_at, length-take-le, length-drop, take-append-le}
+use Rattle.std.proofs.lemmas.{Bool.Decides.nat_tests, List.take-take, List.take_at, List.length-take-le, List.length-drop, List.take-append-le, Slice.take-put_mid}
 use lib.Seq.{take-append-add}
 use borrow.Rule.Slice.PartMut.{put_mid}
-use Rattle.std.proofs.lemmas.Slice.{take-put_mid}
 
 -- up to the place stand the bytes before, and the padding where there is some
 up_to : (from place : ℕ) (bytes new : List ℕ) → (place ≡ from) ⊎ (place ≡ from + 4) → from ≤ length bytes → take (from + 4) new ≡ take from bytes ++ replicate 4 0

@@ -1,14 +1,9 @@
 -- Texts one behind another: what is read at a place where the records behind it are known.
-use Rattle.std.proofs.lemmas.Bool.Decides.{nat_tests}
 use Rattle.std.proofs.Common.{◌≡◌, ◌+◌, ◌++◌, ℕ, Bool, IsTrue, Option, Some, None, Ok, Err, List, [], ◌∷◌, length, drop, sym, ap, subst, ◌∙◌, arith, length-append, length-drop}
-use Rattle.std.proofs.lemmas.List.{take-append-drop, take_at, drop-drop, append_cancel_left}
+use Rattle.std.proofs.lemmas.{Bool.Decides.nat_tests, List.take-append-drop, List.take_at, List.drop-drop, List.append_cancel_left}
 use Rattle.std.specs.List.{flat_map}
-use Rattle.dspec_buffer.specs.Words.{Record, NamesShape, Answers, HasTexts, StepsAhead}
-use Rattle.dspec_record.specs.declared.field.Shape.{Shape}
-use Rattle.dspec_record.specs.declared.reading.ReadKind.{ReadKind}
-use Rattle.dspec_buffer.proofs.SchemaLaws.{SchemaLaws}
-use Rattle.dspec_buffer.proofs.Texts.{text_facts}
-use Rattle.dspec_buffer.proofs.Accepted.{first_accepted, others_accepted}
+use Rattle.dspec_buffer.specs.Words.{Record, NamesShape, Answers, HasTexts, StepsAhead, Shape, ReadKind}
+use Rattle.dspec_buffer.proofs.{Accepted.first_accepted, Accepted.others_accepted, SchemaLaws.SchemaLaws, Texts.text_facts}
 
 module _ (shape : ℕ → Option Shape) (accepted : Record → Bool) (text : Record → List ℕ) (laws : SchemaLaws shape accepted text) where
   same_size : (r : Record) (x : List ℕ) (s : Shape) → IsTrue (accepted r) → NamesShape shape (text r ++ x) s → s.size ≡ length (text r)

@@ -1,6 +1,6 @@
 -- Padding words, and what a reservation takes.
-use Rattle.std.proofs.lemmas.Bool.Decides.{nat_tests, eqb_tells}
 use Rattle.std.proofs.Common.{◌≡◌, ◌≢◌, ◌+◌, ◌-◌, ◌%◌, ◌≤◌, ◌⊎◌, ℕ, List, [], length, replicate, inl, inr, refl, arith, ⊎_elim}
+use Rattle.std.proofs.lemmas.Bool.Decides.{nat_tests, eqb_tells}
 use Rattle.dspec_buffer.specs.Words.{rounded_up, reserved, padding, padding_word, padded, IsGap}
 use Rattle.dspec_buffer.proofs.Rounding.{IsRounded, rounded}
 

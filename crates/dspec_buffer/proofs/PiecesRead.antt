@@ -1,17 +1,11 @@
 -- The bytes of pieces are the text of their records.
-use Rattle.std.proofs.lemmas.Bool.Decides.{nat_tests}
 use Rattle.std.proofs.Common.{◌≡◌, ◌+◌, ◌%◌, ℕ, Bool, Option, List, [], ◌∷◌, length, reverse, refl, sym, subst, arith}
-use Rattle.std.proofs.lemmas.List.{reverse-append}
+use Rattle.std.proofs.lemmas.{Bool.Decides.nat_tests, List.reverse-append}
 use Rattle.dspec_buffer.specs.Words.{Record, Piece, one, block, records, records_of, align_of, extent_of_records, extent, piece_align, piece_bytes, bytes_of_records, bytes, padding, padded}
-use Rattle.dspec_buffer.specs.Words.{BufferText}
-use Rattle.dspec_record.specs.declared.field.Shape.{Shape}
-use Rattle.dspec_buffer.proofs.SchemaLaws.{SchemaLaws}
-use Rattle.dspec_buffer.proofs.Texts.{text_facts}
-use Rattle.dspec_buffer.proofs.Padding.{IsPadding, padding_facts}
-use Rattle.dspec_buffer.proofs.Nexts.{next_not_nil}
-use Rattle.dspec_buffer.proofs.Accepted.{AllAccepted, front_accepted, back_accepted, first_accepted, others_accepted}
-use Rattle.dspec_buffer.proofs.Extents.{records_extent, pieces_extent, piece_facts}
-use Rattle.dspec_buffer.proofs.Gluing.{glued, moved, behind_gap, alone}
+use Rattle.dspec_buffer.specs.Words.{BufferText, Shape}
+use Rattle.dspec_buffer.proofs.{Accepted.AllAccepted, Accepted.front_accepted, Accepted.back_accepted, Accepted.first_accepted, Accepted.others_accepted, Extents.records_extent}
+use Rattle.dspec_buffer.proofs.{Extents.pieces_extent, Extents.piece_facts, Gluing.glued, Gluing.moved, Gluing.behind_gap, Gluing.alone, Nexts.next_not_nil, Padding.IsPadding, Padding.padding_facts}
+use Rattle.dspec_buffer.proofs.{SchemaLaws.SchemaLaws, Texts.text_facts}
 
 module _ (shape : ℕ → Option Shape) (accepted : Record → Bool) (text : Record → List ℕ) (laws : SchemaLaws shape accepted text) where
   -- a text behind the padding that its place needs

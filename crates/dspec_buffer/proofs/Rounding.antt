@@ -1,8 +1,7 @@
 -- Offsets are whole words, and alignments four or eight.
-use Rattle.std.proofs.lemmas.Bool.Decides.{nat_tests}
 use Rattle.std.proofs.Common.{◌≡◌, ◌≢◌, ◌+◌, ◌-◌, ◌%◌, ◌⊎◌, ℕ, inl, inr, ap, ◌∙◌, arith}
+use Rattle.std.proofs.lemmas.{Bool.Decides.nat_tests, Nat.and_le_r, Nat.and_mod}
 use Rattle.std.specs.Int.Bits.{bit_and, and_zero_r}
-use Rattle.std.proofs.lemmas.Nat.{and_le_r, and_mod}
 use Rattle.dspec_buffer.specs.Words.{rounded_up}
 
 -- what rounding up does: nothing, or one word up to a multiple of eight

@@ -1,7 +1,6 @@
 -- The laws of a schema, as lemmas over plain functions take them.
 use Rattle.std.specs.Prelude.{◌≡◌, ◌++◌, ℕ, Bool, IsTrue, List, Option, Some, None}
-use Rattle.dspec_buffer.specs.Words.{Record, IsShape, IsTextOf}
-use Rattle.dspec_record.specs.declared.field.Shape.{Shape}
+use Rattle.dspec_buffer.specs.Words.{Record, IsShape, IsTextOf, Shape}
 
 pub record SchemaLaws (shape : ℕ → Option Shape) (accepted : Record → Bool) (text : Record → List ℕ) : Type 0 where
   pub zero_has_none : shape 0 ≡ None

@@ -1,13 +1,9 @@
 -- The records that a reader has been given so far are those of the bytes up to its place, and no others.
-use Rattle.std.proofs.lemmas.Bool.Decides.{nat_tests}
-use Rattle.std.proofs.Common.{◌≡◌, ◌<◌, ◌≤◌, ◌++◌, ℕ, Bool, Option, List, [], ◌∷◌, length, take, refl, arith}
-use Rattle.std.proofs.Math.Logic.{∥∥₁_elim, ∥∥₁_prop}
-use Rattle.dspec_buffer.specs.Words.{Record, StopsBehind, HasRead, NextIs, FaultIs, IsOneText, Remaining, records_set, IsOneText-prop, ReadFault}
-use Rattle.dspec_record.specs.declared.field.Shape.{Shape}
-use Rattle.dspec_buffer.proofs.SchemaLaws.{SchemaLaws}
-use Rattle.dspec_buffer.proofs.Nexts.{next_long}
-use Rattle.dspec_buffer.proofs.Coming.{text_with_one, stops_behind}
-use Rattle.dspec_buffer.proofs.Left.{one_text_at_start}
+use Rattle.std.proofs.{Common.◌≡◌, Common.◌<◌, Common.◌≤◌, Common.◌++◌, Common.ℕ, Common.Bool, Common.Option, Common.List, Common.[], Common.◌∷◌, Common.length, Common.take, Common.refl}
+use Rattle.std.proofs.{Common.arith, Math.Logic.∥∥₁_elim, Math.Logic.∥∥₁_prop, lemmas.Bool.Decides.nat_tests}
+use Rattle.dspec_buffer.specs.Words.{Record, StopsBehind, HasRead, NextIs, FaultIs, IsOneText, Remaining, records_set, IsOneText-prop, Shape}
+use Rattle.dspec_buffer.specs.declared.read_fault.ReadFault.{ReadFault}
+use Rattle.dspec_buffer.proofs.{Coming.text_with_one, Coming.stops_behind, Left.one_text_at_start, Nexts.next_long, SchemaLaws.SchemaLaws}
 
 module _ (shape : ℕ → Option Shape) (accepted : Record → Bool) (text : Record → List ℕ) (laws : SchemaLaws shape accepted text) where
   -- nothing was given yet

@@ -1,8 +1,7 @@
 -- What the texts of accepted records are like, whatever the schema.
 use Rattle.std.proofs.Common.{◌≡◌, ◌≢◌, ◌%◌, ◌≤◌, ◌⊎◌, ◌++◌, ℕ, List, [], ◌∷◌, length, take, Bool, IsTrue, Option, Some, None, refl, sym, ap, ◌∙◌, arith}
 use Rattle.std.proofs.lemmas.Nat.{from_le_bytes-to_le_bytes_4}
-use Rattle.dspec_buffer.specs.Words.{Record, front_epid, size_of, align_of, padding_word}
-use Rattle.dspec_record.specs.declared.field.Shape.{Shape}
+use Rattle.dspec_buffer.specs.Words.{Record, front_epid, size_of, align_of, padding_word, Shape}
 use Rattle.dspec_buffer.proofs.SchemaLaws.{SchemaLaws}
 
 -- four bytes or more have four at their front

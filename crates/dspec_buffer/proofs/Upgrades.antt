@@ -1,21 +1,12 @@
 -- A buffer while a text is upgraded into it, record by record.
-use Rattle.std.proofs.lemmas.Bool.Decides.{nat_tests, eqb_tells}
 use Rattle.std.proofs.Common.{leb, ◌≡◌, ◌≤◌, ◌<◌, ◌⊎◌, ◌+◌, ◌++◌, ◌^◌, ℕ, Bool, true, false, IsTrue, Option, List, [], ◌∷◌, length, refl, sym, ap, subst, ◌∙◌, arith, append_assoc, ⊎_elim}
-use Rattle.std.proofs.lemmas.Bool.{lt-ltb, leb-true, leb-false}
-use Rattle.std.proofs.lemmas.List.{append-nil, reverse-append, map-append, length-reverse, length-map}
-use Rattle.std.proofs.lemmas.List.Elements.{All-cons, All-nil}
+use Rattle.std.proofs.lemmas.Bool.{lt-ltb, leb-true, leb-false, Decides.nat_tests, Decides.eqb_tells}
+use Rattle.std.proofs.lemmas.List.{append-nil, reverse-append, map-append, length-reverse, length-map, Elements.All-cons, Elements.All-nil}
 use Rattle.dspec_buffer.specs.Words.{Record, EnabledRows, FieldTable, enabled, table_shape, table_accepts, table_text, enabled-IsLimited, table-shapes_fit, table-texts_fit, table-texts_differ}
 use Rattle.dspec_buffer.specs.Words.{Piece, one, records, reserved, align_of, size_of, piece_fits, BufferText, Stored, HasPieces, stamped, all_stamped, IsOldText, new_extent, HasNew, IsUpgradable}
-use Rattle.dspec_buffer.specs.Words.{IsUpgraded, FillsUp}
-use Rattle.dspec_record.specs.declared.field.Field.{Field}
-use Rattle.dspec_record.specs.declared.header.Header.{Header}
-use Rattle.dspec_record.specs.declared.header.Header.TheVariants.{Two}
-use Rattle.dspec_record.specs.declared.field.Shape.{Shape}
-use Rattle.dspec_buffer.proofs.SchemaLaws.{SchemaLaws}
-use Rattle.dspec_buffer.proofs.Accepted.{AllAccepted, back_accepted, first_accepted, others_accepted}
-use Rattle.dspec_buffer.proofs.OneReading.{one_reading}
-use Rattle.dspec_buffer.proofs.Texts.{text_facts}
-use Rattle.dspec_buffer.proofs.Keeping.{records-alone}
+use Rattle.dspec_buffer.specs.Words.{IsUpgraded, FillsUp, Field, Header, Two, Shape}
+use Rattle.dspec_buffer.proofs.{Accepted.AllAccepted, Accepted.back_accepted, Accepted.first_accepted, Accepted.others_accepted, Keeping.records-alone, OneReading.one_reading, SchemaLaws.SchemaLaws}
+use Rattle.dspec_buffer.proofs.{Texts.text_facts}
 
 -- the records of a text are accepted
 pub text_accepted : (shape : ℕ → Option Shape) (accepted : Record → Bool) (text : Record → List ℕ) (o : ℕ) (b : List ℕ) (rs : List Record)

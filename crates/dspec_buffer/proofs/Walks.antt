@@ -1,12 +1,10 @@
 -- A walk over the text of a `ByteBuffer`.
-use Rattle.std.proofs.lemmas.Bool.Decides.{nat_tests}
 use Rattle.std.proofs.Common.{◌≡◌, ℕ, Bool, Option, List, [], ◌∷◌, reverse, inr, sym, subst, arith}
+use Rattle.std.proofs.lemmas.Bool.Decides.{nat_tests}
 use Rattle.std.specs.Prelude.{Result, Ok, Err, IfOk, OnErr, IsOkAnd}
-use Rattle.dspec_buffer.specs.Words.{Record, Piece, records, BufferText, Stored, HasPieces, HasAhead, StepsAhead, IsAhead, ReadFault}
-use Rattle.dspec_record.specs.declared.field.Shape.{Shape}
-use Rattle.dspec_buffer.proofs.SchemaLaws.{SchemaLaws}
-use Rattle.dspec_buffer.proofs.OneReading.{one_reading}
-use Rattle.dspec_buffer.proofs.PiecesRead.{pieces_read}
+use Rattle.dspec_buffer.specs.Words.{Record, Piece, records, BufferText, Stored, HasPieces, HasAhead, StepsAhead, IsAhead, Shape}
+use Rattle.dspec_buffer.specs.declared.read_fault.ReadFault.{ReadFault}
+use Rattle.dspec_buffer.proofs.{OneReading.one_reading, PiecesRead.pieces_read, SchemaLaws.SchemaLaws}
 
 -- where more can be ahead, a step says as much
 steps_weaker : (P Q : ℕ → List Record → Type 0) (rs : List Record) (step : Option (Record × ℕ)) → ((o : ℕ) (qs : List Record) → P o qs → Q o qs) → StepsAhead P rs step → StepsAhead Q rs step

@@ -1,8 +1,6 @@
 -- Believed. Which records some bytes are the text of. Nothing here knows how the bytes came about.
 use Rattle.std.specs.Prelude.{◌≡◌, ℕ, ◌+◌, ◌%◌, ◌⊎◌, Bool, IsTrue, List, [], ◌∷◌, ◌++◌, length, Option}
-use Rattle.dspec_buffer.specs.Words.Outside.{Record}
-use Rattle.dspec_record.specs.declared.field.Shape.{Shape}
-use Rattle.dspec_buffer.specs.Extent.{align_of, padding_word}
+use Rattle.dspec_buffer.specs.{Extent.align_of, Extent.padding_word, Words.Outside.Record, Words.Outside.Shape}
 
 -- between a record that ends at place `o` and the next one there is nothing, or the padding word up to a multiple of eight
 abbrev pub IsGap : ℕ → List ℕ → Type 0

@@ -1,7 +1,6 @@
 -- Cited by calls. How a `ByteBuffer` holds what contracts see of it.
 use Rattle.std.specs.Prelude.{◌≡◌, ◌≤◌, ◌+◌, ◌*◌, ◌%◌, ◌^◌, take, vec_len}
-use Rattle.dspec_buffer.specs.Stored.{Stored}
-use Rattle.dspec_buffer.specs.declared.byte_buffer.ByteBuffer.TheInside.{Inside}
+use Rattle.dspec_buffer.specs.{Stored.Stored, declared.byte_buffer.ByteBuffer.TheInside.Inside}
 
 -- the bytes up to the offset are the text
 abbrev pub stored_of : Inside → Stored

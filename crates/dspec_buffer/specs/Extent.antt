@@ -1,9 +1,8 @@
 -- Believed. The pieces of a buffer, how far they reach, whether one more fits, and the bytes that they make.
 -- A list of pieces has the latest piece at its head, and so has the list of records in a block.
-use Rattle.std.specs.Prelude.{ℕ, ◌%◌, ◌==◌, nat_le, Bool, List, [], ◌∷◌, ◌++◌, Option, if◌then◌else◌}
 use Rattle.std.specs.Option.{option_map_or}
-use Rattle.dspec_buffer.specs.Words.Outside.{Record, after}
-use Rattle.dspec_record.specs.declared.field.Shape.{Shape}
+use Rattle.std.specs.Prelude.{ℕ, ◌%◌, ◌==◌, nat_le, Bool, List, [], ◌∷◌, ◌++◌, Option, if◌then◌else◌}
+use Rattle.dspec_buffer.specs.Words.Outside.{Record, after, Shape}
 
 -- what is reserved at one go: a record, or the whole text of a buffer that has these records
 pub data Piece : Type 0 where

@@ -1,10 +1,7 @@
 -- Cited by calls. Why bytes are the text of no records: what stands before the fault is a text, and no record can begin there.
 use Rattle.std.specs.Prelude.{◌≡◌, ◌≢◌, ◌<◌, ◌≤◌, ◌+◌, ◌%◌, ◌⊎◌, ℕ, Bool, List, ◌++◌, length, Option, None}
-use Rattle.dspec_buffer.specs.Words.Outside.{Record, front_epid, NamesShape, HasNoText}
-use Rattle.dspec_record.specs.declared.field.Shape.{Shape}
-use Rattle.dspec_record.specs.declared.reading.ReadKind.{ReadKind}
-use Rattle.dspec_record.specs.declared.reading.ReadKind.TheVariants.{Truncated, UnknownEpid, Misaligned, GapNotZero, Padding}
 use Rattle.dspec_buffer.specs.BufferText.{IsGap, BufferText}
+use Rattle.dspec_buffer.specs.Words.Outside.{Record, front_epid, NamesShape, HasNoText, Shape, ReadKind, Truncated, UnknownEpid, Misaligned, GapNotZero, Padding}
 use Rattle.dspec_buffer.specs.declared.read_fault.ReadFault.{ReadFault}
 
 module _ (shape : ℕ → Option Shape) (accepted : Record → Bool) (text : Record → List ℕ) where

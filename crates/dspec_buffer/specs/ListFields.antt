@@ -1,7 +1,6 @@
 -- Cited by calls. How a `ListBuffer` holds what contracts see of it.
 use Rattle.std.specs.Prelude.{◌≡◌, ◌≤◌, ◌*◌, ◌%◌, ◌^◌, vec_len, vec_capacity}
-use Rattle.dspec_buffer.specs.Listed.{ListView}
-use Rattle.dspec_buffer.specs.declared.list_buffer.ListBuffer.TheInside.{Inside}
+use Rattle.dspec_buffer.specs.{Listed.ListView, declared.list_buffer.ListBuffer.TheInside.Inside}
 
 abbrev pub listed_of : Inside → ListView
 listed_of b = record { texts = b.texts.items; count = b.count; offset = b.offset; size = b.size }

@@ -1,9 +1,6 @@
 -- Cited by calls. A buffer of texts without padding as contracts see it, and the pieces that it has.
-use Rattle.std.specs.Prelude.{◌≡◌, ◌≤◌, ℕ, Bool, IsTrue, All, List, length, drop, reverse, Option}
-use Rattle.std.specs.List.{flat_map}
-use Rattle.dspec_buffer.specs.Words.Outside.{Record}
-use Rattle.dspec_record.specs.declared.field.Shape.{Shape}
-use Rattle.dspec_buffer.specs.Extent.{Piece, records, extent}
+use Rattle.std.specs.{List.flat_map, Prelude.◌≡◌, Prelude.◌≤◌, Prelude.ℕ, Prelude.Bool, Prelude.IsTrue, Prelude.All, Prelude.List, Prelude.length, Prelude.drop, Prelude.reverse, Prelude.Option}
+use Rattle.dspec_buffer.specs.{Extent.Piece, Extent.records, Extent.extent, Words.Outside.Record, Words.Outside.Shape}
 
 -- the texts of its records one behind another, how many there are, how far they would reach, and its size in bytes
 pub record ListView : Type 0 where

@@ -1,10 +1,6 @@
 -- Cited by calls. A reader that checks a text as it goes: how far it has come, and what one call makes of that.
 use Rattle.std.specs.Prelude.{◌≡◌, ◌<◌, ◌≤◌, ℕ, Bool, List, [], ◌∷◌, ◌++◌, length, Option, Some, None, Result, Ok, Err}
-use Rattle.dspec_buffer.specs.Words.Outside.{Record}
-use Rattle.dspec_record.specs.declared.field.Shape.{Shape}
-use Rattle.dspec_buffer.specs.Faults.{StopsBehind}
-use Rattle.dspec_buffer.specs.Remaining.{IsOneText}
-use Rattle.dspec_buffer.specs.declared.read_fault.ReadFault.{ReadFault}
+use Rattle.dspec_buffer.specs.{Faults.StopsBehind, Remaining.IsOneText, Words.Outside.Record, Words.Outside.Shape, declared.read_fault.ReadFault.ReadFault}
 
 -- the text, the place in bytes up to which it was read, and the records that it was given up to there
 pub record Progress (D : Type 0) : Type 0 where

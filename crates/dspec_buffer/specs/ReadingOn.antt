@@ -1,11 +1,7 @@
 -- Serves proofs. One step of reading: past a padding word, and over one record; and how far a reader has come.
 use Rattle.std.specs.Prelude.{◌≡◌, ◌≢◌, ◌<◌, ◌≤◌, ◌+◌, ◌%◌, ◌⊎◌, ℕ, Bool, IsTrue, List, ◌++◌, length, take, drop, Option, Some, None, Result, Ok, Err}
-use Rattle.dspec_buffer.specs.Words.Outside.{Record, front_epid}
-use Rattle.dspec_record.specs.declared.field.Shape.{Shape}
-use Rattle.dspec_buffer.specs.Extent.{align_of}
-use Rattle.dspec_buffer.specs.BufferText.{IsGap, StandsNext, BufferText}
-use Rattle.dspec_buffer.specs.Faults.{FaultHere}
-use Rattle.dspec_buffer.specs.declared.read_fault.ReadFault.{ReadFault}
+use Rattle.dspec_buffer.specs.{BufferText.IsGap, BufferText.StandsNext, BufferText.BufferText, Extent.align_of, Faults.FaultHere, Words.Outside.Record, Words.Outside.front_epid, Words.Outside.Shape}
+use Rattle.dspec_buffer.specs.{declared.read_fault.ReadFault.ReadFault}
 
 -- no padding word that could be skipped stands at this place
 abbrev pub NoGapAt : ℕ → List ℕ → Type 0

@@ -1,9 +1,6 @@
 -- Cited by calls. What a reader of a checked text still has before it.
 use Rattle.std.specs.Prelude.{◌≡◌, ℕ, Bool, List, Option}
-use Rattle.dspec_buffer.specs.Words.Outside.{Record}
-use Rattle.dspec_record.specs.declared.field.Shape.{Shape}
-use Rattle.dspec_buffer.specs.Stored.{HasAhead}
-use Rattle.dspec_buffer.specs.Walking.{StepsAhead}
+use Rattle.dspec_buffer.specs.{Stored.HasAhead, Walking.StepsAhead, Words.Outside.Record, Words.Outside.Shape}
 
 module _ (shape : ℕ → Option Shape) (accepted : Record → Bool) (text : Record → List ℕ) where
   -- the bytes from this place on are the text of these records and of no others

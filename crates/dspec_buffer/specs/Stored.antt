@@ -1,9 +1,6 @@
 -- Believed. A buffer of bytes as contracts see it, and the pieces that it has.
 use Rattle.std.specs.Prelude.{◌≡◌, ◌≤◌, ℕ, Bool, IsTrue, All, List, length, drop, reverse, Option}
-use Rattle.dspec_buffer.specs.Words.Outside.{Record}
-use Rattle.dspec_record.specs.declared.field.Shape.{Shape}
-use Rattle.dspec_buffer.specs.Extent.{Piece, records, bytes}
-use Rattle.dspec_buffer.specs.BufferText.{BufferText}
+use Rattle.dspec_buffer.specs.{BufferText.BufferText, Extent.Piece, Extent.records, Extent.bytes, Words.Outside.Record, Words.Outside.Shape}
 
 -- its text up to the offset, the number of records in it, and its size in bytes
 pub record Stored : Type 0 where

@@ -1,13 +1,8 @@
 -- Cited by calls. Upgrading a text of records without a stamp: each record, with a stamp, in the order in which it stands.
 use Rattle.std.specs.Prelude.{◌≡◌, ◌≤◌, ◌<◌, ◌++◌, ℕ, List, ◌∷◌, length, map, reverse}
-use Rattle.dspec_buffer.specs.Words.Outside.{Record, EnabledRows, enabled, table_shape, table_accepts, table_text}
-use Rattle.dspec_record.specs.declared.header.Header.TheVariants.{Two}
-use Rattle.dspec_buffer.specs.Extent.{Piece, one, extent}
-use Rattle.dspec_buffer.specs.BufferText.{BufferText}
-use Rattle.dspec_buffer.specs.Faults.{StopsAt}
-use Rattle.dspec_buffer.specs.Stored.{Stored, HasPieces}
-use Rattle.dspec_buffer.specs.declared.upgrading.UpgradeFault.{UpgradeFault}
-use Rattle.dspec_buffer.specs.declared.upgrading.UpgradeFault.TheVariants.{Read, Full}
+use Rattle.dspec_buffer.specs.{BufferText.BufferText, Extent.Piece, Extent.one, Extent.extent, Faults.StopsAt, Stored.Stored, Stored.HasPieces, Words.Outside.Record, Words.Outside.EnabledRows}
+use Rattle.dspec_buffer.specs.{Words.Outside.enabled, Words.Outside.table_shape, Words.Outside.table_accepts, Words.Outside.table_text, Words.Outside.Two}
+use Rattle.dspec_buffer.specs.{declared.upgrading.UpgradeFault.UpgradeFault, declared.upgrading.UpgradeFault.TheVariants.Read, declared.upgrading.UpgradeFault.TheVariants.Full}
 
 -- the same record with this stamp
 abbrev pub stamped : ℕ → Record → Record

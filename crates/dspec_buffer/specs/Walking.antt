@@ -1,7 +1,6 @@
 -- Cited by calls. A walk over the records of a buffer.
 use Rattle.std.specs.Prelude.{◌≡◌, ◌⊎◌, ℕ, List, [], ◌∷◌, reverse, Option, Some, None}
-use Rattle.dspec_buffer.specs.Words.Outside.{Record}
-use Rattle.dspec_buffer.specs.Extent.{Piece, records}
+use Rattle.dspec_buffer.specs.{Extent.Piece, Extent.records, Words.Outside.Record}
 
 -- one step of a walk that still has these records before it: the first one and a place from which the others
 -- are still to come, or the end. `has_ahead` says what a walk has before it at a place.

@@ -14,5 +14,3 @@ pub use Rattle.dspec_buffer.specs.Remaining.{IsOneText, Remaining, StepsOn}
 pub use Rattle.dspec_buffer.specs.Stored.{HasAhead, HasPieces, Stored}
 pub use Rattle.dspec_buffer.specs.Upgrading.{all_stamped, FillsUp, HasNew, IsOldText, IsUpgradable, IsUpgraded, new_extent, stamped}
 pub use Rattle.dspec_buffer.specs.Walking.{IsAhead, StepsAhead}
-pub use Rattle.dspec_buffer.specs.declared.read_fault.ReadFault.{ReadFault}
-pub use Rattle.dspec_buffer.specs.declared.records.Records.TheInside.{Inside}

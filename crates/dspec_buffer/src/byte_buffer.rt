@@ -96,9 +96,7 @@ impl fmt::Debug for ByteBuffer {
 
 impl<S: Schema> TraceBuffer<S> for ByteBuffer {
     ghost use Rattle.std.proofs.Common.{refl, inl};
-    ghost use Rattle.dspec_buffer.specs.Stored.{HasPieces, HasAhead};
-    ghost use Rattle.dspec_buffer.specs.Laws.Emptiness.{stored_too};
-    ghost use Rattle.dspec_buffer.specs.Walking.{IsAhead};
+    ghost use Rattle.dspec_buffer.specs.{Laws.Emptiness.stored_too, Stored.HasPieces, Stored.HasAhead, Walking.IsAhead};
 
     ghost capacity = { λ b. b.size };
 

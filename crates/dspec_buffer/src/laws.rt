@@ -1,10 +1,7 @@
 //! What follows from the definitions, as clauses of functions that have next to nothing to do.
 
 ghost use Rattle.std.specs.Prelude.{◌≡◌, ◌↔◌, List, reverse, IsOkAnd, IfErr};
-ghost use Rattle.dspec_buffer.specs.Extent.{Piece, records};
-ghost use Rattle.dspec_buffer.specs.BufferText.{HasOneReading};
-ghost use Rattle.dspec_buffer.specs.Stored.{BytesSay, ReadsAs};
-ghost use Rattle.dspec_buffer.specs.Faults.{StopsAt};
+ghost use Rattle.dspec_buffer.specs.{BufferText.HasOneReading, Extent.Piece, Extent.records, Faults.StopsAt, Stored.BytesSay, Stored.ReadsAs};
 
 use crate::{ByteBuffer, ReadFault, Records, TraceBuffer, read_all};
 use dspec_record::Schema;

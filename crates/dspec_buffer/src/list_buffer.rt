@@ -43,9 +43,7 @@ impl fmt::Debug for ListBuffer {
 }
 
 impl<S: Schema> TraceBuffer<S> for ListBuffer {
-    ghost use Rattle.dspec_buffer.specs.Listed.{HasListed, HasTexts};
-    ghost use Rattle.dspec_buffer.specs.Laws.Emptiness.{listed_too};
-    ghost use Rattle.dspec_buffer.specs.Laws.Listed.{has_texts};
+    ghost use Rattle.dspec_buffer.specs.{Laws.Emptiness.listed_too, Laws.Listed.has_texts, Listed.HasListed, Listed.HasTexts};
 
     ghost capacity = { λ b. b.size };
 

@@ -1,7 +1,5 @@
 ghost use Rattle.std.specs.Prelude.{◌≡◌, ◌≤◌, length, IfSome, IfNone};
-ghost use Rattle.dspec_buffer.specs.BufferText.{BufferText};
-ghost use Rattle.dspec_buffer.specs.Faults.{StopsBehind};
-ghost use Rattle.dspec_buffer.specs.ReadingOn.{EndsAt};
+ghost use Rattle.dspec_buffer.specs.{BufferText.BufferText, Faults.StopsBehind, ReadingOn.EndsAt};
 
 use crate::reader::read_next;
 use crate::{ReadFault, Records};

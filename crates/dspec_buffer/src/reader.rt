@@ -1,10 +1,7 @@
-ghost use Rattle.std.specs.Prelude.{◌≡◌, ◌↔◌, IsTrue, if◌then◌else◌, nat_lt, ◌≤◌, ◌<◌, ◌+◌, ◌%◌, ◌==◌, ◌≢◌, ◌⊎◌, ℕ, List, [], length, drop, take, IfOk, IfErr, OnErr, Option, Some, None, MatchOption, MatchResult};
-ghost use Rattle.dspec_record.specs.Record.{Record};
-ghost use Rattle.dspec_record.specs.Reading.{front_epid};
-ghost use Rattle.dspec_buffer.specs.BufferText.{BufferText};
-ghost use Rattle.dspec_buffer.specs.Faults.{FaultHere, StopsAt};
-ghost use Rattle.dspec_buffer.specs.Remaining.{StepsOn};
-ghost use Rattle.dspec_buffer.specs.ReadingOn.{NoGapAt, SkipsGap, ReadsNext, ReadsHere};
+ghost use Rattle.std.specs.Prelude.{◌≡◌, ◌↔◌, IsTrue, if◌then◌else◌, nat_lt, ◌≤◌, ◌<◌, ◌+◌, ◌%◌, ◌==◌, ◌≢◌, ◌⊎◌, ℕ, List, [], length, drop, take, IfOk, IfErr, OnErr, Option, Some, None, MatchOption};
+ghost use Rattle.std.specs.Prelude.{MatchResult};
+ghost use Rattle.dspec_record.specs.{Reading.front_epid, Record.Record};
+ghost use Rattle.dspec_buffer.specs.{BufferText.BufferText, Faults.FaultHere, Faults.StopsAt, ReadingOn.NoGapAt, ReadingOn.SkipsGap, ReadingOn.ReadsNext, ReadingOn.ReadsHere, Remaining.StepsOn};
 
 use crate::{ReadFault, Records};
 use dspec_record::{ReadKind, Rec, Schema};

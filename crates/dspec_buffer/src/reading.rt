@@ -1,6 +1,5 @@
 ghost use Rattle.std.specs.Prelude.{◌≤◌, [], length, take};
-ghost use Rattle.dspec_buffer.specs.Remaining.{Remaining};
-ghost use Rattle.dspec_buffer.specs.Laws.Remaining.{Remaining-prop};
+ghost use Rattle.dspec_buffer.specs.{Laws.Remaining.Remaining-prop, Remaining.Remaining};
 
 use crate::ReadFault;
 use crate::reader::read_next;

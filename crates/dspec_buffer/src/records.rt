@@ -1,6 +1,5 @@
 ghost use Rattle.std.specs.Prelude.{◌≤◌, length};
-ghost use Rattle.dspec_buffer.specs.Remaining.{Remaining};
-ghost use Rattle.dspec_buffer.specs.Laws.Remaining.{Remaining-prop};
+ghost use Rattle.dspec_buffer.specs.{Laws.Remaining.Remaining-prop, Remaining.Remaining};
 
 use crate::reader::next_of_text;
 use dspec_record::{Rec, Schema};

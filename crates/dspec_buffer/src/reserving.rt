@@ -1,6 +1,5 @@
 ghost use Rattle.std.specs.Prelude.{◌≡◌, ◌≤◌, ◌<◌, ◌+◌, ◌-◌, ◌%◌, ◌^◌, ◌⊎◌, ◌++◌, length, take, replicate, IsTrue, Some, MatchOption};
-ghost use Rattle.dspec_record.specs.LaidOut.{IsLaidBy};
-ghost use Rattle.dspec_record.specs.Layout.{rounded_up, after};
+ghost use Rattle.dspec_record.specs.{LaidOut.IsLaidBy, Layout.rounded_up, Layout.after};
 
 use dspec_record::{Recorded, Schema, Shape};
 

@@ -1,9 +1,7 @@
-ghost use Rattle.std.specs.Prelude.{◌≡◌, ◌≤◌, ◌%◌, ◌^◌, ◌⊎◌, ◌↔◌, ℕ, IsTrue, IfOk, List, [], ◌∷◌, length, map, reverse, nat_le, Option};
 ghost use Rattle.std.specs.Bool.{OnTrue, OnFalse};
-ghost use Rattle.dspec_record.specs.LaidOut.{IsLaidBy};
-ghost use Rattle.dspec_record.specs.Record.{Record};
-ghost use Rattle.dspec_buffer.specs.Extent.{Piece, one, block, records, reserved, extent, piece_fits};
-ghost use Rattle.dspec_buffer.specs.Walking.{StepsAhead};
+ghost use Rattle.std.specs.Prelude.{◌≡◌, ◌≤◌, ◌%◌, ◌^◌, ◌⊎◌, ◌↔◌, ℕ, IsTrue, IfOk, List, [], ◌∷◌, length, map, reverse, nat_le, Option};
+ghost use Rattle.dspec_record.specs.{LaidOut.IsLaidBy, Record.Record};
+ghost use Rattle.dspec_buffer.specs.{Extent.Piece, Extent.one, Extent.block, Extent.records, Extent.reserved, Extent.extent, Extent.piece_fits, Walking.StepsAhead};
 
 use dspec_record::{Rec, Recorded, Schema};
 use std::alloc::{AllocError, Global};

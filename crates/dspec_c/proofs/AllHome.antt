@@ -1,12 +1,11 @@
 -- The handles that a close is given, one after another.
-use Rattle.std.proofs.lemmas.Bool.Decides.{nat_tests}
 use Rattle.std.proofs.Common.{◌≡◌, ℕ, ◌+◌, ◌<◌, ◌≤◌, List, length, Bool, true, false, take, replicate, refl, sym, ap, ◌∙◌, subst, arith, MutBor}
-use Rattle.std.specs.Prelude.{slice_index_or, slice_set, ◌&&◌}
-use Rattle.std.specs.List.{list_all}
 use Rattle.std.proofs.Math.Seq.{map-set_same}
-use Rattle.std.proofs.lemmas.List.{get_or-map, get_or-set_other, map-set, length-map, replicate_more, take_more_set}
-use Rattle.std.proofs.lemmas.List.Folds.{list_all_at, list_all_more}
-use Rattle.dspec_c.specs.Words.{KeepAll, KeepsHeld, held_in_each, fulls, names, held_in, is_full, HomeAnswers, is_cpu_in, Handle, Nothing, HandleValue}
+use Rattle.std.proofs.lemmas.Bool.Decides.{nat_tests}
+use Rattle.std.proofs.lemmas.List.{get_or-map, get_or-set_other, map-set, length-map, replicate_more, take_more_set, Folds.list_all_at, Folds.list_all_more}
+use Rattle.std.specs.{List.list_all, Prelude.slice_index_or, Prelude.slice_set, Prelude.◌&&◌}
+use Rattle.dspec_c.specs.Words.{KeepAll, KeepsHeld, held_in_each, fulls, names, held_in, is_full, HomeAnswers, is_cpu_in}
+use Rattle.dspec_c.specs.declared.{handle.Handle.Handle, held.HandleValue.HandleValue, held.HandleValue.TheVariants.Nothing}
 use Rattle.dspec_c.proofs.Options.{unless}
 
 abbrev One : Type 0

@@ -1,11 +1,9 @@
 -- A call on what a handle holds is one on the CPU, or the consumer, that is there.
 use Rattle.std.proofs.Common.{◌≡◌, ℕ, Bool, true, false, refl, Option, Some, None, sym, subst, ap, ◌∙◌}
 use Rattle.std.specs.Prelude.{if◌then◌else◌, Result, Ok, Err, IfErr, IfNone, IfSome, MatchOption, MatchResult, OnErr, OnOk}
-use Rattle.dspec_ring.specs.declared.batch.Batch.{Batch}
-use Rattle.dspec_c.specs.Words.{EnabledRows, FoundNone, GaveBack, IsNotTakenBack, Took, Consuming, OnConsumer, OnTheirs, Theirs, OnCpu, OnSide, one_refused, CpuSide, ConsumerSide, HandleValue}
-use Rattle.dspec_c.specs.Words.{held_in, with_held, is_consumer_in, is_cpu_in, Handle}
-use Rattle.dspec_cpu.specs.declared.cpu.Cpu.{Cpu}
-use Rattle.dspec_cpu.specs.declared.shared.Shared.{Shared}
+use Rattle.dspec_c.specs.Words.{Batch, EnabledRows, FoundNone, GaveBack, IsNotTakenBack, Took, Consuming, OnConsumer, OnTheirs, Theirs, OnCpu, OnSide, one_refused, CpuSide, held_in, with_held}
+use Rattle.dspec_c.specs.Words.{is_consumer_in, is_cpu_in, Cpu, Shared}
+use Rattle.dspec_c.specs.declared.{consumer_side.ConsumerSide.ConsumerSide, handle.Handle.Handle, held.HandleValue.HandleValue}
 use Rattle.dspec_c.specs.declared.held.HandleValue.TheVariants as held
 use Rattle.dspec_c.proofs.Options.{unless}
 

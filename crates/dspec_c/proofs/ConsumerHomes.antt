@@ -3,11 +3,10 @@ use Rattle.std.proofs.Common.{arith, ◌≡◌, ℕ, ◌<◌, Global, List, [], 
 use Rattle.std.proofs.lemmas.Bool.Decides.{nat_tests}
 use Rattle.std.specs.Prelude.{IfSome, slice_get}
 use Rattle.core.specs.Option.{is_some}
-use Rattle.rtrb.specs.Ring.{known_free, sent}
-use Rattle.rtrb.specs.declared.producer.Producer.{Producer}
-use Rattle.dspec_cpu.specs.declared.shared.Shared.{Shared}
-use Rattle.dspec_c.specs.Words.{words_of, Consuming, IsConsumerOf, IsSameConsumer, pairs_of, set_up_of, IsDeskTheirs, IsOutTheirs, AreSameTheirs, IsSameTheirs, LeaveTheirs, TheirStay, Theirs}
-use Rattle.dspec_c.specs.Words.{theirs_of, IsUnused, ConsumerRule}
+use Rattle.rtrb.specs.{Ring.known_free, Ring.sent, declared.producer.Producer.Producer}
+use Rattle.dspec_c.specs.Words.{Shared, words_of, Consuming, IsConsumerOf, IsSameConsumer, pairs_of, set_up_of, IsDeskTheirs, IsOutTheirs, AreSameTheirs, IsSameTheirs, LeaveTheirs, TheirStay}
+use Rattle.dspec_c.specs.Words.{Theirs, theirs_of, IsUnused}
+use Rattle.dspec_c.specs.declared.consumer_homing.ConsumerRule.{ConsumerRule}
 use Rattle.dspec_c.proofs.Options.{if_none, or_this, the_none, unless}
 
 pub after : (a b c : Theirs) → IsSameTheirs a b → IsSameTheirs b c → IsSameTheirs a c

@@ -1,9 +1,7 @@
 -- What a closed session tells of one CPU.
 use Rattle.std.proofs.Common.{◌≡◌, ℕ, ◌<◌, List, [], ◌∷◌, length, Option, Some, None, suc, zero, refl, sym, subst, arith}
 use Rattle.std.specs.Prelude.{slice_get}
-use Rattle.dspec_deeds.specs.declared.report.Report.{Report}
-use Rattle.dspec_session_core.specs.declared.left.Left.{Left}
-use Rattle.dspec_c.specs.Words.{TellsCountsOf, TellsReport, CReport}
+use Rattle.dspec_c.specs.{Words.Report, Words.Left, Words.TellsCountsOf, Words.TellsReport, declared.reports.CReport.CReport}
 use Rattle.dspec_c.proofs.Options.{if_some}
 
 is_there : (xs : List Left) (c : ℕ) → c < length xs → slice_get xs c ≡ None → ⊥

@@ -1,16 +1,11 @@
 -- What is home makes the session that was started.
 use Rattle.std.proofs.Common.{arith, ◌≡◌, ℕ, List, [], ◌∷◌, length, Option, Some, None, suc, zero, refl, sym, ap, ◌∙◌, subst}
-use Rattle.std.proofs.lemmas.Bool.Decides.{nat_tests}
+use Rattle.std.proofs.lemmas.{Bool.Decides.nat_tests, List.length-map, List.length-set}
 use Rattle.std.specs.Prelude.{Result, Ok, Err, IfNone, IfOk, IfSome, IsSomeAnd, OnErr, false, map, slice_get, slice_set}
-use Rattle.std.proofs.lemmas.List.{length-map, length-set}
-use Rattle.dspec_deeds.specs.declared.config.Config.{Config}
-use Rattle.dspec_c.specs.Words.{EnabledRows, last_seat, set_up, schema_of, words_of, Consuming, pairs_of, view_of, Has, IsCpuOf, IsFresh, CpuIdentity, IsTheirPlaceWith, LeaveTheirs, TheirStay}
-use Rattle.dspec_c.specs.Words.{Theirs, Pair, CpuStay, IsSameSide, LeavesPlace, CpuSide, EachFrom, Going, GoesOut, IsJustStarted, IsCpuAt, IsPlaceOf, IsWhole, LeavesOne, LooksAt, LooksAtOne}
-use Rattle.dspec_c.specs.Words.{TheyGoOut, firsts, they_wait_so, waiting_so}
-use Rattle.dspec_cpu.specs.declared.cpu.Cpu.{Cpu}
-use Rattle.dspec_cpu.specs.declared.shared.Shared.{Shared}
-use Rattle.dspec_c.proofs.Looking.{first_at}
-use Rattle.dspec_c.proofs.EndingPlaces.{all_fresh, number_out, or_else}
+use Rattle.dspec_c.specs.Words.{Config, EnabledRows, last_seat, set_up, schema_of, words_of, Consuming, pairs_of, view_of, Has, IsCpuOf, IsFresh, CpuIdentity, IsTheirPlaceWith, LeaveTheirs}
+use Rattle.dspec_c.specs.Words.{TheirStay, Theirs, Pair, CpuStay, IsSameSide, LeavesPlace, CpuSide, EachFrom, Going, GoesOut, IsJustStarted, IsCpuAt, IsPlaceOf, IsWhole, LeavesOne, LooksAt}
+use Rattle.dspec_c.specs.Words.{LooksAtOne, TheyGoOut, firsts, they_wait_so, waiting_so, Cpu, Shared}
+use Rattle.dspec_c.proofs.{EndingPlaces.all_fresh, EndingPlaces.number_out, EndingPlaces.or_else, Looking.first_at}
 
 pub each_set : {X : Type 0} (P : ℕ → X → Type 0) (n : ℕ) (xs : List X) (c : ℕ) (x y : X) → EachFrom P n xs → slice_get xs c ≡ Some x → ((k : ℕ) → P k x → P k y)
     → EachFrom P n (slice_set xs c y)

@@ -1,16 +1,11 @@
 -- What the places of CPUs that are out have, before any goes home.
-use Rattle.std.proofs.lemmas.Bool.Decides.{nat_tests}
 use Rattle.std.proofs.Common.{◌≡◌, ℕ, ◌+◌, List, [], ◌∷◌, length, Option, Some, None, suc, zero, refl, sym, ap, ◌∙◌, subst, arith}
+use Rattle.std.proofs.lemmas.{Bool.Decides.nat_tests, List.length-map}
 use Rattle.std.specs.Prelude.{map, slice_get}
-use Rattle.std.proofs.lemmas.List.{length-map}
 use Rattle.dspec_c.specs.Words.{EnabledRows, set_up, number_in, schema_of, words_of, Consuming, IsConsumerOf, IsSameConsumer, pairs_of, Has, IsFresh, IsSession, TheirStay, Theirs, Came, CpuStay}
 use Rattle.dspec_c.specs.Words.{IsPlaceWith, CpuSide, AllCalled, AreCame, EachFrom, Going, IsFreshIn, IsCpuAt, IsEnding, IsPlaceOf, IsStarted, IsWhole, LeavesOne, LookedLater, cpu_inside, firsts}
-use Rattle.dspec_c.specs.Words.{insides, they_wait_so, waiting_so}
-use Rattle.dspec_cpu.specs.declared.cpu.Cpu.{Cpu}
-use Rattle.dspec_cpu.specs.declared.shared.Shared.{Shared}
-use Rattle.dspec_session_core.specs.declared.session.Session.{Session}
-use Rattle.dspec_c.proofs.Each.{each_placed}
-use Rattle.dspec_c.proofs.Looking.{first_at, same_firsts}
+use Rattle.dspec_c.specs.Words.{insides, they_wait_so, waiting_so, Cpu, Shared, Session}
+use Rattle.dspec_c.proofs.{Each.each_placed, Looking.first_at, Looking.same_firsts}
 
 abbrev if_some : {X : Type 0} → Option X → Type 0
 if_some None = ⊥

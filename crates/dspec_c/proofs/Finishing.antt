@@ -3,10 +3,8 @@ use Rattle.std.proofs.Common.{arith, ◌≡◌, ℕ, List, true, false, Option, 
 use Rattle.std.proofs.lemmas.Bool.Decides.{nat_tests}
 use Rattle.std.specs.Prelude.{Result, Ok, Err, MatchResult, length}
 use Rattle.dspec_c.specs.Words.{EnabledRows, Consuming, held_in, is_full, EndsSo, FinishAnswers, LooksHome, busy, not_home, ClosedBy, EndedBy, Going, IsAway, IsHome, LookedLater, insides, refusals}
-use Rattle.dspec_c.specs.Words.{Handle, EndedSession, HandleValue}
-use Rattle.dspec_cpu.specs.declared.cpu.Cpu.{Cpu}
-use Rattle.dspec_cpu.specs.declared.shared.Shared.{Shared}
-use Rattle.dspec_session_core.specs.declared.left.Left.{Left}
+use Rattle.dspec_c.specs.Words.{Cpu, Shared, Left}
+use Rattle.dspec_c.specs.declared.{ended.EndedSession.EndedSession, handle.Handle.Handle, held.HandleValue.HandleValue}
 use Rattle.dspec_c.specs.declared.held.HandleValue.TheVariants as held
 
 abbrev going_of : Going → HandleValue → Going

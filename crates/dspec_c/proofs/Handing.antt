@@ -1,9 +1,9 @@
 -- Whether a CPU or the consumer is handed out.
 use Rattle.std.proofs.Common.{◌≡◌, ℕ, Bool, true, false, Option, Some, None, refl, sym, ap, ◌∙◌, subst, inl, inr}
 use Rattle.std.specs.Prelude.{MatchBool, nat_lt, if◌then◌else◌}
-use Rattle.dspec_deeds.specs.declared.config.Config.{Config}
-use Rattle.dspec_c.specs.Words.{start_fault, EnabledRows, GivesCpu, HandsOut, HandsOutCpu, KeptSo, StartsSo, consumer_due, cpu_due, already_out, no_memory, no_such_cpu, Going, IsJustStarted}
-use Rattle.dspec_c.specs.Words.{LooksAtOne, LooksIfThere, inside_at, Handle}
+use Rattle.dspec_c.specs.Words.{Config, start_fault, EnabledRows, GivesCpu, HandsOut, HandsOutCpu, KeptSo, StartsSo, consumer_due, cpu_due, already_out, no_memory, no_such_cpu, Going, IsJustStarted}
+use Rattle.dspec_c.specs.Words.{LooksAtOne, LooksIfThere, inside_at}
+use Rattle.dspec_c.specs.declared.handle.Handle.{Handle}
 
 pub due_unknown : (c : ℕ) (old : Going) → nat_lt c old.cpus ≡ false → cpu_due c old ≡ Some no_such_cpu
 due_unknown c old e = ap (λ (b : Bool). if b then (if inside_at c old.places then None else Some already_out) else Some no_such_cpu) e

@@ -3,12 +3,10 @@ use Rattle.std.proofs.Common.{arith, ◌≡◌, ℕ, ◌<◌, Global, List, [], 
 use Rattle.std.proofs.lemmas.Bool.Decides.{nat_tests}
 use Rattle.std.specs.Prelude.{IfSome, slice_get}
 use Rattle.core.specs.Option.{is_some}
-use Rattle.rtrb.specs.Ring.{known_free, sent}
-use Rattle.rtrb.specs.declared.producer.Producer.{Producer}
+use Rattle.rtrb.specs.{Ring.known_free, Ring.sent, declared.producer.Producer.Producer}
 use Rattle.dspec_c.specs.Words.{EnabledRows, words_of, Belongs, CpuIdentity, IsCallable, identity, AtHome, CpuStay, IsDesk, IsOut, IsSameAsAll, IsSameSide, IsUnused, LeavesPlace, CpuSide, at_home}
-use Rattle.dspec_c.specs.Words.{cpu_side_of, HomingProtocol}
-use Rattle.dspec_cpu.specs.declared.cpu.Cpu.{Cpu}
-use Rattle.dspec_cpu.specs.declared.shared.Shared.{Shared}
+use Rattle.dspec_c.specs.Words.{cpu_side_of, Cpu, Shared}
+use Rattle.dspec_c.specs.declared.homing.HomingProtocol.{HomingProtocol}
 use Rattle.dspec_c.proofs.Options.{if_none, if_true, or_this, the_none, unless}
 
 pub after : (a b c : CpuSide) → IsSameSide a b → IsSameSide b c → IsSameSide a c

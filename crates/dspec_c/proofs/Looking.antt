@@ -1,13 +1,10 @@
 -- Looking at places, one after another, and handing out what waits at one.
-use Rattle.std.proofs.lemmas.Bool.Decides.{nat_tests}
 use Rattle.std.proofs.Common.{◌≡◌, ℕ, ◌<◌, List, [], ◌∷◌, ◌++◌, length, Bool, true, false, Option, Some, None, suc, zero, refl, sym, ap, ◌∙◌, subst, inl, inr, arith}
-use Rattle.std.specs.Prelude.{◌⊎◌, Result, Ok, Err, IfOk, IfSome, IsSome, OnErr, is_some, slice_get, slice_index_or, slice_set}
+use Rattle.std.proofs.lemmas.{Bool.Decides.nat_tests, Option.slice_get_read, Option.slice_get_within}
 use Rattle.std.specs.Option.{option_map_or}
-use Rattle.std.proofs.lemmas.Option.{slice_get_read, slice_get_within}
-use Rattle.dspec_cpu.specs.declared.shared.Shared.{Shared}
-use Rattle.dspec_c.specs.Words.{Came, CpuStay, LeavesPlace, CpuSide, Stay, AllInside, AreCame, IsInsideAt, LeavesOne, LooksAt, OneOutside, firsts, inside_at}
-use Rattle.dspec_c.proofs.Each.{set_back}
-use Rattle.dspec_c.proofs.Options.{if_some, if_true, none_of, or_this}
+use Rattle.std.specs.Prelude.{◌⊎◌, Result, Ok, Err, IfOk, IfSome, IsSome, OnErr, is_some, slice_get, slice_index_or, slice_set}
+use Rattle.dspec_c.specs.Words.{Shared, Came, CpuStay, LeavesPlace, CpuSide, Stay, AllInside, AreCame, IsInsideAt, LeavesOne, LooksAt, OneOutside, firsts, inside_at}
+use Rattle.dspec_c.proofs.{Each.set_back, Options.if_some, Options.if_true, Options.none_of, Options.or_this}
 
 stays_so : {X : Type 0} (o : Option X) → IfSome o (λ x. o ≡ Some x)
 stays_so None = tt

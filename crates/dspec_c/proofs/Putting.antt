@@ -2,13 +2,9 @@
 use Rattle.std.proofs.Common.{arith, ◌≡◌, ◌%◌, ◌^◌, ℕ, Bool, true, false, List, length, Option, Some, None, is_some, IfSome, IsTrue, option_map, refl, sym, subst}
 use Rattle.std.proofs.lemmas.Bool.Decides.{nat_tests}
 use Rattle.std.specs.Prelude.{IsSome, if◌then◌else◌}
-use Rattle.dspec_c.specs.Words.{Speculation, Record, EnabledRows, claimed, packed_record, stamp_fits, schema_of, Put, PutIn, put_record, PutAs, PutInAs, is_header, record_as}
-use Rattle.dspec_record.specs.declared.field.Field.{Field}
-use Rattle.dspec_record.specs.declared.header.Header.{Header}
+use Rattle.dspec_c.specs.Words.{Speculation, Record, EnabledRows, claimed, packed_record, stamp_fits, schema_of, Put, PutIn, put_record, PutAs, PutInAs, is_header, record_as, Field, Header, Spoken}
+use Rattle.dspec_c.specs.Words.{Traced, Cpu}
 use Rattle.dspec_record.specs.declared.header.Header.TheVariants as header
-use Rattle.dspec_deeds.specs.declared.calls.Spoken.{Spoken}
-use Rattle.dspec_deeds.specs.declared.calls.Traced.{Traced}
-use Rattle.dspec_cpu.specs.declared.cpu.Cpu.{Cpu}
 
 header_is : (h k : Header) → IsTrue (is_header h k) → k ≡ h
 header_is = grind (arith, nat_tests)

@@ -1,8 +1,8 @@
 -- The batches that are out, one at a time of a CPU.
 use Rattle.std.proofs.Common.{◌≡◌, ℕ, ◌<◌, List, [], ◌∷◌, length, Option, Some, None, suc, zero, refl, sym, ap, ◌∙◌}
-use Rattle.std.specs.Prelude.{slice_get, slice_index_or, slice_set}
 use Rattle.std.proofs.lemmas.Option.{slice_get_read}
-use Rattle.dspec_ring.specs.declared.batch.Batch.{Batch}
+use Rattle.std.specs.Prelude.{slice_get, slice_index_or, slice_set}
+use Rattle.dspec_c.specs.Words.{Batch}
 use Rattle.dspec_c.proofs.Each.{set_back}
 
 pub none_out : (xs : List (Option Batch)) (c : ℕ) (a x n : Option Batch) → c < length xs → x ≡ slice_index_or xs c x → a ≡ x → a ≡ None → n ≡ None

@@ -1,17 +1,10 @@
 -- Tending one place after another: whose places they are, and how many, stays.
 use Rattle.std.proofs.Common.{arith, ◌≡◌, ◌<◌, ◌+◌, ℕ, List, [], ◌∷◌, length, Bool, false, Option, Some, None, suc, zero, refl, sym, ap, ◌∙◌, subst}
-use Rattle.std.proofs.lemmas.Bool.Decides.{nat_tests}
+use Rattle.std.proofs.lemmas.{Bool.Decides.nat_tests, List.length-map, List.length-set, Option.slice_get_read}
 use Rattle.std.specs.Prelude.{IfSome, MatchOption, is_some, slice_get, slice_index_or, slice_set}
-use Rattle.std.proofs.lemmas.List.{length-map, length-set}
-use Rattle.std.proofs.lemmas.Option.{slice_get_read}
 use Rattle.dspec_c.specs.Words.{EnabledRows, identity, Theirs, ServicedSo, AtHome, CpuStay, IsPlaceWith, IsUnused, CpuSide, AreTended, IsTended, IsTendedWhole, ServedAtHome, ServedIfThere}
-use Rattle.dspec_c.specs.Words.{ServedThere, TendsOne, Going, IsWhole, firsts}
-use Rattle.dspec_deeds.specs.declared.calls.Served.{Served}
-use Rattle.dspec_cpu.specs.declared.cpu.Cpu.{Cpu}
-use Rattle.dspec_cpu.specs.declared.shared.Shared.{Shared}
-use Rattle.dspec_c.proofs.Homes.{IsPlace, same_there}
-use Rattle.dspec_c.proofs.Looking.{first_at}
-use Rattle.dspec_c.proofs.Options.{if_true, or_this}
+use Rattle.dspec_c.specs.Words.{ServedThere, TendsOne, Going, IsWhole, firsts, Served, Cpu, Shared}
+use Rattle.dspec_c.proofs.{Homes.IsPlace, Homes.same_there, Looking.first_at, Options.if_true, Options.or_this}
 
 -- a service of a CPU in its box
 pub served_boxed : (n : ℕ) (told : Served) (old new : AtHome) (was cpu : Cpu EnabledRows) (refused : ℕ) → record { cpu = cpu; refused = refused } ≡ old → was ≡ cpu → n ≡ told.settled

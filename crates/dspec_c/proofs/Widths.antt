@@ -1,8 +1,7 @@
 -- Fields by their widths, one more at a time.
 use Rattle.std.proofs.Common.{◌≡◌, ℕ, ◌<◌, List, [], ◌∷◌, length, Option, Some, None, take, zero, suc, refl, ap, ◌∙◌, get_or, arith}
 use Rattle.std.specs.Prelude.{slice_set}
-use Rattle.dspec_record.specs.declared.field.Field.{Field}
-use Rattle.dspec_c.specs.Words.{field_of_width, fields_of_widths, field_and_rest}
+use Rattle.dspec_c.specs.Words.{Field, field_of_width, fields_of_widths, field_and_rest}
 
 -- where the others become more, so do all
 more : (a : Option Field) (b c : Option (List Field)) (f : Field) (fs gs : List Field) → field_and_rest a b ≡ Some (f ∷ fs) → (b ≡ Some fs → c ≡ Some gs) → field_and_rest a c ≡ Some (f ∷ gs)

@@ -1,13 +1,8 @@
 -- Cited by calls. The calls on what is left of a session.
 use Rattle.std.specs.Prelude.{ℕ, ◌≡◌, Bool, Option, Some, None, slice_get, if◌then◌else◌}
-use Rattle.dspec_ring.specs.declared.batch.Batch.{Batch}
-use Rattle.dspec_session_core.specs.declared.left.Left.{Left}
-use Rattle.dspec_c.specs.Shows.{TellsBatch, TellsReport}
-use Rattle.dspec_c.specs.Statuses.{bad_handle, no_batch, no_such_cpu}
-use Rattle.dspec_c.specs.declared.batches.CBatch.{CBatch}
-use Rattle.dspec_c.specs.declared.held.HandleValue.{HandleValue}
+use Rattle.dspec_c.specs.{Shows.TellsBatch, Shows.TellsReport, Statuses.bad_handle, Statuses.no_batch, Statuses.no_such_cpu, Words.Outside.Batch, Words.Outside.Left, declared.batches.CBatch.CBatch}
+use Rattle.dspec_c.specs.{declared.held.HandleValue.HandleValue, declared.reports.CReport.CReport}
 use Rattle.dspec_c.specs.declared.held.HandleValue.TheVariants as held
-use Rattle.dspec_c.specs.declared.reports.CReport.{CReport}
 
 -- what was left of a CPU: its last buffer, or the batch that it handed on and nobody took
 abbrev pub left_of : Bool → Left → Option Batch

@@ -1,12 +1,8 @@
 -- Cited by calls. The end of a session in one call: its CPUs and its consumer go home, and it ends.
-use Rattle.std.specs.Prelude.{ℕ, ◌≡◌, Bool, true, false, List, length, map, replicate, MatchBool, if◌then◌else◌}
-use Rattle.std.specs.Borrow.{MutBor}
-use Rattle.std.specs.List.{list_all}
-use Rattle.dspec_c.specs.Handles.{held_in, is_full}
-use Rattle.dspec_c.specs.SessionCalls.{FinishAnswers, is_consumer_in, is_cpu_in}
-use Rattle.dspec_c.specs.Statuses.{bad_handle}
-use Rattle.dspec_c.specs.declared.handle.Handle.{Handle}
-use Rattle.dspec_c.specs.declared.held.HandleValue.{HandleValue}
+use Rattle.std.specs.{Borrow.MutBor, List.list_all, Prelude.ℕ, Prelude.◌≡◌, Prelude.Bool, Prelude.true, Prelude.false, Prelude.List, Prelude.length, Prelude.map, Prelude.replicate}
+use Rattle.std.specs.{Prelude.MatchBool, Prelude.if◌then◌else◌}
+use Rattle.dspec_c.specs.{Handles.held_in, Handles.is_full, SessionCalls.FinishAnswers, SessionCalls.is_consumer_in, SessionCalls.is_cpu_in, Statuses.bad_handle, declared.handle.Handle.Handle}
+use Rattle.dspec_c.specs.{declared.held.HandleValue.HandleValue}
 use Rattle.dspec_c.specs.declared.held.HandleValue.TheVariants as held
 
 abbrev pub is_session_in : HandleValue → Bool

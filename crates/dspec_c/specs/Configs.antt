@@ -1,10 +1,6 @@
 -- Cited by calls. What a configuration in C's memory asks for.
-use Rattle.std.specs.Prelude.{ℕ, ◌==◌, Option, Some, None, if◌then◌else◌}
-use Rattle.std.specs.Option.{option_map}
-use Rattle.dspec_deeds.specs.declared.config.Config.{Config}
-use Rattle.dspec_deeds.specs.declared.config.Policy.{Policy}
-use Rattle.dspec_deeds.specs.declared.config.Policy.TheVariants.{Switch, Fill}
-use Rattle.dspec_c.specs.declared.configs.CConfig.{CConfig}
+use Rattle.std.specs.{Option.option_map, Prelude.ℕ, Prelude.◌==◌, Prelude.Option, Prelude.Some, Prelude.None, Prelude.if◌then◌else◌}
+use Rattle.dspec_c.specs.{Words.Outside.Config, Words.Outside.Policy, Words.Outside.Switch, Words.Outside.Fill, declared.configs.CConfig.CConfig}
 
 abbrev pub policy_numbered : ℕ → Option Policy
 policy_numbered n = if n == 0 then Some Switch else if n == 1 then Some Fill else None

@@ -1,18 +1,12 @@
 -- Cited by calls. The calls on the consumer's handle: each did what the library's call says of its answer.
 use Rattle.std.specs.Prelude.{ℕ, ◌≡◌, ◌<◌, ◌≤◌, Bool, Option, Some, None, MatchBool, MatchOption, slice_get, slice_set, ⊤}
-use Rattle.dspec_ring.specs.declared.batch.Batch.{Batch}
-use Rattle.dspec_c.specs.Words.Outside.{Asked, Awaited, FoundNone, GaveBack, IsNotTakenBack, Took, Cleaned, Consuming, set_up_of, view_of, Stopped}
-use Rattle.dspec_c.specs.Answered.{Answered}
-use Rattle.dspec_c.specs.ConsumerHomes.{Theirs}
-use Rattle.dspec_c.specs.Shows.{TellsBatch}
-use Rattle.dspec_c.specs.Statuses.{asked_status, bad_handle, found_status, no_such_cpu, returned_status}
-use Rattle.dspec_c.specs.declared.batches.CBatch.{CBatch}
-use Rattle.dspec_c.specs.declared.consumer_side.ConsumerSide.{ConsumerSide}
-use Rattle.dspec_c.specs.declared.consumer_side.TakeOutcome.{TakeOutcome}
+use Rattle.dspec_c.specs.{Answered.Answered, ConsumerHomes.Theirs, Shows.TellsBatch, Statuses.asked_status, Statuses.bad_handle, Statuses.found_status, Statuses.no_such_cpu}
+use Rattle.dspec_c.specs.{Statuses.returned_status, Words.Outside.Batch, Words.Outside.Asked, Words.Outside.Awaited, Words.Outside.FoundNone, Words.Outside.GaveBack, Words.Outside.IsNotTakenBack}
+use Rattle.dspec_c.specs.{Words.Outside.Took, Words.Outside.Cleaned, Words.Outside.Consuming, Words.Outside.set_up_of, Words.Outside.view_of, Words.Outside.Stopped, declared.batches.CBatch.CBatch}
+use Rattle.dspec_c.specs.{declared.consumer_side.ConsumerSide.ConsumerSide, declared.consumer_side.GiveBackOutcome.GiveBackOutcome, declared.consumer_side.TakeOutcome.TakeOutcome}
+use Rattle.dspec_c.specs.{declared.held.HandleValue.HandleValue}
 use Rattle.dspec_c.specs.declared.consumer_side.TakeOutcome.TheVariants as found
-use Rattle.dspec_c.specs.declared.consumer_side.GiveBackOutcome.{GiveBackOutcome}
 use Rattle.dspec_c.specs.declared.consumer_side.GiveBackOutcome.TheVariants as returned
-use Rattle.dspec_c.specs.declared.held.HandleValue.{HandleValue}
 use Rattle.dspec_c.specs.declared.held.HandleValue.TheVariants as held
 
 -- `Consumer::ask`

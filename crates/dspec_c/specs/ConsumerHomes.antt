@@ -1,8 +1,6 @@
 -- Cited by calls. How the consumer comes home, as a CPU does.
 use Rattle.std.specs.Prelude.{◌≡◌, true, List, [], ◌∷◌, Option, Some, IfSome, IfNone, ⊤}
-use Rattle.dspec_cpu.specs.declared.shared.Shared.{Shared}
-use Rattle.dspec_c.specs.Words.Outside.{words_of, Consuming, IsConsumerOf, IsSameConsumer}
-use Rattle.dspec_c.specs.Homes.{Stay, handed_out}
+use Rattle.dspec_c.specs.{Homes.Stay, Homes.handed_out, Words.Outside.Shared, Words.Outside.words_of, Words.Outside.Consuming, Words.Outside.IsConsumerOf, Words.Outside.IsSameConsumer}
 
 -- a consumer, and what it shares
 pub record Theirs : Type 0 where

@@ -1,25 +1,15 @@
 -- Cited by calls. The calls on a CPU's handle: each did what the library's call says of its answer.
-use Rattle.std.specs.Prelude.{ℕ, ◌≡◌, ◌<◌, ◌+◌, ◌-◌, ◌%◌, ◌^◌, min, Bool, true, false, List, length, Option, None, is_none, is_some, IfNone, IfSome, ⊤, if◌then◌else◌}
 use Rattle.std.specs.Option.{option_map}
-use Rattle.dspec_c.specs.Words.Outside.{Speculation, id_number, Record, EnabledRows, claimed, packed_record, stamp_fits, enabled, table_accepts, table_shape, dropped_in, report, By, commit, discard}
-use Rattle.dspec_c.specs.Words.Outside.{drops_told, config_of, number_in, schema_of, worn_of, CommitsIfRoom, OpensOne, DecidesOne, ServesOnce, RecordsValues, OffersValues, SpeculatesOne, TracesOne}
-use Rattle.dspec_c.specs.Words.Outside.{IsOpenAt, identity, Has}
-use Rattle.dspec_record.specs.declared.field.Shape.{Shape}
-use Rattle.dspec_deeds.specs.declared.calls.Decided.{Decided}
-use Rattle.dspec_deeds.specs.declared.calls.Opening.{Opening}
-use Rattle.dspec_deeds.specs.declared.calls.Served.{Served}
-use Rattle.dspec_deeds.specs.declared.calls.Spoken.{Spoken}
-use Rattle.dspec_deeds.specs.declared.calls.Traced.{Traced}
-use Rattle.dspec_deeds.specs.declared.deed.Deed.{Deed}
-use Rattle.dspec_deeds.specs.declared.report.Report.{Report}
-use Rattle.dspec_cpu.specs.declared.cpu.Cpu.{Cpu}
+use Rattle.std.specs.Prelude.{ℕ, ◌≡◌, ◌<◌, ◌+◌, ◌-◌, ◌%◌, ◌^◌, min, Bool, true, false, List, length, Option, None, is_none, is_some, IfNone, IfSome, ⊤, if◌then◌else◌}
 use Rattle.dspec_c.specs.Answered.{Answered, AnsweredWith}
 use Rattle.dspec_c.specs.Homes.{CpuSide}
 use Rattle.dspec_c.specs.Shows.{TellsReport}
 use Rattle.dspec_c.specs.Statuses.{bad_handle, committed_number, committed_status, decided_number, decided_status, id_or_zero, opened_number, opening_status, spoken_status, traced_status}
-use Rattle.dspec_c.specs.declared.held.HandleValue.{HandleValue}
+use Rattle.dspec_c.specs.Words.Outside.{Speculation, id_number, Record, EnabledRows, claimed, packed_record, stamp_fits, enabled, table_accepts, table_shape, dropped_in, report, By, commit, discard}
+use Rattle.dspec_c.specs.Words.Outside.{drops_told, config_of, number_in, schema_of, worn_of, CommitsIfRoom, OpensOne, DecidesOne, ServesOnce, RecordsValues, OffersValues, SpeculatesOne, TracesOne}
+use Rattle.dspec_c.specs.Words.Outside.{IsOpenAt, identity, Has, Shape, Decided, Opening, Served, Spoken, Traced, Deed, Report, Cpu}
+use Rattle.dspec_c.specs.declared.{held.HandleValue.HandleValue, reports.CReport.CReport}
 use Rattle.dspec_c.specs.declared.held.HandleValue.TheVariants as held
-use Rattle.dspec_c.specs.declared.reports.CReport.{CReport}
 
 -- which records a CPU's schema accepts
 abbrev pub accepts_at : EnabledRows → Record → Bool

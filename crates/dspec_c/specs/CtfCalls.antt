@@ -1,18 +1,11 @@
 -- Cited by calls. The calls on a CPU's files in a trace, and the metadata of one.
 use Rattle.std.specs.Prelude.{ℕ, ◌≡◌, ◌≢◌, ◌⊎◌, true, List, Some, None, length}
-use Rattle.dspec_c.specs.Words.Outside.{EnabledRows, CpuFiling, no_packets, unwritten, Hands, HandsNone, HasAsMuchRoom, HasNoBatch, OpensBatch, Reserves, with_more_missed, without_rest}
-use Rattle.dspec_c.specs.Words.Outside.{PutsMetadata, PutsNone}
-use Rattle.dspec_record.specs.declared.header.Header.TheVariants.{One, Two}
-use Rattle.dspec_ctf.specs.declared.stream.PacketFault.{PacketFault}
-use Rattle.dspec_ctf.specs.declared.in_memory.fault.PutFault.{PutFault}
-use Rattle.dspec_ctf.specs.declared.in_memory.fault.TextFault.{TextFault}
-use Rattle.dspec_ctf.specs.declared.in_memory.identity.TraceIdentity.{TraceIdentity}
-use Rattle.dspec_ctf.specs.declared.in_memory.packet.Packet.{Packet}
 use Rattle.dspec_c.specs.CtfStatuses.{needed_of, no_packet, no_stamp, packet_status, put_status, text_size, text_status}
 use Rattle.dspec_c.specs.Handles.{held_in, is_full}
 use Rattle.dspec_c.specs.Statuses.{bad_handle, no_memory, no_such_cpu}
-use Rattle.dspec_c.specs.declared.handle.Handle.{Handle}
-use Rattle.dspec_c.specs.declared.held.HandleValue.{HandleValue}
+use Rattle.dspec_c.specs.Words.Outside.{EnabledRows, CpuFiling, no_packets, unwritten, Hands, HandsNone, HasAsMuchRoom, HasNoBatch, OpensBatch, Reserves, with_more_missed, without_rest}
+use Rattle.dspec_c.specs.Words.Outside.{PutsMetadata, PutsNone, One, Two, PacketFault, PutFault, TextFault, TraceIdentity, Packet}
+use Rattle.dspec_c.specs.declared.{handle.Handle.Handle, held.HandleValue.HandleValue}
 use Rattle.dspec_c.specs.declared.held.HandleValue.TheVariants as held
 
 -- a room of the caller's, and how many bytes it is told

@@ -1,14 +1,10 @@
 -- Cited by calls. The numbers of the statuses of a trace's calls.
 use Rattle.std.specs.Prelude.{ℕ}
-use Rattle.dspec_ctf.specs.declared.fault.MetadataFault.{MetadataFault}
+use Rattle.dspec_c.specs.Words.Outside.{MetadataFault, NameFault, PacketFault, PutFault, TextFault}
 use Rattle.dspec_ctf.specs.declared.fault.MetadataFault.TheVariants as metadata
-use Rattle.dspec_ctf.specs.declared.fault.NameFault.{NameFault}
 use Rattle.dspec_ctf.specs.declared.fault.NameFault.TheVariants as name
-use Rattle.dspec_ctf.specs.declared.stream.PacketFault.{PacketFault}
 use Rattle.dspec_ctf.specs.declared.stream.PacketFault.TheVariants as packet
-use Rattle.dspec_ctf.specs.declared.in_memory.fault.PutFault.{PutFault}
 use Rattle.dspec_ctf.specs.declared.in_memory.fault.PutFault.TheVariants as put
-use Rattle.dspec_ctf.specs.declared.in_memory.fault.TextFault.{TextFault}
 use Rattle.dspec_ctf.specs.declared.in_memory.fault.TextFault.TheVariants as text
 
 -- records have no stamps; no packet is left

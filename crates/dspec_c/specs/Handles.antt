@@ -1,8 +1,6 @@
 -- Cited by calls. What contracts see of a handle in C's memory.
 use Rattle.std.specs.Prelude.{Bool, if◌then◌else◌}
-use Rattle.dspec_c.specs.declared.handle.Handle.{Handle}
-use Rattle.dspec_c.specs.declared.held.HandleValue.{HandleValue}
-use Rattle.dspec_c.specs.declared.held.HandleValue.TheVariants.{Nothing}
+use Rattle.dspec_c.specs.declared.{handle.Handle.Handle, held.HandleValue.HandleValue, held.HandleValue.TheVariants.Nothing}
 
 -- something is in it
 abbrev pub is_full : Handle → Bool

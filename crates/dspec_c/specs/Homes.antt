@@ -1,9 +1,7 @@
 -- Cited by calls. How a CPU comes home: by a ring of its own, through which it went when that was made, at the session's start or as it
 -- was handed out again.
 use Rattle.std.specs.Prelude.{ℕ, ◌≡◌, ◌<◌, Bool, false, List, [], ◌∷◌, Option, Some, None, IfSome, IfNone, IsSome, IsSomeAnd, ⊤}
-use Rattle.dspec_c.specs.Words.Outside.{EnabledRows, IsCallable, identity}
-use Rattle.dspec_cpu.specs.declared.cpu.Cpu.{Cpu}
-use Rattle.dspec_cpu.specs.declared.shared.Shared.{Shared}
+use Rattle.dspec_c.specs.Words.Outside.{EnabledRows, IsCallable, identity, Cpu, Shared}
 
 -- a CPU, what it shares, and how many of the records that it was handed the schema has refused
 pub record CpuSide : Type 0 where

@@ -1,20 +1,11 @@
 -- Cited by calls. What lending keeps: a handle is lent for a call, and has what the call left.
-use Rattle.std.specs.Prelude.{Option, ⊤}
-use Rattle.std.specs.Borrow.{Lends, LendsIf, MutBor, Fml}
-use Rattle.dspec_c.specs.Words.Outside.{EnabledRows, CpuFiling}
+use Rattle.std.specs.{Borrow.Lends, Borrow.LendsIf, Borrow.MutBor, Borrow.Fml, Prelude.Option, Prelude.⊤}
+use Rattle.dspec_c.specs.{Homes.CpuSide, Words.Outside.EnabledRows, Words.Outside.CpuFiling, contracts.handle.Handle.the_row as handle_row, contracts.handle.HandleContents.the_row as kept_row}
+use Rattle.dspec_c.specs.{contracts.held.HandleValue.the_row as held_row, contracts.out_cpu.OutCpu.the_row as cpu_row, contracts.seal.Seal.the_row as seal_row, declared.handle.Handle.Handle}
+use Rattle.dspec_c.specs.{declared.handle.HandleContents.HandleContents, declared.held.HandleValue.HandleValue, declared.seal.Seal.Seal}
 use Rattle.dspec_record.specs.contracts.enabling.Enablings.{the_row as schema_row}
 use Rattle.dspec_ctf.specs.contracts.in_memory.cpu_packets.CpuPackets.{the_row as files_row}
-use Rattle.dspec_c.specs.declared.handle.Handle.{Handle}
-use Rattle.dspec_c.specs.declared.held.HandleValue.{HandleValue}
 use Rattle.dspec_c.specs.declared.held.HandleValue.TheVariants as held
-use Rattle.dspec_c.specs.declared.handle.HandleContents.{HandleContents}
-use Rattle.dspec_c.specs.declared.seal.Seal.{Seal}
-use Rattle.dspec_c.specs.contracts.handle.Handle.{the_row as handle_row}
-use Rattle.dspec_c.specs.contracts.held.HandleValue.{the_row as held_row}
-use Rattle.dspec_c.specs.contracts.out_cpu.OutCpu.{the_row as cpu_row}
-use Rattle.dspec_c.specs.Homes.{CpuSide}
-use Rattle.dspec_c.specs.contracts.handle.HandleContents.{the_row as kept_row}
-use Rattle.dspec_c.specs.contracts.seal.Seal.{the_row as seal_row}
 
 -- the seal with this in its box
 abbrev pub with_inside : Seal → HandleContents → Seal

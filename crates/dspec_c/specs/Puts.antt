@@ -1,12 +1,8 @@
 -- Serves proofs. A record of words, where records have a header that is known when the library is compiled.
-use Rattle.std.specs.Prelude.{ℕ, ◌≡◌, ◌%◌, ◌^◌, Bool, true, false, List, length, Option, None, is_some, IfNone, IfSome, if◌then◌else◌}
 use Rattle.std.specs.Option.{option_map}
-use Rattle.dspec_c.specs.Words.Outside.{Speculation, Record, EnabledRows, claimed, packed_record, stamp_fits, schema_of, SpeculatesOne, TracesOne, identity, Has}
-use Rattle.dspec_record.specs.declared.header.Header.{Header}
+use Rattle.std.specs.Prelude.{ℕ, ◌≡◌, ◌%◌, ◌^◌, Bool, true, false, List, length, Option, None, is_some, IfNone, IfSome, if◌then◌else◌}
+use Rattle.dspec_c.specs.Words.Outside.{Speculation, Record, EnabledRows, claimed, packed_record, stamp_fits, schema_of, SpeculatesOne, TracesOne, identity, Has, Header, Spoken, Traced, Cpu}
 use Rattle.dspec_record.specs.declared.header.Header.TheVariants as header
-use Rattle.dspec_deeds.specs.declared.calls.Spoken.{Spoken}
-use Rattle.dspec_deeds.specs.declared.calls.Traced.{Traced}
-use Rattle.dspec_cpu.specs.declared.cpu.Cpu.{Cpu}
 
 abbrev pub is_header : Header → Header → Bool
 is_header header.One header.One = true

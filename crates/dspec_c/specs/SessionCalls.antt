@@ -1,17 +1,10 @@
 -- Cited by calls. The calls on schemas and sessions, and those that bring a CPU or the consumer home.
 use Rattle.std.specs.Prelude.{ℕ, ◌≡◌, Bool, true, false, nat_lt, [], length, replicate, Option, Some, None, ◌⊎◌, MatchResult, Result, if◌then◌else◌}
-use Rattle.dspec_c.specs.Words.Outside.{EnabledRows, start_fault}
-use Rattle.dspec_record.specs.declared.header.Header.TheVariants.{One, Two}
-use Rattle.dspec_deeds.specs.declared.config.Config.{Config}
-use Rattle.dspec_deeds.specs.declared.config.StartFault.{StartFault}
-use Rattle.dspec_c.specs.Homes.{CpuSide}
-use Rattle.dspec_c.specs.Whole.{EndedBy, Going, GoesOut, IsAway, IsHome, IsJustStarted, LookedLater, LooksIfThere, TheyGoOut, inside_at}
-use Rattle.dspec_c.specs.declared.consumer_side.ConsumerSide.{ConsumerSide}
-use Rattle.dspec_c.specs.declared.ended.EndedSession.{EndedSession}
-use Rattle.dspec_c.specs.Handles.{held_in, is_full}
-use Rattle.dspec_c.specs.Statuses.{already_out, bad_handle, bad_policy, busy, no_memory, no_such_cpu, not_home, start_status}
-use Rattle.dspec_c.specs.declared.handle.Handle.{Handle}
-use Rattle.dspec_c.specs.declared.held.HandleValue.{HandleValue}
+use Rattle.dspec_c.specs.{Handles.held_in, Handles.is_full, Homes.CpuSide, Statuses.already_out, Statuses.bad_handle, Statuses.bad_policy, Statuses.busy, Statuses.no_memory, Statuses.no_such_cpu}
+use Rattle.dspec_c.specs.{Statuses.not_home, Statuses.start_status, Whole.EndedBy, Whole.Going, Whole.GoesOut, Whole.IsAway, Whole.IsHome, Whole.IsJustStarted, Whole.LookedLater, Whole.LooksIfThere}
+use Rattle.dspec_c.specs.{Whole.TheyGoOut, Whole.inside_at, Words.Outside.EnabledRows, Words.Outside.start_fault, Words.Outside.One, Words.Outside.Two, Words.Outside.Config}
+use Rattle.dspec_c.specs.{Words.Outside.StartFault, declared.consumer_side.ConsumerSide.ConsumerSide, declared.ended.EndedSession.EndedSession, declared.handle.Handle.Handle}
+use Rattle.dspec_c.specs.{declared.held.HandleValue.HandleValue}
 use Rattle.dspec_c.specs.declared.held.HandleValue.TheVariants as held
 
 -- no enablings, and no stamp

@@ -1,9 +1,6 @@
 -- Cited by calls. What C reads of reports and batches.
 use Rattle.std.specs.Prelude.{ℕ, ◌≡◌, length}
-use Rattle.dspec_deeds.specs.declared.report.Report.{Report}
-use Rattle.dspec_ring.specs.declared.batch.Batch.{Batch}
-use Rattle.dspec_c.specs.declared.batches.CBatch.{CBatch}
-use Rattle.dspec_c.specs.declared.reports.CReport.{CReport}
+use Rattle.dspec_c.specs.{Words.Outside.Report, Words.Outside.Batch, declared.batches.CBatch.CBatch, declared.reports.CReport.CReport}
 
 -- the same counts, each at its name, and how many records were refused
 pub record TellsReport (c : CReport) (r : Report) (n : ℕ) : Type 0 where

@@ -1,19 +1,13 @@
 -- Cited by calls. The numbers of the statuses, by what the library answered, and what goes out beside them.
 use Rattle.std.specs.Prelude.{ℕ, Bool, true, false, Option, Some, None}
-use Rattle.dspec_deeds.specs.declared.calls.Decided.{Decided}
+use Rattle.dspec_c.specs.Words.Outside.{Decided, Opening, Spoken, Traced, StartFault, Speculation, id_number}
+use Rattle.dspec_c.specs.declared.consumer_side.{GiveBackOutcome.GiveBackOutcome, TakeOutcome.TakeOutcome}
 use Rattle.dspec_deeds.specs.declared.calls.Decided.TheVariants as decided
-use Rattle.dspec_deeds.specs.declared.calls.Opening.{Opening}
 use Rattle.dspec_deeds.specs.declared.calls.Opening.TheVariants as opening
-use Rattle.dspec_deeds.specs.declared.calls.Spoken.{Spoken}
 use Rattle.dspec_deeds.specs.declared.calls.Spoken.TheVariants as spoken
-use Rattle.dspec_deeds.specs.declared.calls.Traced.{Traced}
 use Rattle.dspec_deeds.specs.declared.calls.Traced.TheVariants as traced
-use Rattle.dspec_deeds.specs.declared.config.StartFault.{StartFault}
 use Rattle.dspec_deeds.specs.declared.config.StartFault.TheVariants as start
-use Rattle.dspec_c.specs.Words.Outside.{Speculation, id_number}
-use Rattle.dspec_c.specs.declared.consumer_side.TakeOutcome.{TakeOutcome}
 use Rattle.dspec_c.specs.declared.consumer_side.TakeOutcome.TheVariants as found
-use Rattle.dspec_c.specs.declared.consumer_side.GiveBackOutcome.{GiveBackOutcome}
 use Rattle.dspec_c.specs.declared.consumer_side.GiveBackOutcome.TheVariants as returned
 
 -- the numbers that aren't a library's answer's: memory was refused; there is no such policy; the handle is empty, or holds another

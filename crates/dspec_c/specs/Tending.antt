@@ -1,11 +1,6 @@
 -- Cited by calls. What a session does for its CPUs that are at their places: one service each, whether a CPU came home or was never handed out.
 use Rattle.std.specs.Prelude.{ℕ, zero, suc, ◌≡◌, ◌+◌, List, length, Some, MatchOption, slice_get, slice_set}
-use Rattle.dspec_deeds.specs.declared.calls.Served.{Served}
-use Rattle.dspec_c.specs.CpuCalls.{ServicedSo}
-use Rattle.dspec_c.specs.Homes.{AtHome, Came, CpuStay}
-use Rattle.dspec_c.specs.Statuses.{bad_handle}
-use Rattle.dspec_c.specs.Whole.{Going}
-use Rattle.dspec_c.specs.declared.held.HandleValue.{HandleValue}
+use Rattle.dspec_c.specs.{CpuCalls.ServicedSo, Homes.AtHome, Homes.Came, Homes.CpuStay, Statuses.bad_handle, Whole.Going, Words.Outside.Served, declared.held.HandleValue.HandleValue}
 use Rattle.dspec_c.specs.declared.held.HandleValue.TheVariants as held
 
 -- a CPU at home was served once, which settled so many speculations

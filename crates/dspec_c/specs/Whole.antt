@@ -1,15 +1,11 @@
 -- Cited by calls. What a session between its start and its end keeps of its parts.
-use Rattle.std.specs.Prelude.{ℕ, ◌≡◌, ◌⊎◌, Bool, true, false, List, [], ◌∷◌, Option, Some, None, IsSome, IsSomeAnd, MatchBool, ⊤, suc, is_some, length, map, nat_lt, slice_get, slice_set}
 use Rattle.std.specs.Option.{option_map, option_map_or}
-use Rattle.dspec_deeds.specs.declared.config.Config.{Config}
-use Rattle.dspec_c.specs.Words.Outside.{start_fault, EnabledRows, enabled, table_accepts, table_shape, table_text, Pair, last_seat, set_up, number_in, schema_of, words_of, IsCallable, identity}
-use Rattle.dspec_c.specs.Words.Outside.{Consuming, IsConsumerOf, pairs_of, set_up_of, view_of, IsPromisedBy, called_at, entered_at, Has, IsCpuOf, IsFresh, IsSession, taken_at}
-use Rattle.dspec_cpu.specs.declared.cpu.Cpu.{Cpu}
-use Rattle.dspec_cpu.specs.declared.shared.Shared.{Shared}
-use Rattle.dspec_session_core.specs.declared.left.Left.{Left}
-use Rattle.dspec_session_core.specs.declared.session.Session.{Session}
+use Rattle.std.specs.Prelude.{ℕ, ◌≡◌, ◌⊎◌, Bool, true, false, List, [], ◌∷◌, Option, Some, None, IsSome, IsSomeAnd, MatchBool, ⊤, suc, is_some, length, map, nat_lt, slice_get, slice_set}
 use Rattle.dspec_c.specs.ConsumerHomes.{LeaveTheirs, TheirStay, Theirs}
 use Rattle.dspec_c.specs.Homes.{AtHome, Came, CpuStay, LeavesPlace, CpuSide, at_home, handed_out}
+use Rattle.dspec_c.specs.Words.Outside.{Config, start_fault, EnabledRows, enabled, table_accepts, table_shape, table_text, Pair, last_seat, set_up, number_in, schema_of, words_of, IsCallable}
+use Rattle.dspec_c.specs.Words.Outside.{identity, Consuming, IsConsumerOf, pairs_of, set_up_of, view_of, IsPromisedBy, called_at, entered_at, Has, IsCpuOf, IsFresh, IsSession, taken_at, Cpu, Shared}
+use Rattle.dspec_c.specs.Words.Outside.{Left, Session}
 
 -- each CPU can be called by those who share this
 abbrev pub AllCalled : Shared → List (Cpu EnabledRows) → Type 0

@@ -1,11 +1,8 @@
 -- Cited by calls. Enabling records by the widths of their fields.
-use Rattle.std.specs.Prelude.{ℕ, ◌≡◌, ◌==◌, ◌+◌, ◌++◌, nat_le, nat_lt, List, [], ◌∷◌, length, Option, Some, None, option_and_then, if◌then◌else◌}
 use Rattle.std.specs.Option.{option_map, option_map_or}
-use Rattle.dspec_c.specs.Words.Outside.{EnabledRows}
-use Rattle.dspec_record.specs.declared.field.Field.{Field}
-use Rattle.dspec_record.specs.declared.field.Field.TheVariants.{One, Two, Four, Eight}
-use Rattle.dspec_c.specs.Statuses.{bad_handle}
-use Rattle.dspec_c.specs.declared.held.HandleValue.{HandleValue}
+use Rattle.std.specs.Prelude.{ℕ, ◌≡◌, ◌==◌, ◌+◌, ◌++◌, nat_le, nat_lt, List, [], ◌∷◌, length, Option, Some, None, option_and_then, if◌then◌else◌}
+use Rattle.dspec_c.specs.{Statuses.bad_handle, Words.Outside.EnabledRows, Words.Outside.Field, Words.Outside.Four, Words.Outside.Eight, declared.held.HandleValue.HandleValue}
+use Rattle.dspec_record.specs.declared.field.Field.TheVariants.{One, Two}
 use Rattle.dspec_c.specs.declared.held.HandleValue.TheVariants as held
 
 abbrev pub field_of_width : ℕ → Option Field

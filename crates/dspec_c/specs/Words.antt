@@ -20,14 +20,3 @@ pub use Rattle.dspec_c.specs.Whole.{AllCalled, AllInside, AreCame, ClosedBy, cpu
 pub use Rattle.dspec_c.specs.Whole.{IsHome, IsInsideAt, IsJustStarted, IsPlaceOf, IsStarted, IsWhole, LeavesOne, LookedLater, LooksAt, LooksAtOne, LooksIfThere, new_side, OneOutside, refusals}
 pub use Rattle.dspec_c.specs.Whole.{refused_inside, they_wait_so, TheyGoOut, waiting_so}
 pub use Rattle.dspec_c.specs.Widths.{field_and_rest, field_of_width, fields_of_widths}
-pub use Rattle.dspec_c.specs.contracts.batches.start_of.Key.{name as #self}
-pub use Rattle.dspec_c.specs.contracts.parts.BoxParts.into_box.{clauses, ended}
-pub use Rattle.dspec_c.specs.contracts.seal.Seal.{the_row}
-pub use Rattle.dspec_c.specs.declared.consumer_homing.ConsumerRule.{ConsumerRule}
-pub use Rattle.dspec_c.specs.declared.consumer_side.ConsumerSide.{ConsumerSide}
-pub use Rattle.dspec_c.specs.declared.ended.EndedSession.{EndedSession}
-pub use Rattle.dspec_c.specs.declared.handle.Handle.{Handle}
-pub use Rattle.dspec_c.specs.declared.held.HandleValue.{HandleValue}
-pub use Rattle.dspec_c.specs.declared.held.HandleValue.TheVariants.{Nothing}
-pub use Rattle.dspec_c.specs.declared.homing.HomingProtocol.{HomingProtocol}
-pub use Rattle.dspec_c.specs.declared.reports.CReport.{CReport}

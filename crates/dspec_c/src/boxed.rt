@@ -1,5 +1,4 @@
-ghost use Rattle.std.specs.Prelude.{◌≡◌, IfOk};
-ghost use Rattle.std.specs.Borrow.{Lends, sem};
+ghost use Rattle.std.specs.{Borrow.Lends, Borrow.sem, Prelude.◌≡◌, Prelude.IfOk};
 
 use std::alloc::{AllocError, Global};
 use std::marker::Model;

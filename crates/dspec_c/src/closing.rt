@@ -1,9 +1,8 @@
 //! The end of a session in one call: its CPUs and its consumer go home, and it ends.
 
 ghost use Rattle.std.specs.Prelude.{◌≡◌, true, false};
-ghost use Rattle.dspec_c.specs.Closing.{CloseAnswers, EmptiesAll, KeepAll, KeepsHeld, are_cpus_in, closing_of, is_session_in};
-ghost use Rattle.dspec_c.specs.Handles.{held_in, is_full};
-ghost use Rattle.dspec_c.specs.SessionCalls.{is_consumer_in, is_cpu_in};
+ghost use Rattle.dspec_c.specs.{Closing.CloseAnswers, Closing.EmptiesAll, Closing.KeepAll, Closing.KeepsHeld, Closing.are_cpus_in, Closing.closing_of, Closing.is_session_in, Handles.held_in};
+ghost use Rattle.dspec_c.specs.{Handles.is_full, SessionCalls.is_consumer_in, SessionCalls.is_cpu_in};
 
 use crate::handle::Handle;
 use crate::held::HandleValue;

@@ -1,8 +1,8 @@
 //! The exports of the consumer.
 
 ghost use Rattle.std.specs.Prelude.{◌≡◌};
-ghost use Rattle.dspec_c.specs.Handles.{held_in, is_full};
 ghost use Rattle.dspec_c.specs.ConsumerCalls.{AskAnswers, CleanAnswers, GiveBackAnswers, StopAnswers, TakeAnswers, WaitingAnswers};
+ghost use Rattle.dspec_c.specs.Handles.{held_in, is_full};
 
 use crate::batches::CBatch;
 use crate::handle::Handle;

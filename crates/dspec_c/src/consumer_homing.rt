@@ -36,8 +36,7 @@ impl Protocol<ConsumerHoming> for ConsumerRule {
 }
 
 impl ConsumerHoming {
-    ghost use Rattle.std.specs.Prelude.{◌≡◌};
-    ghost use Rattle.std.specs.Arc.{arc_value};
+    ghost use Rattle.std.specs.{Arc.arc_value, Prelude.◌≡◌};
     ghost use Rattle.dspec_cpu.specs.Lists.{words_of};
     ghost use Rattle.dspec_session_core.specs.Consumers.{IsConsumerOf};
     ghost use Rattle.dspec_c.specs.ConsumerHomes.{theirs_of};

@@ -19,8 +19,7 @@ pub struct ConsumerPlace {
 impl Model for ConsumerPlace {
     ghost use Rattle.std.specs.Prelude.{◌≡◌, is_some, slice_get, IfSome, Some};
     ghost use Rattle.rtrb.specs.Ring.{known_free, received, sent};
-    ghost use Rattle.dspec_c.specs.ConsumerHomes.{IsDeskTheirs, TheirStay, Theirs};
-    ghost use Rattle.dspec_c.specs.Homes.{IsUnused};
+    ghost use Rattle.dspec_c.specs.{ConsumerHomes.IsDeskTheirs, ConsumerHomes.TheirStay, ConsumerHomes.Theirs, Homes.IsUnused};
 
     ghost Value = { TheirStay };
 
@@ -30,13 +29,10 @@ impl Model for ConsumerPlace {
 }
 
 impl ConsumerPlace {
-    ghost use Rattle.std.specs.Prelude.{◌≡◌, IfNone, IfOk, IfSome, IsSome, Some, false, is_some};
-    ghost use Rattle.std.specs.Arc.{arc_value};
+    ghost use Rattle.std.specs.{Arc.arc_value, Prelude.◌≡◌, Prelude.IfNone, Prelude.IfOk, Prelude.IfSome, Prelude.IsSome, Prelude.Some, Prelude.false, Prelude.is_some};
     ghost use Rattle.dspec_cpu.specs.Lists.{words_of};
     ghost use Rattle.dspec_session_core.specs.Consumers.{IsConsumerOf, IsSameConsumer};
-    ghost use Rattle.dspec_c.specs.ConsumerHomes.{IsTheirPlaceWith, LeaveTheirs, Theirs};
-    ghost use Rattle.dspec_c.specs.Homes.{Came};
-    ghost use Rattle.dspec_c.specs.Whole.{they_wait_so};
+    ghost use Rattle.dspec_c.specs.{ConsumerHomes.IsTheirPlaceWith, ConsumerHomes.LeaveTheirs, ConsumerHomes.Theirs, Homes.Came, Whole.they_wait_so};
 
     /// The consumer's place, with the consumer in it, which waits.
     pub fn make(alloc: Global, consumer: ConsumerHoming) -> Result<ConsumerPlace, AllocError>

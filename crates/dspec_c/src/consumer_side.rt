@@ -45,8 +45,7 @@ impl ConsumerSide {
     ghost use Rattle.std.specs.Prelude.{◌≡◌, length};
     ghost use Rattle.dspec_session_core.specs.Consumers.{set_up_of};
     ghost use Rattle.rtrb.specs.Ring.{sent};
-    ghost use Rattle.dspec_c.specs.ConsumerHomes.{HasGoneTheirs};
-    ghost use Rattle.dspec_c.specs.ConsumerCalls.{Finds, Returns};
+    ghost use Rattle.dspec_c.specs.{ConsumerCalls.Finds, ConsumerCalls.Returns, ConsumerHomes.HasGoneTheirs};
 
     pub fn new(out: OutConsumer, taken: Vec<Option<Batch>>) -> ConsumerSide
         requires { length taken.items ≡ (set_up_of out.consumer).cpus }

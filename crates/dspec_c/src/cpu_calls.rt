@@ -1,8 +1,8 @@
 //! The exports of a CPU.
 
 ghost use Rattle.std.specs.Prelude.{◌≡◌};
-ghost use Rattle.dspec_c.specs.Handles.{held_in, is_full};
-ghost use Rattle.dspec_c.specs.CpuCalls.{CommitAnswers, CommitIfRoomAnswers, DiscardAnswers, DroppedInAnswers, OpenAtAnswers, ReportAnswers, ServiceAnswers, SpeculateAnswers, SpeculationAnswers, TraceAnswers};
+ghost use Rattle.dspec_c.specs.{CpuCalls.CommitAnswers, CpuCalls.CommitIfRoomAnswers, CpuCalls.DiscardAnswers, CpuCalls.DroppedInAnswers, CpuCalls.OpenAtAnswers, CpuCalls.ReportAnswers};
+ghost use Rattle.dspec_c.specs.{CpuCalls.ServiceAnswers, CpuCalls.SpeculateAnswers, CpuCalls.SpeculationAnswers, CpuCalls.TraceAnswers, Handles.held_in, Handles.is_full};
 
 use crate::handle::Handle;
 use crate::held::HandleValue;

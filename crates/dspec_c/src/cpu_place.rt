@@ -31,12 +31,9 @@ impl Model for CpuPlace {
 }
 
 impl CpuPlace {
-    ghost use Rattle.std.specs.Prelude.{◌≡◌, IfOk, IsSome, OnErr, Some, true, false, is_some};
-    ghost use Rattle.std.specs.Arc.{arc_value};
+    ghost use Rattle.std.specs.{Arc.arc_value, Prelude.◌≡◌, Prelude.IfOk, Prelude.IsSome, Prelude.OnErr, Prelude.Some, Prelude.true, Prelude.false, Prelude.is_some};
     ghost use Rattle.dspec_cpu.specs.Standing.{identity};
-    ghost use Rattle.dspec_c.specs.Homes.{Came, IsPlaceWith, LeavesPlace, CpuSide};
-    ghost use Rattle.dspec_c.specs.Tending.{IsTended, ServedIfThere};
-    ghost use Rattle.dspec_c.specs.Whole.{refused_inside, waits_with};
+    ghost use Rattle.dspec_c.specs.{Homes.Came, Homes.IsPlaceWith, Homes.LeavesPlace, Homes.CpuSide, Tending.IsTended, Tending.ServedIfThere, Whole.refused_inside, Whole.waits_with};
 
     /// The CPU's place, with the CPU in it, which waits.
     pub fn make(alloc: Global, cpu: Homing) -> Result<CpuPlace, AllocError>

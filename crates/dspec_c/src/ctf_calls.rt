@@ -1,8 +1,9 @@
 //! The exports of a trace by time that C writes.
 
 ghost use Rattle.std.specs.Prelude.{◌≡◌, MatchResult, map, true, false};
+ghost use Rattle.dspec_c.specs.CtfCalls.{BeginsFiles, CtfLoseAnswers, CtfMetadataAnswers, CtfMissAnswers, CtfNewAnswers, CtfOpenAnswers, CtfPutAnswers, CtfReserveAnswers, HasNoFiles, OpensSo};
+ghost use Rattle.dspec_c.specs.CtfCalls.{PutsSo, ReservesSo, packet_room, text_room};
 ghost use Rattle.dspec_c.specs.Handles.{held_in, is_full};
-ghost use Rattle.dspec_c.specs.CtfCalls.{BeginsFiles, CtfLoseAnswers, CtfMetadataAnswers, CtfMissAnswers, CtfNewAnswers, CtfOpenAnswers, CtfPutAnswers, CtfReserveAnswers, HasNoFiles, OpensSo, PutsSo, ReservesSo, packet_room, text_room};
 
 use crate::boxed::Boxed;
 use crate::ctf_statuses::{NO_PACKET, NO_STAMP, needed_of, of_packet, of_put, of_text, text_size};

@@ -1,5 +1,5 @@
-ghost use Rattle.std.specs.Prelude.{◌≡◌, ◌≤◌, ◌<◌, ◌+◌, ◌∷◌, [], ℕ, List, MatchBool, length, map, slice_get, vec_capacity, vec_len, IfOk, IsSome, OnErr, Some, true};
 ghost use Rattle.std.specs.Arc.{arc_value};
+ghost use Rattle.std.specs.Prelude.{◌≡◌, ◌≤◌, ◌<◌, ◌+◌, ◌∷◌, [], ℕ, List, MatchBool, length, map, slice_get, vec_capacity, vec_len, IfOk, IsSome, OnErr, Some, true};
 ghost use Rattle.dspec_cpu.specs.declared.shared.Shared.{Shared};
 ghost use Rattle.dspec_record.specs.EnablingRows.{EnabledRows};
 ghost use Rattle.dspec_ring.specs.Known.{Pair};

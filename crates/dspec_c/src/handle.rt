@@ -79,10 +79,8 @@ pub struct Handle {
 }
 
 impl Handle {
-    ghost use Rattle.std.specs.Prelude.{◌≡◌, is_some, true, false, IfSome};
-    ghost use Rattle.std.specs.Borrow.{sem};
-    ghost use Rattle.dspec_c.specs.Handles.{held_in, is_full};
-    ghost use Rattle.dspec_c.specs.Lending.{LendsHeld};
+    ghost use Rattle.std.specs.{Borrow.sem, Prelude.◌≡◌, Prelude.is_some, Prelude.true, Prelude.false, Prelude.IfSome};
+    ghost use Rattle.dspec_c.specs.{Handles.held_in, Handles.is_full, Lending.LendsHeld};
 
     /// Whether something is in the handle.
     pub(crate) fn is_held(&self) -> bool

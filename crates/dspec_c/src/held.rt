@@ -1,5 +1,4 @@
-ghost use Rattle.std.specs.Prelude.{◌≡◌, MatchOption};
-ghost use Rattle.std.specs.Borrow.{sem};
+ghost use Rattle.std.specs.{Borrow.sem, Prelude.◌≡◌, Prelude.MatchOption};
 
 use crate::boxed::Boxed;
 use crate::consumer_side::ConsumerSide;

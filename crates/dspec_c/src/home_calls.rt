@@ -1,8 +1,7 @@
 //! The exports that bring a CPU and the consumer home, and that let go what a handle holds.
 
 ghost use Rattle.std.specs.Prelude.{◌≡◌, false};
-ghost use Rattle.dspec_c.specs.Handles.{held_in, is_full};
-ghost use Rattle.dspec_c.specs.SessionCalls.{HomeAnswers, is_consumer_in, is_cpu_in};
+ghost use Rattle.dspec_c.specs.{Handles.held_in, Handles.is_full, SessionCalls.HomeAnswers, SessionCalls.is_consumer_in, SessionCalls.is_cpu_in};
 
 use crate::consumer_side::ConsumerSide;
 use crate::handle::Handle;

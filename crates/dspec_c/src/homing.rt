@@ -38,8 +38,7 @@ impl Protocol<Homing> for HomingProtocol {
 }
 
 impl Homing {
-    ghost use Rattle.std.specs.Prelude.{◌≡◌};
-    ghost use Rattle.std.specs.Arc.{arc_value};
+    ghost use Rattle.std.specs.{Arc.arc_value, Prelude.◌≡◌};
     ghost use Rattle.dspec_cpu.specs.Standing.{IsCallable};
     ghost use Rattle.dspec_c.specs.Homes.{at_home, cpu_side_of};
 

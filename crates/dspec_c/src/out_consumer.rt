@@ -16,8 +16,7 @@ pub struct OutConsumer {
 }
 
 impl Model for OutConsumer {
-    ghost use Rattle.std.specs.Prelude.{◌<◌};
-    ghost use Rattle.std.specs.Arc.{arc_value};
+    ghost use Rattle.std.specs.{Arc.arc_value, Prelude.◌<◌};
     ghost use Rattle.rtrb.specs.Ring.{known_free, sent};
     ghost use Rattle.dspec_cpu.specs.Lists.{words_of};
     ghost use Rattle.dspec_session_core.specs.Consumers.{IsConsumerOf};
@@ -33,10 +32,9 @@ impl Model for OutConsumer {
 impl OutConsumer {
     ghost use Rattle.std.specs.Prelude.{◌≡◌, ◌<◌, MatchOption, MatchResult};
     ghost use Rattle.rtrb.specs.Ring.{known_free, sent};
-    ghost use Rattle.dspec_c.specs.ConsumerHomes.{HasGoneTheirs, IsOutTheirs, IsSameTheirs};
-    ghost use Rattle.dspec_session_core.specs.Batches.{FoundNone, GaveBack, IsNotTakenBack, Took};
-    ghost use Rattle.dspec_session_core.specs.Stopping.{Stopped};
     ghost use Rattle.dspec_c.specs.ConsumerCalls.{Asks, CleansSo, OnTheirs, WaitsSo};
+    ghost use Rattle.dspec_c.specs.ConsumerHomes.{HasGoneTheirs, IsOutTheirs, IsSameTheirs};
+    ghost use Rattle.dspec_session_core.specs.{Batches.FoundNone, Batches.GaveBack, Batches.IsNotTakenBack, Batches.Took, Stopping.Stopped};
 
     pub fn of(
         way: Producer<ConsumerHoming, Global, ConsumerRule>,

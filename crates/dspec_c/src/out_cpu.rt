@@ -23,8 +23,7 @@ pub struct OutCpu {
 }
 
 impl Model for OutCpu {
-    ghost use Rattle.std.specs.Prelude.{◌<◌};
-    ghost use Rattle.std.specs.Arc.{arc_value};
+    ghost use Rattle.std.specs.{Arc.arc_value, Prelude.◌<◌};
     ghost use Rattle.rtrb.specs.Ring.{known_free, sent};
     ghost use Rattle.dspec_cpu.specs.Standing.{IsCallable};
     ghost use Rattle.dspec_c.specs.Homes.{CpuSide, IsOut, cpu_side_of};

@@ -1,5 +1,4 @@
-ghost use Rattle.std.specs.Prelude.{◌≡◌, ◌<◌, ◌∷◌, length, map, IfOk};
-ghost use Rattle.std.specs.Arc.{arc_value};
+ghost use Rattle.std.specs.{Arc.arc_value, Prelude.◌≡◌, Prelude.◌<◌, Prelude.◌∷◌, Prelude.length, Prelude.map, Prelude.IfOk};
 ghost use Rattle.dspec_cpu.specs.Standing.{IsCallable};
 ghost use Rattle.dspec_c.specs.Whole.{AllCalled, waiting_so};
 

@@ -2,8 +2,7 @@
 //! each. As many words as fit registers have an export of their own.
 
 ghost use Rattle.std.specs.Prelude.{◌≡◌, ◌∷◌, []};
-ghost use Rattle.dspec_c.specs.Handles.{held_in, is_full};
-ghost use Rattle.dspec_c.specs.CpuCalls.{PutAnswers, PutInAnswers};
+ghost use Rattle.dspec_c.specs.{CpuCalls.PutAnswers, CpuCalls.PutInAnswers, Handles.held_in, Handles.is_full};
 
 use crate::handle::Handle;
 use crate::statuses::bad_handle;

@@ -1,8 +1,7 @@
 //! A record by a claim and the words of its text, on a CPU.
 
 ghost use Rattle.dspec_cpu.specs.Standing.{IsCallable};
-ghost use Rattle.dspec_c.specs.CpuCalls.{Put, PutIn};
-ghost use Rattle.dspec_c.specs.Puts.{PutAs, PutInAs};
+ghost use Rattle.dspec_c.specs.{CpuCalls.Put, CpuCalls.PutIn, Puts.PutAs, Puts.PutInAs};
 
 use crate::word_counts::Worded;
 use dspec_cpu::{Cpu, Shared};

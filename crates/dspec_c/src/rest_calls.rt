@@ -1,8 +1,7 @@
 //! The exports of what is left of a session.
 
 ghost use Rattle.std.specs.Prelude.{◌≡◌, slice_get};
-ghost use Rattle.dspec_c.specs.Handles.{held_in, is_full};
-ghost use Rattle.dspec_c.specs.ClosedCalls.{ClosedReportAnswers, RestAnswers, TellsCountsOf, TellsLeftOf};
+ghost use Rattle.dspec_c.specs.{ClosedCalls.ClosedReportAnswers, ClosedCalls.RestAnswers, ClosedCalls.TellsCountsOf, ClosedCalls.TellsLeftOf, Handles.held_in, Handles.is_full};
 
 use crate::batches::CBatch;
 use crate::ended::EndedSession;

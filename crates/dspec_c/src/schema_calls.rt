@@ -1,9 +1,8 @@
 //! The exports of a schema.
 
 ghost use Rattle.std.specs.Prelude.{◌≡◌, ◌≤◌, ◌⊎◌, true, false, MatchOption, MatchResult, length, take, Some, None};
-ghost use Rattle.dspec_c.specs.Handles.{held_in, is_full};
-ghost use Rattle.dspec_c.specs.SessionCalls.{LooksAtSchema, StampAnswers, new_schema};
-ghost use Rattle.dspec_c.specs.Widths.{EnableAnswers, Enables, EnablesSo, enable_fault, field_of_width, fields_of_widths};
+ghost use Rattle.dspec_c.specs.{Handles.held_in, Handles.is_full, SessionCalls.LooksAtSchema, SessionCalls.StampAnswers, SessionCalls.new_schema, Widths.EnableAnswers, Widths.Enables};
+ghost use Rattle.dspec_c.specs.{Widths.EnablesSo, Widths.enable_fault, Widths.field_of_width, Widths.fields_of_widths};
 ghost use Rattle.dspec_c.specs.declared.held.HandleValue.TheVariants as held_as;
 
 use crate::boxed::Boxed;

@@ -1,11 +1,9 @@
 //! The exports of a session: its start, what it hands out, and its end.
 
 ghost use Rattle.std.specs.Prelude.{◌≡◌, None, true, false};
-ghost use Rattle.dspec_c.specs.Configs.{asked_for};
-ghost use Rattle.dspec_c.specs.Handles.{held_in, is_full};
-ghost use Rattle.dspec_c.specs.SessionCalls.{ConsumerOfAnswers, CpuOfAnswers, EndsSo, FinishAnswers, GivesConsumer, GivesCpu, HandsOut, HandsOutCpu, KeptSo, LooksHome, StartAnswers, StartsSo, consumer_due};
-ghost use Rattle.dspec_c.specs.Tending.{TendAnswers};
-ghost use Rattle.dspec_c.specs.Whole.{Going, IsHome, inside_at};
+ghost use Rattle.dspec_c.specs.{Configs.asked_for, Handles.held_in, Handles.is_full, SessionCalls.ConsumerOfAnswers, SessionCalls.CpuOfAnswers, SessionCalls.EndsSo, SessionCalls.FinishAnswers};
+ghost use Rattle.dspec_c.specs.{SessionCalls.GivesConsumer, SessionCalls.GivesCpu, SessionCalls.HandsOut, SessionCalls.HandsOutCpu, SessionCalls.KeptSo, SessionCalls.LooksHome};
+ghost use Rattle.dspec_c.specs.{SessionCalls.StartAnswers, SessionCalls.StartsSo, SessionCalls.consumer_due, Tending.TendAnswers, Whole.Going, Whole.IsHome, Whole.inside_at};
 ghost use Rattle.dspec_c.specs.declared.held.HandleValue.TheVariants as held_as;
 
 use crate::configs::CConfig;

@@ -1,7 +1,8 @@
 //! What every call answers, as a number; `dspec.h` has their names.
 
 ghost use Rattle.std.specs.Prelude.{◌≡◌};
-ghost use Rattle.dspec_c.specs.Statuses.{asked_status, bad_handle, committed_number, committed_status, decided_number, decided_status, found_status, id_or_zero, opened_number, opening_status, returned_status, spoken_status, start_status, traced_status};
+ghost use Rattle.dspec_c.specs.Statuses.{asked_status, bad_handle, committed_number, committed_status, decided_number, decided_status, found_status, id_or_zero, opened_number, opening_status};
+ghost use Rattle.dspec_c.specs.Statuses.{returned_status, spoken_status, start_status, traced_status};
 
 use crate::consumer_side::{GiveBackOutcome, TakeOutcome};
 use dspec_deeds::{Decided, Opening, Spoken, StartFault, Traced};

@@ -1,9 +1,7 @@
 //! Services of the CPUs that are at their places.
 
 ghost use Rattle.std.specs.Prelude.{◌≡◌, ◌<◌, ℕ, length, slice_get, Option, Some};
-ghost use Rattle.dspec_c.specs.Homes.{IsPlaceWith, CpuSide};
-ghost use Rattle.dspec_c.specs.Tending.{AreTended, TendsOne};
-ghost use Rattle.dspec_c.specs.Whole.{firsts};
+ghost use Rattle.dspec_c.specs.{Homes.IsPlaceWith, Homes.CpuSide, Tending.AreTended, Tending.TendsOne, Whole.firsts};
 
 use crate::cpu_place::CpuPlace;
 use dspec_cpu::Shared;

@@ -31,8 +31,7 @@ pub struct UnderWay {
 }
 
 impl Model for UnderWay {
-    ghost use Rattle.std.specs.Prelude.{◌≡◌, ◌≤◌, ◌+◌, [], length, vec_capacity, vec_len};
-    ghost use Rattle.std.specs.Arc.{arc_value};
+    ghost use Rattle.std.specs.{Arc.arc_value, Prelude.◌≡◌, Prelude.◌≤◌, Prelude.◌+◌, Prelude.[], Prelude.length, Prelude.vec_capacity, Prelude.vec_len};
     ghost use Rattle.dspec_c.specs.Whole.{Going, IsWhole, firsts};
 
     ghost Value = { Going };
@@ -49,10 +48,8 @@ impl UnderWay {
     ghost use Rattle.std.specs.Arc.{arc_value};
     ghost use Rattle.dspec_record.specs.EnablingRows.{EnabledRows};
     ghost use Rattle.dspec_table.specs.Seats.{last_seat, set_up};
-    ghost use Rattle.dspec_cpu.specs.declared.cpu.Cpu.{Cpu};
-    ghost use Rattle.dspec_cpu.specs.Lists.{words_of};
-    ghost use Rattle.dspec_session_core.specs.Consumers.{view_of};
-    ghost use Rattle.dspec_session_core.specs.Sessions.{Has, IsFresh, IsSession};
+    ghost use Rattle.dspec_cpu.specs.{Lists.words_of, declared.cpu.Cpu.Cpu};
+    ghost use Rattle.dspec_session_core.specs.{Consumers.view_of, Sessions.Has, Sessions.IsFresh, Sessions.IsSession};
     ghost use Rattle.dspec_c.specs.Tending.{IsTendedWhole};
     ghost use Rattle.dspec_c.specs.Whole.{AllCalled, EndedBy, GoesOut, HasAll, IsAway, IsHome, IsJustStarted, IsStarted, LookedLater, LooksAtOne, TheyGoOut, inside_at};
 

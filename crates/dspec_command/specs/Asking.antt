@@ -1,13 +1,9 @@
 -- Serves proofs. What is answered to words, by the kinds of error that the command has for them.
 use Rattle.std.specs.Prelude.{◌≡◌, ◌⊎◌, ℕ, List, [], Result, Ok, Err}
-use Rattle.clap.specs.Kinds.{IsAmong, Kinds}
-use Rattle.clap.specs.declared.error.kind.ErrorKind.{ErrorKind as Mistake}
+use Rattle.clap.specs.{Kinds.IsAmong, Kinds.Kinds, declared.error.kind.ErrorKind.ErrorKind as Mistake}
 use Rattle.clap.specs.declared.error.kind.ErrorKind.TheVariants as mistake
-use Rattle.dspec_command.specs.declared.asking.ParsedCommand.{ParsedCommand}
-use Rattle.dspec_command.specs.declared.asking.ParsedCommand.TheVariants.{Found, Text}
-use Rattle.dspec_command.specs.declared.fault.CommandFault.{CommandFault}
-use Rattle.dspec_command.specs.declared.fault.CommandFault.TheVariants.{Usage, Memory}
-use Rattle.dspec_command.specs.Faults.{IsMistake}
+use Rattle.dspec_command.specs.{Faults.IsMistake, declared.asking.ParsedCommand.ParsedCommand, declared.asking.ParsedCommand.TheVariants.Found, declared.asking.ParsedCommand.TheVariants.Text}
+use Rattle.dspec_command.specs.{declared.fault.CommandFault.CommandFault, declared.fault.CommandFault.TheVariants.Usage, declared.fault.CommandFault.TheVariants.Memory}
 
 -- what is answered to an error of this kind: a text that is asked for, want of memory, or how the program is called
 abbrev pub IsToldAs : List ℕ → Mistake → Result ParsedCommand CommandFault → Type 0

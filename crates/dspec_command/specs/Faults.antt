@@ -1,14 +1,9 @@
 -- Serves proofs. What is told of a program's faults, and by which exit status.
-use Rattle.std.specs.Prelude.{◌≡◌, ◌≢◌, ℕ, Bool, true, false, List, Result, Ok, Err}
-use Rattle.std.specs.Process.{exit_status}
-use Rattle.std.specs.declared.process.ExitCode.{ExitCode}
-use Rattle.std.specs.declared.io.Error.{Error}
-use Rattle.std.specs.declared.io.ErrorKind.{ErrorKind}
-use Rattle.std.specs.declared.io.ErrorKind.TheVariants.{OutOfMemory}
+use Rattle.std.specs.{Prelude.◌≡◌, Prelude.◌≢◌, Prelude.ℕ, Prelude.Bool, Prelude.true, Prelude.false, Prelude.List, Prelude.Result, Prelude.Ok, Prelude.Err, Process.exit_status}
+use Rattle.std.specs.{declared.io.Error.Error, declared.io.ErrorKind.ErrorKind, declared.io.ErrorKind.TheVariants.OutOfMemory, declared.process.ExitCode.ExitCode}
 use Rattle.clap.specs.declared.error.kind.ErrorKind.{ErrorKind as Mistake}
 use Rattle.clap.specs.declared.error.kind.ErrorKind.TheVariants as mistake
-use Rattle.dspec_command.specs.declared.fault.CommandFault.{CommandFault}
-use Rattle.dspec_command.specs.declared.fault.CommandFault.TheVariants.{Usage, NotText, Memory, Device}
+use Rattle.dspec_command.specs.declared.fault.CommandFault.{CommandFault, TheVariants.Usage, TheVariants.NotText, TheVariants.Memory, TheVariants.Device}
 
 -- the exit status that tells of a fault
 abbrev pub status_of_command : CommandFault → ℕ

@@ -1,10 +1,6 @@
 -- Serves proofs. What an input that keeps its name has kept.
-use Rattle.std.specs.Prelude.{◌≡◌, ℕ, List, Option, Some, None}
-use Rattle.std.specs.IoError.{error_kind}
-use Rattle.std.specs.declared.io.Error.{Error}
-use Rattle.dspec_command.specs.declared.fault.CommandFault.{CommandFault}
-use Rattle.dspec_command.specs.declared.input.Input.{Input}
-use Rattle.dspec_command.specs.Faults.{IsDeviceFault}
+use Rattle.std.specs.{IoError.error_kind, Prelude.◌≡◌, Prelude.ℕ, Prelude.List, Prelude.Option, Prelude.Some, Prelude.None, declared.io.Error.Error}
+use Rattle.dspec_command.specs.{Faults.IsDeviceFault, declared.fault.CommandFault.CommandFault, declared.input.Input.Input}
 
 -- an input of this name of which no read failed
 abbrev pub IsUnread : {R : Type 0} → List ℕ → Input R → Type 0

@@ -1,12 +1,6 @@
 ghost use Rattle.std.specs.Prelude.{◌≡◌, IfErr, IsErrAnd, map, string_bytes, true};
-ghost use Rattle.clap.specs.Simple.{app_of};
-ghost use Rattle.clap.specs.Faults.{fault_of, is_simple_and_free};
-ghost use Rattle.clap.specs.Takes.{takes};
-ghost use Rattle.clap.specs.Values.{kind_of};
-ghost use Rattle.clap.specs.declared.error.kind.ErrorKind.TheVariants.{OutOfMemory};
-ghost use Rattle.dspec_command.specs.Faults.{IsAskFault, IsMistake, IsUsage, IsWordsFault};
-ghost use Rattle.dspec_command.specs.Asking.{IsAnswerTo, IsToldAs};
-ghost use Rattle.dspec_command.specs.declared.fault.CommandFault.TheVariants.{Memory};
+ghost use Rattle.clap.specs.{Faults.fault_of, Faults.is_simple_and_free, Simple.app_of, Takes.takes, Values.kind_of, declared.error.kind.ErrorKind.TheVariants.OutOfMemory};
+ghost use Rattle.dspec_command.specs.{Asking.IsAnswerTo, Asking.IsToldAs, Faults.IsAskFault, Faults.IsMistake, Faults.IsUsage, Faults.IsWordsFault, declared.fault.CommandFault.TheVariants.Memory};
 
 use crate::fault::{CommandFault, words_fault};
 use clap::error::ErrorKind;

@@ -1,7 +1,5 @@
-ghost use Rattle.std.specs.Prelude.{◌≡◌, IfErr, codes};
-ghost use Rattle.std.specs.IoError.{error_kind};
-ghost use Rattle.dspec_command.specs.Faults.{IsDeviceFault, EndsProgram, IsOfDevice, words_fault};
-ghost use Rattle.dspec_command.specs.declared.fault.CommandFault.TheVariants.{Memory};
+ghost use Rattle.std.specs.{IoError.error_kind, Prelude.◌≡◌, Prelude.IfErr, Prelude.codes};
+ghost use Rattle.dspec_command.specs.{Faults.IsDeviceFault, Faults.EndsProgram, Faults.IsOfDevice, Faults.words_fault, declared.fault.CommandFault.TheVariants.Memory};
 
 use std::alloc::{AllocError, AllocFailed};
 use std::fmt::Display;

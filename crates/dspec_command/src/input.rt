@@ -1,6 +1,5 @@
 ghost use Rattle.std.specs.Prelude.{IfErr, IfOk};
-ghost use Rattle.dspec_command.specs.Faults.{IsOfDevice};
-ghost use Rattle.dspec_command.specs.Inputs.{IsToldOfInput, IsUnread};
+ghost use Rattle.dspec_command.specs.{Faults.IsOfDevice, Inputs.IsToldOfInput, Inputs.IsUnread};
 
 use crate::fault::{CommandFault, device_fault};
 use std::fs::File;

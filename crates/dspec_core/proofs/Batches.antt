@@ -1,9 +1,7 @@
 -- The batches of a CPU: how many were sealed, and the records of the one that grows.
-use Rattle.std.proofs.lemmas.Bool.Decides.{nat_tests}
 use Rattle.std.proofs.Common.{◌≡◌, ℕ, ◌+◌, Bool, true, false, if◌then◌else◌, List, [], ◌∷◌, ◌++◌, length, reverse, refl, sym, ap, ◌∙◌, arith, append-nil}
-use Rattle.std.proofs.lemmas.List.{reverse-append}
-use Rattle.dspec_core.specs.Words.{records, Offer, offers, accepted, active, contents, growing, batches, seals, stream}
-use Rattle.dspec_deeds.specs.declared.deed.Deed.{Deed}
+use Rattle.std.proofs.lemmas.{Bool.Decides.nat_tests, List.reverse-append}
+use Rattle.dspec_core.specs.Words.{records, Offer, offers, accepted, active, contents, growing, batches, seals, stream, Deed}
 
 -- the records of offers put together
 contents_append : (os more : List Offer) → contents (os ++ more) ≡ contents os ++ contents more

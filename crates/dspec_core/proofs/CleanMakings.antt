@@ -1,9 +1,6 @@
 -- How an atomic step of the consumer is put together that changes what is kept of one CPU, and then its own side.
-use Rattle.std.proofs.Common.{arith, ◌≡◌, ℕ, List, [], set, Option}
-use Rattle.std.proofs.lemmas.Bool.Decides.{nat_tests}
-use Rattle.dspec_core.specs.Words.{Piece, Machine, changes, stops, ConsumerMakes, history, state_of}
-use Rattle.dspec_deeds.specs.declared.calls.Answer.{Answer}
-use Rattle.dspec_interleaving.specs.declared.flight.CpuProgress.{CpuProgress}
+use Rattle.std.proofs.{Common.arith, Common.◌≡◌, Common.ℕ, Common.List, Common.[], Common.set, Common.Option, lemmas.Bool.Decides.nat_tests}
+use Rattle.dspec_core.specs.{Words.Piece, Words.changes, Words.stops, Words.ConsumerMakes, Words.history, Words.state_of, Words.Answer, Words.CpuProgress, declared.machine.Machine.Machine}
 
 module _ {S B : Type 0} (has : B → S → List Piece → Type 0) (capacity : B → ℕ) where
   -- a step that changed what is kept of one CPU, and ended

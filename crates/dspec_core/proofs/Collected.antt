@@ -1,10 +1,8 @@
 -- What is collected of each CPU at the close.
 use Rattle.std.proofs.Common.{arith, ◌≡◌, ℕ, ◌+◌, List, [], ◌∷◌, ◌++◌, map, sym, ap, ◌∙◌, add-one}
-use Rattle.std.proofs.lemmas.Bool.Decides.{nat_tests}
-use Rattle.std.proofs.lemmas.List.{map-append}
-use Rattle.dspec_core.specs.Words.{Record, Machine, numbers_below, streams, reports, PlayState, progress_of, history, state_of, stream, report}
-use Rattle.dspec_deeds.specs.declared.deed.Deed.{Deed}
-use Rattle.dspec_deeds.specs.declared.report.Report.{Report}
+use Rattle.std.proofs.lemmas.{Bool.Decides.nat_tests, List.map-append}
+use Rattle.dspec_core.specs.Words.{Record, numbers_below, streams, reports, PlayState, progress_of, history, state_of, stream, report, Deed, Report}
+use Rattle.dspec_core.specs.declared.machine.Machine.{Machine}
 
 -- what was collected of so many CPUs, and of one more
 pub one_more_cpu : {A : Type 0} (f : ℕ → A) (n : ℕ) (xs new : List A) (x : A) → xs ≡ map f (numbers_below n) → new ≡ xs ++ x ∷ [] → x ≡ f n → new ≡ map f (numbers_below (n + 1))

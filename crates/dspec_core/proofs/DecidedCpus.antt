@@ -1,17 +1,12 @@
 -- What a commit or a discard leaves of a CPU, said of both as one.
 use Rattle.std.proofs.Common.{arith, ◌≡◌, ℕ, ◌-◌, Bool, true, false, ◌||◌, List, ◌∷◌, ◌++◌, [], reverse, set, if◌then◌else◌, Option, refl}
 use Rattle.std.proofs.lemmas.Bool.Decides.{nat_tests}
-use Rattle.dspec_record.specs.declared.field.Shape.{Shape}
-use Rattle.dspec_core.specs.Words.{Speculation, SlotState, author, halted, is_commit, is_copied, is_discard, is_open, word_at, IsSound, CpuLegal, contents, held, seals_now, stream, IsSlot, Decision}
-use Rattle.dspec_core.specs.Words.{Commit, Discard, decides, deed_of, ShowsWords}
-use Rattle.dspec_deeds.specs.declared.calls.Actor.TheVariants.{Cpu}
-use Rattle.dspec_deeds.specs.declared.config.Config.{Config}
-use Rattle.dspec_deeds.specs.declared.deed.DecideFate.{DecideFate}
-use Rattle.dspec_deeds.specs.declared.deed.Deed.{Deed}
+use Rattle.dspec_core.specs.Words.{Shape, Speculation, SlotState, author, halted, is_commit, is_copied, is_discard, is_open, word_at, IsSound, CpuLegal, contents, held, seals_now, stream, IsSlot}
+use Rattle.dspec_core.specs.Words.{decides, deed_of, ShowsWords, Cpu, Config, DecideFate, Deed}
+use Rattle.dspec_core.specs.declared.machine.decision.Decision.{Decision, TheVariants.Commit, TheVariants.Discard}
 use Rattle.dspec_deeds.specs.declared.deed.Deed.TheVariants as deed
 use Rattle.dspec_deeds.proofs.WordChanges.{commit_open, discard_open}
-use Rattle.dspec_core.proofs.OwnSlots.{stream_commits, stream_discards}
-use Rattle.dspec_core.proofs.WordsShown.{words_set, words_stay}
+use Rattle.dspec_core.proofs.{OwnSlots.stream_commits, OwnSlots.stream_discards, WordsShown.words_set, WordsShown.words_stay}
 
 module _ (k : Config) (c : ℕ) (id : Speculation) (f : DecideFate) (h : List Deed) where
   -- what is decided was open

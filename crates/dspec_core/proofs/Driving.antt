@@ -1,20 +1,13 @@
 -- What a step's sight, its deeds and its CPU's progress make of a machine is the play's step.
 use Rattle.std.proofs.Common.{◌≡◌, ℕ, ◌<◌, Bool, true, List, ◌++◌, Option, Some, sym, ap, ◌∙◌, subst}
 use Rattle.std.specs.Prelude.{slice_set}
-use Rattle.dspec_record.specs.declared.field.Shape.{Shape}
-use Rattle.dspec_core.specs.Words.{Record, Piece, Speculation, HasAuthors, IsAllowed, IsSlot, progress_of, cpu_step, CpuStep, measured, StandsCpu, IsShownMachine, Machine, Adds, history, state_of}
-use Rattle.dspec_core.specs.Words.{WorldInvariant, IsSlotPlace, IsStep, MayCome, Move, Seen, TellsAt, TellsFit, aimed, entry_deeds, deeds_pass, moved_by, step, step_cpu}
+use Rattle.dspec_core.specs.Words.{Shape, Record, Piece, Speculation, HasAuthors, IsAllowed, IsSlot, progress_of, cpu_step, CpuStep, measured, StandsCpu, IsShownMachine, Adds, history, state_of}
+use Rattle.dspec_core.specs.Words.{WorldInvariant, IsSlotPlace, IsStep, MayCome, TellsAt, TellsFit, aimed, entry_deeds, deeds_pass, moved_by, step, step_cpu, Answer, CpuProgress, CallPlace}
+use Rattle.dspec_core.specs.declared.machine.{Machine.Machine, seen.Move.Move, seen.Seen.Seen}
 use Rattle.dspec_deeds.specs.declared.calls.Actor.TheVariants as actor
-use Rattle.dspec_deeds.specs.declared.calls.Answer.{Answer}
-use Rattle.dspec_interleaving.specs.declared.flight.CpuProgress.{CpuProgress}
-use Rattle.dspec_interleaving.specs.declared.flight.CallPlace.{CallPlace}
 use Rattle.dspec_deeds.proofs.SetUp.{set_up}
-use Rattle.dspec_interleaving.proofs.Coherence.{step_cpu_coherent}
-use Rattle.dspec_interleaving.proofs.StepReads.{flight_stands}
-use Rattle.dspec_core.proofs.Keepings.{made_kept}
-use Rattle.dspec_core.proofs.Makings.{step_made}
-use Rattle.dspec_core.proofs.Seeing.{aimed_slot, stands_inside, step_plays}
-use Rattle.dspec_core.proofs.StepRecords.{step_records}
+use Rattle.dspec_interleaving.proofs.{Coherence.step_cpu_coherent, StepReads.flight_stands}
+use Rattle.dspec_core.proofs.{Keepings.made_kept, Makings.step_made, Seeing.aimed_slot, Seeing.stands_inside, Seeing.step_plays, StepRecords.step_records}
 
 -- what a step of a CPU leaves, with that answer
 pub record LeftBy {S B : Type 0} (has : B → S → List Piece → Type 0) (capacity : B → ℕ) (shape_of : S → ℕ → Option Shape) (accepted : S → Record → Bool) (m left : Machine S B) (c : ℕ)

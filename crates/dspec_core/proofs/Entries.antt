@@ -1,29 +1,15 @@
 -- What deeds that may come next ask of the entering of one, and the words that deeds leave.
-use Rattle.std.proofs.lemmas.Bool.Decides.{nat_tests}
 use Rattle.std.proofs.Common.{◌≡◌, ℕ, ◌≤◌, Bool, true, List, [], ◌∷◌, Option, None, refl, sym, ap, ◌∙◌, subst, arith}
-use Rattle.dspec_record.specs.declared.field.Shape.{Shape}
-use Rattle.dspec_word.specs.declared.act.Act.{Act}
-use Rattle.dspec_word.specs.declared.act.Act.TheVariants.{Void, Granted, Attempt, Idle}
-use Rattle.dspec_core.specs.Words.{Record, Piece, Speculation, SlotState, author, callers, calls, commit_at, in_range, is_among, is_commit, is_open, IsSound, present, progress_of, seals}
-use Rattle.dspec_core.specs.Words.{speculate_at, spoken_granted, start_fault, word_at, OnItsWay, Machine, history, MayEnterOn, state_of, MayCome, MayEnter, deed_passes, Decision, decided_left}
-use Rattle.dspec_core.specs.Words.{decides, deed_of, word_left, One, Entry, entry_deeds}
-use Rattle.dspec_deeds.specs.declared.calls.Actor.TheVariants.{Cpu}
-use Rattle.dspec_deeds.specs.declared.config.Config.{Config}
-use Rattle.dspec_deeds.specs.declared.deed.DecideFate.{DecideFate}
-use Rattle.dspec_deeds.specs.declared.deed.Deed.{Deed}
-use Rattle.dspec_deeds.specs.declared.deed.Deed.TheVariants.{Commit, Opened, Release, Speculate}
-use Rattle.dspec_deeds.specs.declared.deed.SpeculateFate.{SpeculateFate}
+use Rattle.std.proofs.lemmas.Bool.Decides.{nat_tests}
+use Rattle.dspec_core.specs.Words.{Shape, Act, Void, Granted, Attempt, Idle, Record, Piece, Speculation, SlotState, author, callers, calls, commit_at, in_range, is_among, is_commit, is_open}
+use Rattle.dspec_core.specs.Words.{IsSound, present, progress_of, seals, speculate_at, spoken_granted, start_fault, word_at, OnItsWay, history, MayEnterOn, state_of, MayCome, MayEnter, deed_passes}
+use Rattle.dspec_core.specs.Words.{decided_left, decides, deed_of, word_left, entry_deeds, Cpu, Config, DecideFate, Deed, Commit, Opened, Release, Speculate, SpeculateFate}
+use Rattle.dspec_core.specs.declared.machine.{Machine.Machine, decision.Decision.Decision, seen.Entry.Entry, seen.Entry.TheVariants.One}
 use Rattle.dspec_deeds.specs.declared.deed.SpeculateFate.TheVariants as spoken
-use Rattle.dspec_deeds.proofs.PresentIds.{decided_given}
-use Rattle.dspec_deeds.proofs.SetUp.{set_up}
-use Rattle.dspec_deeds.proofs.SoundLists.{opened_in_range, scan_bound}
-use Rattle.dspec_deeds.proofs.TestLemmas.{off}
-use Rattle.dspec_deeds.proofs.WordActs.{commit_attempt, commit_void, speculate_void}
-use Rattle.dspec_deeds.proofs.WordChanges.{commit_open, committed_word, discarded_word, granted_open}
-use Rattle.dspec_interleaving.proofs.Counts.{takes_sealed}
-use Rattle.dspec_interleaving.proofs.SpeculateMoves.{word_granted, word_joined}
-use Rattle.dspec_interleaving.proofs.StepsWords.{commit_plain, not_plain, speculate_not_idle}
-use Rattle.dspec_interleaving.proofs.WholeLeads.{open_in_range}
+use Rattle.dspec_deeds.proofs.{PresentIds.decided_given, SetUp.set_up, SoundLists.opened_in_range, SoundLists.scan_bound, TestLemmas.off, WordActs.commit_attempt, WordActs.commit_void}
+use Rattle.dspec_deeds.proofs.{WordActs.speculate_void, WordChanges.commit_open, WordChanges.committed_word, WordChanges.discarded_word, WordChanges.granted_open}
+use Rattle.dspec_interleaving.proofs.{Counts.takes_sealed, SpeculateMoves.word_granted, SpeculateMoves.word_joined, StepsWords.commit_plain, StepsWords.not_plain, StepsWords.speculate_not_idle}
+use Rattle.dspec_interleaving.proofs.{WholeLeads.open_in_range}
 
 -- what is entered is one deed
 pub one_comes : {S B : Type 0} {has : B → S → List Piece → Type 0} {capacity : B → ℕ} {shape_of : S → ℕ → Option Shape} {accepted : S → Record → Bool} {m : Machine S B} (c : ℕ) (x : Entry) (d : Deed)

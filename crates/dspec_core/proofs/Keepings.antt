@@ -1,19 +1,12 @@
 -- What begins a call and what steps keep a machine that is kept.
 use Rattle.std.proofs.Common.{arith, ◌≡◌, ℕ, ◌<◌, Bool, true, List, Option, Some, None, sym, ◌∙◌, subst}
 use Rattle.std.proofs.lemmas.Bool.Decides.{nat_tests}
-use Rattle.dspec_record.specs.declared.field.Shape.{Shape}
-use Rattle.dspec_core.specs.Words.{Record, Piece, Machine, consumer_op_of, record_passes, is_about, PlayState, IsCoherent, progress_of, IsShownMachine, Makes, ConsumerMakes, history, state_of}
-use Rattle.dspec_core.specs.Words.{cpu_step, consumer_step, begin_cpu, moved_to, cleaned_to, WorldInvariant, IsWithin}
-use Rattle.dspec_deeds.specs.declared.calls.Answer.{Answer}
-use Rattle.dspec_deeds.specs.declared.calls.CpuOp.{CpuOp}
-use Rattle.dspec_interleaving.specs.declared.flight.CpuProgress.{CpuProgress}
-use Rattle.dspec_interleaving.specs.declared.flight.ConsumerFlight.{ConsumerFlight}
-use Rattle.dspec_interleaving.specs.declared.flight.CallPlace.{CallPlace}
+use Rattle.dspec_core.specs.Words.{Shape, Record, Piece, consumer_op_of, record_passes, is_about, PlayState, IsCoherent, progress_of, IsShownMachine, Makes, ConsumerMakes, history, state_of}
+use Rattle.dspec_core.specs.Words.{cpu_step, consumer_step, begin_cpu, moved_to, cleaned_to, WorldInvariant, IsWithin, Answer, CpuOp, CpuProgress, ConsumerFlight, CallPlace}
+use Rattle.dspec_core.specs.declared.machine.Machine.{Machine}
 use Rattle.dspec_interleaving.specs.declared.flight.CallPlace.TheVariants as flight
-use Rattle.dspec_interleaving.proofs.Coherence.{begin_cpu_coherent, step_cpu_coherent, step_consumer_coherent}
-use Rattle.dspec_interleaving.proofs.FlightsStay.{flights_stay}
-use Rattle.dspec_interleaving.proofs.KeptCalls.{AllPass, some_passes, set_passes, step_passes, clean_goes}
-use Rattle.dspec_interleaving.proofs.OwnAnswersPlay.{put}
+use Rattle.dspec_interleaving.proofs.{Coherence.begin_cpu_coherent, Coherence.step_cpu_coherent, Coherence.step_consumer_coherent, FlightsStay.flights_stay, KeptCalls.AllPass, KeptCalls.some_passes}
+use Rattle.dspec_interleaving.proofs.{KeptCalls.set_passes, KeptCalls.step_passes, KeptCalls.clean_goes, OwnAnswersPlay.put}
 use Rattle.dspec_core.proofs.Within.{AllWithin, cpu_within, consumer_within}
 
 module _ {S B : Type 0} (has : B → S → List Piece → Type 0) (capacity : B → ℕ) (shape_of : S → ℕ → Option Shape) (accepted : S → Record → Bool) where

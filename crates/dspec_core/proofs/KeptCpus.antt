@@ -1,23 +1,12 @@
 -- What is kept of a CPU shows the list after a deed: the CPU's own, another's, or a release by whomever.
-use Rattle.std.proofs.lemmas.Bool.Decides.{nat_tests}
 use Rattle.std.proofs.Common.{[], ◌≡◌, ℕ, ◌<◌, ◌≤◌, ◌^◌, false, List, ◌∷◌, length, reverse, take, refl, sym, ap, ◌∙◌, subst, arith}
-use Rattle.std.proofs.lemmas.List.{reverse-append, length-reverse, take-append-le}
+use Rattle.std.proofs.lemmas.{Bool.Decides.nat_tests, List.reverse-append, List.length-reverse, List.take-append-le}
 use Rattle.dspec_core.specs.Words.{Record, Piece, Speculation, author, part, same_actor, active, batches, batch_records, contents, growing, seals, seals_now, stream, OwnState, ShowsOwnState}
-use Rattle.dspec_core.specs.Words.{own_side, ReadsApart, counts_of, IsFilledWith, ShowsList, parts_of_side, Cpu, HasRecords, ShowsCpu, first_or_empty}
-use Rattle.dspec_deeds.specs.declared.config.Config.{Config}
-use Rattle.dspec_deeds.specs.declared.calls.Actor.TheVariants.{Cpu as CpuActor}
-use Rattle.dspec_deeds.specs.declared.deed.Deed.{Deed}
-use Rattle.dspec_deeds.specs.declared.deed.Deed.TheVariants.{Opened, Release, Seal}
-use Rattle.dspec_deeds.specs.declared.report.Report.{Report}
-use Rattle.dspec_deeds.proofs.OwnReads.{apart_other, reads}
-use Rattle.dspec_deeds.proofs.OwnStates.{side_part}
-use Rattle.dspec_deeds.proofs.StayingOwn.{accepted_other, batches_other}
-use Rattle.dspec_deeds.proofs.TestLemmas.{number_is_itself}
-use Rattle.dspec_cpu_state.specs.declared.counts.Counts.{Counts}
-use Rattle.dspec_cpu_state.specs.declared.cpu_state.CpuState.{CpuState}
-use Rattle.dspec_cpu_state.proofs.Quiet.{quiet_shown}
-use Rattle.dspec_cpu_state.proofs.Tallies.{released_counts}
-use Rattle.dspec_interleaving.specs.declared.flight.CpuProgress.{CpuProgress}
+use Rattle.dspec_core.specs.Words.{own_side, ReadsApart, counts_of, IsFilledWith, ShowsList, parts_of_side, HasRecords, ShowsCpu, first_or_empty, Config, CpuActor, Deed, Opened, Release, Seal}
+use Rattle.dspec_core.specs.Words.{Report, Counts, CpuState, CpuProgress}
+use Rattle.dspec_core.specs.declared.machine.cpu.Cpu.{Cpu}
+use Rattle.dspec_deeds.proofs.{OwnReads.apart_other, OwnReads.reads, OwnStates.side_part, StayingOwn.accepted_other, StayingOwn.batches_other, TestLemmas.number_is_itself}
+use Rattle.dspec_cpu_state.proofs.{Quiet.quiet_shown, Tallies.released_counts}
 use Rattle.dspec_core.proofs.Batches.{active_grows, batches_sealed}
 
 -- the counts of which a report tells

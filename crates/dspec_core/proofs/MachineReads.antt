@@ -1,12 +1,9 @@
 -- What a read of a machine's parts shows.
 use Rattle.std.proofs.Common.{ℕ, ◌≡◌, ◌-◌, ◌<◌, ◌≤◌, true, List, [], ◌∷◌, length, get_or, Some, refl, sym, ap, ◌∙◌, arith}
+use Rattle.std.proofs.lemmas.{Bool.Decides.nat_tests, Option.slice_get_read}
 use Rattle.std.specs.Prelude.{slice_get}
-use Rattle.std.proofs.lemmas.Option.{slice_get_read}
-use Rattle.std.proofs.lemmas.Bool.Decides.{nat_tests}
-use Rattle.dspec_core.specs.Words.{Piece, Speculation, Machine, Cpu, ack, in_range, Offer, contents, IsSlot, ShowsCpu, IsShownMachine, history, progress_of, state_of}
-use Rattle.dspec_deeds.specs.declared.config.Config.{Config}
-use Rattle.dspec_interleaving.specs.declared.flight.CpuProgress.{CpuProgress}
-use Rattle.dspec_interleaving.specs.declared.flight.CallPlace.{CallPlace}
+use Rattle.dspec_core.specs.Words.{Piece, Speculation, ack, in_range, Offer, contents, IsSlot, ShowsCpu, IsShownMachine, history, progress_of, state_of, Config, CpuProgress, CallPlace}
+use Rattle.dspec_core.specs.declared.machine.{Machine.Machine, cpu.Cpu.Cpu}
 use Rattle.dspec_interleaving.proofs.CleanReads.{number_there}
 use Rattle.dspec_core.proofs.OneMore.{progress_there}
 

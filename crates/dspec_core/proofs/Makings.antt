@@ -1,18 +1,11 @@
 -- How an atomic step is put together: what its deeds enter, and then what becomes of its CPU's progress.
 use Rattle.std.proofs.Common.{arith, ◌≡◌, ℕ, ◌==◌, true, false, List, set, Option, Some, sym, ap, ◌∙◌, subst, ⊎_elim}
-use Rattle.std.proofs.lemmas.Bool.Decides.{nat_tests}
-use Rattle.std.specs.Prelude.{slice_get}
-use Rattle.std.specs.Vec.{with_item}
-use Rattle.std.proofs.lemmas.List.{length-set, map-set}
-use Rattle.std.proofs.lemmas.Option.{slice_get_within}
-use Rattle.dspec_core.specs.Words.{Piece, Machine, Cpu, CpuStep, progress_of, ShowsCpu, IsShownMachine, Adds, Makes, history, state_of}
-use Rattle.dspec_deeds.specs.declared.calls.Answer.{Answer}
-use Rattle.dspec_deeds.specs.declared.deed.Deed.{Deed}
-use Rattle.dspec_interleaving.specs.declared.flight.CpuProgress.{CpuProgress}
-use Rattle.dspec_deeds.proofs.TestLemmas.{either_way, same_number, numbers_differ}
-use Rattle.dspec_deeds.proofs.Places.{got_set, got_other}
-use Rattle.dspec_core.proofs.OneMore.{progress_there}
-use Rattle.dspec_core.proofs.KeptCpus.{calling}
+use Rattle.std.proofs.lemmas.{Bool.Decides.nat_tests, List.length-set, List.map-set, Option.slice_get_within}
+use Rattle.std.specs.{Prelude.slice_get, Vec.with_item}
+use Rattle.dspec_core.specs.Words.{Piece, CpuStep, progress_of, ShowsCpu, IsShownMachine, Adds, Makes, history, state_of, Answer, Deed, CpuProgress}
+use Rattle.dspec_core.specs.declared.machine.{Machine.Machine, cpu.Cpu.Cpu}
+use Rattle.dspec_deeds.proofs.{Places.got_set, Places.got_other, TestLemmas.either_way, TestLemmas.same_number, TestLemmas.numbers_differ}
+use Rattle.dspec_core.proofs.{KeptCpus.calling, OneMore.progress_there}
 
 -- what a play knows of a machine where what is kept of one CPU is another
 pub state_puts : {S B : Type 0} (m : Machine S B) (c : ℕ) (new : Cpu B)

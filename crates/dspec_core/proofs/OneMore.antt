@@ -1,19 +1,12 @@
 -- A machine with one deed more shows its list where its words do, and what it keeps of each CPU.
-use Rattle.std.proofs.lemmas.Bool.Decides.{nat_tests}
 use Rattle.std.proofs.Common.{[], ◌≡◌, ℕ, zero, suc, ◌-◌, ◌<◌, ◌≤◌, true, false, ◌==◌, List, ◌∷◌, ◌++◌, length, map, reverse, set, get_or, None, Some, refl, sym, ap, ◌∙◌, subst, ⊎_elim, arith}
-use Rattle.std.specs.Prelude.{slice_get}
-use Rattle.std.specs.Global.{Vec}
-use Rattle.std.specs.Vec.{with_item}
-use Rattle.std.proofs.lemmas.List.{reverse-append, length-set}
-use Rattle.std.proofs.lemmas.Option.{slice_get_read}
-use Rattle.dspec_core.specs.Words.{Piece, Speculation, SlotState, Machine, Cpu, halted, author, same_actor, word_at, progress_of, ShowsWords, ShowsCpu, IsShownMachine, Adds, history, CanBeReleased}
-use Rattle.dspec_core.specs.Words.{IsSlot, IsSound, start_fault}
+use Rattle.std.proofs.lemmas.{Bool.Decides.nat_tests, List.reverse-append, List.length-set, Option.slice_get_read}
+use Rattle.std.specs.{Global.Vec, Prelude.slice_get, Vec.with_item}
+use Rattle.dspec_core.specs.Words.{Piece, Speculation, SlotState, halted, author, same_actor, word_at, progress_of, ShowsWords, ShowsCpu, IsShownMachine, Adds, history, CanBeReleased, IsSlot}
+use Rattle.dspec_core.specs.Words.{IsSound, start_fault, Config, Deed, Halt, Opened, Release}
+use Rattle.dspec_core.specs.declared.machine.{Machine.Machine, cpu.Cpu.Cpu}
 use Rattle.dspec_deeds.specs.declared.calls.Actor.TheVariants as actor
-use Rattle.dspec_deeds.specs.declared.config.Config.{Config}
-use Rattle.dspec_deeds.specs.declared.deed.Deed.{Deed}
-use Rattle.dspec_deeds.specs.declared.deed.Deed.TheVariants.{Halt, Opened, Release}
-use Rattle.dspec_deeds.proofs.TestLemmas.{either_way, same_number, numbers_differ}
-use Rattle.dspec_deeds.proofs.Places.{got_set, got_other}
+use Rattle.dspec_deeds.proofs.{Places.got_set, Places.got_other, TestLemmas.either_way, TestLemmas.same_number, TestLemmas.numbers_differ}
 use Rattle.dspec_interleaving.proofs.StepReads.{can_be_released}
 use Rattle.dspec_core.proofs.KeptCpus.{opening, other_deed, releasing}
 

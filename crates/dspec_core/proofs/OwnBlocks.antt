@@ -2,19 +2,12 @@
 use Rattle.std.proofs.Common.{arith, ◌≡◌, ℕ, ◌-◌, ◌<◌, true, false, List, [], ◌∷◌, ◌++◌, length, map, reverse, get_or, if◌then◌else◌, Some, None, sym, ap}
 use Rattle.std.proofs.lemmas.Bool.Decides.{nat_tests}
 use Rattle.std.specs.Prelude.{slice_get}
-use Rattle.dspec_core.specs.Words.{Record, Piece, one, Speculation, is_copied, spoken_granted, is_open, issue, IsSound, contents, held, seals_now, stream, start_fault, ShowsList, IsSlot, Cpu}
-use Rattle.dspec_core.specs.Words.{Decision, Machine, decides, deed_of, IsShownMachine, history, ShowsCpu}
-use Rattle.dspec_deeds.specs.declared.deed.DecideFate.{DecideFate}
-use Rattle.dspec_deeds.specs.declared.deed.Deed.{Deed}
-use Rattle.dspec_deeds.specs.declared.deed.Deed.TheVariants.{Settle, Speculate}
-use Rattle.dspec_deeds.specs.declared.deed.SpeculateFate.{SpeculateFate}
-use Rattle.dspec_deeds.proofs.PresentIds.{open_present}
-use Rattle.dspec_deeds.proofs.WordChanges.{granted_open}
-use Rattle.dspec_cpu_state.specs.declared.cpu_state.CpuState.{CpuState}
-use Rattle.dspec_core.proofs.DecidedCpus.{decided_open}
-use Rattle.dspec_core.proofs.KeptCpus.{put_deed, put_side}
-use Rattle.dspec_core.proofs.MachineReads.{cpu_got, place_within}
-use Rattle.dspec_core.proofs.OwnSlots.{blocks_there, open_slot, place_there, settled_slot}
+use Rattle.dspec_core.specs.Words.{Record, Piece, one, Speculation, is_copied, spoken_granted, is_open, issue, IsSound, contents, held, seals_now, stream, start_fault, ShowsList, IsSlot, decides}
+use Rattle.dspec_core.specs.Words.{deed_of, IsShownMachine, history, ShowsCpu, DecideFate, Deed, Settle, Speculate, SpeculateFate, CpuState}
+use Rattle.dspec_core.specs.declared.machine.{Machine.Machine, cpu.Cpu.Cpu, decision.Decision.Decision}
+use Rattle.dspec_deeds.proofs.{PresentIds.open_present, WordChanges.granted_open}
+use Rattle.dspec_core.proofs.{DecidedCpus.decided_open, KeptCpus.put_deed, KeptCpus.put_side, MachineReads.cpu_got, MachineReads.place_within, OwnSlots.blocks_there, OwnSlots.open_slot}
+use Rattle.dspec_core.proofs.{OwnSlots.place_there, OwnSlots.settled_slot}
 
 module _ {S B : Type 0} (has : B → S → List Piece → Type 0) (capacity : B → ℕ) (m : Machine S B) (c : ℕ) (id : Speculation) (own : Cpu B) where
   -- that is what the machine keeps of the CPU, and the identifier is the slot's present one

@@ -1,29 +1,16 @@
 -- What a CPU's side tells of a slot's present speculation: whether the CPU is a caller, and its records.
-use Rattle.std.proofs.lemmas.Bool.Decides.{nat_tests}
-use Rattle.std.proofs.Common.{◌≡◌, ℕ, zero, suc, ◌+◌, ◌-◌, ◌<◌, ◌≤◌, ◌==◌, Bool, true, false, ◌&&◌, ◌||◌, List, []}
-use Rattle.std.proofs.Common.{◌∷◌, ◌++◌, length, map, reverse, if◌then◌else◌, Option, Some, None, refl, sym, ap, ◌∙◌, subst, arith, append-nil, true≢false}
+use Rattle.std.proofs.Common.{◌≡◌, ℕ, zero, suc, ◌+◌, ◌-◌, ◌<◌, ◌≤◌, ◌==◌, Bool, true, false, ◌&&◌, ◌||◌, List, [], ◌∷◌, ◌++◌, length, map, reverse, if◌then◌else◌, Option, Some, None, refl, sym, ap}
+use Rattle.std.proofs.Common.{◌∙◌, subst, arith, append-nil, true≢false}
+use Rattle.std.proofs.lemmas.{Bool.Decides.nat_tests, List.reverse-append}
 use Rattle.std.specs.Prelude.{Result, Ok, Err, OnOk, OnErr, slice_get}
-use Rattle.std.proofs.lemmas.List.{reverse-append}
 use Rattle.dspec_core.specs.Words.{Record, Piece, one, Speculation, decided_stopped, is_commit, is_copied, is_discard, spoken_granted, trace_kept, Ruling, undecided, committed, discarded, verdict}
 use Rattle.dspec_core.specs.Words.{is_undecided, is_open, issue, IsSound, CpuLegal, SettlesAs, fits_principal, fits_speculative, mark, accepted, contents, held, stream, last_called, start_fault}
-use Rattle.dspec_core.specs.Words.{IsCaller, ShowsList, IsSlot, callers, is_among}
-use Rattle.dspec_record.specs.declared.field.Shape.{Shape}
-use Rattle.dspec_deeds.specs.declared.config.Config.{Config}
-use Rattle.dspec_deeds.specs.declared.deed.DecideFate.{DecideFate}
+use Rattle.dspec_core.specs.Words.{IsCaller, ShowsList, IsSlot, callers, is_among, Shape, Config, DecideFate, SpeculateFate, TraceFate, Deed, Trace, Speculate, Commit, Discard, Settle, CpuState}
 use Rattle.dspec_deeds.specs.declared.deed.DecideFate.TheVariants as decided
-use Rattle.dspec_deeds.specs.declared.deed.SpeculateFate.{SpeculateFate}
 use Rattle.dspec_deeds.specs.declared.deed.SpeculateFate.TheVariants as spoken
-use Rattle.dspec_deeds.specs.declared.deed.TraceFate.{TraceFate}
 use Rattle.dspec_deeds.specs.declared.deed.TraceFate.TheVariants as traced
-use Rattle.dspec_deeds.specs.declared.deed.Deed.{Deed}
-use Rattle.dspec_deeds.specs.declared.deed.Deed.TheVariants.{Trace, Speculate, Commit, Discard, Settle}
-use Rattle.dspec_deeds.proofs.Marks.{mark_tells}
-use Rattle.dspec_deeds.proofs.OwnStates.{tells_present}
-use Rattle.dspec_deeds.proofs.PresentIds.{decided_given, open_present, present_is}
-use Rattle.dspec_deeds.proofs.SetUp.{set_up}
-use Rattle.dspec_deeds.proofs.SoundLists.{opened_in_range}
-use Rattle.dspec_deeds.proofs.TestLemmas.{number_is_itself}
-use Rattle.dspec_cpu_state.specs.declared.cpu_state.CpuState.{CpuState}
+use Rattle.dspec_deeds.proofs.{Marks.mark_tells, OwnStates.tells_present, PresentIds.decided_given, PresentIds.open_present, PresentIds.present_is, SetUp.set_up, SoundLists.opened_in_range}
+use Rattle.dspec_deeds.proofs.{TestLemmas.number_is_itself}
 use Rattle.dspec_core.proofs.Batches.{stream_more}
 
 -- what follows on success

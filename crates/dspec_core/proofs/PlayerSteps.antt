@@ -2,14 +2,8 @@
 use Rattle.std.proofs.Common.{arith, ◌≡◌, ℕ, ◌+◌, ◌<◌, Bool, true, false, not, if◌then◌else◌, List, Option, Some, None, refl, sym, subst, ⊎_elim}
 use Rattle.std.proofs.lemmas.Bool.Decides.{nat_tests}
 use Rattle.std.specs.Prelude.{Result, Ok, Err, OnOk, is_err}
-use Rattle.dspec_record.specs.declared.field.Shape.{Shape}
-use Rattle.dspec_deeds.specs.declared.calls.Actor.{Actor}
-use Rattle.dspec_deeds.specs.declared.calls.Answer.{Answer}
-use Rattle.dspec_interleaving.specs.declared.refusal.StepFault.{StepFault}
-use Rattle.dspec_interleaving.specs.declared.refusal.StepFault.TheVariants.{NoSuchActor, IdleStep}
-use Rattle.dspec_core.specs.Words.{is_actor, is_idle, IsCoherent, PlayState, step, EndedCall, IsPlayingAt, Playing, stepped}
-use Rattle.dspec_interleaving.proofs.PlayerMoves.{RunsOn, runs_on}
-use Rattle.dspec_interleaving.proofs.StepCounts.{Ends, StaysOn, step_ends}
+use Rattle.dspec_core.specs.Words.{Shape, Actor, Answer, StepFault, NoSuchActor, IdleStep, is_actor, is_idle, IsCoherent, PlayState, step, EndedCall, IsPlayingAt, Playing, stepped}
+use Rattle.dspec_interleaving.proofs.{PlayerMoves.RunsOn, PlayerMoves.runs_on, StepCounts.Ends, StepCounts.StaysOn, StepCounts.step_ends}
 
 -- the fault of a step, by whether there is the actor and whether it is idle
 abbrev pub fault : Bool → Bool → Option StepFault

@@ -1,8 +1,7 @@
 -- What is promised of every state of a play holds where the state is coherent.
 use Rattle.std.proofs.Common.{◌≡◌, ℕ, Option, sym, subst}
 use Rattle.std.specs.Prelude.{Result, Ok, Err, IfOk, OnErr}
-use Rattle.dspec_record.specs.declared.field.Shape.{Shape}
-use Rattle.dspec_core.specs.Words.{Machine, IsCoherent, state_of, HasHeadline, WorldView, world_view}
+use Rattle.dspec_core.specs.{Words.Shape, Words.IsCoherent, Words.state_of, Words.HasHeadline, Words.WorldView, Words.world_view, declared.machine.Machine.Machine}
 use Rattle.dspec_deeds.proofs.Headlines.{headline}
 
 -- a coherent machine's session has the headline

@@ -1,21 +1,12 @@
 -- The counts of a CPU have room for its next deed.
-use Rattle.std.proofs.lemmas.Bool.Decides.{nat_tests}
 use Rattle.std.proofs.Common.{◌≡◌, ℕ, ◌+◌, ◌-◌, ◌<◌, ◌≤◌, ◌^◌, Bool, true, false, if◌then◌else◌, List, [], ◌∷◌, ◌++◌, length, reverse, Option, None, sym, ap, ◌∙◌, subst, arith}
-use Rattle.dspec_record.specs.declared.field.Shape.{Shape}
-use Rattle.dspec_core.specs.Words.{Piece, Speculation, is_lost, IsAllowed, calls, is_drop, start_fault, one_if, report, speculative, total, HasRoom, IsRoomy, counts_of, with_decided, with_fate}
-use Rattle.dspec_core.specs.Words.{ShowsList, Decision, decides, deed_of}
-use Rattle.dspec_deeds.specs.declared.config.Config.{Config}
-use Rattle.dspec_deeds.specs.declared.deed.DecideFate.{DecideFate}
-use Rattle.dspec_deeds.specs.declared.deed.Deed.{Deed}
-use Rattle.dspec_deeds.specs.declared.report.Report.{Report}
-use Rattle.dspec_deeds.proofs.Balance.{balance}
-use Rattle.dspec_deeds.proofs.DeedEffects.{legal_accounts}
-use Rattle.dspec_deeds.proofs.ReportBounds.{report_within}
-use Rattle.dspec_cpu_state.specs.declared.counts.Counts.{Counts}
-use Rattle.dspec_cpu_state.specs.declared.cpu_state.CpuState.{CpuState}
+use Rattle.std.proofs.lemmas.Bool.Decides.{nat_tests}
+use Rattle.dspec_core.specs.Words.{Shape, Piece, Speculation, is_lost, IsAllowed, calls, is_drop, start_fault, one_if, report, speculative, total, HasRoom, IsRoomy, counts_of, with_decided}
+use Rattle.dspec_core.specs.Words.{with_fate, ShowsList, decides, deed_of, Config, DecideFate, Deed, Report, Counts, CpuState}
+use Rattle.dspec_core.specs.declared.machine.decision.Decision.{Decision}
+use Rattle.dspec_deeds.proofs.{Balance.balance, DeedEffects.legal_accounts, ReportBounds.report_within}
 use Rattle.dspec_cpu_state.proofs.Tallies.{commit_counts, discard_counts, drops_since}
-use Rattle.dspec_interleaving.proofs.CleanReads.{calls_fit}
-use Rattle.dspec_interleaving.proofs.Counts.{calls_counted, drops_counted, one_more, seals_counted}
+use Rattle.dspec_interleaving.proofs.{CleanReads.calls_fit, Counts.calls_counted, Counts.drops_counted, Counts.one_more, Counts.seals_counted}
 
 -- the report that is told of counts
 abbrev told_of : Counts → Report

@@ -1,16 +1,9 @@
 -- What is seen of the list makes the step that the list makes.
-use Rattle.std.proofs.lemmas.Bool.Decides.{nat_tests}
 use Rattle.std.proofs.Common.{◌≡◌, ◌≢◌, ℕ, ◌==◌, ◌≤◌, Bool, true, false, ◌&&◌, ◌||◌, List, Option, refl, sym, ◌∙◌, ⊎_elim, arith}
-use Rattle.dspec_record.specs.declared.field.Shape.{Shape}
-use Rattle.dspec_word.specs.declared.act.Act.{Act}
-use Rattle.dspec_word.specs.declared.act.Act.TheVariants.{Void, Granted, Attempt, Idle}
-use Rattle.dspec_core.specs.Words.{Record, is_decided, Speculation, SlotState, issue, present, IsSlot, missed_busy, cpu_step, CpuStep, call_step, measured, missed, same_word, StandsCpu, IsSlotPlace}
-use Rattle.dspec_core.specs.Words.{Seen, TellsAt, TellsFit, aimed, measured_by, shown_scan, step_seen}
-use Rattle.dspec_deeds.specs.declared.calls.CpuOp.{CpuOp}
-use Rattle.dspec_deeds.specs.declared.config.Config.{Config}
-use Rattle.dspec_deeds.specs.declared.deed.Deed.{Deed}
-use Rattle.dspec_interleaving.specs.declared.flight.CpuProgress.{CpuProgress}
-use Rattle.dspec_interleaving.specs.declared.flight.CallPlace.{CallPlace}
+use Rattle.std.proofs.lemmas.Bool.Decides.{nat_tests}
+use Rattle.dspec_core.specs.Words.{Shape, Act, Void, Granted, Attempt, Idle, Record, is_decided, Speculation, SlotState, issue, present, IsSlot, missed_busy, cpu_step, CpuStep, call_step, measured}
+use Rattle.dspec_core.specs.Words.{missed, same_word, StandsCpu, IsSlotPlace, TellsAt, TellsFit, aimed, measured_by, shown_scan, step_seen, CpuOp, Config, Deed, CpuProgress, CallPlace}
+use Rattle.dspec_core.specs.declared.machine.seen.Seen.{Seen}
 use Rattle.dspec_interleaving.specs.declared.flight.CallPlace.TheVariants as flight
 use Rattle.dspec_deeds.proofs.TestLemmas.{either_way, number_is_itself, off, same_number}
 use Rattle.dspec_interleaving.proofs.StepsWords.{commit_tells, discard_tells, same_word_tells, speculate_tells}

@@ -2,16 +2,9 @@
 use Rattle.std.proofs.Common.{arith, ◌≡◌, ◌≢◌, ℕ, ◌+◌, ◌<◌, List, [], ◌∷◌, Option, if◌then◌else◌, refl, sym, ap, ◌∙◌, subst, add-one}
 use Rattle.std.proofs.lemmas.Bool.Decides.{nat_tests}
 use Rattle.std.specs.Prelude.{Result, Ok, Err, OnOk}
-use Rattle.dspec_record.specs.declared.field.Shape.{Shape}
-use Rattle.dspec_core.specs.Words.{Piece, Speculation, settle_at, SlotState, Machine, present, word_at, IsSlot, PlayState, CanClose, is_granted, closed_slot, closed_slots, closed_cpus, IsClosable}
-use Rattle.dspec_core.specs.Words.{ClosesTo, IsShownMachine, Adds, history, state_of, settle_fate, start_fault}
-use Rattle.dspec_word.specs.declared.act.Act.{Act}
-use Rattle.dspec_word.specs.declared.act.Act.TheVariants.{Void, Granted, Attempt, Idle}
-use Rattle.dspec_word.specs.declared.code.Code.{Code}
-use Rattle.dspec_deeds.specs.declared.config.Config.{Config}
-use Rattle.dspec_deeds.specs.declared.deed.DecideFate.{DecideFate}
-use Rattle.dspec_deeds.specs.declared.deed.Deed.{Deed}
-use Rattle.dspec_deeds.specs.declared.deed.Deed.TheVariants.{Settle}
+use Rattle.dspec_core.specs.Words.{Shape, Piece, Speculation, settle_at, SlotState, present, word_at, IsSlot, PlayState, CanClose, is_granted, closed_slot, closed_slots, closed_cpus, IsClosable}
+use Rattle.dspec_core.specs.Words.{ClosesTo, IsShownMachine, Adds, history, state_of, settle_fate, start_fault, Act, Void, Granted, Attempt, Idle, Code, Config, DecideFate, Deed, Settle}
+use Rattle.dspec_core.specs.declared.machine.Machine.{Machine}
 use Rattle.dspec_interleaving.proofs.Closing.{slot_settles}
 use Rattle.dspec_core.proofs.SlotReads.{ShowsSlot, row_read}
 

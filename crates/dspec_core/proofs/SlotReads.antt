@@ -1,10 +1,8 @@
 -- What a machine shows a CPU of a slot, and the row of the table of settlements there.
 use Rattle.std.proofs.Common.{◌≡◌, ℕ, ◌-◌, ◌<◌, List, get_or, ◌∙◌}
-use Rattle.dspec_core.specs.Words.{Piece, settle_at, SlotState, ack, word_at, IsSlot, Cpu, Machine, IsShownMachine, history}
-use Rattle.dspec_word.specs.declared.act.Act.{Act}
-use Rattle.dspec_deeds.specs.declared.deed.Deed.{Deed}
-use Rattle.dspec_core.proofs.MachineReads.{ack_read}
-use Rattle.dspec_core.proofs.OneMore.{word_there}
+use Rattle.dspec_core.specs.Words.{Piece, settle_at, SlotState, ack, word_at, IsSlot, IsShownMachine, history, Act, Deed}
+use Rattle.dspec_core.specs.declared.machine.{Machine.Machine, cpu.Cpu.Cpu}
+use Rattle.dspec_core.proofs.{MachineReads.ack_read, OneMore.word_there}
 
 -- the slot's word, and what the CPU has acknowledged of it
 pub record ShowsSlot (c s : ℕ) (h : List Deed) (w : SlotState) (a : ℕ) : Type 0 where

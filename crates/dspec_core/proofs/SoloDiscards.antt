@@ -1,10 +1,7 @@
 -- What a discard by the one caller leaves of a machine: two deeds in one step.
 use Rattle.std.proofs.Common.{◌≡◌, ℕ, zero, suc, ◌-◌, List, [], ◌∷◌, ◌++◌, map, set, refl, ap, subst}
-use Rattle.dspec_core.specs.Words.{Speculation, SlotState, Machine, word_at, IsSlot, ShowsWords, Adds, history}
-use Rattle.dspec_deeds.specs.declared.config.Config.{Config}
-use Rattle.dspec_deeds.specs.declared.deed.DecideFate.{DecideFate}
-use Rattle.dspec_deeds.specs.declared.deed.Deed.{Deed}
-use Rattle.dspec_deeds.specs.declared.deed.Deed.TheVariants.{Discard, Release}
+use Rattle.dspec_core.specs.Words.{Speculation, SlotState, word_at, IsSlot, ShowsWords, Adds, history, Config, DecideFate, Deed, Discard, Release}
+use Rattle.dspec_core.specs.declared.machine.Machine.{Machine}
 use Rattle.dspec_core.proofs.WordsShown.{words_set}
 
 -- the later of two writes at a place

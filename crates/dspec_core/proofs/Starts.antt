@@ -1,15 +1,11 @@
 -- What a machine shows before its first deed, and how its parts are made one by one.
-use Rattle.std.proofs.lemmas.Bool.Decides.{nat_tests}
 use Rattle.std.proofs.Common.{◌≡◌, ℕ, zero, suc, ◌+◌, ◌-◌, ◌<◌, Bool, false, List, [], ◌∷◌, ◌++◌, length, map, reverse, get_or, Option, Some, None, refl, sym, ap, subst, arith}
+use Rattle.std.proofs.lemmas.{Bool.Decides.nat_tests, Option.slice_get-get_or}
 use Rattle.std.specs.Prelude.{slice_get}
-use Rattle.std.proofs.lemmas.Option.{slice_get-get_or}
-use Rattle.dspec_record.specs.declared.field.Shape.{Shape}
-use Rattle.dspec_core.specs.Words.{Record, Piece, SlotState, Machine, Cpu, progress_of, idle_progress, start_fault, idle_cpus, at_start, ShowsCpu, IsShownMachine, state_of, IsWithin}
-use Rattle.dspec_word.specs.declared.code.Code.TheVariants.{Inactive}
-use Rattle.dspec_deeds.specs.declared.config.Config.{Config}
+use Rattle.dspec_core.specs.Words.{Shape, Record, Piece, SlotState, progress_of, idle_progress, start_fault, idle_cpus, at_start, ShowsCpu, IsShownMachine, state_of, IsWithin, Inactive, Config}
+use Rattle.dspec_core.specs.declared.machine.{Machine.Machine, cpu.Cpu.Cpu}
 use Rattle.dspec_interleaving.proofs.Coherence.{start_coherent}
-use Rattle.dspec_core.proofs.Keepings.{KeepsState}
-use Rattle.dspec_core.proofs.OneMore.{shown_as}
+use Rattle.dspec_core.proofs.{Keepings.KeepsState, OneMore.shown_as}
 
 -- so many elements, of each of which P holds
 pub record Made {A : Type 0} (P : A → Type 0) (n : ℕ) (xs : List A) : Type 0 where

@@ -1,17 +1,8 @@
 -- The record of a step's deed is its call's.
-use Rattle.std.proofs.Common.{arith, ◌≡◌, ℕ, ◌==◌, Bool, true, false, ◌&&◌, if◌then◌else◌, refl}
-use Rattle.std.proofs.lemmas.Bool.Decides.{nat_tests}
-use Rattle.dspec_word.specs.declared.act.Act.{Act}
-use Rattle.dspec_word.specs.declared.act.Act.TheVariants.{Granted, Attempt}
-use Rattle.dspec_core.specs.Words.{Record, Speculation, SlotState, call_step, CpuStep, Measured, missed, op_of, record_passes, shown_commit, shown_discard, shown_speculate, spoken_at, asked}
-use Rattle.dspec_core.specs.Words.{deeds_pass, popped, shown_scan, shown_service}
-use Rattle.dspec_deeds.specs.declared.calls.CpuOp.{CpuOp}
-use Rattle.dspec_deeds.specs.declared.calls.Served.{Served}
-use Rattle.dspec_deeds.specs.declared.config.Config.{Config}
-use Rattle.dspec_interleaving.specs.declared.flight.CpuProgress.{CpuProgress}
-use Rattle.dspec_interleaving.specs.declared.flight.CallPlace.{CallPlace}
+use Rattle.std.proofs.{Common.arith, Common.◌≡◌, Common.ℕ, Common.◌==◌, Common.Bool, Common.true, Common.false, Common.◌&&◌, Common.if◌then◌else◌, Common.refl, lemmas.Bool.Decides.nat_tests}
+use Rattle.dspec_core.specs.Words.{Act, Granted, Attempt, Record, Speculation, SlotState, call_step, CpuStep, Measured, missed, op_of, record_passes, shown_commit, shown_discard, shown_speculate}
+use Rattle.dspec_core.specs.Words.{spoken_at, asked, deeds_pass, popped, shown_scan, shown_service, CpuOp, Served, Config, CpuProgress, CallPlace, Spare}
 use Rattle.dspec_interleaving.specs.declared.flight.CallPlace.TheVariants as flight
-use Rattle.dspec_interleaving.specs.declared.flight.Spare.{Spare}
 use Rattle.dspec_interleaving.specs.declared.flight.Spare.TheVariants as spare
 
 module _ (ok : Record → Bool) (k : Config) (c : ℕ) (m : Measured) (me : CpuProgress) where

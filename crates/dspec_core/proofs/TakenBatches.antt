@@ -2,8 +2,7 @@
 use Rattle.std.proofs.Common.{◌≡◌, ℕ, ◌+◌, List, [], ◌∷◌, ◌++◌, length, reverse, take, get_or, refl, sym, ap, ◌∙◌, arith, append-nil, take_all, take_at}
 use Rattle.std.proofs.Math.Seq.{get_or-append_seam}
 use Rattle.std.proofs.lemmas.List.{append_assoc, length-reverse, reverse-append}
-use Rattle.dspec_core.specs.Words.{Record, Sealing, empty_batch, batches, batch_records, contents, seals, taken, first_or_empty, batch_of_last_seal}
-use Rattle.dspec_deeds.specs.declared.deed.Deed.{Deed}
+use Rattle.dspec_core.specs.Words.{Record, Sealing, empty_batch, batches, batch_records, contents, seals, taken, first_or_empty, batch_of_last_seal, Deed}
 use Rattle.dspec_core.proofs.Batches.{batches_sealed}
 
 -- the records of batches put together

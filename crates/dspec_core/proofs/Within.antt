@@ -1,30 +1,14 @@
 -- A step leaves each CPU within the most calls that it may make.
 use Rattle.std.proofs.Common.{◌≡◌, ℕ, ◌+◌, ◌<◌, ◌≤◌, true, false, ◌&&◌, List, [], ◌∷◌, ◌++◌, set, if◌then◌else◌, Option, Some, None, refl, sym, ap, ◌∙◌, subst, ⊎_elim, arith}
-use Rattle.std.specs.Prelude.{nat_le}
 use Rattle.std.proofs.lemmas.Bool.Decides.{nat_tests}
-use Rattle.dspec_record.specs.declared.field.Shape.{Shape}
-use Rattle.dspec_deeds.specs.declared.calls.Actor.{Actor}
+use Rattle.std.specs.Prelude.{nat_le}
+use Rattle.dspec_core.specs.Words.{Shape, Actor, Answer, CpuOp, Config, Deed, author, same_actor, calls, op_of, IsCoherent, PlayState, StandsState, progress_of, CpuStep, ConsumerStep, cpu_step}
+use Rattle.dspec_core.specs.Words.{consumer_step, is_counted, is_first, is_told_worn, is_due, IsWithin, CpuProgress, CallPlace, ConsumerFlight}
 use Rattle.dspec_deeds.specs.declared.calls.Actor.TheVariants as actor
-use Rattle.dspec_deeds.specs.declared.calls.Answer.{Answer}
-use Rattle.dspec_deeds.specs.declared.calls.CpuOp.{CpuOp}
 use Rattle.dspec_deeds.specs.declared.calls.Op.TheVariants as op
-use Rattle.dspec_deeds.specs.declared.config.Config.{Config}
-use Rattle.dspec_deeds.specs.declared.deed.Deed.{Deed}
-use Rattle.dspec_core.specs.Words.{author, same_actor, calls, op_of, IsCoherent, PlayState, StandsState, progress_of, CpuStep, ConsumerStep, cpu_step, consumer_step, is_counted, is_first}
-use Rattle.dspec_core.specs.Words.{is_told_worn, is_due, IsWithin}
-use Rattle.dspec_deeds.proofs.Going.{AllBy}
-use Rattle.dspec_deeds.proofs.StayingOwn.{calls_other}
-use Rattle.dspec_deeds.proofs.TestLemmas.{same_actor_tells}
-use Rattle.dspec_interleaving.specs.declared.flight.CpuProgress.{CpuProgress}
-use Rattle.dspec_interleaving.specs.declared.flight.CallPlace.{CallPlace}
-use Rattle.dspec_interleaving.specs.declared.flight.ConsumerFlight.{ConsumerFlight}
-use Rattle.dspec_interleaving.proofs.ConsumerSteps.{consumer_keeps}
-use Rattle.dspec_interleaving.proofs.CpuSteps.{cpu_step_stands}
-use Rattle.dspec_interleaving.proofs.FlightsStay.{flights_stay}
-use Rattle.dspec_interleaving.proofs.KeptCalls.{step_passes}
-use Rattle.dspec_interleaving.proofs.OwnAnswersPlay.{put}
-use Rattle.dspec_interleaving.proofs.StepEnds.{HasEnded, HasGoneOn}
-use Rattle.dspec_interleaving.proofs.WornCpuSteps.{ahead, enters, cpu_step_wears, cpu_advances}
+use Rattle.dspec_deeds.proofs.{Going.AllBy, StayingOwn.calls_other, TestLemmas.same_actor_tells}
+use Rattle.dspec_interleaving.proofs.{ConsumerSteps.consumer_keeps, CpuSteps.cpu_step_stands, FlightsStay.flights_stay, KeptCalls.step_passes, OwnAnswersPlay.put, StepEnds.HasEnded}
+use Rattle.dspec_interleaving.proofs.{StepEnds.HasGoneOn, WornCpuSteps.ahead, WornCpuSteps.enters, WornCpuSteps.cpu_step_wears, WornCpuSteps.cpu_advances}
 
 -- a deed that counts was entered by the call in flight, or is to come, or neither
 abbrev spent : Option CallPlace → ℕ

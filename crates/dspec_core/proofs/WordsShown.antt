@@ -1,14 +1,10 @@
 -- The words show the list still after a deed that touches them, or touches none.
-use Rattle.std.proofs.lemmas.Bool.Decides.{nat_tests}
 use Rattle.std.proofs.Common.{◌≡◌, ℕ, ◌-◌, ◌≤◌, false, List, ◌∷◌, Some, sym, ap, ◌∙◌, arith}
+use Rattle.std.proofs.lemmas.{Bool.Decides.nat_tests, List.length-set}
 use Rattle.std.specs.Prelude.{slice_set}
-use Rattle.std.proofs.lemmas.List.{length-set}
-use Rattle.dspec_core.specs.Words.{SlotState, word_at, ShowsWords}
-use Rattle.dspec_deeds.specs.declared.config.Config.{Config}
-use Rattle.dspec_deeds.specs.declared.deed.Deed.{Deed}
-use Rattle.dspec_deeds.proofs.TestLemmas.{same_number, numbers_differ}
-use Rattle.dspec_deeds.proofs.WordChanges.{touches, untouched, slot_of, elsewhere}
-use Rattle.dspec_deeds.proofs.Places.{got_set, got_other}
+use Rattle.dspec_core.specs.Words.{SlotState, word_at, ShowsWords, Config, Deed}
+use Rattle.dspec_deeds.proofs.{Places.got_set, Places.got_other, TestLemmas.same_number, TestLemmas.numbers_differ, WordChanges.touches, WordChanges.untouched, WordChanges.slot_of}
+use Rattle.dspec_deeds.proofs.{WordChanges.elsewhere}
 
 -- a deed that touches no word leaves the words
 pub words_stay : (k : Config) (d : Deed) (h : List Deed) (words : List SlotState) → ((t : ℕ) → touches t d ≡ false) → ShowsWords k h words → ShowsWords k (d ∷ h) words

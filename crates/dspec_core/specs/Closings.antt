@@ -1,10 +1,7 @@
 -- Serves proofs. What can be closed, and what the close makes of it.
 use Rattle.std.specs.Prelude.{ℕ, ◌≡◌, List, Option, None}
-use Rattle.dspec_record.specs.declared.field.Shape.{Shape}
-use Rattle.dspec_core.specs.Words.Outside.{Piece, CanClose, start_fault}
-use Rattle.dspec_deeds.specs.declared.deed.Deed.{Deed}
-use Rattle.dspec_core.specs.declared.machine.Machine.{Machine}
-use Rattle.dspec_core.specs.Machines.{IsShownMachine, history, state_of}
+use Rattle.dspec_core.specs.{Machines.IsShownMachine, Machines.history, Machines.state_of, Words.Outside.Shape, Words.Outside.Piece, Words.Outside.CanClose, Words.Outside.start_fault}
+use Rattle.dspec_core.specs.{Words.Outside.Deed, declared.machine.Machine.Machine}
 
 module _ {S B : Type 0} (has : B → S → List Piece → Type 0) (capacity : B → ℕ) (shape_of : S → ℕ → Option Shape) where
   -- a machine shows its list, its configuration has no fault, and the session of that list can close

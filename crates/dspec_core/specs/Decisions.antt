@@ -1,14 +1,8 @@
 -- Serves proofs. The two calls that decide a speculation, said as one, and the words that steps leave.
 use Rattle.std.specs.Prelude.{ℕ, Bool}
-use Rattle.dspec_word.specs.declared.act.Act.{Act}
-use Rattle.dspec_word.specs.declared.act.Act.TheVariants.{Attempt}
-use Rattle.dspec_word.specs.declared.code.Code.TheVariants.{Discarding}
-use Rattle.dspec_core.specs.Words.Outside.{Speculation, SlotState, commit_at, is_commit, is_discard}
-use Rattle.dspec_deeds.specs.declared.deed.DecideFate.{DecideFate}
-use Rattle.dspec_deeds.specs.declared.deed.Deed.{Deed}
+use Rattle.dspec_core.specs.Words.Outside.{Act, Attempt, Discarding, Speculation, SlotState, commit_at, is_commit, is_discard, DecideFate, Deed}
+use Rattle.dspec_core.specs.declared.machine.decision.Decision.{Decision, TheVariants.Commit, TheVariants.Discard}
 use Rattle.dspec_deeds.specs.declared.deed.Deed.TheVariants as deed
-use Rattle.dspec_core.specs.declared.machine.decision.Decision.{Decision}
-use Rattle.dspec_core.specs.declared.machine.decision.Decision.TheVariants.{Commit, Discard}
 
 -- the deed that the call enters
 abbrev pub deed_of : Decision → ℕ → Speculation → DecideFate → Deed

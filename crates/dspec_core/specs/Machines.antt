@@ -1,13 +1,8 @@
 -- Cited by calls. A machine shows its list of deeds.
 use Rattle.std.specs.Prelude.{ℕ, ◌≡◌, ◌<◌, ◌++◌, List, [], length, map, reverse, slice_get, Option, Some, None, if◌then◌else◌}
-use Rattle.dspec_record.specs.declared.field.Shape.{Shape}
-use Rattle.dspec_core.specs.Words.Outside.{Record, Piece, one, is_copied, halted, IsAllowed, start_fault, CpuStep, ConsumerStep, PlayState, moved_to, cleaned_to}
-use Rattle.dspec_deeds.specs.declared.calls.Answer.{Answer}
-use Rattle.dspec_deeds.specs.declared.deed.DecideFate.{DecideFate}
-use Rattle.dspec_deeds.specs.declared.deed.Deed.{Deed}
-use Rattle.dspec_core.specs.declared.machine.Machine.{Machine}
-use Rattle.dspec_core.specs.declared.machine.cpu.Cpu.{Cpu}
 use Rattle.dspec_core.specs.Shown.{ShowsWords, ShowsCpu}
+use Rattle.dspec_core.specs.Words.Outside.{Shape, Record, Piece, one, is_copied, halted, IsAllowed, start_fault, CpuStep, ConsumerStep, PlayState, moved_to, cleaned_to, Answer, DecideFate, Deed}
+use Rattle.dspec_core.specs.declared.machine.{Machine.Machine, cpu.Cpu.Cpu}
 
 -- the deeds of a machine, the latest first
 abbrev pub history : {S B : Type 0} → Machine S B → List Deed

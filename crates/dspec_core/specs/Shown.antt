@@ -1,8 +1,6 @@
 -- Cited by calls. What a machine keeps of a CPU, and the words, show of the list of deeds.
 use Rattle.std.specs.Prelude.{ℕ, ◌≡◌, ◌<◌, ◌-◌, ◌^◌, List, [], ◌∷◌, length, slice_get, Some}
-use Rattle.dspec_core.specs.Words.Outside.{Record, Piece, records, SlotState, word_at, Sealing, empty_batch, batches, contents, stream, taken, ShowsList, IsSlot}
-use Rattle.dspec_deeds.specs.declared.config.Config.{Config}
-use Rattle.dspec_deeds.specs.declared.deed.Deed.{Deed}
+use Rattle.dspec_core.specs.Words.Outside.{Record, Piece, records, SlotState, word_at, Sealing, empty_batch, batches, contents, stream, taken, ShowsList, IsSlot, Config, Deed}
 use Rattle.dspec_core.specs.declared.machine.cpu.Cpu.{Cpu}
 
 -- the batch sealed last

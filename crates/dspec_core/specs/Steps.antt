@@ -1,14 +1,8 @@
 -- Serves proofs. What each atomic step of a call in flight makes of a machine: the play's step, by what the machine shows.
 use Rattle.std.specs.Prelude.{ℕ, List, slice_set, Option}
-use Rattle.dspec_record.specs.declared.field.Shape.{Shape}
-use Rattle.dspec_core.specs.Words.Outside.{Piece, CpuStep, ConsumerStep, cpu_step, consumer_step, takes_at, PlayState, progress_of}
-use Rattle.dspec_deeds.specs.declared.calls.Answer.{Answer}
-use Rattle.dspec_interleaving.specs.declared.flight.CpuProgress.{CpuProgress}
-use Rattle.dspec_interleaving.specs.declared.flight.ConsumerFlight.{ConsumerFlight}
-use Rattle.dspec_interleaving.specs.declared.flight.CallPlace.{CallPlace}
-use Rattle.dspec_interleaving.specs.declared.flight.Spare.{Spare}
-use Rattle.dspec_core.specs.declared.machine.Machine.{Machine}
 use Rattle.dspec_core.specs.Machines.{Makes, ConsumerMakes, history, state_of}
+use Rattle.dspec_core.specs.Words.Outside.{Shape, Piece, CpuStep, ConsumerStep, cpu_step, consumer_step, takes_at, PlayState, progress_of, Answer, CpuProgress, ConsumerFlight, CallPlace, Spare}
+use Rattle.dspec_core.specs.declared.machine.Machine.{Machine}
 
 module _ {S B : Type 0} (m : Machine S B) where
   -- a CPU's side of the play that the machine shows

@@ -1,20 +1,10 @@
 -- Serves proofs. The table of steps by what a step sees, and what the step makes of its CPU.
 use Rattle.std.specs.Prelude.{ℕ, ◌≡◌, ◌+◌, ◌<◌, ◌≤◌, ◌||◌, Bool, List, [], ◌∷◌, length, Option, None, Some}
-use Rattle.dspec_record.specs.declared.field.Shape.{Shape}
-use Rattle.dspec_core.specs.Words.Outside.{one, Speculation, ack, callers, fits_principal, fits_speculative, halted, held, is_among, issue, missed_busy, present, seals, word_at, CpuStep, is_worn}
-use Rattle.dspec_core.specs.Words.Outside.{same_word, fits_held, call_step, Measured}
+use Rattle.dspec_core.specs.Words.Outside.{Shape, one, Speculation, ack, callers, fits_principal, fits_speculative, halted, held, is_among, issue, missed_busy, present, seals, word_at, CpuStep}
+use Rattle.dspec_core.specs.Words.Outside.{is_worn, same_word, fits_held, call_step, Measured, Config, Thrown, Deed, Discard, Release, CallPlace, CpuProgress}
+use Rattle.dspec_core.specs.declared.machine.seen.{Entry.Entry, Entry.TheVariants.Nothing, Entry.TheVariants.One, Entry.TheVariants.Alone, Move.Move, Seen.Seen}
 use Rattle.dspec_deeds.specs.declared.calls.CpuOp.TheVariants.{Trace}
-use Rattle.dspec_deeds.specs.declared.config.Config.{Config}
-use Rattle.dspec_deeds.specs.declared.deed.DecideFate.TheVariants.{Thrown}
-use Rattle.dspec_deeds.specs.declared.deed.Deed.{Deed}
-use Rattle.dspec_deeds.specs.declared.deed.Deed.TheVariants.{Discard, Release}
-use Rattle.dspec_interleaving.specs.declared.flight.CallPlace.{CallPlace}
-use Rattle.dspec_interleaving.specs.declared.flight.CpuProgress.{CpuProgress}
 use Rattle.dspec_interleaving.specs.declared.flight.CallPlace.TheVariants as flight
-use Rattle.dspec_core.specs.declared.machine.seen.Entry.{Entry}
-use Rattle.dspec_core.specs.declared.machine.seen.Entry.TheVariants.{Nothing, One, Alone}
-use Rattle.dspec_core.specs.declared.machine.seen.Move.{Move}
-use Rattle.dspec_core.specs.declared.machine.seen.Seen.{Seen}
 
 -- what a step measures is what it sees, whichever slot and speculation are asked for
 abbrev pub measured_by : Seen → Measured

@@ -8,11 +8,3 @@ pub use Rattle.dspec_core.specs.Shown.{batch_of_last_seal, first_or_empty, HasRe
 pub use Rattle.dspec_core.specs.Table.{aimed, entry_deeds, IsSlotPlace, IsStep, measured_by, moved_by, step_of, step_seen, TellsAt, TellsFit}
 pub use Rattle.dspec_core.specs.WorldViews.{WorldView}
 pub use Rattle.dspec_core.specs.Worlds.{deed_passes, deeds_pass, is_due, IsWithin, MayCome, world_view, WorldInvariant}
-pub use Rattle.dspec_core.specs.declared.machine.Machine.{Machine}
-pub use Rattle.dspec_core.specs.declared.machine.cpu.Cpu.{Cpu}
-pub use Rattle.dspec_core.specs.declared.machine.decision.Decision.{Decision}
-pub use Rattle.dspec_core.specs.declared.machine.decision.Decision.TheVariants.{Commit, Discard}
-pub use Rattle.dspec_core.specs.declared.machine.seen.Entry.{Entry}
-pub use Rattle.dspec_core.specs.declared.machine.seen.Entry.TheVariants.{One}
-pub use Rattle.dspec_core.specs.declared.machine.seen.Move.{Move}
-pub use Rattle.dspec_core.specs.declared.machine.seen.Seen.{Seen}

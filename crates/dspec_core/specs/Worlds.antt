@@ -1,16 +1,10 @@
 -- Cited by calls. What contracts see of a world, and what holds between two of its steps.
 use Rattle.std.specs.Prelude.{ℕ, ◌≡◌, ◌<◌, ◌≤◌, ◌+◌, ◌++◌, ◌&&◌, Bool, true, false, List, [], ◌∷◌, if◌then◌else◌, Option, Some}
-use Rattle.dspec_record.specs.declared.field.Shape.{Shape}
-use Rattle.dspec_core.specs.Words.Outside.{HasAuthors, Record, Piece, IsAllowed, calls, op_of, consumer_op_of, record_passes, is_about, IsCoherent, progress_of}
-use Rattle.dspec_interleaving.specs.declared.flight.ConsumerFlight.{ConsumerFlight}
-use Rattle.dspec_deeds.specs.declared.config.Config.{Config}
-use Rattle.dspec_deeds.specs.declared.deed.Deed.{Deed}
-use Rattle.dspec_deeds.specs.declared.deed.Deed.TheVariants.{Trace, Speculate}
-use Rattle.dspec_interleaving.specs.declared.flight.CallPlace.{CallPlace}
-use Rattle.dspec_interleaving.specs.declared.flight.CallPlace.TheVariants.{SpeculateLoad, SpeculateTry, CommitLoad, CommitTry, DiscardLoad, DiscardTry}
-use Rattle.dspec_core.specs.declared.machine.Machine.{Machine}
 use Rattle.dspec_core.specs.Machines.{IsShownMachine, history, state_of}
+use Rattle.dspec_core.specs.Words.Outside.{Shape, HasAuthors, Record, Piece, IsAllowed, calls, op_of, consumer_op_of, record_passes, is_about, IsCoherent, progress_of, ConsumerFlight, Config, Deed}
+use Rattle.dspec_core.specs.Words.Outside.{Trace, Speculate, CallPlace, SpeculateLoad, SpeculateTry, CommitLoad, CommitTry, DiscardLoad, DiscardTry}
 use Rattle.dspec_core.specs.WorldViews.{WorldView}
+use Rattle.dspec_core.specs.declared.machine.Machine.{Machine}
 
 abbrev pub world_view : {S B : Type 0} → Machine S B → WorldView S
 world_view m = record { schema = m.schema; state = state_of m }

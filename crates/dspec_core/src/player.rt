@@ -1,14 +1,9 @@
 ghost use Rattle.std.specs.Prelude.{◌≡◌, ◌≢◌, ◌<◌, ◌^◌, ℕ, List, true, false, None, Some, IfOk, IfErr, OnOk, reverse};
 ghost use Rattle.dspec_interleaving.specs.declared.outcome.PlayFault.TheVariants as failure;
 ghost use Rattle.dspec_interleaving.specs.declared.refusal.StepFault.TheVariants as step_failure;
-ghost use Rattle.dspec_interleaving.specs.Bounds.{most_steps};
-ghost use Rattle.dspec_interleaving.specs.Calls.{idle_step_fault, is_idle};
-ghost use Rattle.dspec_deeds.specs.Closes.{reports, streams};
-ghost use Rattle.dspec_deeds.specs.Headline.{Headline};
-ghost use Rattle.dspec_deeds.specs.Legal.{IsLegal};
-ghost use Rattle.dspec_interleaving.specs.Plays.{IsPlayingAt, Playing, all_ran, answers_of, begin_refusal, deeds_of, play_fault, ran, refusal, step_refusal, stepped, turned, worn_count};
-ghost use Rattle.dspec_interleaving.specs.Promised.{HasHeadline};
-ghost use Rattle.dspec_deeds.specs.Ranges.{start_fault};
+ghost use Rattle.dspec_interleaving.specs.{Bounds.most_steps, Calls.idle_step_fault, Calls.is_idle, Plays.IsPlayingAt, Plays.Playing, Plays.all_ran, Plays.answers_of, Plays.begin_refusal};
+ghost use Rattle.dspec_interleaving.specs.{Plays.deeds_of, Plays.play_fault, Plays.ran, Plays.refusal, Plays.step_refusal, Plays.stepped, Plays.turned, Plays.worn_count, Promised.HasHeadline};
+ghost use Rattle.dspec_deeds.specs.{Closes.reports, Closes.streams, Headline.Headline, Legal.IsLegal, Ranges.start_fault};
 
 use crate::onlooker::{Nobody, Onlooker};
 use crate::world::World;

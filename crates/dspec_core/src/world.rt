@@ -4,20 +4,12 @@ ghost use Rattle.dspec_deeds.specs.declared.config.StartFault.TheVariants as sta
 ghost use Rattle.dspec_interleaving.specs.declared.flight.ConsumerFlight.{ConsumerFlight};
 ghost use Rattle.dspec_interleaving.specs.declared.refusal.StepFault.TheVariants as refusal;
 ghost use Rattle.dspec_interleaving.specs.declared.refusal.Stepped.TheVariants as stepped;
-ghost use Rattle.dspec_interleaving.specs.Bounds.{steps_limit};
-ghost use Rattle.dspec_interleaving.specs.Calls.{begin_consumer_fault, begin_cpu_fault, call_of, consumer_op_of, idle_step_fault, is_about, is_actor, is_idle, record_passes, steps_of, told_step};
-ghost use Rattle.dspec_deeds.specs.Closes.{reports, streams, closing};
-ghost use Rattle.dspec_interleaving.specs.Coherent.{progress_of};
-ghost use Rattle.dspec_deeds.specs.Headline.{Headline};
-ghost use Rattle.dspec_deeds.specs.History.{halted};
-ghost use Rattle.dspec_deeds.specs.Legal.{IsLegal};
-ghost use Rattle.dspec_deeds.specs.Own.{stream, taken};
-ghost use Rattle.dspec_interleaving.specs.Promised.{HasHeadline};
-ghost use Rattle.dspec_deeds.specs.Ranges.{start_fault};
-ghost use Rattle.dspec_deeds.specs.Reports.{report};
+ghost use Rattle.dspec_interleaving.specs.{Bounds.steps_limit, Calls.begin_consumer_fault, Calls.begin_cpu_fault, Calls.call_of, Calls.consumer_op_of, Calls.idle_step_fault, Calls.is_about};
+ghost use Rattle.dspec_interleaving.specs.{Calls.is_actor, Calls.is_idle, Calls.record_passes, Calls.steps_of, Calls.told_step, Coherent.progress_of, Promised.HasHeadline, Turns.at_start};
+ghost use Rattle.dspec_interleaving.specs.{Turns.begin_consumer, Turns.begin_cpu, Turns.step};
+ghost use Rattle.dspec_deeds.specs.{Closes.reports, Closes.streams, Closes.closing, Headline.Headline, History.halted, Legal.IsLegal, Own.stream, Own.taken, Ranges.start_fault, Reports.report};
 ghost use Rattle.dspec_core.specs.Shown.{ShowsWords};
 ghost use Rattle.dspec_cpu_state.specs.CpuStates.{ShowsList};
-ghost use Rattle.dspec_interleaving.specs.Turns.{at_start, begin_consumer, begin_cpu, step};
 
 use crate::machine::Machine;
 use dspec_buffer::TraceBuffer;

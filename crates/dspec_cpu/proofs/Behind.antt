@@ -1,13 +1,10 @@
 -- A CPU behind the deeds of a call that has ended.
 use Rattle.std.proofs.Common.{◌≡◌, ℕ, Bool, false, true, List, [], ◌∷◌, ◌++◌, Option, None, if◌then◌else◌, refl, sym, ap, ◌∙◌}
-use Rattle.dspec_cpu.specs.Words.{Record, Stored, HasPieces, scan, is_seal, CpuRow, is_of, bare, flight_after, known, IsAt, cpu_of, ShowsList, Cpu, Goes, HasList, IsReady, IsShown, Stands}
-use Rattle.dspec_record.specs.declared.field.Shape.{Shape}
-use Rattle.dspec_deeds.specs.declared.deed.Deed.{Deed}
+use Rattle.dspec_cpu.specs.Words.{Record, Stored, HasPieces, scan, is_seal, CpuRow, is_of, bare, flight_after, known, IsAt, cpu_of, ShowsList, Goes, HasList, IsReady, IsShown, Stands, Shape, Deed}
+use Rattle.dspec_cpu.specs.Words.{CpuSeat, CpuState}
+use Rattle.dspec_cpu.specs.declared.parts.CpuParts.{CpuParts as Cpu}
 use Rattle.dspec_table.specs.declared.seats.Words.{Words}
-use Rattle.dspec_table.specs.declared.seats.CpuSeat.{CpuSeat}
-use Rattle.dspec_cpu_state.specs.declared.cpu_state.CpuState.{CpuState}
-use Rattle.dspec_cpu.proofs.Ready.{ready_after}
-use Rattle.dspec_cpu.proofs.Shown.{shows, shown_behind}
+use Rattle.dspec_cpu.proofs.{Ready.ready_after, Shown.shows, Shown.shown_behind}
 
 module _ (shape : ℕ → Option Shape) (accepted : Record → Bool) (text : Record → List ℕ) {S : Type 0} (words : Words) (cpu : Cpu S) where
   -- the CPU can be called again, and did these deeds, which come in front of every list that it had

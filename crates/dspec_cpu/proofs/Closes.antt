@@ -1,10 +1,6 @@
 -- A CPU's list and the list of all, at the close of a session: slot by slot both go on by what the CPU has still to settle.
 use Rattle.std.proofs.Common.{◌≡◌, ℕ, zero, suc, ◌+◌, ◌==◌, ◌<◌, Bool, true, false, ◌&&◌, List, ◌∷◌, Option, if◌then◌else◌, refl, sym, ap, ◌∙◌, subst, ⊎_elim, arith}
-use Rattle.dspec_record.specs.declared.field.Shape.{Shape}
-use Rattle.dspec_cpu.specs.Words.{settle_at, SlotState, is_granted, ack, word_at, settle_fate, own_closed, own_closed_slot, Shows, CanCloseBehind, IsPartOf, shown_at}
-use Rattle.dspec_deeds.specs.declared.config.Config.{Config}
-use Rattle.dspec_deeds.specs.declared.deed.Deed.{Deed}
-use Rattle.dspec_deeds.specs.declared.deed.Deed.TheVariants.{Settle}
+use Rattle.dspec_cpu.specs.Words.{Shape, settle_at, SlotState, is_granted, ack, word_at, settle_fate, own_closed, own_closed_slot, Shows, CanCloseBehind, IsPartOf, shown_at, Config, Deed, Settle}
 use Rattle.dspec_deeds.proofs.TestLemmas.{either_way, same_number}
 use Rattle.dspec_cpu.proofs.Settlements.{ack_is, settles_on}
 

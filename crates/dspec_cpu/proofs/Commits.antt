@@ -1,28 +1,16 @@
 -- A call of commit that decided: the list and the deeds behind it.
 use Rattle.std.proofs.Common.{◌≡◌, ◌≢◌, ℕ, ◌+◌, ◌==◌, Bool, true, false, List, [], ◌∷◌, length, Option, refl, sym, ap, ◌∙◌, subst, inl, true≢false}
 use Rattle.dspec_cpu.specs.Words.{Record, Stored, HasPieces, Speculation, SlotState, is_commit, CpuLegal, fits_principal, mark, contents, held, known, set_up, IsAt, cpu_of, ReleasedWord, IsCaller}
-use Rattle.dspec_cpu.specs.Words.{ShowsList, committed_fate, Cpu, steps, decision, decided_deeds, HasList, IsReady, IsShown, Reached, OwnsCommit}
-use Rattle.dspec_record.specs.declared.field.Shape.{Shape}
+use Rattle.dspec_cpu.specs.Words.{ShowsList, committed_fate, steps, decision, decided_deeds, HasList, IsReady, IsShown, Reached, OwnsCommit, Shape, Committing, Attempt, Decided, DecideFate, Deed}
+use Rattle.dspec_cpu.specs.Words.{Commit, Release, View, CpuSeat, CpuState}
+use Rattle.dspec_cpu.specs.declared.parts.CpuParts.{CpuParts as Cpu}
 use Rattle.dspec_buffer.specs.Extent as extent
-use Rattle.dspec_word.specs.declared.code.Code.TheVariants.{Committing}
-use Rattle.dspec_word.specs.declared.act.Act.TheVariants.{Attempt}
-use Rattle.dspec_deeds.specs.declared.calls.Decided.{Decided}
-use Rattle.dspec_deeds.specs.declared.deed.DecideFate.{DecideFate}
-use Rattle.dspec_deeds.specs.declared.deed.Deed.{Deed}
-use Rattle.dspec_deeds.specs.declared.deed.Deed.TheVariants.{Commit, Release}
 use Rattle.dspec_deeds.proofs.TestLemmas.{number_is_itself}
-use Rattle.dspec_table.specs.declared.rule.View.{View}
 use Rattle.dspec_table.specs.declared.seats.Words.{Words}
-use Rattle.dspec_table.specs.declared.seats.CpuSeat.{CpuSeat}
-use Rattle.dspec_cpu_state.specs.declared.cpu_state.CpuState.{CpuState}
 use Rattle.dspec_cpu.specs.declared.reaching.Reach.TheVariants as reach
-use Rattle.dspec_cpu.proofs.Decisions.{block_answer, block_deeds, fate_tells, IsCommitWord, left_by_commit, released_shown, waits_many}
-use Rattle.dspec_cpu.proofs.Behind.{Behind, behind}
-use Rattle.dspec_cpu.proofs.Decided.{Ended, deciding, deed_of, ended}
-use Rattle.dspec_cpu.proofs.Ready.{few, holder, set_up_is, stands_behind}
-use Rattle.dspec_cpu.proofs.Shown.{shows, shown_behind}
-use Rattle.dspec_cpu.proofs.Slots.{stands_more}
-use Rattle.dspec_cpu.proofs.Speculates.{caller_of}
+use Rattle.dspec_cpu.proofs.{Behind.Behind, Behind.behind, Decided.Ended, Decided.deciding, Decided.deed_of, Decided.ended, Decisions.block_answer, Decisions.block_deeds, Decisions.fate_tells}
+use Rattle.dspec_cpu.proofs.{Decisions.IsCommitWord, Decisions.left_by_commit, Decisions.released_shown, Decisions.waits_many, Ready.few, Ready.holder, Ready.set_up_is, Ready.stands_behind}
+use Rattle.dspec_cpu.proofs.{Shown.shows, Shown.shown_behind, Slots.stands_more, Speculates.caller_of}
 
 module _ (shape : ℕ → Option Shape) (accepted : Record → Bool) (text : Record → List ℕ) {S : Type 0} (words : Words) (cpu : Cpu S)
     (ready : IsReady shape accepted text words cpu) {id : Speculation} {fit mine : Bool} {n : ℕ} {to : SlotState} (seat : CpuSeat) (commits : Bool) (is : commits ≡ true)

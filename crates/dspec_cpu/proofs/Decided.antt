@@ -1,23 +1,13 @@
 -- What a call of commit or discard left, and a call of either that decided nothing.
 use Rattle.std.proofs.Common.{◌≡◌, ℕ, ◌+◌, Bool, true, false, List, ◌∷◌, Option, None, if◌then◌else◌, refl, sym, ◌∙◌, subst, true≢false}
-use Rattle.dspec_cpu.specs.Words.{Record, Stored, HasPieces, Speculation, solo, known, set_up, IsAt, cpu_of, ShowsList, Cpu, Reach, decided_deeds, Decides, HasList, IsReady, Reached, turns}
-use Rattle.dspec_cpu.specs.Words.{is_decision}
-use Rattle.dspec_record.specs.declared.field.Shape.{Shape}
-use Rattle.dspec_deeds.specs.declared.config.Config.{Config}
-use Rattle.dspec_deeds.specs.declared.calls.CpuOp.{CpuOp}
+use Rattle.dspec_cpu.specs.Words.{Record, Stored, HasPieces, Speculation, solo, known, set_up, IsAt, cpu_of, ShowsList, decided_deeds, Decides, HasList, IsReady, Reached, turns, is_decision, Shape}
+use Rattle.dspec_cpu.specs.Words.{Config, CpuOp, Decided, DecideFate, Deed, Commit, Discard, Doing, View, CpuSeat, CpuState}
+use Rattle.dspec_cpu.specs.declared.{parts.CpuParts.CpuParts as Cpu, reaching.Reach.Reach}
 use Rattle.dspec_deeds.specs.declared.calls.CpuOp.TheVariants as op
-use Rattle.dspec_deeds.specs.declared.calls.Decided.{Decided}
 use Rattle.dspec_deeds.specs.declared.calls.Decided.TheVariants as decided
-use Rattle.dspec_deeds.specs.declared.deed.DecideFate.{DecideFate}
 use Rattle.dspec_deeds.specs.declared.deed.DecideFate.TheVariants as fated
-use Rattle.dspec_deeds.specs.declared.deed.Deed.{Deed}
-use Rattle.dspec_deeds.specs.declared.deed.Deed.TheVariants.{Commit, Discard}
 use Rattle.dspec_deeds.proofs.TestLemmas.{number_is_itself}
-use Rattle.dspec_table.specs.declared.doing.Doing.{Doing}
-use Rattle.dspec_table.specs.declared.rule.View.{View}
 use Rattle.dspec_table.specs.declared.seats.Words.{Words}
-use Rattle.dspec_table.specs.declared.seats.CpuSeat.{CpuSeat}
-use Rattle.dspec_cpu_state.specs.declared.cpu_state.CpuState.{CpuState}
 use Rattle.dspec_cpu.specs.declared.reaching.Reach.TheVariants as reach
 use Rattle.dspec_cpu.proofs.Behind.{Behind, one_behind}
 

@@ -1,28 +1,15 @@
 -- A call of commit: what its exchange tells, and the lists behind its answers.
 use Rattle.std.proofs.Common.{arith, ◌≡◌, ◌≢◌, ◌⊎◌, ℕ, Bool, true, false, List, ◌∷◌, Option, None, if◌then◌else◌, refl, sym, ◌∙◌, subst, ⊎_elim, inl, inr, add-zero}
 use Rattle.std.proofs.lemmas.Bool.Decides.{nat_tests}
-use Rattle.dspec_cpu.specs.Words.{Record, Speculation, SlotState, awaits, commit_act, commit_at, is_commit, is_copied, count_of, issue, owed, solo, word_at, IsSound, sealed_last, CommitsNow, Cpu}
-use Rattle.dspec_cpu.specs.Words.{decision, decided_deeds, committed_fate, IsShown, OwnsCommit}
-use Rattle.dspec_record.specs.declared.field.Shape.{Shape}
-use Rattle.dspec_word.specs.declared.code.Code.{Code}
-use Rattle.dspec_word.specs.declared.code.Code.TheVariants.{Active, ActiveOne, ActiveMany, Committing, CommittingMany}
-use Rattle.dspec_word.specs.declared.act.Act.TheVariants.{Attempt}
-use Rattle.dspec_deeds.specs.declared.config.Config.{Config}
+use Rattle.dspec_cpu.specs.Words.{Record, Speculation, SlotState, awaits, commit_act, commit_at, is_commit, is_copied, count_of, issue, owed, solo, word_at, IsSound, sealed_last, CommitsNow}
+use Rattle.dspec_cpu.specs.Words.{decision, decided_deeds, committed_fate, IsShown, OwnsCommit, Shape, Code, Active, ActiveOne, ActiveMany, Committing, CommittingMany, Attempt, Config, Decided}
+use Rattle.dspec_cpu.specs.Words.{DecideFate, Deed, Release, View, CpuSeat, Counts}
+use Rattle.dspec_cpu.specs.declared.parts.CpuParts.{CpuParts as Cpu}
 use Rattle.dspec_deeds.specs.declared.calls.CpuOp.TheVariants as op
-use Rattle.dspec_deeds.specs.declared.calls.Decided.{Decided}
 use Rattle.dspec_deeds.specs.declared.calls.Decided.TheVariants as decided
-use Rattle.dspec_deeds.specs.declared.deed.DecideFate.{DecideFate}
-use Rattle.dspec_deeds.specs.declared.deed.Deed.{Deed}
-use Rattle.dspec_deeds.specs.declared.deed.Deed.TheVariants.{Release}
-use Rattle.dspec_deeds.proofs.Awaiting.{awaiting}
-use Rattle.dspec_deeds.proofs.PresentIds.{present_is}
-use Rattle.dspec_deeds.proofs.TestLemmas.{same_number}
-use Rattle.dspec_table.specs.declared.rule.View.{View}
-use Rattle.dspec_table.specs.declared.seats.CpuSeat.{CpuSeat}
-use Rattle.dspec_cpu_state.specs.declared.counts.Counts.{Counts}
+use Rattle.dspec_deeds.proofs.{Awaiting.awaiting, PresentIds.present_is, TestLemmas.same_number}
 use Rattle.dspec_cpu_state.proofs.Tallies.{released_counts}
-use Rattle.dspec_cpu.proofs.Shown.{quiet_shown}
-use Rattle.dspec_cpu.proofs.Retries.{here_or_void, attempt_is, to_is}
+use Rattle.dspec_cpu.proofs.{Retries.here_or_void, Retries.attempt_is, Retries.to_is, Shown.quiet_shown}
 
 -- the answer that tells what becomes of a block
 abbrev pub block_answer : Bool → ℕ → Decided

@@ -2,28 +2,16 @@
 use Rattle.std.proofs.Common.{arith, ◌≡◌, ℕ, ◌+◌, ◌==◌, Bool, true, false, List, ◌∷◌, ◌++◌, length, Option, None, refl, sym, ap, subst, true≢false}
 use Rattle.std.proofs.lemmas.Bool.Decides.{nat_tests}
 use Rattle.dspec_cpu.specs.Words.{Record, Stored, HasPieces, Speculation, SlotState, is_inactive, discard_act, discard_at, scan, is_discard, CpuLegal, mark, held, bare, flight_after, known, set_up}
-use Rattle.dspec_cpu.specs.Words.{IsAt, cpu_of, Cpu, decision, IsCaller, ShowsList, IsReady, IsShown, Reached, OwnsCommit}
-use Rattle.dspec_record.specs.declared.field.Shape.{Shape}
-use Rattle.dspec_word.specs.declared.code.Code.{Code}
-use Rattle.dspec_word.specs.declared.code.Code.TheVariants.{Active, ActiveOne, ActiveMany, Discarding}
-use Rattle.dspec_word.specs.declared.act.Act.TheVariants.{Attempt}
+use Rattle.dspec_cpu.specs.Words.{IsAt, cpu_of, decision, IsCaller, ShowsList, IsReady, IsShown, Reached, OwnsCommit, Shape, Code, Active, ActiveOne, ActiveMany, Discarding, Attempt, Deed, Discard}
+use Rattle.dspec_cpu.specs.Words.{View, CpuSeat, CpuState}
+use Rattle.dspec_cpu.specs.declared.parts.CpuParts.{CpuParts as Cpu}
 use Rattle.dspec_deeds.specs.declared.calls.Decided.TheVariants as decided
 use Rattle.dspec_deeds.specs.declared.deed.DecideFate.TheVariants as fated
-use Rattle.dspec_deeds.specs.declared.deed.Deed.{Deed}
-use Rattle.dspec_deeds.specs.declared.deed.Deed.TheVariants.{Discard}
 use Rattle.dspec_deeds.proofs.TestLemmas.{number_is_itself, same_number}
-use Rattle.dspec_table.specs.declared.rule.View.{View}
 use Rattle.dspec_table.specs.declared.seats.Words.{Words}
-use Rattle.dspec_table.specs.declared.seats.CpuSeat.{CpuSeat}
-use Rattle.dspec_cpu_state.specs.declared.cpu_state.CpuState.{CpuState}
 use Rattle.dspec_cpu.specs.declared.reaching.Reach.TheVariants as reach
-use Rattle.dspec_cpu.proofs.Behind.{behind}
-use Rattle.dspec_cpu.proofs.Decided.{Ended, deciding, deed_of, ended}
-use Rattle.dspec_cpu.proofs.Decisions.{waits_at, released_shown}
-use Rattle.dspec_cpu.proofs.Retries.{here_or_void, attempt_is, to_is}
-use Rattle.dspec_cpu.proofs.Ready.{few}
-use Rattle.dspec_cpu.proofs.Shown.{shows, shown_behind}
-use Rattle.dspec_cpu.proofs.Speculates.{caller_of}
+use Rattle.dspec_cpu.proofs.{Behind.behind, Decided.Ended, Decided.deciding, Decided.deed_of, Decided.ended, Decisions.waits_at, Decisions.released_shown, Ready.few, Retries.here_or_void}
+use Rattle.dspec_cpu.proofs.{Retries.attempt_is, Retries.to_is, Shown.shows, Shown.shown_behind, Speculates.caller_of}
 
 -- an exchange of discard releases the slot, or leaves the issue and a discard that waits
 pub record IsDiscardWord (i : ℕ) (to : SlotState) : Type 0 where

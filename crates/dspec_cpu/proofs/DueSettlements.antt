@@ -2,21 +2,14 @@
 use Rattle.std.proofs.Common.{arith, ◌≡◌, ℕ, ◌≤◌, ◌<◌, ◌^◌, Bool, true, List, [], ◌∷◌, Option, refl, sym, ap, ◌∙◌, subst, inl}
 use Rattle.std.proofs.lemmas.Bool.Decides.{nat_tests}
 use Rattle.dspec_cpu.specs.Words.{Record, Stored, Speculation, SlotState, settle_at, is_granted, ack, word_at, settled_fate, MaySettle, known, IsAt, cpu_of, number_of, ack_place, Entered}
-use Rattle.dspec_cpu.specs.Words.{SettledWord, Cpu, rests, steps, AreShown, HasList, IsReady, side_of, batches_of, Stands, BlockSettled, CanSettle, DueSettled, IsDueAt, IsPartOf, shown_at}
-use Rattle.dspec_record.specs.declared.field.Shape.{Shape}
-use Rattle.dspec_deeds.specs.declared.config.Config.{Config}
+use Rattle.dspec_cpu.specs.Words.{SettledWord, rests, steps, AreShown, HasList, IsReady, side_of, batches_of, Stands, BlockSettled, CanSettle, DueSettled, IsDueAt, IsPartOf, shown_at, Shape, Config}
+use Rattle.dspec_cpu.specs.Words.{Deed, Settle, Doing, View, CpuSeat, CpuState}
+use Rattle.dspec_cpu.specs.declared.parts.CpuParts.{CpuParts as Cpu}
 use Rattle.dspec_deeds.specs.declared.calls.CpuOp.TheVariants as op
-use Rattle.dspec_deeds.specs.declared.deed.Deed.{Deed}
-use Rattle.dspec_deeds.specs.declared.deed.Deed.TheVariants.{Settle}
 use Rattle.dspec_deeds.proofs.OwnReads.{apart_bare}
-use Rattle.dspec_table.specs.declared.doing.Doing.{Doing}
-use Rattle.dspec_table.specs.declared.rule.View.{View}
-use Rattle.dspec_table.specs.declared.seats.CpuSeat.{CpuSeat}
 use Rattle.dspec_table.specs.declared.seats.Words.{Words}
 use Rattle.dspec_table.proofs.OwnReading.{scan_part}
-use Rattle.dspec_cpu_state.specs.declared.cpu_state.CpuState.{CpuState}
-use Rattle.dspec_cpu.proofs.Ready.{few, holder, number, ready_after, set_up_is, stands_behind}
-use Rattle.dspec_cpu.proofs.Settlements.{can_settle}
+use Rattle.dspec_cpu.proofs.{Ready.few, Ready.holder, Ready.number, Ready.ready_after, Ready.set_up_is, Ready.stands_behind, Settlements.can_settle}
 
 module _ (shape : ℕ → Option Shape) (accepted : Record → Bool) (text : Record → List ℕ) {S : Type 0} (words : Words) (cpu : Cpu S)
     (ready : IsReady shape accepted text words cpu) (slot : ℕ) (low : 1 ≤ slot) (high : slot ≤ cpu.config.nspec)

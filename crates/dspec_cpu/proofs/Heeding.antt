@@ -1,9 +1,7 @@
 -- What becomes of an ask, by the tests of the code.
 use Rattle.std.proofs.Common.{◌≡◌, ℕ, suc, ◌+◌, ◌<◌, ◌≤◌, true, false, ◌++◌, length, reverse, Option, Some, None, is_some, refl, sym, ap, subst, arith, true≢false}
 use Rattle.std.proofs.lemmas.List.{length-reverse}
-use Rattle.dspec_cpu.specs.Words.{Stored, CpuKnows, spare_count, waiting, Buffers, FindsSpare, HandsOn, Heeds, no_spare, held_up, switched, batch_of, emptied}
-use Rattle.dspec_ring.specs.declared.batch.Batch.{Batch}
-use Rattle.dspec_deeds.specs.declared.config.Config.{Config}
+use Rattle.dspec_cpu.specs.Words.{Stored, CpuKnows, spare_count, waiting, Buffers, FindsSpare, HandsOn, Heeds, no_spare, held_up, switched, batch_of, emptied, Batch, Config}
 use Rattle.dspec_cpu.proofs.Switches.{found}
 
 some_of : (w : Option Batch) → is_some w ≡ true → (b : Batch) × (w ≡ Some b)

@@ -1,23 +1,13 @@
 -- What a call that counts keeps, by how it ended.
-use Rattle.std.proofs.lemmas.Bool.Decides.{nat_tests}
 use Rattle.std.proofs.Common.{◌≡◌, ℕ, ◌+◌, ◌*◌, ◌<◌, ◌≤◌, Bool, true, false, if◌then◌else◌, refl, sym, ap, ◌∙◌, subst, inr, arith}
-use Rattle.dspec_cpu.specs.Words.{Stored, Speculation, SlotState, in_range, known, activity_place, slot_place, LoadedActivity, ReleasedWord, one_more_worn, is_stopped_opening, Cpu, Reach}
-use Rattle.dspec_cpu.specs.Words.{is_worn_decided, CallLeaves, Reached, is_committing, releases_next, turns, Scanned, is_worn_opening, StopsWhereMet, is_stopped_decided, is_stopped_reach, Touches}
-use Rattle.dspec_cpu.specs.Words.{last_looked, of_activity, of_slot, of_slots}
-use Rattle.dspec_word.specs.declared.code.Code.TheVariants.{Committing}
-use Rattle.dspec_word.specs.declared.act.Act.TheVariants.{Attempt}
-use Rattle.dspec_deeds.specs.declared.config.Config.{Config}
-use Rattle.dspec_deeds.specs.declared.calls.Decided.{Decided}
-use Rattle.dspec_deeds.specs.declared.calls.Opening.{Opening}
-use Rattle.dspec_table.specs.declared.rule.View.{View}
-use Rattle.dspec_table.specs.declared.doing.Doing.{Doing}
-use Rattle.dspec_table.specs.declared.seats.CpuSeat.{CpuSeat}
-use Rattle.dspec_cpu_state.specs.declared.counts.Counts.{Counts}
-use Rattle.dspec_cpu_state.specs.declared.cpu_state.CpuState.{CpuState}
+use Rattle.std.proofs.lemmas.Bool.Decides.{nat_tests}
+use Rattle.dspec_cpu.specs.Words.{Stored, Speculation, SlotState, in_range, known, activity_place, slot_place, LoadedActivity, ReleasedWord, one_more_worn, is_stopped_opening, is_worn_decided}
+use Rattle.dspec_cpu.specs.Words.{CallLeaves, Reached, is_committing, releases_next, turns, Scanned, is_worn_opening, StopsWhereMet, is_stopped_decided, is_stopped_reach, Touches, last_looked}
+use Rattle.dspec_cpu.specs.Words.{of_activity, of_slot, of_slots, Committing, Attempt, Config, Decided, Opening, View, Doing, CpuSeat, Counts, CpuState}
+use Rattle.dspec_cpu.specs.declared.{parts.CpuParts.CpuParts as Cpu, reaching.Reach.Reach}
 use Rattle.dspec_cpu.specs.declared.reaching.Reach.TheVariants as reach
-use Rattle.dspec_cpu.proofs.Decisions.{block_answer}
-use Rattle.dspec_cpu.proofs.Stopping.{worn_out, shown_stop, shown_running, heeded}
-use Rattle.dspec_cpu.proofs.Touching.{none_touched, touched_more, touched_one}
+use Rattle.dspec_cpu.proofs.{Decisions.block_answer, Stopping.worn_out, Stopping.shown_stop, Stopping.shown_running, Stopping.heeded, Touching.none_touched, Touching.touched_more}
+use Rattle.dspec_cpu.proofs.{Touching.touched_one}
 
 -- it was worn
 pub worn_leaves : {S : Type 0} {within : ℕ → Type 0} (cpu : Cpu S) (most : ℕ) (counts : Counts) → cpu.config.max_calls ≤ cpu.side.calls

@@ -1,12 +1,7 @@
 -- A CPU's part of a legal list balances.
 use Rattle.std.proofs.Common.{◌≡◌, ℕ, List, Option, sym, ap, ◌∙◌, subst}
-use Rattle.dspec_record.specs.declared.field.Shape.{Shape}
-use Rattle.dspec_deeds.specs.declared.config.Config.{Config}
-use Rattle.dspec_deeds.specs.declared.calls.Actor.TheVariants.{Cpu as CpuActor}
-use Rattle.dspec_deeds.specs.declared.deed.Deed.{Deed}
-use Rattle.dspec_cpu.specs.Words.{part, offers, report, records_of_report, IsLegalPart}
-use Rattle.dspec_deeds.proofs.Headlines.{headline}
-use Rattle.dspec_deeds.proofs.OwnReads.{reads}
+use Rattle.dspec_cpu.specs.Words.{Shape, Config, CpuActor, Deed, part, offers, report, records_of_report, IsLegalPart}
+use Rattle.dspec_deeds.proofs.{Headlines.headline, OwnReads.reads}
 
 pub part_balanced : (shape : ℕ → Option Shape) (k : Config) (c : ℕ) (g p : List Deed) → IsLegalPart shape k c g p → offers c p ≡ records_of_report (report k c 0 p)
 part_balanced shape k c g p its =

@@ -1,14 +1,9 @@
 -- What the ranges of a configuration give.
 use Rattle.std.proofs.Common.{◌≡◌, ℕ, ◌<◌, ◌≤◌, ◌%◌, ◌^◌, ◌==◌, Bool, true, false, not, Option, Some, None, if◌then◌else◌, refl, arith}
-use Rattle.std.specs.Prelude.{nat_le}
 use Rattle.std.proofs.lemmas.Bool.Decides.{nat_tests}
-use Rattle.dspec_deeds.specs.declared.config.Config.{Config}
-use Rattle.dspec_deeds.specs.declared.config.StartFault.{StartFault}
-use Rattle.dspec_cpu.specs.Words.{is_between, is_size, start_fault, count_of, HasRoom, IsRoomy}
-use Rattle.dspec_deeds.specs.declared.deed.DecideFate.{DecideFate}
-use Rattle.dspec_deeds.specs.declared.deed.DecideFate.TheVariants.{Copied}
+use Rattle.std.specs.Prelude.{nat_le}
+use Rattle.dspec_cpu.specs.Words.{Config, StartFault, is_between, is_size, start_fault, count_of, HasRoom, IsRoomy, DecideFate, Copied, Counts}
 use Rattle.dspec_deeds.proofs.TestLemmas.{and_tells, same_number}
-use Rattle.dspec_cpu_state.specs.declared.counts.Counts.{Counts}
 
 pub record Within (low high n : ℕ) : Type 0 where
   pub least : low ≤ n

@@ -1,9 +1,7 @@
 -- A CPU before its first call.
 use Rattle.std.proofs.Common.{◌≡◌, ℕ, ◌≤◌, Bool, List, [], ◌++◌, length, reverse, Option, Some, None, sym, ap, ◌∙◌, subst, arith}
-use Rattle.dspec_cpu.specs.Words.{Record, Stored, HasPieces, start_fault, part, scan, known, cpu_of, fresh_seat, IsSound, Cpu, ShowsList, waiting, HasList, IsSteady, batches_of, spare_count}
-use Rattle.dspec_record.specs.declared.field.Shape.{Shape}
-use Rattle.dspec_deeds.specs.declared.calls.Actor.TheVariants.{Cpu as CpuActor}
-use Rattle.dspec_table.specs.declared.rule.View.{View}
+use Rattle.dspec_cpu.specs.{Words.Record, Words.Stored, Words.HasPieces, Words.start_fault, Words.part, Words.scan, Words.known, Words.cpu_of, Words.fresh_seat, Words.IsSound, Words.ShowsList}
+use Rattle.dspec_cpu.specs.{Words.waiting, Words.HasList, Words.IsSteady, Words.batches_of, Words.spare_count, Words.Shape, Words.CpuActor, Words.View, declared.parts.CpuParts.CpuParts as Cpu}
 
 module _ (shape : ℕ → Option Shape) (accepted : Record → Bool) (text : Record → List ℕ) {S : Type 0} (cpu : Cpu S) where
   -- all of it is empty, and its seat is unused

@@ -1,13 +1,9 @@
 -- What the mark of an identifier's slot tells, where it is looked up before the slot is known to be one of the session's.
-use Rattle.std.proofs.lemmas.Bool.Decides.{nat_tests}
 use Rattle.std.proofs.Common.{◌≡◌, ℕ, ◌+◌, ◌-◌, ◌==◌, ◌≤◌, Bool, true, List, length, Some, arith}
+use Rattle.std.proofs.lemmas.{Bool.Decides.nat_tests, Option.slice_get_within}
 use Rattle.std.specs.Prelude.{slice_get}
-use Rattle.std.proofs.lemmas.Option.{slice_get_within}
-use Rattle.dspec_cpu.specs.Words.{Speculation, in_range, mark}
-use Rattle.dspec_deeds.specs.declared.config.Config.{Config}
-use Rattle.dspec_deeds.specs.declared.deed.Deed.{Deed}
-use Rattle.dspec_cpu.proofs.Outside.{inside_of}
-use Rattle.dspec_cpu.proofs.Reaches.{slot_inside}
+use Rattle.dspec_cpu.specs.Words.{Speculation, in_range, mark, Config, Deed}
+use Rattle.dspec_cpu.proofs.{Outside.inside_of, Reaches.slot_inside}
 
 module _ (k : Config) (id : Speculation) (marks : List ℕ) (mine : Bool) where
   -- a slot that has the speculation's mark is one of the session's

@@ -1,18 +1,11 @@
 -- What the mark of a slot tells of an identifier: whether the CPU is a caller, where it isn't older than the mark.
 use Rattle.std.proofs.Common.{◌≡◌, ℕ, ◌+◌, ◌==◌, ◌≤◌, ◌<◌, Bool, true, false, ◌&&◌, ◌||◌, List, [], ◌∷◌, Some, None, if◌then◌else◌, refl, sym, ap, ◌∙◌, subst, ⊎_elim, arith, true≢false}
-use Rattle.std.specs.Prelude.{nat_lt}
 use Rattle.std.proofs.lemmas.Bool.Decides.{nat_tests}
-use Rattle.dspec_cpu.specs.Words.{Speculation, spoken_granted, spoken_stopped, same_id, is_among, joined, callers, issue, part, IsSound, mark, held, bare}
-use Rattle.dspec_deeds.specs.declared.config.Config.{Config}
-use Rattle.dspec_deeds.specs.declared.calls.Actor.TheVariants.{Cpu}
-use Rattle.dspec_deeds.specs.declared.deed.Deed.{Deed}
-use Rattle.dspec_deeds.specs.declared.deed.Deed.TheVariants.{Speculate}
-use Rattle.dspec_deeds.proofs.TestLemmas.{either_way, off, and_tells, same_number, number_is_itself, same_id_tells, id_is_itself, has_joined}
-use Rattle.dspec_deeds.proofs.Emptied.{callers_hold, past_empty}
-use Rattle.dspec_deeds.proofs.PresentIds.{open_is_now}
-use Rattle.dspec_deeds.proofs.SoundLists.{granted_goes, answered_open}
-use Rattle.dspec_deeds.proofs.Marks.{mark_tells, mark_part}
-use Rattle.dspec_deeds.proofs.OwnReads.{reads, apart_bare}
+use Rattle.std.specs.Prelude.{nat_lt}
+use Rattle.dspec_cpu.specs.Words.{Speculation, spoken_granted, spoken_stopped, same_id, is_among, joined, callers, issue, part, IsSound, mark, held, bare, Config, Cpu, Deed, Speculate}
+use Rattle.dspec_deeds.proofs.{Emptied.callers_hold, Emptied.past_empty, Marks.mark_tells, Marks.mark_part, OwnReads.reads, OwnReads.apart_bare, PresentIds.open_is_now, SoundLists.granted_goes}
+use Rattle.dspec_deeds.proofs.{SoundLists.answered_open, TestLemmas.either_way, TestLemmas.off, TestLemmas.and_tells, TestLemmas.same_number, TestLemmas.number_is_itself, TestLemmas.same_id_tells}
+use Rattle.dspec_deeds.proofs.{TestLemmas.id_is_itself, TestLemmas.has_joined}
 
 -- who was granted a speculation last is a caller of it
 pub marked_among : (c : ℕ) (id : Speculation) (h : List Deed) → mark c id.slot h ≡ id.issue + 1 → is_among c (callers id h) ≡ true

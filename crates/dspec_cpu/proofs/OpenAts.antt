@@ -1,20 +1,13 @@
 -- Of which speculation of a slot a CPU has records: of the one that the slot's mark is of, or of none.
-use Rattle.std.proofs.lemmas.Bool.Decides.{nat_tests}
 use Rattle.std.proofs.Common.{◌≡◌, ◌≢◌, ℕ, zero, suc, ◌+◌, ◌-◌, ◌<◌, ◌≤◌, Bool, List, [], ◌∷◌, length, Option, Some, sym, ap, ◌∙◌, refl, arith}
+use Rattle.std.proofs.lemmas.Bool.Decides.{nat_tests}
 use Rattle.std.specs.Prelude.{slice_get}
-use Rattle.dspec_cpu.specs.Words.{Record, Speculation, last_called, part, IsSound, mark, Offer, held, bare, known, Cpu, HasList, IsSteady, IsOpenAt}
-use Rattle.dspec_record.specs.declared.field.Shape.{Shape}
-use Rattle.dspec_deeds.specs.declared.config.Config.{Config}
-use Rattle.dspec_deeds.specs.declared.calls.Actor.TheVariants.{Cpu as CpuActor}
-use Rattle.dspec_deeds.specs.declared.deed.Deed.{Deed}
-use Rattle.dspec_deeds.proofs.Marks.{mark_part, mark_tells}
-use Rattle.dspec_deeds.proofs.OwnReads.{apart_bare}
-use Rattle.dspec_deeds.proofs.TestLemmas.{same_number}
+use Rattle.dspec_cpu.specs.Words.{Record, Speculation, last_called, part, IsSound, mark, Offer, held, bare, known, HasList, IsSteady, IsOpenAt, Shape, Config, CpuActor, Deed}
+use Rattle.dspec_cpu.specs.declared.parts.CpuParts.{CpuParts as Cpu}
+use Rattle.dspec_deeds.proofs.{Marks.mark_part, Marks.mark_tells, OwnReads.apart_bare, TestLemmas.same_number}
 use Rattle.dspec_table.proofs.Limits.{issue_within}
-use Rattle.dspec_cpu_state.proofs.Ones.{last_is}
-use Rattle.dspec_cpu_state.proofs.Places.{same_inside}
-use Rattle.dspec_cpu.proofs.Mine.{unmarked_empty}
-use Rattle.dspec_cpu.proofs.Ready.{steady_few}
+use Rattle.dspec_cpu_state.proofs.{Ones.last_is, Places.same_inside}
+use Rattle.dspec_cpu.proofs.{Mine.unmarked_empty, Ready.steady_few}
 
 at_least : (n : ℕ) → n ≢ 0 → 1 ≤ n
 at_least zero f = absurd (f refl)

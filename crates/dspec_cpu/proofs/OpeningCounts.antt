@@ -1,12 +1,8 @@
 -- What a call of speculation adds to the counts, deed by deed.
 use Rattle.std.proofs.Common.{◌≡◌, ℕ, ◌+◌, ◌==◌, Bool, true, false, not, ◌&&◌, List, ◌∷◌, refl, ap, ◌∙◌, add-zero}
-use Rattle.dspec_cpu.specs.Words.{Speculation, missed_busy, one_if, counts_of, with_opening}
-use Rattle.dspec_deeds.specs.declared.config.Config.{Config}
+use Rattle.dspec_cpu.specs.Words.{Speculation, missed_busy, one_if, counts_of, with_opening, Config, Deed, Scan, Opened, Miss, Counts}
 use Rattle.dspec_deeds.specs.declared.calls.Opening.TheVariants as opening
-use Rattle.dspec_deeds.specs.declared.deed.Deed.{Deed}
-use Rattle.dspec_deeds.specs.declared.deed.Deed.TheVariants.{Scan, Opened, Miss}
 use Rattle.dspec_deeds.proofs.TestLemmas.{number_is_itself}
-use Rattle.dspec_cpu_state.specs.declared.counts.Counts.{Counts}
 use Rattle.dspec_cpu_state.proofs.Tallies.{same_counts}
 
 -- what the deeds of a scan add to the counts

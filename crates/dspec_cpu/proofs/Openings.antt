@@ -1,19 +1,14 @@
 -- What shows a CPU's list behind a call of speculation.
-use Rattle.std.proofs.lemmas.Bool.Decides.{nat_tests}
 use Rattle.std.proofs.Common.{◌≡◌, ℕ, ◌+◌, ◌<◌, ◌≤◌, ◌==◌, Bool, true, false, List, [], ◌∷◌, ◌++◌, length, Option, if◌then◌else◌, refl, sym, ap, ◌∙◌, subst, ⊎_elim, arith, add-zero, true≢false}
-use Rattle.dspec_cpu.specs.Words.{Record, calls, growing, CpuRow, is_of, missed_busy, bare, Cpu, counts_of, with_opening, IsShown, misses, any_busy, opening_deeds, IsOpening, is_worn_opening}
-use Rattle.dspec_record.specs.declared.field.Shape.{Shape}
-use Rattle.dspec_deeds.specs.declared.config.Config.{Config}
-use Rattle.dspec_deeds.specs.declared.calls.Opening.{Opening}
+use Rattle.std.proofs.lemmas.Bool.Decides.{nat_tests}
+use Rattle.dspec_cpu.specs.Words.{Record, calls, growing, CpuRow, is_of, missed_busy, bare, counts_of, with_opening, IsShown, misses, any_busy, opening_deeds, IsOpening, is_worn_opening, Shape}
+use Rattle.dspec_cpu.specs.Words.{Config, Opening, Deed, Scan, Opened, Miss, CpuSeat, Counts}
+use Rattle.dspec_cpu.specs.declared.parts.CpuParts.{CpuParts as Cpu}
 use Rattle.dspec_deeds.specs.declared.calls.Opening.TheVariants as opening
-use Rattle.dspec_deeds.specs.declared.deed.Deed.{Deed}
-use Rattle.dspec_deeds.specs.declared.deed.Deed.TheVariants.{Scan, Opened, Miss}
 use Rattle.dspec_deeds.proofs.TestLemmas.{either_way, number_is_itself, same_number}
-use Rattle.dspec_table.specs.declared.seats.CpuSeat.{CpuSeat}
-use Rattle.dspec_cpu_state.specs.declared.counts.Counts.{Counts}
 use Rattle.dspec_cpu_state.proofs.Quiet.{quiet}
-use Rattle.dspec_cpu.proofs.Shown.{quiet_shown}
 use Rattle.dspec_cpu.proofs.OpeningCounts.{given_counts, last_busy, last_unavailable, miss_counts, scan_counts, stop_counts}
+use Rattle.dspec_cpu.proofs.Shown.{quiet_shown}
 
 -- the same of all Misses
 module _ (k : Config) (c : ℕ) (p : List Deed) where

@@ -1,16 +1,9 @@
 -- Nothing is held and nothing was dropped of a speculation that isn't one of the session's slots.
 use Rattle.std.proofs.Common.{◌≡◌, ℕ, ◌+◌, ◌≤◌, ◌<◌, ◌==◌, true, false, ◌&&◌, List, [], sym, ap, ◌∙◌, ⊎_elim, arith, true≢false}
-use Rattle.std.specs.Prelude.{nat_le}
 use Rattle.std.proofs.lemmas.Bool.Decides.{nat_tests}
-use Rattle.dspec_cpu.specs.Words.{Speculation, in_range, is_among, opened, part, IsSound, mark, dropped_in, held, bare}
-use Rattle.dspec_deeds.specs.declared.config.Config.{Config}
-use Rattle.dspec_deeds.specs.declared.calls.Actor.TheVariants.{Cpu}
-use Rattle.dspec_deeds.specs.declared.deed.Deed.{Deed}
-use Rattle.dspec_deeds.proofs.Dropping.{unmarked_drops}
-use Rattle.dspec_deeds.proofs.Marks.{mark_part}
-use Rattle.dspec_deeds.proofs.OwnReads.{apart_bare}
-use Rattle.dspec_deeds.proofs.SoundLists.{opened_in_range, unseen}
-use Rattle.dspec_deeds.proofs.TestLemmas.{either_way, same_number}
+use Rattle.std.specs.Prelude.{nat_le}
+use Rattle.dspec_cpu.specs.Words.{Speculation, in_range, is_among, opened, part, IsSound, mark, dropped_in, held, bare, Config, Cpu, Deed}
+use Rattle.dspec_deeds.proofs.{Dropping.unmarked_drops, Marks.mark_part, OwnReads.apart_bare, SoundLists.opened_in_range, SoundLists.unseen, TestLemmas.either_way, TestLemmas.same_number}
 use Rattle.dspec_cpu.proofs.Mine.{marked_among, unmarked_empty}
 
 pub inside_of : (k : Config) (id : Speculation) → 1 ≤ id.slot → id.slot ≤ k.nspec → in_range k id ≡ true

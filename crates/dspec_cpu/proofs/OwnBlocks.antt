@@ -1,22 +1,12 @@
 -- The CPU's own block of a speculation that was decided, settled.
-use Rattle.std.proofs.lemmas.Bool.Decides.{nat_tests}
 use Rattle.std.proofs.Common.{◌≡◌, ℕ, ◌+◌, ◌-◌, ◌==◌, ◌<◌, ◌≤◌, ◌^◌, ◌||◌, Bool, true, false, List, ◌∷◌, length, Option, Some, if◌then◌else◌, refl, sym, ap, ◌∙◌, subst, arith}
+use Rattle.std.proofs.lemmas.Bool.Decides.{nat_tests}
 use Rattle.std.specs.Prelude.{slice_get}
 use Rattle.dspec_cpu.specs.Words.{Record, Stored, HasPieces, Speculation, is_commit, is_discard, is_lost, decided_stopped, CpuLegal, fits_principal, mark, contents, held, CpuRow, HasRoom, IsCaller}
-use Rattle.dspec_cpu.specs.Words.{ShowsList, settled_fate, BlockSettled, CanSettle, serving}
-use Rattle.dspec_record.specs.declared.field.Shape.{Shape}
+use Rattle.dspec_cpu.specs.Words.{ShowsList, settled_fate, BlockSettled, CanSettle, serving, Shape, Batch, Code, Discarding, Config, DecideFate, Settle, Deed, Doing, CpuState}
 use Rattle.dspec_buffer.specs.Extent as extent
-use Rattle.dspec_ring.specs.declared.batch.Batch.{Batch}
-use Rattle.dspec_word.specs.declared.code.Code.{Code}
-use Rattle.dspec_word.specs.declared.code.Code.TheVariants.{Discarding}
-use Rattle.dspec_deeds.specs.declared.config.Config.{Config}
-use Rattle.dspec_deeds.specs.declared.deed.DecideFate.{DecideFate}
-use Rattle.dspec_deeds.specs.declared.deed.Deed.TheVariants.{Settle}
-use Rattle.dspec_deeds.specs.declared.deed.Deed.{Deed}
 use Rattle.dspec_deeds.specs.Settling as settling
 use Rattle.dspec_deeds.proofs.TestLemmas.{number_is_itself}
-use Rattle.dspec_table.specs.declared.doing.Doing.{Doing}
-use Rattle.dspec_cpu_state.specs.declared.cpu_state.CpuState.{CpuState}
 use Rattle.dspec_cpu.proofs.Shown.{shows, shown_behind}
 
 -- what becomes of a block is lawful, and never stopped

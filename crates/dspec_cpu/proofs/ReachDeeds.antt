@@ -1,20 +1,11 @@
 -- The deeds of a call on a slot, by what it was shown.
 use Rattle.std.proofs.Common.{arith, ◌≡◌, ◌≢◌, ℕ, ◌==◌, Bool, true, false, List, ◌++◌, if◌then◌else◌, Option, None, refl, ap, ◌∙◌, append_assoc}
 use Rattle.std.proofs.lemmas.Bool.Decides.{nat_tests}
-use Rattle.dspec_cpu.specs.Words.{Speculation, SlotState, speculate_act, commit_act, discard_act, in_range, at_activity, at_exchange, IsOn, flight_after, Reach, Goes, rests, steps, act_of}
-use Rattle.dspec_cpu.specs.Words.{act_reached, is_reached, is_attempt, reached_deeds, is_stopped_reach}
-use Rattle.dspec_word.specs.declared.code.Code.{Code}
-use Rattle.dspec_word.specs.declared.code.Code.TheVariants.{Inactive, ActiveOne}
-use Rattle.dspec_word.specs.declared.act.Act.{Act}
-use Rattle.dspec_word.specs.declared.act.Act.TheVariants.{Void, Granted, Idle}
-use Rattle.dspec_deeds.specs.declared.config.Config.{Config}
-use Rattle.dspec_deeds.specs.declared.calls.CpuOp.{CpuOp}
+use Rattle.dspec_cpu.specs.Words.{Speculation, SlotState, speculate_act, commit_act, discard_act, in_range, at_activity, at_exchange, IsOn, flight_after, Goes, rests, steps, act_of, act_reached}
+use Rattle.dspec_cpu.specs.Words.{is_reached, is_attempt, reached_deeds, is_stopped_reach, Code, Inactive, ActiveOne, Act, Void, Granted, Idle, Config, CpuOp, Deed, Discard, View, Doing}
+use Rattle.dspec_cpu.specs.declared.reaching.Reach.{Reach}
 use Rattle.dspec_deeds.specs.declared.calls.CpuOp.TheVariants as op
-use Rattle.dspec_deeds.specs.declared.deed.Deed.{Deed}
-use Rattle.dspec_deeds.specs.declared.deed.Deed.TheVariants.{Discard}
 use Rattle.dspec_deeds.proofs.TestLemmas.{same_number, off}
-use Rattle.dspec_table.specs.declared.rule.View.{View}
-use Rattle.dspec_table.specs.declared.doing.Doing.{Doing}
 use Rattle.dspec_interleaving.proofs.StepDeeds.{by_test, spoken_deeds, committed_deeds, discarded_deeds}
 use Rattle.dspec_cpu.specs.declared.reaching.Reach.TheVariants as reach
 use Rattle.dspec_cpu.proofs.Retries.{here_or_void, attempt_is}

@@ -1,25 +1,17 @@
 -- How far a call on an identifier comes.
 use Rattle.std.proofs.Common.{◌≡◌, ℕ, ◌+◌, ◌==◌, ◌≤◌, Bool, true, false, [], ◌++◌, Some, refl, sym, ap, ◌∙◌, subst, inl, inr, arith, true≢false}
-use Rattle.std.proofs.lemmas.List.{append-nil}
+use Rattle.std.proofs.lemmas.{Bool.Decides.nat_tests, List.append-nil}
 use Rattle.std.specs.Prelude.{nat_le}
-use Rattle.std.proofs.lemmas.Bool.Decides.{nat_tests}
 use Rattle.dspec_cpu.specs.Words.{Speculation, SlotState, in_range, part, scan, IsSound, mark, of_cpu, number_of, part_of, at_activity, at_exchange, IsOn, IsInFlight, calling, activity_place}
-use Rattle.dspec_cpu.specs.Words.{slot_place, Entered, LoadedActivity, Reach, rests, steps, act_of, act_reached, is_reached, is_attempt, reached_deeds, releases_next, EndsAtWord, Reached}
-use Rattle.dspec_cpu.specs.Words.{StopsWhereMet, is_stopped_reach, Touches, at_slot, of_slot}
-use Rattle.dspec_word.specs.declared.act.Act.{Act}
-use Rattle.dspec_word.specs.declared.act.Act.TheVariants.{Void, Granted}
-use Rattle.dspec_deeds.specs.declared.config.Config.{Config}
-use Rattle.dspec_deeds.specs.declared.calls.Actor.TheVariants.{Cpu as CpuActor}
+use Rattle.dspec_cpu.specs.Words.{slot_place, Entered, LoadedActivity, rests, steps, act_of, act_reached, is_reached, is_attempt, reached_deeds, releases_next, EndsAtWord, Reached, StopsWhereMet}
+use Rattle.dspec_cpu.specs.Words.{is_stopped_reach, Touches, at_slot, of_slot, Act, Void, Granted, Config, CpuActor, View, Doing}
+use Rattle.dspec_cpu.specs.declared.reaching.Reach.{Reach}
 use Rattle.dspec_deeds.proofs.TestLemmas.{and_tells}
-use Rattle.dspec_table.specs.declared.rule.View.{View}
-use Rattle.dspec_table.specs.declared.doing.Doing.{Doing}
 use Rattle.dspec_table.proofs.Flights.{quiet_activity, in_flight, activity_enters}
 use Rattle.dspec_cpu.specs.declared.reaching.Reach.TheVariants as reach
-use Rattle.dspec_cpu.proofs.Stopping.{shown_stop, shown_running}
-use Rattle.dspec_cpu.proofs.Mine.{own_mine_tells}
-use Rattle.dspec_cpu.proofs.Ready.{stands_behind, stands_called}
-use Rattle.dspec_cpu.proofs.Touching.{touched_more, touched_on, touched_one, touched_wider}
-use Rattle.dspec_cpu.proofs.ReachDeeds.{ended_deeds, goes_on, is_no_void, outside_deeds, reached_ends, reached_now, stopped_deeds, unstopped}
+use Rattle.dspec_cpu.proofs.{Mine.own_mine_tells, ReachDeeds.ended_deeds, ReachDeeds.goes_on, ReachDeeds.is_no_void, ReachDeeds.outside_deeds, ReachDeeds.reached_ends, ReachDeeds.reached_now}
+use Rattle.dspec_cpu.proofs.{ReachDeeds.stopped_deeds, ReachDeeds.unstopped, Ready.stands_behind, Ready.stands_called, Stopping.shown_stop, Stopping.shown_running, Touching.touched_more}
+use Rattle.dspec_cpu.proofs.{Touching.touched_on, Touching.touched_one, Touching.touched_wider}
 
 module _ (k : Config) (c : ℕ) (doing : Doing) (id : Speculation) (v : View) (config : v.config ≡ k) (who : v.who ≡ of_cpu c) (on : IsOn id doing.op) where
   -- it ended at the load of activity

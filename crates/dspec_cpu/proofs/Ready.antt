@@ -1,17 +1,11 @@
 -- A CPU can be called again.
-use Rattle.std.proofs.lemmas.Bool.Decides.{nat_tests}
 use Rattle.std.proofs.Common.{◌≡◌, ℕ, ◌+◌, ◌<◌, ◌≤◌, ◌-◌, ◌^◌, Bool, List, ◌++◌, length, Option, Some, None, sym, ◌∙◌, ap, subst, arith}
-use Rattle.dspec_cpu.specs.Words.{Record, Stored, scan, offers, report, records_of_report, of_cpu, number_of, calling, flight_after, Entered, known, IsAt, cpu_of, Cpu, counts_of, with_fate, IsRoomy}
-use Rattle.dspec_cpu.specs.Words.{Stands, HasList, IsReady, IsSteady, batches_of, spare_count, Belongs, identity}
-use Rattle.dspec_record.specs.declared.field.Shape.{Shape}
-use Rattle.dspec_deeds.specs.declared.config.Config.{Config}
-use Rattle.dspec_deeds.specs.declared.calls.CpuOp.{CpuOp}
-use Rattle.dspec_deeds.specs.declared.deed.Deed.{Deed}
-use Rattle.dspec_deeds.specs.declared.report.Report.{Report}
+use Rattle.std.proofs.lemmas.Bool.Decides.{nat_tests}
+use Rattle.dspec_cpu.specs.Words.{Record, Stored, scan, offers, report, records_of_report, of_cpu, number_of, calling, flight_after, Entered, known, IsAt, cpu_of, counts_of, with_fate, IsRoomy}
+use Rattle.dspec_cpu.specs.Words.{Stands, HasList, IsReady, IsSteady, batches_of, spare_count, Belongs, identity, Shape, Config, CpuOp, Deed, Report, View, Counts}
+use Rattle.dspec_cpu.specs.declared.parts.CpuParts.{CpuParts as Cpu}
 use Rattle.dspec_deeds.proofs.OwnAccounts.{own_report}
-use Rattle.dspec_table.specs.declared.rule.View.{View}
 use Rattle.dspec_table.specs.declared.seats.Words.{Words}
-use Rattle.dspec_cpu_state.specs.declared.counts.Counts.{Counts}
 use Rattle.dspec_cpu_state.proofs.Tallies.{drops_since}
 use Rattle.dspec_cpu.proofs.Limits.{limits}
 

@@ -2,16 +2,9 @@
 use Rattle.std.proofs.Common.{◌≡◌, ℕ, ◌<◌, ◌≤◌, ◌^◌, Bool, true, false, List, ◌∷◌, Option, if◌then◌else◌, refl, sym, ap, ◌∙◌, subst, arith}
 use Rattle.std.proofs.lemmas.Bool.Decides.{nat_tests}
 use Rattle.dspec_cpu.specs.Words.{Record, settle_at, SlotState, CanBeReleased, word_number, is_granted, ack, word_at, settle_fate, Stored, own_closed_slot, last_set_up, last_words, Shows}
-use Rattle.dspec_cpu.specs.Words.{parts_of_side, CpuRest, AreShown, AreItsWords, CanCloseBehind, RestHasList, batches_of_rest, CanSettle, shown_at}
-use Rattle.dspec_record.specs.declared.field.Shape.{Shape}
-use Rattle.dspec_ring.specs.declared.batch.Batch.{Batch}
-use Rattle.dspec_word.specs.declared.act.Act.{Act}
-use Rattle.dspec_word.specs.declared.act.Act.TheVariants.{Granted}
-use Rattle.dspec_deeds.specs.declared.config.Config.{Config}
-use Rattle.dspec_deeds.specs.declared.deed.Deed.{Deed}
-use Rattle.dspec_deeds.specs.declared.deed.Deed.TheVariants.{Settle}
-use Rattle.dspec_table.specs.declared.last.LastWords.{LastWords}
-use Rattle.dspec_cpu_state.specs.declared.cpu_state.CpuState.{CpuState}
+use Rattle.dspec_cpu.specs.Words.{parts_of_side, AreShown, AreItsWords, CanCloseBehind, RestHasList, batches_of_rest, CanSettle, shown_at, Shape, Batch, Act, Granted, Config, Deed, Settle}
+use Rattle.dspec_cpu.specs.Words.{LastWords, CpuState}
+use Rattle.dspec_cpu.specs.declared.rest.CpuRest.{CpuRest}
 use Rattle.dspec_cpu.proofs.Settlements.{can_settle}
 
 limit_of : (w : SlotState) → word_number w ≤ 2 ^ 60 → CanBeReleased w

@@ -1,19 +1,12 @@
 -- The steps of a call on the word of its identifier's slot.
 use Rattle.std.proofs.Common.{◌≡◌, ◌≢◌, ℕ, ◌+◌, ◌-◌, ◌==◌, ◌<◌, ◌≤◌, ◌&&◌, Bool, true, false, [], if◌then◌else◌, refl, sym, ap, ◌∙◌, subst, inl, arith}
-use Rattle.std.specs.Prelude.{nat_le}
 use Rattle.std.proofs.lemmas.Bool.Decides.{nat_tests}
+use Rattle.std.specs.Prelude.{nat_le}
 use Rattle.dspec_cpu.specs.Words.{Speculation, SlotState, word_number, code_number, speculate_act, commit_act, discard_act, of_cpu, number_of, IsOn, IsInFlight, MayLoad, MayTry, Attempts}
-use Rattle.dspec_cpu.specs.Words.{slot_place, Entered, LoadedWord, TriedWord, rests, steps, act_of, turns, is_attempt, releases_next, OwnsCommit, Shown, at_slot, at_word, at_exchange}
-use Rattle.dspec_word.specs.declared.code.Code.{Code}
-use Rattle.dspec_word.specs.declared.code.Code.TheVariants.{Active, ActiveOne, ActiveMany}
-use Rattle.dspec_word.specs.declared.act.Act.{Act}
-use Rattle.dspec_word.specs.declared.act.Act.TheVariants.{Void, Attempt}
-use Rattle.dspec_deeds.specs.declared.config.Config.{Config}
-use Rattle.dspec_deeds.specs.declared.calls.CpuOp.{CpuOp}
+use Rattle.dspec_cpu.specs.Words.{slot_place, Entered, LoadedWord, TriedWord, rests, steps, act_of, turns, is_attempt, releases_next, OwnsCommit, Shown, at_slot, at_word, at_exchange, Code, Active}
+use Rattle.dspec_cpu.specs.Words.{ActiveOne, ActiveMany, Act, Void, Attempt, Config, CpuOp, View, Doing}
 use Rattle.dspec_deeds.specs.declared.calls.CpuOp.TheVariants as op
 use Rattle.dspec_deeds.proofs.TestLemmas.{same_number}
-use Rattle.dspec_table.specs.declared.rule.View.{View}
-use Rattle.dspec_table.specs.declared.doing.Doing.{Doing}
 use Rattle.dspec_table.proofs.Flights.{quiet_word, loads_next, tries_next}
 use Rattle.dspec_cpu.proofs.Touching.{none_touched, touched_more}
 

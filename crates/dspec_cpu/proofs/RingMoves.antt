@@ -1,10 +1,6 @@
 -- How many moves of its rings a CPU makes.
-use Rattle.std.proofs.lemmas.Bool.Decides.{nat_tests}
-use Rattle.std.proofs.Common.{◌≡◌, ℕ, ◌+◌, ◌≤◌, Bool, Option, Some, None, refl, ap, arith}
-use Rattle.dspec_cpu.specs.Words.{Stored, CpuKnows, Buffers, FindsSpare, HandsOn, Heeds, no_spare, held_up, switched, Switches, most_moves}
-use Rattle.dspec_ring.specs.declared.batch.Batch.{Batch}
-use Rattle.dspec_deeds.specs.declared.config.Config.{Config}
-use Rattle.dspec_table.specs.declared.rule.View.{View}
+use Rattle.std.proofs.{Common.◌≡◌, Common.ℕ, Common.◌+◌, Common.◌≤◌, Common.Bool, Common.Option, Common.Some, Common.None, Common.refl, Common.ap, Common.arith, lemmas.Bool.Decides.nat_tests}
+use Rattle.dspec_cpu.specs.Words.{Stored, CpuKnows, Buffers, FindsSpare, HandsOn, Heeds, no_spare, held_up, switched, Switches, most_moves, Batch, Config, View}
 
 -- one push for a batch held back
 handing : Option Batch → ℕ

@@ -1,15 +1,10 @@
 -- Whether a CPU's principal buffer would take its block of a speculation, and a commit that was made where it would.
 use Rattle.std.proofs.Common.{◌≡◌, ℕ, Bool, true, false, ◌&&◌, ◌||◌, List, [], ◌∷◌, Option, sym, ap, ◌∙◌, arith}
 use Rattle.std.proofs.lemmas.Bool.Decides.{nat_tests}
-use Rattle.dspec_cpu.specs.Words.{Record, block, Speculation, fits_principal, contents, held, CpuRow, IsOwn, commit, Cpu, cpu_block_fits, HasList, DecidesOne, is_lost_block, made_all_calls}
-use Rattle.dspec_cpu.specs.Words.{identity}
-use Rattle.dspec_record.specs.declared.field.Shape.{Shape}
-use Rattle.dspec_deeds.specs.declared.config.Config.{Config}
-use Rattle.dspec_deeds.specs.declared.calls.Decided.{Decided}
-use Rattle.dspec_deeds.specs.declared.deed.Deed.{Deed}
-use Rattle.dspec_deeds.specs.declared.deed.Deed.TheVariants.{Release}
-use Rattle.dspec_deeds.proofs.ReportBounds.{AreFitted, IsFitted, active_within}
-use Rattle.dspec_deeds.proofs.TestLemmas.{or_tells}
+use Rattle.dspec_cpu.specs.Words.{Record, block, Speculation, fits_principal, contents, held, CpuRow, IsOwn, commit, cpu_block_fits, HasList, DecidesOne, is_lost_block, made_all_calls, identity}
+use Rattle.dspec_cpu.specs.Words.{Shape, Config, Decided, Deed, Release}
+use Rattle.dspec_cpu.specs.declared.parts.CpuParts.{CpuParts as Cpu}
+use Rattle.dspec_deeds.proofs.{ReportBounds.AreFitted, ReportBounds.IsFitted, ReportBounds.active_within, TestLemmas.or_tells}
 
 module _ (shape : ℕ → Option Shape) (k : Config) where
   fitted_row : (d : Deed) (p : List Deed) → CpuRow shape k p d → IsFitted shape k p d

@@ -1,25 +1,16 @@
 -- The steps of a call of speculation.
-use Rattle.std.proofs.lemmas.Bool.Decides.{nat_tests}
-use Rattle.std.proofs.Common.{◌≡◌, ℕ, ◌+◌, ◌*◌, ◌<◌, ◌≤◌, ◌==◌, Bool, true, false, ◌||◌, List, [], ◌∷◌, ◌++◌, length, if◌then◌else◌, Option, Some, None, refl, sym, ap, ◌∙◌, subst, ⊎_elim, inl, arith}
-use Rattle.std.proofs.lemmas.List.{append-nil}
+use Rattle.std.proofs.Common.{◌≡◌, ℕ, ◌+◌, ◌*◌, ◌<◌, ◌≤◌, ◌==◌, Bool, true, false, ◌||◌, List, [], ◌∷◌, ◌++◌, length, if◌then◌else◌, Option, Some, None, refl, sym, ap, ◌∙◌, subst, ⊎_elim, inl}
+use Rattle.std.proofs.Common.{arith}
+use Rattle.std.proofs.lemmas.{Bool.Decides.nat_tests, List.append-nil}
 use Rattle.dspec_cpu.specs.Words.{Speculation, scan, of_cpu, number_of, calling, flight_after, activity_place, Entered, LoadedActivity, Goes, rests, steps, Stands, StopsWhereMet, any_busy}
-use Rattle.dspec_cpu.specs.Words.{LookedAtSlot, Scanned, misses, opening_deeds, IsOpening, is_worn_opening, Touches, of_slots, at_activity}
-use Rattle.dspec_deeds.specs.declared.config.Config.{Config}
-use Rattle.dspec_deeds.specs.declared.calls.CpuOp.{CpuOp}
+use Rattle.dspec_cpu.specs.Words.{LookedAtSlot, Scanned, misses, opening_deeds, IsOpening, is_worn_opening, Touches, of_slots, at_activity, Config, CpuOp, Opening, Deed, Scan, Miss, View}
 use Rattle.dspec_deeds.specs.declared.calls.CpuOp.TheVariants as op
-use Rattle.dspec_deeds.specs.declared.calls.Opening.{Opening}
 use Rattle.dspec_deeds.specs.declared.calls.Opening.TheVariants as opening
-use Rattle.dspec_deeds.specs.declared.deed.Deed.{Deed}
-use Rattle.dspec_deeds.specs.declared.deed.Deed.TheVariants.{Scan, Miss}
 use Rattle.dspec_deeds.proofs.TestLemmas.{either_way, number_is_itself, other_number, same_number}
-use Rattle.dspec_table.specs.declared.rule.View.{View}
 use Rattle.dspec_table.proofs.Flights.{activity_enters, flight_by_last}
 use Rattle.dspec_cpu.specs.declared.scanning.Look.TheVariants as look
-use Rattle.dspec_cpu.proofs.Ready.{stands_behind, stands_called}
-use Rattle.dspec_cpu.proofs.ReachDeeds.{goes_on}
-use Rattle.dspec_cpu.proofs.Stopping.{shown_stop, shown_running, heeded}
-use Rattle.dspec_cpu.proofs.Slots.{asked, stands_more}
-use Rattle.dspec_cpu.proofs.Touching.{slot_touched, touched_one}
+use Rattle.dspec_cpu.proofs.{ReachDeeds.goes_on, Ready.stands_behind, Ready.stands_called, Slots.asked, Slots.stands_more, Stopping.shown_stop, Stopping.shown_running, Stopping.heeded}
+use Rattle.dspec_cpu.proofs.{Touching.slot_touched, Touching.touched_one}
 
 -- a scan came past so many slots, of which one was decided or none
 pub record Came (k : Config) (c : ℕ) (v : View) (n : ℕ) (busy : Bool) (w : View) : Type 0 where

@@ -1,17 +1,11 @@
 -- How many batches a CPU's own list seals, and the list behind one Seal more.
-use Rattle.std.proofs.lemmas.Bool.Decides.{nat_tests}
 use Rattle.std.proofs.Common.{◌≡◌, ℕ, ◌+◌, ◌<◌, ◌≤◌, ◌^◌, Bool, false, List, [], ◌∷◌, ◌++◌, length, reverse, if◌then◌else◌, Option, None, refl, sym, ap, ◌∙◌, subst, arith, add-zero}
-use Rattle.dspec_cpu.specs.Words.{Record, Stored, CpuKnows, scan, active, seals, IsOwn, is_fill, known, Cpu, counts_of, HasList, IsReady, batches_of, HasSized, AreSealed, waiting, batch_of}
-use Rattle.dspec_cpu.specs.Words.{buffers_of}
-use Rattle.dspec_record.specs.declared.field.Shape.{Shape}
-use Rattle.dspec_ring.specs.declared.batch.Batch.{Batch}
-use Rattle.dspec_deeds.specs.declared.config.Config.{Config}
-use Rattle.dspec_deeds.specs.declared.deed.Deed.{Deed}
-use Rattle.dspec_deeds.specs.declared.deed.Deed.TheVariants.{Seal}
-use Rattle.dspec_deeds.proofs.OwnReads.{apart_bare}
-use Rattle.dspec_deeds.proofs.TestLemmas.{number_is_itself, same_number}
+use Rattle.std.proofs.lemmas.Bool.Decides.{nat_tests}
+use Rattle.dspec_cpu.specs.Words.{Record, Stored, CpuKnows, scan, active, seals, IsOwn, is_fill, known, counts_of, HasList, IsReady, batches_of, HasSized, AreSealed, waiting, batch_of, buffers_of}
+use Rattle.dspec_cpu.specs.Words.{Shape, Batch, Config, Deed, Seal, CpuSeat}
+use Rattle.dspec_cpu.specs.declared.parts.CpuParts.{CpuParts as Cpu}
+use Rattle.dspec_deeds.proofs.{OwnReads.apart_bare, TestLemmas.number_is_itself, TestLemmas.same_number}
 use Rattle.dspec_table.specs.declared.seats.Words.{Words}
-use Rattle.dspec_table.specs.declared.seats.CpuSeat.{CpuSeat}
 use Rattle.dspec_cpu_state.proofs.Tallies.{same_counts}
 use Rattle.dspec_cpu.proofs.Limits.{limits}
 

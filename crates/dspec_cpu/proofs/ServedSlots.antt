@@ -1,9 +1,7 @@
 -- The slots of a service, one behind the other.
-use Rattle.std.proofs.lemmas.Bool.Decides.{nat_tests}
 use Rattle.std.proofs.Common.{◌≡◌, ℕ, zero, suc, ◌+◌, ◌≤◌, Bool, true, false, List, [], ◌++◌, length, if◌then◌else◌, refl, sym, ap, subst, arith, append_assoc, length-append}
-use Rattle.dspec_deeds.specs.declared.deed.Deed.{Deed}
-use Rattle.dspec_cpu.specs.Words.{SlotState, rests, Settled, SettledBehind, SettledSlot, SettledSlots, SlotDone}
-use Rattle.dspec_table.specs.declared.rule.View.{View}
+use Rattle.std.proofs.lemmas.Bool.Decides.{nat_tests}
+use Rattle.dspec_cpu.specs.Words.{Deed, SlotState, rests, Settled, SettledBehind, SettledSlot, SettledSlots, SlotDone, View}
 use Rattle.dspec_cpu.proofs.ReachDeeds.{goes_on}
 
 -- one Settle where the slot was settled, and none where it was passed

@@ -1,25 +1,14 @@
 -- One slot of a service: its word is loaded, and what is due is settled.
-use Rattle.std.proofs.lemmas.Bool.Decides.{nat_tests}
 use Rattle.std.proofs.Common.{◌≡◌, ℕ, ◌+◌, ◌-◌, ◌^◌, ◌≤◌, ◌<◌, Bool, true, false, List, [], ◌&&◌, nat_le, get_or, Option, if◌then◌else◌, refl, sym, ap, ◌∙◌, subst, inl, inr, arith, true≢false}
-use Rattle.std.proofs.lemmas.List.{append-nil}
-use Rattle.std.proofs.lemmas.Option.{get_or_from_slice_get}
-use Rattle.dspec_cpu.specs.Words.{Record, SlotState, CanBeReleased, awaits, is_decided, settle_at, is_granted, ack, known, IsAt, cpu_of, LoadedWord, Cpu, Goes, rests, steps, HasList, IsReady}
-use Rattle.dspec_cpu.specs.Words.{Stands, DueSettled, IsDueAt, SlotDone, serving, Entered, slot_place, number_of, shown, idle_progress}
-use Rattle.dspec_record.specs.declared.field.Shape.{Shape}
-use Rattle.dspec_word.specs.declared.code.Code.{Code}
-use Rattle.dspec_word.specs.declared.code.Code.TheVariants.{CommittingMany, Discarding}
-use Rattle.dspec_word.specs.declared.act.Act.{Act}
-use Rattle.dspec_word.specs.declared.act.Act.TheVariants.{Granted, Idle}
-use Rattle.dspec_deeds.specs.declared.deed.Deed.{Deed}
+use Rattle.std.proofs.lemmas.{Bool.Decides.nat_tests, List.append-nil, Option.get_or_from_slice_get}
+use Rattle.dspec_cpu.specs.Words.{Record, SlotState, CanBeReleased, awaits, is_decided, settle_at, is_granted, ack, known, IsAt, cpu_of, LoadedWord, Goes, rests, steps, HasList, IsReady, Stands}
+use Rattle.dspec_cpu.specs.Words.{DueSettled, IsDueAt, SlotDone, serving, Entered, slot_place, number_of, shown, idle_progress, Shape, Code, CommittingMany, Discarding, Act, Granted, Idle, Deed}
+use Rattle.dspec_cpu.specs.Words.{Doing, View, CpuSeat}
+use Rattle.dspec_cpu.specs.declared.parts.CpuParts.{CpuParts as Cpu}
 use Rattle.dspec_deeds.proofs.OwnReads.{apart_bare}
-use Rattle.dspec_table.specs.declared.doing.Doing.{Doing}
-use Rattle.dspec_table.specs.declared.rule.View.{View}
-use Rattle.dspec_table.specs.declared.seats.CpuSeat.{CpuSeat}
 use Rattle.dspec_table.specs.declared.seats.Words.{Words}
 use Rattle.dspec_table.proofs.InFlight.{looks}
-use Rattle.dspec_cpu.proofs.ReachDeeds.{goes_on}
-use Rattle.dspec_cpu.proofs.Settlements.{grant_tells}
-use Rattle.dspec_cpu.proofs.Ready.{holder, ready_after, set_up_is, stands_behind}
+use Rattle.dspec_cpu.proofs.{ReachDeeds.goes_on, Ready.holder, Ready.ready_after, Ready.set_up_is, Ready.stands_behind, Settlements.grant_tells}
 
 -- a speculation that isn't decided waits for no CPU
 pub not_awaiting : (c : Code) → is_decided c ≡ false → awaits c ≡ false

@@ -1,30 +1,15 @@
 -- A list that goes on by a settlement, of which a CPU's own list is its part.
-use Rattle.std.proofs.lemmas.Bool.Decides.{nat_tests}
 use Rattle.std.proofs.Common.{◌≡◌, ℕ, ◌+◌, ◌==◌, ◌≤◌, ◌<◌, ◌^◌, Bool, true, false, not, ◌&&◌, List, ◌∷◌, length, Option, if◌then◌else◌, refl, sym, ap, ◌∙◌, subst, arith, true≢false}
+use Rattle.std.proofs.lemmas.Bool.Decides.{nat_tests}
 use Rattle.std.specs.Prelude.{nat_le}
 use Rattle.dspec_cpu.specs.Words.{Record, Stored, Speculation, SlotState, settled_fate, fits_principal, contents, awaits, settle_at, is_granted, is_lost, ack, issue, part, present, settled, solo}
 use Rattle.dspec_cpu.specs.Words.{verdict, word_at, SettlesAs, calls, held, CountsWithin, report, bare, parts_of_side, HasRoom, counts_of, with_decided, AreShown, CanSettle, IsPartOf, shown_at}
+use Rattle.dspec_cpu.specs.Words.{Shape, Batch, Code, CommittingMany, Discarding, Config, CpuActor, DecideFate, Deed, Settle, Counts, CpuState}
 use Rattle.dspec_buffer.specs.Extent as extent
-use Rattle.dspec_record.specs.declared.field.Shape.{Shape}
-use Rattle.dspec_ring.specs.declared.batch.Batch.{Batch}
-use Rattle.dspec_word.specs.declared.code.Code.{Code}
-use Rattle.dspec_word.specs.declared.code.Code.TheVariants.{CommittingMany, Discarding}
-use Rattle.dspec_deeds.specs.declared.config.Config.{Config}
-use Rattle.dspec_deeds.specs.declared.calls.Actor.TheVariants.{Cpu as CpuActor}
-use Rattle.dspec_deeds.specs.declared.deed.DecideFate.{DecideFate}
-use Rattle.dspec_deeds.specs.declared.deed.Deed.{Deed}
-use Rattle.dspec_deeds.specs.declared.deed.Deed.TheVariants.{Settle}
 use Rattle.dspec_deeds.specs.Settling as settling
-use Rattle.dspec_deeds.proofs.Acked.{ack_tells}
-use Rattle.dspec_deeds.proofs.Awaiting.{awaiting, goes_with}
-use Rattle.dspec_deeds.proofs.OwnAccounts.{own_report}
-use Rattle.dspec_deeds.proofs.OwnReads.{apart_bare}
-use Rattle.dspec_deeds.proofs.TestLemmas.{cpu_is_itself, number_is_itself}
+use Rattle.dspec_deeds.proofs.{Acked.ack_tells, Awaiting.awaiting, Awaiting.goes_with, OwnAccounts.own_report, OwnReads.apart_bare, TestLemmas.cpu_is_itself, TestLemmas.number_is_itself}
 use Rattle.dspec_table.proofs.OwnReading.{ack_part}
-use Rattle.dspec_cpu_state.specs.declared.counts.Counts.{Counts}
-use Rattle.dspec_cpu_state.specs.declared.cpu_state.CpuState.{CpuState}
-use Rattle.dspec_cpu.proofs.Mine.{unmarked_empty}
-use Rattle.dspec_cpu.proofs.OwnBlocks.{lawful, goes_on}
+use Rattle.dspec_cpu.proofs.{Mine.unmarked_empty, OwnBlocks.lawful, OwnBlocks.goes_on}
 use Rattle.dspec_cpu_state.proofs.Tallies.{drops_since, settle_counts}
 
 -- what a grant tells of the word

@@ -1,15 +1,9 @@
 -- What shows a list of a CPU: its side, and the batches that it sealed.
 use Rattle.std.proofs.Common.{arith, ◌≡◌, ℕ, Bool, true, false, List, ◌∷◌, Option, refl, sym, true≢false}
 use Rattle.std.proofs.lemmas.Bool.Decides.{nat_tests}
-use Rattle.dspec_cpu.specs.Words.{Record, Piece, Stored, HasPieces, is_seal, CpuRow, is_of, growing, calls, missed_busy, ShowsList, parts_of_side, Cpu, counts_of, AreSealed, AreShown, IsShown}
-use Rattle.dspec_record.specs.declared.field.Shape.{Shape}
-use Rattle.dspec_ring.specs.declared.batch.Batch.{Batch}
-use Rattle.dspec_deeds.specs.declared.config.Config.{Config}
-use Rattle.dspec_deeds.specs.declared.deed.Deed.{Deed}
-use Rattle.dspec_deeds.specs.declared.deed.Deed.TheVariants.{Seal}
-use Rattle.dspec_table.specs.declared.seats.CpuSeat.{CpuSeat}
-use Rattle.dspec_cpu_state.specs.declared.counts.Counts.{Counts}
-use Rattle.dspec_cpu_state.specs.declared.cpu_state.CpuState.{CpuState}
+use Rattle.dspec_cpu.specs.Words.{Record, Piece, Stored, HasPieces, is_seal, CpuRow, is_of, growing, calls, missed_busy, ShowsList, parts_of_side, counts_of, AreSealed, AreShown, IsShown, Shape}
+use Rattle.dspec_cpu.specs.Words.{Batch, Config, Deed, Seal, CpuSeat, Counts, CpuState}
+use Rattle.dspec_cpu.specs.declared.parts.CpuParts.{CpuParts as Cpu}
 use Rattle.dspec_cpu_state.proofs.Quiet as side
 use Rattle.dspec_cpu_state.proofs.Quiet.{quiet}
 

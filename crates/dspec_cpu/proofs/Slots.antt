@@ -1,19 +1,13 @@
 -- The slots of a scan.
-use Rattle.std.proofs.lemmas.Bool.Decides.{nat_tests}
 use Rattle.std.proofs.Common.{◌≡◌, ◌≢◌, ℕ, ◌+◌, Bool, false, List, [], ◌∷◌, refl, sym, ap, ◌∙◌, subst, inl, arith}
-use Rattle.dspec_cpu.specs.Words.{SlotState, is_decided, open_at, of_cpu, number_of, slot_place, Entered, LoadedWord, OpenedWord, Look, rests, steps, Stands, LookedAtSlot, IsGivenAt, look_deed}
-use Rattle.dspec_cpu.specs.Words.{at_slot, at_word, at_exchange, nothing}
-use Rattle.dspec_word.specs.declared.act.Act.TheVariants.{Void, Attempt}
-use Rattle.dspec_deeds.specs.declared.config.Config.{Config}
+use Rattle.std.proofs.lemmas.Bool.Decides.{nat_tests}
+use Rattle.dspec_cpu.specs.Words.{SlotState, is_decided, open_at, of_cpu, number_of, slot_place, Entered, LoadedWord, OpenedWord, rests, steps, Stands, LookedAtSlot, IsGivenAt, look_deed, at_slot}
+use Rattle.dspec_cpu.specs.Words.{at_word, at_exchange, nothing, Void, Attempt, Config, Deed, Miss, View, Doing}
+use Rattle.dspec_cpu.specs.declared.scanning.Look.{Look}
 use Rattle.dspec_deeds.specs.declared.calls.CpuOp.TheVariants as op
-use Rattle.dspec_deeds.specs.declared.deed.Deed.{Deed}
-use Rattle.dspec_deeds.specs.declared.deed.Deed.TheVariants.{Miss}
-use Rattle.dspec_table.specs.declared.rule.View.{View}
-use Rattle.dspec_table.specs.declared.doing.Doing.{Doing}
 use Rattle.dspec_table.proofs.Flights.{flight_by_last, misses_slot, tries_slot}
 use Rattle.dspec_cpu.specs.declared.scanning.Look.TheVariants as look
-use Rattle.dspec_cpu.proofs.Ready.{stands_behind}
-use Rattle.dspec_cpu.proofs.Touching.{touched_more, touched_one}
+use Rattle.dspec_cpu.proofs.{Ready.stands_behind, Touching.touched_more, Touching.touched_one}
 
 abbrev pub asked : Doing
 asked = record { op = op.Speculation; fits = false; count = 0; mine = false }

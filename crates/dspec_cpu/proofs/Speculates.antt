@@ -1,21 +1,13 @@
 -- A call of speculate.
 use Rattle.std.proofs.Common.{◌≡◌, ◌⊎◌, ℕ, ◌+◌, ◌==◌, ◌<◌, Bool, true, false, List, [], ◌∷◌, Option, if◌then◌else◌, refl, sym, ap, ◌∙◌, subst, ⊎_elim}
-use Rattle.dspec_cpu.specs.Words.{Record, Stored, Speculation, SlotState, fits_speculative, mark, CpuRow, bare, IsCaller, ShowsList, parts_of_side, Reach, AreShown, IsPresentAt, is_reached}
-use Rattle.dspec_cpu.specs.Words.{reached_deeds}
-use Rattle.dspec_record.specs.declared.field.Shape.{Shape}
-use Rattle.dspec_ring.specs.declared.batch.Batch.{Batch}
-use Rattle.dspec_deeds.specs.declared.config.Config.{Config}
+use Rattle.dspec_cpu.specs.Words.{Record, Stored, Speculation, SlotState, fits_speculative, mark, CpuRow, bare, IsCaller, ShowsList, parts_of_side, AreShown, IsPresentAt, is_reached, reached_deeds}
+use Rattle.dspec_cpu.specs.Words.{Shape, Batch, Config, Deed, Speculate, Doing, CpuState}
+use Rattle.dspec_cpu.specs.declared.reaching.Reach.{Reach}
 use Rattle.dspec_deeds.specs.declared.calls.CpuOp.TheVariants as op
 use Rattle.dspec_deeds.specs.declared.deed.SpeculateFate.TheVariants as spoken
-use Rattle.dspec_deeds.specs.declared.deed.Deed.{Deed}
-use Rattle.dspec_deeds.specs.declared.deed.Deed.TheVariants.{Speculate}
-use Rattle.dspec_deeds.proofs.OwnReads.{apart_bare}
-use Rattle.dspec_deeds.proofs.TestLemmas.{number_is_itself}
-use Rattle.dspec_table.specs.declared.doing.Doing.{Doing}
-use Rattle.dspec_cpu_state.specs.declared.cpu_state.CpuState.{CpuState}
+use Rattle.dspec_deeds.proofs.{OwnReads.apart_bare, TestLemmas.number_is_itself}
 use Rattle.dspec_cpu.specs.declared.reaching.Reach.TheVariants as reach
-use Rattle.dspec_cpu.proofs.Mine.{unmarked_empty}
-use Rattle.dspec_cpu.proofs.Shown.{stores, size_of, shown_behind}
+use Rattle.dspec_cpu.proofs.{Mine.unmarked_empty, Shown.stores, Shown.size_of, Shown.shown_behind}
 
 abbrev pub asked : Speculation → Record → Bool → Bool → Doing
 asked id r fit mine = record { op = op.Speculate id r; fits = fit; count = 0; mine = mine }

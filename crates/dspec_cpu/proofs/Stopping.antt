@@ -1,10 +1,7 @@
 -- A call heeds a stop that its seat was shown.
 use Rattle.std.proofs.Common.{arith, ◌≡◌, Bool, true, false, ◌||◌, List, [], ◌∷◌, ◌++◌, refl, sym, true≢false}
 use Rattle.std.proofs.lemmas.Bool.Decides.{nat_tests}
-use Rattle.dspec_deeds.specs.declared.deed.Deed.{Deed}
-use Rattle.dspec_cpu.specs.Words.{halted, is_halt, Holder, Since, here, more, LoadedActivity, StopsWhereMet}
-use Rattle.dspec_table.specs.declared.doing.Doing.{Doing}
-use Rattle.dspec_table.specs.declared.rule.View.{View}
+use Rattle.dspec_cpu.specs.Words.{Deed, halted, is_halt, Holder, Since, here, more, LoadedActivity, StopsWhereMet, Doing, View}
 
 or_yes : (a b : Bool) → b ≡ true → (a || b) ≡ true
 or_yes true b e = refl

@@ -1,20 +1,13 @@
 -- A CPU behind a switch: its batches, its spare and its lists.
-use Rattle.std.proofs.lemmas.Bool.Decides.{nat_tests}
 use Rattle.std.proofs.Common.{◌≡◌, ℕ, ◌+◌, ◌≤◌, Bool, false, List, [], ◌∷◌, ◌++◌, length, reverse, Option, Some, None, refl, sym, ap, ◌∙◌, subst, arith, rules}
-use Rattle.std.proofs.lemmas.List.{length_push, reverse-append}
-use Rattle.dspec_cpu.specs.Words.{Record, Stored, CpuKnows, is_fill, LoadedAsk, of_cpu, known, IsAt, cpu_of, Cpu, HasList, IsReady, IsSameCpu, batches_of, spare_count, Stands, HasSized, waiting}
-use Rattle.dspec_cpu.specs.Words.{Buffers, FindsSpare, HandsOn, Heeds, not_asked, worn_out, no_spare, held_up, switched, IsSameBeside, Switches, looked, batch_of, buffers_of, emptied, with_buffers}
-use Rattle.dspec_cpu.specs.Words.{with_seal}
-use Rattle.dspec_record.specs.declared.field.Shape.{Shape}
-use Rattle.dspec_ring.specs.declared.batch.Batch.{Batch}
-use Rattle.dspec_deeds.specs.declared.config.Config.{Config}
-use Rattle.dspec_deeds.specs.declared.deed.Deed.{Deed}
-use Rattle.dspec_table.specs.declared.rule.View.{View}
+use Rattle.std.proofs.lemmas.{Bool.Decides.nat_tests, List.length_push, List.reverse-append}
+use Rattle.dspec_cpu.specs.Words.{Record, Stored, CpuKnows, is_fill, LoadedAsk, of_cpu, known, IsAt, cpu_of, HasList, IsReady, IsSameCpu, batches_of, spare_count, Stands, HasSized, waiting, Buffers}
+use Rattle.dspec_cpu.specs.Words.{FindsSpare, HandsOn, Heeds, not_asked, worn_out, no_spare, held_up, switched, IsSameBeside, Switches, looked, batch_of, buffers_of, emptied, with_buffers}
+use Rattle.dspec_cpu.specs.Words.{with_seal, Shape, Batch, Config, Deed, View, CpuSeat}
+use Rattle.dspec_cpu.specs.declared.parts.CpuParts.{CpuParts as Cpu}
 use Rattle.dspec_table.specs.declared.seats.Words.{Words}
-use Rattle.dspec_table.specs.declared.seats.CpuSeat.{CpuSeat}
 use Rattle.dspec_cpu_state.proofs.Places.{same_inside}
-use Rattle.dspec_cpu.proofs.Ready.{holder, ready_after, set_up_is}
-use Rattle.dspec_cpu.proofs.Seals.{kept_list, sealed_list}
+use Rattle.dspec_cpu.proofs.{Ready.holder, Ready.ready_after, Ready.set_up_is, Seals.kept_list, Seals.sealed_list}
 
 -- the batches that were sealed are the same, and the spares that came
 pub record IsPassed (e : CpuKnows) (w : Option Batch) (f : CpuKnows) (left : Option Batch) : Type 0 where

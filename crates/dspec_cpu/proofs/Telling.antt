@@ -1,20 +1,11 @@
 -- What a call tells by its answer comes in front of what its CPU's calls told before.
-use Rattle.std.proofs.lemmas.Bool.Decides.{nat_tests}
 use Rattle.std.proofs.Common.{◌≡◌, ◌+◌, ◌*◌, ℕ, zero, suc, Bool, true, false, List, [], ◌∷◌, ◌++◌, length, refl, sym, ap, ◌∙◌, ⊎_elim, append_assoc, arith}
-use Rattle.dspec_cpu.specs.Words.{Record, Speculation, SlotState, settled_fate, did, By, Did, is_stopped_opening, calling, known, Entered, EnteredIn, Cpu, called, WithService, Decides, Goes, rests}
+use Rattle.std.proofs.lemmas.Bool.Decides.{nat_tests}
+use Rattle.dspec_cpu.specs.Words.{Record, Speculation, SlotState, settled_fate, did, By, Did, is_stopped_opening, calling, known, Entered, EnteredIn, called, WithService, Decides, Goes, rests}
 use Rattle.dspec_cpu.specs.Words.{steps, spoken_deeds, traced_deeds, is_worn_decided, is_worn_spoken, is_worn_trace, CallLeaves, config_of, number_in, seat_of, worn_of, decision_deed, TracesOne}
 use Rattle.dspec_cpu.specs.Words.{SpeculatesOne, OpensOne, DecidesOne, Opens, is_worn_opening, Serves, SettledBehind, SettledSlots, shown_at, is_stopped_decided, is_stopped_spoken, is_stopped_trace}
-use Rattle.dspec_cpu.specs.Words.{Buffers, Switches, never, looked, last_looked, of_activity, of_slot, of_slots}
-use Rattle.dspec_deeds.specs.declared.calls.Decided.{Decided}
-use Rattle.dspec_deeds.specs.declared.calls.Opening.{Opening}
-use Rattle.dspec_deeds.specs.declared.calls.Served.{Served}
-use Rattle.dspec_deeds.specs.declared.calls.Spoken.{Spoken}
-use Rattle.dspec_deeds.specs.declared.calls.Traced.{Traced}
-use Rattle.dspec_deeds.specs.declared.config.Config.{Config}
-use Rattle.dspec_deeds.specs.declared.deed.DecideFate.{DecideFate}
-use Rattle.dspec_deeds.specs.declared.deed.Deed.{Deed}
-use Rattle.dspec_deeds.specs.declared.deed.Deed.TheVariants.{Settle}
-use Rattle.dspec_table.specs.declared.rule.View.{View}
+use Rattle.dspec_cpu.specs.Words.{Buffers, Switches, never, looked, last_looked, of_activity, of_slot, of_slots, Decided, Opening, Served, Spoken, Traced, Config, DecideFate, Deed, Settle, View}
+use Rattle.dspec_cpu.specs.declared.parts.CpuParts.{CpuParts as Cpu}
 use Rattle.dspec_cpu.proofs.Told.{trace_told, speculate_told, decision_told, opening_told, settles, settles_told}
 
 -- steps of a seat put their deeds in front of its list

@@ -2,17 +2,10 @@
 use Rattle.std.proofs.Common.{arith, ◌≡◌, ℕ, Bool, true, List, [], ◌∷◌, ◌++◌, map, refl, ap, ◌∙◌, append_assoc}
 use Rattle.std.proofs.lemmas.Bool.Decides.{nat_tests}
 use Rattle.dspec_cpu.specs.Words.{Record, Speculation, did, By, commit, trace_did, speculate_did, decision_did, decision_deed, settled_did, traced_deeds, spoken_deeds, decided_deeds, misses}
-use Rattle.dspec_cpu.specs.Words.{opening_deeds}
+use Rattle.dspec_cpu.specs.Words.{opening_deeds, Traced, Spoken, Decided, Deed, DecideFate, Opening, Scan, Settle}
 use Rattle.dspec_promise.specs.Promise as page
-use Rattle.dspec_deeds.specs.declared.calls.Traced.{Traced}
 use Rattle.dspec_deeds.specs.declared.calls.Traced.TheVariants as answer
-use Rattle.dspec_deeds.specs.declared.calls.Spoken.{Spoken}
 use Rattle.dspec_deeds.specs.declared.calls.Spoken.TheVariants as spoken
-use Rattle.dspec_deeds.specs.declared.calls.Decided.{Decided}
-use Rattle.dspec_deeds.specs.declared.deed.Deed.{Deed}
-use Rattle.dspec_deeds.specs.declared.deed.DecideFate.{DecideFate}
-use Rattle.dspec_deeds.specs.declared.calls.Opening.{Opening}
-use Rattle.dspec_deeds.specs.declared.deed.Deed.TheVariants.{Scan, Settle}
 use Rattle.dspec_deeds.proofs.TestLemmas.{number_is_itself}
 
 pub trace_told : (c : ℕ) (r : Record) (a : Traced) (p : List Deed) → did c (traced_deeds c r a ++ p) ≡ trace_did r a ++ did c p

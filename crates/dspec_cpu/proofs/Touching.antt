@@ -1,12 +1,8 @@
 -- The words that steps touch, one behind the other.
-use Rattle.std.proofs.lemmas.Bool.Decides.{nat_tests}
 use Rattle.std.proofs.Common.{◌≡◌, ℕ, zero, suc, ◌+◌, ◌≤◌, Bool, true, false, List, [], ◌∷◌, ◌++◌, get_or, refl, sym, ap, ◌∙◌, subst, inl, inr, arith, append_assoc}
-use Rattle.std.proofs.lemmas.List.Elements.{All-nil, All-cons, All-append}
+use Rattle.std.proofs.lemmas.{Bool.Decides.nat_tests, List.Elements.All-nil, List.Elements.All-cons, List.Elements.All-append}
 use Rattle.dspec_cpu.specs.Words.{SlotState, of_cpu, number_of, ack_place, slot_place, Serves, SettledBehind, SettledSlot, SettledSlots, Buffers, Switches, Touches, at_slot, of_service, of_slots}
-use Rattle.dspec_deeds.specs.declared.config.Config.{Config}
-use Rattle.dspec_deeds.specs.declared.deed.Deed.{Deed}
-use Rattle.dspec_deeds.specs.declared.calls.Served.{Served}
-use Rattle.dspec_table.specs.declared.rule.View.{View}
+use Rattle.dspec_cpu.specs.Words.{Config, Deed, Served, View}
 
 pub none_touched : (within : ℕ → Type 0) (v : View) → Touches within v v
 none_touched within v = record { places = []; touched = refl; all = All-nil within }

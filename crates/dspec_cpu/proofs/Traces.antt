@@ -1,16 +1,10 @@
 -- A call of trace.
 use Rattle.std.proofs.Common.{◌≡◌, ℕ, Bool, true, false, List, [], Option, ◌∷◌, if◌then◌else◌, refl, ap, ◌∙◌, subst}
-use Rattle.dspec_cpu.specs.Words.{Record, CpuRow, fits_principal, of_cpu, number_of, calling, activity_place, LoadedActivity, Entered, Goes, rests, steps, Stands, at_activity}
-use Rattle.dspec_deeds.specs.declared.config.Config.{Config}
+use Rattle.dspec_cpu.specs.Words.{Record, CpuRow, fits_principal, of_cpu, number_of, calling, activity_place, LoadedActivity, Entered, Goes, rests, steps, Stands, at_activity, Config, TraceFate}
+use Rattle.dspec_cpu.specs.Words.{Shape, Deed, Trace, View, Doing}
 use Rattle.dspec_deeds.specs.declared.calls.CpuOp.TheVariants as op
-use Rattle.dspec_deeds.specs.declared.deed.TraceFate.{TraceFate}
 use Rattle.dspec_deeds.specs.declared.deed.TraceFate.TheVariants as traced
 use Rattle.dspec_buffer.specs.Extent as extent
-use Rattle.dspec_record.specs.declared.field.Shape.{Shape}
-use Rattle.dspec_deeds.specs.declared.deed.Deed.{Deed}
-use Rattle.dspec_deeds.specs.declared.deed.Deed.TheVariants.{Trace}
-use Rattle.dspec_table.specs.declared.rule.View.{View}
-use Rattle.dspec_table.specs.declared.doing.Doing.{Doing}
 use Rattle.dspec_table.proofs.Flights.{activity_enters}
 use Rattle.dspec_cpu.proofs.Ready.{stands_behind, stands_called}
 

@@ -1,24 +1,10 @@
 -- Cited by calls. What a part of a call did, said of the CPU before it and of the CPU behind it.
 use Rattle.std.specs.Prelude.{ℕ, Bool, List, Option}
-use Rattle.dspec_cpu.specs.Words.Outside.{Record, block, Stored, Speculation, fits_principal, contents, held, known, IsCaller}
-use Rattle.dspec_record.specs.declared.field.Shape.{Shape}
-use Rattle.dspec_ring.specs.declared.batch.Batch.{Batch}
-use Rattle.dspec_word.specs.declared.code.Code.{Code}
-use Rattle.dspec_deeds.specs.declared.calls.Decided.{Decided}
-use Rattle.dspec_deeds.specs.declared.calls.Opening.{Opening}
-use Rattle.dspec_deeds.specs.declared.calls.Served.{Served}
-use Rattle.dspec_deeds.specs.declared.config.Config.{Config}
-use Rattle.dspec_deeds.specs.declared.deed.DecideFate.{DecideFate}
-use Rattle.dspec_deeds.specs.declared.deed.Deed.{Deed}
-use Rattle.dspec_table.specs.declared.doing.Doing.{Doing}
-use Rattle.dspec_cpu_state.specs.declared.cpu_state.CpuState.{CpuState}
-use Rattle.dspec_cpu.specs.declared.parts.CpuParts.{CpuParts as Cpu}
-use Rattle.dspec_cpu.specs.Calls.{Decides}
-use Rattle.dspec_cpu.specs.Lists.{config_of, number_in, seat_of}
-use Rattle.dspec_cpu.specs.Scans.{Opens}
-use Rattle.dspec_cpu.specs.Serving.{Serves}
-use Rattle.dspec_cpu.specs.Settled.{BlockSettled, CanSettle, Settled}
-use Rattle.dspec_cpu.specs.Switching.{buffers_of}
+use Rattle.dspec_cpu.specs.{Calls.Decides, Lists.config_of, Lists.number_in, Lists.seat_of, Scans.Opens, Serving.Serves, Settled.BlockSettled, Settled.CanSettle, Settled.Settled}
+use Rattle.dspec_cpu.specs.{Switching.buffers_of, Words.Outside.Record, Words.Outside.block, Words.Outside.Stored, Words.Outside.Speculation, Words.Outside.fits_principal, Words.Outside.contents}
+use Rattle.dspec_cpu.specs.{Words.Outside.held, Words.Outside.known, Words.Outside.IsCaller, Words.Outside.Shape, Words.Outside.Batch, Words.Outside.Code, Words.Outside.Decided}
+use Rattle.dspec_cpu.specs.{Words.Outside.Opening, Words.Outside.Served, Words.Outside.Config, Words.Outside.DecideFate, Words.Outside.Deed, Words.Outside.Doing, Words.Outside.CpuState}
+use Rattle.dspec_cpu.specs.{declared.parts.CpuParts.CpuParts as Cpu}
 
 -- by which lists each CPU has
 module _ {S : Type 0} (has : Cpu S → List Deed → Type 0) where

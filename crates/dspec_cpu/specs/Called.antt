@@ -1,22 +1,15 @@
 -- Believed. What a CPU's calls did, in the words of the page, and what one call more adds to it by its answer.
 use Rattle.std.specs.Prelude.{ℕ, ◌≡◌, List, [], ◌∷◌, ◌++◌, length, map, if◌then◌else◌}
-use Rattle.dspec_cpu.specs.Words.Outside.{Record, Speculation, did, By, service, Did, traced, speculated, emptied, known, one_more_worn}
-use Rattle.dspec_deeds.specs.declared.calls.Decided.{Decided}
+use Rattle.dspec_cpu.specs.{Calls.is_worn_decided, Calls.is_worn_spoken, Calls.is_worn_trace, Lists.number_in, Lists.seat_of, Lists.worn_of, Scans.is_worn_opening, Words.Outside.Record}
+use Rattle.dspec_cpu.specs.{Words.Outside.Speculation, Words.Outside.did, Words.Outside.By, Words.Outside.service, Words.Outside.Did, Words.Outside.traced, Words.Outside.speculated}
+use Rattle.dspec_cpu.specs.{Words.Outside.emptied, Words.Outside.known, Words.Outside.one_more_worn, Words.Outside.Decided, Words.Outside.Opening, Words.Outside.Served, Words.Outside.Spoken}
+use Rattle.dspec_cpu.specs.{Words.Outside.Traced, Words.Outside.DecideFate, declared.parts.CpuParts.CpuParts as Cpu}
 use Rattle.dspec_deeds.specs.declared.calls.Decided.TheVariants as decided
-use Rattle.dspec_deeds.specs.declared.calls.Opening.{Opening}
-use Rattle.dspec_deeds.specs.declared.calls.Served.{Served}
-use Rattle.dspec_deeds.specs.declared.calls.Spoken.{Spoken}
 use Rattle.dspec_deeds.specs.declared.calls.Spoken.TheVariants as spoken
-use Rattle.dspec_deeds.specs.declared.calls.Traced.{Traced}
 use Rattle.dspec_deeds.specs.declared.calls.Traced.TheVariants as answer
-use Rattle.dspec_deeds.specs.declared.deed.DecideFate.{DecideFate}
 use Rattle.dspec_deeds.specs.declared.deed.DecideFate.TheVariants as decide_fate
 use Rattle.dspec_deeds.specs.declared.deed.SpeculateFate.TheVariants as speculate_fate
 use Rattle.dspec_deeds.specs.declared.deed.TraceFate.TheVariants as trace_fate
-use Rattle.dspec_cpu.specs.declared.parts.CpuParts.{CpuParts as Cpu}
-use Rattle.dspec_cpu.specs.Calls.{is_worn_decided, is_worn_spoken, is_worn_trace}
-use Rattle.dspec_cpu.specs.Lists.{number_in, seat_of, worn_of}
-use Rattle.dspec_cpu.specs.Scans.{is_worn_opening}
 
 -- what a CPU's calls did, the latest first, and how many more were answered Worn, and did nothing
 pub record CallsMade : Type 0 where

@@ -1,19 +1,12 @@
 -- Cited by calls. What the calls of a CPU did at the words, and the deeds of each by its answer.
 use Rattle.std.specs.Prelude.{ℕ, ◌≡◌, Bool, true, false, List, [], ◌∷◌, ◌++◌, if◌then◌else◌, None}
-use Rattle.dspec_cpu.specs.Words.Outside.{Record, Speculation, solo, Found, EnteredIn}
-use Rattle.dspec_deeds.specs.declared.calls.Traced.{Traced}
+use Rattle.dspec_cpu.specs.Words.Outside.{Record, Speculation, solo, Found, EnteredIn, Traced, Spoken, Decided, DecideFate, Deed, Trace, Speculate, Release, View}
 use Rattle.dspec_deeds.specs.declared.calls.Traced.TheVariants as traced
-use Rattle.dspec_deeds.specs.declared.calls.Spoken.{Spoken}
 use Rattle.dspec_deeds.specs.declared.calls.Spoken.TheVariants as spoken
-use Rattle.dspec_deeds.specs.declared.calls.Decided.{Decided}
 use Rattle.dspec_deeds.specs.declared.calls.Decided.TheVariants as decided
-use Rattle.dspec_deeds.specs.declared.deed.DecideFate.{DecideFate}
 use Rattle.dspec_deeds.specs.declared.deed.DecideFate.TheVariants as decide_fate
 use Rattle.dspec_deeds.specs.declared.deed.SpeculateFate.TheVariants as speculate_fate
 use Rattle.dspec_deeds.specs.declared.deed.TraceFate.TheVariants as trace_fate
-use Rattle.dspec_deeds.specs.declared.deed.Deed.{Deed}
-use Rattle.dspec_deeds.specs.declared.deed.Deed.TheVariants.{Trace, Speculate, Release}
-use Rattle.dspec_table.specs.declared.rule.View.{View}
 
 -- steps of a seat, one behind the other, that entered these deeds, the latest first: each found a legal list, of which the
 -- seat's list was its part, and left a legal one; the deeds of a call, but for settlements and releases, behind a load of activity of that

@@ -1,14 +1,8 @@
 -- Cited by calls. What the close of a session does with what is left of a CPU, by which lists that has.
 use Rattle.std.specs.Prelude.{ℕ, ◌≡◌, Bool, List, ◌++◌, reverse, Option}
-use Rattle.dspec_cpu.specs.Words.Outside.{Record, word_at, report, own_closed, own_closed_slot, Shows}
-use Rattle.dspec_record.specs.declared.field.Shape.{Shape}
-use Rattle.dspec_ring.specs.declared.batch.Batch.{Batch}
-use Rattle.dspec_deeds.specs.declared.deed.Deed.{Deed}
-use Rattle.dspec_deeds.specs.declared.report.Report.{Report}
-use Rattle.dspec_cpu.specs.declared.rest.CpuRest.{CpuRest}
-use Rattle.dspec_cpu.specs.Rests.{CanCloseBehind, IsLegalPart, config_of_rest, number_of_rest, schema_of_rest, worn_of_rest}
-use Rattle.dspec_cpu.specs.Sealed.{AreSealed, IsSealed, waiting}
-use Rattle.dspec_cpu.specs.Settled.{IsPartOf}
+use Rattle.dspec_cpu.specs.{Rests.CanCloseBehind, Rests.IsLegalPart, Rests.config_of_rest, Rests.number_of_rest, Rests.schema_of_rest, Rests.worn_of_rest, Sealed.AreSealed, Sealed.IsSealed}
+use Rattle.dspec_cpu.specs.{Sealed.waiting, Settled.IsPartOf, Words.Outside.Record, Words.Outside.word_at, Words.Outside.report, Words.Outside.own_closed, Words.Outside.own_closed_slot}
+use Rattle.dspec_cpu.specs.{Words.Outside.Shows, Words.Outside.Shape, Words.Outside.Batch, Words.Outside.Deed, Words.Outside.Report, declared.rest.CpuRest.CpuRest}
 
 -- by which lists it has, where its end had handed on these batches, and the shapes of each schema's records
 module _ {S : Type 0} (has : CpuRest S → List Batch → List Deed → Type 0) (shape_of : S → ℕ → Option Shape) where

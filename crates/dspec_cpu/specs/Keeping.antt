@@ -1,11 +1,7 @@
 -- Cited by calls. What stays of a CPU: what each of its calls keeps, all of it but its count of worn calls, or all of it but its seat.
 use Rattle.std.specs.Prelude.{ℕ, ◌≡◌, ◌≤◌, ◌+◌, ◌↔◌, Bool, true, if◌then◌else◌}
-use Rattle.dspec_cpu.specs.Words.Outside.{known, one_more_worn}
-use Rattle.dspec_cpu.specs.declared.parts.CpuParts.{CpuParts as Cpu}
-use Rattle.dspec_cpu.specs.Lists.{calls_of, config_of, seat_of, worn_of}
-use Rattle.dspec_cpu.specs.Settled.{KeepsBatches}
-use Rattle.dspec_cpu.specs.Stops.{StopsWhereMet}
-use Rattle.dspec_cpu.specs.Touching.{Touches}
+use Rattle.dspec_cpu.specs.{Lists.calls_of, Lists.config_of, Lists.seat_of, Lists.worn_of, Settled.KeepsBatches, Stops.StopsWhereMet, Touching.Touches, Words.Outside.known}
+use Rattle.dspec_cpu.specs.{Words.Outside.one_more_worn, declared.parts.CpuParts.CpuParts as Cpu}
 
 -- one call more was answered Worn, and nothing else came of it: no step was made, no ring moved, no buffer touched
 abbrev pub WearsAlone : {S : Type 0} → Cpu S → Cpu S → Type 0

@@ -1,18 +1,10 @@
 -- Believed. Which lists of its own deeds a CPU has, the latest first, and what holds of it between two of its calls.
 use Rattle.std.specs.Prelude.{ℕ, ◌≡◌, ◌≤◌, ◌+◌, Bool, List, ◌++◌, length, reverse, Option, Some, None}
-use Rattle.dspec_cpu.specs.Words.Outside.{Record, Stored, part, scan, IsSound, IsOwn, StateParts, ShowsOwnState, own_side, start_fault, bare, known, IsAt, set_up, cpu_of, CpuKnows, counts_of}
-use Rattle.dspec_cpu.specs.Words.Outside.{parts_of_side}
-use Rattle.dspec_record.specs.declared.field.Shape.{Shape}
-use Rattle.dspec_ring.specs.declared.batch.Batch.{Batch}
-use Rattle.dspec_deeds.specs.declared.config.Config.{Config}
-use Rattle.dspec_deeds.specs.declared.calls.Actor.TheVariants.{Cpu as CpuActor}
-use Rattle.dspec_deeds.specs.declared.deed.Deed.{Deed}
-use Rattle.dspec_table.specs.declared.seats.Words.{Words}
-use Rattle.dspec_table.specs.declared.seats.CpuSeat.{CpuSeat}
-use Rattle.dspec_cpu_state.specs.declared.counts.Counts.{Counts}
-use Rattle.dspec_cpu.specs.declared.parts.CpuParts.{CpuParts as Cpu}
-use Rattle.dspec_cpu.specs.declared.shared.Shared.{Shared}
 use Rattle.dspec_cpu.specs.Sealed.{HasSized, AreSealed, waiting}
+use Rattle.dspec_cpu.specs.Words.Outside.{Record, Stored, part, scan, IsSound, IsOwn, StateParts, ShowsOwnState, own_side, start_fault, bare, known, IsAt, set_up, cpu_of, CpuKnows, counts_of}
+use Rattle.dspec_cpu.specs.Words.Outside.{parts_of_side, Shape, Batch, Config, CpuActor, Deed, CpuSeat, Counts}
+use Rattle.dspec_cpu.specs.declared.{parts.CpuParts.CpuParts as Cpu, shared.Shared.Shared}
+use Rattle.dspec_table.specs.declared.seats.Words.{Words}
 
 -- the words that all threads of a session share
 abbrev pub words_of : Shared → Words

@@ -1,27 +1,14 @@
 -- Cited by calls. One call of a CPU: what it did, first in the words of the page, and what it kept.
 use Rattle.std.specs.Prelude.{ℕ, ◌≡◌, ◌≤◌, ◌+◌, ◌*◌, ◌&&◌, ◌||◌, ◌↔◌, nat_le, Bool, true, false, List, length, Option, IsSome, IfSome, IfNone, IsTrue}
-use Rattle.dspec_cpu.specs.Words.Outside.{Record, Speculation, By, commit, discard, service, is_stopped_opening, known}
-use Rattle.dspec_record.specs.declared.field.Shape.{Shape}
-use Rattle.dspec_deeds.specs.declared.calls.Decided.{Decided}
+use Rattle.dspec_cpu.specs.{Between.cpu_block_fits, Called.called, Called.with_trace, Called.with_speculate, Called.with_decision, Called.with_speculation, Called.WithService, Calls.Decides}
+use Rattle.dspec_cpu.specs.{Calls.Does, Calls.is_worn_decided, Calls.is_worn_spoken, Calls.is_worn_trace, Calls.spoken_deeds, Calls.traced_deeds, Keeping.CallLeaves, Lists.calls_of, Lists.config_of}
+use Rattle.dspec_cpu.specs.{Lists.end_of, Lists.held_back_of, Lists.number_in, Lists.schema_of, Lists.seat_of, Lists.worn_of, Scans.Opens, Scans.is_worn_opening, Serving.Serves}
+use Rattle.dspec_cpu.specs.{Stops.is_stopped_decided, Stops.is_stopped_spoken, Stops.is_stopped_trace, Switching.buffers_of, Switching.most_moves, Touching.Touches, Touching.last_looked}
+use Rattle.dspec_cpu.specs.{Touching.of_activity, Touching.of_service, Touching.of_slot, Touching.of_slots, Words.Outside.Record, Words.Outside.Speculation, Words.Outside.By, Words.Outside.commit}
+use Rattle.dspec_cpu.specs.{Words.Outside.discard, Words.Outside.service, Words.Outside.is_stopped_opening, Words.Outside.known, Words.Outside.Shape, Words.Outside.Decided, Words.Outside.Opening}
+use Rattle.dspec_cpu.specs.{Words.Outside.Served, Words.Outside.Spoken, Words.Outside.Traced, Words.Outside.DecideFate, Words.Outside.Deed, Words.Outside.Commit, Words.Outside.Discard}
+use Rattle.dspec_cpu.specs.{Words.Outside.Settle, declared.parts.CpuParts.CpuParts as Cpu}
 use Rattle.dspec_deeds.specs.declared.calls.Decided.TheVariants as decided
-use Rattle.dspec_deeds.specs.declared.calls.Opening.{Opening}
-use Rattle.dspec_deeds.specs.declared.calls.Served.{Served}
-use Rattle.dspec_deeds.specs.declared.calls.Spoken.{Spoken}
-use Rattle.dspec_deeds.specs.declared.calls.Traced.{Traced}
-use Rattle.dspec_deeds.specs.declared.deed.DecideFate.{DecideFate}
-use Rattle.dspec_deeds.specs.declared.deed.Deed.{Deed}
-use Rattle.dspec_deeds.specs.declared.deed.Deed.TheVariants.{Commit, Discard, Settle}
-use Rattle.dspec_cpu.specs.declared.parts.CpuParts.{CpuParts as Cpu}
-use Rattle.dspec_cpu.specs.Between.{cpu_block_fits}
-use Rattle.dspec_cpu.specs.Called.{called, with_trace, with_speculate, with_decision, with_speculation, WithService}
-use Rattle.dspec_cpu.specs.Calls.{Decides, Does, is_worn_decided, is_worn_spoken, is_worn_trace, spoken_deeds, traced_deeds}
-use Rattle.dspec_cpu.specs.Keeping.{CallLeaves}
-use Rattle.dspec_cpu.specs.Lists.{calls_of, config_of, end_of, held_back_of, number_in, schema_of, seat_of, worn_of}
-use Rattle.dspec_cpu.specs.Scans.{Opens, is_worn_opening}
-use Rattle.dspec_cpu.specs.Serving.{Serves}
-use Rattle.dspec_cpu.specs.Stops.{is_stopped_decided, is_stopped_spoken, is_stopped_trace}
-use Rattle.dspec_cpu.specs.Switching.{buffers_of, most_moves}
-use Rattle.dspec_cpu.specs.Touching.{Touches, last_looked, of_activity, of_service, of_slot, of_slots}
 
 -- the deed of a decision, by the call that made it
 abbrev pub decision_deed : By → ℕ → Speculation → DecideFate → Deed

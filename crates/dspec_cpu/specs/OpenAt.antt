@@ -1,7 +1,6 @@
 -- Cited by calls. Of which speculation of a slot a CPU has records.
 use Rattle.std.specs.Prelude.{ℕ, ◌≡◌, ◌≢◌, ◌+◌, List, [], Option, Some, None}
-use Rattle.dspec_cpu.specs.Words.Outside.{Speculation, mark, held}
-use Rattle.dspec_deeds.specs.declared.deed.Deed.{Deed}
+use Rattle.dspec_cpu.specs.Words.Outside.{Speculation, mark, held, Deed}
 
 -- By the CPU's own list: it is the one granted to it last, and the CPU holds records of it, since it neither decided nor settled it.
 -- Where none is told, the CPU holds no record of any of the slot.

@@ -1,16 +1,9 @@
 -- Serves proofs. What stands behind the steps of a call.
 use Rattle.std.specs.Prelude.{ℕ, ◌≡◌, ◌≤◌, ◌+◌, true, false, List, ◌++◌}
-use Rattle.dspec_cpu.specs.Words.Outside.{Speculation, SlotState, in_range, owed, part, IsSound, flight_after}
-use Rattle.dspec_deeds.specs.declared.config.Config.{Config}
-use Rattle.dspec_deeds.specs.declared.calls.Actor.TheVariants.{Cpu as CpuActor}
-use Rattle.dspec_deeds.specs.declared.deed.Deed.{Deed}
-use Rattle.dspec_table.specs.declared.rule.View.{View}
-use Rattle.dspec_table.specs.declared.doing.Doing.{Doing}
-use Rattle.dspec_cpu.specs.declared.reaching.Reach.{Reach}
-use Rattle.dspec_cpu.specs.Calls.{Goes}
-use Rattle.dspec_cpu.specs.Stops.{StopsWhereMet, is_stopped_reach}
-use Rattle.dspec_cpu.specs.Touching.{Touches, of_slot}
-use Rattle.dspec_cpu.specs.Reaching.{IsPresentAt, act_of, act_reached, is_reached, reached_deeds, releases_next, turns}
+use Rattle.dspec_cpu.specs.{Calls.Goes, Reaching.IsPresentAt, Reaching.act_of, Reaching.act_reached, Reaching.is_reached, Reaching.reached_deeds, Reaching.releases_next, Reaching.turns}
+use Rattle.dspec_cpu.specs.{Stops.StopsWhereMet, Stops.is_stopped_reach, Touching.Touches, Touching.of_slot, Words.Outside.Speculation, Words.Outside.SlotState, Words.Outside.in_range}
+use Rattle.dspec_cpu.specs.{Words.Outside.owed, Words.Outside.part, Words.Outside.IsSound, Words.Outside.flight_after, Words.Outside.Config, Words.Outside.CpuActor, Words.Outside.Deed}
+use Rattle.dspec_cpu.specs.{Words.Outside.View, Words.Outside.Doing, declared.reaching.Reach.Reach}
 
 -- behind the steps of a call that entered these deeds: what the seat has seen is legal, its list is its part of that, and in
 -- flight is what the deeds leave

@@ -1,25 +1,14 @@
 -- Serves proofs. How far a call on an identifier comes: the steps on its slot's word, and the deeds by where it ended.
 use Rattle.std.specs.Prelude.{ℕ, ◌≡◌, ◌≤◌, ◌+◌, Bool, true, false, List, [], ◌∷◌, if◌then◌else◌}
+use Rattle.dspec_cpu.specs.Calls.{Goes}
+use Rattle.dspec_cpu.specs.Touching.{Touches, at_slot}
 use Rattle.dspec_cpu.specs.Words.Outside.{Speculation, SlotState, is_inactive, speculate_at, commit_at, discard_at, issue, part, word_at, IsSound, committed_fate, IsInFlight, IfCommitting}
-use Rattle.dspec_cpu.specs.Words.Outside.{OwnCommit, TriedWord}
-use Rattle.dspec_word.specs.declared.code.Code.{Code}
-use Rattle.dspec_word.specs.declared.code.Code.TheVariants.{Committing}
-use Rattle.dspec_word.specs.declared.act.Act.{Act}
-use Rattle.dspec_word.specs.declared.act.Act.TheVariants.{Void, Granted, Attempt, Idle}
-use Rattle.dspec_deeds.specs.declared.config.Config.{Config}
-use Rattle.dspec_deeds.specs.declared.calls.Actor.TheVariants.{Cpu as CpuActor}
-use Rattle.dspec_deeds.specs.declared.calls.CpuOp.{CpuOp}
+use Rattle.dspec_cpu.specs.Words.Outside.{OwnCommit, TriedWord, Code, Committing, Act, Void, Granted, Attempt, Idle, Config, CpuActor, CpuOp, Deed, Speculate, Commit, Discard, Release, View, Doing}
+use Rattle.dspec_cpu.specs.declared.reaching.Reach.{Reach}
 use Rattle.dspec_deeds.specs.declared.calls.CpuOp.TheVariants as op
 use Rattle.dspec_deeds.specs.declared.deed.SpeculateFate.TheVariants as spoken
 use Rattle.dspec_deeds.specs.declared.deed.DecideFate.TheVariants as decided
-use Rattle.dspec_deeds.specs.declared.deed.Deed.{Deed}
-use Rattle.dspec_deeds.specs.declared.deed.Deed.TheVariants.{Speculate, Commit, Discard, Release}
-use Rattle.dspec_table.specs.declared.rule.View.{View}
-use Rattle.dspec_table.specs.declared.doing.Doing.{Doing}
-use Rattle.dspec_cpu.specs.declared.reaching.Reach.{Reach}
 use Rattle.dspec_cpu.specs.declared.reaching.Reach.TheVariants as reach
-use Rattle.dspec_cpu.specs.Calls.{Goes}
-use Rattle.dspec_cpu.specs.Touching.{Touches, at_slot}
 
 -- what the call does at the word of its slot
 abbrev pub act_of : CpuOp → SlotState → Bool → Act

@@ -1,16 +1,8 @@
 -- Cited by calls. Which lists what is left of a CPU has, and how the close of a session settles them.
 use Rattle.std.specs.Prelude.{ℕ, ◌≡◌, ◌<◌, Bool, List, ◌++◌, reverse, Option}
-use Rattle.dspec_cpu.specs.Words.Outside.{Record, Stored, ack, part, word_at, IsLegal, StateParts, last_set_up, Shows, parts_of_side}
-use Rattle.dspec_record.specs.declared.field.Shape.{Shape}
-use Rattle.dspec_ring.specs.declared.batch.Batch.{Batch}
-use Rattle.dspec_deeds.specs.declared.config.Config.{Config}
-use Rattle.dspec_deeds.specs.declared.calls.Actor.TheVariants.{Cpu as CpuActor}
-use Rattle.dspec_deeds.specs.declared.deed.Deed.{Deed}
-use Rattle.dspec_table.specs.declared.last.LastWords.{LastWords}
-use Rattle.dspec_cpu.specs.declared.rest.CpuRest.{CpuRest}
-use Rattle.dspec_cpu.specs.Lists.{AreShown}
-use Rattle.dspec_cpu.specs.Sealed.{waiting}
-use Rattle.dspec_cpu.specs.Settled.{IsPartOf}
+use Rattle.dspec_cpu.specs.{Lists.AreShown, Sealed.waiting, Settled.IsPartOf, Words.Outside.Record, Words.Outside.Stored, Words.Outside.ack, Words.Outside.part, Words.Outside.word_at}
+use Rattle.dspec_cpu.specs.{Words.Outside.IsLegal, Words.Outside.StateParts, Words.Outside.last_set_up, Words.Outside.Shows, Words.Outside.parts_of_side, Words.Outside.Shape, Words.Outside.Batch}
+use Rattle.dspec_cpu.specs.{Words.Outside.Config, Words.Outside.CpuActor, Words.Outside.Deed, Words.Outside.LastWords, declared.rest.CpuRest.CpuRest}
 
 abbrev pub config_of_rest : {S : Type 0} → CpuRest S → Config
 config_of_rest rest = rest.config

@@ -1,18 +1,9 @@
 -- Cited by calls. A call of speculation: the slots that it missed, in order, and its deeds by its answer.
 use Rattle.std.specs.Prelude.{ℕ, ◌≡◌, ◌≤◌, ◌+◌, ◌*◌, Bool, true, false, ◌||◌, List, [], ◌∷◌, ◌++◌, length}
-use Rattle.dspec_deeds.specs.declared.config.Config.{Config}
-use Rattle.dspec_deeds.specs.declared.calls.Opening.{Opening}
+use Rattle.dspec_cpu.specs.{Calls.Goes, Reached.Stands, Stops.StopsWhereMet, Touching.Touches, Touching.at_slot, Touching.last_looked, Touching.of_slots, Words.Outside.Config, Words.Outside.Opening}
+use Rattle.dspec_cpu.specs.{Words.Outside.Deed, Words.Outside.Scan, Words.Outside.Opened, Words.Outside.Miss, Words.Outside.View, Words.Outside.is_stopped_opening, declared.scanning.Look.Look}
 use Rattle.dspec_deeds.specs.declared.calls.Opening.TheVariants as opening
-use Rattle.dspec_deeds.specs.declared.deed.Deed.{Deed}
-use Rattle.dspec_deeds.specs.declared.deed.Deed.TheVariants.{Scan, Opened, Miss}
-use Rattle.dspec_table.specs.declared.rule.View.{View}
-use Rattle.dspec_cpu.specs.declared.scanning.Look.{Look}
 use Rattle.dspec_cpu.specs.declared.scanning.Look.TheVariants as look
-use Rattle.dspec_cpu.specs.Calls.{Goes}
-use Rattle.dspec_cpu.specs.Reached.{Stands}
-use Rattle.dspec_cpu.specs.Stops.{StopsWhereMet}
-use Rattle.dspec_cpu.specs.Touching.{Touches, at_slot, last_looked, of_slots}
-use Rattle.dspec_cpu.specs.Words.Outside.{is_stopped_opening}
 
 -- the deed of one slot
 abbrev pub look_deed : ℕ → ℕ → Look → Deed

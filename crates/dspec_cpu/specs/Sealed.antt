@@ -1,11 +1,6 @@
 -- Believed. The batches that a CPU's own list seals.
 use Rattle.std.specs.Prelude.{ℕ, ◌≡◌, Bool, List, [], ◌∷◌, Option, Some, None}
-use Rattle.dspec_cpu.specs.Words.Outside.{Record, Piece, Stored, HasPieces, active, growing}
-use Rattle.dspec_record.specs.declared.field.Shape.{Shape}
-use Rattle.dspec_ring.specs.declared.batch.Batch.{Batch}
-use Rattle.dspec_deeds.specs.declared.config.Config.{Config}
-use Rattle.dspec_deeds.specs.declared.deed.Deed.{Deed}
-use Rattle.dspec_deeds.specs.declared.deed.Deed.TheVariants.{Seal}
+use Rattle.dspec_cpu.specs.Words.Outside.{Record, Piece, Stored, HasPieces, active, growing, Shape, Batch, Config, Deed, Seal}
 use Rattle.dspec_cpu_state.specs.CpuStates as CpuStates
 
 module _ (shape : ℕ → Option Shape) (accepted : Record → Bool) (text : Record → List ℕ) where

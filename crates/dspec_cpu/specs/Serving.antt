@@ -1,12 +1,7 @@
 -- Cited by calls. What a call of service did.
 use Rattle.std.specs.Prelude.{ℕ, ◌≡◌, List, ◌++◌, length}
-use Rattle.dspec_deeds.specs.declared.config.Config.{Config}
-use Rattle.dspec_deeds.specs.declared.calls.Served.{Served}
-use Rattle.dspec_deeds.specs.declared.deed.Deed.{Deed}
-use Rattle.dspec_table.specs.declared.rule.View.{View}
-use Rattle.dspec_cpu.specs.Calls.{Goes}
-use Rattle.dspec_cpu.specs.Settled.{SettledSlots}
-use Rattle.dspec_cpu.specs.Switching.{Buffers, Switches, with_seal}
+use Rattle.dspec_cpu.specs.{Calls.Goes, Settled.SettledSlots, Switching.Buffers, Switching.Switches, Switching.with_seal, Words.Outside.Config, Words.Outside.Served, Words.Outside.Deed}
+use Rattle.dspec_cpu.specs.{Words.Outside.View}
 
 -- settlements touch no ring, and neither the batch nor the spare in hand
 pub record LeavesBatches (x y : Buffers) : Type 0 where

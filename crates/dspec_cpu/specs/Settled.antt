@@ -1,23 +1,12 @@
 -- Cited by calls. What settlements do: which steps a CPU's seat makes, and what becomes of its own blocks.
 use Rattle.std.specs.Prelude.{ℕ, zero, suc, ◌≡◌, ◌<◌, ◌≤◌, ◌+◌, ◌*◌, ◌^◌, ◌==◌, Bool, true, false, List, [], ◌∷◌, ◌++◌, length, Option, if◌then◌else◌}
-use Rattle.dspec_cpu.specs.Words.Outside.{Record, Stored, awaits, Speculation, settle_at, SlotState, is_granted, is_lost, ack, owed, part, scan, word_at, IsSound, mark, held, bare, settled_fate}
-use Rattle.dspec_cpu.specs.Words.Outside.{LoadedWord, SettledWord, parts_of_side, HasRoom}
-use Rattle.dspec_record.specs.declared.field.Shape.{Shape}
-use Rattle.dspec_ring.specs.declared.batch.Batch.{Batch}
-use Rattle.dspec_word.specs.declared.act.Act.TheVariants.{Granted}
-use Rattle.dspec_word.specs.declared.code.Code.{Code}
-use Rattle.dspec_deeds.specs.declared.config.Config.{Config}
-use Rattle.dspec_deeds.specs.declared.calls.Actor.TheVariants.{Cpu as CpuActor}
-use Rattle.dspec_deeds.specs.declared.calls.CpuOp.TheVariants as op
-use Rattle.dspec_deeds.specs.declared.deed.Deed.{Deed}
-use Rattle.dspec_deeds.specs.declared.deed.Deed.TheVariants.{Settle}
-use Rattle.dspec_deeds.specs.Settling as settling
-use Rattle.dspec_table.specs.declared.doing.Doing.{Doing}
-use Rattle.dspec_table.specs.declared.rule.View.{View}
-use Rattle.dspec_cpu_state.specs.declared.cpu_state.CpuState.{CpuState}
-use Rattle.dspec_cpu.specs.declared.parts.CpuParts.{CpuParts as Cpu}
 use Rattle.dspec_cpu.specs.Calls.{Goes}
 use Rattle.dspec_cpu.specs.Lists.{AreShown}
+use Rattle.dspec_cpu.specs.Words.Outside.{Record, Stored, awaits, Speculation, settle_at, SlotState, is_granted, is_lost, ack, owed, part, scan, word_at, IsSound, mark, held, bare, settled_fate}
+use Rattle.dspec_cpu.specs.Words.Outside.{LoadedWord, SettledWord, parts_of_side, HasRoom, Shape, Batch, Granted, Code, Config, CpuActor, Deed, Settle, Doing, View, CpuState}
+use Rattle.dspec_cpu.specs.declared.parts.CpuParts.{CpuParts as Cpu}
+use Rattle.dspec_deeds.specs.declared.calls.CpuOp.TheVariants as op
+use Rattle.dspec_deeds.specs.Settling as settling
 
 -- the speculation of a slot whose word was shown
 abbrev pub shown_at : ℕ → SlotState → Speculation

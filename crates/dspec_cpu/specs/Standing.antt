@@ -1,12 +1,8 @@
 -- Believed. Which CPU of which words a CPU is.
 use Rattle.std.specs.Prelude.{ℕ, ◌≡◌}
 use Rattle.atomic_table.specs.Seated.{TableId}
-use Rattle.dspec_deeds.specs.declared.config.Config.{Config}
+use Rattle.dspec_cpu.specs.{Lists.words_of, Words.Outside.Config, Words.Outside.set_up, Words.Outside.Pair, declared.parts.CpuParts.CpuParts as Cpu, declared.shared.Shared.Shared}
 use Rattle.dspec_table.specs.declared.seats.Words.{Words}
-use Rattle.dspec_cpu.specs.Words.Outside.{set_up, Pair}
-use Rattle.dspec_cpu.specs.declared.parts.CpuParts.{CpuParts as Cpu}
-use Rattle.dspec_cpu.specs.declared.shared.Shared.{Shared}
-use Rattle.dspec_cpu.specs.Lists.{words_of}
 
 -- which CPU it is: no call changes it
 pub record CpuIdentity (S : Type 0) : Type 0 where

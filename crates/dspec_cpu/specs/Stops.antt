@@ -1,14 +1,9 @@
 -- Cited by calls. That a call heeds a stop.
 use Rattle.std.specs.Prelude.{◌≡◌, Bool, true, false}
-use Rattle.dspec_deeds.specs.declared.calls.Decided.{Decided}
+use Rattle.dspec_cpu.specs.{Words.Outside.Decided, Words.Outside.Spoken, Words.Outside.Traced, Words.Outside.halted, Words.Outside.View, declared.reaching.Reach.Reach}
 use Rattle.dspec_deeds.specs.declared.calls.Decided.TheVariants as decided
-use Rattle.dspec_deeds.specs.declared.calls.Spoken.{Spoken}
 use Rattle.dspec_deeds.specs.declared.calls.Spoken.TheVariants as spoken
-use Rattle.dspec_deeds.specs.declared.calls.Traced.{Traced}
 use Rattle.dspec_deeds.specs.declared.calls.Traced.TheVariants as traced
-use Rattle.dspec_cpu.specs.Words.Outside.{halted}
-use Rattle.dspec_table.specs.declared.rule.View.{View}
-use Rattle.dspec_cpu.specs.declared.reaching.Reach.{Reach}
 use Rattle.dspec_cpu.specs.declared.reaching.Reach.TheVariants as reach
 
 -- Where the seat had been shown the stop, by a meeting or by a call before, a call that isn't worn is answered so; and it is

@@ -1,13 +1,7 @@
 -- Cited by calls. How a CPU's active buffer is switched for a spare one.
 use Rattle.std.specs.Prelude.{ℕ, ◌≡◌, ◌≢◌, ◌<◌, ◌≤◌, ◌+◌, ◌⊎◌, Bool, true, false, List, [], ◌∷◌, ◌++◌, length, Option, Some, None, if◌then◌else◌}
 use mathlib.Core.List.{IsPrefix}
-use Rattle.dspec_cpu.specs.Words.Outside.{Stored, CpuKnows, cpu_moved, is_fill, LoadedAsk}
-use Rattle.dspec_ring.specs.declared.batch.Batch.{Batch}
-use Rattle.dspec_deeds.specs.declared.config.Config.{Config}
-use Rattle.dspec_deeds.specs.declared.deed.Deed.{Deed}
-use Rattle.dspec_deeds.specs.declared.deed.Deed.TheVariants.{Seal}
-use Rattle.dspec_table.specs.declared.rule.View.{View}
-use Rattle.dspec_table.specs.declared.seats.CpuSeat.{CpuSeat}
+use Rattle.dspec_cpu.specs.Words.Outside.{Stored, CpuKnows, cpu_moved, is_fill, LoadedAsk, Batch, Config, Deed, Seal, View, CpuSeat}
 use Rattle.dspec_cpu.specs.declared.parts.CpuParts.{CpuParts as Cpu}
 
 -- what a switch moves: the CPU's end of the rings, the batch held back, the spare in hand, the active buffer, the drops since the

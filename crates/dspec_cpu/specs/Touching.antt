@@ -1,10 +1,7 @@
 -- Cited by calls. Which of the shared words a call touches: it loads, stores and exchanges no other.
 use Rattle.std.specs.Prelude.{ℕ, ◌≡◌, ◌⊎◌, ◌≤◌, true, All, List, ◌++◌}
-use Rattle.dspec_cpu.specs.Words.Outside.{Speculation, in_range, ack_place, activity_place, ask_place, slot_place}
-use Rattle.dspec_deeds.specs.declared.config.Config.{Config}
-use Rattle.dspec_deeds.specs.declared.calls.Opening.{Opening}
+use Rattle.dspec_cpu.specs.Words.Outside.{Speculation, in_range, ack_place, activity_place, ask_place, slot_place, Config, Opening, View}
 use Rattle.dspec_deeds.specs.declared.calls.Opening.TheVariants as opening
-use Rattle.dspec_table.specs.declared.rule.View.{View}
 
 -- each step between the two was on a word whose place is within
 pub record Touches (within : ℕ → Type 0) (v w : View) : Type 0 where

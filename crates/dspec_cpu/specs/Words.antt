@@ -25,7 +25,3 @@ pub use Rattle.dspec_cpu.specs.Stops.{is_stopped_decided, is_stopped_reach, is_s
 pub use Rattle.dspec_cpu.specs.Switching.{batch_of, Buffers, buffers_of, emptied, FindsSpare, HandsOn, Heeds, held_up, IsSameBeside, looked, most_moves, never, no_spare, not_asked, switched}
 pub use Rattle.dspec_cpu.specs.Switching.{Switches, with_buffers, with_seal, worn_out}
 pub use Rattle.dspec_cpu.specs.Touching.{at_slot, last_looked, of_activity, of_service, of_slot, of_slots, Touches}
-pub use Rattle.dspec_cpu.specs.declared.parts.CpuParts.{CpuParts as Cpu}
-pub use Rattle.dspec_cpu.specs.declared.reaching.Reach.{Reach}
-pub use Rattle.dspec_cpu.specs.declared.rest.CpuRest.{CpuRest}
-pub use Rattle.dspec_cpu.specs.declared.scanning.Look.{Look}

@@ -1,8 +1,7 @@
 ghost use Rattle.std.specs.Prelude.{◌≡◌, IsTrue};
 ghost use Rattle.dspec_promise.specs.Promise.{commit, discard};
-ghost use Rattle.dspec_cpu.specs.Lists.{schema_of, words_of};
-ghost use Rattle.dspec_cpu.specs.OneCall.{TracesOne, SpeculatesOne, OpensOne, DecidesOne, ServesOnce};
-ghost use Rattle.dspec_cpu.specs.Standing.{Belongs, identity};
+ghost use Rattle.dspec_cpu.specs.{Lists.schema_of, Lists.words_of, OneCall.TracesOne, OneCall.SpeculatesOne, OneCall.OpensOne, OneCall.DecidesOne, OneCall.ServesOnce, Standing.Belongs};
+ghost use Rattle.dspec_cpu.specs.{Standing.identity};
 
 use crate::cpu::Cpu;
 use crate::listed::Listed;

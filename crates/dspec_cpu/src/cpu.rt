@@ -9,8 +9,7 @@ pub struct Cpu<S: Schema> {
 }
 
 impl<S: Schema> Model for Cpu<S> {
-    ghost use Rattle.dspec_cpu.specs.declared.parts.CpuParts.{CpuParts};
-    ghost use Rattle.dspec_cpu.specs.Lists.{IsSteady};
+    ghost use Rattle.dspec_cpu.specs.{Lists.IsSteady, declared.parts.CpuParts.CpuParts};
 
     ghost Value = { CpuParts S };
 

@@ -2,12 +2,8 @@ ghost use Rattle.std.specs.Prelude.{◌≡◌, if◌then◌else◌};
 ghost use Rattle.dspec_deeds.specs.declared.calls.CpuOp.TheVariants as op;
 ghost use Rattle.dspec_deeds.specs.declared.deed.Deed.TheVariants.{Commit, Discard};
 ghost use Rattle.dspec_table.specs.Seats.{known};
-ghost use Rattle.dspec_cpu.specs.Calls.{is_worn_decided};
-ghost use Rattle.dspec_cpu.specs.Between.{DecidesBetween};
-ghost use Rattle.dspec_cpu.specs.Keeping.{CallLeaves};
-ghost use Rattle.dspec_cpu.specs.Lists.{IsSameCpu, config_of, number_in, seat_of, words_of};
-ghost use Rattle.dspec_cpu.specs.Stops.{is_stopped_decided};
-ghost use Rattle.dspec_cpu.specs.Touching.{of_slot};
+ghost use Rattle.dspec_cpu.specs.{Between.DecidesBetween, Calls.is_worn_decided, Keeping.CallLeaves, Lists.IsSameCpu, Lists.config_of, Lists.number_in, Lists.seat_of, Lists.words_of};
+ghost use Rattle.dspec_cpu.specs.{Stops.is_stopped_decided, Touching.of_slot};
 
 use crate::callable::Callable;
 use crate::cpu::Cpu;

@@ -1,7 +1,5 @@
 ghost use Rattle.std.specs.Prelude.{◌≡◌, true, List, length};
-ghost use Rattle.dspec_deeds.specs.declared.deed.Deed.{Deed};
-ghost use Rattle.dspec_deeds.specs.History.{in_range};
-ghost use Rattle.dspec_deeds.specs.Own.{held};
+ghost use Rattle.dspec_deeds.specs.{History.in_range, Own.held, declared.deed.Deed.Deed};
 ghost use Rattle.dspec_cpu.specs.Between.{OfCaller, cpu_block_fits};
 
 use crate::cpu::Cpu;

@@ -1,9 +1,6 @@
 ghost use Rattle.std.specs.Prelude.{◌≡◌, List};
 ghost use Rattle.dspec_deeds.specs.declared.deed.Deed.{Deed};
-ghost use Rattle.dspec_cpu.specs.Between.{cpu_block_fits};
-ghost use Rattle.dspec_cpu.specs.Lists.{schema_of, words_of};
-ghost use Rattle.dspec_cpu.specs.OneCall.{CommitsIfRoom, made_all_calls};
-ghost use Rattle.dspec_cpu.specs.Standing.{Belongs, identity};
+ghost use Rattle.dspec_cpu.specs.{Between.cpu_block_fits, Lists.schema_of, Lists.words_of, OneCall.CommitsIfRoom, OneCall.made_all_calls, Standing.Belongs, Standing.identity};
 
 use crate::cpu::Cpu;
 use crate::listed::Listed;

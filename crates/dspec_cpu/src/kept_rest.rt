@@ -1,6 +1,5 @@
 ghost use Rattle.std.specs.Prelude.{◌≡◌};
-ghost use Rattle.dspec_cpu.specs.KeptRests.{rest_with};
-ghost use Rattle.dspec_cpu.specs.Rests.{schema_of_rest};
+ghost use Rattle.dspec_cpu.specs.{KeptRests.rest_with, Rests.schema_of_rest};
 
 use crate::rest::CpuRest;
 use dspec_buffer::ByteBuffer;

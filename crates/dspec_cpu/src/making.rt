@@ -1,10 +1,8 @@
 ghost use Rattle.std.specs.Prelude.{◌≡◌, [], None, IfOk, IsSome};
 ghost use Rattle.dspec_deeds.specs.Ranges.{start_fault};
 ghost use Rattle.dspec_ring.specs.Known.{IsUnusedCpu};
-ghost use Rattle.dspec_table.specs.declared.seats.Words.{Words};
-ghost use Rattle.dspec_table.specs.Seats.{known, cpu_of, fresh_seat, IsAt};
-ghost use Rattle.dspec_cpu.specs.Lists.{config_of, end_of, number_in, schema_of, seat_of, spare_of, worn_of};
-ghost use Rattle.dspec_cpu.specs.Standing.{Belongs, identity};
+ghost use Rattle.dspec_table.specs.{Seats.known, Seats.cpu_of, Seats.fresh_seat, Seats.IsAt, declared.seats.Words.Words};
+ghost use Rattle.dspec_cpu.specs.{Lists.config_of, Lists.end_of, Lists.number_in, Lists.schema_of, Lists.seat_of, Lists.spare_of, Lists.worn_of, Standing.Belongs, Standing.identity};
 
 use crate::cpu::Cpu;
 use crate::listed::Listed;

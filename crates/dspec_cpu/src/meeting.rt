@@ -1,10 +1,7 @@
 ghost use Rattle.std.specs.Prelude.{◌≡◌, List};
 ghost use Rattle.dspec_deeds.specs.declared.deed.Deed.{Deed};
-ghost use Rattle.dspec_table.specs.Meeting.{Met};
-ghost use Rattle.dspec_table.specs.Seats.{IsConsumerAt, known, known_there};
-ghost use Rattle.dspec_cpu.specs.Keeping.{MovesItsSeat};
-ghost use Rattle.dspec_cpu.specs.Lists.{seat_of, words_of, worn_of};
-ghost use Rattle.dspec_cpu.specs.Standing.{Belongs, identity};
+ghost use Rattle.dspec_table.specs.{Meeting.Met, Seats.IsConsumerAt, Seats.known, Seats.known_there};
+ghost use Rattle.dspec_cpu.specs.{Keeping.MovesItsSeat, Lists.seat_of, Lists.words_of, Lists.worn_of, Standing.Belongs, Standing.identity};
 
 use crate::cpu::Cpu;
 use crate::listed::Listed;

@@ -1,11 +1,8 @@
 ghost use Rattle.std.specs.Prelude.{◌+◌, ◌*◌};
 ghost use Rattle.dspec_table.specs.Seats.{known};
 ghost use Rattle.dspec_cpu_state.specs.Counting.{is_stopped_opening};
-ghost use Rattle.dspec_cpu.specs.Keeping.{CallLeaves};
-ghost use Rattle.dspec_cpu.specs.Lists.{IsSameCpu, config_of, number_in, seat_of, words_of};
-ghost use Rattle.dspec_cpu.specs.Scans.{is_worn_opening};
-ghost use Rattle.dspec_cpu.specs.Between.{OpensBetween};
-ghost use Rattle.dspec_cpu.specs.Touching.{last_looked, of_slots};
+ghost use Rattle.dspec_cpu.specs.{Between.OpensBetween, Keeping.CallLeaves, Lists.IsSameCpu, Lists.config_of, Lists.number_in, Lists.seat_of, Lists.words_of, Scans.is_worn_opening};
+ghost use Rattle.dspec_cpu.specs.{Touching.last_looked, Touching.of_slots};
 
 use crate::callable::Callable;
 use crate::cpu::Cpu;

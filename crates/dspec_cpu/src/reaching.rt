@@ -1,11 +1,8 @@
 ghost use Rattle.std.specs.Prelude.{◌≡◌, ◌≤◌, ◌+◌, ◌==◌, true};
-ghost use Rattle.dspec_deeds.specs.History.{in_range, scan};
-ghost use Rattle.dspec_deeds.specs.Marks.{mark};
-ghost use Rattle.dspec_table.specs.Conditions.{IsInFlight, IsOn};
-ghost use Rattle.dspec_table.specs.Seats.{known, IsAt, set_up, cpu_of};
+ghost use Rattle.dspec_deeds.specs.{History.in_range, History.scan, Marks.mark};
+ghost use Rattle.dspec_table.specs.{Conditions.IsInFlight, Conditions.IsOn, Seats.known, Seats.IsAt, Seats.set_up, Seats.cpu_of};
 ghost use Rattle.dspec_word.specs.Word.{CanBeReleased};
-ghost use Rattle.dspec_cpu.specs.Reached.{Reached};
-ghost use Rattle.dspec_cpu.specs.Reaching.{act_of, act_reached, EndsAtWord, OwnsCommit};
+ghost use Rattle.dspec_cpu.specs.{Reached.Reached, Reaching.act_of, Reaching.act_reached, Reaching.EndsAtWord, Reaching.OwnsCommit};
 
 use dspec_deeds::CpuOp;
 use dspec_table::{CpuSeat, Doing, Words};

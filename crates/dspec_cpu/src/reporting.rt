@@ -1,11 +1,6 @@
 ghost use Rattle.std.specs.Prelude.{◌≡◌, List};
-ghost use Rattle.dspec_deeds.specs.Own.{dropped_in};
-ghost use Rattle.dspec_deeds.specs.declared.deed.Deed.{Deed};
-ghost use Rattle.dspec_deeds.specs.Reports.{report};
-ghost use Rattle.dspec_cpu.specs.Dropped.{drops_told};
-ghost use Rattle.dspec_cpu.specs.Lists.{config_of, number_in, words_of, worn_of};
-ghost use Rattle.dspec_cpu.specs.OpenAt.{IsOpenAt};
-ghost use Rattle.dspec_cpu.specs.Standing.{Belongs, identity};
+ghost use Rattle.dspec_deeds.specs.{Own.dropped_in, Reports.report, declared.deed.Deed.Deed};
+ghost use Rattle.dspec_cpu.specs.{Dropped.drops_told, Lists.config_of, Lists.number_in, Lists.words_of, Lists.worn_of, OpenAt.IsOpenAt, Standing.Belongs, Standing.identity};
 
 use crate::cpu::Cpu;
 use crate::listed::Listed;

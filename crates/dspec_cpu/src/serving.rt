@@ -1,9 +1,7 @@
 ghost use Rattle.std.specs.Prelude.{◌≡◌, ◌≤◌, ◌+◌, ◌*◌};
 ghost use Rattle.dspec_table.specs.Seats.{known};
-ghost use Rattle.dspec_cpu.specs.Lists.{IsSameCpu, config_of, end_of, held_back_of, number_in, seat_of, words_of, worn_of};
-ghost use Rattle.dspec_cpu.specs.Between.{ServesBetween};
-ghost use Rattle.dspec_cpu.specs.Switching.{buffers_of, most_moves};
-ghost use Rattle.dspec_cpu.specs.Touching.{Touches, of_service};
+ghost use Rattle.dspec_cpu.specs.{Between.ServesBetween, Lists.IsSameCpu, Lists.config_of, Lists.end_of, Lists.held_back_of, Lists.number_in, Lists.seat_of, Lists.words_of, Lists.worn_of};
+ghost use Rattle.dspec_cpu.specs.{Switching.buffers_of, Switching.most_moves, Touching.Touches, Touching.of_service};
 
 use crate::callable::Callable;
 use crate::cpu::Cpu;

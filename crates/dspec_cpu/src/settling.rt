@@ -1,13 +1,10 @@
 ghost use Rattle.std.specs.Prelude.{◌≡◌, ◌<◌, ◌≤◌, ℕ, List};
 ghost use Rattle.dspec_ring.specs.declared.batch.Batch.{Batch};
 ghost use Rattle.dspec_deeds.specs.declared.deed.Deed.{Deed};
-ghost use Rattle.dspec_table.specs.Last.{last_words};
-ghost use Rattle.dspec_table.specs.Seats.{known};
-ghost use Rattle.dspec_cpu.specs.Closing.{CanSettleSlot, SettlesSlot};
-ghost use Rattle.dspec_cpu.specs.Lists.{IsSameCpu, config_of, number_in, seat_of, worn_of};
-ghost use Rattle.dspec_cpu.specs.Rests.{AreItsWords, IsSameRest, config_of_rest, number_of_rest};
-ghost use Rattle.dspec_cpu.specs.Settled.{CanSettle, DueSettled, IsDueAt, KeepsBatches, SlotDone, serving, shown_at};
-ghost use Rattle.dspec_cpu.specs.Between.{SettlesBetween, SettlesBlock};
+ghost use Rattle.dspec_table.specs.{Last.last_words, Seats.known};
+ghost use Rattle.dspec_cpu.specs.{Between.SettlesBetween, Between.SettlesBlock, Closing.CanSettleSlot, Closing.SettlesSlot, Lists.IsSameCpu, Lists.config_of, Lists.number_in, Lists.seat_of};
+ghost use Rattle.dspec_cpu.specs.{Lists.worn_of, Rests.AreItsWords, Rests.IsSameRest, Rests.config_of_rest, Rests.number_of_rest, Settled.CanSettle, Settled.DueSettled, Settled.IsDueAt};
+ghost use Rattle.dspec_cpu.specs.{Settled.KeepsBatches, Settled.SlotDone, Settled.serving, Settled.shown_at};
 
 use crate::callable::Callable;
 use crate::cpu::Cpu;

@@ -1,14 +1,9 @@
 ghost use Rattle.std.specs.Prelude.{◌≡◌, ◌<◌, ◌+◌, ◌-◌, ◌==◌, ◌++◌, true, List, IsTrue, Some, slice_get};
 ghost use Rattle.dspec_record.specs.LaidOut.{IsLaidBy};
-ghost use Rattle.dspec_deeds.specs.declared.deed.Deed.{Deed};
-ghost use Rattle.dspec_deeds.specs.History.{in_range};
-ghost use Rattle.dspec_deeds.specs.Marks.{mark};
+ghost use Rattle.dspec_deeds.specs.{History.in_range, Marks.mark, declared.deed.Deed.Deed};
 ghost use Rattle.dspec_table.specs.Seats.{known};
-ghost use Rattle.dspec_cpu.specs.Calls.{Goes, spoken_deeds, is_worn_spoken};
-ghost use Rattle.dspec_cpu.specs.Keeping.{CallLeaves};
-ghost use Rattle.dspec_cpu.specs.Lists.{IsSameCpu, config_of, number_in, schema_of, seat_of, words_of};
-ghost use Rattle.dspec_cpu.specs.Stops.{is_stopped_spoken};
-ghost use Rattle.dspec_cpu.specs.Touching.{of_slot};
+ghost use Rattle.dspec_cpu.specs.{Calls.Goes, Calls.spoken_deeds, Calls.is_worn_spoken, Keeping.CallLeaves, Lists.IsSameCpu, Lists.config_of, Lists.number_in, Lists.schema_of, Lists.seat_of};
+ghost use Rattle.dspec_cpu.specs.{Lists.words_of, Stops.is_stopped_spoken, Touching.of_slot};
 
 use crate::callable::Callable;
 use crate::cpu::Cpu;

@@ -2,11 +2,8 @@ ghost use Rattle.std.specs.Prelude.{◌++◌, List, IsTrue};
 ghost use Rattle.dspec_record.specs.LaidOut.{IsLaidBy};
 ghost use Rattle.dspec_deeds.specs.declared.deed.Deed.{Deed};
 ghost use Rattle.dspec_table.specs.Seats.{known};
-ghost use Rattle.dspec_cpu.specs.Calls.{Goes, traced_deeds, is_worn_trace};
-ghost use Rattle.dspec_cpu.specs.Keeping.{CallLeaves};
-ghost use Rattle.dspec_cpu.specs.Lists.{IsSameCpu, number_in, schema_of, seat_of, words_of};
-ghost use Rattle.dspec_cpu.specs.Stops.{is_stopped_trace};
-ghost use Rattle.dspec_cpu.specs.Touching.{of_activity};
+ghost use Rattle.dspec_cpu.specs.{Calls.Goes, Calls.traced_deeds, Calls.is_worn_trace, Keeping.CallLeaves, Lists.IsSameCpu, Lists.number_in, Lists.schema_of, Lists.seat_of, Lists.words_of};
+ghost use Rattle.dspec_cpu.specs.{Stops.is_stopped_trace, Touching.of_activity};
 
 use crate::callable::Callable;
 use crate::cpu::Cpu;

@@ -1,8 +1,6 @@
 ghost use Rattle.std.specs.Prelude.{◌≡◌, IsTrue};
 ghost use Rattle.dspec_record.specs.LaidOut.{IsLaidBy};
-ghost use Rattle.dspec_cpu.specs.Lists.{schema_of, words_of};
-ghost use Rattle.dspec_cpu.specs.OneCall.{TracesOne, SpeculatesOne, RecordsValues, OffersValues};
-ghost use Rattle.dspec_cpu.specs.Standing.{Belongs, identity};
+ghost use Rattle.dspec_cpu.specs.{Lists.schema_of, Lists.words_of, OneCall.TracesOne, OneCall.SpeculatesOne, OneCall.RecordsValues, OneCall.OffersValues, Standing.Belongs, Standing.identity};
 
 use crate::cpu::Cpu;
 use crate::listed::Listed;

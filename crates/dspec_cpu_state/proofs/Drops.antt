@@ -1,17 +1,11 @@
 -- What was dropped from each slot's buffer, behind a record that was granted.
 use Rattle.std.proofs.Common.{◌≡◌, ◌≢◌, ℕ, ◌+◌, ◌-◌, ◌==◌, ◌≤◌, ◌<◌, ◌^◌, Bool, true, false, List, ◌∷◌, length, Some, if◌then◌else◌, refl, sym, ap, ◌∙◌, ⊎_elim, arith, length-set}
-use Rattle.std.specs.Prelude.{slice_get, slice_set}
 use Rattle.std.proofs.lemmas.Bool.Decides.{nat_tests}
-use Rattle.dspec_cpu_state.specs.Words.{Record, Speculation, spoken_granted, spoken_dropped, mark, calls, dropped_in, last_called}
-use Rattle.dspec_deeds.specs.declared.config.Config.{Config}
-use Rattle.dspec_deeds.specs.declared.deed.SpeculateFate.{SpeculateFate}
+use Rattle.std.specs.Prelude.{slice_get, slice_set}
+use Rattle.dspec_cpu_state.specs.Words.{Record, Speculation, spoken_granted, spoken_dropped, mark, calls, dropped_in, last_called, Config, SpeculateFate, Deed, Speculate}
 use Rattle.dspec_deeds.specs.declared.deed.SpeculateFate.TheVariants as spoken
-use Rattle.dspec_deeds.specs.declared.deed.Deed.{Deed}
-use Rattle.dspec_deeds.specs.declared.deed.Deed.TheVariants.{Speculate}
-use Rattle.dspec_deeds.proofs.Dropping.{unmarked_drops, dropped_called}
-use Rattle.dspec_deeds.proofs.TestLemmas.{either_way, same_number, number_is_itself}
-use Rattle.dspec_cpu_state.proofs.Ones.{last_is}
-use Rattle.dspec_cpu_state.proofs.Places.{got_set, got_other}
+use Rattle.dspec_deeds.proofs.{Dropping.unmarked_drops, Dropping.dropped_called, TestLemmas.either_way, TestLemmas.same_number, TestLemmas.number_is_itself}
+use Rattle.dspec_cpu_state.proofs.{Ones.last_is, Places.got_set, Places.got_other}
 
 -- each slot's count is that of the speculation granted last
 pub record AreDropped (k : Config) (c : ℕ) (drops : List ℕ) (p : List Deed) : Type 0 where

@@ -1,25 +1,18 @@
 -- A block that was copied, lost or thrown away: what the side shows behind the deed that ended it.
-use Rattle.std.proofs.Common.{◌≡◌, ◌≢◌, ℕ, suc, ◌+◌, ◌-◌, ◌==◌, ◌≤◌, Bool, true, false, ◌&&◌, ◌||◌, List, [], ◌∷◌}
-use Rattle.std.proofs.Common.{length, map, get_or, Option, Some, if◌then◌else◌, refl, sym, ap, ◌∙◌, subst, ⊎_elim, arith, length-set, add-zero, true≢false}
-use Rattle.std.specs.Prelude.{slice_get, slice_set}
-use Rattle.std.specs.Global.{Vec}
+use Rattle.std.proofs.Common.{◌≡◌, ◌≢◌, ℕ, suc, ◌+◌, ◌-◌, ◌==◌, ◌≤◌, Bool, true, false, ◌&&◌, ◌||◌, List, [], ◌∷◌, length, map, get_or, Option, Some, if◌then◌else◌, refl, sym, ap, ◌∙◌, subst}
+use Rattle.std.proofs.Common.{⊎_elim, arith, length-set, add-zero, true≢false}
 use Rattle.std.proofs.Math.Bool.{and-true}
-use Rattle.std.proofs.lemmas.Bool.Decides.{nat_tests}
-use Rattle.std.proofs.lemmas.Option.{slice_get-get_or}
+use Rattle.std.proofs.lemmas.{Bool.Decides.nat_tests, Option.slice_get-get_or}
+use Rattle.std.specs.{Global.Vec, Prelude.slice_get, Prelude.slice_set}
 use Rattle.dspec_cpu_state.specs.Words.{Record, Piece, piece_fits, Speculation, is_commit, is_copied, is_discard, is_lost, decided_stopped, ack, same_id, CpuLegal, fits_principal, mark, Offer}
-use Rattle.dspec_cpu_state.specs.Words.{active, calls, contents, dropped_in, growing, held, seals, last_called, missed_busy, Counts, CpuState, counts_of, with_decided, IsFilledWith, IsCaller}
-use Rattle.dspec_cpu_state.specs.Words.{ShowsList}
-use Rattle.dspec_record.specs.declared.field.Shape.{Shape}
+use Rattle.dspec_cpu_state.specs.Words.{active, calls, contents, dropped_in, growing, held, seals, last_called, missed_busy, counts_of, with_decided, IsFilledWith, IsCaller, ShowsList, Shape}
+use Rattle.dspec_cpu_state.specs.Words.{Config, DecideFate, Deed, Commit, Discard, Settle}
+use Rattle.dspec_cpu_state.specs.declared.{counts.Counts.Counts, cpu_state.CpuState.CpuState}
 use Rattle.dspec_buffer.specs.Extent as extent
-use Rattle.dspec_deeds.specs.declared.config.Config.{Config}
-use Rattle.dspec_deeds.specs.declared.deed.DecideFate.{DecideFate}
 use Rattle.dspec_deeds.specs.declared.deed.DecideFate.TheVariants as fated
-use Rattle.dspec_deeds.specs.declared.deed.Deed.{Deed}
-use Rattle.dspec_deeds.specs.declared.deed.Deed.TheVariants.{Commit, Discard, Settle}
 use Rattle.dspec_deeds.proofs.TestLemmas.{either_way, same_number, number_is_itself, id_is_itself, same_id_tells, other_slot, and_tells}
-use Rattle.dspec_cpu_state.proofs.Tallies.{commit_counts, discard_counts, settle_counts}
-use Rattle.dspec_cpu_state.proofs.Places.{got_set, got_other, same_inside, slot_set}
-use Rattle.dspec_cpu_state.proofs.Ones.{last_is, mine_last, one_call}
+use Rattle.dspec_cpu_state.proofs.{Ones.last_is, Ones.mine_last, Ones.one_call, Places.got_set, Places.got_other, Places.same_inside, Places.slot_set, Tallies.commit_counts, Tallies.discard_counts}
+use Rattle.dspec_cpu_state.proofs.{Tallies.settle_counts}
 
 pub count_held : (os : List Offer) → length (contents os) ≡ length os
 count_held [] = refl

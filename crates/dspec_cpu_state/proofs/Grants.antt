@@ -1,24 +1,14 @@
 -- A record that was granted: the slot's mark and buffer.
-use Rattle.std.proofs.Common.{◌≡◌, ◌≢◌, ℕ, ◌+◌, ◌-◌, ◌==◌, ◌≤◌, Bool, true, false, ◌&&◌, List, [], ◌∷◌, length}
-use Rattle.std.proofs.Common.{map, get_or, Option, Some, if◌then◌else◌, refl, sym, ap, ◌∙◌, subst, ⊎_elim, arith, length-set, add-zero}
-use Rattle.std.specs.Prelude.{slice_get, slice_set}
-use Rattle.std.specs.Global.{Vec}
-use Rattle.std.proofs.Math.Bool.{and-true}
-use Rattle.std.proofs.lemmas.Bool.Decides.{nat_tests}
-use Rattle.std.proofs.lemmas.Option.{slice_get-get_or}
-use Rattle.dspec_cpu_state.specs.Words.{Record, Piece, piece_fits, Speculation, spoken_granted, spoken_kept, same_id, fits_speculative, mark, contents, held, offers, seals, last_called, Counts}
-use Rattle.dspec_cpu_state.specs.Words.{CpuState, counts_of, with_spoken, IsFilledWith, IsCaller, ShowsList}
-use Rattle.dspec_record.specs.declared.field.Shape.{Shape}
+use Rattle.std.proofs.{Common.◌≡◌, Common.◌≢◌, Common.ℕ, Common.◌+◌, Common.◌-◌, Common.◌==◌, Common.◌≤◌, Common.Bool, Common.true, Common.false, Common.◌&&◌, Common.List, Common.[], Common.◌∷◌}
+use Rattle.std.proofs.{Common.length, Common.map, Common.get_or, Common.Option, Common.Some, Common.if◌then◌else◌, Common.refl, Common.sym, Common.ap, Common.◌∙◌, Common.subst, Common.⊎_elim}
+use Rattle.std.proofs.{Common.arith, Common.length-set, Common.add-zero, Math.Bool.and-true, lemmas.Bool.Decides.nat_tests, lemmas.Option.slice_get-get_or}
+use Rattle.std.specs.{Global.Vec, Prelude.slice_get, Prelude.slice_set}
+use Rattle.dspec_cpu_state.specs.Words.{Record, Piece, piece_fits, Speculation, spoken_granted, spoken_kept, same_id, fits_speculative, mark, contents, held, offers, seals, last_called, counts_of}
+use Rattle.dspec_cpu_state.specs.Words.{with_spoken, IsFilledWith, IsCaller, ShowsList, Shape, Config, SpeculateFate, Deed, Speculate}
+use Rattle.dspec_cpu_state.specs.declared.{counts.Counts.Counts, cpu_state.CpuState.CpuState}
 use Rattle.dspec_buffer.specs.Extent as extent
-use Rattle.dspec_deeds.specs.declared.config.Config.{Config}
-use Rattle.dspec_deeds.specs.declared.deed.SpeculateFate.{SpeculateFate}
-use Rattle.dspec_deeds.specs.declared.deed.Deed.{Deed}
-use Rattle.dspec_deeds.specs.declared.deed.Deed.TheVariants.{Speculate}
 use Rattle.dspec_deeds.proofs.TestLemmas.{either_way, same_number, number_is_itself, id_is_itself, other_slot}
-use Rattle.dspec_cpu_state.proofs.Drops.{AreDropped}
-use Rattle.dspec_cpu_state.proofs.Tallies.{spoken_counts}
-use Rattle.dspec_cpu_state.proofs.Ones.{last_is, one_call}
-use Rattle.dspec_cpu_state.proofs.Places.{got_set, got_other, same_inside, slot_set}
+use Rattle.dspec_cpu_state.proofs.{Drops.AreDropped, Ones.last_is, Ones.one_call, Places.got_set, Places.got_other, Places.same_inside, Places.slot_set, Tallies.spoken_counts}
 
 module _ {B : Type 0} (keeps : B → List Piece → Type 0) (capacity : B → ℕ) (shape : ℕ → Option Shape) {k : Config} {c : ℕ} {side : CpuState B} (p : List Deed)
     (was : ShowsList keeps capacity k c p side) (id : Speculation) (r : Record) (mine : Bool)

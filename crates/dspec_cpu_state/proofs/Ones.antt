@@ -1,11 +1,8 @@
 -- A list of records as a list of pieces, and a cell of a list.
 use Rattle.std.proofs.Common.{◌≡◌, ℕ, ◌+◌, ◌-◌, ◌==◌, Bool, true, false, List, [], ◌∷◌, set, map, Option, Some, if◌then◌else◌, refl, sym, ap, ◌∙◌, arith}
+use Rattle.std.proofs.lemmas.{List.set-get_or, Option.get_or_from_slice_get}
 use Rattle.std.specs.Prelude.{slice_get}
-use Rattle.std.proofs.lemmas.Option.{get_or_from_slice_get}
-use Rattle.std.proofs.lemmas.List.{set-get_or}
-use Rattle.dspec_cpu_state.specs.Words.{Record, one, records, extent, extent_of_records, reserved, align_of, size_of, Speculation, mark, contents, held, last_called}
-use Rattle.dspec_record.specs.declared.field.Shape.{Shape}
-use Rattle.dspec_deeds.specs.declared.deed.Deed.{Deed}
+use Rattle.dspec_cpu_state.specs.Words.{Record, one, records, extent, extent_of_records, reserved, align_of, size_of, Speculation, mark, contents, held, last_called, Shape, Deed}
 use Rattle.dspec_deeds.proofs.TestLemmas.{number_is_itself}
 
 pub extent_ones : (shape : ℕ → Option Shape) (rs : List Record) → extent shape (map one rs) ≡ extent_of_records shape rs

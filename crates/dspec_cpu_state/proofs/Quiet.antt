@@ -3,10 +3,8 @@ use Rattle.std.proofs.Common.{arith, ◌≡◌, ℕ, ◌+◌, ◌-◌, Bool, tru
 use Rattle.std.proofs.lemmas.Bool.Decides.{nat_tests}
 use Rattle.dspec_buffer.specs.Extent as extent
 use Rattle.dspec_cpu_state.specs.Words.{Piece, Speculation, trace_kept, spoken_granted, is_commit, is_discard, ack, mark, active, contents, dropped_in, growing, held, seals, calls, last_called}
-use Rattle.dspec_cpu_state.specs.Words.{missed_busy, Counts, counts_of, CpuState, IsFilledWith, ShowsList}
-use Rattle.dspec_deeds.specs.declared.config.Config.{Config}
-use Rattle.dspec_deeds.specs.declared.deed.Deed.{Deed}
-use Rattle.dspec_deeds.specs.declared.deed.Deed.TheVariants.{Trace, Speculate, Commit, Discard, Settle, Seal}
+use Rattle.dspec_cpu_state.specs.Words.{missed_busy, counts_of, IsFilledWith, ShowsList, Config, Deed, Trace, Speculate, Commit, Discard, Settle, Seal}
+use Rattle.dspec_cpu_state.specs.declared.{counts.Counts.Counts, cpu_state.CpuState.CpuState}
 
 abbrev pub quiet : Deed → Bool
 quiet (Trace a r f) = not (trace_kept f)

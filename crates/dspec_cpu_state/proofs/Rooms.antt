@@ -1,9 +1,7 @@
 -- Whether a record that has a shape fits.
-use Rattle.std.proofs.lemmas.Bool.Decides.{nat_tests}
-use Rattle.std.proofs.Common.{◌≡◌, ◌⊎◌, ℕ, List, [], Option, Some, refl, sym, ap, arith}
+use Rattle.std.proofs.{Common.◌≡◌, Common.◌⊎◌, Common.ℕ, Common.List, Common.[], Common.Option, Common.Some, Common.refl, Common.sym, Common.ap, Common.arith, lemmas.Bool.Decides.nat_tests}
 use Rattle.std.specs.Prelude.{nat_le}
-use Rattle.dspec_cpu_state.specs.Words.{Record, Piece, reserved, one, piece_fits, extent}
-use Rattle.dspec_record.specs.declared.field.Shape.{Shape}
+use Rattle.dspec_cpu_state.specs.Words.{Record, Piece, reserved, one, piece_fits, extent, Shape}
 use Rattle.dspec_deeds.proofs.TestLemmas.{same_number}
 
 module _ (shape : ℕ → Option Shape) (r : Record) (h : Shape) (n : ℕ) (is : shape r.epid ≡ Some h) where

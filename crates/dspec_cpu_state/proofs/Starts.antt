@@ -1,8 +1,7 @@
 -- Lists that are made element by element, and lists of zeros.
 use Rattle.std.proofs.Common.{◌≡◌, ℕ, zero, suc, ◌+◌, ◌<◌, List, [], ◌∷◌, ◌++◌, length, get_or, replicate, Some, refl, sym, ap, ◌∙◌, subst, arith}
+use Rattle.std.proofs.lemmas.{List.length-replicate, List.get_or-replicate, Option.slice_get-get_or}
 use Rattle.std.specs.Prelude.{slice_get}
-use Rattle.std.proofs.lemmas.List.{length-replicate, get_or-replicate}
-use Rattle.std.proofs.lemmas.Option.{slice_get-get_or}
 
 -- so many elements, of each of which P holds
 pub record Made {A : Type 0} (P : A → Type 0) (n : ℕ) (xs : List A) : Type 0 where

@@ -1,13 +1,9 @@
 -- What an offer to a speculation, a decision, a settlement and a release add to the counts; how drops are counted.
-use Rattle.std.proofs.lemmas.Bool.Decides.{nat_tests}
-use Rattle.std.proofs.Common.{◌≡◌, ℕ, ◌≤◌, false, List, [], ◌∷◌, arith, refl, add-zero}
-use Rattle.dspec_cpu_state.specs.Words.{Record, Speculation, is_commit, is_discard, decided_stopped, growing, is_drop, total, one_if, Counts, counts_of, with_decided, with_spoken}
-use Rattle.dspec_deeds.specs.declared.config.Config.{Config}
-use Rattle.dspec_deeds.specs.declared.deed.DecideFate.{DecideFate}
-use Rattle.dspec_deeds.specs.declared.deed.SpeculateFate.{SpeculateFate}
+use Rattle.std.proofs.{Common.◌≡◌, Common.ℕ, Common.◌≤◌, Common.false, Common.List, Common.[], Common.◌∷◌, Common.arith, Common.refl, Common.add-zero, lemmas.Bool.Decides.nat_tests}
+use Rattle.dspec_cpu_state.specs.Words.{Record, Speculation, is_commit, is_discard, decided_stopped, growing, is_drop, total, one_if, counts_of, with_decided, with_spoken, Config, DecideFate}
+use Rattle.dspec_cpu_state.specs.Words.{SpeculateFate, Deed, Speculate, Commit, Discard, Settle, Release}
+use Rattle.dspec_cpu_state.specs.declared.counts.Counts.{Counts}
 use Rattle.dspec_deeds.specs.declared.deed.SpeculateFate.TheVariants as spoken
-use Rattle.dspec_deeds.specs.declared.deed.Deed.{Deed}
-use Rattle.dspec_deeds.specs.declared.deed.Deed.TheVariants.{Speculate, Commit, Discard, Settle, Release}
 use Rattle.dspec_deeds.proofs.TestLemmas.{number_is_itself}
 
 -- counts are the same, number by number

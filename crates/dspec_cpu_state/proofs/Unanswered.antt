@@ -1,17 +1,11 @@
 -- A call that decided nothing, and a record that was granted nothing.
-use Rattle.std.proofs.Common.{arith, ◌≡◌, ℕ, ◌+◌, ◌||◌, false, List, ◌∷◌, true≢false}
-use Rattle.std.proofs.lemmas.Bool.Decides.{nat_tests}
-use Rattle.dspec_cpu_state.specs.Words.{Record, Piece, Speculation, is_commit, is_discard, spoken_granted, Counts, CpuState, counts_of, with_decided, with_spoken, ShowsList}
-use Rattle.dspec_deeds.specs.declared.config.Config.{Config}
-use Rattle.dspec_deeds.specs.declared.deed.DecideFate.{DecideFate}
+use Rattle.std.proofs.{Common.arith, Common.◌≡◌, Common.ℕ, Common.◌+◌, Common.◌||◌, Common.false, Common.List, Common.◌∷◌, Common.true≢false, lemmas.Bool.Decides.nat_tests}
+use Rattle.dspec_cpu_state.specs.Words.{Record, Piece, Speculation, is_commit, is_discard, spoken_granted, counts_of, with_decided, with_spoken, ShowsList, Config, DecideFate, SpeculateFate, Deed}
+use Rattle.dspec_cpu_state.specs.Words.{Speculate, Commit, Discard}
+use Rattle.dspec_cpu_state.specs.declared.{counts.Counts.Counts, cpu_state.CpuState.CpuState}
 use Rattle.dspec_deeds.specs.declared.deed.DecideFate.TheVariants as decided
-use Rattle.dspec_deeds.specs.declared.deed.SpeculateFate.{SpeculateFate}
 use Rattle.dspec_deeds.specs.declared.deed.SpeculateFate.TheVariants as spoken
-use Rattle.dspec_deeds.specs.declared.deed.Deed.{Deed}
-use Rattle.dspec_deeds.specs.declared.deed.Deed.TheVariants.{Speculate, Commit, Discard}
-use Rattle.dspec_cpu_state.proofs.Ones.{one_call}
-use Rattle.dspec_cpu_state.proofs.Tallies.{commit_counts, discard_counts, spoken_counts}
-use Rattle.dspec_cpu_state.proofs.Quiet.{quiet_shown}
+use Rattle.dspec_cpu_state.proofs.{Ones.one_call, Quiet.quiet_shown, Tallies.commit_counts, Tallies.discard_counts, Tallies.spoken_counts}
 
 module _ {B : Type 0} (keeps : B → List Piece → Type 0) (capacity : B → ℕ) {k : Config} {c : ℕ} {side : CpuState B} (p : List Deed) (was : ShowsList keeps capacity k c p side)
     (id : Speculation) (now : Counts) where

@@ -1,17 +1,10 @@
 -- Cited by calls. The counts that a CPU keeps, read off its own list. The records held are what is left of those offered.
 use Rattle.std.specs.Prelude.{ℕ, ◌+◌, ◌-◌, ◌^◌, ◌<◌, Bool, true, false, not, ◌&&◌, nat_lt, List, if◌then◌else◌}
-use Rattle.dspec_deeds.specs.declared.config.Config.{Config}
-use Rattle.dspec_deeds.specs.declared.deed.TraceFate.{TraceFate}
-use Rattle.dspec_deeds.specs.declared.deed.SpeculateFate.{SpeculateFate}
-use Rattle.dspec_deeds.specs.declared.deed.DecideFate.{DecideFate}
-use Rattle.dspec_deeds.specs.declared.deed.Deed.{Deed}
-use Rattle.dspec_deeds.specs.declared.calls.Opening.{Opening}
-use Rattle.dspec_deeds.specs.declared.report.Report.{Report}
-use Rattle.dspec_deeds.specs.declared.calls.Opening.TheVariants as opening
-use Rattle.dspec_cpu_state.specs.Words.Outside.{trace_kept, trace_dropped, trace_stopped, spoken_dropped, spoken_nowhere, spoken_stopped, is_copied, is_lost, is_discard, count_of, decided_stopped}
-use Rattle.dspec_cpu_state.specs.Words.Outside.{offers, is_drop, total, one_if, accepts_now, traces_dropped_now, specdrops_now, loses_now, discards_now, voids_now, stops_now, busy_fails}
-use Rattle.dspec_cpu_state.specs.Words.Outside.{other_fails}
+use Rattle.dspec_cpu_state.specs.Words.Outside.{Config, TraceFate, SpeculateFate, DecideFate, Deed, Opening, Report, trace_kept, trace_dropped, trace_stopped, spoken_dropped, spoken_nowhere}
+use Rattle.dspec_cpu_state.specs.Words.Outside.{spoken_stopped, is_copied, is_lost, is_discard, count_of, decided_stopped, offers, is_drop, total, one_if, accepts_now, traces_dropped_now}
+use Rattle.dspec_cpu_state.specs.Words.Outside.{specdrops_now, loses_now, discards_now, voids_now, stops_now, busy_fails, other_fails}
 use Rattle.dspec_cpu_state.specs.declared.counts.Counts.{Counts}
+use Rattle.dspec_deeds.specs.declared.calls.Opening.TheVariants as opening
 
 -- the counts of a list, and of so many calls that were answered Worn
 abbrev pub counts_of : Config → ℕ → ℕ → List Deed → Counts

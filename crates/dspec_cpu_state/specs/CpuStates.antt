@@ -1,10 +1,7 @@
 -- Cited by calls. What a CPU's side shows of a list of that CPU's own deeds.
 use Rattle.std.specs.Prelude.{ℕ, ◌≡◌, ◌+◌, ◌==◌, Bool, false, List, []}
-use Rattle.dspec_cpu_state.specs.Words.Outside.{Piece, Speculation, mark, held, StateParts, ShowsOwnState, own_side}
-use Rattle.dspec_deeds.specs.declared.config.Config.{Config}
-use Rattle.dspec_deeds.specs.declared.deed.Deed.{Deed}
-use Rattle.dspec_cpu_state.specs.declared.cpu_state.CpuState.{CpuState}
-use Rattle.dspec_cpu_state.specs.Counting.{counts_of}
+use Rattle.dspec_cpu_state.specs.{Counting.counts_of, Words.Outside.Piece, Words.Outside.Speculation, Words.Outside.mark, Words.Outside.held, Words.Outside.StateParts, Words.Outside.ShowsOwnState}
+use Rattle.dspec_cpu_state.specs.{Words.Outside.own_side, Words.Outside.Config, Words.Outside.Deed, declared.cpu_state.CpuState.CpuState}
 
 -- the numbers and buffers of a side
 abbrev pub parts_of_side : {B : Type 0} → CpuState B → StateParts B

@@ -1,20 +1,12 @@
 -- Cited by calls. What an operation of a side says of each list that the side showed before it.
 use Rattle.std.specs.Prelude.{ℕ, ◌≡◌, ◌+◌, ◌||◌, Bool, true, List, [], ◌∷◌, length, map, slice_get, slice_set, Option, Some, if◌then◌else◌}
-use Rattle.dspec_cpu_state.specs.Words.Outside.{Record, Piece, one, block, piece_fits, Speculation, is_commit, is_discard, is_lost, CpuLegal, fits_principal, fits_speculative, is_closed, active}
-use Rattle.dspec_cpu_state.specs.Words.Outside.{contents, growing, held}
-use Rattle.dspec_record.specs.declared.field.Shape.{Shape}
-use Rattle.dspec_deeds.specs.declared.config.Config.{Config}
-use Rattle.dspec_deeds.specs.declared.deed.DecideFate.{DecideFate}
-use Rattle.dspec_deeds.specs.declared.deed.SpeculateFate.{SpeculateFate}
-use Rattle.dspec_deeds.specs.declared.deed.SpeculateFate.TheVariants as spoken
-use Rattle.dspec_deeds.specs.declared.deed.TraceFate.{TraceFate}
-use Rattle.dspec_deeds.specs.declared.deed.TraceFate.TheVariants as traced
-use Rattle.dspec_deeds.specs.declared.deed.Deed.{Deed}
-use Rattle.dspec_deeds.specs.declared.deed.Deed.TheVariants.{Seal, Speculate}
-use Rattle.dspec_cpu_state.specs.declared.counts.Counts.{Counts}
-use Rattle.dspec_cpu_state.specs.declared.cpu_state.CpuState.{CpuState}
 use Rattle.dspec_cpu_state.specs.Counting.{counts_of, with_decided}
 use Rattle.dspec_cpu_state.specs.CpuStates.{IsCaller, IsFilledWith, ShowsList}
+use Rattle.dspec_cpu_state.specs.Words.Outside.{Record, Piece, one, block, piece_fits, Speculation, is_commit, is_discard, is_lost, CpuLegal, fits_principal, fits_speculative, is_closed, active}
+use Rattle.dspec_cpu_state.specs.Words.Outside.{contents, growing, held, Shape, Config, DecideFate, SpeculateFate, TraceFate, Deed, Seal, Speculate}
+use Rattle.dspec_cpu_state.specs.declared.{counts.Counts.Counts, cpu_state.CpuState.CpuState}
+use Rattle.dspec_deeds.specs.declared.deed.SpeculateFate.TheVariants as spoken
+use Rattle.dspec_deeds.specs.declared.deed.TraceFate.TheVariants as traced
 
 -- what becomes of a record that is kept or not: one that is traced, and one that is granted to a speculation
 abbrev pub kept_trace : Bool → TraceFate

@@ -3,5 +3,3 @@ pub mod Outside
 unfoldable pub use Outside.*
 pub use Rattle.dspec_cpu_state.specs.Counting.{counts_of, HasRoom, is_stopped_opening, IsRoomy, one_more_worn, with_decided, with_fate, with_opening, with_spoken}
 pub use Rattle.dspec_cpu_state.specs.CpuStates.{IsCaller, IsFilledWith, parts_of_side, ShowsList}
-pub use Rattle.dspec_cpu_state.specs.declared.counts.Counts.{Counts}
-pub use Rattle.dspec_cpu_state.specs.declared.cpu_state.CpuState.{CpuState}

@@ -2,15 +2,11 @@ ghost use Rattle.std.specs.Prelude.{◌≡◌, ◌<◌, ◌≤◌, ◌+◌, ◌-
 ghost use Rattle.dspec_record.specs.Record.{Record};
 ghost use Rattle.dspec_buffer.specs.Extent.{Piece, one};
 ghost use Rattle.dspec_word.specs.SpecId.{Speculation};
-ghost use Rattle.dspec_deeds.specs.declared.config.Config.{Config};
-ghost use Rattle.dspec_deeds.specs.declared.deed.Deed.{Deed};
-ghost use Rattle.dspec_deeds.specs.declared.deed.Deed.TheVariants.{Commit, Discard, Settle};
-ghost use Rattle.dspec_deeds.specs.FateKinds.{is_commit, is_copied, is_discard, is_lost};
-ghost use Rattle.dspec_deeds.specs.Own.{held};
-ghost use Rattle.dspec_cpu_state.specs.Counting.{HasRoom, IsRoomy, with_decided};
-ghost use Rattle.dspec_cpu_state.specs.CpuStates.{IsCaller, ShowsList};
-ghost use Rattle.dspec_deeds.specs.Settling.{committed_fate, settled_fate};
-ghost use Rattle.dspec_cpu_state.specs.Showing.{ChangesAt, ShowsEnded, ShowsNext, TakesBlock, TellsBlock, TellsBlockRoom, block_fits, decided_side, ends_block, settled_side};
+ghost use Rattle.dspec_deeds.specs.{FateKinds.is_commit, FateKinds.is_copied, FateKinds.is_discard, FateKinds.is_lost, Own.held, Settling.committed_fate, Settling.settled_fate};
+ghost use Rattle.dspec_deeds.specs.{declared.config.Config.Config, declared.deed.Deed.Deed, declared.deed.Deed.TheVariants.Commit, declared.deed.Deed.TheVariants.Discard};
+ghost use Rattle.dspec_deeds.specs.{declared.deed.Deed.TheVariants.Settle};
+ghost use Rattle.dspec_cpu_state.specs.{Counting.HasRoom, Counting.IsRoomy, Counting.with_decided, CpuStates.IsCaller, CpuStates.ShowsList, Showing.ChangesAt, Showing.ShowsEnded, Showing.ShowsNext};
+ghost use Rattle.dspec_cpu_state.specs.{Showing.TakesBlock, Showing.TellsBlock, Showing.TellsBlockRoom, Showing.block_fits, Showing.decided_side, Showing.ends_block, Showing.settled_side};
 
 use crate::cpu_state::CpuState;
 use dspec_buffer::TraceBuffer;

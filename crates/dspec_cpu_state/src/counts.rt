@@ -1,6 +1,5 @@
 ghost use Rattle.std.specs.Prelude.{◌≡◌, ◌<◌, ◌≤◌, ◌^◌, ℕ, []};
-ghost use Rattle.dspec_deeds.specs.declared.config.Config.{Config};
-ghost use Rattle.dspec_deeds.specs.FateKinds.{count_of};
+ghost use Rattle.dspec_deeds.specs.{FateKinds.count_of, declared.config.Config.Config};
 ghost use Rattle.dspec_cpu_state.specs.Counting.{IsRoomy, HasRoom, counts_of, one_more_worn, report_of, with_decided, with_fate, with_missed, with_opening, with_scanned, with_spoken, with_traced};
 
 use dspec_deeds::{DecideFate, Opening, Report, SpeculateFate, TraceFate};

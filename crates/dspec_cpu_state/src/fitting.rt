@@ -1,12 +1,9 @@
-ghost use Rattle.std.specs.Prelude.{◌≡◌, ◌≤◌, ◌&&◌, ◌<◌, not, true, ℕ, List, [], ◌∷◌, length, IsTrue, if◌then◌else◌};
 ghost use Rattle.std.specs.Bool.{OnTrue, OnFalse};
+ghost use Rattle.std.specs.Prelude.{◌≡◌, ◌≤◌, ◌&&◌, ◌<◌, not, true, ℕ, List, [], ◌∷◌, length, IsTrue, if◌then◌else◌};
 ghost use Rattle.dspec_record.specs.LaidOut.{IsLaidBy};
 ghost use Rattle.dspec_buffer.specs.Extent.{Piece, one, piece_fits};
-ghost use Rattle.dspec_deeds.specs.declared.deed.Deed.{Deed};
-ghost use Rattle.dspec_deeds.specs.Legal.{fits_principal, is_closed};
-ghost use Rattle.dspec_cpu_state.specs.Counting.{counts_of};
-ghost use Rattle.dspec_cpu_state.specs.CpuStates.{ShowsList};
-ghost use Rattle.dspec_cpu_state.specs.Showing.{TellsSlotRoom};
+ghost use Rattle.dspec_deeds.specs.{Legal.fits_principal, Legal.is_closed, declared.deed.Deed.Deed};
+ghost use Rattle.dspec_cpu_state.specs.{Counting.counts_of, CpuStates.ShowsList, Showing.TellsSlotRoom};
 
 use crate::cpu_state::CpuState;
 use dspec_buffer::TraceBuffer;

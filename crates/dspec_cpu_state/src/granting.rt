@@ -1,16 +1,10 @@
 ghost use Rattle.std.specs.Prelude.{◌≡◌, ◌<◌, ◌≤◌, ◌+◌, ◌-◌, ◌^◌, ◌==◌, ℕ, true, false, List, length, slice_get, slice_set, Some, IsTrue, if◌then◌else◌};
-ghost use Rattle.dspec_record.specs.LaidOut.{IsLaidBy};
-ghost use Rattle.dspec_record.specs.Record.{Record};
+ghost use Rattle.dspec_record.specs.{LaidOut.IsLaidBy, Record.Record};
 ghost use Rattle.dspec_word.specs.SpecId.{Speculation};
-ghost use Rattle.dspec_deeds.specs.declared.config.Config.{Config};
-ghost use Rattle.dspec_deeds.specs.declared.deed.Deed.{Deed};
-ghost use Rattle.dspec_deeds.specs.declared.deed.Deed.TheVariants.{Speculate};
-ghost use Rattle.dspec_deeds.specs.FateKinds.{spoken_granted};
-ghost use Rattle.dspec_deeds.specs.CpuShown.{last_called};
-ghost use Rattle.dspec_deeds.specs.Own.{dropped_in, held};
-ghost use Rattle.dspec_cpu_state.specs.Counting.{IsRoomy, with_spoken};
-ghost use Rattle.dspec_cpu_state.specs.CpuStates.{ShowsList};
-ghost use Rattle.dspec_cpu_state.specs.Showing.{ChangesAt, KeepsRecord, ShowsGrant, ShowsNext, TellsSlotRoom, kept_grant};
+ghost use Rattle.dspec_deeds.specs.{CpuShown.last_called, FateKinds.spoken_granted, Own.dropped_in, Own.held, declared.config.Config.Config, declared.deed.Deed.Deed};
+ghost use Rattle.dspec_deeds.specs.{declared.deed.Deed.TheVariants.Speculate};
+ghost use Rattle.dspec_cpu_state.specs.{Counting.IsRoomy, Counting.with_spoken, CpuStates.ShowsList, Showing.ChangesAt, Showing.KeepsRecord, Showing.ShowsGrant, Showing.ShowsNext};
+ghost use Rattle.dspec_cpu_state.specs.{Showing.TellsSlotRoom, Showing.kept_grant};
 
 use crate::cpu_state::CpuState;
 use crate::marks::Marks;

@@ -1,9 +1,6 @@
 ghost use Rattle.std.specs.Prelude.{◌≡◌, ◌<◌, ◌+◌, ◌^◌, ◌==◌, ◌∷◌, ◌||◌, false, ℕ, List};
-ghost use Rattle.dspec_deeds.specs.declared.config.Config.{Config};
-ghost use Rattle.dspec_deeds.specs.declared.deed.Deed.{Deed};
-ghost use Rattle.dspec_deeds.specs.declared.deed.Deed.TheVariants.{Scan, Miss};
-ghost use Rattle.dspec_cpu_state.specs.Counting.{IsRoomy, with_missed, with_scanned};
-ghost use Rattle.dspec_cpu_state.specs.CpuStates.{ShowsList};
+ghost use Rattle.dspec_deeds.specs.declared.{config.Config.Config, deed.Deed.Deed, deed.Deed.TheVariants.Scan, deed.Deed.TheVariants.Miss};
+ghost use Rattle.dspec_cpu_state.specs.{Counting.IsRoomy, Counting.with_missed, Counting.with_scanned, CpuStates.ShowsList};
 
 use crate::cpu_state::CpuState;
 use dspec_buffer::TraceBuffer;

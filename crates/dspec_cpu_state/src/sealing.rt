@@ -1,8 +1,6 @@
 ghost use Rattle.std.specs.Prelude.{◌≡◌, ◌<◌, ◌+◌, ◌^◌, ℕ, List};
-ghost use Rattle.dspec_deeds.specs.declared.config.Config.{Config};
-ghost use Rattle.dspec_deeds.specs.declared.deed.Deed.{Deed};
-ghost use Rattle.dspec_cpu_state.specs.CpuStates.{ShowsList};
-ghost use Rattle.dspec_cpu_state.specs.Showing.{IsGrown, ShowsSeal};
+ghost use Rattle.dspec_deeds.specs.declared.{config.Config.Config, deed.Deed.Deed};
+ghost use Rattle.dspec_cpu_state.specs.{CpuStates.ShowsList, Showing.IsGrown, Showing.ShowsSeal};
 
 use crate::cpu_state::CpuState;
 use dspec_buffer::TraceBuffer;

@@ -1,11 +1,7 @@
 ghost use Rattle.std.specs.Prelude.{◌≡◌, ◌<◌, ◌+◌, ◌^◌, ℕ, List, IsTrue};
-ghost use Rattle.dspec_record.specs.LaidOut.{IsLaidBy};
-ghost use Rattle.dspec_record.specs.Record.{Record};
-ghost use Rattle.dspec_deeds.specs.declared.config.Config.{Config};
-ghost use Rattle.dspec_deeds.specs.declared.deed.Deed.{Deed};
-ghost use Rattle.dspec_deeds.specs.declared.deed.Deed.TheVariants.{Trace};
-ghost use Rattle.dspec_cpu_state.specs.Counting.{IsRoomy, with_traced};
-ghost use Rattle.dspec_cpu_state.specs.Showing.{ShowsNext, TellsRecordRoom, kept_trace};
+ghost use Rattle.dspec_record.specs.{LaidOut.IsLaidBy, Record.Record};
+ghost use Rattle.dspec_deeds.specs.declared.{config.Config.Config, deed.Deed.Deed, deed.Deed.TheVariants.Trace};
+ghost use Rattle.dspec_cpu_state.specs.{Counting.IsRoomy, Counting.with_traced, Showing.ShowsNext, Showing.TellsRecordRoom, Showing.kept_trace};
 
 use crate::cpu_state::CpuState;
 use crate::fitting::keep_open;

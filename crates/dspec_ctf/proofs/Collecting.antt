@@ -1,7 +1,7 @@
 -- Records of one text more.
 use Rattle.std.proofs.Common.{◌≡◌, ◌<◌, ◌+◌, ◌++◌, List, ℕ, zero, suc, [], ◌∷◌, length, map, take, slice_index_or, refl, ap, sym, subst, ◌∙◌, append_assoc, arith}
-use Rattle.dspec_ctf.specs.Words.{Record, EnabledRows, IsText, AreTexts, IsAdded}
 use Rattle.std.proofs.lemmas.List.{append-nil}
+use Rattle.dspec_ctf.specs.Words.{Record, EnabledRows, IsText, AreTexts, IsAdded}
 
 more-texts : (e : EnabledRows) (texts : List (List ℕ)) (text : List ℕ) (rs added all : List Record) → AreTexts e texts rs → IsText e text added → all ≡ rs ++ added
     → AreTexts e (texts ++ text ∷ []) all

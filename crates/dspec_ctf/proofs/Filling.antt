@@ -1,12 +1,9 @@
 -- Records shared out to packets of 1,024 bytes.
-use Rattle.std.proofs.lemmas.Bool.Decides.{nat_tests}
-use Rattle.std.proofs.Common.{◌≡◌, ◌≤◌, ◌<◌, ◌+◌, ◌-◌, ◌*◌, ◌++◌, ℕ, Bool, true, false, cond, List, [], ◌∷◌, length, get_or, take, drop, replicate, Option, Some, None}
-use Rattle.std.proofs.Common.{refl, ap, sym, subst, ◌∙◌, arith, append_assoc, length-append, All}
-use Rattle.std.specs.Prelude.{slice_index, slice_range}
-use Rattle.std.specs.List.{flat_map}
-use Rattle.std.proofs.lemmas.Bool.{leb-true, le-leb, lt-leb}
-use Rattle.std.proofs.lemmas.List.{append-nil, drop_more, length-drop, length-replicate, take-replicate, take_more, get_or-drop}
-use Rattle.std.proofs.lemmas.List.Elements.{All-head, All-tail, All-nil, All-cons, All-push}
+use Rattle.std.proofs.Common.{◌≡◌, ◌≤◌, ◌<◌, ◌+◌, ◌-◌, ◌*◌, ◌++◌, ℕ, Bool, true, false, cond, List, [], ◌∷◌, length, get_or, take, drop, replicate, Option, Some, None, refl, ap, sym, subst, ◌∙◌}
+use Rattle.std.proofs.Common.{arith, append_assoc, length-append, All}
+use Rattle.std.proofs.lemmas.{Bool.leb-true, Bool.le-leb, Bool.lt-leb, Bool.Decides.nat_tests, List.append-nil, List.drop_more, List.length-drop, List.length-replicate, List.take-replicate}
+use Rattle.std.proofs.lemmas.{List.take_more, List.get_or-drop, List.Elements.All-head, List.Elements.All-tail, List.Elements.All-nil, List.Elements.All-cons, List.Elements.All-push}
+use Rattle.std.specs.{List.flat_map, Prelude.slice_index, Prelude.slice_range}
 use Rattle.dspec_ctf.specs.Words.{Record, little_endian, EnabledRows, event, events, header_bytes, span_bytes, context_bytes, front_bytes, front_size, filled_around, filled_packet, filled_packets}
 use Rattle.dspec_ctf.specs.Words.{filled_size, front_by, portions, portions_from, span_by, takes_another, missed_packets, Accepts}
 use Rattle.dspec_ctf.proofs.OneStream.{accepted-small}

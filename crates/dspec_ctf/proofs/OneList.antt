@@ -1,15 +1,10 @@
 -- Bytes are the events of one list of records at most.
-use Rattle.std.proofs.lemmas.Bool.Decides.{nat_tests}
-use Rattle.std.proofs.Common.{◌≡◌, ◌+◌, ◌*◌, ◌^◌, ◌++◌, ℕ, Bool, true, false, cond, ltb, leb, IsTrue, List, [], ◌∷◌, length, Option, Some, None, refl, sym, ◌∙◌, arith}
-use Rattle.std.proofs.Common.{append_assoc, length-append, All}
-use Rattle.std.proofs.lemmas.List.Elements.{All-head, All-tail}
-use Rattle.std.specs.Prelude.{unwrap_or, option_and_then}
-use Rattle.std.specs.Option.{option_map_or}
-use Rattle.std.proofs.lemmas.Bool.{ltb-true, eqb-true}
+use Rattle.std.proofs.Common.{◌≡◌, ◌+◌, ◌*◌, ◌^◌, ◌++◌, ℕ, Bool, true, false, cond, ltb, leb, IsTrue, List, [], ◌∷◌, length, Option, Some, None, refl, sym, ◌∙◌, arith, append_assoc, length-append}
+use Rattle.std.proofs.Common.{All}
+use Rattle.std.proofs.lemmas.{Bool.ltb-true, Bool.eqb-true, Bool.Decides.nat_tests, List.Elements.All-head, List.Elements.All-tail}
+use Rattle.std.specs.{Option.option_map_or, Prelude.unwrap_or, Prelude.option_and_then}
 use Rattle.dspec_ctf.specs.Words.{Record, width, little_endian, stamp_fits, fits, within_limit, EnabledRows, both, append-same, little_endian-same, length-little_endian, stamp_bytes, values_bytes}
-use Rattle.dspec_ctf.specs.Words.{event, events, header_bytes, span_bytes, context_bytes, front_bytes, packet, Accepts}
-use Rattle.dspec_record.specs.declared.field.Field.{Field}
-use Rattle.dspec_record.specs.declared.header.Header.{Header}
+use Rattle.dspec_ctf.specs.Words.{event, events, header_bytes, span_bytes, context_bytes, front_bytes, packet, Accepts, Field, Header}
 use Rattle.dspec_record.specs.declared.header.Header.TheVariants as header
 
 -- the values of a record that is accepted fit the fields that its EPID has

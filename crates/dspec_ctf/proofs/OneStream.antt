@@ -1,19 +1,12 @@
 -- Bytes are the packets by time of one list of records at most.
-use Rattle.std.proofs.lemmas.Bool.Decides.{nat_tests}
-use Rattle.std.proofs.Common.{◌≡◌, ◌≤◌, ◌<◌, ◌+◌, ◌*◌, ◌^◌, ◌/◌, ◌==◌, ◌++◌, ℕ, zero, suc, Bool, true, false, cond, leb, IsTrue, List, [], ◌∷◌, length, take, drop, Option, Some, None}
-use Rattle.std.proofs.Common.{refl, ap, sym, subst, ◌∙◌, arith, append_assoc, length-append, All}
-use Rattle.std.specs.Prelude.{option_and_then}
-use Rattle.std.specs.Option.{option_map_or}
-use Rattle.std.specs.List.{flat_map, range_with_len}
-use Rattle.std.proofs.lemmas.Bool.{leb-true, eqb-true}
-use Rattle.std.proofs.lemmas.List.{take-append-drop, drop_all, drop-drop, length-take}
-use Rattle.std.proofs.lemmas.List.Elements.{All-head, All-tail, All-take, All-drop}
+use Rattle.std.proofs.Common.{◌≡◌, ◌≤◌, ◌<◌, ◌+◌, ◌*◌, ◌^◌, ◌/◌, ◌==◌, ◌++◌, ℕ, zero, suc, Bool, true, false, cond, leb, IsTrue, List, [], ◌∷◌, length, take, drop, Option, Some, None, refl, ap, sym}
+use Rattle.std.proofs.Common.{subst, ◌∙◌, arith, append_assoc, length-append, All}
+use Rattle.std.proofs.lemmas.Bool.{leb-true, eqb-true, Decides.nat_tests}
+use Rattle.std.proofs.lemmas.List.{take-append-drop, drop_all, drop-drop, length-take, Elements.All-head, Elements.All-tail, Elements.All-take, Elements.All-drop}
+use Rattle.std.specs.{List.flat_map, List.range_with_len, Option.option_map_or, Prelude.option_and_then}
 use Rattle.dspec_ctf.specs.Words.{Record, little_endian, fits, within_limit, enabling_of, enabled, EnabledRows, both, append-same, little_endian-same, IsAccepted, accepted-parts, event, events}
-use Rattle.dspec_ctf.specs.Words.{header_bytes, span_bytes, context_bytes, front_bytes, Accepts, span_of, packet_count, part_at, timed_packet, packet_at, timed_packets}
-use Rattle.dspec_record.specs.declared.field.Field.{Field}
-use Rattle.dspec_record.specs.declared.field.Field.TheVariants.{Eight}
-use Rattle.dspec_ctf.proofs.Sizes.{event_small}
-use Rattle.dspec_ctf.proofs.OneList.{events-same, length-front}
+use Rattle.dspec_ctf.specs.Words.{header_bytes, span_bytes, context_bytes, front_bytes, Accepts, span_of, packet_count, part_at, timed_packet, packet_at, timed_packets, Field, Eight}
+use Rattle.dspec_ctf.proofs.{OneList.events-same, OneList.length-front, Sizes.event_small}
 
 -- a record that is accepted has eight values at most
 fits-long : (fs : List Field) (vs : List ℕ) → IsTrue (fits fs vs) → length vs ≡ length fs

@@ -1,12 +1,8 @@
 -- What files have whose records went to them one after another.
-use Rattle.std.proofs.lemmas.Bool.Decides.{nat_tests}
 use Rattle.std.proofs.Common.{◌≡◌, ◌<◌, ◌≤◌, ◌==◌, inl, inr, ℕ, zero, suc, Bool, true, false, cond, List, [], ◌∷◌, length, get_or, map, refl, ap, sym, subst, arith, All}
-use Rattle.std.specs.Prelude.{slice_index, filter, zip}
-use Rattle.std.specs.List.Sorted.{IsNonDecreasingBy}
-use Rattle.std.proofs.lemmas.Bool.{eqb-true, eqb-false}
-use Rattle.std.proofs.lemmas.List.{length-set, get_or-set_same, get_or-set_other, get_or_push, get_or_append_left, length_push}
-use Rattle.std.proofs.lemmas.List.Elements.{All-nil, All-cons, All-get_or, All-weaker}
-use Rattle.std.proofs.lemmas.List.Sorted.{IsNonDecreasingBy-short}
+use Rattle.std.proofs.lemmas.{Bool.eqb-true, Bool.eqb-false, Bool.Decides.nat_tests, List.length-set, List.get_or-set_same, List.get_or-set_other, List.get_or_push, List.get_or_append_left}
+use Rattle.std.proofs.lemmas.{List.length_push, List.Elements.All-nil, List.Elements.All-cons, List.Elements.All-get_or, List.Elements.All-weaker, List.Sorted.IsNonDecreasingBy-short}
+use Rattle.std.specs.{List.Sorted.IsNonDecreasingBy, Prelude.slice_index, Prelude.filter, Prelude.zip}
 use Rattle.dspec_ctf.specs.Words.{Record, GoesToFile, Spreads, of_file}
 
 -- the file that a record goes to has its stamp

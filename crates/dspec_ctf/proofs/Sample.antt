@@ -1,7 +1,7 @@
 -- The definitions at small worked examples.
 use Rattle.std.proofs.Common.{◌≡◌, ◌++◌, true, false, [], ◌∷◌, replicate, refl}
-use Rattle.dspec_ctf.specs.Words.{EnabledRows, Record, event, packet, header_bytes, context_bytes, front_bytes, filled_around, filled_packet, filled_packets, portions, packet_count, span_of}
-use Rattle.dspec_record.specs.declared.field.Field.TheVariants.{One, Two, Eight}
+use Rattle.dspec_ctf.specs.Words.{EnabledRows, Record, event, packet, header_bytes, context_bytes, front_bytes, filled_around, filled_packet, filled_packets, portions, packet_count, span_of, One}
+use Rattle.dspec_ctf.specs.Words.{Two, Eight}
 use Rattle.dspec_record.specs.declared.header.Header.TheVariants as header
 
 abbrev rows : EnabledRows

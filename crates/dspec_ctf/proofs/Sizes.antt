@@ -1,11 +1,8 @@
 -- How many bytes events have at most.
-use Rattle.std.proofs.lemmas.Bool.Decides.{nat_tests}
 use Rattle.std.proofs.Common.{◌≡◌, ◌≤◌, ◌*◌, ℕ, zero, suc, List, [], ◌∷◌, length, refl, ap, arith}
+use Rattle.std.proofs.lemmas.Bool.Decides.{nat_tests}
 use Rattle.std.specs.Int.{bytes_low_first}
-use Rattle.dspec_ctf.specs.Words.{Record, width, little_endian, EnabledRows, stamp_bytes, values_bytes, event}
-use Rattle.dspec_record.specs.declared.field.Field.{Field}
-use Rattle.dspec_record.specs.declared.field.Field.TheVariants.{One, Two, Four, Eight}
-use Rattle.dspec_record.specs.declared.header.Header.{Header}
+use Rattle.dspec_ctf.specs.Words.{Record, width, little_endian, EnabledRows, stamp_bytes, values_bytes, event, Field, One, Two, Four, Eight, Header}
 use Rattle.dspec_record.specs.declared.header.Header.TheVariants as header
 
 low-first : (i n x : ℕ) → length (bytes_low_first i n x) ≡ n

@@ -1,11 +1,9 @@
 -- Records that go to files one after another.
-use Rattle.std.proofs.lemmas.Bool.Decides.{nat_tests}
 use Rattle.std.proofs.Common.{◌≡◌, ◌<◌, ◌≤◌, ◌+◌, ◌-◌, inl, inr, ℕ, suc, List, [], ◌∷◌, ◌++◌, Option, Some, None, length, get_or, take, drop, replicate, refl, ap, sym, subst, ◌∙◌, arith}
-use Rattle.std.specs.Prelude.{slice_get, slice_range}
-use Rattle.std.proofs.lemmas.List.{length-drop, get_or-drop, take_more, drop_more, drop-drop, replicate_more}
 use Rattle.std.proofs.Math.Seq.{take-add}
-use Rattle.std.proofs.lemmas.Option.{slice_get-get_or}
-use Rattle.dspec_ctf.specs.Words.{Record, IsLatestOf, IsFoundOf, GoesToFile, Spreads, AreRuns, run_records, run_files, Run}
+use Rattle.std.proofs.lemmas.{Bool.Decides.nat_tests, List.length-drop, List.get_or-drop, List.take_more, List.drop_more, List.drop-drop, List.replicate_more, Option.slice_get-get_or}
+use Rattle.std.specs.Prelude.{slice_get, slice_range}
+use Rattle.dspec_ctf.specs.{Words.Record, Words.IsLatestOf, Words.IsFoundOf, Words.GoesToFile, Words.Spreads, Words.AreRuns, Words.run_records, Words.run_files, declared.rows.Run.Run}
 
 -- one file alone is the latest
 latest-one : (lasts : List ℕ) (n stamp f g : ℕ) → IsLatestOf lasts n stamp f → IsLatestOf lasts n stamp g → f ≡ g

@@ -1,9 +1,7 @@
 -- The records of a text are accepted, and no more than its size allows.
-use Rattle.std.proofs.lemmas.Bool.Decides.{nat_tests}
 use Rattle.std.proofs.Common.{ℕ, ◌≡◌, ◌≤◌, ◌+◌, ◌*◌, ◌++◌, Bool, IsTrue, List, [], ◌∷◌, length, Option, All, ap, arith, length-append}
-use Rattle.std.proofs.lemmas.List.Elements.{All-nil, All-cons}
-use Rattle.dspec_ctf.specs.Words.{Record, EnabledRows, enabled, table_shape, table_accepts, table_text, BufferText, most_records, Accepts, IsText}
-use Rattle.dspec_record.specs.declared.field.Shape.{Shape}
+use Rattle.std.proofs.lemmas.{Bool.Decides.nat_tests, List.Elements.All-nil, List.Elements.All-cons}
+use Rattle.dspec_ctf.specs.Words.{Record, EnabledRows, enabled, table_shape, table_accepts, table_text, BufferText, most_records, Accepts, IsText, Shape}
 use Rattle.dspec_record.specs.declared.header.Header.TheVariants.{Two}
 
 read-accepted : (shape : ℕ → Option Shape) (accepted : Record → Bool) (text : Record → List ℕ) (place : ℕ) (bytes : List ℕ) (rs : List Record)

@@ -1,15 +1,11 @@
 -- Cited by calls. The packets of a CPU by time: which records they have, in which order, and the bytes of them all.
-use Rattle.std.specs.Prelude.{◌≡◌, ℕ, ◌+◌, ◌-◌, ◌*◌, ◌/◌, ◌==◌, ◌<◌, List, [], ◌∷◌, ◌++◌, length, take, drop, slice_index_or, slice_get, Some, if◌then◌else◌}
-use Rattle.std.specs.Option.{option_map_or}
-use Rattle.std.specs.List.{flat_map, range_with_len}
-use Rattle.std.specs.List.Sorted.{IsPermutation, IsNonDecreasingBy, IsStableByKey}
-use Rattle.std.specs.Ordering.{nat_cmp}
-use Rattle.dspec_ctf.specs.Words.Outside.{Record, EnabledRows, enabled, table_shape, table_accepts, table_text, StopsAt}
+use Rattle.std.specs.{List.flat_map, List.range_with_len, List.Sorted.IsPermutation, List.Sorted.IsNonDecreasingBy, List.Sorted.IsStableByKey, Option.option_map_or, Ordering.nat_cmp, Prelude.◌≡◌}
+use Rattle.std.specs.{Prelude.ℕ, Prelude.◌+◌, Prelude.◌-◌, Prelude.◌*◌, Prelude.◌/◌, Prelude.◌==◌, Prelude.◌<◌, Prelude.List, Prelude.[], Prelude.◌∷◌, Prelude.◌++◌, Prelude.length, Prelude.take}
+use Rattle.std.specs.{Prelude.drop, Prelude.slice_index_or, Prelude.slice_get, Prelude.Some, Prelude.if◌then◌else◌}
+use Rattle.dspec_ctf.specs.{Packets.events, Packets.packet_around, Streams.IsText, Words.Outside.Record, Words.Outside.EnabledRows, Words.Outside.enabled, Words.Outside.table_shape}
+use Rattle.dspec_ctf.specs.{Words.Outside.table_accepts, Words.Outside.table_text, Words.Outside.StopsAt, declared.by_time.TimeFault.TimeFault, declared.by_time.TimeFault.TheVariants.NoStamp}
+use Rattle.dspec_ctf.specs.{declared.by_time.TimeFault.TheVariants.Text, declared.by_time.TimeFault.TheVariants.Memory}
 use Rattle.dspec_record.specs.declared.header.Header.TheVariants as header
-use Rattle.dspec_ctf.specs.Packets.{events, packet_around}
-use Rattle.dspec_ctf.specs.Streams.{IsText}
-use Rattle.dspec_ctf.specs.declared.by_time.TimeFault.{TimeFault}
-use Rattle.dspec_ctf.specs.declared.by_time.TimeFault.TheVariants.{NoStamp, Text, Memory}
 
 -- the same records in the order of their stamps; those of one stamp in the order that they had
 pub record IsByStamp (rs sorted : List Record) : Type 0 where

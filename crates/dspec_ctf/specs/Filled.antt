@@ -1,11 +1,8 @@
 -- Cited by calls. The packets of files that are written while a session runs. Each has 1,024 bytes: a write that is cut off where a page of the
 -- file ends leaves whole packets.
-use Rattle.std.specs.Prelude.{ℕ, ◌≡◌, ◌+◌, ◌-◌, Bool, true, false, nat_le, List, [], ◌∷◌, ◌++◌, length, replicate, Option, Some, None, if◌then◌else◌}
 use Rattle.std.specs.List.{flat_map}
-use Rattle.dspec_ctf.specs.Words.Outside.{Record, EnabledRows}
-use Rattle.dspec_ctf.specs.Packets.{event, events, front_bytes, front_size}
-use Rattle.dspec_ctf.specs.Streams.{IsText}
-use Rattle.dspec_ctf.specs.ByTime.{span_of}
+use Rattle.std.specs.Prelude.{ℕ, ◌≡◌, ◌+◌, ◌-◌, Bool, true, false, nat_le, List, [], ◌∷◌, ◌++◌, length, replicate, Option, Some, None, if◌then◌else◌}
+use Rattle.dspec_ctf.specs.{ByTime.span_of, Packets.event, Packets.events, Packets.front_bytes, Packets.front_size, Streams.IsText, Words.Outside.Record, Words.Outside.EnabledRows}
 
 -- how many bytes each of these packets has
 abbrev pub filled_size : ℕ

@@ -1,14 +1,8 @@
 -- Cited by calls. What the laws say, each by its name.
+use Rattle.std.specs.List.{flat_map, Sorted.IsNonDecreasingBy}
 use Rattle.std.specs.Prelude.{◌≡◌, ◌<◌, ◌≤◌, ◌+◌, ◌*◌, ℕ, Bool, List, All, length, map, slice_index, slice_range, zip}
-use Rattle.std.specs.List.{flat_map}
-use Rattle.std.specs.List.Sorted.{IsNonDecreasingBy}
-use Rattle.dspec_ctf.specs.Words.Outside.{EnabledRows, Record}
-use Rattle.dspec_ctf.specs.ByTime.{timed_packets}
-use Rattle.dspec_ctf.specs.Filled.{filled_packet, filled_packets, filled_size, front_by, portions}
-use Rattle.dspec_ctf.specs.Packets.{events, packet}
-use Rattle.dspec_ctf.specs.Rows.{Spreads, missed_packets, of_file, run_files, run_records}
-use Rattle.dspec_ctf.specs.Streams.{Accepts}
-use Rattle.dspec_ctf.specs.declared.rows.Run.{Run}
+use Rattle.dspec_ctf.specs.{ByTime.timed_packets, Filled.filled_packet, Filled.filled_packets, Filled.filled_size, Filled.front_by, Filled.portions, Packets.events, Packets.packet, Rows.Spreads}
+use Rattle.dspec_ctf.specs.{Rows.missed_packets, Rows.of_file, Rows.run_files, Rows.run_records, Streams.Accepts, Words.Outside.EnabledRows, Words.Outside.Record, declared.rows.Run.Run}
 
 module _ (e : EnabledRows) where
   -- two lists of records with the same packet are one list

@@ -1,25 +1,13 @@
 -- Cited by calls. The metadata of a trace: text in the format's language, which says how its packets and events are laid out.
-use Rattle.std.specs.Prelude.{ℕ, ◌+◌, ◌*◌, ◌/◌, ◌%◌, false, List, [], ◌∷◌, ◌++◌, length, take, drop, slice_get, slice_index_or, codes, decimal, Option, None, if◌then◌else◌}
-use Rattle.std.specs.Fmt.{digit_glyph}
-use Rattle.std.specs.Option.{option_map_or}
-use Rattle.std.specs.List.{flat_map, enumerate_from, range_with_len}
-use Rattle.dspec_ctf.specs.Words.Outside.{EnabledRows, is_next, name_place}
-use Rattle.dspec_record.specs.declared.field.Field.{Field}
-use Rattle.dspec_record.specs.declared.field.Field.TheVariants.{One, Two, Four, Eight}
-use Rattle.dspec_record.specs.declared.header.Header.{Header}
-use Rattle.dspec_record.specs.declared.header.Header.TheVariants as header
-use Rattle.dspec_probe.specs.declared.kind.Kind.{Kind}
-use Rattle.dspec_probe.specs.declared.kind.Kind.TheVariants.{Unsigned, Signed, Float, Text, TextNext}
-use Rattle.dspec_probe.specs.declared.probes.ProbeNames.{ProbeNames}
-use Rattle.dspec_ctf.specs.Packets.{event_fields}
+use Rattle.std.specs.{Fmt.digit_glyph, List.flat_map, List.enumerate_from, List.range_with_len, Option.option_map_or, Prelude.ℕ, Prelude.◌+◌, Prelude.◌*◌, Prelude.◌/◌, Prelude.◌%◌, Prelude.false}
+use Rattle.std.specs.{Prelude.List, Prelude.[], Prelude.◌∷◌, Prelude.◌++◌, Prelude.length, Prelude.take, Prelude.drop, Prelude.slice_get, Prelude.slice_index_or, Prelude.codes, Prelude.decimal}
+use Rattle.std.specs.{Prelude.Option, Prelude.None, Prelude.if◌then◌else◌}
 use Rattle.dspec_ctf.specs.Names.{labels_at}
-use Rattle.dspec_ctf.specs.declared.origin.Process.{Process}
-use Rattle.dspec_ctf.specs.declared.origin.ClockStart.{ClockStart}
-use Rattle.dspec_ctf.specs.declared.origin.Origin.{Origin}
-use Rattle.dspec_ctf.specs.declared.names.Names.{Names}
-use Rattle.dspec_ctf.specs.declared.names.Names.TheVariants.{Numbered, Given}
-use Rattle.dspec_ctf.specs.declared.form.Form.{Form}
-use Rattle.dspec_ctf.specs.declared.form.Form.TheVariants.{AsTaken, ByTime}
+use Rattle.dspec_ctf.specs.Packets.{event_fields}
+use Rattle.dspec_ctf.specs.Words.Outside.{EnabledRows, is_next, name_place, Field, One, Two, Four, Eight, Header, Kind, Unsigned, Signed, Float, Text, TextNext, ProbeNames}
+use Rattle.dspec_ctf.specs.declared.{form.Form.Form, form.Form.TheVariants.AsTaken, form.Form.TheVariants.ByTime, names.Names.Names, names.Names.TheVariants.Numbered, names.Names.TheVariants.Given}
+use Rattle.dspec_ctf.specs.declared.{origin.ClockStart.ClockStart, origin.Origin.Origin, origin.Process.Process}
+use Rattle.dspec_record.specs.declared.header.Header.TheVariants as header
 
 -- two digits of base 16, in lower case
 abbrev pub hex_byte : ℕ → List ℕ

@@ -1,30 +1,17 @@
 -- Cited by calls. Which names events and fields may have, and which of them is the first that they may not.
-use Rattle.std.specs.Prelude.{ℕ, zero, suc, ◌+◌, ◌==◌, not, nat_le, nat_lt, Bool, true, false, ◌&&◌, ◌||◌, List, []}
-use Rattle.std.specs.Prelude.{◌∷◌, length, map, take, slice_get, slice_index_or, codes, Option, Some, None, option_and_then, if◌then◌else◌}
-use Rattle.std.specs.Option.{option_map, option_map_or}
-use Rattle.std.specs.List.{list_any, list_all, range_with_len}
-use Rattle.std.specs.Str.{bytes_eq}
-use Rattle.dspec_ctf.specs.Words.Outside.{EnabledRows, width, next_words}
-use Rattle.dspec_record.specs.declared.header.Header.{Header}
-use Rattle.dspec_record.specs.declared.header.Header.TheVariants as header
-use Rattle.dspec_record.specs.declared.field.Field.{Field}
-use Rattle.dspec_record.specs.declared.field.Field.TheVariants.{One}
-use Rattle.dspec_probe.specs.declared.kind.Kind.{Kind}
-use Rattle.dspec_probe.specs.declared.kind.Kind.TheVariants.{Unsigned, Text, TextNext}
+use Rattle.std.specs.{List.list_any, List.list_all, List.range_with_len, Option.option_map, Option.option_map_or, Prelude.ℕ, Prelude.zero, Prelude.suc, Prelude.◌+◌, Prelude.◌==◌, Prelude.not}
+use Rattle.std.specs.{Prelude.nat_le, Prelude.nat_lt, Prelude.Bool, Prelude.true, Prelude.false, Prelude.◌&&◌, Prelude.◌||◌, Prelude.List, Prelude.[], Prelude.◌∷◌, Prelude.length, Prelude.map}
+use Rattle.std.specs.{Prelude.take, Prelude.slice_get, Prelude.slice_index_or, Prelude.codes, Prelude.Option, Prelude.Some, Prelude.None, Prelude.option_and_then, Prelude.if◌then◌else◌}
+use Rattle.std.specs.{Str.bytes_eq}
 use Rattle.dspec_ctf.specs.Packets.{event_fields}
-use Rattle.dspec_ctf.specs.declared.form.Form.{Form}
-use Rattle.dspec_ctf.specs.declared.form.Form.TheVariants.{AsTaken, ByTime}
-use Rattle.dspec_probe.specs.declared.probes.ProbeNames.{ProbeNames}
-use Rattle.dspec_ctf.specs.declared.origin.Process.{Process}
-use Rattle.dspec_ctf.specs.declared.origin.Origin.{Origin}
-use Rattle.dspec_ctf.specs.declared.names.Names.{Names}
-use Rattle.dspec_ctf.specs.declared.names.Names.TheVariants.{Numbered, Given}
-use Rattle.dspec_ctf.specs.declared.fault.NameKind.{NameKind}
-use Rattle.dspec_ctf.specs.declared.fault.NameKind.TheVariants.{TooLong, NotAnIdentifier, Reserved, Repeated}
-use Rattle.dspec_ctf.specs.declared.fault.MetadataFault.{MetadataFault}
-use Rattle.dspec_ctf.specs.declared.fault.MetadataFault.TheVariants.{NoStamp, NoFrequency, Name, HostName, ProcessName}
-use Rattle.dspec_ctf.specs.declared.fault.NameFault.{NameFault}
-use Rattle.dspec_ctf.specs.declared.fault.NameFault.TheVariants.{EventCount, Event, FieldCount, Field as FieldName, Label, Word}
+use Rattle.dspec_ctf.specs.Words.Outside.{EnabledRows, width, next_words, Header, Field, One, Kind, Unsigned, Text, TextNext, ProbeNames}
+use Rattle.dspec_ctf.specs.declared.{fault.MetadataFault.MetadataFault, fault.MetadataFault.TheVariants.NoStamp, fault.MetadataFault.TheVariants.NoFrequency, fault.MetadataFault.TheVariants.Name}
+use Rattle.dspec_ctf.specs.declared.{fault.MetadataFault.TheVariants.HostName, fault.MetadataFault.TheVariants.ProcessName, fault.NameFault.NameFault, fault.NameFault.TheVariants.EventCount}
+use Rattle.dspec_ctf.specs.declared.{fault.NameFault.TheVariants.Event, fault.NameFault.TheVariants.FieldCount, fault.NameFault.TheVariants.Field as FieldName, fault.NameFault.TheVariants.Label}
+use Rattle.dspec_ctf.specs.declared.{fault.NameFault.TheVariants.Word, fault.NameKind.NameKind, fault.NameKind.TheVariants.TooLong, fault.NameKind.TheVariants.NotAnIdentifier}
+use Rattle.dspec_ctf.specs.declared.{fault.NameKind.TheVariants.Reserved, fault.NameKind.TheVariants.Repeated, form.Form.Form, form.Form.TheVariants.AsTaken, form.Form.TheVariants.ByTime}
+use Rattle.dspec_ctf.specs.declared.{names.Names.Names, names.Names.TheVariants.Numbered, names.Names.TheVariants.Given, origin.Origin.Origin, origin.Process.Process}
+use Rattle.dspec_record.specs.declared.header.Header.TheVariants as header
 
 -- an English letter or the underscore
 unfoldable pub is_letter : ℕ → Bool

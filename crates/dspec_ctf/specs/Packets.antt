@@ -1,9 +1,7 @@
 -- Cited by calls. The bytes of packets of the Common Trace Format, version 1.8: little-endian, nothing between two parts.
-use Rattle.std.specs.Prelude.{ℕ, ◌+◌, ◌*◌, List, [], ◌++◌, length, Option, Some, None, unwrap_or}
 use Rattle.std.specs.List.{flat_map, zip}
-use Rattle.dspec_ctf.specs.Words.Outside.{Record, width, little_endian, enabling_of, EnabledRows}
-use Rattle.dspec_record.specs.declared.field.Field.{Field}
-use Rattle.dspec_record.specs.declared.header.Header.{Header}
+use Rattle.std.specs.Prelude.{ℕ, ◌+◌, ◌*◌, List, [], ◌++◌, length, Option, Some, None, unwrap_or}
+use Rattle.dspec_ctf.specs.Words.Outside.{Record, width, little_endian, enabling_of, EnabledRows, Field, Header}
 use Rattle.dspec_record.specs.declared.header.Header.TheVariants as header
 
 -- the fields of the records with this EPID

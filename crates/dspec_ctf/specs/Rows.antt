@@ -1,13 +1,10 @@
 -- Cited by calls. A CPU's files in a trace by time that is written while it runs: which file each record goes to. What is known of a
 -- CPU's files is a list: of each, by its number, the stamp of its last event.
-use Rattle.std.specs.Prelude.{true, ◌≡◌, ◌≢◌, ◌<◌, ◌≤◌, ◌-◌, ◌/◌, ◌==◌, ◌⊎◌, ℕ, List, [], ◌∷◌, ◌++◌, Option, Some, None, length, map, replicate}
-use Rattle.std.specs.Prelude.{slice_get, slice_index, slice_range, slice_set, filter, zip, if◌then◌else◌}
-use Rattle.dspec_ctf.specs.Words.Outside.{Record, EnabledRows}
-use Rattle.dspec_ctf.specs.Filled.{filled_around, filled_packets}
-use Rattle.dspec_ctf.specs.Streams.{HasNoRecords}
-use Rattle.dspec_ctf.specs.declared.rows.Run.{Run}
-use Rattle.dspec_ctf.specs.declared.stream.PacketFault.{PacketFault}
-use Rattle.dspec_ctf.specs.declared.stream.PacketFault.TheVariants.{Text, Missed, TooLong, Clock, Memory}
+use Rattle.std.specs.Prelude.{true, ◌≡◌, ◌≢◌, ◌<◌, ◌≤◌, ◌-◌, ◌/◌, ◌==◌, ◌⊎◌, ℕ, List, [], ◌∷◌, ◌++◌, Option, Some, None, length, map, replicate, slice_get, slice_index, slice_range, slice_set}
+use Rattle.std.specs.Prelude.{filter, zip, if◌then◌else◌}
+use Rattle.dspec_ctf.specs.{Filled.filled_around, Filled.filled_packets, Streams.HasNoRecords, Words.Outside.Record, Words.Outside.EnabledRows, declared.rows.Run.Run}
+use Rattle.dspec_ctf.specs.{declared.stream.PacketFault.PacketFault, declared.stream.PacketFault.TheVariants.Text, declared.stream.PacketFault.TheVariants.Missed}
+use Rattle.dspec_ctf.specs.{declared.stream.PacketFault.TheVariants.TooLong, declared.stream.PacketFault.TheVariants.Clock, declared.stream.PacketFault.TheVariants.Memory}
 
 -- Of the first n files that whose last stamp isn't above this one has the greatest, that of this number: of those that have the same
 -- it is the first.

@@ -1,9 +1,8 @@
 -- Cited by calls. Which packet is that of a batch, and why there is none.
 use Rattle.std.specs.Prelude.{◌≡◌, ◌<◌, ◌≤◌, ◌+◌, ◌^◌, ℕ, IsTrue, false, All, List, Some, length, take, slice_get}
-use Rattle.dspec_ctf.specs.Words.Outside.{Record, EnabledRows, enabled, table_shape, table_accepts, table_text, BufferText, StopsAt}
 use Rattle.dspec_ctf.specs.Packets.{events, packet}
-use Rattle.dspec_ctf.specs.declared.stream.PacketFault.{PacketFault}
-use Rattle.dspec_ctf.specs.declared.stream.PacketFault.TheVariants.{Text, Missed, TooLong, Clock, Memory}
+use Rattle.dspec_ctf.specs.Words.Outside.{Record, EnabledRows, enabled, table_shape, table_accepts, table_text, BufferText, StopsAt}
+use Rattle.dspec_ctf.specs.declared.stream.PacketFault.{PacketFault, TheVariants.Text, TheVariants.Missed, TheVariants.TooLong, TheVariants.Clock, TheVariants.Memory}
 
 module _ (e : EnabledRows) where
   -- these enablings take the record

@@ -24,7 +24,3 @@ unfoldable pub use Rattle.dspec_ctf.specs.Packets.{context_bytes, front_bytes, h
 pub use Rattle.dspec_ctf.specs.Rows.{AreRuns, GoesToFile, HasNoRun, IsFileRun, IsFoundOf, IsLatestOf, missed_packets, most_records, of_file, run_files, run_packet, run_packets, run_records, Spreads}
 pub use Rattle.dspec_ctf.specs.Rows.{told_by}
 pub use Rattle.dspec_ctf.specs.Streams.{Accepts, HasNoPacket, HasNoRecordPacket, HasNoRecords, IsText, IsTooLong}
-pub use Rattle.dspec_ctf.specs.declared.in_memory.fault.TextFault.{TextFault}
-pub use Rattle.dspec_ctf.specs.declared.in_memory.fault.TextFault.TheVariants.{BadKind, Count, Metadata, NotText, TooSmall}
-pub use Rattle.dspec_ctf.specs.declared.in_memory.packet.Packet.{Packet}
-pub use Rattle.dspec_ctf.specs.declared.rows.Run.{Run}

@@ -1,6 +1,5 @@
-ghost use Rattle.std.specs.Prelude.{◌≡◌, ◌<◌, ◌≤◌, ◌*◌, ◌+◌, ◌++◌, length, map, take, option_copied, IfOk, IfErr, OnErr, OnOk};
-ghost use Rattle.std.specs.Option.{option_map_or};
-ghost use Rattle.std.specs.Vec.{vec_capacity, vec_len};
+ghost use Rattle.std.specs.{Option.option_map_or, Prelude.◌≡◌, Prelude.◌<◌, Prelude.◌≤◌, Prelude.◌*◌, Prelude.◌+◌, Prelude.◌++◌, Prelude.length, Prelude.map, Prelude.take, Prelude.option_copied};
+ghost use Rattle.std.specs.{Prelude.IfOk, Prelude.IfErr, Prelude.OnErr, Prelude.OnOk, Vec.vec_capacity, Vec.vec_len};
 ghost use Rattle.dspec_ctf.specs.ByTime.{IsByStamp, span_of, packet_count, part_at, packet_at, timed_packets, IsAdded, AreTexts, IsNoText, ArePacketsOf, HasNoPackets};
 ghost use Rattle.dspec_ctf.specs.declared.by_time.TimeFault.TheVariants.{Memory};
 ghost use Rattle.dspec_record.specs.declared.header.Header.TheVariants as header;

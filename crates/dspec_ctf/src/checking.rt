@@ -1,10 +1,9 @@
-ghost use Rattle.std.specs.Prelude.{◌≡◌, ◌+◌, ◌<◌, ◌≤◌, ◌^◌, length, map, IfOk, IfSome};
-ghost use Rattle.std.specs.List.{list_all, list_any, range_with_len};
-ghost use Rattle.std.specs.Str.{bytes_eq};
-ghost use Rattle.std.specs.Prelude.{◌==◌, slice_index_or};
-ghost use Rattle.dspec_record.specs.Layout.{width};
-ghost use Rattle.dspec_record.specs.declared.field.Field.TheVariants.{One};
-ghost use Rattle.dspec_ctf.specs.Names.{is_letter, is_word_byte, begins_well, is_identifier, reserved_words, unfit, bad_name, bad_at, first_bad, first_found, is_label_byte, is_label, labels_at, bad_label_at, first_bad_label, label_fault_at, labels_fault, fields_fault, is_text, is_text_before, text_fault_at, texts_fault, fault_at, events_fault, names_fault, has_stamp};
+ghost use Rattle.std.specs.{List.list_all, List.list_any, List.range_with_len, Prelude.◌≡◌, Prelude.◌+◌, Prelude.◌<◌, Prelude.◌≤◌, Prelude.◌^◌, Prelude.length, Prelude.map, Prelude.IfOk};
+ghost use Rattle.std.specs.{Prelude.IfSome, Prelude.◌==◌, Prelude.slice_index_or, Str.bytes_eq};
+ghost use Rattle.dspec_record.specs.{Layout.width, declared.field.Field.TheVariants.One};
+ghost use Rattle.dspec_ctf.specs.Names.{is_letter, is_word_byte, begins_well, is_identifier, reserved_words, unfit, bad_name, bad_at, first_bad, first_found, is_label_byte, is_label, labels_at};
+ghost use Rattle.dspec_ctf.specs.Names.{bad_label_at, first_bad_label, label_fault_at, labels_fault, fields_fault, is_text, is_text_before, text_fault_at, texts_fault, fault_at, events_fault};
+ghost use Rattle.dspec_ctf.specs.Names.{names_fault, has_stamp};
 
 use crate::printing::fields_at;
 use crate::{Form, NameFault, NameKind, Names, ProbeNames};

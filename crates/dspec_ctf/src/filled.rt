@@ -4,9 +4,8 @@
 //! and what is left of a write of several that was cut off between two pages is whole packets.
 
 ghost use Rattle.std.specs.Prelude.{◌≡◌, ◌+◌, ◌≤◌, ◌++◌, [], IfErr, IfOk, OnErr, OnOk, length, replicate};
-ghost use Rattle.dspec_ctf.specs.Packets.{events, front_size};
-ghost use Rattle.dspec_ctf.specs.Filled.{AreFilledOf, filled_around, filled_packet, filled_packets, filled_size, front_by, span_by};
-ghost use Rattle.dspec_ctf.specs.Streams.{HasNoPacket};
+ghost use Rattle.dspec_ctf.specs.{Filled.AreFilledOf, Filled.filled_around, Filled.filled_packet, Filled.filled_packets, Filled.filled_size, Filled.front_by, Filled.span_by, Packets.events};
+ghost use Rattle.dspec_ctf.specs.{Packets.front_size, Streams.HasNoPacket};
 
 use crate::by_time::span_of;
 use crate::packet::{Sizes, front_size, put_event, put_front};

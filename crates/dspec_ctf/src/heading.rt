@@ -1,6 +1,6 @@
-ghost use Rattle.std.specs.Prelude.{◌≡◌, ◌<◌, ◌++◌, false, OnOk, string_bytes};
-ghost use Rattle.std.specs.Fmt.{digit_glyph};
-ghost use Rattle.dspec_ctf.specs.Metadata.{hex_byte, hex, hyphened, uuid_text, types_text, trace_front, trace_back, trace_text, host_text, program_text, pid_text, process_text, environment_text, clock_uuid, seconds_text, ticks_text, clock_start, clock_front, start_text, clock_back, clock_text, stream_text};
+ghost use Rattle.std.specs.{Fmt.digit_glyph, Prelude.◌≡◌, Prelude.◌<◌, Prelude.◌++◌, Prelude.false, Prelude.OnOk, Prelude.string_bytes};
+ghost use Rattle.dspec_ctf.specs.Metadata.{hex_byte, hex, hyphened, uuid_text, types_text, trace_front, trace_back, trace_text, host_text, program_text, pid_text, process_text, environment_text};
+ghost use Rattle.dspec_ctf.specs.Metadata.{clock_uuid, seconds_text, ticks_text, clock_start, clock_front, start_text, clock_back, clock_text, stream_text};
 
 use crate::{ClockStart, Form, Process};
 use std::alloc::AllocError;

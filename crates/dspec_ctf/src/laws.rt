@@ -2,9 +2,8 @@
 
 ghost use Rattle.std.specs.Prelude.{◌≤◌, ◌++◌, ℕ, List, length};
 ghost use Rattle.dspec_record.specs.Record.{Record};
-ghost use Rattle.dspec_ctf.specs.Laws.{AreFiled, HaveAllBetween, MissedPacketsAreWhole, PacketIsOfOneList, PacketsAreWhole, PortionsFit, PortionsHaveAll, StampsRise, StreamIsOfOneList};
-ghost use Rattle.dspec_ctf.specs.Rows.{AreRuns, Spreads};
-ghost use Rattle.dspec_ctf.specs.declared.rows.Run.{Run};
+ghost use Rattle.dspec_ctf.specs.{Laws.AreFiled, Laws.HaveAllBetween, Laws.MissedPacketsAreWhole, Laws.PacketIsOfOneList, Laws.PacketsAreWhole, Laws.PortionsFit, Laws.PortionsHaveAll};
+ghost use Rattle.dspec_ctf.specs.{Laws.StampsRise, Laws.StreamIsOfOneList, Rows.AreRuns, Rows.Spreads, declared.rows.Run.Run};
 
 use dspec_record::Enablings;
 

@@ -1,6 +1,4 @@
-ghost use Rattle.std.specs.Prelude.{◌≡◌, ◌<◌, ◌*◌, ◌/◌, None, Some};
-ghost use Rattle.std.specs.Duration.{as_nanos};
-ghost use Rattle.std.specs.Time.{system_time_nanos};
+ghost use Rattle.std.specs.{Duration.as_nanos, Prelude.◌≡◌, Prelude.◌<◌, Prelude.◌*◌, Prelude.◌/◌, Prelude.None, Prelude.Some, Time.system_time_nanos};
 ghost use Rattle.dspec_ctf.specs.Starts.{clock_start_at};
 
 use std::time::{Duration, SystemTime, UNIX_EPOCH};

@@ -1,6 +1,5 @@
 ghost use Rattle.std.specs.Prelude.{◌≡◌, ◌<◌, ◌≤◌, ◌++◌, ◌*◌, ◌+◌, ◌^◌, length, IfOk, OnOk};
-ghost use Rattle.dspec_record.specs.Layout.{width};
-ghost use Rattle.dspec_record.specs.RecordText.{little_endian};
+ghost use Rattle.dspec_record.specs.{Layout.width, RecordText.little_endian};
 ghost use Rattle.dspec_ctf.specs.Packets.{stamp_bytes, values_bytes, event, events, event_fields, header_bytes, span_bytes, front_size, context_bytes, front_bytes, packet_around};
 
 use dspec_buffer::Records;

@@ -1,8 +1,8 @@
-ghost use Rattle.std.specs.Prelude.{◌≡◌, ◌<◌, ◌≤◌, ◌+◌, ◌*◌, ◌^◌, ◌++◌, drop, length, map, slice_index_or, OnOk, string_bytes};
 ghost use Rattle.std.specs.List.{flat_map, range_with_len};
-ghost use Rattle.dspec_probe.specs.declared.kind.Kind.TheVariants.{Unsigned};
-ghost use Rattle.dspec_probe.specs.Kinds.{name_place};
-ghost use Rattle.dspec_ctf.specs.Metadata.{type_name, kind_type, label_items, labelled_type, numbered_lines, typed_line, text_type, text_line, kind_line, next_in_front, words_at, given_line, given_lines, stamp_line, event_name, field_lines, event_number, event_front, event_text};
+ghost use Rattle.std.specs.Prelude.{◌≡◌, ◌<◌, ◌≤◌, ◌+◌, ◌*◌, ◌^◌, ◌++◌, drop, length, map, slice_index_or, OnOk, string_bytes};
+ghost use Rattle.dspec_probe.specs.{Kinds.name_place, declared.kind.Kind.TheVariants.Unsigned};
+ghost use Rattle.dspec_ctf.specs.Metadata.{type_name, kind_type, label_items, labelled_type, numbered_lines, typed_line, text_type, text_line, kind_line, next_in_front, words_at, given_line};
+ghost use Rattle.dspec_ctf.specs.Metadata.{given_lines, stamp_line, event_name, field_lines, event_number, event_front, event_text};
 ghost use Rattle.dspec_ctf.specs.Packets.{event_fields};
 
 use crate::checking::labels_at;

@@ -1,9 +1,8 @@
 //! Packets of records that are in memory already, for one who has no text of them.
 
 ghost use Rattle.std.specs.Prelude.{◌≡◌, ◌+◌, [], None, All, IfOk, IfErr, IfSome, OnOk, OnErr};
-ghost use Rattle.dspec_ctf.specs.Packets.{packet, packet_around};
-ghost use Rattle.dspec_ctf.specs.Streams.{Accepts, HasNoRecordPacket, IsFirstRefused, IsTooLong};
-ghost use Rattle.dspec_ctf.specs.ByTime.{ArePacketsOfRecords, HasNoPackets};
+ghost use Rattle.dspec_ctf.specs.{ByTime.ArePacketsOfRecords, ByTime.HasNoPackets, Packets.packet, Packets.packet_around, Streams.Accepts, Streams.HasNoRecordPacket, Streams.IsFirstRefused};
+ghost use Rattle.dspec_ctf.specs.{Streams.IsTooLong};
 
 use crate::by_time::{TimeFault, put_packets, sort};
 use crate::packet::{put_around, put_events};

@@ -4,11 +4,10 @@
 //! files can be: a record goes to the file that goes on with it (`specs/Rows.antt`), and tools merge the files.
 
 ghost use Rattle.std.specs.Prelude.{◌≡◌, ◌+◌, ◌<◌, ◌≤◌, ◌++◌, [], length, All, IfOk, IfErr, OnErr, OnOk};
-ghost use Rattle.dspec_ctf.specs.Packets.{events};
-ghost use Rattle.dspec_ctf.specs.Streams.{Accepts, IsText, IsTooLong, HasNoRecords};
 ghost use Rattle.std.specs.Vec.{vec_capacity};
+ghost use Rattle.dspec_ctf.specs.{Packets.events, Rows.HasNoRoomFor, Rows.IsFoundOf, Rows.most_records, Rows.missed_packets, Rows.run_packet, Rows.silent_packet, Streams.Accepts, Streams.IsText};
+ghost use Rattle.dspec_ctf.specs.{Streams.IsTooLong, Streams.HasNoRecords};
 ghost use Rattle.dspec_record.specs.declared.header.Header.TheVariants.{Two};
-ghost use Rattle.dspec_ctf.specs.Rows.{HasNoRoomFor, IsFoundOf, most_records, missed_packets, run_packet, silent_packet};
 
 use crate::by_time::add_records;
 use crate::filled::{put_filled, put_filled_around};

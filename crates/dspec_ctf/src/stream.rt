@@ -1,6 +1,5 @@
 ghost use Rattle.std.specs.Prelude.{◌≡◌, ◌+◌, IfOk, IfErr, OnOk, OnErr};
-ghost use Rattle.dspec_ctf.specs.Streams.{IsPacketOf, HasNoPacket};
-ghost use Rattle.dspec_ctf.specs.declared.stream.PacketFault.TheVariants.{Memory};
+ghost use Rattle.dspec_ctf.specs.{Streams.IsPacketOf, Streams.HasNoPacket, declared.stream.PacketFault.TheVariants.Memory};
 
 use crate::packet::{events_of, front_size, put_around};
 use dspec_buffer::{ReadFault, read_all};

@@ -1,7 +1,6 @@
 ghost use Rattle.std.specs.Prelude.{◌≡◌, ◌++◌, ◌⊎◌, Some, None, IfOk, IfErr, OnOk, string_bytes};
-ghost use Rattle.dspec_ctf.specs.Metadata.{origin_text, metadata_text};
-ghost use Rattle.dspec_ctf.specs.Names.{form_fault, metadata_fault, process_fault, origin_fault};
-ghost use Rattle.dspec_ctf.specs.declared.fault.MetadataFault.TheVariants.{Memory};
+ghost use Rattle.dspec_ctf.specs.{Metadata.origin_text, Metadata.metadata_text, Names.form_fault, Names.metadata_fault, Names.process_fault, Names.origin_fault};
+ghost use Rattle.dspec_ctf.specs.{declared.fault.MetadataFault.TheVariants.Memory};
 
 use crate::checking::{is_label, names_fault};
 use crate::heading::{print_clock, print_environment, print_trace, stream_part, types_part};

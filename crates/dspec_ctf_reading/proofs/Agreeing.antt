@@ -1,7 +1,6 @@
 -- What sizes that agree say.
 use Rattle.std.proofs.Common.{arith, ◌≡◌, ◌≤◌, ◌/◌, ◌%◌, ℕ, true}
-use Rattle.std.proofs.lemmas.Bool.Decides.{nat_tests}
-use Rattle.std.proofs.lemmas.Bool.{leb-true, le-leb, and_from, and_parts, eqb-true, eq-eqb}
+use Rattle.std.proofs.lemmas.Bool.{leb-true, le-leb, and_from, and_parts, eqb-true, eq-eqb, Decides.nat_tests}
 use Rattle.dspec_ctf_reading.specs.Words.{FrontRead, sizes_agree}
 
 pub record Agrees (front : FrontRead) (read there : ℕ) : Type 0 where

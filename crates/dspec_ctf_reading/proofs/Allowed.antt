@@ -1,35 +1,19 @@
 -- Names that the metadata may have can be read.
-use Rattle.std.proofs.lemmas.Bool.Decides.{nat_tests}
-use Rattle.std.proofs.Common.{◌≡◌, ◌≤◌, ◌<◌, ◌+◌, ◌-◌, ◌^◌, ◌==◌, ◌++◌, ◌∷◌, ℕ, Bool, true, false, inl, List, [], length, drop}
-use Rattle.std.proofs.Common.{map, Option, Some, None, option_map, refl, ap, sym, subst, ◌∙◌, arith, All}
-use Rattle.std.specs.Prelude.{option_and_then, slice_get, slice_index_or, codes, decimal}
-use Rattle.std.specs.Option.{option_map_or}
-use Rattle.std.specs.List.{range_with_len, enumerate_from}
-use Rattle.std.proofs.lemmas.Bool.{eqb-true}
+use Rattle.std.proofs.Common.{◌≡◌, ◌≤◌, ◌<◌, ◌+◌, ◌-◌, ◌^◌, ◌==◌, ◌++◌, ◌∷◌, ℕ, Bool, true, false, inl, List, [], length, drop, map, Option, Some, None, option_map, refl, ap, sym, subst, ◌∙◌, arith}
+use Rattle.std.proofs.Common.{All}
+use Rattle.std.proofs.lemmas.Bool.{eqb-true, Decides.nat_tests}
+use Rattle.std.specs.{List.range_with_len, List.enumerate_from, Option.option_map_or, Prelude.option_and_then, Prelude.slice_get, Prelude.slice_index_or, Prelude.codes, Prelude.decimal}
 use Rattle.dspec_ctf_reading.specs.Words.{width, EnabledRows, is_next, next_words, name_place, event_fields, type_name, labelled_type, typed_line, words_at, next_in_front, kind_line, field_line}
 use Rattle.dspec_ctf_reading.specs.Words.{given_line, given_lines, event_name, field_lines, earlier, first_found, first_bad, has_stamp, labels_at, first_bad_label, label_fault_at, labels_fault}
 use Rattle.dspec_ctf_reading.specs.Words.{fields_fault, is_text_before, can_mean, text_fault_at, texts_fault, fault_at, events_fault, names_fault, form_fault, metadata_fault, process_fault}
-use Rattle.dspec_ctf_reading.specs.Words.{origin_fault, FieldLayout, is_digit, is_word, names_by, given_name, given_for, HasNumbers}
-use Rattle.dspec_record.specs.declared.field.Field.{Field}
-use Rattle.dspec_record.specs.declared.field.Field.TheVariants.{One}
-use Rattle.dspec_probe.specs.declared.kind.Kind.{Kind}
-use Rattle.dspec_probe.specs.declared.kind.Kind.TheVariants.{Unsigned, Signed, Float, Text, TextNext}
-use Rattle.dspec_probe.specs.declared.probes.ProbeNames.{ProbeNames}
-use Rattle.dspec_ctf.specs.declared.origin.Origin.{Origin}
-use Rattle.dspec_ctf.specs.declared.names.Names.{Names}
-use Rattle.dspec_ctf.specs.declared.names.Names.TheVariants.{Numbered, Given}
-use Rattle.dspec_ctf.specs.declared.fault.NameKind.{NameKind}
-use Rattle.dspec_ctf.specs.declared.fault.NameFault.{NameFault}
-use Rattle.dspec_ctf.specs.declared.fault.NameFault.TheVariants.{FieldCount, Field as FieldName, Label, Word, Event, EventCount}
-use Rattle.dspec_ctf.specs.declared.fault.MetadataFault.TheVariants.{Name}
-use Rattle.dspec_ctf.specs.declared.form.Form.{Form}
-use Rattle.dspec_ctf_reading.proofs.Lines.{IsWordy, IsPiece, joined-map, AreLines-map, typed-line, text-line}
-use Rattle.dspec_ctf_reading.proofs.FieldTypes.{IsQuotable, type-back, kind-back, no-text-type, no-text-name}
-use Rattle.dspec_ctf_reading.proofs.TextWords.{next-text, CanMean, text-within, first-none, flat, flat-ones, shape_at, piece_by, piece_at, AreFit, run-none, flat-pieces, are-fit, words-few}
-use Rattle.dspec_ctf_reading.proofs.NextWords.{kind_of, name-same, name-within}
-use Rattle.dspec_ctf_reading.proofs.Texts.{IsTold}
-use Rattle.dspec_ctf_reading.proofs.Headings.{IsShown}
-use Rattle.dspec_ctf_reading.proofs.AllowedWords.{earlier-none, get-some, index-map, labels-fit, map-long, map-none, names-fit, none-found, then-none, wordy-quotable, shown, numbered-wordy}
+use Rattle.dspec_ctf_reading.specs.Words.{origin_fault, FieldLayout, is_digit, is_word, names_by, given_name, given_for, HasNumbers, Field, One, Kind, Unsigned, Signed, Float, Text, TextNext}
+use Rattle.dspec_ctf_reading.specs.Words.{ProbeNames, Origin, Names, Numbered, Given, NameKind, NameFault, FieldCount, FieldName, Label, Word, Event, EventCount, Name, Form}
+use Rattle.dspec_ctf_reading.proofs.{AllowedWords.earlier-none, AllowedWords.get-some, AllowedWords.index-map, AllowedWords.labels-fit, AllowedWords.map-long, AllowedWords.map-none}
+use Rattle.dspec_ctf_reading.proofs.{AllowedWords.names-fit, AllowedWords.none-found, AllowedWords.then-none, AllowedWords.wordy-quotable, AllowedWords.shown, AllowedWords.numbered-wordy}
+use Rattle.dspec_ctf_reading.proofs.{FieldTypes.IsQuotable, FieldTypes.type-back, FieldTypes.kind-back, FieldTypes.no-text-type, FieldTypes.no-text-name, Headings.IsShown, Lines.IsWordy}
+use Rattle.dspec_ctf_reading.proofs.{Lines.IsPiece, Lines.joined-map, Lines.AreLines-map, Lines.typed-line, Lines.text-line, NextWords.kind_of, NextWords.name-same, NextWords.name-within}
+use Rattle.dspec_ctf_reading.proofs.{TextWords.next-text, TextWords.CanMean, TextWords.text-within, TextWords.first-none, TextWords.flat, TextWords.flat-ones, TextWords.shape_at, TextWords.piece_by}
+use Rattle.dspec_ctf_reading.proofs.{TextWords.piece_at, TextWords.AreFit, TextWords.run-none, TextWords.flat-pieces, TextWords.are-fit, TextWords.words-few, Texts.IsTold}
 
 -- numbered names
 numbered-told : (e : EnabledRows) (place : ℕ) → place + 1 < 2 ^ 64 → length (event_fields e (place + 1)) ≤ 8 → IsTold e Numbered place

@@ -1,21 +1,12 @@
 -- Words, identifiers and labels that the metadata may have can be read.
-use Rattle.std.proofs.lemmas.Bool.Decides.{nat_tests}
-use Rattle.std.proofs.Common.{◌≡◌, ◌≢◌, ◌≤◌, ◌<◌, ◌+◌, ◌&&◌, ◌||◌, ◌==◌, ◌⊎◌, inl, inr, ℕ, zero, suc, Bool, true, false, cond, leb, not}
-use Rattle.std.proofs.Common.{List, [], ◌∷◌, length, map, take, Option, Some, None, option_map, refl, ap, subst, arith, All, ◌-◌, ◌^◌, ◌++◌, ◌∙◌, length-append}
-use Rattle.std.specs.Prelude.{slice_get, slice_index_or, option_and_then, decimal}
-use Rattle.std.specs.Option.{option_map_or}
-use Rattle.std.specs.List.{list_all, range_with_len}
-use Rattle.std.proofs.lemmas.Bool.{eqb-true, eqb-false, leb-true, le-leb, ne_eqb, and_parts, and_from, or_cases, or_from, or_right, not_from_false}
-use Rattle.std.proofs.lemmas.List.Elements.{All-nil, All-cons}
+use Rattle.std.proofs.Common.{◌≡◌, ◌≢◌, ◌≤◌, ◌<◌, ◌+◌, ◌&&◌, ◌||◌, ◌==◌, ◌⊎◌, inl, inr, ℕ, zero, suc, Bool, true, false, cond, leb, not, List, [], ◌∷◌, length, map, take, Option, Some, None}
+use Rattle.std.proofs.Common.{option_map, refl, ap, subst, arith, All, ◌-◌, ◌^◌, ◌++◌, ◌∙◌, length-append}
+use Rattle.std.proofs.lemmas.{Bool.eqb-true, Bool.eqb-false, Bool.leb-true, Bool.le-leb, Bool.ne_eqb, Bool.and_parts, Bool.and_from, Bool.or_cases, Bool.or_from, Bool.or_right, Bool.not_from_false}
+use Rattle.std.proofs.lemmas.{Bool.Decides.nat_tests, Fmt.decimal_nonempty, List.Elements.All-nil, List.Elements.All-cons, List.Folds.list_all-append}
+use Rattle.std.specs.{List.list_all, List.range_with_len, Option.option_map_or, Prelude.slice_get, Prelude.slice_index_or, Prelude.option_and_then, Prelude.decimal}
 use Rattle.dspec_ctf_reading.specs.Words.{is_letter, is_word_byte, begins_well, is_identifier, unfit, earlier, first_found, bad_name, bad_at, first_bad, is_label_byte, is_label, bad_label_at}
-use Rattle.dspec_ctf_reading.specs.Words.{first_bad_label, process_fault, is_digit, is_word, is_quoted}
-use Rattle.dspec_ctf_reading.proofs.Scanning.{list_all-weaker, decimal-digits}
-use Rattle.dspec_ctf_reading.proofs.Lines.{IsWordy}
-use Rattle.dspec_ctf_reading.proofs.FieldTypes.{IsQuotable}
-use Rattle.std.proofs.lemmas.List.Folds.{list_all-append}
-use Rattle.std.proofs.lemmas.Fmt.{decimal_nonempty}
-use Rattle.dspec_ctf.specs.declared.origin.Process.{Process}
-use Rattle.dspec_ctf_reading.proofs.Headings.{IsShown}
+use Rattle.dspec_ctf_reading.specs.Words.{first_bad_label, process_fault, is_digit, is_word, is_quoted, Process}
+use Rattle.dspec_ctf_reading.proofs.{FieldTypes.IsQuotable, Headings.IsShown, Lines.IsWordy, Scanning.list_all-weaker, Scanning.decimal-digits}
 
 -- where nothing is wrong
 pub earlier-none : {A : Type 0} (a b : Option A) → earlier a b ≡ None → (a ≡ None) × (b ≡ None)

@@ -1,12 +1,11 @@
 -- Events and their values, one behind another, as loops read them.
-use Rattle.std.proofs.lemmas.Bool.Decides.{nat_tests}
-use Rattle.std.proofs.Common.{◌≡◌, ◌<◌, ◌+◌, ◌==◌, ℕ, zero, suc, true, false, cond, List, [], ◌∷◌, ◌++◌, map, length, drop, get_or, Option, Some, None, option_map}
-use Rattle.std.proofs.Common.{refl, ap, sym, ◌∙◌, arith, append_assoc, add-one}
-use Rattle.std.specs.Prelude.{option_and_then}
-use Rattle.std.specs.List.{zip}
-use Rattle.std.proofs.lemmas.List.{map-append, append-nil, get_or-map, length-map}
-use Rattle.dspec_ctf_reading.specs.Words.{width, PartRead, then_read, read_number, find_event, read_payload, read_event, read_events, Layout, EventRead, FieldText, EventText, told_field, told_event}
-use Rattle.dspec_ctf_reading.specs.Words.{names_of, text_at, behind_events}
+use Rattle.std.proofs.Common.{◌≡◌, ◌<◌, ◌+◌, ◌==◌, ℕ, zero, suc, true, false, cond, List, [], ◌∷◌, ◌++◌, map, length, drop, get_or, Option, Some, None, option_map, refl, ap, sym, ◌∙◌, arith}
+use Rattle.std.proofs.Common.{append_assoc, add-one}
+use Rattle.std.proofs.lemmas.{Bool.Decides.nat_tests, List.map-append, List.append-nil, List.get_or-map, List.length-map}
+use Rattle.std.specs.{List.zip, Prelude.option_and_then}
+use Rattle.dspec_ctf_reading.specs.Words.{width, PartRead, then_read, read_number, find_event, read_payload, read_event, read_events, Layout, EventRead, told_field, told_event, names_of, text_at}
+use Rattle.dspec_ctf_reading.specs.Words.{behind_events}
+use Rattle.dspec_ctf_reading.specs.declared.told.{EventText.EventText, FieldText.FieldText}
 use Rattle.dspec_ctf_reading.proofs.Bounds.{events-on-bytes}
 
 -- the first event of a number

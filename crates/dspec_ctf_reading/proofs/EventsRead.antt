@@ -1,22 +1,13 @@
 -- What was written of a record is read as its event.
-use Rattle.std.proofs.lemmas.Bool.Decides.{nat_tests}
-use Rattle.std.proofs.Common.{◌≡◌, ◌≢◌, ◌≤◌, ◌<◌, ◌+◌, ◌^◌, ◌++◌, ◌==◌, ℕ, zero, suc, Bool, true, false, cond, ltb, leb, IsTrue, List, [], ◌∷◌, length, map, Option, Some, None}
-use Rattle.std.proofs.Common.{option_map, refl, ap, sym, ◌∙◌, arith, append_assoc, All}
-use Rattle.std.specs.Prelude.{option_and_then}
-use Rattle.std.specs.Option.{option_map_or}
-use Rattle.std.specs.List.{enumerate_from, range_with_len}
-use Rattle.std.proofs.lemmas.Bool.{ltb-true, leb-true, eqb-true, eqb-false}
-use Rattle.std.proofs.lemmas.List.Elements.{All-head, All-tail}
-use Rattle.std.proofs.lemmas.Option.{slice_get_within}
+use Rattle.std.proofs.Common.{◌≡◌, ◌≢◌, ◌≤◌, ◌<◌, ◌+◌, ◌^◌, ◌++◌, ◌==◌, ℕ, zero, suc, Bool, true, false, cond, ltb, leb, IsTrue, List, [], ◌∷◌, length, map, Option, Some, None, option_map, refl, ap}
+use Rattle.std.proofs.Common.{sym, ◌∙◌, arith, append_assoc, All}
+use Rattle.std.proofs.lemmas.{Bool.ltb-true, Bool.leb-true, Bool.eqb-true, Bool.eqb-false, Bool.Decides.nat_tests, List.Elements.All-head, List.Elements.All-tail, Option.slice_get_within}
+use Rattle.std.specs.{List.enumerate_from, List.range_with_len, Option.option_map_or, Prelude.option_and_then}
 use Rattle.dspec_ctf_reading.specs.Words.{Record, width, little_endian, stamp_fits, fits, enabled, EnabledRows, both, IsAccepted, accepted-parts, stamp_bytes, values_bytes, event, events}
 use Rattle.dspec_ctf_reading.specs.Words.{event_fields, Accepts, FieldLayout, EventLayout, EventRead, PartRead, then_read, read_number, find_event, read_payload, read_event_body, read_event}
-use Rattle.dspec_ctf_reading.specs.Words.{read_events, Naming, stamp_field, field_layouts, stamp_value, named_values, event_layout, layout_by, event_read}
-use Rattle.dspec_record.specs.declared.field.Field.{Field}
-use Rattle.dspec_record.specs.declared.field.Field.TheVariants.{Four, Eight}
-use Rattle.dspec_record.specs.declared.header.Header.{Header}
+use Rattle.dspec_ctf_reading.specs.Words.{read_events, Naming, stamp_field, field_layouts, stamp_value, named_values, event_layout, layout_by, event_read, Field, Four, Eight, Header}
 use Rattle.dspec_record.specs.declared.header.Header.TheVariants as header
-use Rattle.dspec_ctf_reading.proofs.NumbersRead.{number-back}
-use Rattle.dspec_ctf_reading.proofs.Bounds.{events-on-bytes}
+use Rattle.dspec_ctf_reading.proofs.{Bounds.events-on-bytes, NumbersRead.number-back}
 
 -- values stand under the names of their fields
 values-back : (name : ℕ → List ℕ) (n : ℕ) (fs : List Field) (vs rest : List ℕ) → IsTrue (fits fs vs)

@@ -1,15 +1,9 @@
 -- The types of fields are read as their widths.
-use Rattle.std.proofs.lemmas.Bool.Decides.{nat_tests}
 use Rattle.std.proofs.Common.{◌≡◌, ◌≤◌, ◌<◌, ◌+◌, ◌^◌, ◌++◌, ℕ, zero, suc, true, List, [], ◌∷◌, length, map, Some, None, option_map, refl, ap, ◌∙◌, arith, append_assoc, length-append, All}
-use Rattle.std.specs.Prelude.{codes, decimal}
-use Rattle.std.specs.List.{flat_map, list_all, enumerate_from}
-use Rattle.std.proofs.lemmas.List.Elements.{All-head, All-tail}
+use Rattle.std.proofs.lemmas.{Bool.Decides.nat_tests, List.Elements.All-head, List.Elements.All-tail}
+use Rattle.std.specs.{List.flat_map, List.list_all, List.enumerate_from, Prelude.codes, Prelude.decimal}
 use Rattle.dspec_ctf_reading.specs.Words.{width, type_name, kind_type, label_item, label_items, labelled_type, PartRead, then_read, rest_past, past, is_digit, read_decimal, is_quoted, whole_types}
-use Rattle.dspec_ctf_reading.specs.Words.{float_types, read_type_of, read_label, read_labels, read_type, text_front}
-use Rattle.dspec_record.specs.declared.field.Field.{Field}
-use Rattle.dspec_record.specs.declared.field.Field.TheVariants.{One, Two, Four, Eight}
-use Rattle.dspec_probe.specs.declared.kind.Kind.{Kind}
-use Rattle.dspec_probe.specs.declared.kind.Kind.TheVariants.{Unsigned, Signed, Float, Text, TextNext}
+use Rattle.dspec_ctf_reading.specs.Words.{float_types, read_type_of, read_label, read_labels, read_type, text_front, Field, One, Two, Four, Eight, Kind, Unsigned, Signed, Float, Text, TextNext}
 use Rattle.dspec_ctf_reading.proofs.Scanning.{read-run-back, decimal-back}
 
 -- a number's type

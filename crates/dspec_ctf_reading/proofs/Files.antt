@@ -1,20 +1,12 @@
 -- Files of packets that were written one behind another.
-use Rattle.std.proofs.lemmas.Bool.Decides.{nat_tests}
 use Rattle.std.proofs.Common.{◌≡◌, ◌≤◌, ◌<◌, ◌+◌, ◌-◌, ◌^◌, ◌++◌, ℕ, zero, suc, Bool, true, IsTrue, List, [], ◌∷◌, length, map, replicate, Option, Some, option_map, refl, ap, sym, ◌∙◌, arith, All}
-use Rattle.std.specs.Prelude.{slice_get, option_and_then}
-use Rattle.std.specs.Option.{option_map_or}
-use Rattle.std.specs.List.{flat_map}
-use Rattle.std.proofs.lemmas.Bool.{ltb-true, eqb-true}
-use Rattle.std.proofs.lemmas.List.{append-nil, map-append}
-use Rattle.std.proofs.lemmas.List.Elements.{All-head, All-tail, All-nil, All-cons}
+use Rattle.std.proofs.lemmas.Bool.{ltb-true, eqb-true, Decides.nat_tests}
+use Rattle.std.proofs.lemmas.List.{append-nil, map-append, Elements.All-head, Elements.All-tail, Elements.All-nil, Elements.All-cons}
+use Rattle.std.specs.{List.flat_map, Option.option_map_or, Prelude.slice_get, Prelude.option_and_then}
 use Rattle.dspec_ctf_reading.specs.Words.{Record, stamp_fits, EnabledRows, events, header_bytes, front_size, front_bytes, packet_around, filled_around, filled_size, Accepts, span_of, Layout}
-use Rattle.dspec_ctf_reading.specs.Words.{EventRead, PacketRead, read_packet, read_file, events_of, Naming, layout_by, packet_read}
-use Rattle.dspec_record.specs.declared.header.Header.{Header}
+use Rattle.dspec_ctf_reading.specs.Words.{EventRead, PacketRead, read_packet, read_file, events_of, Naming, layout_by, packet_read, Header}
 use Rattle.dspec_record.specs.declared.header.Header.TheVariants as header
-use Rattle.dspec_ctf_reading.proofs.Bounds.{packets-on-bytes}
-use Rattle.dspec_ctf_reading.proofs.EventsRead.{HasStamps}
-use Rattle.dspec_ctf_reading.proofs.PacketsRead.{HasSpan, packet-back, filled-back}
-use Rattle.dspec_ctf_reading.proofs.Joining.{join}
+use Rattle.dspec_ctf_reading.proofs.{Bounds.packets-on-bytes, EventsRead.HasStamps, Joining.join, PacketsRead.HasSpan, PacketsRead.packet-back, PacketsRead.filled-back}
 
 -- a packet is a file
 front-some : (uuid : List ℕ) (span : Option (ℕ × ℕ)) (content size missed cpu : ℕ) (more : List ℕ) → 0 < length (front_bytes uuid span content size missed cpu ++ more)

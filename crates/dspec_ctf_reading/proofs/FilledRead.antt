@@ -1,17 +1,12 @@
 -- Packets of 1,024 bytes, one behind another: each is read as the records that it has.
 use Rattle.std.proofs.Common.{◌≡◌, ◌≤◌, ◌<◌, ◌+◌, ◌^◌, ◌++◌, ℕ, Bool, true, false, cond, List, [], ◌∷◌, length, map, Some, refl, ap, subst, sym, arith, append_assoc, length-append, ◌∙◌, All}
+use Rattle.std.proofs.lemmas.{Bool.leb-true, Grind.flat_map-append, List.map-append, List.Elements.All-append, List.Elements.All-head, List.Elements.All-tail, List.Elements.All-nil}
+use Rattle.std.proofs.lemmas.{List.Elements.All-cons, List.Elements.All-push}
 use Rattle.std.specs.List.{flat_map}
-use Rattle.std.proofs.lemmas.Bool.{leb-true}
-use Rattle.std.proofs.lemmas.Grind.{flat_map-append}
-use Rattle.std.proofs.lemmas.List.{map-append}
-use Rattle.std.proofs.lemmas.List.Elements.{All-append, All-head, All-tail, All-nil, All-cons, All-push}
 use Rattle.dspec_ctf_reading.specs.Words.{Record, EnabledRows, event, events, front_size, Accepts, filled_packet, filled_packets, filled_size, front_by, portions, portions_from, span_by}
 use Rattle.dspec_ctf_reading.specs.Words.{takes_another, PacketRead, read_file, events_of, loss_of, Naming, event_read, layout_by, packet_read, FileTells, PartTells, last_missed}
-use Rattle.dspec_ctf_reading.proofs.EventsRead.{HasStamps}
-use Rattle.dspec_ctf_reading.proofs.PacketsRead.{HasSpan}
-use Rattle.dspec_ctf_reading.proofs.Joining.{join}
-use Rattle.dspec_ctf_reading.proofs.Sizes.{event-small}
-use Rattle.dspec_ctf_reading.proofs.Files.{flat-read, flat-events, All-each, filled-read, span-low}
+use Rattle.dspec_ctf_reading.proofs.{EventsRead.HasStamps, Files.flat-read, Files.flat-events, Files.All-each, Files.filled-read, Files.span-low, Joining.join, PacketsRead.HasSpan}
+use Rattle.dspec_ctf_reading.proofs.{Sizes.event-small}
 
 -- what the last of these packets tells, where this was told before
 abbrev loss_from : ℕ → List PacketRead → ℕ

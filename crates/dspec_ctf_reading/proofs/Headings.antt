@@ -1,26 +1,14 @@
 -- What stands before the events of a metadata text is read.
-use Rattle.std.proofs.Common.{◌≡◌, ◌≤◌, ◌<◌, ◌+◌, ◌/◌, ◌%◌, ◌^◌, ◌++◌, ℕ, Bool, true, false, cond, ltb, List, [], ◌∷◌, length, map, take, drop, Option, Some, None, option_map}
-use Rattle.std.proofs.Common.{refl, ap, ◌∙◌, arith, append_assoc, length-append, All}
-use Rattle.std.specs.Prelude.{option_and_then, unwrap_or, codes, decimal}
-use Rattle.std.specs.Option.{option_map_or}
-use Rattle.std.specs.Fmt.{digit_glyph}
-use Rattle.std.specs.List.{flat_map, list_all, range_with_len}
+use Rattle.std.proofs.Common.{◌≡◌, ◌≤◌, ◌<◌, ◌+◌, ◌/◌, ◌%◌, ◌^◌, ◌++◌, ℕ, Bool, true, false, cond, ltb, List, [], ◌∷◌, length, map, take, drop, Option, Some, None, option_map, refl, ap, ◌∙◌, arith}
+use Rattle.std.proofs.Common.{append_assoc, length-append, All}
 use Rattle.std.proofs.lemmas.Bool.{and_from, le-leb, ne_eqb, or_from, not_from_false, ltb-true, ltb-false}
-use Rattle.std.proofs.lemmas.List.Elements.{All-head, All-tail, All-take, All-drop}
-use Rattle.std.proofs.lemmas.List.Folds.{list_all-append}
+use Rattle.std.proofs.lemmas.List.{Elements.All-head, Elements.All-tail, Elements.All-take, Elements.All-drop, Folds.list_all-append}
+use Rattle.std.specs.{Fmt.digit_glyph, List.flat_map, List.list_all, List.range_with_len, Option.option_map_or, Prelude.option_and_then, Prelude.unwrap_or, Prelude.codes, Prelude.decimal}
 use Rattle.dspec_ctf_reading.specs.Words.{EnabledRows, hex, hyphened, uuid_text, types_text, trace_front, trace_back, process_text, environment_text, clock_uuid, seconds_text, ticks_text}
 use Rattle.dspec_ctf_reading.specs.Words.{clock_start, start_text, clock_back, clock_text, stream_text, event_text, origin_text, EventLayout, Layout, rest_past, past, then_rest, with_part, is_digit}
 use Rattle.dspec_ctf_reading.specs.Words.{is_quoted, read_decimal, read_quoted, read_event_texts, header_lines, read_process, read_clock_uuid, read_clock_start, read_clock, read_streams}
-use Rattle.dspec_ctf_reading.specs.Words.{read_metadata, event_layout, is_timed, names_by, layout_of, ticks_of, HasNumbers}
-use Rattle.dspec_ctf.specs.declared.origin.Process.{Process}
-use Rattle.dspec_ctf.specs.declared.origin.ClockStart.{ClockStart}
-use Rattle.dspec_ctf.specs.declared.origin.Origin.{Origin}
-use Rattle.dspec_ctf.specs.declared.form.Form.{Form}
-use Rattle.dspec_ctf.specs.declared.form.Form.TheVariants.{AsTaken, ByTime}
-use Rattle.dspec_ctf.specs.declared.names.Names.{Names}
-use Rattle.dspec_ctf_reading.proofs.Scanning.{read-run-back, decimal-back}
-use Rattle.dspec_ctf_reading.proofs.FieldTypes.{IsQuotable}
-use Rattle.dspec_ctf_reading.proofs.Texts.{IsTold, texts-back}
+use Rattle.dspec_ctf_reading.specs.Words.{read_metadata, event_layout, is_timed, names_by, layout_of, ticks_of, HasNumbers, Process, ClockStart, Origin, Form, AsTaken, ByTime, Names}
+use Rattle.dspec_ctf_reading.proofs.{FieldTypes.IsQuotable, Scanning.read-run-back, Scanning.decimal-back, Texts.IsTold, Texts.texts-back}
 
 -- digits of base 16 can stand in quotes
 glyph-test : (d : ℕ) (low : Bool) → ltb d 10 ≡ low → d < 16 → is_quoted (cond low (48 + d) (87 + d)) ≡ true

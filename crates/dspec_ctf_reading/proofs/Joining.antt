@@ -1,13 +1,11 @@
 -- What a file has isn't changed by what is written behind it.
-use Rattle.std.proofs.Common.{◌≡◌, ◌≤◌, ◌+◌, ◌-◌, ◌*◌, ◌/◌, ◌==◌, ◌++◌, ℕ, zero, suc, Bool, true, false, cond, leb, List, [], ◌∷◌, length, take, drop, Option, Some, None}
-use Rattle.std.proofs.Common.{option_map, refl, ap, sym, subst, ◌∙◌, arith, length-append}
+use Rattle.std.proofs.Common.{◌≡◌, ◌≤◌, ◌+◌, ◌-◌, ◌*◌, ◌/◌, ◌==◌, ◌++◌, ℕ, zero, suc, Bool, true, false, cond, leb, List, [], ◌∷◌, length, take, drop, Option, Some, None, option_map, refl, ap, sym}
+use Rattle.std.proofs.Common.{subst, ◌∙◌, arith, length-append}
+use Rattle.std.proofs.lemmas.{Bool.leb-true, Bool.le-leb, Bool.cond-true, List.take-append-le, List.drop-append-le}
 use Rattle.std.specs.Prelude.{option_and_then}
-use Rattle.std.proofs.lemmas.Bool.{leb-true, le-leb, cond-true}
-use Rattle.std.proofs.lemmas.List.{take-append-le, drop-append-le}
 use Rattle.dspec_ctf_reading.specs.Words.{Layout, PacketRead, FrontRead, PartRead, then_read, read_number, read_bytes, read_span, read_this, read_header, read_counts, read_front, sizes_agree}
 use Rattle.dspec_ctf_reading.specs.Words.{with_events, read_body, read_packet, read_file}
-use Rattle.dspec_ctf_reading.proofs.Agreeing.{Agrees, agree, agrees}
-use Rattle.dspec_ctf_reading.proofs.Bounds.{Leaves, front-leaves, packet-leaves, packets-on}
+use Rattle.dspec_ctf_reading.proofs.{Agreeing.Agrees, Agreeing.agree, Agreeing.agrees, Bounds.Leaves, Bounds.front-leaves, Bounds.packet-leaves, Bounds.packets-on}
 
 module _ (more : List ℕ) where
   -- if there is a part, the other is the same with these bytes behind what it leaves

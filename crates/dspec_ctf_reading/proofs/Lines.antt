@@ -1,14 +1,10 @@
 -- The lines of fields are read as their layouts.
-use Rattle.std.proofs.Common.{◌≡◌, ◌≤◌, ◌<◌, ◌+◌, ◌*◌, ◌++◌, ℕ, zero, suc, true, replicate, inl, inr, List}
-use Rattle.std.proofs.Common.{[], ◌∷◌, length, map, Some, None, option_map, refl, ap, sym, ◌∙◌, arith, append_assoc, length-append}
-use Rattle.std.specs.Prelude.{◌⊎◌, codes, decimal}
-use Rattle.std.specs.List.{flat_map, list_all, enumerate_from}
+use Rattle.std.proofs.Common.{◌≡◌, ◌≤◌, ◌<◌, ◌+◌, ◌*◌, ◌++◌, ℕ, zero, suc, true, replicate, inl, inr, List, [], ◌∷◌, length, map, Some, None, option_map, refl, ap, sym, ◌∙◌, arith, append_assoc}
+use Rattle.std.proofs.Common.{length-append}
+use Rattle.std.specs.{List.flat_map, List.list_all, List.enumerate_from, Prelude.◌⊎◌, Prelude.codes, Prelude.decimal}
 use Rattle.dspec_ctf_reading.specs.Words.{width, text_type, text_line, typed_line, FieldLayout, PartRead, then_read, rest_past, past, past_or, is_digit, read_decimal, is_word, read_word, read_type}
-use Rattle.dspec_ctf_reading.specs.Words.{read_number_field, text_front, text_layouts, read_text_field, read_field, read_fields}
-use Rattle.dspec_record.specs.declared.field.Field.{Field}
-use Rattle.dspec_ctf_reading.proofs.Scanning.{read-run-back, decimal-back}
-use Rattle.dspec_ctf_reading.proofs.TextWords.{flat}
-use Rattle.dspec_ctf_reading.proofs.FieldTypes.{five}
+use Rattle.dspec_ctf_reading.specs.Words.{read_number_field, text_front, text_layouts, read_text_field, read_field, read_fields, Field}
+use Rattle.dspec_ctf_reading.proofs.{FieldTypes.five, Scanning.read-run-back, Scanning.decimal-back, TextWords.flat}
 
 -- a word
 unfoldable pub IsWordy : List ℕ → Type 0

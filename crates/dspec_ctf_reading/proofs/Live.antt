@@ -1,20 +1,12 @@
 -- A CPU's file while it runs: the packets of the runs that go to it.
-use Rattle.std.proofs.Common.{◌≡◌, ◌≤◌, ◌<◌, ◌-◌, ◌^◌, ◌++◌, ◌==◌, ℕ, zero, suc, Bool, true, false, cond, List, [], ◌∷◌, length, map, drop, replicate, Option, Some, refl}
-use Rattle.std.proofs.Common.{ap, sym, subst, ◌∙◌, arith, All}
-use Rattle.std.specs.Prelude.{filter, zip, slice_index, slice_range}
-use Rattle.std.specs.List.{flat_map}
-use Rattle.std.proofs.lemmas.Bool.{eqb-true}
-use Rattle.std.proofs.lemmas.Grind.{flat_map-append}
-use Rattle.std.proofs.lemmas.List.{map-append, length-take-le, length-drop}
-use Rattle.std.proofs.lemmas.List.Elements.{All-append, All-take, All-drop, All-nil, All-cons}
+use Rattle.std.proofs.Common.{◌≡◌, ◌≤◌, ◌<◌, ◌-◌, ◌^◌, ◌++◌, ◌==◌, ℕ, zero, suc, Bool, true, false, cond, List, [], ◌∷◌, length, map, drop, replicate, Option, Some, refl, ap, sym, subst, ◌∙◌, arith}
+use Rattle.std.proofs.Common.{All}
+use Rattle.std.proofs.lemmas.{Bool.eqb-true, Grind.flat_map-append, List.map-append, List.length-take-le, List.length-drop, List.Elements.All-append, List.Elements.All-take, List.Elements.All-drop}
+use Rattle.std.proofs.lemmas.{List.Elements.All-nil, List.Elements.All-cons}
+use Rattle.std.specs.{List.flat_map, Prelude.filter, Prelude.zip, Prelude.slice_index, Prelude.slice_range}
 use Rattle.dspec_ctf_reading.specs.Words.{Record, EnabledRows, filled_around, Accepts, AreRuns, of_file, run_records, run_files, told_by, run_packet, run_packets, missed_packets, Layout, PacketRead}
-use Rattle.dspec_ctf_reading.specs.Words.{events_of, read_file, Naming, event_read, layout_by, packet_read, FileTells, PartTells, file_bytes}
-use Rattle.dspec_ctf.specs.declared.rows.Run.{Run}
-use Rattle.dspec_ctf_reading.proofs.EventsRead.{HasStamps}
-use Rattle.dspec_ctf_reading.proofs.PacketsRead.{HasSpan}
-use Rattle.dspec_ctf_reading.proofs.Joining.{join}
-use Rattle.dspec_ctf_reading.proofs.Files.{filled-read}
-use Rattle.dspec_ctf_reading.proofs.FilledRead.{filled-tells}
+use Rattle.dspec_ctf_reading.specs.Words.{events_of, read_file, Naming, event_read, layout_by, packet_read, FileTells, PartTells, file_bytes, Run}
+use Rattle.dspec_ctf_reading.proofs.{EventsRead.HasStamps, Files.filled-read, FilledRead.filled-tells, Joining.join, PacketsRead.HasSpan}
 
 -- records of a run that goes to this file, before others; and of one that doesn't
 of-same : (file f k : ℕ) (xs : List Record) (fs : List ℕ) (ys : List Record) → length xs ≡ k → (f == file) ≡ true → of_file file (replicate k f ++ fs) (xs ++ ys) ≡ xs ++ of_file file fs ys

@@ -1,8 +1,7 @@
 -- Loops that read one part behind another.
-use Rattle.std.proofs.lemmas.Bool.Decides.{nat_tests}
 use Rattle.std.proofs.Common.{◌≡◌, ◌<◌, ◌+◌, ◌-◌, ◌==◌, ℕ, zero, suc, false, List, [], ◌∷◌, ◌++◌, map, length, Option, Some, None, option_map, refl, ap, sym, ◌∙◌, arith, append_assoc}
+use Rattle.std.proofs.lemmas.{Bool.Decides.nat_tests, List.map-append}
 use Rattle.std.specs.Prelude.{option_and_then}
-use Rattle.std.proofs.lemmas.List.{map-append}
 use Rattle.dspec_ctf_reading.specs.Words.{PartRead, then_read, EventLayout, rest_past, past_or, read_event_text, read_event_texts}
 
 -- what is read on, behind what was found before

@@ -1,14 +1,9 @@
 -- Values stand in order, under names by their places.
 use Rattle.std.proofs.Common.{arith, ◌≡◌, ◌+◌, false, ℕ, List, [], ◌∷◌, ◌++◌, length, map, Some, refl, ap}
 use Rattle.std.proofs.lemmas.Bool.Decides.{nat_tests}
-use Rattle.std.specs.Option.{option_map_or}
-use Rattle.std.specs.List.{enumerate_from, range_with_len}
-use Rattle.dspec_record.specs.declared.header.Header.{Header}
+use Rattle.std.specs.{List.enumerate_from, List.range_with_len, Option.option_map_or}
+use Rattle.dspec_ctf_reading.specs.Words.{Header, ProbeNames, event_name, names_by, given_for, given_name, stamp_value, named_values, Names, Numbered, Given}
 use Rattle.dspec_record.specs.declared.header.Header.TheVariants as header
-use Rattle.dspec_probe.specs.declared.probes.ProbeNames.{ProbeNames}
-use Rattle.dspec_ctf_reading.specs.Words.{event_name, names_by, given_for, given_name, stamp_value, named_values}
-use Rattle.dspec_ctf.specs.declared.names.Names.{Names}
-use Rattle.dspec_ctf.specs.declared.names.Names.TheVariants.{Numbered, Given}
 
 -- the values
 pub values-of : (name : ℕ → List ℕ) (n : ℕ) (vs : List ℕ) → map (λ (v : List ℕ × ℕ). v.1) (map (λ p. (name p.0, p.1)) (enumerate_from n vs)) ≡ vs

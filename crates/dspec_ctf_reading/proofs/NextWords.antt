@@ -1,11 +1,8 @@
 -- How many next words of texts stand among an event's fields, and where a field's name stands.
-use Rattle.std.proofs.lemmas.Bool.Decides.{nat_tests}
 use Rattle.std.proofs.Common.{◌≡◌, ◌≤◌, ◌<◌, ◌+◌, ◌-◌, ℕ, zero, suc, Bool, true, false, List, [], ◌∷◌, take, drop, refl, ap, sym, ◌∙◌, arith}
+use Rattle.std.proofs.lemmas.{Bool.Decides.nat_tests, List.get_or-drop}
 use Rattle.std.specs.Prelude.{slice_index_or, if◌then◌else◌}
-use Rattle.std.proofs.lemmas.List.{get_or-drop}
-use Rattle.dspec_ctf_reading.specs.Words.{is_next, next_words, name_place, next_in_front}
-use Rattle.dspec_probe.specs.declared.kind.Kind.{Kind}
-use Rattle.dspec_probe.specs.declared.kind.Kind.TheVariants.{Unsigned, Signed, Float, Text, TextNext}
+use Rattle.dspec_ctf_reading.specs.Words.{is_next, next_words, name_place, next_in_front, Kind, Unsigned, Signed, Float, Text, TextNext}
 
 abbrev pub kind_of : List Kind → ℕ → Kind
 kind_of ks place = slice_index_or ks place Unsigned

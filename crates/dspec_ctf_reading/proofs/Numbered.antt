@@ -1,6 +1,5 @@
 -- Numbers at the front of bytes, by std's words.
-use Rattle.std.proofs.lemmas.Bool.Decides.{nat_tests}
-use Rattle.std.proofs.Common.{◌≡◌, ◌≤◌, ◌<◌, ℕ, List, length, take, drop, Some, None, arith}
+use Rattle.std.proofs.{Common.◌≡◌, Common.◌≤◌, Common.◌<◌, Common.ℕ, Common.List, Common.length, Common.take, Common.drop, Common.Some, Common.None, Common.arith, lemmas.Bool.Decides.nat_tests}
 use Rattle.std.specs.Int.{w32, w64, from_le_bytes}
 use Rattle.dspec_ctf_reading.specs.Words.{read_number}
 use Rattle.dspec_ctf_reading.proofs.NumbersRead.{nested-4, nested-8}

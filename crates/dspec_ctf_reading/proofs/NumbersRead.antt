@@ -1,10 +1,7 @@
 -- A number that was written in so many bytes is read from them.
-use Rattle.std.proofs.lemmas.Bool.Decides.{nat_tests}
 use Rattle.std.proofs.Common.{◌≡◌, ◌<◌, ◌+◌, ◌*◌, ◌/◌, ◌%◌, ◌^◌, ℕ, List, ◌++◌, Some, ap, ◌∙◌, arith}
-use Rattle.std.proofs.lemmas.Nat.{from_le_bytes-to_le_bytes_2, from_le_bytes-to_le_bytes_4, from_le_bytes-to_le_bytes_8}
-use Rattle.dspec_ctf_reading.specs.Words.{width, little_endian, read_number}
-use Rattle.dspec_record.specs.declared.field.Field.{Field}
-use Rattle.dspec_record.specs.declared.field.Field.TheVariants.{One, Two, Four, Eight}
+use Rattle.std.proofs.lemmas.{Bool.Decides.nat_tests, Nat.from_le_bytes-to_le_bytes_2, Nat.from_le_bytes-to_le_bytes_4, Nat.from_le_bytes-to_le_bytes_8}
+use Rattle.dspec_ctf_reading.specs.Words.{width, little_endian, read_number, Field, One, Two, Four, Eight}
 
 -- nested sums are those of from_le_bytes
 nested-2 : (a b : ℕ) → a + 256 * (b + 256 * 0) ≡ a + b * 256

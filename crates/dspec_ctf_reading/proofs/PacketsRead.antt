@@ -1,15 +1,11 @@
 -- What was written of records is read as their packet.
-use Rattle.std.proofs.Common.{◌≡◌, ◌≤◌, ◌<◌, ◌+◌, ◌-◌, ◌*◌, ◌/◌, ◌^◌, ◌++◌, ℕ, Bool, true, false, leb, List, [], length, map, take, drop, replicate, Option, Some, None}
-use Rattle.std.proofs.Common.{option_map, refl, ap, sym, ◌∙◌, arith, append_assoc, length-append, All}
-use Rattle.std.proofs.lemmas.Bool.{le-leb, cond-true}
-use Rattle.std.proofs.lemmas.List.{take_at, drop_at, length-replicate}
+use Rattle.std.proofs.Common.{◌≡◌, ◌≤◌, ◌<◌, ◌+◌, ◌-◌, ◌*◌, ◌/◌, ◌^◌, ◌++◌, ℕ, Bool, true, false, leb, List, [], length, map, take, drop, replicate, Option, Some, None, option_map, refl, ap, sym}
+use Rattle.std.proofs.Common.{◌∙◌, arith, append_assoc, length-append, All}
+use Rattle.std.proofs.lemmas.{Bool.le-leb, Bool.cond-true, List.take_at, List.drop_at, List.length-replicate}
 use Rattle.dspec_ctf_reading.specs.Words.{Record, little_endian, EnabledRows, events, header_bytes, span_bytes, front_size, context_bytes, front_bytes, packet_around, filled_around, filled_size}
 use Rattle.dspec_ctf_reading.specs.Words.{Accepts, Layout, EventRead, PacketRead, FrontRead, PartRead, then_read, read_number, read_bytes, read_this, read_span, read_header, read_counts, read_front}
-use Rattle.dspec_ctf_reading.specs.Words.{sizes_agree, read_events, with_events, read_body, read_packet, Naming, event_read, layout_by, packet_read}
-use Rattle.dspec_record.specs.declared.field.Field.TheVariants.{Four, Eight}
-use Rattle.dspec_ctf_reading.proofs.Agreeing.{Agrees, agree}
-use Rattle.dspec_ctf_reading.proofs.NumbersRead.{number-back}
-use Rattle.dspec_ctf_reading.proofs.EventsRead.{HasStamps, events-back}
+use Rattle.dspec_ctf_reading.specs.Words.{sizes_agree, read_events, with_events, read_body, read_packet, Naming, event_read, layout_by, packet_read, Four, Eight}
+use Rattle.dspec_ctf_reading.proofs.{Agreeing.Agrees, Agreeing.agree, EventsRead.HasStamps, EventsRead.events-back, NumbersRead.number-back}
 
 bytes-back : (n : ℕ) (xs rest : List ℕ) → length xs ≡ n → read_bytes n (xs ++ rest) ≡ Some (xs, rest)
 bytes-back n xs rest is =

@@ -1,15 +1,10 @@
 -- Runs of bytes, fixed texts and numbers, as loops over bytes find them.
-use Rattle.std.proofs.Common.{◌≡◌, ◌≤◌, ◌<◌, ◌+◌, ◌*◌, ◌-◌, ℕ, zero, suc, nat_eq, Bool, true, false, cond, List, [], ◌∷◌, length, take, drop, get_or, Option, Some, None}
-use Rattle.std.proofs.Common.{option_map, refl, ap, sym, ◌∙◌, arith, Bor, MatchOption, add-one}
-use Rattle.std.specs.Cmp.Lexicographic.{pointwise}
-use Rattle.std.specs.List.{list_all}
-use Rattle.std.specs.Str.{IsUtf8}
-use Rattle.std.proofs.lemmas.Str.{IsUtf8-from_ascii}
-use Rattle.std.proofs.lemmas.Str.Ascii.{IsAscii-from_all}
-use Rattle.std.proofs.lemmas.Bool.{and_parts, and_from}
-use Rattle.std.proofs.lemmas.Bool.Decides.{nat_tests}
-use Rattle.std.proofs.lemmas.List.Sums.{AllPass-from_list_all}
-use Rattle.dspec_ctf_reading.specs.Words.{rest_past, run_of, digits_number, is_digit, is_word, is_quoted, test_of, Set, Digits, Word, Quoted}
+use Rattle.std.proofs.Common.{◌≡◌, ◌≤◌, ◌<◌, ◌+◌, ◌*◌, ◌-◌, ℕ, zero, suc, nat_eq, Bool, true, false, cond, List, [], ◌∷◌, length, take, drop, get_or, Option, Some, None, option_map, refl, ap, sym}
+use Rattle.std.proofs.Common.{◌∙◌, arith, Bor, MatchOption, add-one}
+use Rattle.std.proofs.lemmas.{Bool.and_parts, Bool.and_from, Bool.Decides.nat_tests, List.Sums.AllPass-from_list_all, Str.IsUtf8-from_ascii, Str.Ascii.IsAscii-from_all}
+use Rattle.std.specs.{Cmp.Lexicographic.pointwise, List.list_all, Str.IsUtf8}
+use Rattle.dspec_ctf_reading.specs.Words.{rest_past, run_of, digits_number, is_digit, is_word, is_quoted, test_of}
+use Rattle.dspec_ctf_reading.specs.declared.scan.Set.{Set, TheVariants.Digits, TheVariants.Word, TheVariants.Quoted}
 
 -- fixed texts
 rest_past-there : (text bytes : List ℕ) → pointwise nat_eq (take (length text) bytes) text ≡ true → Some (drop (length text) bytes) ≡ rest_past text bytes

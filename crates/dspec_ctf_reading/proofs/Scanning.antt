@@ -1,11 +1,8 @@
 -- What stands in a text is found there.
-use Rattle.std.proofs.lemmas.Bool.Decides.{nat_tests}
 use Rattle.std.proofs.Common.{◌≡◌, ◌<◌, ◌^◌, ◌++◌, ℕ, Bool, true, cond, List, [], ◌∷◌, length, Option, Some, None, refl, ap, ◌∙◌, arith, rules}
-use Rattle.std.specs.Prelude.{option_and_then, decimal}
-use Rattle.std.specs.List.{list_all}
-use Rattle.std.proofs.lemmas.Bool.{eq-eqb, ne_eqb, and_parts, and_from, cond-false}
-use Rattle.std.proofs.lemmas.Fmt.{digits_decimal, digits_value-decimal, decimal_nonempty}
-use Rattle.std.proofs.lemmas.Str.Parse.{IsNumeralModel, numerals_by_fold}
+use Rattle.std.proofs.lemmas.{Bool.eq-eqb, Bool.ne_eqb, Bool.and_parts, Bool.and_from, Bool.cond-false, Bool.Decides.nat_tests, Fmt.digits_decimal, Fmt.digits_value-decimal, Fmt.decimal_nonempty}
+use Rattle.std.proofs.lemmas.{Str.Parse.IsNumeralModel, Str.Parse.numerals_by_fold}
+use Rattle.std.specs.{List.list_all, Prelude.option_and_then, Prelude.decimal}
 use Rattle.dspec_ctf_reading.specs.Words.{rest_past, past, run_of, read_run, is_digit, digits_number, read_decimal}
 
 pub rest_past-back : (text rest : List ℕ) → rest_past text (text ++ rest) ≡ Some rest

@@ -1,11 +1,7 @@
 -- How many bytes the events of records have at most.
-use Rattle.std.proofs.lemmas.Bool.Decides.{nat_tests}
 use Rattle.std.proofs.Common.{◌≤◌, ◌*◌, ℕ, List, [], ◌∷◌, length, arith, length-append, All}
-use Rattle.std.proofs.lemmas.List.Elements.{All-head, All-tail}
-use Rattle.dspec_ctf_reading.specs.Words.{Record, width, little_endian, EnabledRows, length-little_endian, stamp_bytes, values_bytes, event, events, Accepts}
-use Rattle.dspec_record.specs.declared.field.Field.{Field}
-use Rattle.dspec_record.specs.declared.field.Field.TheVariants.{One, Two, Four, Eight}
-use Rattle.dspec_record.specs.declared.header.Header.{Header}
+use Rattle.std.proofs.lemmas.{Bool.Decides.nat_tests, List.Elements.All-head, List.Elements.All-tail}
+use Rattle.dspec_ctf_reading.specs.Words.{Record, width, little_endian, EnabledRows, length-little_endian, stamp_bytes, values_bytes, event, events, Accepts, Field, One, Two, Four, Eight, Header}
 use Rattle.dspec_record.specs.declared.header.Header.TheVariants as header
 use Rattle.dspec_ctf_reading.proofs.EventsRead.{IsKnown, is-known}
 

@@ -1,16 +1,9 @@
 -- The words of texts among an event's fields: their names, and the fields that a text's line tells.
-use Rattle.std.proofs.lemmas.Bool.Decides.{nat_tests}
 use Rattle.std.proofs.Common.{append_assoc, ◌≡◌, ◌≤◌, ◌<◌, ◌+◌, ◌-◌, ◌==◌, ◌++◌, ℕ, suc, Bool, true, false, List, [], ◌∷◌, length, map, take, drop, replicate, refl, ap, sym, ◌∙◌, arith}
-use Rattle.std.specs.Prelude.{slice_index_or, if◌then◌else◌}
-use Rattle.std.specs.List.{flat_map, enumerate_from}
-use Rattle.std.proofs.lemmas.Bool.{eqb-true, and_parts}
-use Rattle.std.proofs.lemmas.List.{length-drop, take-append-drop, get_or-drop, get_or_past}
-use Rattle.dspec_ctf_reading.specs.Words.{width, is_next, next_in_front, words_at, is_text, is_text_before, can_mean, FieldLayout}
-use Rattle.dspec_record.specs.declared.field.Field.{Field}
-use Rattle.dspec_record.specs.declared.field.Field.TheVariants.{One}
-use Rattle.dspec_probe.specs.declared.kind.Kind.{Kind}
-use Rattle.dspec_probe.specs.declared.kind.Kind.TheVariants.{Unsigned, Signed, Float, Text, TextNext}
-use Rattle.dspec_probe.specs.declared.probes.ProbeNames.{ProbeNames}
+use Rattle.std.proofs.lemmas.{Bool.eqb-true, Bool.and_parts, Bool.Decides.nat_tests, List.length-drop, List.take-append-drop, List.get_or-drop, List.get_or_past}
+use Rattle.std.specs.{List.flat_map, List.enumerate_from, Prelude.slice_index_or, Prelude.if◌then◌else◌}
+use Rattle.dspec_ctf_reading.specs.Words.{width, is_next, next_in_front, words_at, is_text, is_text_before, can_mean, FieldLayout, Field, One, Kind, Unsigned, Signed, Float, Text, TextNext}
+use Rattle.dspec_ctf_reading.specs.Words.{ProbeNames}
 use Rattle.dspec_ctf_reading.proofs.NextWords.{kind_of, one-more, one-before, next-front}
 
 -- ---- what the check says of each field

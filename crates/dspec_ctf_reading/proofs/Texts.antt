@@ -1,22 +1,13 @@
 -- The texts of events are read as their layouts.
 use Rattle.std.proofs.Common.{◌≡◌, ◌≤◌, ◌<◌, ◌+◌, ◌-◌, ◌^◌, ◌++◌, ℕ, zero, suc, false, List, [], ◌∷◌, length, map, Option, Some, option_map, refl, ap, sym, ◌∙◌, arith, append_assoc, length-append}
-use Rattle.std.specs.Prelude.{option_and_then, codes, decimal}
-use Rattle.std.specs.List.{flat_map, range_with_len}
 use Rattle.std.proofs.lemmas.List.{append-nil}
+use Rattle.std.specs.{List.flat_map, List.range_with_len, Prelude.option_and_then, Prelude.codes, Prelude.decimal}
 use Rattle.dspec_ctf_reading.specs.Words.{EnabledRows, event_fields, stamp_line, event_name, field_lines, event_number, event_front, event_text, typed_line, FieldLayout, EventLayout, PartRead}
 use Rattle.dspec_ctf_reading.specs.Words.{then_read, past, is_digit, is_word, is_quoted, read_quoted, read_fields, read_event_text, read_event_texts, stamp_field, field_layouts, event_layout}
-use Rattle.dspec_ctf_reading.specs.Words.{is_timed, names_by}
-use Rattle.dspec_record.specs.declared.field.Field.TheVariants.{Eight}
-use Rattle.dspec_record.specs.declared.header.Header.{Header}
+use Rattle.dspec_ctf_reading.specs.Words.{is_timed, names_by, Eight, Header, Unsigned, Form, AsTaken, ByTime, Names}
 use Rattle.dspec_record.specs.declared.header.Header.TheVariants as header
-use Rattle.dspec_probe.specs.declared.kind.Kind.TheVariants.{Unsigned}
-use Rattle.dspec_ctf.specs.declared.form.Form.{Form}
-use Rattle.dspec_ctf.specs.declared.form.Form.TheVariants.{AsTaken, ByTime}
-use Rattle.dspec_ctf.specs.declared.names.Names.{Names}
-use Rattle.dspec_ctf_reading.proofs.Scanning.{read-run-back, decimal-back}
-use Rattle.dspec_ctf_reading.proofs.Lines.{IsWordy, AreLines, joined, joined-append, AreLines-append, typed-line, lines-back}
-use Rattle.dspec_ctf_reading.proofs.FieldTypes.{IsQuotable, kind-back, no-text-name}
-use Rattle.dspec_ctf_reading.proofs.TextWords.{flat, flat-append}
+use Rattle.dspec_ctf_reading.proofs.{FieldTypes.IsQuotable, FieldTypes.kind-back, FieldTypes.no-text-name, Lines.IsWordy, Lines.AreLines, Lines.joined, Lines.joined-append, Lines.AreLines-append}
+use Rattle.dspec_ctf_reading.proofs.{Lines.typed-line, Lines.lines-back, Scanning.read-run-back, Scanning.decimal-back, TextWords.flat, TextWords.flat-append}
 
 -- the stamp as a field
 pub record HasLines (text : List ℕ) (shapes : List FieldLayout) : Type 0 where

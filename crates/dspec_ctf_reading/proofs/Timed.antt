@@ -1,16 +1,13 @@
 -- A CPU's file by time, and one as taken.
-use Rattle.std.proofs.lemmas.Bool.Decides.{nat_tests}
-use Rattle.std.proofs.Common.{◌≡◌, ◌≤◌, ◌<◌, ◌+◌, ◌*◌, ◌/◌, ◌^◌, ◌++◌, ◌==◌, ℕ, zero, suc, Bool, true, false, cond, List, [], ◌∷◌, length, map, take, drop, Some, None, refl, ap, sym, ◌∙◌, arith, All}
+use Rattle.std.proofs.Common.{◌≡◌, ◌≤◌, ◌<◌, ◌+◌, ◌*◌, ◌/◌, ◌^◌, ◌++◌, ◌==◌, ℕ, zero, suc, Bool, true, false, cond, List, [], ◌∷◌, length, map, take, drop, Some, None, refl, ap, sym, ◌∙◌, arith}
+use Rattle.std.proofs.Common.{All}
+use Rattle.std.proofs.lemmas.Bool.{eqb-true, eqb-false, eq-eqb, Decides.nat_tests}
+use Rattle.std.proofs.lemmas.List.{take-append-drop, drop_all, drop-drop, length-take, Elements.All-take, Elements.All-drop}
 use Rattle.std.specs.List.{flat_map, range_with_len}
-use Rattle.std.proofs.lemmas.Bool.{eqb-true, eqb-false, eq-eqb}
-use Rattle.std.proofs.lemmas.List.{take-append-drop, drop_all, drop-drop, length-take}
-use Rattle.std.proofs.lemmas.List.Elements.{All-take, All-drop}
 use Rattle.dspec_ctf_reading.specs.Words.{Record, EnabledRows, events, packet, Accepts, span_of, packet_count, part_at, packet_at, timed_packets, PacketRead, read_file, events_of, loss_of, Naming}
 use Rattle.dspec_ctf_reading.specs.Words.{event_read, layout_by, packet_read, FileTells, last_missed}
-use Rattle.dspec_ctf_reading.proofs.EventsRead.{HasStamps}
-use Rattle.dspec_ctf_reading.proofs.PacketsRead.{HasSpan}
-use Rattle.dspec_ctf_reading.proofs.Sizes.{events-small}
-use Rattle.dspec_ctf_reading.proofs.Files.{flat-read, flat-events, All-each, All-of, packet-read, span-low}
+use Rattle.dspec_ctf_reading.proofs.{EventsRead.HasStamps, Files.flat-read, Files.flat-events, Files.All-each, Files.All-of, Files.packet-read, Files.span-low, PacketsRead.HasSpan}
+use Rattle.dspec_ctf_reading.proofs.{Sizes.events-small}
 
 few : (ps : List Record) → length (take 4096 ps) ≤ 4096
 few ps = omega (arith, length-take 4096 ps)

@@ -1,12 +1,10 @@
 -- Cited by calls. What a fault says of the bytes.
-use Rattle.std.specs.Prelude.{◌≡◌, ◌+◌, ℕ, zero, suc, Bool, true, false, List, length, Option, Some, None, IsSome, IfSome, IsSomeAnd}
 use Rattle.std.specs.Option.{option_map, option_and_then}
+use Rattle.std.specs.Prelude.{◌≡◌, ◌+◌, ℕ, zero, suc, Bool, true, false, List, length, Option, Some, None, IsSome, IfSome, IsSomeAnd}
 use Rattle.dspec_ctf_reading.specs.Reading.{Layout, read_number, find_event, read_event}
-use Rattle.dspec_ctf_reading.specs.declared.fault.MetadataReadFault.{MetadataReadFault}
-use Rattle.dspec_ctf_reading.specs.declared.fault.MetadataReadFault.TheVariants.{Line, TooLarge, Memory}
-use Rattle.dspec_ctf_reading.specs.declared.fault.EventFault.{EventFault}
-use Rattle.dspec_ctf_reading.specs.declared.fault.EventFault.TheVariants.{Unknown, Cut, Memory as no_memory}
+use Rattle.dspec_ctf_reading.specs.declared.fault.EventFault.{EventFault, TheVariants.Unknown, TheVariants.Cut, TheVariants.Memory as no_memory}
 use Rattle.dspec_ctf_reading.specs.declared.fault.EventsFault.{EventsFault}
+use Rattle.dspec_ctf_reading.specs.declared.fault.MetadataReadFault.{MetadataReadFault, TheVariants.Line, TheVariants.TooLarge, TheVariants.Memory}
 
 -- something else should stand in a line
 abbrev pub is_misread : MetadataReadFault → Bool

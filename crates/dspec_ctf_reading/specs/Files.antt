@@ -1,8 +1,6 @@
 -- Cited by calls. What the bytes of a file tell by its layout.
-use Rattle.std.specs.Prelude.{◌≡◌, ◌==◌, ℕ, List, [], ◌∷◌, All, Some, filter}
-use Rattle.std.specs.List.{flat_map}
-use Rattle.dspec_ctf_reading.specs.Words.Outside.{Record}
-use Rattle.dspec_ctf_reading.specs.Reading.{Layout, EventRead, PacketRead, read_file, events_of, loss_of}
+use Rattle.std.specs.{List.flat_map, Prelude.◌≡◌, Prelude.◌==◌, Prelude.ℕ, Prelude.List, Prelude.[], Prelude.◌∷◌, Prelude.All, Prelude.Some, Prelude.filter}
+use Rattle.dspec_ctf_reading.specs.{Reading.Layout, Reading.EventRead, Reading.PacketRead, Reading.read_file, Reading.events_of, Reading.loss_of, Words.Outside.Record}
 
 -- A file of this trace and of this CPU: it is read as packets that have these events, in order, and tell that so many were missed.
 pub record FileTells (layout : Layout) (uuid : List ℕ) (cpu : ℕ) (bytes : List ℕ) (events : List EventRead) (loss : ℕ) : Type 0 where

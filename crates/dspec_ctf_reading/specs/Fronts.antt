@@ -1,9 +1,8 @@
 -- Cited by calls. A packet split into its front, the bytes of its events and what is behind it, before any event is read. What fills it up behind its
 -- events is left out.
-use Rattle.std.specs.Prelude.{ℕ, ◌-◌, ◌/◌, Bool, List, length, take, drop, Option, Some, None, if◌then◌else◌}
 use Rattle.std.specs.Option.{option_and_then}
-use Rattle.dspec_ctf_reading.specs.Reading.{FrontRead, read_front, sizes_agree}
-use Rattle.dspec_ctf_reading.specs.declared.fronts.Front.{Front}
+use Rattle.std.specs.Prelude.{ℕ, ◌-◌, ◌/◌, Bool, List, length, take, drop, Option, Some, None, if◌then◌else◌}
+use Rattle.dspec_ctf_reading.specs.{Reading.FrontRead, Reading.read_front, Reading.sizes_agree, declared.fronts.Front.Front}
 
 -- a front in memory, as it is read
 abbrev pub front_of : Front → FrontRead

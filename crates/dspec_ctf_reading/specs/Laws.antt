@@ -1,22 +1,14 @@
 -- Cited by calls. What the laws say, each by its name.
-use Rattle.std.specs.Prelude.{◌≡◌, ◌<◌, ◌^◌, ◌++◌, ◌∷◌, [], ℕ, true, false, All, List, map, length, slice_index, Option, Some, None}
-use Rattle.std.specs.Option.{option_map, option_and_then}
-use Rattle.std.specs.List.{flat_map, range_with_len}
-use Rattle.dspec_ctf_reading.specs.Words.Outside.{Record, EnabledRows, events, packet, packet_around, filled_packets, portions, span_by, Accepts, timed_packets, AreRuns, missed_packets, of_file}
-use Rattle.dspec_ctf_reading.specs.Words.Outside.{run_files, run_packets, run_records, told_by, origin_text}
-use Rattle.dspec_record.specs.declared.header.Header.{Header}
-use Rattle.dspec_record.specs.declared.header.Header.TheVariants as header
-use Rattle.dspec_probe.specs.declared.probes.ProbeNames.{ProbeNames}
-use Rattle.dspec_ctf.specs.declared.form.Form.{Form}
-use Rattle.dspec_ctf.specs.declared.form.Form.TheVariants.{AsTaken, ByTime}
-use Rattle.dspec_ctf.specs.declared.names.Names.{Names}
-use Rattle.dspec_ctf.specs.declared.origin.Origin.{Origin}
-use Rattle.dspec_ctf.specs.declared.rows.Run.{Run}
-use Rattle.dspec_ctf_reading.specs.Reading.{Layout, EventRead, PacketRead, read_packet, read_file, with_events}
-use Rattle.dspec_ctf_reading.specs.ReadingMetadata.{read_metadata}
+use Rattle.std.specs.{List.flat_map, List.range_with_len, Option.option_map, Option.option_and_then, Prelude.◌≡◌, Prelude.◌<◌, Prelude.◌^◌, Prelude.◌++◌, Prelude.◌∷◌, Prelude.[], Prelude.ℕ}
+use Rattle.std.specs.{Prelude.true, Prelude.false, Prelude.All, Prelude.List, Prelude.map, Prelude.length, Prelude.slice_index, Prelude.Option, Prelude.Some, Prelude.None}
+use Rattle.dspec_ctf_reading.specs.Files.{FileTells, PartTells, file_bytes, last_missed}
 use Rattle.dspec_ctf_reading.specs.Fronts.{PacketSplit}
 use Rattle.dspec_ctf_reading.specs.Layouts.{layout_of, event_of, packet_of, is_timed, given_name}
-use Rattle.dspec_ctf_reading.specs.Files.{FileTells, PartTells, file_bytes, last_missed}
+use Rattle.dspec_ctf_reading.specs.Reading.{Layout, EventRead, PacketRead, read_packet, read_file, with_events}
+use Rattle.dspec_ctf_reading.specs.ReadingMetadata.{read_metadata}
+use Rattle.dspec_ctf_reading.specs.Words.Outside.{Record, EnabledRows, events, packet, packet_around, filled_packets, portions, span_by, Accepts, timed_packets, AreRuns, missed_packets, of_file}
+use Rattle.dspec_ctf_reading.specs.Words.Outside.{run_files, run_packets, run_records, told_by, origin_text, Header, ProbeNames, Form, AsTaken, ByTime, Names, Origin, Run}
+use Rattle.dspec_record.specs.declared.header.Header.TheVariants as header
 
 -- what was read first, and behind it the others, which this reading gives of the rest
 abbrev pub then_others : {A : Type 0} → (List ℕ → Option (List A)) → Option (A × List ℕ) → Option (List A)

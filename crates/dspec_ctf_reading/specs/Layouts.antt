@@ -1,17 +1,9 @@
 -- Cited by calls. The layout that the metadata of a trace tells, and what records are, read by it.
-use Rattle.std.specs.Prelude.{ℕ, ◌-◌, Bool, true, false, List, [], ◌∷◌, ◌++◌, length, map, slice_get, codes, decimal, Option, Some, None, if◌then◌else◌}
-use Rattle.std.specs.Option.{option_map_or}
-use Rattle.std.specs.List.{enumerate_from, range_with_len}
-use Rattle.dspec_ctf_reading.specs.Words.Outside.{Record, width, EnabledRows, event_fields, event_name, name_place}
-use Rattle.dspec_record.specs.declared.field.Field.{Field}
-use Rattle.dspec_record.specs.declared.header.Header.{Header}
-use Rattle.dspec_record.specs.declared.header.Header.TheVariants as header
-use Rattle.dspec_ctf.specs.declared.names.Names.{Names}
-use Rattle.dspec_ctf.specs.declared.names.Names.TheVariants.{Numbered, Given}
-use Rattle.dspec_ctf.specs.declared.form.Form.{Form}
-use Rattle.dspec_ctf.specs.declared.form.Form.TheVariants.{AsTaken, ByTime}
-use Rattle.dspec_probe.specs.declared.probes.ProbeNames.{ProbeNames}
+use Rattle.std.specs.{List.enumerate_from, List.range_with_len, Option.option_map_or, Prelude.ℕ, Prelude.◌-◌, Prelude.Bool, Prelude.true, Prelude.false, Prelude.List, Prelude.[], Prelude.◌∷◌}
+use Rattle.std.specs.{Prelude.◌++◌, Prelude.length, Prelude.map, Prelude.slice_get, Prelude.codes, Prelude.decimal, Prelude.Option, Prelude.Some, Prelude.None, Prelude.if◌then◌else◌}
 use Rattle.dspec_ctf_reading.specs.Reading.{FieldLayout, EventLayout, Layout, EventRead, PacketRead}
+use Rattle.dspec_ctf_reading.specs.Words.Outside.{Record, width, EnabledRows, event_fields, event_name, name_place, Field, Header, Names, Numbered, Given, Form, AsTaken, ByTime, ProbeNames}
+use Rattle.dspec_record.specs.declared.header.Header.TheVariants as header
 
 -- what the events of an EPID are called, and their fields by their places, counted from 0
 pub record Naming : Type 0 where

@@ -1,12 +1,11 @@
 -- Cited by calls. What a fault of a packet says of its bytes.
 use Rattle.std.specs.Prelude.{◌≡◌, ◌≢◌, ◌<◌, ◌-◌, ◌/◌, ◌%◌, ℕ, Bool, List, length, drop, IfSome, IsSomeAnd, MatchOption}
-use Rattle.dspec_ctf_reading.specs.Reading.{Layout, FrontRead, read_number, read_front}
+use Rattle.dspec_ctf_reading.specs.Faults.{EventsDue}
 use Rattle.dspec_ctf_reading.specs.Fronts.{split_packet}
+use Rattle.dspec_ctf_reading.specs.Reading.{Layout, FrontRead, read_number, read_front}
 use Rattle.dspec_ctf_reading.specs.declared.fault.PacketReadFault.{PacketReadFault}
 use Rattle.dspec_ctf_reading.specs.declared.fault.PacketReadFault.TheVariants.{Cut, Magic, Stream, ContentWithinByte, PacketWithinByte, BeforeEvents, BehindPacket, BehindFile}
-use Rattle.dspec_ctf_reading.specs.declared.fault.WholePacketFault.{WholePacketFault}
-use Rattle.dspec_ctf_reading.specs.declared.fault.WholePacketFault.TheVariants.{Packet, Events}
-use Rattle.dspec_ctf_reading.specs.Faults.{EventsDue}
+use Rattle.dspec_ctf_reading.specs.declared.fault.WholePacketFault.{WholePacketFault, TheVariants.Packet, TheVariants.Events}
 
 -- Of bytes that begin with no front: another magic number stands there, or another stream; or neither, and so they are cut.
 abbrev pub FrontDue : List ℕ → PacketReadFault → Type 0

@@ -1,13 +1,11 @@
 -- Cited by calls. What reading a part of a text answers, in the words of the definitions of reading.
-use Rattle.std.specs.Prelude.{◌≡◌, ℕ, List, length, codes, Bool, true, false, Option, Some, None, Result, MatchResult, IsTrue}
 use Rattle.std.specs.Option.{option_map}
+use Rattle.std.specs.Prelude.{◌≡◌, ℕ, List, length, codes, Bool, true, false, Option, Some, None, Result, MatchResult, IsTrue}
 use Rattle.dspec_ctf_reading.specs.Reading.{PartRead, then_read}
 use Rattle.dspec_ctf_reading.specs.ReadingMetadata.{is_digit, is_word, is_quoted, rest_past, past, then_rest, read_quoted, whole_types, read_type_of, read_labels, types_lines, trace_lines}
 use Rattle.dspec_ctf_reading.specs.ReadingMetadata.{header_lines}
-use Rattle.dspec_ctf_reading.specs.declared.fault.ReadStop.{ReadStop}
-use Rattle.dspec_ctf_reading.specs.declared.fault.ReadStop.TheVariants.{Unread, TooLarge, Memory}
-use Rattle.dspec_ctf_reading.specs.declared.scan.Set.{Set}
-use Rattle.dspec_ctf_reading.specs.declared.scan.Set.TheVariants.{Digits, Word, Quoted}
+use Rattle.dspec_ctf_reading.specs.declared.fault.ReadStop.{ReadStop, TheVariants.Unread, TheVariants.TooLarge, TheVariants.Memory}
+use Rattle.dspec_ctf_reading.specs.declared.scan.Set.{Set, TheVariants.Digits, TheVariants.Word, TheVariants.Quoted}
 
 -- the test of a set of bytes
 abbrev pub test_of : Set → ℕ → Bool

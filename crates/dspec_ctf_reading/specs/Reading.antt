@@ -1,9 +1,9 @@
 -- Cited by calls. What the bytes of a trace's files say, in the Common Trace Format, version 1.8, by what its metadata tells of them. Numbers are
 -- little-endian, and nothing stands between two parts. A packet may be longer than what it has: the bytes behind its events say nothing, whatever they
 -- are. What is none of this is refused.
-use Rattle.std.specs.Prelude.{ℕ, zero, suc, ◌+◌, ◌-◌, ◌*◌, ◌/◌, ◌%◌, ◌==◌, nat_le, Bool, true, false, ◌&&◌, List, [], ◌∷◌, length, take, drop, Option, Some, None, if◌then◌else◌}
-use Rattle.std.specs.Option.{option_map, option_and_then}
 use Rattle.std.specs.List.{flat_map}
+use Rattle.std.specs.Option.{option_map, option_and_then}
+use Rattle.std.specs.Prelude.{ℕ, zero, suc, ◌+◌, ◌-◌, ◌*◌, ◌/◌, ◌%◌, ◌==◌, nat_le, Bool, true, false, ◌&&◌, List, [], ◌∷◌, length, take, drop, Option, Some, None, if◌then◌else◌}
 
 -- ---- what the metadata tells
 

@@ -1,7 +1,8 @@
 -- Cited by calls. What a trace's metadata tells of its bytes. It is text in a language of the format's own, and here is so much of that language as our
 -- traces have: the same lines, in the same order. Whatever else stands there is refused.
-use Rattle.std.specs.Prelude.{ℕ, zero, suc, ◌+◌, ◌-◌, ◌*◌, ◌/◌, ◌%◌, ◌==◌, nat_le, not, Bool, true, false, ◌&&◌, ◌||◌, List, [], ◌∷◌, ◌++◌, length, replicate, codes, Option, Some, None, if◌then◌else◌}
 use Rattle.std.specs.Option.{option_map, option_and_then}
+use Rattle.std.specs.Prelude.{ℕ, zero, suc, ◌+◌, ◌-◌, ◌*◌, ◌/◌, ◌%◌, ◌==◌, nat_le, not, Bool, true, false, ◌&&◌, ◌||◌, List, [], ◌∷◌, ◌++◌, length, replicate, codes, Option, Some, None}
+use Rattle.std.specs.Prelude.{if◌then◌else◌}
 use Rattle.dspec_ctf_reading.specs.Reading.{FieldLayout, EventLayout, Layout, PartRead, then_read}
 
 -- ---- the parts of a text

@@ -1,15 +1,9 @@
 -- Cited by calls. What was read in code, in the words of the definitions of reading.
-use Rattle.std.specs.Prelude.{◌≡◌, ◌<◌, ◌+◌, ◌==◌, ℕ, List, [], ◌∷◌, length, map, slice_index_or, is_some, if◌then◌else◌}
 use Rattle.std.specs.List.{zip}
-use Rattle.dspec_ctf_reading.specs.Words.Outside.{width}
-use Rattle.dspec_ctf_reading.specs.Reading.{FieldLayout, EventLayout, Layout, EventRead}
-use Rattle.dspec_ctf_reading.specs.Fronts.{PacketSplit, front_of}
-use Rattle.dspec_ctf_reading.specs.declared.fronts.SplitPacket.{SplitPacket}
-use Rattle.dspec_ctf_reading.specs.declared.told.Label.{Label}
-use Rattle.dspec_ctf_reading.specs.declared.told.FieldText.{FieldText}
-use Rattle.dspec_ctf_reading.specs.declared.told.EventText.{EventText}
-use Rattle.dspec_ctf_reading.specs.declared.told.Metadata.{Metadata}
-use Rattle.dspec_ctf_reading.specs.declared.events.Event.{Event}
+use Rattle.std.specs.Prelude.{◌≡◌, ◌<◌, ◌+◌, ◌==◌, ℕ, List, [], ◌∷◌, length, map, slice_index_or, is_some, if◌then◌else◌}
+use Rattle.dspec_ctf_reading.specs.{Fronts.PacketSplit, Fronts.front_of, Reading.FieldLayout, Reading.EventLayout, Reading.Layout, Reading.EventRead, Words.Outside.width}
+use Rattle.dspec_ctf_reading.specs.{declared.events.Event.Event, declared.fronts.SplitPacket.SplitPacket, declared.told.EventText.EventText, declared.told.FieldText.FieldText}
+use Rattle.dspec_ctf_reading.specs.{declared.told.Label.Label, declared.told.Metadata.Metadata}
 
 -- a label, and the number that has it
 abbrev pub told_label : Label → List ℕ × ℕ

@@ -1,12 +1,7 @@
 -- Cited by calls. The numbers that a trace's metadata tells, as they are in memory: each has 64 bits at the most, and a uuid is made of bytes.
-use Rattle.std.specs.Prelude.{ℕ, ◌<◌, ◌≤◌, ◌^◌, [], All, length, unwrap_or}
-use Rattle.std.specs.Option.{option_map_or}
-use Rattle.dspec_ctf_reading.specs.Words.Outside.{EnabledRows, event_fields, labels_at}
-use Rattle.dspec_ctf.specs.declared.origin.Origin.{Origin}
-use Rattle.dspec_ctf.specs.declared.names.Names.{Names}
-use Rattle.dspec_ctf.specs.declared.form.Form.{Form}
-use Rattle.dspec_ctf.specs.declared.form.Form.TheVariants.{AsTaken, ByTime}
+use Rattle.std.specs.{Option.option_map_or, Prelude.ℕ, Prelude.◌<◌, Prelude.◌≤◌, Prelude.◌^◌, Prelude.[], Prelude.All, Prelude.length, Prelude.unwrap_or}
 use Rattle.dspec_ctf_reading.specs.Layouts.{given_for}
+use Rattle.dspec_ctf_reading.specs.Words.Outside.{EnabledRows, event_fields, labels_at, Origin, Names, Form, AsTaken, ByTime}
 
 abbrev pub ticks_of : Form → ℕ
 ticks_of AsTaken = 0

@@ -22,12 +22,3 @@ pub use Rattle.dspec_ctf_reading.specs.ReadingMetadata.{with_part}
 unfoldable pub use Rattle.dspec_ctf_reading.specs.ReadingMetadata.{is_digit, is_quoted, is_word}
 pub use Rattle.dspec_ctf_reading.specs.Told.{as_read, first_place, Fits, names_of, text_at, told_event, told_field, told_label, told_layout, told_packet}
 pub use Rattle.dspec_ctf_reading.specs.ToldNumbers.{HasNumbers, ticks_of}
-pub use Rattle.dspec_ctf_reading.specs.declared.events.Event.{Event}
-pub use Rattle.dspec_ctf_reading.specs.declared.folder.counts.CpuCounts.{CpuCounts}
-pub use Rattle.dspec_ctf_reading.specs.declared.folder.packet.ReadPacket.{ReadPacket}
-pub use Rattle.dspec_ctf_reading.specs.declared.folder.track.RowPart.{RowPart}
-pub use Rattle.dspec_ctf_reading.specs.declared.folder.track.RowPart.TheVariants.{Mark, Slice}
-pub use Rattle.dspec_ctf_reading.specs.declared.scan.Set.{Set}
-pub use Rattle.dspec_ctf_reading.specs.declared.scan.Set.TheVariants.{Digits, Quoted, Word}
-pub use Rattle.dspec_ctf_reading.specs.declared.told.EventText.{EventText}
-pub use Rattle.dspec_ctf_reading.specs.declared.told.FieldText.{FieldText}

@@ -1,10 +1,8 @@
 //! The events that a metadata's text tells, and their fields.
 
-ghost use Rattle.std.specs.Prelude.{◌≡◌, length, map, replicate, IfOk};
-ghost use Rattle.std.specs.Option.{option_map};
-ghost use Rattle.dspec_ctf_reading.specs.ReadingMetadata.{read_event_text, read_event_texts, read_field, read_fields, read_number_field, read_text_field, text_layouts};
-ghost use Rattle.dspec_ctf_reading.specs.Parts.{Gives};
-ghost use Rattle.dspec_ctf_reading.specs.Told.{told_event, told_field};
+ghost use Rattle.std.specs.{Option.option_map, Prelude.◌≡◌, Prelude.length, Prelude.map, Prelude.replicate, Prelude.IfOk};
+ghost use Rattle.dspec_ctf_reading.specs.{Parts.Gives, ReadingMetadata.read_event_text, ReadingMetadata.read_event_texts, ReadingMetadata.read_field, ReadingMetadata.read_fields};
+ghost use Rattle.dspec_ctf_reading.specs.{ReadingMetadata.read_number_field, ReadingMetadata.read_text_field, ReadingMetadata.text_layouts, Told.told_event, Told.told_field};
 
 use crate::fault::{Expected, ReadStop};
 use crate::kinds::field_type;

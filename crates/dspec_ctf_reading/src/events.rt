@@ -1,11 +1,10 @@
 //! Events in the bytes of a packet.
 
-ghost use Rattle.std.specs.Prelude.{◌≡◌, ◌≤◌, ◌<◌, length, map, All, IsTrue, IfOk, IfErr, IfSome, MatchOption, Some, None};
-ghost use Rattle.std.specs.List.{zip};
-ghost use Rattle.std.specs.Option.{option_map};
+ghost use Rattle.std.specs.{List.zip, Option.option_map, Prelude.◌≡◌, Prelude.◌≤◌, Prelude.◌<◌, Prelude.length, Prelude.map, Prelude.All, Prelude.IsTrue, Prelude.IfOk, Prelude.IfErr, Prelude.IfSome};
+ghost use Rattle.std.specs.{Prelude.MatchOption, Prelude.Some, Prelude.None};
+ghost use Rattle.dspec_ctf_reading.specs.Faults.{EventDue, EventsDue, HasKnown, IsCutOrMemory, is_event_fault};
 ghost use Rattle.dspec_ctf_reading.specs.Reading.{find_event, read_event as event_from, read_event_body, read_events as events_from, read_payload};
 ghost use Rattle.dspec_ctf_reading.specs.Told.{Fits, told_event, as_read, told_field, told_layout, names_of, first_place, text_at};
-ghost use Rattle.dspec_ctf_reading.specs.Faults.{EventDue, EventsDue, HasKnown, IsCutOrMemory, is_event_fault};
 
 use crate::fault::{EventFault, EventsFault};
 use crate::numbers::{four, number, stamp};

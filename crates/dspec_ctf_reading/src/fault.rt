@@ -1,8 +1,7 @@
 //! Why a text or bytes can't be read.
 
 ghost use Rattle.std.specs.Prelude.{◌≡◌};
-ghost use Rattle.dspec_ctf_reading.specs.declared.fault.ReadStop.TheVariants.{Memory};
-ghost use Rattle.dspec_ctf_reading.specs.declared.fault.MetadataReadFault.TheVariants.{Memory as no_memory};
+ghost use Rattle.dspec_ctf_reading.specs.declared.fault.{MetadataReadFault.TheVariants.Memory as no_memory, ReadStop.TheVariants.Memory};
 
 use std::alloc::{AllocError, AllocFailed};
 use thiserror::Error;

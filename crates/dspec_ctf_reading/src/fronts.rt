@@ -1,9 +1,8 @@
 //! Packets split into their fronts and the bytes of their events, by the definition of `specs/Reading.antt`.
 
-ghost use Rattle.std.specs.Prelude.{◌≡◌, ◌≤◌, length};
-ghost use Rattle.std.specs.Option.{option_map};
-ghost use Rattle.dspec_ctf_reading.specs.Reading.{read_counts, read_front as front_read, read_header, read_number, read_span};
+ghost use Rattle.std.specs.{Option.option_map, Prelude.◌≡◌, Prelude.◌≤◌, Prelude.length};
 ghost use Rattle.dspec_ctf_reading.specs.Fronts.{front_of, split_behind, split_packet as packet_split};
+ghost use Rattle.dspec_ctf_reading.specs.Reading.{read_counts, read_front as front_read, read_header, read_number, read_span};
 
 /// What a packet tells before its events.
 #[derive(Debug, Clone, Copy)]

@@ -1,8 +1,8 @@
 //! What stands before the events of a metadata's text.
 
 ghost use Rattle.std.specs.Prelude.{◌≡◌, is_some};
-ghost use Rattle.dspec_ctf_reading.specs.ReadingMetadata.{read_clock, read_clock_start, read_clock_uuid, read_process, rest_past, stream_lines};
 ghost use Rattle.dspec_ctf_reading.specs.Parts.{Gives, read_trace};
+ghost use Rattle.dspec_ctf_reading.specs.ReadingMetadata.{read_clock, read_clock_start, read_clock_uuid, read_process, rest_past, stream_lines};
 
 use crate::fault::{Expected, ReadStop};
 use crate::scan::{behind, decimal, past, past_text, quoted};

@@ -1,11 +1,9 @@
 //! The types of fields.
 
-ghost use Rattle.std.specs.Prelude.{◌≡◌, length, map, take, drop, ◌++◌};
-ghost use Rattle.std.specs.Option.{option_map};
+ghost use Rattle.std.specs.{Option.option_map, Prelude.◌≡◌, Prelude.length, Prelude.map, Prelude.take, Prelude.drop, Prelude.◌++◌};
 ghost use Rattle.dspec_record.specs.Layout.{width as bytes_of};
-ghost use Rattle.dspec_ctf_reading.specs.ReadingMetadata.{float_types, read_label, read_labels, read_type, read_type_of, whole_types};
-ghost use Rattle.dspec_ctf_reading.specs.Parts.{Gives, read_enumeration};
-ghost use Rattle.dspec_ctf_reading.specs.Told.{told_label};
+ghost use Rattle.dspec_ctf_reading.specs.{Parts.Gives, Parts.read_enumeration, ReadingMetadata.float_types, ReadingMetadata.read_label, ReadingMetadata.read_labels, ReadingMetadata.read_type};
+ghost use Rattle.dspec_ctf_reading.specs.{ReadingMetadata.read_type_of, ReadingMetadata.whole_types, Told.told_label};
 
 use crate::fault::{Expected, ReadStop};
 use crate::scan::{behind, decimal, past_text, quoted};

@@ -1,24 +1,18 @@
 //! What follows from the definitions, as clauses of functions that have nothing to do.
 
-ghost use Rattle.std.specs.Prelude.{◌≡◌, ◌≤◌, ◌++◌, ◌∷◌, [], ◌-◌, ℕ, true, false, List, length, codes, drop, take, slice_set, Option, Some, None};
 ghost use Rattle.std.specs.Option.{option_and_then};
-ghost use Rattle.dspec_record.specs.Record.{Record};
-ghost use Rattle.dspec_record.specs.EnablingRows.{EnabledRows};
+ghost use Rattle.std.specs.Prelude.{◌≡◌, ◌≤◌, ◌++◌, ◌∷◌, [], ◌-◌, ℕ, true, false, List, length, codes, drop, take, slice_set, Option, Some, None};
+ghost use Rattle.dspec_record.specs.{EnablingRows.EnabledRows, Record.Record};
 ghost use Rattle.dspec_ctf.specs.Names.{origin_fault};
-ghost use Rattle.dspec_ctf.specs.declared.form.Form.{Form};
-ghost use Rattle.dspec_ctf.specs.declared.origin.Origin.{Origin};
-ghost use Rattle.dspec_ctf.specs.declared.form.Form.TheVariants.{AsTaken, ByTime};
-ghost use Rattle.dspec_ctf.specs.declared.names.Names.{Names};
+ghost use Rattle.dspec_ctf.specs.declared.{form.Form.Form, form.Form.TheVariants.AsTaken, form.Form.TheVariants.ByTime, names.Names.Names, origin.Origin.Origin};
 ghost use Rattle.dspec_probe.specs.declared.probes.ProbeNames.{ProbeNames};
-ghost use Rattle.dspec_ctf_reading.specs.Reading.{Layout, PacketRead, read_packets_within, read_events_within, read_event, read_events, read_packet, read_file};
-ghost use Rattle.dspec_ctf_reading.specs.Fronts.{split_packet};
-ghost use Rattle.dspec_ctf_reading.specs.Layouts.{event_of, given_for};
-ghost use Rattle.dspec_ctf_reading.specs.Laws.{IsCalledBy, IsReadAs, IsReadAsTaken, MetadataTells, MissedReadsBack, RunsReadBack, then_others, with_its_events};
-ghost use Rattle.dspec_ctf_reading.specs.Laws.{FilledFilesReadBack, FilledPacketsReadBack, TakenFilesReadBack, TakenPacketsReadBack, TimedFilesReadBack, TimedPacketsReadBack};
-ghost use Rattle.dspec_ctf_reading.specs.ToldNumbers.{HasNumbers};
-ghost use Rattle.dspec_ctf_reading.specs.ReadingMetadata.{read_field, read_metadata, read_type};
-ghost use Rattle.dspec_ctf_reading.specs.SampleMetadata.{timed_text, timed_text_layout, taken_text, taken_text_layout};
-ghost use Rattle.dspec_ctf_reading.specs.Sample.{sample_layout, sample_bytes, sample_packet, filled_bytes, sized, stamped_bytes, stamped_packet};
+ghost use Rattle.dspec_ctf_reading.specs.{Fronts.split_packet, Laws.IsCalledBy, Laws.IsReadAs, Laws.IsReadAsTaken, Laws.MetadataTells, Laws.MissedReadsBack, Laws.RunsReadBack, Laws.then_others};
+ghost use Rattle.dspec_ctf_reading.specs.{Laws.with_its_events, Laws.FilledFilesReadBack, Laws.FilledPacketsReadBack, Laws.TakenFilesReadBack, Laws.TakenPacketsReadBack, Laws.TimedFilesReadBack};
+ghost use Rattle.dspec_ctf_reading.specs.{Laws.TimedPacketsReadBack, Layouts.event_of, Layouts.given_for, Reading.Layout, Reading.PacketRead, Reading.read_packets_within, Reading.read_events_within};
+ghost use Rattle.dspec_ctf_reading.specs.{Reading.read_event, Reading.read_events, Reading.read_packet, Reading.read_file, ReadingMetadata.read_field, ReadingMetadata.read_metadata};
+ghost use Rattle.dspec_ctf_reading.specs.{ReadingMetadata.read_type, Sample.sample_layout, Sample.sample_bytes, Sample.sample_packet, Sample.filled_bytes, Sample.sized, Sample.stamped_bytes};
+ghost use Rattle.dspec_ctf_reading.specs.{Sample.stamped_packet, SampleMetadata.timed_text, SampleMetadata.timed_text_layout, SampleMetadata.taken_text, SampleMetadata.taken_text_layout};
+ghost use Rattle.dspec_ctf_reading.specs.{ToldNumbers.HasNumbers};
 
 /// The number that shows that reading comes to an end changes nothing, from the number of bytes on.
 pub fn bound_is_enough()

@@ -1,10 +1,7 @@
 //! The text of a trace's metadata.
 
 ghost use Rattle.std.specs.Prelude.{◌≡◌, IfOk, IfErr, IsTrue, Some, None};
-ghost use Rattle.dspec_ctf_reading.specs.ReadingMetadata.{read_metadata as metadata_read};
-ghost use Rattle.dspec_ctf_reading.specs.Parts.{Gives};
-ghost use Rattle.dspec_ctf_reading.specs.Told.{told_layout};
-ghost use Rattle.dspec_ctf_reading.specs.Faults.{is_misread};
+ghost use Rattle.dspec_ctf_reading.specs.{Faults.is_misread, Parts.Gives, ReadingMetadata.read_metadata as metadata_read, Told.told_layout};
 
 use crate::entries::events;
 use crate::fault::{MetadataReadFault, ReadStop};

@@ -1,7 +1,6 @@
 //! Numbers in the bytes of an event.
 
-ghost use Rattle.std.specs.Prelude.{◌≡◌, ◌≤◌, ◌<◌, length, IfSome};
-ghost use Rattle.std.specs.Option.{option_map};
+ghost use Rattle.std.specs.{Option.option_map, Prelude.◌≡◌, Prelude.◌≤◌, Prelude.◌<◌, Prelude.length, Prelude.IfSome};
 ghost use Rattle.dspec_record.specs.Layout.{width as bytes_of};
 ghost use Rattle.dspec_ctf_reading.specs.Reading.{read_number, read_stamp};
 

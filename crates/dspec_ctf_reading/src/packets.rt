@@ -1,11 +1,9 @@
 //! Packets in the bytes of a file.
 
-ghost use Rattle.std.specs.Prelude.{◌≡◌, ◌≢◌, ◌<◌, ◌-◌, ◌/◌, false, length, drop, IfOk, IfErr, IfSome, Some, None};
 ghost use Rattle.std.specs.Option.{option_map};
-ghost use Rattle.dspec_ctf_reading.specs.Reading.{read_front as front_from, read_number, read_packet as packet_from, sizes_agree};
-ghost use Rattle.dspec_ctf_reading.specs.Fronts.{front_of, split_packet as packet_split};
-ghost use Rattle.dspec_ctf_reading.specs.Told.{told_layout, told_packet};
-ghost use Rattle.dspec_ctf_reading.specs.Packets.{FrontDue, PacketDue, SizesDue, WholeDue};
+ghost use Rattle.std.specs.Prelude.{◌≡◌, ◌≢◌, ◌<◌, ◌-◌, ◌/◌, false, length, drop, IfOk, IfErr, IfSome, Some, None};
+ghost use Rattle.dspec_ctf_reading.specs.{Fronts.front_of, Fronts.split_packet as packet_split, Packets.FrontDue, Packets.PacketDue, Packets.SizesDue, Packets.WholeDue};
+ghost use Rattle.dspec_ctf_reading.specs.{Reading.read_front as front_from, Reading.read_number, Reading.read_packet as packet_from, Reading.sizes_agree, Told.told_layout, Told.told_packet};
 
 use crate::events::check_events;
 use crate::fault::{PacketReadFault, WholePacketFault};

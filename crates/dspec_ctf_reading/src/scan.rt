@@ -1,9 +1,9 @@
 //! The parts of a text: fixed texts, words, texts in quotes and numbers.
 
-ghost use Rattle.std.specs.Prelude.{◌≡◌, ◌↔◌, ◌≤◌, ◌<◌, ◌^◌, ◌+◌, ◌*◌, ◌-◌, ℕ, true, false, length, take, drop, Option, IsTrue, MatchOption};
 ghost use Rattle.std.specs.Option.{option_map};
-ghost use Rattle.dspec_ctf_reading.specs.ReadingMetadata.{digits_number, read_decimal, read_quoted, read_run, read_word, rest_past, run_of};
+ghost use Rattle.std.specs.Prelude.{◌≡◌, ◌↔◌, ◌≤◌, ◌<◌, ◌^◌, ◌+◌, ◌*◌, ◌-◌, ℕ, true, false, length, take, drop, Option, IsTrue, MatchOption};
 ghost use Rattle.dspec_ctf_reading.specs.Parts.{Gives, test_of};
+ghost use Rattle.dspec_ctf_reading.specs.ReadingMetadata.{digits_number, read_decimal, read_quoted, read_run, read_word, rest_past, run_of};
 
 use crate::fault::{Expected, ReadStop};
 

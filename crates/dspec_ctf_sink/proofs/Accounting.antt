@@ -1,10 +1,8 @@
 -- Nothing is lost uncounted.
 use Rattle.std.proofs.Common.{◌≡◌, ◌≢◌, ◌⊎◌, ◌<◌, ◌+◌, ◌^◌, ◌∙◌, ℕ, List, [], ap, arith, inl, inr, length, refl}
+use Rattle.std.proofs.lemmas.{List.get_or-set_same, List.get_or-set_other, Option.get_or_from_slice_get}
 use Rattle.std.specs.Prelude.{None, slice_index, slice_set}
-use Rattle.std.proofs.lemmas.List.{get_or-set_same, get_or-set_other}
-use Rattle.std.proofs.lemmas.Option.{get_or_from_slice_get}
-use Rattle.dspec_ctf_sink.specs.Words.{Record, EnabledRows, IsText, HasSoManyRecords, capped, AddsPacket, AreNextOf, GetsPacket, IsNothing, LosesPacket, Tracing, Accounts, missed_on}
-use Rattle.dspec_ring.specs.declared.batch.Batch.{Batch}
+use Rattle.dspec_ctf_sink.specs.Words.{Record, EnabledRows, IsText, HasSoManyRecords, capped, AddsPacket, AreNextOf, GetsPacket, IsNothing, LosesPacket, Tracing, Accounts, missed_on, Batch}
 
 -- what fits isn't capped
 pub capped_below : (n : ℕ) → n < 2 ^ 64 → capped n ≡ n

@@ -1,11 +1,9 @@
 -- A batch by time is added to its CPU's files, or lost.
-use Rattle.std.proofs.Common.{arith, ◌≡◌, ◌⊎◌, ◌+◌, ℕ, List, inl, inr, refl, subst}
-use Rattle.std.proofs.lemmas.Bool.Decides.{nat_tests}
+use Rattle.std.proofs.{Common.arith, Common.◌≡◌, Common.◌⊎◌, Common.◌+◌, Common.ℕ, Common.List, Common.inl, Common.inr, Common.refl, Common.subst, lemmas.Bool.Decides.nat_tests}
 use Rattle.std.specs.Prelude.{Option, Some, None, slice_get, slice_set}
 use Rattle.dspec_ctf_sink.specs.Words.{Record, EnabledRows, IsText, HasSoManyRecords, lost_more, missed_more, FileWrite, AddsAll, AddsBatch, AddsRuns, CpuFiles, GetsRuns, HasNoRuns, IsBatchLoss}
-use Rattle.dspec_ctf_sink.specs.Words.{LosesRuns, StopsRuns, TellsMissed, TellsNone, TimedTracing, FolderFault, Cpu, Packet, Loss}
-use Rattle.dspec_ring.specs.declared.batch.Batch.{Batch}
-use Rattle.dspec_ctf.specs.declared.stream.PacketFault.{PacketFault}
+use Rattle.dspec_ctf_sink.specs.Words.{LosesRuns, StopsRuns, TellsMissed, TellsNone, TimedTracing, Batch, PacketFault}
+use Rattle.dspec_ctf_sink.specs.declared.{fault.FolderFault.FolderFault, fault.FolderFault.TheVariants.Cpu, fault.FolderFault.TheVariants.Packet, losing.Loss.Loss}
 
 -- a CPU's files, by their parts
 abbrev pub files : ℕ → List ℕ → Option (List FileWrite) → CpuFiles

@@ -1,7 +1,6 @@
 -- Numbers that are counted as far as 64 bits count.
-use Rattle.std.proofs.Common.{◌≡◌, ◌≤◌, ◌+◌, ◌∙◌, ℕ, List, ap, arith, length, sym}
+use Rattle.std.proofs.{Common.◌≡◌, Common.◌≤◌, Common.◌+◌, Common.◌∙◌, Common.ℕ, Common.List, Common.ap, Common.arith, Common.length, Common.sym, lemmas.List.set_past}
 use Rattle.std.specs.Prelude.{slice_index, slice_set}
-use Rattle.std.proofs.lemmas.List.{set_past}
 use Rattle.dspec_ctf_sink.specs.Words.{capped, missed_more}
 
 capped_twice : (a d n : ℕ) → capped (capped (a + d) + n) ≡ capped (a + (d + n))

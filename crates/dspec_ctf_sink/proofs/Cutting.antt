@@ -1,9 +1,7 @@
 -- Bytes that are written behind others, in part or whole, and cut off again.
-use Rattle.std.proofs.Common.{◌≡◌, ◌≤◌, ◌+◌, ◌-◌, ◌++◌, List, [], ℕ, ap, sym, ◌∙◌, append_assoc, arith, take, drop}
-use Rattle.std.specs.Prelude.{Option, Some, None}
-use Rattle.std.specs.Io.KnownBytes.{Appends, Keeps}
-use Rattle.std.proofs.Math.Seq.{take-add}
-use Rattle.std.proofs.lemmas.List.{take_at, append-nil}
+use Rattle.std.proofs.{Common.◌≡◌, Common.◌≤◌, Common.◌+◌, Common.◌-◌, Common.◌++◌, Common.List, Common.[], Common.ℕ, Common.ap, Common.sym, Common.◌∙◌, Common.append_assoc, Common.arith}
+use Rattle.std.proofs.{Common.take, Common.drop, Math.Seq.take-add, lemmas.List.take_at, lemmas.List.append-nil}
+use Rattle.std.specs.{Io.KnownBytes.Appends, Io.KnownBytes.Keeps, Prelude.Option, Prelude.Some, Prelude.None}
 use Rattle.dspec_ctf_sink.specs.Words.{KeepsInFront, IsCut, IsLong}
 
 split : (bs : List ℕ) (at to : ℕ) → at ≤ to → take to bs ≡ take at bs ++ take (to - at) (drop at bs)

@@ -1,11 +1,10 @@
 -- Runs that follow one another, their packets, and what stops them.
-use Rattle.std.proofs.lemmas.Bool.Decides.{nat_tests}
 use Rattle.std.proofs.Common.{◌≡◌, ◌≤◌, ◌-◌, ◌+◌, ℕ, List, [], ◌∷◌, ◌∙◌, ap, arith, inl, inr, length, refl, sym, subst}
+use Rattle.std.proofs.lemmas.Bool.Decides.{nat_tests}
 use Rattle.std.specs.Prelude.{Option, Some, None, slice_range}
 use Rattle.dspec_ctf_sink.specs.Words.{Record, EnabledRows, events, HasNoRun, IsFileRun, run_packet, HasNoRecords, IsTooLong, FileWrite, IsNotTaken, AddsRun, AddsAll, HasNoRuns, StopsRun, StopsRuns}
-use Rattle.dspec_ctf_sink.specs.Words.{row_name, FolderFault, Packet, Loss}
-use Rattle.dspec_ring.specs.declared.batch.Batch.{Batch}
-use Rattle.dspec_ctf.specs.declared.stream.PacketFault.{PacketFault}
+use Rattle.dspec_ctf_sink.specs.Words.{row_name, Batch, PacketFault}
+use Rattle.dspec_ctf_sink.specs.declared.{fault.FolderFault.FolderFault, fault.FolderFault.TheVariants.Packet, losing.Loss.Loss}
 
 -- what a CPU loses
 abbrev pub of_cpu : ℕ → Option ℕ → FolderFault → ℕ → Loss

@@ -1,9 +1,8 @@
 -- A batch's packet is handed to the place, or counted.
-use Rattle.std.proofs.Common.{arith, ◌≡◌, ℕ, ◌+◌, inr, List, refl, subst}
-use Rattle.std.proofs.lemmas.Bool.Decides.{nat_tests}
+use Rattle.std.proofs.{Common.arith, Common.◌≡◌, Common.ℕ, Common.◌+◌, Common.inr, Common.List, Common.refl, Common.subst, lemmas.Bool.Decides.nat_tests}
 use Rattle.std.specs.Prelude.{slice_get, slice_index, slice_set, Option, Some, None}
-use Rattle.dspec_ctf_sink.specs.Words.{EnabledRows, FileWrite, Refuses, Takes, AddsPacket, AreNextOf, CountsLost, IsBatchFault, IsNextPacket, LosesPacket, Tracing, cpu_name, FolderFault, Loss}
-use Rattle.dspec_ring.specs.declared.batch.Batch.{Batch}
+use Rattle.dspec_ctf_sink.specs.Words.{EnabledRows, FileWrite, Refuses, Takes, AddsPacket, AreNextOf, CountsLost, IsBatchFault, IsNextPacket, LosesPacket, Tracing, cpu_name, Batch}
+use Rattle.dspec_ctf_sink.specs.declared.{fault.FolderFault.FolderFault, losing.Loss.Loss}
 
 -- the trace, by its parts
 abbrev pub tracing : List ℕ → List ℕ → List ℕ → Option (List FileWrite) → Option Loss → Option Loss → Tracing

@@ -1,12 +1,9 @@
 -- One CPU more is told.
-use Rattle.std.proofs.lemmas.Bool.Decides.{nat_tests}
 use Rattle.std.proofs.Common.{◌≡◌, ℕ, zero, suc, ◌+◌, ◌<◌, List, [], ◌∷◌, length, take, subst, arith}
+use Rattle.std.proofs.lemmas.{Bool.Decides.nat_tests, Option.slice_get_within}
 use Rattle.std.specs.Prelude.{slice_get, Some}
-use Rattle.std.proofs.lemmas.Option.{slice_get_within}
-use Rattle.dspec_ring.specs.declared.batch.Batch.{Batch}
-use Rattle.dspec_session_core.specs.declared.left.Left.{Left}
+use Rattle.dspec_ctf_sink.specs.Words.{Batch, Left, GetsTelling, GetsTellings}
 use Rattle.dspec_session_core.proofs.PromisedBy.{there_is}
-use Rattle.dspec_ctf_sink.specs.Words.{GetsTelling, GetsTellings}
 
 module _ {K : Type 0} (gets : K → Batch → K → Type 0) where
   pub told_more : (n : ℕ) (ls : List Left) (i : ℕ) (x : Left) (k m l : K) → slice_get ls i ≡ Some x → GetsTellings gets n (take i ls) k m

@@ -1,11 +1,9 @@
 -- By time nothing is lost uncounted.
 use Rattle.std.proofs.Common.{◌≡◌, ◌≢◌, ◌⊎◌, ◌<◌, ◌+◌, ◌^◌, ◌∙◌, ℕ, List, ap, arith, inl, inr, length, refl}
+use Rattle.std.proofs.lemmas.{List.get_or-set_same, List.get_or-set_other, Option.get_or_from_slice_get}
 use Rattle.std.specs.Prelude.{Some, slice_index, slice_set}
-use Rattle.std.proofs.lemmas.List.{get_or-set_same, get_or-set_other}
-use Rattle.std.proofs.lemmas.Option.{get_or_from_slice_get}
-use Rattle.dspec_ctf_sink.specs.Words.{Record, EnabledRows, IsText, HasSoManyRecords, capped, missed_more, AddsBatch, CpuFiles, GetsRuns, IsBatchLoss, LosesBatch, LosesRuns, TimedTracing}
-use Rattle.dspec_ctf_sink.specs.Words.{TimedAccounts, Loss}
-use Rattle.dspec_ring.specs.declared.batch.Batch.{Batch}
+use Rattle.dspec_ctf_sink.specs.{Words.Record, Words.EnabledRows, Words.IsText, Words.HasSoManyRecords, Words.capped, Words.missed_more, Words.AddsBatch, Words.CpuFiles, Words.GetsRuns}
+use Rattle.dspec_ctf_sink.specs.{Words.IsBatchLoss, Words.LosesBatch, Words.LosesRuns, Words.TimedTracing, Words.TimedAccounts, Words.Batch, declared.losing.Loss.Loss}
 use Rattle.dspec_ctf_sink.proofs.Accounting.{capped_below}
 
 module _ (e : EnabledRows) (old new : TimedTracing) (b : Batch) (there : b.cpu < length old.missed) where

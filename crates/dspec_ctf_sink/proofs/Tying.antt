@@ -1,11 +1,9 @@
 -- What a folder's files have, and what it was asked for, where a write is added.
 use Rattle.std.proofs.Common.{arith, ◌≡◌, ◌≢◌, ℕ, List, [], ◌∷◌, ◌++◌, ap, sym, subst, ◌∙◌, set, get_or, slice_get, All, Some, None, Ok, Err, Option, Result, true, false, OnOk, IfErr}
-use Rattle.std.proofs.lemmas.Bool.Decides.{nat_tests}
-use Rattle.std.specs.Result.{result_err}
-use Rattle.std.specs.Io.KnownBytes.{Appends}
 use Rattle.std.proofs.Math.Logic.{∥∥₁_elim, ∥∥₁_prop}
-use Rattle.std.proofs.lemmas.Option.{get_or_from_slice_get}
-use Rattle.dspec_ctf_sink.specs.Words.{FileWrite, FilesHave, HaveBesides, Held, IsFileAt, LeavesFile, FolderFault}
+use Rattle.std.proofs.lemmas.{Bool.Decides.nat_tests, Option.get_or_from_slice_get}
+use Rattle.std.specs.{Io.KnownBytes.Appends, Result.result_err}
+use Rattle.dspec_ctf_sink.specs.{Words.FileWrite, Words.FilesHave, Words.HaveBesides, Words.Held, Words.IsFileAt, Words.LeavesFile, declared.fault.FolderFault.FolderFault}
 use Rattle.dspec_ctf_sink.proofs.Written.{asks_in_vain, has_left, has_more, none_among, one_file_has, one_file_more}
 
 -- a file was made and pushed

@@ -1,13 +1,10 @@
 -- Files that are held have what was written to them.
-use Rattle.std.proofs.lemmas.Bool.Decides.{nat_tests}
-use Rattle.std.proofs.Common.{◌≡◌, ◌≢◌, ℕ, zero, suc, ◌⊎◌, inl, inr, ⊎_elim, List, [], ◌∷◌, ◌++◌, ap, sym, refl, subst}
-use Rattle.std.proofs.Common.{◌∙◌, append_assoc, arith, slice_get, slice_set, length, All, Some, None, Option, true, false, Bool, ◌&&◌, if◌then◌else◌, bytes_eq, is_none, Decides}
+use Rattle.std.proofs.Common.{◌≡◌, ◌≢◌, ℕ, zero, suc, ◌⊎◌, inl, inr, ⊎_elim, List, [], ◌∷◌, ◌++◌, ap, sym, refl, subst, ◌∙◌, append_assoc, arith, slice_get, slice_set, length, All, Some, None}
+use Rattle.std.proofs.Common.{Option, true, false, Bool, ◌&&◌, if◌then◌else◌, bytes_eq, is_none, Decides}
+use Rattle.std.proofs.lemmas.{Bool.Decides.nat_tests, Grind.flat_map-append, List.append-nil, Option.slice_get_within, Option.get_or_from_slice_get, Slice.Eq.bytes_eq-Decides}
 use Rattle.std.specs.Io.KnownBytes.{Appends, Keeps}
-use Rattle.std.proofs.lemmas.List.{append-nil}
-use Rattle.std.proofs.lemmas.Grind.{flat_map-append}
-use Rattle.std.proofs.lemmas.Option.{slice_get_within, get_or_from_slice_get}
-use Rattle.std.proofs.lemmas.Slice.Eq.{bytes_eq-Decides}
-use Rattle.dspec_ctf_sink.specs.Words.{FileWrite, brought_to, file_of, FilesHave, KeepsInFront, HasWritten, HaveBesides, Held, IsNotAmong, LeavesFile, FolderFault}
+use Rattle.dspec_ctf_sink.specs.Words.{FileWrite, brought_to, file_of, FilesHave, KeepsInFront, HasWritten, HaveBesides, Held, IsNotAmong, LeavesFile}
+use Rattle.dspec_ctf_sink.specs.declared.fault.FolderFault.{FolderFault}
 use Rattle.dspec_deeds.proofs.Places.{got_set, got_other}
 
 -- ---- places

@@ -1,10 +1,7 @@
 -- Cited by calls. Nothing is lost uncounted.
 use Rattle.std.specs.Prelude.{ℕ, ◌≡◌, ◌≢◌, ◌<◌, ◌+◌, ◌^◌, ◌⊎◌, List, length, slice_index, Some}
-use Rattle.dspec_ctf_sink.specs.Words.Outside.{Record, EnabledRows, IsText}
-use Rattle.dspec_ring.specs.declared.batch.Batch.{Batch}
-use Rattle.dspec_ctf_sink.specs.Timed.{AddsBatch, TimedTracing}
-use Rattle.dspec_ctf_sink.specs.Writing.{AddsPacket, Tracing}
-use Rattle.dspec_ctf_sink.specs.declared.losing.Loss.{Loss}
+use Rattle.dspec_ctf_sink.specs.{Timed.AddsBatch, Timed.TimedTracing, Words.Outside.Record, Words.Outside.EnabledRows, Words.Outside.IsText, Words.Outside.Batch, Writing.AddsPacket, Writing.Tracing}
+use Rattle.dspec_ctf_sink.specs.{declared.losing.Loss.Loss}
 
 -- how many events of a CPU a trace counts as missed so far
 abbrev pub missed_on : Tracing → ℕ → ℕ

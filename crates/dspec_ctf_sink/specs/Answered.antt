@@ -1,7 +1,6 @@
 -- Cited by calls. The bytes of a file, by what the system answered.
 use Rattle.std.specs.Prelude.{ℕ, List, ◌++◌, take}
-use Rattle.dspec_ctf_sink.specs.declared.told.FileAnswer.{FileAnswer}
-use Rattle.dspec_ctf_sink.specs.declared.told.FileAnswer.TheVariants.{Behind, Left}
+use Rattle.dspec_ctf_sink.specs.declared.told.FileAnswer.{FileAnswer, TheVariants.Behind, TheVariants.Left}
 
 -- with one answer more
 abbrev pub answered_by : List ℕ → FileAnswer → List ℕ

@@ -1,7 +1,6 @@
 -- Cited by calls. What a folder was asked for.
 use Rattle.std.specs.Prelude.{List, [], ◌∷◌, ◌++◌}
-use Rattle.dspec_ctf_sink.specs.Writes.{FileWrite}
-use Rattle.dspec_ctf_sink.specs.declared.asked.Asking.{Asking}
+use Rattle.dspec_ctf_sink.specs.{Writes.FileWrite, declared.asked.Asking.Asking}
 
 -- with one write more
 abbrev pub asked_then : List FileWrite → Asking → List FileWrite

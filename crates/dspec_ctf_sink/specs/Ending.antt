@@ -1,9 +1,6 @@
 -- Cited by calls. What the end of a trace tells, beyond what batches told.
 use Rattle.std.specs.Prelude.{ℕ, ◌≡◌, ◌+◌, ◌-◌, List, [], ◌∷◌}
-use Rattle.dspec_deeds.specs.declared.report.Report.{Report}
-use Rattle.dspec_ring.specs.declared.batch.Batch.{Batch}
-use Rattle.dspec_session_core.specs.declared.left.Left.{Left}
-use Rattle.dspec_ctf_sink.specs.Losses.{capped}
+use Rattle.dspec_ctf_sink.specs.{Losses.capped, Words.Outside.Report, Words.Outside.Batch, Words.Outside.Left}
 
 -- So many records a CPU lost that its batches don't tell: records that had no room, in a principal buffer or a speculative one, and those of lost blocks;
 -- less the reservations that were refused, which the batches tell as drops.

@@ -1,13 +1,10 @@
 -- Cited by calls. Why a place takes no bytes, and why no place is made.
-use Rattle.std.specs.Prelude.{ℤ, pos, Bool, true, false, unwrap_or}
-use Rattle.std.specs.IoError.{raw_os_error}
-use Rattle.std.specs.declared.io.Error.{Error}
+use Rattle.std.specs.{IoError.raw_os_error, Prelude.ℤ, Prelude.pos, Prelude.Bool, Prelude.true, Prelude.false, Prelude.unwrap_or, declared.io.Error.Error}
 use Rattle.dspec_ctf.specs.declared.fault.MetadataFault.TheVariants as metadata
-use Rattle.dspec_ctf.specs.declared.stream.PacketFault.{PacketFault}
-use Rattle.dspec_ctf.specs.declared.stream.PacketFault.TheVariants as packet
-use Rattle.dspec_ctf.specs.declared.fault.MetadataFault.{MetadataFault}
+use Rattle.dspec_ctf_sink.specs.Words.Outside.{PacketFault, MetadataFault}
 use Rattle.dspec_ctf_sink.specs.declared.fault.FolderFault.{FolderFault}
 use Rattle.dspec_ctf_sink.specs.declared.fault.FolderFault.TheVariants.{Cpu, Cut, Memory, Metadata, NotEmpty, Packet, Read, Write}
+use Rattle.dspec_ctf.specs.declared.stream.PacketFault.TheVariants as packet
 
 -- the system's number of a fault of input or output, 0 where it gave none
 abbrev pub system_code : Error → ℤ

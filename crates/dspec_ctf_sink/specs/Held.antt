@@ -1,7 +1,6 @@
 -- Cited by calls. Files that are held open while they are written.
-use Rattle.std.specs.Prelude.{ℕ, ℤ, ◌≡◌, ◌≢◌, Bool, true, false, List, [], ◌∷◌, Option, Some, None, ⊤, length, slice_get, take, codes, ◌++◌}
-use Rattle.std.specs.Fmt.{signed_decimal}
-use Rattle.std.specs.Io.KnownBytes.{Appends, Keeps}
+use Rattle.std.specs.{Fmt.signed_decimal, Io.KnownBytes.Appends, Io.KnownBytes.Keeps, Prelude.ℕ, Prelude.ℤ, Prelude.◌≡◌, Prelude.◌≢◌, Prelude.Bool, Prelude.true, Prelude.false, Prelude.List}
+use Rattle.std.specs.{Prelude.[], Prelude.◌∷◌, Prelude.Option, Prelude.Some, Prelude.None, Prelude.⊤, Prelude.length, Prelude.slice_get, Prelude.take, Prelude.codes, Prelude.◌++◌}
 use Rattle.dspec_ctf_sink.specs.Writes.{FileWrite, file_of}
 use Rattle.dspec_ctf_sink.specs.declared.fault.FolderFault.{FolderFault}
 use Rattle.dspec_ctf_sink.specs.declared.fault.FolderFault.TheVariants.{Cpu, Cut, Memory, Metadata, NotEmpty, Packet, Read, Write}

@@ -1,8 +1,6 @@
 -- Cited by calls. What isn't written of a trace is counted.
 use Rattle.std.specs.Prelude.{ℕ, ◌≡◌, ◌+◌, ◌-◌, ◌^◌, ◌⊎◌, min, List, length, Option, Some, None, slice_index, slice_set}
-use Rattle.dspec_ctf_sink.specs.Words.Outside.{Record, EnabledRows, IsText}
-use Rattle.dspec_ring.specs.declared.batch.Batch.{Batch}
-use Rattle.dspec_ctf_sink.specs.declared.losing.Loss.{Loss}
+use Rattle.dspec_ctf_sink.specs.{Words.Outside.Record, Words.Outside.EnabledRows, Words.Outside.IsText, Words.Outside.Batch, declared.losing.Loss.Loss}
 
 -- a number as far as 64 bits count
 abbrev pub capped : ℕ → ℕ

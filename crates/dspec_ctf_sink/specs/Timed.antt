@@ -1,21 +1,14 @@
 -- Cited by calls. What is written into a trace folder by time while a session runs.
 use Rattle.std.specs.Prelude.{ℕ, ◌≡◌, ◌≢◌, ◌≤◌, ◌+◌, ◌^◌, List, [], ◌∷◌, ◌++◌, ◌⊎◌, Option, Some, None, codes, decimal, replicate, length, slice_get, slice_range, slice_set}
-use Rattle.dspec_ctf_sink.specs.Words.Outside.{Record, EnabledRows, origin_text, origin_fault, events, AreRuns, IsFileRun, HasNoRun, missed_packets, run_packet, run_packets, HasNoRecords, IsText}
-use Rattle.dspec_ctf_sink.specs.Words.Outside.{IsTooLong}
-use Rattle.dspec_ring.specs.declared.batch.Batch.{Batch}
-use Rattle.dspec_ctf.specs.declared.form.Form.TheVariants.{ByTime}
-use Rattle.dspec_ctf.specs.declared.names.Names.{Names}
-use Rattle.dspec_ctf.specs.declared.origin.Origin.{Origin}
-use Rattle.dspec_ctf.specs.declared.rows.Run.{Run}
-use Rattle.dspec_ctf.specs.declared.stream.PacketFault.{PacketFault}
-use Rattle.dspec_ctf.specs.declared.stream.Stream.{Stream}
-use Rattle.dspec_ctf.specs.declared.stream.PacketFault.TheVariants as packet
-use Rattle.dspec_ctf.specs.declared.fault.MetadataFault.TheVariants as metadata
 use Rattle.dspec_ctf_sink.specs.Losses.{HasSoManyRecords, lost_more, missed_more}
+use Rattle.dspec_ctf_sink.specs.Words.Outside.{Record, EnabledRows, origin_text, origin_fault, events, AreRuns, IsFileRun, HasNoRun, missed_packets, run_packet, run_packets, HasNoRecords, IsText}
+use Rattle.dspec_ctf_sink.specs.Words.Outside.{IsTooLong, Batch, ByTime, Names, Origin, Run, PacketFault, Stream}
 use Rattle.dspec_ctf_sink.specs.Writes.{FileWrite, IsNotTaken, Refuses, Takes}
 use Rattle.dspec_ctf_sink.specs.declared.fault.FolderFault.{FolderFault}
 use Rattle.dspec_ctf_sink.specs.declared.fault.FolderFault.TheVariants.{Cpu, Cut, Memory, Metadata, NotEmpty, Packet, Read, Write}
 use Rattle.dspec_ctf_sink.specs.declared.losing.Loss.{Loss}
+use Rattle.dspec_ctf.specs.declared.stream.PacketFault.TheVariants as packet
+use Rattle.dspec_ctf.specs.declared.fault.MetadataFault.TheVariants as metadata
 
 -- a trace by time that is being written: its uuid, how many events each CPU missed so far, and how many of them its first file tells, of each
 -- file of a CPU the stamp of its last event, what the place was asked for, what was lost in all, and what the last batch lost

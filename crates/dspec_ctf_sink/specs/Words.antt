@@ -12,8 +12,3 @@ pub use Rattle.dspec_ctf_sink.specs.Timed.{AddsAll, AddsBatch, AddsRun, AddsRuns
 pub use Rattle.dspec_ctf_sink.specs.Timed.{LosesOfFiles, LosesRest, LosesRuns, RefusesRun, row_name, StopsRun, StopsRuns, TakesAll, TellsMissed, TellsNone, TimedTracing}
 pub use Rattle.dspec_ctf_sink.specs.Writes.{brought_to, file_of, FileWrite, IsNotTaken, LeaveNone, made_at, path_of, Refuses, Takes}
 pub use Rattle.dspec_ctf_sink.specs.Writing.{AddsPacket, AreNextOf, CountsLost, cpu_name, GetsPacket, IsBatchFault, IsBegun, IsNextPacket, IsNothing, LosesPacket, Tracing, whole_loss}
-pub use Rattle.dspec_ctf_sink.specs.contracts.asked.FolderAsked.{the_row, the_type}
-pub use Rattle.dspec_ctf_sink.specs.contracts.asked.FolderAsked.none.Key.{name as #self}
-pub use Rattle.dspec_ctf_sink.specs.declared.fault.FolderFault.{FolderFault}
-pub use Rattle.dspec_ctf_sink.specs.declared.fault.FolderFault.TheVariants.{Cpu, Packet}
-pub use Rattle.dspec_ctf_sink.specs.declared.losing.Loss.{Loss}

@@ -1,9 +1,7 @@
 -- Cited by calls. What a place that takes files was asked for.
-use Rattle.std.specs.Prelude.{ℕ, ◌≡◌, ◌≢◌, ◌⊎◌, ◌&&◌, if◌then◌else◌, is_none, bytes_eq, List, [], ◌∷◌, ◌++◌, Option, Some, None}
 use Rattle.std.specs.List.{flat_map}
-use Rattle.dspec_ctf_sink.specs.Faults.{IsWriteFault}
-use Rattle.dspec_ctf_sink.specs.declared.fault.FolderFault.{FolderFault}
-use Rattle.dspec_ctf_sink.specs.declared.fault.FolderFault.TheVariants.{Memory}
+use Rattle.std.specs.Prelude.{ℕ, ◌≡◌, ◌≢◌, ◌⊎◌, ◌&&◌, if◌then◌else◌, is_none, bytes_eq, List, [], ◌∷◌, ◌++◌, Option, Some, None}
+use Rattle.dspec_ctf_sink.specs.{Faults.IsWriteFault, declared.fault.FolderFault.FolderFault, declared.fault.FolderFault.TheVariants.Memory}
 
 -- one write: a file's name, the bytes that are to come behind those that it has, and why they weren't taken whole, where they weren't
 pub record FileWrite : Type 0 where

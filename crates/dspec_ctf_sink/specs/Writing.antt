@@ -1,16 +1,12 @@
 -- Cited by calls. What is written into a trace folder.
 use Rattle.std.specs.Prelude.{ℕ, ◌≡◌, ◌≢◌, ◌+◌, false, List, [], ◌++◌, ◌⊎◌, Option, Some, None, codes, decimal, replicate, slice_get, slice_index, slice_set}
-use Rattle.dspec_ctf_sink.specs.Words.Outside.{EnabledRows, origin_text, origin_fault, AreFilledOf, filled_packets, HasNoPacket}
-use Rattle.dspec_ring.specs.declared.batch.Batch.{Batch}
-use Rattle.dspec_ctf.specs.declared.form.Form.TheVariants.{AsTaken}
-use Rattle.dspec_ctf.specs.declared.names.Names.{Names}
-use Rattle.dspec_ctf.specs.declared.origin.Origin.{Origin}
-use Rattle.dspec_ctf.specs.declared.fault.MetadataFault.TheVariants as metadata
 use Rattle.dspec_ctf_sink.specs.Losses.{HasSoManyRecords, lost_more, missed_more}
+use Rattle.dspec_ctf_sink.specs.Words.Outside.{EnabledRows, origin_text, origin_fault, AreFilledOf, filled_packets, HasNoPacket, Batch, AsTaken, Names, Origin}
 use Rattle.dspec_ctf_sink.specs.Writes.{FileWrite, Refuses, Takes}
-use Rattle.dspec_ctf_sink.specs.declared.losing.Loss.{Loss}
 use Rattle.dspec_ctf_sink.specs.declared.fault.FolderFault.{FolderFault}
 use Rattle.dspec_ctf_sink.specs.declared.fault.FolderFault.TheVariants.{Cpu, Cut, Memory, Metadata, NotEmpty, Packet, Read, Write}
+use Rattle.dspec_ctf_sink.specs.declared.losing.Loss.{Loss}
+use Rattle.dspec_ctf.specs.declared.fault.MetadataFault.TheVariants as metadata
 
 -- a trace that is being written: its uuid, how many events each CPU missed so far, and how many of them its file tells, what the place was
 -- asked for, what was lost in all, and what the last batch lost

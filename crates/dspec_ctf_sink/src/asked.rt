@@ -1,5 +1,4 @@
-ghost use Rattle.std.specs.Prelude.{◌≡◌, List, []};
-ghost use Rattle.std.specs.Borrow.{ftrue};
+ghost use Rattle.std.specs.{Borrow.ftrue, Prelude.◌≡◌, Prelude.List, Prelude.[]};
 ghost use Rattle.dspec_ctf_sink.specs.Writes.{FileWrite};
 
 use crate::fault::FolderFault;

@@ -1,8 +1,5 @@
-ghost use Rattle.std.specs.Prelude.{◌≡◌, ◌≢◌};
-ghost use Rattle.std.specs.IoError.{error_kind};
-ghost use Rattle.dspec_ctf_sink.specs.Faults.{system_code};
-ghost use Rattle.std.specs.declared.io.ErrorKind.TheVariants.{OutOfMemory};
-ghost use Rattle.dspec_ctf_sink.specs.declared.fault.FolderFault.TheVariants.{Memory, Read, Write};
+ghost use Rattle.std.specs.{IoError.error_kind, Prelude.◌≡◌, Prelude.◌≢◌, declared.io.ErrorKind.TheVariants.OutOfMemory};
+ghost use Rattle.dspec_ctf_sink.specs.{Faults.system_code, declared.fault.FolderFault.TheVariants.Memory, declared.fault.FolderFault.TheVariants.Read, declared.fault.FolderFault.TheVariants.Write};
 
 use dspec_ctf::{MetadataFault, PacketFault};
 use std::alloc::{AllocError, AllocFailed};

@@ -1,9 +1,7 @@
 //! A file that is held open, and has whole writes alone.
 
-ghost use Rattle.std.specs.Prelude.{ℕ, ◌≤◌, ◌≢◌, ◌-◌, List, length, take, drop, IfErr, IfOk, OnErr, OnOk};
-ghost use Rattle.std.specs.IoError.{error_kind};
-ghost use Rattle.std.specs.declared.io.ErrorKind.TheVariants.{Interrupted};
-ghost use Rattle.std.specs.Io.KnownBytes.{Appends, Keeps};
+ghost use Rattle.std.specs.{Io.KnownBytes.Appends, Io.KnownBytes.Keeps, IoError.error_kind, Prelude.ℕ, Prelude.◌≤◌, Prelude.◌≢◌, Prelude.◌-◌, Prelude.List, Prelude.length, Prelude.take};
+ghost use Rattle.std.specs.{Prelude.drop, Prelude.IfErr, Prelude.IfOk, Prelude.OnErr, Prelude.OnOk, declared.io.ErrorKind.TheVariants.Interrupted};
 ghost use Rattle.dspec_ctf_sink.specs.Held.{IsCut, IsLong, LeavesBytes};
 
 use crate::fault::{FolderFault, write_fault};
@@ -95,8 +93,7 @@ impl<W: Cuttable> Model for HeldFile<W> {
 }
 
 impl<W: Cuttable> HeldFile<W> {
-    ghost use Rattle.std.specs.Prelude.{◌≡◌, ◌↔◌, IsTrue, false, true, string_bytes, IfErr, OnOk};
-    ghost use Rattle.std.specs.Io.KnownBytes.{Appends};
+    ghost use Rattle.std.specs.{Io.KnownBytes.Appends, Prelude.◌≡◌, Prelude.◌↔◌, Prelude.IsTrue, Prelude.false, Prelude.true, Prelude.string_bytes, Prelude.IfErr, Prelude.OnOk};
     ghost use Rattle.dspec_ctf_sink.specs.Held.{LeavesFile, path_in};
 
     /// A file of this name, which was made at that name in the folder that is open under this number. It has no broken write.

@@ -3,9 +3,7 @@
 ghost use Rattle.std.specs.Prelude.{◌<◌, length};
 ghost use Rattle.dspec_record.specs.EnablingRows.{EnabledRows};
 ghost use Rattle.dspec_ring.specs.declared.batch.Batch.{Batch};
-ghost use Rattle.dspec_ctf_sink.specs.Accounts.{Accounts, HasText, IsCountable, TimedAccounts};
-ghost use Rattle.dspec_ctf_sink.specs.Timed.{GetsRuns, TimedTracing};
-ghost use Rattle.dspec_ctf_sink.specs.Writing.{GetsPacket, Tracing};
+ghost use Rattle.dspec_ctf_sink.specs.{Accounts.Accounts, Accounts.HasText, Accounts.IsCountable, Accounts.TimedAccounts, Timed.GetsRuns, Timed.TimedTracing, Writing.GetsPacket, Writing.Tracing};
 
 /// Nothing is lost uncounted: of each batch whose bytes are a text, the records are in the packet that was written of it, or are counted as
 /// missed with its drops, up to 2^64 of them.

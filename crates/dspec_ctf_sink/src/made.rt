@@ -1,7 +1,6 @@
 //! Files that are made. At which path, nothing but this code knows: no contract of the kit says it.
 
-ghost use Rattle.std.specs.Prelude.{◌≡◌, IfErr, true};
-ghost use Rattle.std.specs.Fs.{new_options, with_append, with_create_new};
+ghost use Rattle.std.specs.{Fs.new_options, Fs.with_append, Fs.with_create_new, Prelude.◌≡◌, Prelude.IfErr, Prelude.true};
 ghost use Rattle.dspec_ctf_sink.specs.Faults.{IsFolderFault, IsWriteFault};
 
 use crate::fault::{FolderFault, write_fault};

@@ -1,9 +1,7 @@
 //! The next packets of a CPU's file, as its batches are taken.
 
 ghost use Rattle.std.specs.Prelude.{◌≡◌, ◌+◌, [], false, IfErr, IfOk, OnOk};
-ghost use Rattle.dspec_ctf.specs.Filled.{filled_packets};
-ghost use Rattle.dspec_ctf.specs.Streams.{HasNoPacket};
-ghost use Rattle.dspec_ctf.specs.declared.stream.PacketFault.TheVariants.{Memory};
+ghost use Rattle.dspec_ctf.specs.{Filled.filled_packets, Streams.HasNoPacket, declared.stream.PacketFault.TheVariants.Memory};
 ghost use Rattle.dspec_ctf_sink.specs.Writing.{AreNextOf};
 
 use dspec::Batch;

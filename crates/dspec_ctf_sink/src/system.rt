@@ -1,7 +1,5 @@
 ghost use Rattle.std.specs.Prelude.{◌≡◌, ◌≢◌, ◌<◌, ◌++◌, ◌∷◌, length, vec_len, [], All, List, Some, IfOk, IfErr, IfSome, None, OnOk, string_bytes};
-ghost use Rattle.dspec_ctf_sink.specs.Faults.{IsFolderFault, IsWriteFault};
-ghost use Rattle.dspec_ctf_sink.specs.Held.{FilesHave, HaveBesides, IsFileAt, path_in};
-ghost use Rattle.dspec_ctf_sink.specs.Writes.{FileWrite, made_at};
+ghost use Rattle.dspec_ctf_sink.specs.{Faults.IsFolderFault, Faults.IsWriteFault, Held.FilesHave, Held.HaveBesides, Held.IsFileAt, Held.path_in, Writes.FileWrite, Writes.made_at};
 
 use crate::asked::{Asking, FolderAsked};
 use crate::counted::CountedFile;

@@ -1,9 +1,8 @@
 ghost use Rattle.std.specs.Prelude.{◌≡◌, ◌+◌, ◌<◌, ◌^◌, ℕ, [], All, IfOk, IfErr, OnOk, OnErr, Some, None, length, replicate, slice_index, string_bytes};
 ghost use Rattle.dspec_ctf.specs.Streams.{Accepts};
-ghost use Rattle.dspec_ctf_sink.specs.Losses.{HasSoManyRecords};
-ghost use Rattle.dspec_ctf_sink.specs.Writes.{IsNotTaken, Takes};
-ghost use Rattle.dspec_ctf_sink.specs.Timed.{AddsAll, AddsBatch, AddsRun, AddsToStream, GetsRuns, IsTimedBegun, IsBatchLoss, IsTimedFault, LosesOfStream, StopsRun, StopsRuns, TellsMissed, TellsNone, files_with, row_name};
-ghost use Rattle.dspec_ctf_sink.specs.declared.fault.FolderFault.TheVariants.{Memory, Packet};
+ghost use Rattle.dspec_ctf_sink.specs.{Losses.HasSoManyRecords, Timed.AddsAll, Timed.AddsBatch, Timed.AddsRun, Timed.AddsToStream, Timed.GetsRuns, Timed.IsTimedBegun, Timed.IsBatchLoss};
+ghost use Rattle.dspec_ctf_sink.specs.{Timed.IsTimedFault, Timed.LosesOfStream, Timed.StopsRun, Timed.StopsRuns, Timed.TellsMissed, Timed.TellsNone, Timed.files_with, Timed.row_name};
+ghost use Rattle.dspec_ctf_sink.specs.{Writes.IsNotTaken, Writes.Takes, declared.fault.FolderFault.TheVariants.Memory, declared.fault.FolderFault.TheVariants.Packet};
 
 use crate::fault::FolderFault;
 use crate::folder::Folder;

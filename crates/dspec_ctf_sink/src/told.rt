@@ -1,5 +1,4 @@
-ghost use Rattle.std.specs.Prelude.{◌≡◌, ℕ, List, []};
-ghost use Rattle.std.specs.Borrow.{ftrue};
+ghost use Rattle.std.specs.{Borrow.ftrue, Prelude.◌≡◌, Prelude.ℕ, Prelude.List, Prelude.[]};
 
 use std::marker::Model;
 

@@ -1,6 +1,5 @@
 ghost use Rattle.std.specs.Prelude.{◌≡◌, ◌<◌, ◌+◌, ◌^◌, ◌↔◌, ℕ, IsTrue, IfOk, IfErr, OnOk, OnErr, Some, None};
-ghost use Rattle.dspec_ctf_sink.specs.Accounts.{missed_on};
-ghost use Rattle.dspec_ctf_sink.specs.Writing.{AddsPacket, CountsLost, GetsPacket, IsBatchFault, IsBeginFault, IsBegun, IsNothing};
+ghost use Rattle.dspec_ctf_sink.specs.{Accounts.missed_on, Writing.AddsPacket, Writing.CountsLost, Writing.GetsPacket, Writing.IsBatchFault, Writing.IsBeginFault, Writing.IsBegun, Writing.IsNothing};
 
 use crate::fault::FolderFault;
 use crate::folder::Folder;

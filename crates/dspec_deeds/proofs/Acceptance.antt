@@ -1,17 +1,16 @@
 -- A record is accepted once at most; one offered to a speculation only after its commit, and never where it was discarded.
-use Rattle.std.proofs.lemmas.Bool.Decides.{nat_tests}
 use Rattle.std.proofs.Common.{◌≡◌, ℕ, ◌≤◌, Bool, true, false, ◌&&◌, ◌==◌, List, [], ◌∷◌, Option, None, Some, refl, sym, ap, ◌∙◌, subst, ⊎_elim, arith, true≢false}
+use Rattle.std.proofs.lemmas.Bool.Decides.{nat_tests}
 use Rattle.std.specs.Option.{option_map}
-use Rattle.dspec_record.specs.declared.field.Shape.{Shape}
-use Rattle.dspec_deeds.specs.Words.{Speculation, Config, Deed, Commit, Discard, Settle, DecideFate, is_discard, same_id, verdict, offered_by, offers, accepted, SettlesAs, Follows, IsAllowed, Fate}
-use Rattle.dspec_deeds.specs.Words.{taken, dropped, void, waiting, fate, emptied_as, is_taken, offered_to, destination, times, has_commit, AcceptanceLaw}
-use Rattle.dspec_deeds.specs.declared.deed.DecideFate.TheVariants as decided
 use Rattle.dspec_deeds.specs.Fates.{discarded}
-use Rattle.dspec_deeds.proofs.TestLemmas.{either_way, off, and_tells, id_is_itself, same_number, same_id_tells}
-use Rattle.dspec_deeds.proofs.Verdicts.{commit_stays, one_decision, settled_commit, verdict_told}
-use Rattle.dspec_deeds.proofs.DeedOffers.{Sent, Empties, Effect, idle, offering, emptying}
-use Rattle.dspec_deeds.proofs.DeedEffects.{legal_before, legal_accounts, legal_effect}
-use Rattle.dspec_deeds.proofs.HeldOffers.{fate_idle, fate_offered, fate_earlier, fate_emptied, settled_as, tally, times_taken}
+use Rattle.dspec_deeds.specs.Words.{Shape, Speculation, is_discard, same_id, verdict, offered_by, offers, accepted, SettlesAs, Follows, IsAllowed, Fate, taken, dropped, void, waiting, fate}
+use Rattle.dspec_deeds.specs.Words.{emptied_as, is_taken, offered_to, destination, times, has_commit, AcceptanceLaw}
+use Rattle.dspec_deeds.specs.declared.{config.Config.Config, deed.DecideFate.DecideFate, deed.Deed.Deed, deed.Deed.TheVariants.Commit, deed.Deed.TheVariants.Discard, deed.Deed.TheVariants.Settle}
+use Rattle.dspec_deeds.specs.declared.deed.DecideFate.TheVariants as decided
+use Rattle.dspec_deeds.proofs.{DeedEffects.legal_before, DeedEffects.legal_accounts, DeedEffects.legal_effect, DeedOffers.Sent, DeedOffers.Empties, DeedOffers.Effect, DeedOffers.idle}
+use Rattle.dspec_deeds.proofs.{DeedOffers.offering, DeedOffers.emptying, HeldOffers.fate_idle, HeldOffers.fate_offered, HeldOffers.fate_earlier, HeldOffers.fate_emptied, HeldOffers.settled_as}
+use Rattle.dspec_deeds.proofs.{HeldOffers.tally, HeldOffers.times_taken, TestLemmas.either_way, TestLemmas.off, TestLemmas.and_tells, TestLemmas.id_is_itself, TestLemmas.same_number}
+use Rattle.dspec_deeds.proofs.{TestLemmas.same_id_tells, Verdicts.commit_stays, Verdicts.one_decision, Verdicts.settled_commit, Verdicts.verdict_told}
 
 -- a waiting record was offered to what it waits for, and one that was taken to nothing or to what was committed
 abbrev Placed : Option Fate → Option Speculation → List Deed → Type 0

@@ -1,11 +1,10 @@
 -- The acknowledgements that the list shows, and what the CPUs have settled.
 use Rattle.std.proofs.Common.{◌≡◌, ℕ, suc, ◌+◌, ◌≤◌, true, false, not, ◌||◌, ◌==◌, List, [], ◌∷◌, refl, sym, ap, subst, ⊎_elim, arith, true≢false}
-use Rattle.std.specs.Prelude.{nat_le, nat_lt}
 use Rattle.std.proofs.lemmas.Bool.Decides.{nat_tests}
-use Rattle.dspec_deeds.specs.Words.{Speculation, Config, DecideFate, Deed, Settle, same_id, issue, releases, present, verdict, undecided, committed, discarded, Ruling, is_undecided, settled}
-use Rattle.dspec_deeds.specs.Words.{settles, acks, ack, SettlesAs, IsSound}
-use Rattle.dspec_deeds.proofs.TestLemmas.{either_way, off, and_tells, or_tells, or_true, same_id_tells}
-use Rattle.dspec_deeds.proofs.WordChanges.{ack_stays}
+use Rattle.std.specs.Prelude.{nat_le, nat_lt}
+use Rattle.dspec_deeds.specs.Words.{Speculation, same_id, issue, releases, present, verdict, undecided, committed, discarded, Ruling, is_undecided, settled, settles, acks, ack, SettlesAs, IsSound}
+use Rattle.dspec_deeds.specs.declared.{config.Config.Config, deed.DecideFate.DecideFate, deed.Deed.Deed, deed.Deed.TheVariants.Settle}
+use Rattle.dspec_deeds.proofs.{TestLemmas.either_way, TestLemmas.off, TestLemmas.and_tells, TestLemmas.or_tells, TestLemmas.or_true, TestLemmas.same_id_tells, WordChanges.ack_stays}
 
 -- the settlement that a test found
 settlement : (c s : ℕ) (d : Deed) (h : List Deed) (k : Config) → IsSound k (d ∷ h) → acks c s d ≡ true

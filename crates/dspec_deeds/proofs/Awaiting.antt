@@ -1,15 +1,11 @@
 -- What there is to settle in a slot whose word waits for every CPU.
-use Rattle.std.proofs.Common.{arith}
+use Rattle.std.proofs.Common.{arith, ◌≡◌, ℕ, Bool, true, false, if◌then◌else◌, List, [], ◌∷◌, Some, None, refl, sym, ap, ◌∙◌, subst, true≢false, not, ◌&&◌, Option}
 use Rattle.std.proofs.lemmas.Bool.Decides.{nat_tests}
-use Rattle.std.proofs.Common.{◌≡◌, ℕ, Bool, true, false, if◌then◌else◌, List, [], ◌∷◌, Some, None, refl, sym, ap, ◌∙◌, subst, true≢false, not, ◌&&◌, Option}
 use Rattle.std.specs.Prelude.{is_none}
-use Rattle.dspec_word.specs.declared.code.Code.{Code}
-use Rattle.dspec_word.specs.declared.code.Code.TheVariants.{Inactive, Committing, CommittingMany, Discarding}
-use Rattle.dspec_deeds.specs.Words.{awaits, Config, DecideFate, Deed, is_commit, is_discard, present, opened, Ruling, undecided, committed, discarded, verdict, is_undecided, callers, standing}
-use Rattle.dspec_deeds.specs.Words.{active_code, is_sole, is_sole_or_none, word_at, is_busy, solo, solo_of, owed, SettlesAs, IsSound}
-use Rattle.dspec_deeds.proofs.TestLemmas.{off, and_tells}
-use Rattle.dspec_deeds.proofs.WordCodes.{decided_awaits}
-use Rattle.dspec_deeds.proofs.Debtless.{debtless}
+use Rattle.dspec_deeds.specs.Words.{Code, Inactive, Committing, CommittingMany, Discarding, awaits, is_commit, is_discard, present, opened, Ruling, undecided, committed, discarded, verdict}
+use Rattle.dspec_deeds.specs.Words.{is_undecided, callers, standing, active_code, is_sole, is_sole_or_none, word_at, is_busy, solo, solo_of, owed, SettlesAs, IsSound}
+use Rattle.dspec_deeds.specs.declared.{config.Config.Config, deed.DecideFate.DecideFate, deed.Deed.Deed}
+use Rattle.dspec_deeds.proofs.{Debtless.debtless, TestLemmas.off, TestLemmas.and_tells, WordCodes.decided_awaits}
 
 -- the fate that goes with the code
 abbrev pub goes_with : Code → DecideFate → Bool

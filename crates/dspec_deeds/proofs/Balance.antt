@@ -1,11 +1,10 @@
 -- Each offered record is in one count of its CPU's report.
 use Rattle.std.proofs.Common.{◌≡◌, ℕ, ◌+◌, false, if◌then◌else◌, List, [], ◌∷◌, ◌++◌, length, refl, arith}
-use Rattle.dspec_deeds.specs.Words.{Config, Deed, Offer, offers, held, Spoken, speculative, accepts_now, traces_dropped_now, specdrops_now, loses_now, discards_now, voids_now, report}
-use Rattle.dspec_deeds.specs.Words.{records_of_report, Fate, taken, dropped, void, waiting, is_waiting}
-use Rattle.dspec_deeds.specs.Fates.{discarded}
-use Rattle.dspec_deeds.proofs.DeedOffers.{spoken_as, next_offer, Counts, Effect, idle, offering, emptying}
-use Rattle.dspec_deeds.proofs.DeedEffects.{Accounts}
-use Rattle.dspec_deeds.proofs.SpokenRecords.{spoken_idle, spoken_offered, spoken_fewer}
+use Rattle.dspec_deeds.specs.{Fates.discarded, Words.Offer, Words.offers, Words.held, Words.Spoken, Words.speculative, Words.accepts_now, Words.traces_dropped_now, Words.specdrops_now}
+use Rattle.dspec_deeds.specs.{Words.loses_now, Words.discards_now, Words.voids_now, Words.report, Words.records_of_report, Words.Fate, Words.taken, Words.dropped, Words.void, Words.waiting}
+use Rattle.dspec_deeds.specs.{Words.is_waiting, declared.config.Config.Config, declared.deed.Deed.Deed}
+use Rattle.dspec_deeds.proofs.{DeedEffects.Accounts, DeedOffers.spoken_as, DeedOffers.next_offer, DeedOffers.Counts, DeedOffers.Effect, DeedOffers.idle, DeedOffers.offering, DeedOffers.emptying}
+use Rattle.dspec_deeds.proofs.{SpokenRecords.spoken_idle, SpokenRecords.spoken_offered, SpokenRecords.spoken_fewer}
 
 -- what the counts of a deed add up to
 counted : (c : ℕ) (d : Deed) (f : Fate) (n : ℕ) → Counts c d f n

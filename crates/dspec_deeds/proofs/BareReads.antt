@@ -1,11 +1,10 @@
 -- What is read off all deeds is the same without the Seals.
-use Rattle.std.proofs.Common.{arith}
+use Rattle.std.proofs.Common.{arith, ◌≡◌, ℕ, suc, ◌+◌, true, false, ◌||◌, ◌&&◌, if◌then◌else◌, List, [], ◌∷◌, refl, sym, ap, ◌∙◌, true≢false}
 use Rattle.std.proofs.lemmas.Bool.Decides.{nat_tests}
-use Rattle.std.proofs.Common.{◌≡◌, ℕ, suc, ◌+◌, true, false, ◌||◌, ◌&&◌, if◌then◌else◌, List, [], ◌∷◌, refl, sym, ap, ◌∙◌, true≢false}
-use Rattle.dspec_deeds.specs.Words.{Speculation, Config, Deed, Discard, Seal, is_discard, halted, is_halt, issue, releases, opened, opens, verdict, ruling, latest, callers, calls_on, joined}
-use Rattle.dspec_deeds.specs.Words.{is_sole, solo, solo_of, present, settled, settles, scan, scanned, opened_since, is_scan, opens_slot, owing, author, code_at, standing, word_at, ack, acks}
-use Rattle.dspec_deeds.specs.Words.{issue_of, is_seal, bare, ShowsAlike}
-use Rattle.dspec_word.specs.declared.code.Code.TheVariants.{Inactive}
+use Rattle.dspec_deeds.specs.Words.{Speculation, is_discard, halted, is_halt, issue, releases, opened, opens, verdict, ruling, latest, callers, calls_on, joined, is_sole, solo, solo_of, present}
+use Rattle.dspec_deeds.specs.Words.{settled, settles, scan, scanned, opened_since, is_scan, opens_slot, owing, author, code_at, standing, word_at, ack, acks, issue_of, is_seal, bare, ShowsAlike}
+use Rattle.dspec_deeds.specs.Words.{Inactive}
+use Rattle.dspec_deeds.specs.declared.{config.Config.Config, deed.Deed.Deed, deed.Deed.TheVariants.Discard, deed.Deed.TheVariants.Seal}
 
 -- a Seal is a CPU's
 pub seal_is : (d : Deed) → is_seal d ≡ true → (c : ℕ) × (d ≡ Seal c)

@@ -1,10 +1,10 @@
 -- A list with Seals is legal in its common part where the list without them is.
-use Rattle.std.proofs.Common.{arith}
+use Rattle.std.proofs.Common.{arith, ◌≡◌, ◌⊎◌, ℕ, true, false, ◌||◌, if◌then◌else◌, List, [], ◌∷◌, refl, sym, ◌∙◌, subst, ⊎_elim}
 use Rattle.std.proofs.lemmas.Bool.Decides.{nat_tests}
-use Rattle.std.proofs.Common.{◌≡◌, ◌⊎◌, ℕ, true, false, ◌||◌, if◌then◌else◌, List, [], ◌∷◌, refl, sym, ◌∙◌, subst, ⊎_elim}
-use Rattle.dspec_deeds.specs.Words.{Config, Deed, Discard, Seal, halted, late, owed, facts, Follows, FollowsBy, IsSound, is_seal, bare}
-use Rattle.dspec_deeds.proofs.TestLemmas.{either_way, same_number, or_false, and_false}
+use Rattle.dspec_deeds.specs.Words.{halted, late, owed, facts, Follows, FollowsBy, IsSound, is_seal, bare}
+use Rattle.dspec_deeds.specs.declared.{config.Config.Config, deed.Deed.Deed, deed.Deed.TheVariants.Discard, deed.Deed.TheVariants.Seal}
 use Rattle.dspec_deeds.proofs.BareReads.{seal_is, halted_bare, issue_bare, opened_bare, verdict_bare, callers_bare, settled_bare, scan_bare, since_bare, author_bare, owing_bare}
+use Rattle.dspec_deeds.proofs.TestLemmas.{either_way, same_number, or_false, and_false}
 
 -- a Seal of the CPU makes nobody later: the session was not stopped, or the CPU has done a deed since
 abbrev pub IsNoLater : ℕ → List Deed → Type 0

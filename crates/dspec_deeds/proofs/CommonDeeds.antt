@@ -1,12 +1,12 @@
 -- The common part doesn't look at what found room, nor at how many records there were.
+use Rattle.std.proofs.Common.{arith, ◌≡◌, ℕ, suc, ◌+◌, false, ◌||◌, ◌&&◌, if◌then◌else◌, List, [], Some, None, ◌∷◌, refl, sym, ap, ◌∙◌, subst}
 use Rattle.std.proofs.lemmas.Bool.Decides.{nat_tests}
-use Rattle.std.proofs.Common.{arith}
-use Rattle.std.proofs.Common.{◌≡◌, ℕ, suc, ◌+◌, false, ◌||◌, ◌&&◌, if◌then◌else◌, List, [], Some, None, ◌∷◌, refl, sym, ap, ◌∙◌, subst}
-use Rattle.dspec_deeds.specs.Words.{Speculation, Config, Cpu, SpeculateFate, DecideFate, Deed, Speculate, Release, Halt, spoken_granted, is_discard, same_id, halted, is_halt, issue, releases}
-use Rattle.dspec_deeds.specs.Words.{present, opened, opens, verdict, ruling, latest, callers, calls_on, joined, solo, solo_of, settled, settles, scan, scanned, opened_since, is_scan, opens_slot}
-use Rattle.dspec_deeds.specs.Words.{owed, author, releaser, same_actor, late, code_at, standing, word_at, ack, acks, issue_of, Facts, facts, FollowsBy, IsSound, HasAuthors, common_spoken}
-use Rattle.dspec_deeds.specs.Words.{common_decided, common_deed, common_deeds, IsSameInCommon, AreSameInCommon, ShowsAlike}
-use Rattle.dspec_word.specs.declared.code.Code.TheVariants.{Inactive}
+use Rattle.dspec_deeds.specs.Words.{Speculation, spoken_granted, is_discard, same_id, halted, is_halt, issue, releases, present, opened, opens, verdict, ruling, latest, callers, calls_on, joined}
+use Rattle.dspec_deeds.specs.Words.{solo, solo_of, settled, settles, scan, scanned, opened_since, is_scan, opens_slot, owed, author, releaser, same_actor, late, code_at, standing, word_at, ack}
+use Rattle.dspec_deeds.specs.Words.{acks, issue_of, Facts, facts, FollowsBy, IsSound, HasAuthors, common_spoken, common_decided, common_deed, common_deeds, IsSameInCommon, AreSameInCommon}
+use Rattle.dspec_deeds.specs.Words.{ShowsAlike, Inactive}
+use Rattle.dspec_deeds.specs.declared.{calls.Actor.TheVariants.Cpu, config.Config.Config, deed.DecideFate.DecideFate, deed.Deed.Deed, deed.Deed.TheVariants.Speculate, deed.Deed.TheVariants.Release}
+use Rattle.dspec_deeds.specs.declared.{deed.Deed.TheVariants.Halt, deed.SpeculateFate.SpeculateFate}
 use Rattle.dspec_deeds.specs.declared.deed.SpeculateFate.TheVariants as spoken
 use Rattle.dspec_deeds.specs.declared.deed.DecideFate.TheVariants as decided
 

@@ -1,11 +1,11 @@
 -- What one caller discarded alone is the present speculation of its slot only until the release that is owed.
 use Rattle.std.proofs.Common.{◌≡◌, ℕ, suc, ◌≤◌, true, false, ◌&&◌, ◌==◌, if◌then◌else◌, List, [], ◌∷◌, refl, sym, ap, ◌∙◌, subst, ⊎_elim, arith, true≢false}
-use Rattle.dspec_deeds.specs.Words.{Speculation, Config, Deed, Opened, Speculate, Commit, Discard, Release, is_commit, is_discard, same_id, issue, present, opens, opened, undecided, committed}
-use Rattle.dspec_deeds.specs.Words.{discarded, verdict, latest, is_undecided, callers, is_sole, owed, IsSound}
-use Rattle.dspec_deeds.proofs.TestLemmas.{either_way, off, and_tells, or_tells, number_is_itself, same_id_tells}
-use Rattle.dspec_deeds.proofs.SoundLists.{unseen}
-use Rattle.dspec_deeds.proofs.PresentIds.{decided_given, decided_shut, later_unopened}
-use Rattle.dspec_deeds.proofs.StayingDecided.{shut_stays}
+use Rattle.dspec_deeds.specs.Words.{Speculation, is_commit, is_discard, same_id, issue, present, opens, opened, undecided, committed, discarded, verdict, latest, is_undecided, callers, is_sole}
+use Rattle.dspec_deeds.specs.Words.{owed, IsSound}
+use Rattle.dspec_deeds.specs.declared.config.Config.{Config}
+use Rattle.dspec_deeds.specs.declared.deed.Deed.{Deed, TheVariants.Opened, TheVariants.Speculate, TheVariants.Commit, TheVariants.Discard, TheVariants.Release}
+use Rattle.dspec_deeds.proofs.{PresentIds.decided_given, PresentIds.decided_shut, PresentIds.later_unopened, SoundLists.unseen, StayingDecided.shut_stays, TestLemmas.either_way, TestLemmas.off}
+use Rattle.dspec_deeds.proofs.{TestLemmas.and_tells, TestLemmas.or_tells, TestLemmas.number_is_itself, TestLemmas.same_id_tells}
 
 -- slots are numbered from 1
 pub opened_positive : (k : Config) (h : List Deed) (id : Speculation) → IsSound k h → opened id h ≡ true → 1 ≤ id.slot

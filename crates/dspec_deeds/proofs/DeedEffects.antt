@@ -1,13 +1,13 @@
 -- What a deed does for a CPU: nothing, it offers a record, or it empties a speculative buffer.
-use Rattle.std.proofs.lemmas.Bool.Decides.{nat_tests}
 use Rattle.std.proofs.Common.{◌≡◌, ℕ, true, false, ◌==◌, List, [], ◌∷◌, length, Option, refl, sym, subst, ⊎_elim, true≢false, arith}
-use Rattle.dspec_record.specs.declared.field.Shape.{Shape}
-use Rattle.dspec_deeds.specs.Words.{Speculation, Config, DecideFate, Deed, Trace, Speculate, Commit, Discard, Settle, Ruling, verdict, held, SettlesAs, Follows, CpuLegal, IsAllowed, is_commit}
-use Rattle.dspec_deeds.specs.Words.{is_discard, taken, dropped, first_fate}
-use Rattle.dspec_deeds.specs.declared.deed.DecideFate.TheVariants as decided
+use Rattle.std.proofs.lemmas.Bool.Decides.{nat_tests}
 use Rattle.dspec_deeds.specs.Fates.{discarded}
-use Rattle.dspec_deeds.proofs.TestLemmas.{either_way, same_number, number_is_itself}
+use Rattle.dspec_deeds.specs.Words.{Shape, Speculation, Ruling, verdict, held, SettlesAs, Follows, CpuLegal, IsAllowed, is_commit, is_discard, taken, dropped, first_fate}
+use Rattle.dspec_deeds.specs.declared.{config.Config.Config, deed.DecideFate.DecideFate, deed.Deed.Deed, deed.Deed.TheVariants.Trace, deed.Deed.TheVariants.Speculate, deed.Deed.TheVariants.Commit}
+use Rattle.dspec_deeds.specs.declared.{deed.Deed.TheVariants.Discard, deed.Deed.TheVariants.Settle}
+use Rattle.dspec_deeds.specs.declared.deed.DecideFate.TheVariants as decided
 use Rattle.dspec_deeds.proofs.DeedOffers.{Effect, Empties, Idle, emptying, idle, offering, other_commit, other_discard, other_settle, other_speculate, other_trace, own_speculate, own_trace}
+use Rattle.dspec_deeds.proofs.TestLemmas.{either_way, same_number, number_is_itself}
 
 -- a decision that decides nothing
 undecided_commit : (c : ℕ) (id : Speculation) (f : DecideFate) (h : List Deed) → is_commit f ≡ false → Idle c (Commit c id f) h

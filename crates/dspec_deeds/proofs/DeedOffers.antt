@@ -1,8 +1,9 @@
 -- What a deed does for a CPU: nothing, it offers a record, or it empties a speculative buffer; other CPUs' deeds, and the CPU's own offers.
 use Rattle.std.proofs.Common.{arith, ◌≡◌, ℕ, ◌+◌, Bool, false, ◌==◌, if◌then◌else◌, List, [], ◌∷◌, length, Option, None, Some}
-use Rattle.dspec_deeds.specs.Words.{Record, Speculation, TraceFate, SpeculateFate, DecideFate, Deed, Trace, Speculate, Commit, Discard, Settle, same_id, Offer, offered_by, offers, empties, held}
-use Rattle.dspec_deeds.specs.Words.{accepts, accepts_now, traces_dropped_now, specdrops_now, loses_now, discards_now, voids_now, adds_now, Spoken, Fate, taken, waiting, first_fate, fate_by}
-use Rattle.dspec_deeds.specs.Words.{is_taken, is_dropped, is_discarded, is_void, is_waiting, offered_to}
+use Rattle.dspec_deeds.specs.Words.{Record, Speculation, same_id, Offer, offered_by, offers, empties, held, accepts, accepts_now, traces_dropped_now, specdrops_now, loses_now, discards_now}
+use Rattle.dspec_deeds.specs.Words.{voids_now, adds_now, Spoken, Fate, taken, waiting, first_fate, fate_by, is_taken, is_dropped, is_discarded, is_void, is_waiting, offered_to}
+use Rattle.dspec_deeds.specs.declared.deed.{DecideFate.DecideFate, Deed.Deed, Deed.TheVariants.Trace, Deed.TheVariants.Speculate, Deed.TheVariants.Commit, Deed.TheVariants.Discard}
+use Rattle.dspec_deeds.specs.declared.deed.{Deed.TheVariants.Settle, SpeculateFate.SpeculateFate, TraceFate.TraceFate}
 use Rattle.dspec_deeds.proofs.TestLemmas.{number_is_itself}
 
 -- the record that the CPU offers next

@@ -1,10 +1,11 @@
 -- What one deed more changes of what is read off a CPU's own deeds, and that another's deed leaves its report.
-use Rattle.std.proofs.lemmas.Bool.Decides.{nat_tests}
 use Rattle.std.proofs.Common.{◌≡◌, ℕ, ◌+◌, true, false, not, ◌&&◌, ◌||◌, ◌==◌, ◌++◌, List, [], ◌∷◌, length, Option, Some, None, if◌then◌else◌, arith, refl, sym, ap, ◌∙◌}
+use Rattle.std.proofs.lemmas.Bool.Decides.{nat_tests}
 use Rattle.std.specs.Prelude.{filter}
-use Rattle.dspec_deeds.specs.Words.{Speculation, Config, Cpu, Deed, Speculate, spoken_kept, same_actor, author, scanned, is_among, joined, calls_on, callers, settles, acks, issue_of, Spoken, one_if}
-use Rattle.dspec_deeds.specs.Words.{accepts_now, traces_dropped_now, specdrops_now, loses_now, discards_now, voids_now, stops_now, adds_now, speculative, missed_busy, fails_now, one_if_record}
-use Rattle.dspec_deeds.specs.Words.{offered_by, is_call, keeps, empties, held, dropped_after, accepts, is_drop, mark_after, ReadsApart, ReadsAlike}
+use Rattle.dspec_deeds.specs.Words.{Speculation, spoken_kept, same_actor, author, scanned, is_among, joined, calls_on, callers, settles, acks, issue_of, Spoken, one_if, accepts_now}
+use Rattle.dspec_deeds.specs.Words.{traces_dropped_now, specdrops_now, loses_now, discards_now, voids_now, stops_now, adds_now, speculative, missed_busy, fails_now, one_if_record, offered_by}
+use Rattle.dspec_deeds.specs.Words.{is_call, keeps, empties, held, dropped_after, accepts, is_drop, mark_after, ReadsApart, ReadsAlike}
+use Rattle.dspec_deeds.specs.declared.{calls.Actor.TheVariants.Cpu, config.Config.Config, deed.Deed.Deed, deed.Deed.TheVariants.Speculate}
 use Rattle.dspec_deeds.proofs.TestLemmas.{has_joined}
 
 -- one more caller

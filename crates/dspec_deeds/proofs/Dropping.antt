@@ -1,7 +1,6 @@
 -- What was dropped from a CPU's buffer of a speculation.
-use Rattle.std.proofs.lemmas.Bool.Decides.{nat_tests}
-use Rattle.std.proofs.Common.{◌≡◌, ℕ, ◌+◌, ◌≤◌, false, ◌==◌, List, [], ◌∷◌, refl, arith}
-use Rattle.dspec_deeds.specs.Words.{Speculation, Deed, Speculate, mark, calls, dropped_in}
+use Rattle.std.proofs.{Common.◌≡◌, Common.ℕ, Common.◌+◌, Common.◌≤◌, Common.false, Common.◌==◌, Common.List, Common.[], Common.◌∷◌, Common.refl, Common.arith, lemmas.Bool.Decides.nat_tests}
+use Rattle.dspec_deeds.specs.{Words.Speculation, Words.mark, Words.calls, Words.dropped_in, declared.deed.Deed.Deed, declared.deed.Deed.TheVariants.Speculate}
 
 -- nothing was dropped of a speculation that isn't the one granted last of its slot
 pub unmarked_drops : (c : ℕ) (id : Speculation) (h : List Deed) → (mark c id.slot h == id.issue + 1) ≡ false → dropped_in c id h ≡ 0

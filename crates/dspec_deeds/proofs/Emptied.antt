@@ -1,14 +1,13 @@
 -- Where a CPU's buffer of a speculation is empty.
 use Rattle.std.proofs.Common.{[], ◌≡◌, ◌≢◌, ◌⊎◌, ℕ, suc, ◌<◌, Bool, true, false, ◌&&◌, ◌==◌, if◌then◌else◌, List, ◌∷◌, Some, None, refl, sym, ap, ◌∙◌, subst, ⊎_elim, inl, inr, arith, true≢false}
 use Rattle.std.proofs.lemmas.Bool.Decides.{nat_tests}
-use Rattle.dspec_deeds.specs.Words.{Speculation, Record, Config, SpeculateFate, Deed, Speculate, Commit, Discard, Settle, Release, spoken_granted, spoken_kept, is_commit, is_discard, same_id}
-use Rattle.dspec_deeds.specs.Words.{is_among, issue, releases, present, Ruling, undecided, committed, discarded, verdict, ruling, latest, is_undecided, is_open, callers, joined, solo, settled}
-use Rattle.dspec_deeds.specs.Words.{settles, keeps, empties, held, IsSound}
+use Rattle.dspec_deeds.specs.Words.{Speculation, Record, spoken_granted, spoken_kept, is_commit, is_discard, same_id, is_among, issue, releases, present, Ruling, undecided, committed, discarded}
+use Rattle.dspec_deeds.specs.Words.{verdict, ruling, latest, is_undecided, is_open, callers, joined, solo, settled, settles, keeps, empties, held, IsSound}
+use Rattle.dspec_deeds.specs.declared.{config.Config.Config, deed.Deed.Deed, deed.Deed.TheVariants.Speculate, deed.Deed.TheVariants.Commit, deed.Deed.TheVariants.Discard}
+use Rattle.dspec_deeds.specs.declared.{deed.Deed.TheVariants.Settle, deed.Deed.TheVariants.Release, deed.SpeculateFate.SpeculateFate}
 use Rattle.dspec_deeds.specs.declared.deed.SpeculateFate.TheVariants as spoken
-use Rattle.dspec_deeds.proofs.TestLemmas.{either_way, off, and_tells, and_false, or_none, or_tells, same_number, same_id_tells, has_joined}
-use Rattle.dspec_deeds.proofs.PresentIds.{past_shut, decided_shut}
-use Rattle.dspec_deeds.proofs.WordChanges.{granted_open}
-use Rattle.dspec_deeds.proofs.Acked.{settled_decided}
+use Rattle.dspec_deeds.proofs.{Acked.settled_decided, PresentIds.past_shut, PresentIds.decided_shut, TestLemmas.either_way, TestLemmas.off, TestLemmas.and_tells, TestLemmas.and_false}
+use Rattle.dspec_deeds.proofs.{TestLemmas.or_none, TestLemmas.or_tells, TestLemmas.same_number, TestLemmas.same_id_tells, TestLemmas.has_joined, WordChanges.granted_open}
 
 -- a kept record was granted
 kept_granted : (f : SpeculateFate) → spoken_kept f ≡ true → spoken_granted f ≡ true

@@ -2,12 +2,12 @@
 use Prim.Native.Nat.{zero, suc}
 use Rattle.std.proofs.Common.{◌≡◌, ℕ, ◌+◌, ◌<◌, Bool, true, false, ltb as nat_lt, if◌then◌else◌, List, [], ◌∷◌, length, refl, ◌∙◌, arith}
 use Rattle.std.proofs.lemmas.Bool.Decides.{nat_tests}
-use Rattle.dspec_deeds.specs.Words.{Record, Speculation, Deed, Offer, offers, held, total, accepts_now, traces_dropped_now, specdrops_now, loses_now, discards_now, voids_now, Fate, waiting, fate}
-use Rattle.dspec_deeds.specs.Words.{fates, fates_below, is_taken, is_dropped, is_discarded, is_void, is_waiting, times}
-use Rattle.dspec_deeds.proofs.DeedOffers.{waits_for, Counts, Idle, Offers, Empties, Effect, idle, offering, emptying}
-use Rattle.dspec_deeds.proofs.DeedEffects.{Accounts}
-use Rattle.dspec_deeds.proofs.HeldOffers.{fate_offered, fate_earlier, fate_emptied, tally, emptied_gains, emptied_leaves, times_held}
-use Rattle.dspec_deeds.proofs.OfferedContents.{AllOffered, held_offered}
+use Rattle.dspec_deeds.specs.Words.{Record, Speculation, Offer, offers, held, total, accepts_now, traces_dropped_now, specdrops_now, loses_now, discards_now, voids_now, Fate, waiting, fate, fates}
+use Rattle.dspec_deeds.specs.Words.{fates_below, is_taken, is_dropped, is_discarded, is_void, is_waiting, times}
+use Rattle.dspec_deeds.specs.declared.deed.Deed.{Deed}
+use Rattle.dspec_deeds.proofs.{DeedEffects.Accounts, DeedOffers.waits_for, DeedOffers.Counts, DeedOffers.Idle, DeedOffers.Offers, DeedOffers.Empties, DeedOffers.Effect, DeedOffers.idle}
+use Rattle.dspec_deeds.proofs.{DeedOffers.offering, DeedOffers.emptying, HeldOffers.fate_offered, HeldOffers.fate_earlier, HeldOffers.fate_emptied, HeldOffers.tally, HeldOffers.emptied_gains}
+use Rattle.dspec_deeds.proofs.{HeldOffers.emptied_leaves, HeldOffers.times_held, OfferedContents.AllOffered, OfferedContents.held_offered}
 
 -- how often a list has the records below a number
 abbrev times_below : List Offer → ℕ → ℕ

@@ -1,13 +1,12 @@
 -- What a buffer that closes comes to over a whole list.
 use Rattle.std.proofs.Common.{◌≡◌, ℕ, ◌+◌, true, false, ◌&&◌, if◌then◌else◌, List, [], ◌∷◌, Option, refl, sym, ap, ◌∙◌, subst, ⊎_elim, arith, true≢false}
-use Rattle.std.specs.Prelude.{nat_lt}
 use Rattle.std.proofs.lemmas.Bool.Decides.{nat_tests}
-use Rattle.dspec_record.specs.declared.field.Shape.{Shape}
-use Rattle.dspec_deeds.specs.Words.{Piece, one, block, piece_fits, Config, Record, Speculation, TraceFate, DecideFate, Deed, Trace, Commit, Settle, Seal, is_fill, trace_stopped, is_commit, Offer}
-use Rattle.dspec_deeds.specs.Words.{contents, held, active, accepts, is_drop, full, growing, batches, seals, seals_now, IsOwn, is_empty, fits_principal, CpuLegal, IsFitting, total, one_if}
-use Rattle.dspec_deeds.proofs.TestLemmas.{and_false, either_way, same_number}
-use Rattle.dspec_deeds.proofs.ReportBounds.{fitting_fitted, active_within}
-use Rattle.dspec_deeds.proofs.WholeLists.{drops_add_up}
+use Rattle.std.specs.Prelude.{nat_lt}
+use Rattle.dspec_deeds.specs.Words.{Shape, Piece, one, block, piece_fits, Record, Speculation, is_fill, trace_stopped, is_commit, Offer, contents, held, active, accepts, is_drop, full, growing}
+use Rattle.dspec_deeds.specs.Words.{batches, seals, seals_now, IsOwn, is_empty, fits_principal, CpuLegal, IsFitting, total, one_if}
+use Rattle.dspec_deeds.specs.declared.config.Config.{Config}
+use Rattle.dspec_deeds.specs.declared.deed.{DecideFate.DecideFate, Deed.Deed, Deed.TheVariants.Trace, Deed.TheVariants.Commit, Deed.TheVariants.Settle, Deed.TheVariants.Seal, TraceFate.TraceFate}
+use Rattle.dspec_deeds.proofs.{ReportBounds.fitting_fitted, ReportBounds.active_within, TestLemmas.and_false, TestLemmas.either_way, TestLemmas.same_number, WholeLists.drops_add_up}
 
 -- a test that holds is counted
 pub full_counted : (c : ℕ) (h : List Deed) → full c h ≡ nat_lt 0 (total (λ d. one_if (is_drop c d)) h)

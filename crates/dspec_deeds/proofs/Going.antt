@@ -1,7 +1,7 @@
 -- A list of deeds that goes on by deeds of one actor.
 use Rattle.std.proofs.Common.{◌≡◌, ◌<◌, ℕ, true, List, [], ◌∷◌, ◌++◌, Option, ◌∙◌}
-use Rattle.dspec_record.specs.declared.field.Shape.{Shape}
-use Rattle.dspec_deeds.specs.Words.{Config, Actor, Cpu, Deed, author, same_actor, owed, HasAuthors, IsAllowed}
+use Rattle.dspec_deeds.specs.Words.{Shape, author, same_actor, owed, HasAuthors, IsAllowed}
+use Rattle.dspec_deeds.specs.declared.{calls.Actor.Actor, calls.Actor.TheVariants.Cpu, config.Config.Config, deed.Deed.Deed}
 use Rattle.dspec_deeds.proofs.TestLemmas.{same_actor_tells}
 
 -- each of the deeds is of that actor

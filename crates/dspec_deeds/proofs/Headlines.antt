@@ -1,17 +1,9 @@
 -- The headline, of every legal list of deeds.
-use Rattle.std.proofs.Common.{arith}
-use Rattle.std.proofs.lemmas.Bool.Decides.{nat_tests}
-use Rattle.std.proofs.Common.{ℕ, List, Option}
-use Rattle.dspec_record.specs.declared.field.Shape.{Shape}
-use Rattle.dspec_deeds.specs.Words.{Config, Deed, IsAllowed, FateLaw, Headline}
-use Rattle.dspec_deeds.proofs.DeedEffects.{Accounts, legal_accounts}
-use Rattle.dspec_deeds.proofs.Prefixes.{prefix_law}
-use Rattle.dspec_deeds.proofs.HeldOffers.{fate_within, times_taken}
-use Rattle.dspec_deeds.proofs.OfferedContents.{accepted_contents}
-use Rattle.dspec_deeds.proofs.FateCounts.{taken_count, dropped_count, discarded_count, void_count}
-use Rattle.dspec_deeds.proofs.SpokenRecords.{held_count}
-use Rattle.dspec_deeds.proofs.Balance.{balance}
-use Rattle.dspec_deeds.proofs.Acceptance.{acceptance_law}
+use Rattle.std.proofs.{Common.arith, Common.ℕ, Common.List, Common.Option, lemmas.Bool.Decides.nat_tests}
+use Rattle.dspec_deeds.specs.{Words.Shape, Words.IsAllowed, Words.FateLaw, Words.Headline, declared.config.Config.Config, declared.deed.Deed.Deed}
+use Rattle.dspec_deeds.proofs.{Acceptance.acceptance_law, Balance.balance, DeedEffects.Accounts, DeedEffects.legal_accounts, FateCounts.taken_count, FateCounts.dropped_count}
+use Rattle.dspec_deeds.proofs.{FateCounts.discarded_count, FateCounts.void_count, HeldOffers.fate_within, HeldOffers.times_taken, OfferedContents.accepted_contents, Prefixes.prefix_law}
+use Rattle.dspec_deeds.proofs.{SpokenRecords.held_count}
 
 -- the fate law, of every list whose deeds have their effects for the CPU
 pub accounts_fate_law : (k : Config) (c : ℕ) (h : List Deed) → Accounts c h → FateLaw k c h

@@ -1,13 +1,12 @@
 -- The fates of a CPU's records, and the records in its buffers.
 use Rattle.std.proofs.Common.{◌≡◌, ℕ, ◌+◌, ◌≤◌, ◌<◌, Bool, true, false, ◌==◌, if◌then◌else◌, List, [], ◌∷◌, ◌++◌, Option, None, Some, IsSome, refl, sym, ap, ◌∙◌, subst, ⊎_elim, arith}
-use Rattle.std.specs.Option.{option_map}
 use Rattle.std.proofs.lemmas.Bool.Decides.{nat_tests}
-use Rattle.dspec_deeds.specs.Words.{Record, Speculation, Deed, same_id, Offer, offered_by, offers, empties, held, accepted, Fate, taken, dropped, void, waiting, next_fate, fate, is_taken}
-use Rattle.dspec_deeds.specs.Words.{is_waiting, has_fate, times}
-use Rattle.dspec_deeds.specs.Fates.{discarded}
-use Rattle.dspec_deeds.proofs.TestLemmas.{either_way, number_is_itself, same_number}
-use Rattle.dspec_deeds.proofs.DeedOffers.{waits_for, next_offer, Idle, Offers, Empties, Effect, idle, offering, emptying}
-use Rattle.dspec_deeds.proofs.DeedEffects.{Accounts}
+use Rattle.std.specs.Option.{option_map}
+use Rattle.dspec_deeds.specs.{Fates.discarded, Words.Record, Words.Speculation, Words.same_id, Words.Offer, Words.offered_by, Words.offers, Words.empties, Words.held, Words.accepted, Words.Fate}
+use Rattle.dspec_deeds.specs.{Words.taken, Words.dropped, Words.void, Words.waiting, Words.next_fate, Words.fate, Words.is_taken, Words.is_waiting, Words.has_fate, Words.times}
+use Rattle.dspec_deeds.specs.{declared.deed.Deed.Deed}
+use Rattle.dspec_deeds.proofs.{DeedEffects.Accounts, DeedOffers.waits_for, DeedOffers.next_offer, DeedOffers.Idle, DeedOffers.Offers, DeedOffers.Empties, DeedOffers.Effect, DeedOffers.idle}
+use Rattle.dspec_deeds.proofs.{DeedOffers.offering, DeedOffers.emptying, TestLemmas.either_way, TestLemmas.number_is_itself, TestLemmas.same_number}
 
 -- no record has a number beyond those offered
 pub fate_beyond : (c j : ℕ) (h : List Deed) → offers c h ≤ j → fate c j h ≡ None

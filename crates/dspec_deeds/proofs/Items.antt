@@ -1,9 +1,6 @@
 -- A Vec whose element was written as it was is the Vec.
-use Rattle.std.proofs.Common.{◌≡◌, ℕ, List, length, set, get_or, ap, ◌∙◌, subst}
-use Rattle.std.proofs.Math.Nat.{ℕ_set}
-use Rattle.std.specs.Vec.{with_item}
-use Rattle.std.specs.declared.vec.Vec.{Vec}
-use Rattle.std.proofs.lemmas.List.{set-get_or}
+use Rattle.std.proofs.{Common.◌≡◌, Common.ℕ, Common.List, Common.length, Common.set, Common.get_or, Common.ap, Common.◌∙◌, Common.subst, Math.Nat.ℕ_set, lemmas.List.set-get_or}
+use Rattle.std.specs.{Vec.with_item, declared.vec.Vec.Vec}
 
 -- lengths are equal in one way
 same_length : (m n : ℕ) (p q : m ≡ n) → p ≡ q

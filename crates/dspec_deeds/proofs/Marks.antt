@@ -1,11 +1,12 @@
 -- The mark of a slot tells of its present speculation whether the CPU is a caller.
 use Rattle.std.proofs.Common.{◌≡◌, ℕ, suc, ◌+◌, ◌≤◌, Bool, true, false, ◌&&◌, ◌==◌, List, [], ◌∷◌, Some, None, if◌then◌else◌, refl, sym, ap, ◌∙◌, subst, ⊎_elim, arith, true≢false}
 use Rattle.std.proofs.lemmas.Bool.Decides.{nat_tests}
-use Rattle.dspec_deeds.specs.Words.{Speculation, Config, Deed, Trace, Scan, Opened, Miss, Speculate, Commit, Discard, Settle, Seal, Release, Halt, Cpu, spoken_granted, spoken_stopped, same_id}
-use Rattle.dspec_deeds.specs.Words.{is_among, issue, present, opened, is_open, callers, joined, part, mark, IsSound}
-use Rattle.dspec_deeds.proofs.TestLemmas.{either_way, off, and_tells, same_number, number_is_itself, other_number, id_is_itself, has_joined}
-use Rattle.dspec_deeds.proofs.SoundLists.{granted_goes, answered_open, unseen, opened_by_now}
-use Rattle.dspec_deeds.proofs.PresentIds.{open_is_present}
+use Rattle.dspec_deeds.specs.Words.{Speculation, spoken_granted, spoken_stopped, same_id, is_among, issue, present, opened, is_open, callers, joined, part, mark, IsSound}
+use Rattle.dspec_deeds.specs.declared.{calls.Actor.TheVariants.Cpu, config.Config.Config, deed.Deed.Deed, deed.Deed.TheVariants.Trace, deed.Deed.TheVariants.Scan, deed.Deed.TheVariants.Opened}
+use Rattle.dspec_deeds.specs.declared.{deed.Deed.TheVariants.Miss, deed.Deed.TheVariants.Speculate, deed.Deed.TheVariants.Commit, deed.Deed.TheVariants.Discard, deed.Deed.TheVariants.Settle}
+use Rattle.dspec_deeds.specs.declared.{deed.Deed.TheVariants.Seal, deed.Deed.TheVariants.Release, deed.Deed.TheVariants.Halt}
+use Rattle.dspec_deeds.proofs.{PresentIds.open_is_present, SoundLists.granted_goes, SoundLists.answered_open, SoundLists.unseen, SoundLists.opened_by_now, TestLemmas.either_way, TestLemmas.off}
+use Rattle.dspec_deeds.proofs.{TestLemmas.and_tells, TestLemmas.same_number, TestLemmas.number_is_itself, TestLemmas.other_number, TestLemmas.id_is_itself, TestLemmas.has_joined}
 
 -- it rests on the CPU's own deeds
 pub mark_part : (c s : ℕ) (h : List Deed) → mark c s (part (Cpu c) h) ≡ mark c s h

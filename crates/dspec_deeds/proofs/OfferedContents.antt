@@ -1,11 +1,9 @@
 -- The records in a CPU's buffers are those that it offered.
-use Rattle.std.proofs.Common.{◌≡◌, ℕ, ◌<◌, List, [], ◌∷◌, ◌++◌, Some, refl, arith}
+use Rattle.std.proofs.{Common.◌≡◌, Common.ℕ, Common.◌<◌, Common.List, Common.[], Common.◌∷◌, Common.◌++◌, Common.Some, Common.refl, Common.arith, lemmas.Bool.Decides.nat_tests}
 use Rattle.std.specs.List.{AllByRecursion}
-use Rattle.std.proofs.lemmas.Bool.Decides.{nat_tests}
-use Rattle.dspec_deeds.specs.Words.{Record, Speculation, Deed, Offer, offered_by, offers, held, accepted, content_of}
-use Rattle.dspec_deeds.proofs.TestLemmas.{number_is_itself}
-use Rattle.dspec_deeds.proofs.DeedOffers.{waits_for, next_offer, Effect, idle, offering, emptying}
-use Rattle.dspec_deeds.proofs.DeedEffects.{Accounts}
+use Rattle.dspec_deeds.specs.{Words.Record, Words.Speculation, Words.Offer, Words.offered_by, Words.offers, Words.held, Words.accepted, Words.content_of, declared.deed.Deed.Deed}
+use Rattle.dspec_deeds.proofs.{DeedEffects.Accounts, DeedOffers.waits_for, DeedOffers.next_offer, DeedOffers.Effect, DeedOffers.idle, DeedOffers.offering, DeedOffers.emptying}
+use Rattle.dspec_deeds.proofs.{TestLemmas.number_is_itself}
 
 -- it has the number and the content of an offered record
 pub record IsOffered (c : ℕ) (h : List Deed) (o : Offer) : Type 0 where

@@ -1,16 +1,11 @@
 -- A CPU's own list accounts for its records: its report balances, each count is at most the calls, and each record has one fate.
-use Rattle.std.proofs.Common.{arith}
+use Rattle.std.proofs.Common.{arith, ◌≡◌, ℕ, true, false, if◌then◌else◌, List, [], ◌∷◌, Option, refl, sym, ◌∙◌, subst, ⊎_elim}
 use Rattle.std.proofs.lemmas.Bool.Decides.{nat_tests}
-use Rattle.std.proofs.Common.{◌≡◌, ℕ, true, false, if◌then◌else◌, List, [], ◌∷◌, Option, refl, sym, ◌∙◌, subst, ⊎_elim}
-use Rattle.dspec_record.specs.declared.field.Shape.{Shape}
-use Rattle.dspec_deeds.specs.Words.{Config, Cpu, Deed, Miss, Release, part, calls, report, CountsWithin, FateLaw, IsSound, is_seal, CpuRow, IsOwn, bare}
-use Rattle.dspec_deeds.proofs.TestLemmas.{either_way, same_number}
-use Rattle.dspec_deeds.proofs.DeedOffers.{Effect, idle}
-use Rattle.dspec_deeds.proofs.DeedEffects.{effect, IsDecisive, decisive, Accounts}
-use Rattle.dspec_deeds.proofs.ReportBounds.{counts_within, IsScanned, AreScanned, IsFitted, AreFitted}
-use Rattle.dspec_deeds.proofs.Headlines.{accounts_fate_law}
-use Rattle.dspec_deeds.proofs.BareReads.{seal_is}
-use Rattle.dspec_deeds.proofs.OwnReads.{reads, apart_bare}
+use Rattle.dspec_deeds.specs.Words.{Shape, part, calls, report, CountsWithin, FateLaw, IsSound, is_seal, CpuRow, IsOwn, bare}
+use Rattle.dspec_deeds.specs.declared.{calls.Actor.TheVariants.Cpu, config.Config.Config, deed.Deed.Deed, deed.Deed.TheVariants.Miss, deed.Deed.TheVariants.Release}
+use Rattle.dspec_deeds.proofs.{BareReads.seal_is, DeedEffects.effect, DeedEffects.IsDecisive, DeedEffects.decisive, DeedEffects.Accounts, DeedOffers.Effect, DeedOffers.idle}
+use Rattle.dspec_deeds.proofs.{Headlines.accounts_fate_law, OwnReads.reads, OwnReads.apart_bare, ReportBounds.counts_within, ReportBounds.IsScanned, ReportBounds.AreScanned, ReportBounds.IsFitted}
+use Rattle.dspec_deeds.proofs.{ReportBounds.AreFitted, TestLemmas.either_way, TestLemmas.same_number}
 
 -- rows that rest on the deed and on the call of speculation that is under way
 abbrev IsDue : Config → List Deed → Deed → Type 0

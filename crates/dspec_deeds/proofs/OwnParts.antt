@@ -1,12 +1,10 @@
 -- A list is legal in the own part exactly where each CPU's own list is.
+use Rattle.std.proofs.Common.{arith, ◌≡◌, ◌<◌, ℕ, Bool, true, false, List, [], ◌∷◌, Option, refl}
 use Rattle.std.proofs.lemmas.Bool.Decides.{nat_tests}
-use Rattle.std.proofs.Common.{arith}
-use Rattle.std.proofs.Common.{◌≡◌, ◌<◌, ℕ, Bool, true, false, List, [], ◌∷◌, Option, refl}
-use Rattle.dspec_record.specs.declared.field.Shape.{Shape}
-use Rattle.dspec_deeds.specs.Words.{Config, Cpu, Deed, Trace, Speculate, Commit, Discard, Settle, Seal, Release, same_actor, author, part, HasAuthors, CpuLegal, IsFitting, is_of, CpuRow, IsOwn}
-use Rattle.dspec_deeds.specs.Words.{ReadsAlike}
-use Rattle.dspec_deeds.proofs.TestLemmas.{number_is_itself}
-use Rattle.dspec_deeds.proofs.OwnReads.{alike_back, reads}
+use Rattle.dspec_deeds.specs.Words.{Shape, same_actor, author, part, HasAuthors, CpuLegal, IsFitting, is_of, CpuRow, IsOwn, ReadsAlike}
+use Rattle.dspec_deeds.specs.declared.{calls.Actor.TheVariants.Cpu, config.Config.Config, deed.Deed.Deed, deed.Deed.TheVariants.Trace, deed.Deed.TheVariants.Speculate, deed.Deed.TheVariants.Commit}
+use Rattle.dspec_deeds.specs.declared.{deed.Deed.TheVariants.Discard, deed.Deed.TheVariants.Settle, deed.Deed.TheVariants.Seal, deed.Deed.TheVariants.Release}
+use Rattle.dspec_deeds.proofs.{OwnReads.alike_back, OwnReads.reads, TestLemmas.number_is_itself}
 
 -- what a CPU does names it, or is a Release
 pub author_of : (c : ℕ) (d : Deed) (h : List Deed) → same_actor (Cpu c) (author d h) ≡ true → is_of c d ≡ true

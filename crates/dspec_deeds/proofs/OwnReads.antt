@@ -1,14 +1,11 @@
 -- What is read off a CPU's own deeds.
-use Rattle.std.proofs.lemmas.Bool.Decides.{nat_tests}
 use Rattle.std.proofs.Common.{◌≡◌, ℕ, suc, true, false, not, ◌&&◌, ◌||◌, List, [], ◌∷◌, Option, arith, sym, ap, ◌∙◌, subst, ⊎_elim}
-use Rattle.dspec_deeds.specs.Words.{Speculation, Config, Cpu, Deed, Seal, same_actor, author, part, contents, held, Piece, block, piece_fits, is_fill, is_seal, is_empty, fits_principal, ReadsApart}
-use Rattle.dspec_deeds.specs.Words.{ReadsAlike, bare}
-use Rattle.dspec_record.specs.declared.field.Shape.{Shape}
-use Rattle.dspec_deeds.proofs.TestLemmas.{either_way, other_number}
-use Rattle.dspec_deeds.proofs.StayingOwn.{scan_other, offers_other, calls_other, accepted_other, seals_other, active_other, growing_other}
-use Rattle.dspec_deeds.proofs.StayingOwn.{batches_other, full_other, missed_other}
-use Rattle.dspec_deeds.proofs.BareReads.{seal_is}
-use Rattle.dspec_deeds.proofs.DeedReads.{alike_on, apart_on, counts_nowhere, nothing_apart}
+use Rattle.std.proofs.lemmas.Bool.Decides.{nat_tests}
+use Rattle.dspec_deeds.specs.Words.{Speculation, same_actor, author, part, contents, held, Piece, block, piece_fits, is_fill, is_seal, is_empty, fits_principal, ReadsApart, ReadsAlike, bare, Shape}
+use Rattle.dspec_deeds.specs.declared.{calls.Actor.TheVariants.Cpu, config.Config.Config, deed.Deed.Deed, deed.Deed.TheVariants.Seal}
+use Rattle.dspec_deeds.proofs.{BareReads.seal_is, DeedReads.alike_on, DeedReads.apart_on, DeedReads.counts_nowhere, DeedReads.nothing_apart, StayingOwn.scan_other, StayingOwn.offers_other}
+use Rattle.dspec_deeds.proofs.{StayingOwn.calls_other, StayingOwn.accepted_other, StayingOwn.seals_other, StayingOwn.active_other, StayingOwn.growing_other, StayingOwn.batches_other}
+use Rattle.dspec_deeds.proofs.{StayingOwn.full_other, StayingOwn.missed_other, TestLemmas.either_way, TestLemmas.other_number}
 
 -- another's deed leaves what is read off the CPU's own
 pub apart_other : (k : Config) (c : ℕ) (d : Deed) (h : List Deed) → same_actor (Cpu c) (author d h) ≡ false → ReadsApart k c (d ∷ h) h

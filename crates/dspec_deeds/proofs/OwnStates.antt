@@ -1,11 +1,10 @@
 -- A CPU's own list tells what its side shows, and what it holds of each slot's present speculation.
 use Rattle.std.proofs.Common.{◌≡◌, ℕ, ◌+◌, ◌-◌, ◌<◌, true, false, ◌==◌, List, [], refl, sym, ap, ◌∙◌, subst, ⊎_elim, arith}
 use Rattle.std.specs.Prelude.{reverse}
-use Rattle.dspec_deeds.specs.Words.{Speculation, Config, Switch, Cpu, Deed, part, issue, present, contents, dropped_in, held, IsSound, mark, last_called, own_side, TellsPresent, ReadsApart, bare}
-use Rattle.dspec_deeds.proofs.TestLemmas.{either_way, same_number, other_number, numbers_differ}
-use Rattle.dspec_deeds.proofs.Emptied.{callers_hold, past_empty}
-use Rattle.dspec_deeds.proofs.Marks.{mark_tells}
-use Rattle.dspec_deeds.proofs.OwnReads.{reads, apart_bare}
+use Rattle.dspec_deeds.specs.Words.{Speculation, part, issue, present, contents, dropped_in, held, IsSound, mark, last_called, own_side, TellsPresent, ReadsApart, bare}
+use Rattle.dspec_deeds.specs.declared.{calls.Actor.TheVariants.Cpu, config.Config.Config, config.Policy.TheVariants.Switch, deed.Deed.Deed}
+use Rattle.dspec_deeds.proofs.{Emptied.callers_hold, Emptied.past_empty, Marks.mark_tells, OwnReads.reads, OwnReads.apart_bare, TestLemmas.either_way, TestLemmas.same_number}
+use Rattle.dspec_deeds.proofs.{TestLemmas.other_number, TestLemmas.numbers_differ}
 
 -- no configuration is read
 some_config : Config

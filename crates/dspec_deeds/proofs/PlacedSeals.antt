@@ -1,15 +1,10 @@
 -- A list whose Seals are placed is legal, where it is without them and each CPU's own list is.
+use Rattle.std.proofs.Common.{arith, ◌≡◌, ◌⊎◌, ℕ, ◌<◌, true, false, if◌then◌else◌, List, [], ◌∷◌, Option, refl, sym, ap, ◌∙◌, subst, ⊎_elim, inl, inr, true≢false}
 use Rattle.std.proofs.lemmas.Bool.Decides.{nat_tests}
-use Rattle.std.proofs.Common.{arith}
-use Rattle.std.proofs.Common.{◌≡◌, ◌⊎◌, ℕ, ◌<◌, true, false, if◌then◌else◌, List, [], ◌∷◌, Option, refl, sym, ap, ◌∙◌, subst, ⊎_elim, inl, inr, true≢false}
-use Rattle.dspec_record.specs.declared.field.Shape.{Shape}
-use Rattle.dspec_deeds.specs.Words.{Config, Cpu, Deed, Discard, Seal, Release, owed, author, part, HasAuthors, CpuLegal, IsSound, IsFitting, IsAllowed, is_seal, sealed_last, IsOwn, bare, IsLastOf}
-use Rattle.dspec_deeds.specs.Words.{MayStand, IsPlaced, ArePlaced}
-use Rattle.dspec_deeds.proofs.TestLemmas.{either_way, off, number_is_itself}
-use Rattle.dspec_deeds.proofs.OwnParts.{fitting_of_own}
-use Rattle.dspec_deeds.proofs.BareReads.{seal_is, halted_bare, author_bare}
-use Rattle.dspec_deeds.proofs.BareSound.{IsNoLater, MayPut, ArePut, owed_bare, sound_with_seals}
-use Rattle.dspec_deeds.proofs.SoloOwed.{IsOwnRelease, owed_is_own}
+use Rattle.dspec_deeds.specs.Words.{Shape, owed, author, part, HasAuthors, CpuLegal, IsSound, IsFitting, IsAllowed, is_seal, sealed_last, IsOwn, bare, IsLastOf, MayStand, IsPlaced, ArePlaced}
+use Rattle.dspec_deeds.specs.declared.{calls.Actor.TheVariants.Cpu, config.Config.Config, deed.Deed.Deed, deed.Deed.TheVariants.Discard, deed.Deed.TheVariants.Seal, deed.Deed.TheVariants.Release}
+use Rattle.dspec_deeds.proofs.{BareReads.seal_is, BareReads.halted_bare, BareReads.author_bare, BareSound.IsNoLater, BareSound.MayPut, BareSound.ArePut, BareSound.owed_bare}
+use Rattle.dspec_deeds.proofs.{BareSound.sound_with_seals, OwnParts.fitting_of_own, SoloOwed.IsOwnRelease, SoloOwed.owed_is_own, TestLemmas.either_way, TestLemmas.off, TestLemmas.number_is_itself}
 
 -- behind a deed of its own a CPU is late where the session was stopped
 no_later_behind : (c : ℕ) (d : Deed) (h : List Deed) → author d h ≡ Cpu c → IsNoLater c (d ∷ h)

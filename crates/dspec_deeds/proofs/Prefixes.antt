@@ -1,9 +1,8 @@
 -- What was taken from a CPU is a prefix of what its principal buffers accepted.
-use Rattle.std.proofs.Common.{arith}
-use Rattle.std.proofs.lemmas.Bool.Decides.{nat_tests}
-use Rattle.std.proofs.Common.{◌≡◌, ℕ, Bool, true, false, List, [], ◌∷◌, ◌++◌, reverse, take, drop, refl, sym, ap, ◌∙◌, append_assoc, true≢false}
-use Rattle.std.proofs.lemmas.List.{reverse-append, append-nil, take-append-drop}
-use Rattle.dspec_deeds.specs.Words.{Deed, Seal, Offer, contents, accepts, accepted, stream, seals_now, Sealing, growing, batches, batch_records, PrefixLaw}
+use Rattle.std.proofs.Common.{arith, ◌≡◌, ℕ, Bool, true, false, List, [], ◌∷◌, ◌++◌, reverse, take, drop, refl, sym, ap, ◌∙◌, append_assoc, true≢false}
+use Rattle.std.proofs.lemmas.{Bool.Decides.nat_tests, List.reverse-append, List.append-nil, List.take-append-drop}
+use Rattle.dspec_deeds.specs.Words.{Offer, contents, accepts, accepted, stream, seals_now, Sealing, growing, batches, batch_records, PrefixLaw}
+use Rattle.dspec_deeds.specs.declared.deed.Deed.{Deed, TheVariants.Seal}
 
 -- the offers of batches, the latest first
 abbrev batch_offers : List Sealing → List Offer

@@ -1,10 +1,9 @@
 -- Only the present speculation of a slot can be open.
 use Rattle.std.proofs.Common.{◌≡◌, ◌≢◌, suc, ◌<◌, true, false, ◌==◌, List, [], ◌∷◌, if◌then◌else◌, refl, sym, ap, ◌∙◌, subst, ⊎_elim, arith, true≢false}
 use Rattle.std.proofs.lemmas.Bool.Decides.{nat_tests}
-use Rattle.dspec_deeds.specs.Words.{Speculation, Config, Deed, Opened, Release, same_id, issue, releases, present, opens, opened, Ruling, undecided, committed, discarded, verdict, is_undecided}
-use Rattle.dspec_deeds.specs.Words.{is_open, IsSound}
-use Rattle.dspec_deeds.proofs.TestLemmas.{either_way, off, and_tells, same_number, same_id_tells}
-use Rattle.dspec_deeds.proofs.SoundLists.{opened_by_now, unseen}
+use Rattle.dspec_deeds.specs.Words.{Speculation, same_id, issue, releases, present, opens, opened, Ruling, undecided, committed, discarded, verdict, is_undecided, is_open, IsSound}
+use Rattle.dspec_deeds.specs.declared.{config.Config.Config, deed.Deed.Deed, deed.Deed.TheVariants.Opened, deed.Deed.TheVariants.Release}
+use Rattle.dspec_deeds.proofs.{SoundLists.opened_by_now, SoundLists.unseen, TestLemmas.either_way, TestLemmas.off, TestLemmas.and_tells, TestLemmas.same_number, TestLemmas.same_id_tells}
 
 -- nothing decided is open
 pub decided_shut : (id : Speculation) (h : List Deed) → is_undecided (verdict id h) ≡ false → is_open id h ≡ false

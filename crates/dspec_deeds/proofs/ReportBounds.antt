@@ -1,15 +1,13 @@
 -- The counts of a report are at most the calls that the CPU made.
-use Rattle.std.proofs.Common.{◌≡◌, ℕ, ◌+◌, ◌≤◌, Bool, true, false, ◌&&◌, ◌==◌, nat_le, if◌then◌else◌}
-use Rattle.std.proofs.Common.{List, [], ◌∷◌, length, Option, sym, subst, arith, true≢false}
+use Rattle.std.proofs.Common.{◌≡◌, ℕ, ◌+◌, ◌≤◌, Bool, true, false, ◌&&◌, ◌==◌, nat_le, if◌then◌else◌, List, [], ◌∷◌, length, Option, sym, subst, arith, true≢false}
 use Rattle.std.proofs.lemmas.Bool.Decides.{nat_tests}
-use Rattle.dspec_record.specs.declared.field.Shape.{Shape}
-use Rattle.dspec_deeds.specs.Words.{Speculation, Piece, one, block, extent, Config, DecideFate, Deed, Trace, Miss, Commit, Settle, Seal, Release, is_copied, scan, scanned, Offer, contents, offers}
-use Rattle.dspec_deeds.specs.Words.{is_call, calls, held, active, is_drop, seals, fits_principal, IsSound, CpuLegal, IsFitting, CopiesOrLoses, IsAllowed, total, one_if, traces_dropped_now}
-use Rattle.dspec_deeds.specs.Words.{loses_now, stops_now, busy_fails, other_fails, report, CountsWithin}
+use Rattle.dspec_deeds.specs.Words.{Shape, Speculation, Piece, one, block, extent, is_copied, scan, scanned, Offer, contents, offers, is_call, calls, held, active, is_drop, seals, fits_principal}
+use Rattle.dspec_deeds.specs.Words.{IsSound, CpuLegal, IsFitting, CopiesOrLoses, IsAllowed, total, one_if, traces_dropped_now, loses_now, stops_now, busy_fails, other_fails, report, CountsWithin}
+use Rattle.dspec_deeds.specs.declared.{config.Config.Config, deed.DecideFate.DecideFate, deed.Deed.Deed, deed.Deed.TheVariants.Trace, deed.Deed.TheVariants.Miss, deed.Deed.TheVariants.Commit}
+use Rattle.dspec_deeds.specs.declared.{deed.Deed.TheVariants.Settle, deed.Deed.TheVariants.Seal, deed.Deed.TheVariants.Release}
 use Rattle.dspec_deeds.specs.declared.deed.TraceFate.TheVariants as traced
 use Rattle.dspec_deeds.specs.declared.deed.DecideFate.TheVariants as decided
-use Rattle.dspec_deeds.proofs.DeedEffects.{Accounts, legal_accounts}
-use Rattle.dspec_deeds.proofs.Balance.{balance}
+use Rattle.dspec_deeds.proofs.{Balance.balance, DeedEffects.Accounts, DeedEffects.legal_accounts}
 
 -- 1 where a call of speculation is under way
 abbrev pending : ℕ → ℕ

@@ -1,8 +1,8 @@
 -- The laws at one small history: they ask for nothing that cannot be, and Seals come where they are to come.
 use Rattle.std.proofs.Common.{◌≡◌, ◌<◌, ℕ, zero, suc, true, List, [], ◌∷◌, Option, None, refl, subst, inl, inr, arith}
-use Rattle.dspec_record.specs.declared.field.Shape.{Shape}
-use Rattle.dspec_deeds.specs.Words.{Record, Speculation, Config, Switch, Cpu, Deed, Trace, Scan, Opened, Speculate, Discard, Seal, Release, part, scan, HasAuthors, IsSound, IsLegal, IsOwn, bare}
-use Rattle.dspec_deeds.specs.Words.{woven, HaveLists}
+use Rattle.dspec_deeds.specs.Words.{Shape, Record, Speculation, part, scan, HasAuthors, IsSound, IsLegal, IsOwn, bare, woven, HaveLists}
+use Rattle.dspec_deeds.specs.declared.{calls.Actor.TheVariants.Cpu, config.Config.Config, config.Policy.TheVariants.Switch, deed.Deed.Deed, deed.Deed.TheVariants.Trace, deed.Deed.TheVariants.Scan}
+use Rattle.dspec_deeds.specs.declared.{deed.Deed.TheVariants.Opened, deed.Deed.TheVariants.Speculate, deed.Deed.TheVariants.Discard, deed.Deed.TheVariants.Seal, deed.Deed.TheVariants.Release}
 use Rattle.dspec_deeds.specs.declared.deed.TraceFate.TheVariants as traced
 use Rattle.dspec_deeds.specs.declared.deed.SpeculateFate.TheVariants as spoken
 use Rattle.dspec_deeds.specs.declared.deed.DecideFate.TheVariants as decided

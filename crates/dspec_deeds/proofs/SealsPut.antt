@@ -1,7 +1,8 @@
 -- Seals of one CPU put on top of a list.
 use Rattle.std.proofs.Common.{◌≡◌, ℕ, zero, suc, ◌≤◌, ◌<◌, true, false, ◌==◌, if◌then◌else◌, List, [], ◌∷◌, ◌++◌, refl, sym, ap, ◌∙◌, subst, ⊎_elim, inl, arith}
 use Rattle.std.proofs.lemmas.Bool.Decides.{nat_tests}
-use Rattle.dspec_deeds.specs.Words.{Config, Actor, Cpu, Consumer, Deed, Seal, part, same_actor, HasAuthors, bare, front, MayStand, ArePlaced}
+use Rattle.dspec_deeds.specs.Words.{part, same_actor, HasAuthors, bare, front, MayStand, ArePlaced}
+use Rattle.dspec_deeds.specs.declared.{calls.Actor.Actor, calls.Actor.TheVariants.Cpu, calls.Actor.TheVariants.Consumer, config.Config.Config, deed.Deed.Deed, deed.Deed.TheVariants.Seal}
 use Rattle.dspec_deeds.proofs.TestLemmas.{either_way, same_number, other_number}
 
 -- all are Seals of the CPU

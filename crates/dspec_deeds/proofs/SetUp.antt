@@ -1,8 +1,8 @@
 -- What the ranges of a configuration give.
 use Rattle.std.proofs.Common.{◌≡◌, ℕ, ◌≤◌, Bool, true, false, not, Option, Some, None, if◌then◌else◌, refl, arith}
-use Rattle.std.specs.Prelude.{nat_le}
 use Rattle.std.proofs.lemmas.Bool.Decides.{nat_tests}
-use Rattle.dspec_deeds.specs.Words.{Config, StartFault, Cpus, is_between, start_fault}
+use Rattle.std.specs.Prelude.{nat_le}
+use Rattle.dspec_deeds.specs.{Words.is_between, Words.start_fault, declared.config.Config.Config, declared.config.StartFault.StartFault, declared.config.StartFault.TheVariants.Cpus}
 use Rattle.dspec_deeds.proofs.TestLemmas.{and_tells}
 
 passed : (b : Bool) (x : StartFault) (rest : Option StartFault) → (if not b then Some x else rest) ≡ None → (b ≡ true) × (rest ≡ None)

@@ -1,11 +1,9 @@
 -- A Release that is owed is its decider's own.
-use Rattle.std.proofs.Common.{arith}
+use Rattle.std.proofs.Common.{arith, ◌≡◌, ◌⊎◌, ℕ, true, false, ◌&&◌, if◌then◌else◌, List, [], ◌∷◌, refl, sym, ap, ◌∙◌, subst, ⊎_elim, inl, inr}
 use Rattle.std.proofs.lemmas.Bool.Decides.{nat_tests}
-use Rattle.std.proofs.Common.{◌≡◌, ◌⊎◌, ℕ, true, false, ◌&&◌, if◌then◌else◌, List, [], ◌∷◌, refl, sym, ap, ◌∙◌, subst, ⊎_elim, inl, inr}
-use Rattle.dspec_deeds.specs.Words.{Speculation, Config, Cpu, DecideFate, Deed, Discard, Release, is_discard, author, owed, callers, is_sole, IsSound, IsLastOf}
-use Rattle.dspec_deeds.proofs.TestLemmas.{either_way, and_tells, id_is_itself}
-use Rattle.dspec_deeds.proofs.SoundLists.{answered_open, discard_goes}
-use Rattle.dspec_deeds.proofs.PresentIds.{open_is_now, present_is}
+use Rattle.dspec_deeds.specs.Words.{Speculation, is_discard, author, owed, callers, is_sole, IsSound, IsLastOf}
+use Rattle.dspec_deeds.specs.declared.{calls.Actor.TheVariants.Cpu, config.Config.Config, deed.DecideFate.DecideFate, deed.Deed.Deed, deed.Deed.TheVariants.Discard, deed.Deed.TheVariants.Release}
+use Rattle.dspec_deeds.proofs.{PresentIds.open_is_now, PresentIds.present_is, SoundLists.answered_open, SoundLists.discard_goes, TestLemmas.either_way, TestLemmas.and_tells, TestLemmas.id_is_itself}
 
 -- the Release of a slot, by the CPU that did the deed before it
 abbrev pub IsOwnRelease : Deed → List Deed → Type 0

@@ -1,8 +1,10 @@
 -- What a legal list keeps.
 use Rattle.std.proofs.Common.{◌≡◌, ℕ, ◌≤◌, Bool, true, false, ◌&&◌, List, [], ◌∷◌, refl, sym, ◌∙◌, subst, ⊎_elim, arith, true≢false}
 use Rattle.std.proofs.lemmas.Bool.Decides.{nat_tests}
-use Rattle.dspec_deeds.specs.Words.{Speculation, Config, SpeculateFate, DecideFate, Deed, Scan, Opened, Miss, Speculate, Commit, Discard, spoken_granted, spoken_stopped, is_commit, is_discard}
-use Rattle.dspec_deeds.specs.Words.{decided_stopped, same_id, halted, issue, opens, opened, verdict, undecided, is_open, callers, scan, late, is_halt, StopsOrActs, IsSound}
+use Rattle.dspec_deeds.specs.Words.{Speculation, spoken_granted, spoken_stopped, is_commit, is_discard, decided_stopped, same_id, halted, issue, opens, opened, verdict, undecided, is_open, callers}
+use Rattle.dspec_deeds.specs.Words.{scan, late, is_halt, StopsOrActs, IsSound}
+use Rattle.dspec_deeds.specs.declared.{config.Config.Config, deed.DecideFate.DecideFate, deed.Deed.Deed, deed.Deed.TheVariants.Scan, deed.Deed.TheVariants.Opened, deed.Deed.TheVariants.Miss}
+use Rattle.dspec_deeds.specs.declared.{deed.Deed.TheVariants.Speculate, deed.Deed.TheVariants.Commit, deed.Deed.TheVariants.Discard, deed.SpeculateFate.SpeculateFate}
 use Rattle.dspec_deeds.proofs.TestLemmas.{or_none, or_tells, same_id_tells}
 
 -- a granted record was not stopped

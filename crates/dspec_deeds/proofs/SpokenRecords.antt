@@ -1,12 +1,11 @@
 -- The records in all of a CPU's speculative buffers, and those in one of them.
-use Rattle.std.proofs.lemmas.Bool.Decides.{nat_tests}
 use Rattle.std.proofs.Common.{◌≡◌, ℕ, ◌+◌, false, not, if◌then◌else◌, List, [], ◌∷◌, ◌++◌, length, refl, sym, ap, arith}
+use Rattle.std.proofs.lemmas.Bool.Decides.{nat_tests}
 use Rattle.std.specs.List.{filter}
-use Rattle.dspec_deeds.specs.Words.{Record, Speculation, Deed, same_id, Offer, empties, held, Spoken, speculative, Fate, taken, dropped, void, waiting, fates, is_waiting}
-use Rattle.dspec_deeds.specs.Fates.{discarded}
-use Rattle.dspec_deeds.proofs.DeedOffers.{waits_for, spoken_as, next_offer, Idle, Offers, Empties, Effect, idle, offering, emptying}
-use Rattle.dspec_deeds.proofs.DeedEffects.{Accounts}
-use Rattle.dspec_deeds.proofs.FateCounts.{fates_idle, fates_offered, left_waiting}
+use Rattle.dspec_deeds.specs.{Fates.discarded, Words.Record, Words.Speculation, Words.same_id, Words.Offer, Words.empties, Words.held, Words.Spoken, Words.speculative, Words.Fate, Words.taken}
+use Rattle.dspec_deeds.specs.{Words.dropped, Words.void, Words.waiting, Words.fates, Words.is_waiting, declared.deed.Deed.Deed}
+use Rattle.dspec_deeds.proofs.{DeedEffects.Accounts, DeedOffers.waits_for, DeedOffers.spoken_as, DeedOffers.next_offer, DeedOffers.Idle, DeedOffers.Offers, DeedOffers.Empties, DeedOffers.Effect}
+use Rattle.dspec_deeds.proofs.{DeedOffers.idle, DeedOffers.offering, DeedOffers.emptying, FateCounts.fates_idle, FateCounts.fates_offered, FateCounts.left_waiting}
 
 -- those kept into one speculation
 abbrev pub spoken_to : Speculation → List Spoken → List Offer

@@ -1,15 +1,12 @@
 -- A decided speculation stays as it is until the CPUs that it waits for have settled it.
+use Rattle.std.proofs.Common.{arith, ◌≡◌, ℕ, ◌<◌, Bool, true, false, ◌||◌, ◌&&◌, List, ◌∷◌, if◌then◌else◌, refl, sym, ap, ◌∙◌, subst, ⊎_elim}
 use Rattle.std.proofs.lemmas.Bool.Decides.{nat_tests}
-use Rattle.std.proofs.Common.{arith}
-use Rattle.std.proofs.Common.{◌≡◌, ℕ, ◌<◌, Bool, true, false, ◌||◌, ◌&&◌, List, ◌∷◌, if◌then◌else◌, refl, sym, ap, ◌∙◌, subst, ⊎_elim}
-use Rattle.dspec_deeds.specs.Words.{Speculation, Config, Cpu, Deed, same_id, halted, late, issue, releases, present, opens, opened, verdict, is_undecided, is_open, callers, standing, code_at}
-use Rattle.dspec_deeds.specs.Words.{same_actor, author, solo, solo_of, StopsOrActs, IsSound}
-use Rattle.dspec_word.specs.declared.code.Code.TheVariants.{Inactive}
+use Rattle.dspec_deeds.specs.Words.{Speculation, same_id, halted, late, issue, releases, present, opens, opened, verdict, is_undecided, is_open, callers, standing, code_at, same_actor, author, solo}
+use Rattle.dspec_deeds.specs.Words.{solo_of, StopsOrActs, IsSound, Inactive}
+use Rattle.dspec_deeds.specs.declared.{calls.Actor.TheVariants.Cpu, config.Config.Config, deed.Deed.Deed}
 pub use Rattle.dspec_deeds.specs.OthersDeeds.{WaitsFor, StandsAsBefore}
-use Rattle.dspec_deeds.proofs.TestLemmas.{either_way, off, or_true, and_tells, same_id_tells}
-use Rattle.dspec_deeds.proofs.SoundLists.{answered_open, granted_goes, commit_goes, discard_goes}
-use Rattle.dspec_deeds.proofs.PresentIds.{decided_shut}
-use Rattle.dspec_deeds.proofs.StayingOwn.{settled_other}
+use Rattle.dspec_deeds.proofs.{PresentIds.decided_shut, SoundLists.answered_open, SoundLists.granted_goes, SoundLists.commit_goes, SoundLists.discard_goes, StayingOwn.settled_other}
+use Rattle.dspec_deeds.proofs.{TestLemmas.either_way, TestLemmas.off, TestLemmas.or_true, TestLemmas.and_tells, TestLemmas.same_id_tells}
 
 -- what is done to a speculation is done to an open one
 not_done : (h : List Deed) (c : ℕ) (id j : Speculation) (stopped done : Bool) → (done ≡ true → stopped ≡ false) → is_open id h ≡ false

@@ -1,12 +1,8 @@
 -- A slot that is free keeps its word until it is given out.
-use Rattle.std.proofs.lemmas.Bool.Decides.{nat_tests}
-use Rattle.std.proofs.Common.{arith}
-use Rattle.std.proofs.Common.{◌≡◌, ◌⊎◌, ℕ, true, false, List, ◌∷◌}
-use Rattle.dspec_deeds.specs.Words.{Speculation, SlotState, is_inactive, Config, Cpu, Deed, releases, present, opens, opens_slot, opened, opened_since, word_at, same_actor, author, IsSound}
-use Rattle.dspec_deeds.proofs.TestLemmas.{or_true, same_number}
-use Rattle.dspec_deeds.proofs.SoundLists.{unseen}
-use Rattle.dspec_deeds.proofs.WordCodes.{code_inactive}
-use Rattle.dspec_deeds.proofs.StayingOwn.{is_scan_other}
+use Rattle.std.proofs.{Common.arith, Common.◌≡◌, Common.◌⊎◌, Common.ℕ, Common.true, Common.false, Common.List, Common.◌∷◌, lemmas.Bool.Decides.nat_tests}
+use Rattle.dspec_deeds.specs.Words.{Speculation, SlotState, is_inactive, releases, present, opens, opens_slot, opened, opened_since, word_at, same_actor, author, IsSound}
+use Rattle.dspec_deeds.specs.declared.{calls.Actor.TheVariants.Cpu, config.Config.Config, deed.Deed.Deed}
+use Rattle.dspec_deeds.proofs.{SoundLists.unseen, StayingOwn.is_scan_other, TestLemmas.or_true, TestLemmas.same_number, WordCodes.code_inactive}
 
 -- where the slot is not given out, none of its speculations is
 not_opened : (s : ℕ) (d : Deed) (j : Speculation) → j.slot ≡ s → opens_slot s d ≡ false → opens j d ≡ false

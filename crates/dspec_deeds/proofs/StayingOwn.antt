@@ -1,7 +1,8 @@
 -- What another's deed leaves of a CPU's own: its call of speculation, its buffers and its batches.
 use Rattle.std.proofs.Common.{◌≡◌, ℕ, ◌+◌, false, ◌||◌, List, [], ◌∷◌, refl, ap, arith}
-use Rattle.dspec_deeds.specs.Words.{Speculation, Config, Cpu, Deed, Scan, Settle, Seal, same_actor, author, scan, callers, is_among, settled, late, ack, is_scan, offers, calls, seals_now, seals}
-use Rattle.dspec_deeds.specs.Words.{accepts, accepted, active, is_drop, full, growing, batches, missed_busy}
+use Rattle.dspec_deeds.specs.Words.{Speculation, same_actor, author, scan, callers, is_among, settled, late, ack, is_scan, offers, calls, seals_now, seals, accepts, accepted, active, is_drop, full}
+use Rattle.dspec_deeds.specs.Words.{growing, batches, missed_busy}
+use Rattle.dspec_deeds.specs.declared.{calls.Actor.TheVariants.Cpu, config.Config.Config, deed.Deed.Deed, deed.Deed.TheVariants.Scan, deed.Deed.TheVariants.Settle, deed.Deed.TheVariants.Seal}
 
 -- nothing more
 add_zero : (n : ℕ) → n + 0 ≡ n

@@ -1,7 +1,8 @@
 -- What tests tell.
 use Rattle.std.proofs.Common.{◌≡◌, ◌≢◌, ◌⊎◌, ℕ, Bool, true, false, not, ◌&&◌, ◌||◌, ◌==◌, List, Some, refl, sym, ◌∙◌, subst, inl, inr, true≢false, arith}
 use Rattle.std.proofs.lemmas.Bool.Decides.{nat_tests}
-use Rattle.dspec_deeds.specs.Words.{Speculation, Actor, Cpu, Consumer, same_id, same_actor, is_among, joined}
+use Rattle.dspec_deeds.specs.Words.{Speculation, same_id, same_actor, is_among, joined}
+use Rattle.dspec_deeds.specs.declared.calls.Actor.{Actor, TheVariants.Cpu, TheVariants.Consumer}
 
 -- a test is true or false
 pub either_way : (b : Bool) → (b ≡ true) ⊎ (b ≡ false)

@@ -1,11 +1,11 @@
 -- A speculation is committed or discarded, and not both.
-use Rattle.std.proofs.Common.{arith}
+use Rattle.std.proofs.Common.{arith, ◌≡◌, true, false, ◌||◌, List, [], ◌∷◌, refl, sym, ap, ◌∙◌, ⊎_elim, true≢false}
 use Rattle.std.proofs.lemmas.Bool.Decides.{nat_tests}
-use Rattle.std.proofs.Common.{◌≡◌, true, false, ◌||◌, List, [], ◌∷◌, refl, sym, ap, ◌∙◌, ⊎_elim, true≢false}
-use Rattle.dspec_deeds.specs.Words.{Speculation, Config, DecideFate, Deed, Commit, Discard, is_commit, is_discard, decided_stopped, same_id, opened, Ruling, undecided, committed, discarded, verdict}
-use Rattle.dspec_deeds.specs.Words.{is_undecided, is_open, SettlesAs, Follows, IsSound, commits, discards, has_commit, has_discard}
-use Rattle.dspec_deeds.proofs.TestLemmas.{either_way, off, and_tells, or_tells, or_true, same_id_tells}
+use Rattle.dspec_deeds.specs.Words.{Speculation, is_commit, is_discard, decided_stopped, same_id, opened, Ruling, undecided, committed, discarded, verdict, is_undecided, is_open, SettlesAs, Follows}
+use Rattle.dspec_deeds.specs.Words.{IsSound, commits, discards, has_commit, has_discard}
+use Rattle.dspec_deeds.specs.declared.{config.Config.Config, deed.DecideFate.DecideFate, deed.Deed.Deed, deed.Deed.TheVariants.Commit, deed.Deed.TheVariants.Discard}
 use Rattle.dspec_deeds.proofs.SoundLists.{answered_open, commit_goes, discard_goes}
+use Rattle.dspec_deeds.proofs.TestLemmas.{either_way, off, and_tells, or_tells, or_true, same_id_tells}
 
 -- what a verdict says of the decisions in the list
 abbrev pub Told : Ruling → Speculation → List Deed → Type 0

@@ -1,13 +1,12 @@
 -- What the conditions on the next deed come to over a whole list.
 use Rattle.std.proofs.Common.{◌≡◌, ℕ, ◌+◌, ◌≤◌, ◌<◌, true, false, not, ◌&&◌, List, [], ◌∷◌, None, refl, sym, ap, ◌∙◌, subst, ⊎_elim, arith, true≢false}
-use Rattle.std.specs.Prelude.{nat_lt}
 use Rattle.std.proofs.lemmas.Bool.Decides.{nat_tests}
-use Rattle.dspec_deeds.specs.Words.{Speculation, Config, Deed, Opened, Settle, is_halt, halted, issue, opens, opened, solo, solo_of, settles, settled, late, IsSound, is_drop, growing, batches}
-use Rattle.dspec_deeds.specs.Words.{total, one_if, settlements, SettlesOnce, goes_on, late_calls, IsGivenBelow, drops_of}
-use Rattle.dspec_deeds.proofs.TestLemmas.{either_way, off, and_tells, or_none, or_tells, same_id_tells}
-use Rattle.dspec_deeds.proofs.PresentIds.{decided_shut}
-use Rattle.dspec_deeds.proofs.StayingDecided.{shut_stays}
-use Rattle.dspec_deeds.proofs.Acked.{settled_decided}
+use Rattle.std.specs.Prelude.{nat_lt}
+use Rattle.dspec_deeds.specs.Words.{Speculation, is_halt, halted, issue, opens, opened, solo, solo_of, settles, settled, late, IsSound, is_drop, growing, batches, total, one_if, settlements}
+use Rattle.dspec_deeds.specs.Words.{SettlesOnce, goes_on, late_calls, IsGivenBelow, drops_of}
+use Rattle.dspec_deeds.specs.declared.{config.Config.Config, deed.Deed.Deed, deed.Deed.TheVariants.Opened, deed.Deed.TheVariants.Settle}
+use Rattle.dspec_deeds.proofs.{Acked.settled_decided, PresentIds.decided_shut, StayingDecided.shut_stays, TestLemmas.either_way, TestLemmas.off, TestLemmas.and_tells, TestLemmas.or_none}
+use Rattle.dspec_deeds.proofs.{TestLemmas.or_tells, TestLemmas.same_id_tells}
 
 -- a CPU that has settled isn't one that settles now
 settles_new : (k : Config) (c : ℕ) (id : Speculation) (d : Deed) (h : List Deed) → IsSound k (d ∷ h) → settles c id d ≡ true → (settled c id h ≡ false) × (solo id h ≡ None)

@@ -1,13 +1,10 @@
 -- What the tables do at the word that the list shows: the exchanges of speculate, commit and discard.
 use Rattle.std.proofs.Common.{◌≡◌, ◌≢◌, ◌⊎◌, ℕ, Bool, true, false, ◌==◌, List, Some, if◌then◌else◌, arith}
 use Rattle.std.proofs.lemmas.Bool.Decides.{nat_tests}
-use Rattle.dspec_deeds.specs.Words.{Speculation, SlotState, released, speculate_at, commit_at, discard_at, Config, Deed, is_among, issue, present, undecided, committed, verdict, is_open, callers}
-use Rattle.dspec_deeds.specs.Words.{joined, standing, is_sole, code_at, word_at, IsSound}
-use Rattle.dspec_word.specs.declared.act.Act.TheVariants.{Void, Granted, Attempt}
-use Rattle.dspec_word.specs.declared.code.Code.{Code}
-use Rattle.dspec_word.specs.declared.code.Code.TheVariants.{Discarding}
-use Rattle.dspec_deeds.proofs.TestLemmas.{off, same_number}
-use Rattle.dspec_deeds.proofs.PresentIds.{open_is_present, present_is}
+use Rattle.dspec_deeds.specs.Words.{Speculation, SlotState, released, speculate_at, commit_at, discard_at, is_among, issue, present, undecided, committed, verdict, is_open, callers, joined}
+use Rattle.dspec_deeds.specs.Words.{standing, is_sole, code_at, word_at, IsSound, Void, Granted, Attempt, Code, Discarding}
+use Rattle.dspec_deeds.specs.declared.{config.Config.Config, deed.Deed.Deed}
+use Rattle.dspec_deeds.proofs.{PresentIds.open_is_present, PresentIds.present_is, TestLemmas.off, TestLemmas.same_number}
 
 -- what a table does at the word of the slot, in the two cases of the issue
 at_word : {A : Type 0} (id : Speculation) (h : List Deed) (table : Code → A) (void : A) (is : A)

@@ -1,14 +1,12 @@
 -- What each deed makes of the words and the acknowledgements that the list shows.
-use Rattle.std.proofs.lemmas.Bool.Decides.{nat_tests}
-use Rattle.std.proofs.Common.{◌≡◌, ◌≢◌, ℕ, true, false, List, ◌∷◌, Some, refl, arith}
-use Rattle.dspec_deeds.specs.Words.{Speculation, released, Config, SpeculateFate, DecideFate, Deed, Opened, Speculate, Commit, Discard, Release, Record, spoken_granted, spoken_stopped, is_commit}
-use Rattle.dspec_deeds.specs.Words.{is_discard, decided_stopped, issue, present, undecided, committed, is_open, callers, joined, standing, code_at, word_at, acks, ack, IsSound}
-use Rattle.dspec_word.specs.declared.code.Code.{Code}
-use Rattle.dspec_word.specs.declared.code.Code.TheVariants.{Active, Discarding}
+use Rattle.std.proofs.{Common.◌≡◌, Common.◌≢◌, Common.ℕ, Common.true, Common.false, Common.List, Common.◌∷◌, Common.Some, Common.refl, Common.arith, lemmas.Bool.Decides.nat_tests}
+use Rattle.dspec_deeds.specs.Words.{Speculation, released, Record, spoken_granted, spoken_stopped, is_commit, is_discard, decided_stopped, issue, present, undecided, committed, is_open, callers}
+use Rattle.dspec_deeds.specs.Words.{joined, standing, code_at, word_at, acks, ack, IsSound, Code, Active, Discarding}
+use Rattle.dspec_deeds.specs.declared.{config.Config.Config, deed.DecideFate.DecideFate, deed.Deed.Deed, deed.Deed.TheVariants.Opened, deed.Deed.TheVariants.Speculate, deed.Deed.TheVariants.Commit}
+use Rattle.dspec_deeds.specs.declared.{deed.Deed.TheVariants.Discard, deed.Deed.TheVariants.Release, deed.SpeculateFate.SpeculateFate}
 pub use Rattle.dspec_deeds.specs.WordSteps.{touches}
-use Rattle.dspec_deeds.proofs.TestLemmas.{not_false, number_is_itself, id_is_itself}
-use Rattle.dspec_deeds.proofs.SoundLists.{unseen, answered_open, granted_goes, commit_goes, discard_goes}
-use Rattle.dspec_deeds.proofs.PresentIds.{open_present, present_is, later_unopened}
+use Rattle.dspec_deeds.proofs.{PresentIds.open_present, PresentIds.present_is, PresentIds.later_unopened, SoundLists.unseen, SoundLists.answered_open, SoundLists.granted_goes}
+use Rattle.dspec_deeds.proofs.{SoundLists.commit_goes, SoundLists.discard_goes, TestLemmas.not_false, TestLemmas.number_is_itself, TestLemmas.id_is_itself}
 
 -- a deed that does not touch the slot leaves its word
 pub untouched : (t : ℕ) (d : Deed) (h : List Deed) → touches t d ≡ false → word_at t (d ∷ h) ≡ word_at t h

@@ -1,14 +1,11 @@
 -- What the code of the word that the list shows tells.
+use Rattle.std.proofs.Common.{arith, ◌≡◌, ℕ, Bool, true, false, not, ◌&&◌, List, [], ◌∷◌, Some, None, if◌then◌else◌, refl, ap}
 use Rattle.std.proofs.lemmas.Bool.Decides.{nat_tests}
-use Rattle.std.proofs.Common.{arith}
-use Rattle.std.proofs.Common.{◌≡◌, ℕ, Bool, true, false, not, ◌&&◌, List, [], ◌∷◌, Some, None, if◌then◌else◌, refl, ap}
 use Rattle.std.specs.Prelude.{nat_lt}
-use Rattle.dspec_deeds.specs.Words.{SlotState, is_inactive, is_decided, awaits, open_at, Config, Deed, issue, present, opened, Ruling, undecided, committed, discarded, verdict, is_undecided}
-use Rattle.dspec_deeds.specs.Words.{callers, standing, word_at, solo, is_free, is_busy, IsSound}
-use Rattle.dspec_word.specs.declared.act.Act.TheVariants.{Void, Attempt}
-use Rattle.dspec_word.specs.declared.code.Code.TheVariants.{Inactive, Active, Committing}
-use Rattle.dspec_deeds.proofs.SoundLists.{unseen}
-use Rattle.dspec_deeds.proofs.PresentIds.{decided_given}
+use Rattle.dspec_deeds.specs.Words.{SlotState, is_inactive, is_decided, awaits, open_at, issue, present, opened, Ruling, undecided, committed, discarded, verdict, is_undecided, callers, standing}
+use Rattle.dspec_deeds.specs.Words.{word_at, solo, is_free, is_busy, IsSound, Void, Attempt, Inactive, Active, Committing}
+use Rattle.dspec_deeds.specs.declared.{config.Config.Config, deed.Deed.Deed}
+use Rattle.dspec_deeds.proofs.{PresentIds.decided_given, SoundLists.unseen}
 
 -- a code of the list's is inactive where the speculation was not given out
 inactive_is : (o : Bool) (v : Ruling) (cs : List ℕ) → is_inactive (if o then standing v cs else Inactive) ≡ not o

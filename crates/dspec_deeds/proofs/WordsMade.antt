@@ -1,12 +1,9 @@
 -- Each deed changes one word at most, to a word that it tells.
-use Rattle.std.proofs.lemmas.Bool.Decides.{nat_tests}
-use Rattle.std.proofs.Common.{arith}
-use Rattle.std.proofs.Common.{◌≡◌, ℕ, true, List, ◌∷◌}
-use Rattle.dspec_word.specs.declared.code.Code.{Code}
-use Rattle.dspec_deeds.specs.Words.{SlotState, Config, Deed, word_at, ack, IsSound, touches, word_made, word_after, ack_after}
-use Rattle.dspec_deeds.proofs.TestLemmas.{and_tells, same_number}
-use Rattle.dspec_deeds.proofs.PresentIds.{open_present}
-use Rattle.dspec_deeds.proofs.WordChanges.{untouched, granted_open, commit_open, discard_open, opened_word, granted_word, committed_word, discarded_word, released_word}
+use Rattle.std.proofs.{Common.arith, Common.◌≡◌, Common.ℕ, Common.true, Common.List, Common.◌∷◌, lemmas.Bool.Decides.nat_tests}
+use Rattle.dspec_deeds.specs.Words.{Code, SlotState, word_at, ack, IsSound, touches, word_made, word_after, ack_after}
+use Rattle.dspec_deeds.specs.declared.{config.Config.Config, deed.Deed.Deed}
+use Rattle.dspec_deeds.proofs.{PresentIds.open_present, TestLemmas.and_tells, TestLemmas.same_number, WordChanges.untouched, WordChanges.granted_open, WordChanges.commit_open}
+use Rattle.dspec_deeds.proofs.{WordChanges.discard_open, WordChanges.opened_word, WordChanges.granted_word, WordChanges.committed_word, WordChanges.discarded_word, WordChanges.released_word}
 
 -- the same word by the identifier's own issue
 issued : {m n : ℕ} (c : Code) → m ≡ n → ◌≡◌ {A = SlotState} record { issue = m; code = c } record { issue = n; code = c }

@@ -1,11 +1,10 @@
 -- The words that the list shows never fall.
-use Rattle.std.proofs.lemmas.Bool.Decides.{nat_tests}
-use Rattle.std.proofs.Common.{◌≡◌, ℕ, ◌≤◌, List, ◌∷◌, Some, refl, ap, ◌∙◌, arith}
-use Rattle.dspec_deeds.specs.Words.{Speculation, word_number, code_number, Config, Deed, issue, present, committed, callers, joined, standing, active_code, code_at, word_at, IsSound}
-use Rattle.dspec_word.specs.declared.code.Code.{Code}
+use Rattle.std.proofs.{Common.◌≡◌, Common.ℕ, Common.◌≤◌, Common.List, Common.◌∷◌, Common.Some, Common.refl, Common.ap, Common.◌∙◌, Common.arith, lemmas.Bool.Decides.nat_tests}
+use Rattle.dspec_deeds.specs.Words.{Speculation, word_number, code_number, issue, present, committed, callers, joined, standing, active_code, code_at, word_at, IsSound, Code}
+use Rattle.dspec_deeds.specs.declared.{config.Config.Config, deed.Deed.Deed}
 use Rattle.dspec_word.proofs.Numbers.{code_below}
-use Rattle.dspec_deeds.proofs.TestLemmas.{and_tells, not_false, same_number}
 use Rattle.dspec_deeds.proofs.PresentIds.{IsPresent, open_present}
+use Rattle.dspec_deeds.proofs.TestLemmas.{and_tells, not_false, same_number}
 use Rattle.dspec_deeds.proofs.WordChanges.{touches, untouched, granted_open, commit_open, discard_open, opened_word, granted_word, committed_word, discarded_word, released_word}
 
 -- the greatest code of an open speculation

@@ -1,13 +1,11 @@
 -- A list woven of the CPUs' own lists.
 use Rattle.std.proofs.Common.{◌≡◌, ℕ, ◌<◌, true, false, ◌==◌, if◌then◌else◌, List, [], ◌∷◌, ◌++◌, Option, refl, sym, ap, ◌∙◌, subst, ⊎_elim, inr, arith, true≢false}
-use Rattle.dspec_record.specs.declared.field.Shape.{Shape}
-use Rattle.dspec_deeds.specs.Words.{Config, Actor, Cpu, Consumer, Deed, Seal, owed, author, part, same_actor, HasAuthors, IsSound, is_seal, is_of, IsOwn, ReadsAlike, bare, IsPlaced, ArePlaced, lead}
-use Rattle.dspec_deeds.specs.Words.{behind, taken_off, seals_behind, woven, HaveLists, ShowsAlike, IsWoven}
-use Rattle.dspec_deeds.proofs.TestLemmas.{either_way, same_number, number_is_itself, cpu_is_itself}
-use Rattle.dspec_deeds.proofs.OwnReads.{reads}
-use Rattle.dspec_deeds.proofs.BareReads.{author_bare, shows_bare}
-use Rattle.dspec_deeds.proofs.SealsPut.{AreSeals, placed_on, bare_on, own_on, other_on, authors_on, front_bare, front_consumer, front_own, front_authors, front_placed}
-use Rattle.dspec_deeds.proofs.PlacedSeals.{placed_legal}
+use Rattle.dspec_deeds.specs.Words.{Shape, owed, author, part, same_actor, HasAuthors, IsSound, is_seal, is_of, IsOwn, ReadsAlike, bare, IsPlaced, ArePlaced, lead, behind, taken_off, seals_behind}
+use Rattle.dspec_deeds.specs.Words.{woven, HaveLists, ShowsAlike, IsWoven}
+use Rattle.dspec_deeds.specs.declared.{calls.Actor.Actor, calls.Actor.TheVariants.Cpu, calls.Actor.TheVariants.Consumer, config.Config.Config, deed.Deed.Deed, deed.Deed.TheVariants.Seal}
+use Rattle.dspec_deeds.proofs.{BareReads.author_bare, BareReads.shows_bare, OwnReads.reads, PlacedSeals.placed_legal, SealsPut.AreSeals, SealsPut.placed_on, SealsPut.bare_on, SealsPut.own_on}
+use Rattle.dspec_deeds.proofs.{SealsPut.other_on, SealsPut.authors_on, SealsPut.front_bare, SealsPut.front_consumer, SealsPut.front_own, SealsPut.front_authors, SealsPut.front_placed}
+use Rattle.dspec_deeds.proofs.{TestLemmas.either_way, TestLemmas.same_number, TestLemmas.number_is_itself, TestLemmas.cpu_is_itself}
 
 -- a bare list has no Seal
 no_seal : (q r : List Deed) (d : Deed) → bare q ≡ d ∷ r → is_seal d ≡ false

@@ -1,20 +1,9 @@
 -- Cited by calls. What a closed session leaves.
 use Prim.Native.Nat.{zero, suc}
 use Rattle.std.specs.Prelude.{ℕ, ◌≡◌, ◌<◌, List, [], ◌∷◌, ◌++◌, map, Bool, true, false, if◌then◌else◌, Option, Some}
-use Rattle.dspec_record.specs.declared.field.Shape.{Shape}
-use Rattle.dspec_deeds.specs.Words.Outside.{Record, Speculation, settle_at}
-use Rattle.dspec_word.specs.declared.act.Act.{Act}
-use Rattle.dspec_word.specs.declared.act.Act.TheVariants.{Granted}
-use Rattle.dspec_deeds.specs.declared.config.Config.{Config}
-use Rattle.dspec_deeds.specs.declared.deed.Deed.{Deed}
-use Rattle.dspec_deeds.specs.declared.deed.Deed.TheVariants.{Settle}
-use Rattle.dspec_deeds.specs.declared.report.Report.{Report}
-use Rattle.dspec_deeds.specs.Fates.{waiting, fate}
-use Rattle.dspec_deeds.specs.History.{verdict, is_undecided, scan, owed, present, word_at, ack}
-use Rattle.dspec_deeds.specs.Legal.{IsAllowed}
-use Rattle.dspec_deeds.specs.Own.{stream}
-use Rattle.dspec_deeds.specs.Reports.{report}
-use Rattle.dspec_deeds.specs.Settling.{settle_fate}
+use Rattle.dspec_deeds.specs.{Fates.waiting, Fates.fate, History.verdict, History.is_undecided, History.scan, History.owed, History.present, History.word_at, History.ack, Legal.IsAllowed}
+use Rattle.dspec_deeds.specs.{Own.stream, Reports.report, Settling.settle_fate, Words.Outside.Shape, Words.Outside.Record, Words.Outside.Speculation, Words.Outside.settle_at, Words.Outside.Act}
+use Rattle.dspec_deeds.specs.{Words.Outside.Granted, declared.config.Config.Config, declared.deed.Deed.Deed, declared.deed.Deed.TheVariants.Settle, declared.report.Report.Report}
 
 -- a session can close: its list is legal, no call of speculation is under way, and no release is owed
 pub record CanClose (shape : ℕ → Option Shape) (k : Config) (h : List Deed) : Type 0 where

@@ -1,13 +1,10 @@
 -- Serves proofs. What the common part sees of deeds: all but whether a record or a block found room, and how many records there were.
 use Rattle.std.specs.Prelude.{◌≡◌, List, [], ◌∷◌}
-use Rattle.dspec_deeds.specs.declared.deed.TraceFate.{TraceFate}
+use Rattle.dspec_deeds.specs.declared.deed.{DecideFate.DecideFate, Deed.Deed, Deed.TheVariants.Trace, Deed.TheVariants.Speculate, Deed.TheVariants.Commit, Deed.TheVariants.Discard}
+use Rattle.dspec_deeds.specs.declared.deed.{Deed.TheVariants.Settle, SpeculateFate.SpeculateFate, TraceFate.TraceFate}
 use Rattle.dspec_deeds.specs.declared.deed.TraceFate.TheVariants as traced
-use Rattle.dspec_deeds.specs.declared.deed.SpeculateFate.{SpeculateFate}
 use Rattle.dspec_deeds.specs.declared.deed.SpeculateFate.TheVariants as spoken
-use Rattle.dspec_deeds.specs.declared.deed.DecideFate.{DecideFate}
 use Rattle.dspec_deeds.specs.declared.deed.DecideFate.TheVariants as decided
-use Rattle.dspec_deeds.specs.declared.deed.Deed.{Deed}
-use Rattle.dspec_deeds.specs.declared.deed.Deed.TheVariants.{Trace, Speculate, Commit, Discard, Settle}
 
 -- each fate as if all found room, and nothing was counted
 abbrev pub common_traced : TraceFate → TraceFate

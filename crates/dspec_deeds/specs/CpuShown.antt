@@ -1,12 +1,8 @@
 -- Cited by calls. What a CPU's side shows, read off the CPU's own deeds alone.
 use Rattle.std.specs.Prelude.{ℕ, ◌≡◌, ◌≤◌, ◌<◌, ◌+◌, ◌-◌, ◌==◌, Bool, false, List, [], length, map, slice_get, Some}
-use Rattle.dspec_deeds.specs.Words.Outside.{Record, Piece, one, Speculation}
-use Rattle.dspec_deeds.specs.declared.config.Config.{Config}
-use Rattle.dspec_deeds.specs.declared.deed.Deed.{Deed}
-use Rattle.dspec_deeds.specs.History.{is_among, callers, issue, present, ack}
-use Rattle.dspec_deeds.specs.Own.{Sealing, active, batches, calls, contents, dropped_in, growing, held, seals, stream}
-use Rattle.dspec_deeds.specs.Reports.{missed_busy}
-use Rattle.dspec_deeds.specs.Marks.{mark}
+use Rattle.dspec_deeds.specs.{History.is_among, History.callers, History.issue, History.present, History.ack, Marks.mark, Own.Sealing, Own.active, Own.batches, Own.calls, Own.contents}
+use Rattle.dspec_deeds.specs.{Own.dropped_in, Own.growing, Own.held, Own.seals, Own.stream, Reports.missed_busy, Words.Outside.Record, Words.Outside.Piece, Words.Outside.one}
+use Rattle.dspec_deeds.specs.{Words.Outside.Speculation, declared.config.Config.Config, declared.deed.Deed.Deed}
 
 -- the last speculation of the slot that has the CPU as a caller; where none has, one in which the CPU holds nothing
 abbrev pub last_called : ℕ → ℕ → List Deed → Speculation

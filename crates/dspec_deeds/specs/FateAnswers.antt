@@ -1,13 +1,10 @@
 -- Cited by calls. What a fate is answered as, and which identifier an answer gives.
 use Rattle.dspec_deeds.specs.Words.Outside.{Speculation, no_speculation}
-use Rattle.dspec_deeds.specs.declared.calls.Answer.{Answer}
+use Rattle.dspec_deeds.specs.declared.calls.{Answer.Answer, Decided.Decided, Opening.Opening}
+use Rattle.dspec_deeds.specs.declared.deed.DecideFate.{DecideFate, TheVariants.Copied, TheVariants.Lost, TheVariants.Thrown, TheVariants.Void, TheVariants.Stopped}
 use Rattle.dspec_deeds.specs.declared.calls.Answer.TheVariants as any_answer
-use Rattle.dspec_deeds.specs.declared.calls.Decided.{Decided}
 use Rattle.dspec_deeds.specs.declared.calls.Decided.TheVariants as answer
-use Rattle.dspec_deeds.specs.declared.calls.Opening.{Opening}
 use Rattle.dspec_deeds.specs.declared.calls.Opening.TheVariants as opening
-use Rattle.dspec_deeds.specs.declared.deed.DecideFate.{DecideFate}
-use Rattle.dspec_deeds.specs.declared.deed.DecideFate.TheVariants.{Copied, Lost, Thrown, Void, Stopped}
 
 abbrev pub answer_of_fate : DecideFate → Decided
 answer_of_fate (Copied n) = answer.Copied n

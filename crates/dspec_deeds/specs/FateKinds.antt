@@ -1,10 +1,8 @@
 -- Believed. Which kind a fate is of, and how many records a decision was about.
 use Rattle.std.specs.Prelude.{ℕ, Bool, true, false}
-use Rattle.dspec_deeds.specs.declared.deed.TraceFate.{TraceFate}
+use Rattle.dspec_deeds.specs.declared.deed.{DecideFate.DecideFate, SpeculateFate.SpeculateFate, TraceFate.TraceFate}
 use Rattle.dspec_deeds.specs.declared.deed.TraceFate.TheVariants as traced
-use Rattle.dspec_deeds.specs.declared.deed.SpeculateFate.{SpeculateFate}
 use Rattle.dspec_deeds.specs.declared.deed.SpeculateFate.TheVariants as spoken
-use Rattle.dspec_deeds.specs.declared.deed.DecideFate.{DecideFate}
 use Rattle.dspec_deeds.specs.declared.deed.DecideFate.TheVariants as decided
 
 abbrev pub trace_stopped : TraceFate → Bool

@@ -1,15 +1,12 @@
 -- Cited by calls. What becomes of each offered record.
 use Prim.Native.Nat.{zero, suc}
-use Rattle.std.specs.Prelude.{ℕ, ◌+◌, ◌==◌, Bool, true, false, ◌&&◌, ◌||◌, is_some, List, [], ◌∷◌, if◌then◌else◌, Option, Some, None}
 use Rattle.std.specs.Option.{option_map}
-use Rattle.dspec_deeds.specs.Words.Outside.{Record, Speculation}
-use Rattle.dspec_deeds.specs.declared.deed.DecideFate.{DecideFate}
+use Rattle.std.specs.Prelude.{ℕ, ◌+◌, ◌==◌, Bool, true, false, ◌&&◌, ◌||◌, is_some, List, [], ◌∷◌, if◌then◌else◌, Option, Some, None}
+use Rattle.dspec_deeds.specs.{FateKinds.trace_kept, FateKinds.trace_dropped, FateKinds.spoken_kept, FateKinds.spoken_dropped, FateKinds.is_commit, FateKinds.is_discard, History.same_id, Own.Offer}
+use Rattle.dspec_deeds.specs.{Own.offered_by, Own.offers, Own.empties, Words.Outside.Record, Words.Outside.Speculation, declared.deed.DecideFate.DecideFate, declared.deed.Deed.Deed}
+use Rattle.dspec_deeds.specs.{declared.deed.Deed.TheVariants.Trace, declared.deed.Deed.TheVariants.Speculate, declared.deed.Deed.TheVariants.Commit, declared.deed.Deed.TheVariants.Discard}
+use Rattle.dspec_deeds.specs.{declared.deed.Deed.TheVariants.Settle}
 use Rattle.dspec_deeds.specs.declared.deed.DecideFate.TheVariants as decided
-use Rattle.dspec_deeds.specs.declared.deed.Deed.{Deed}
-use Rattle.dspec_deeds.specs.declared.deed.Deed.TheVariants.{Trace, Speculate, Commit, Discard, Settle}
-use Rattle.dspec_deeds.specs.FateKinds.{trace_kept, trace_dropped, spoken_kept, spoken_dropped, is_commit, is_discard}
-use Rattle.dspec_deeds.specs.History.{same_id}
-use Rattle.dspec_deeds.specs.Own.{Offer, offered_by, offers, empties}
 
 -- a record that waits for the decision of a speculation is abandoned if the session closes before it
 pub data Fate : Type 0 where

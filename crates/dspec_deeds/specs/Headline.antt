@@ -1,12 +1,9 @@
 -- Cited by calls. The headline: three laws of every legal list of deeds.
-use Rattle.std.specs.Prelude.{ℕ, ◌≡◌, ◌+◌, ◌≤◌, ◌<◌, ◌++◌, true, IsSome, List, if◌then◌else◌, Some}
 use Rattle.std.specs.List.{AllByRecursion}
-use Rattle.dspec_deeds.specs.Words.Outside.{Record, Speculation}
-use Rattle.dspec_deeds.specs.declared.config.Config.{Config}
-use Rattle.dspec_deeds.specs.declared.deed.Deed.{Deed}
-use Rattle.dspec_deeds.specs.Own.{offers, accepted, stream, taken}
-use Rattle.dspec_deeds.specs.Reports.{report, records_of_report}
-use Rattle.dspec_deeds.specs.Fates.{is_taken, is_dropped, is_discarded, is_void, is_waiting, has_fate, fate, fates, content_of, destination, times, has_commit, has_discard}
+use Rattle.std.specs.Prelude.{ℕ, ◌≡◌, ◌+◌, ◌≤◌, ◌<◌, ◌++◌, true, IsSome, List, if◌then◌else◌, Some}
+use Rattle.dspec_deeds.specs.{Fates.is_taken, Fates.is_dropped, Fates.is_discarded, Fates.is_void, Fates.is_waiting, Fates.has_fate, Fates.fate, Fates.fates, Fates.content_of, Fates.destination}
+use Rattle.dspec_deeds.specs.{Fates.times, Fates.has_commit, Fates.has_discard, Own.offers, Own.accepted, Own.stream, Own.taken, Reports.report, Reports.records_of_report, Words.Outside.Record}
+use Rattle.dspec_deeds.specs.{Words.Outside.Speculation, declared.config.Config.Config, declared.deed.Deed.Deed}
 
 abbrev pub IsPrefix : List Record → List Record → Type 0
 IsPrefix xs ys = (rest : List Record) × (ys ≡ xs ++ rest)

@@ -1,14 +1,10 @@
 -- Believed. What is read off the list of deeds of all CPUs and the consumer. The latest deed is at the head.
 use Rattle.std.specs.Prelude.{ℕ, suc, ◌==◌, Bool, true, false, not, ◌&&◌, ◌||◌, nat_lt, nat_le, List, [], ◌∷◌, ◌+◌, if◌then◌else◌, Option, Some, None}
-use Rattle.dspec_word.specs.declared.code.Code.{Code}
-use Rattle.dspec_word.specs.declared.code.Code.TheVariants.{Inactive, Active, ActiveOne, ActiveMany, Committing, CommittingMany, Discarding}
-use Rattle.dspec_deeds.specs.Words.Outside.{Speculation, SlotState}
-use Rattle.dspec_deeds.specs.declared.config.Config.{Config}
-use Rattle.dspec_deeds.specs.declared.calls.Actor.{Actor}
-use Rattle.dspec_deeds.specs.declared.calls.Actor.TheVariants.{Cpu, Consumer}
-use Rattle.dspec_deeds.specs.declared.deed.Deed.{Deed}
-use Rattle.dspec_deeds.specs.declared.deed.Deed.TheVariants.{Trace, Scan, Opened, Miss, Speculate, Commit, Discard, Settle, Seal, Release, Halt}
 use Rattle.dspec_deeds.specs.FateKinds.{spoken_granted, is_commit, is_discard}
+use Rattle.dspec_deeds.specs.Words.Outside.{Code, Inactive, Active, ActiveOne, ActiveMany, Committing, CommittingMany, Discarding, Speculation, SlotState}
+use Rattle.dspec_deeds.specs.declared.{calls.Actor.Actor, calls.Actor.TheVariants.Cpu, calls.Actor.TheVariants.Consumer, config.Config.Config, deed.Deed.Deed, deed.Deed.TheVariants.Trace}
+use Rattle.dspec_deeds.specs.declared.{deed.Deed.TheVariants.Scan, deed.Deed.TheVariants.Opened, deed.Deed.TheVariants.Miss, deed.Deed.TheVariants.Speculate, deed.Deed.TheVariants.Commit}
+use Rattle.dspec_deeds.specs.declared.{deed.Deed.TheVariants.Discard, deed.Deed.TheVariants.Settle, deed.Deed.TheVariants.Seal, deed.Deed.TheVariants.Release, deed.Deed.TheVariants.Halt}
 
 abbrev pub same_id : Speculation → Speculation → Bool
 same_id a b = (a.issue == b.issue) && (a.slot == b.slot)

@@ -1,17 +1,14 @@
 -- Believed. Which deed may come next.
 use Rattle.std.specs.Prelude.{ℕ, ◌≡◌, ◌≢◌, ◌<◌, ◌≤◌, ◌⊎◌, ◌&&◌, ◌||◌, nat_lt, Bool, true, false, not, List, [], ◌∷◌, length, MatchBool, Option, None}
-use Rattle.dspec_record.specs.declared.field.Shape.{Shape}
-use Rattle.dspec_deeds.specs.Words.Outside.{Record, Piece, one, block, piece_fits, Speculation}
-use Rattle.dspec_deeds.specs.declared.config.Config.{Config}
-use Rattle.dspec_deeds.specs.declared.calls.Actor.TheVariants.{Cpu}
-use Rattle.dspec_deeds.specs.declared.deed.DecideFate.{DecideFate}
-use Rattle.dspec_deeds.specs.declared.deed.Deed.{Deed}
-use Rattle.dspec_deeds.specs.declared.deed.Deed.TheVariants.{Trace, Scan, Opened, Miss, Speculate, Commit, Discard, Settle, Seal, Release, Halt}
-use Rattle.dspec_deeds.specs.Ranges.{is_fill}
 use Rattle.dspec_deeds.specs.FateKinds.{trace_stopped, trace_kept, spoken_stopped, spoken_granted, spoken_kept, decided_stopped, is_commit, is_discard, is_copied, count_of}
-use Rattle.dspec_deeds.specs.History.{halted, issue, Ruling, undecided, committed, discarded, opened, callers, releaser, solo_of}
-use Rattle.dspec_deeds.specs.History.{verdict, is_undecided, settled, scan, opened_since, author, part, late, owed}
+use Rattle.dspec_deeds.specs.History.{halted, issue, Ruling, undecided, committed, discarded, opened, callers, releaser, solo_of, verdict, is_undecided, settled, scan, opened_since, author, part}
+use Rattle.dspec_deeds.specs.History.{late, owed}
 use Rattle.dspec_deeds.specs.Own.{Offer, contents, held, active, full, seals}
+use Rattle.dspec_deeds.specs.Ranges.{is_fill}
+use Rattle.dspec_deeds.specs.Words.Outside.{Shape, Record, Piece, one, block, piece_fits, Speculation}
+use Rattle.dspec_deeds.specs.declared.{calls.Actor.TheVariants.Cpu, config.Config.Config, deed.DecideFate.DecideFate, deed.Deed.Deed, deed.Deed.TheVariants.Trace, deed.Deed.TheVariants.Scan}
+use Rattle.dspec_deeds.specs.declared.{deed.Deed.TheVariants.Opened, deed.Deed.TheVariants.Miss, deed.Deed.TheVariants.Speculate, deed.Deed.TheVariants.Commit, deed.Deed.TheVariants.Discard}
+use Rattle.dspec_deeds.specs.declared.{deed.Deed.TheVariants.Settle, deed.Deed.TheVariants.Seal, deed.Deed.TheVariants.Release, deed.Deed.TheVariants.Halt}
 
 -- The common part: what rests on others' deeds.
 

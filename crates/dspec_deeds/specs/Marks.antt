@@ -1,8 +1,6 @@
 -- Cited by calls. Which speculation of a slot was granted to a CPU last.
 use Rattle.std.specs.Prelude.{ℕ, ◌+◌, ◌==◌, ◌&&◌, List, [], ◌∷◌, if◌then◌else◌}
-use Rattle.dspec_deeds.specs.declared.deed.Deed.{Deed}
-use Rattle.dspec_deeds.specs.declared.deed.Deed.TheVariants.{Speculate}
-use Rattle.dspec_deeds.specs.FateKinds.{spoken_granted}
+use Rattle.dspec_deeds.specs.{FateKinds.spoken_granted, declared.deed.Deed.Deed, declared.deed.Deed.TheVariants.Speculate}
 
 -- one more than the issue of the slot that was granted to the CPU last, or 0
 abbrev pub mark_after : ℕ → ℕ → Deed → ℕ → ℕ

@@ -1,10 +1,7 @@
 -- Serves proofs. What a deed of another actor leaves a CPU: all that its own deeds tell, the word of a free slot, what waits for it.
 use Rattle.std.specs.Prelude.{ℕ, ◌≡◌, ◌⊎◌, true, false, List, ◌∷◌, Some, None}
-use Rattle.dspec_deeds.specs.Words.Outside.{is_inactive, SlotState}
-use Rattle.dspec_deeds.specs.declared.config.Config.{Config}
-use Rattle.dspec_deeds.specs.declared.deed.Deed.{Deed}
-use Rattle.dspec_deeds.specs.History.{issue, present, opened, opened_since, verdict, is_undecided, callers, solo, settled, late, word_at}
-use Rattle.dspec_deeds.specs.Owning.{ReadsAlike}
+use Rattle.dspec_deeds.specs.{History.issue, History.present, History.opened, History.opened_since, History.verdict, History.is_undecided, History.callers, History.solo, History.settled}
+use Rattle.dspec_deeds.specs.{History.late, History.word_at, Owning.ReadsAlike, Words.Outside.is_inactive, Words.Outside.SlotState, declared.config.Config.Config, declared.deed.Deed.Deed}
 
 -- the present speculation of the slot is decided, and is not released without the CPU
 pub record WaitsFor (k : Config) (c s : ℕ) (h : List Deed) : Type 0 where

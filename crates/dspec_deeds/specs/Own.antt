@@ -1,10 +1,9 @@
 -- Believed. What is read off a CPU's own deeds: its offers, its buffers and its batches. The latest is at the head.
 use Rattle.std.specs.Prelude.{ℕ, ◌+◌, ◌==◌, Bool, false, ◌&&◌, ◌||◌, List, [], ◌∷◌, ◌++◌, reverse, take, if◌then◌else◌, Option, Some, None}
-use Rattle.dspec_deeds.specs.Words.Outside.{Record, Piece, one, block, Speculation}
-use Rattle.dspec_deeds.specs.declared.deed.Deed.{Deed}
-use Rattle.dspec_deeds.specs.declared.deed.Deed.TheVariants.{Trace, Scan, Speculate, Commit, Discard, Settle, Seal}
 use Rattle.dspec_deeds.specs.FateKinds.{trace_kept, trace_dropped, spoken_granted, spoken_kept, spoken_dropped, is_commit, is_discard, is_copied, is_lost}
 use Rattle.dspec_deeds.specs.History.{same_id}
+use Rattle.dspec_deeds.specs.Words.Outside.{Record, Piece, one, block, Speculation}
+use Rattle.dspec_deeds.specs.declared.deed.Deed.{Deed, TheVariants.Trace, TheVariants.Scan, TheVariants.Speculate, TheVariants.Commit, TheVariants.Discard, TheVariants.Settle, TheVariants.Seal}
 
 -- an offered record; the CPU's number of it, counted from 0, tells equal records apart
 pub record Offer : Type 0 where

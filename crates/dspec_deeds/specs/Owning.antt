@@ -1,15 +1,11 @@
 -- Cited by calls. The own part of what makes a list legal, stated over one CPU's list alone. The latest deed is at the head.
 use Rattle.std.specs.Prelude.{ℕ, ◌≡◌, ◌==◌, Bool, true, false, List, [], ◌∷◌, Option}
-use Rattle.dspec_record.specs.declared.field.Shape.{Shape}
-use Rattle.dspec_deeds.specs.Words.Outside.{Speculation}
-use Rattle.dspec_deeds.specs.declared.config.Config.{Config}
-use Rattle.dspec_deeds.specs.declared.deed.Deed.{Deed}
-use Rattle.dspec_deeds.specs.declared.deed.Deed.TheVariants.{Trace, Scan, Opened, Miss, Speculate, Commit, Discard, Settle, Seal, Release, Halt}
-use Rattle.dspec_deeds.specs.History.{is_among, callers, settled, ack, scan}
-use Rattle.dspec_deeds.specs.Own.{offers, held, dropped_in, accepted, active, full, growing, batches, seals, calls}
-use Rattle.dspec_deeds.specs.Marks.{mark}
-use Rattle.dspec_deeds.specs.Reports.{missed_busy, speculative, report}
-use Rattle.dspec_deeds.specs.Legal.{CpuLegal, sealed_last}
+use Rattle.dspec_deeds.specs.{History.is_among, History.callers, History.settled, History.ack, History.scan, Legal.CpuLegal, Legal.sealed_last, Marks.mark, Own.offers, Own.held, Own.dropped_in}
+use Rattle.dspec_deeds.specs.{Own.accepted, Own.active, Own.full, Own.growing, Own.batches, Own.seals, Own.calls, Reports.missed_busy, Reports.speculative, Reports.report, Words.Outside.Shape}
+use Rattle.dspec_deeds.specs.{Words.Outside.Speculation, declared.config.Config.Config, declared.deed.Deed.Deed, declared.deed.Deed.TheVariants.Trace, declared.deed.Deed.TheVariants.Scan}
+use Rattle.dspec_deeds.specs.{declared.deed.Deed.TheVariants.Opened, declared.deed.Deed.TheVariants.Miss, declared.deed.Deed.TheVariants.Speculate, declared.deed.Deed.TheVariants.Commit}
+use Rattle.dspec_deeds.specs.{declared.deed.Deed.TheVariants.Discard, declared.deed.Deed.TheVariants.Settle, declared.deed.Deed.TheVariants.Seal, declared.deed.Deed.TheVariants.Release}
+use Rattle.dspec_deeds.specs.{declared.deed.Deed.TheVariants.Halt}
 
 -- the deed names the CPU, or is a Release
 abbrev pub is_of : ℕ → Deed → Bool

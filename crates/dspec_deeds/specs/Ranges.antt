@@ -1,10 +1,8 @@
 -- Believed. The ranges of a configuration.
 use Rattle.std.specs.Prelude.{ℕ, ◌^◌, ◌%◌, ◌==◌, nat_le, Bool, true, false, not, ◌&&◌, if◌then◌else◌, Option, Some, None}
 use Rattle.dspec_deeds.specs.declared.config.Config.{Config}
-use Rattle.dspec_deeds.specs.declared.config.Policy.{Policy}
-use Rattle.dspec_deeds.specs.declared.config.Policy.TheVariants.{Switch, Fill}
-use Rattle.dspec_deeds.specs.declared.config.StartFault.{StartFault}
-use Rattle.dspec_deeds.specs.declared.config.StartFault.TheVariants.{Cpus, Specs, BufSize, SpecSize, Issues, Calls}
+use Rattle.dspec_deeds.specs.declared.config.Policy.{Policy, TheVariants.Switch, TheVariants.Fill}
+use Rattle.dspec_deeds.specs.declared.config.StartFault.{StartFault, TheVariants.Cpus, TheVariants.Specs, TheVariants.BufSize, TheVariants.SpecSize, TheVariants.Issues, TheVariants.Calls}
 
 abbrev pub is_between : ℕ → ℕ → ℕ → Bool
 is_between low high n = nat_le low n && nat_le n high

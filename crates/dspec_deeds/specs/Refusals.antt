@@ -1,13 +1,7 @@
 -- Cited by calls. What a refused reservation in a CPU's principal buffer leaves.
 use Rattle.std.specs.Prelude.{ℕ, ◌≡◌, true, false, List, ◌∷◌, Option}
-use Rattle.dspec_record.specs.declared.field.Shape.{Shape}
-use Rattle.dspec_deeds.specs.Words.Outside.{Piece, block, Speculation}
-use Rattle.dspec_deeds.specs.declared.config.Config.{Config}
-use Rattle.dspec_deeds.specs.declared.deed.DecideFate.{DecideFate}
-use Rattle.dspec_deeds.specs.declared.deed.Deed.{Deed}
-use Rattle.dspec_deeds.specs.FateKinds.{is_commit}
-use Rattle.dspec_deeds.specs.Own.{contents, full, held}
-use Rattle.dspec_deeds.specs.Legal.{IsFitting, fits_principal}
+use Rattle.dspec_deeds.specs.{FateKinds.is_commit, Legal.IsFitting, Legal.fits_principal, Own.contents, Own.full, Own.held, Words.Outside.Shape, Words.Outside.Piece, Words.Outside.block}
+use Rattle.dspec_deeds.specs.{Words.Outside.Speculation, declared.config.Config.Config, declared.deed.DecideFate.DecideFate, declared.deed.Deed.Deed}
 
 module _ (shape : ℕ → Option Shape) (k : Config) (c : ℕ) where
   -- where this deed asks for room for a piece that doesn't fit, the CPU's principal buffer has refused a reservation behind it

@@ -1,13 +1,10 @@
 -- Cited by calls. The counts of a CPU's report, read off the deeds.
 use Rattle.std.specs.Prelude.{ℕ, ◌≤◌, ◌+◌, ◌==◌, Bool, false, not, ◌&&◌, ◌||◌, List, [], ◌∷◌, ◌++◌, length, filter, if◌then◌else◌}
-use Rattle.dspec_deeds.specs.Words.Outside.{Speculation}
-use Rattle.dspec_deeds.specs.declared.config.Config.{Config}
-use Rattle.dspec_deeds.specs.declared.deed.Deed.{Deed}
-use Rattle.dspec_deeds.specs.declared.deed.Deed.TheVariants.{Trace, Scan, Miss, Speculate, Commit, Discard, Settle}
-use Rattle.dspec_deeds.specs.declared.report.Report.{Report}
-use Rattle.dspec_deeds.specs.FateKinds.{trace_kept, trace_dropped, trace_stopped, spoken_kept, spoken_dropped, spoken_nowhere}
-use Rattle.dspec_deeds.specs.FateKinds.{spoken_stopped, decided_stopped, is_discard, is_copied, is_lost, count_of}
-use Rattle.dspec_deeds.specs.Own.{Offer, offers, empties, is_drop}
+use Rattle.dspec_deeds.specs.{FateKinds.trace_kept, FateKinds.trace_dropped, FateKinds.trace_stopped, FateKinds.spoken_kept, FateKinds.spoken_dropped, FateKinds.spoken_nowhere}
+use Rattle.dspec_deeds.specs.{FateKinds.spoken_stopped, FateKinds.decided_stopped, FateKinds.is_discard, FateKinds.is_copied, FateKinds.is_lost, FateKinds.count_of, Own.Offer, Own.offers}
+use Rattle.dspec_deeds.specs.{Own.empties, Own.is_drop, Words.Outside.Speculation, declared.config.Config.Config, declared.deed.Deed.Deed, declared.deed.Deed.TheVariants.Trace}
+use Rattle.dspec_deeds.specs.{declared.deed.Deed.TheVariants.Scan, declared.deed.Deed.TheVariants.Miss, declared.deed.Deed.TheVariants.Speculate, declared.deed.Deed.TheVariants.Commit}
+use Rattle.dspec_deeds.specs.{declared.deed.Deed.TheVariants.Discard, declared.deed.Deed.TheVariants.Settle, declared.report.Report.Report}
 
 -- the sum over the deeds of what each adds
 abbrev pub total : (Deed → ℕ) → List Deed → ℕ

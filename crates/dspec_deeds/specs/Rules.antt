@@ -1,13 +1,9 @@
 -- Serves proofs. What the conditions on the next deed come to over a whole list: settlements, goings on after a stop, drops of batches.
 use Rattle.std.specs.Prelude.{ℕ, ◌≡◌, ◌≤◌, ◌<◌, ◌+◌, ◌==◌, Bool, true, false, not, ◌&&◌, List, [], ◌∷◌, None}
-use Rattle.dspec_deeds.specs.Words.Outside.{Speculation}
-use Rattle.dspec_deeds.specs.declared.config.Config.{Config}
-use Rattle.dspec_deeds.specs.declared.deed.Deed.{Deed}
-use Rattle.dspec_deeds.specs.declared.deed.Deed.TheVariants.{Trace, Scan, Speculate, Commit, Discard}
-use Rattle.dspec_deeds.specs.FateKinds.{trace_stopped, spoken_stopped, decided_stopped}
-use Rattle.dspec_deeds.specs.History.{halted, opened, verdict, is_undecided, solo, settles, settled}
-use Rattle.dspec_deeds.specs.Own.{Sealing}
-use Rattle.dspec_deeds.specs.Reports.{total, one_if}
+use Rattle.dspec_deeds.specs.{FateKinds.trace_stopped, FateKinds.spoken_stopped, FateKinds.decided_stopped, History.halted, History.opened, History.verdict, History.is_undecided, History.solo}
+use Rattle.dspec_deeds.specs.{History.settles, History.settled, Own.Sealing, Reports.total, Reports.one_if, Words.Outside.Speculation, declared.config.Config.Config, declared.deed.Deed.Deed}
+use Rattle.dspec_deeds.specs.{declared.deed.Deed.TheVariants.Trace, declared.deed.Deed.TheVariants.Scan, declared.deed.Deed.TheVariants.Speculate, declared.deed.Deed.TheVariants.Commit}
+use Rattle.dspec_deeds.specs.{declared.deed.Deed.TheVariants.Discard}
 
 -- how often the CPU settled the speculation
 abbrev pub settlements : ℕ → Speculation → List Deed → ℕ

@@ -1,15 +1,8 @@
 -- Cited by calls. What becomes of a CPU's own buffer of a speculation once that is decided.
 use Rattle.std.specs.Prelude.{ℕ, Bool, List, length, if◌then◌else◌, Option}
-use Rattle.dspec_record.specs.declared.field.Shape.{Shape}
-use Rattle.dspec_deeds.specs.Words.Outside.{block, Speculation}
-use Rattle.dspec_word.specs.declared.code.Code.{Code}
-use Rattle.dspec_word.specs.declared.code.Code.TheVariants.{Discarding}
-use Rattle.dspec_deeds.specs.declared.config.Config.{Config}
-use Rattle.dspec_deeds.specs.declared.deed.DecideFate.{DecideFate}
+use Rattle.dspec_deeds.specs.{Legal.fits_principal, Own.contents, Own.held, Words.Outside.Shape, Words.Outside.block, Words.Outside.Speculation, Words.Outside.Code, Words.Outside.Discarding}
+use Rattle.dspec_deeds.specs.{declared.config.Config.Config, declared.deed.DecideFate.DecideFate, declared.deed.Deed.Deed}
 use Rattle.dspec_deeds.specs.declared.deed.DecideFate.TheVariants as decided
-use Rattle.dspec_deeds.specs.declared.deed.Deed.{Deed}
-use Rattle.dspec_deeds.specs.Own.{contents, held}
-use Rattle.dspec_deeds.specs.Legal.{fits_principal}
 
 -- a block of so many records, committed: copied whole where it fits, else lost whole
 abbrev pub committed_fate : Bool → ℕ → DecideFate

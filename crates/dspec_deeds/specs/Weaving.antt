@@ -1,15 +1,9 @@
 -- Cited by calls. Seals put into a list of deeds, so that each CPU's part of it is that CPU's own list.
 use Rattle.std.specs.Prelude.{ℕ, zero, suc, ◌≡◌, ◌<◌, ◌⊎◌, ◌==◌, List, [], ◌∷◌, ◌++◌, Option, if◌then◌else◌}
-use Rattle.dspec_deeds.specs.Words.Outside.{Speculation}
-use Rattle.dspec_record.specs.declared.field.Shape.{Shape}
-use Rattle.dspec_deeds.specs.declared.config.Config.{Config}
-use Rattle.dspec_deeds.specs.declared.calls.Actor.{Actor}
-use Rattle.dspec_deeds.specs.declared.calls.Actor.TheVariants.{Cpu, Consumer}
-use Rattle.dspec_deeds.specs.declared.deed.Deed.{Deed}
-use Rattle.dspec_deeds.specs.declared.deed.Deed.TheVariants.{Seal}
-use Rattle.dspec_deeds.specs.History.{halted, opened, verdict, callers, solo, settled, author, part, owed, word_at, ack}
-use Rattle.dspec_deeds.specs.Legal.{is_seal, IsLegal}
-use Rattle.dspec_deeds.specs.Owning.{IsOwn, ReadsAlike}
+use Rattle.dspec_deeds.specs.{History.halted, History.opened, History.verdict, History.callers, History.solo, History.settled, History.author, History.part, History.owed, History.word_at}
+use Rattle.dspec_deeds.specs.{History.ack, Legal.is_seal, Legal.IsLegal, Owning.IsOwn, Owning.ReadsAlike, Words.Outside.Speculation, Words.Outside.Shape, declared.calls.Actor.Actor}
+use Rattle.dspec_deeds.specs.{declared.calls.Actor.TheVariants.Cpu, declared.calls.Actor.TheVariants.Consumer, declared.config.Config.Config, declared.deed.Deed.Deed}
+use Rattle.dspec_deeds.specs.{declared.deed.Deed.TheVariants.Seal}
 
 -- the list without its Seals
 abbrev pub bare : List Deed → List Deed

@@ -1,11 +1,9 @@
 -- Serves proofs. Which word, which acknowledgement each deed changes, and to what.
 use Rattle.std.specs.Prelude.{ℕ, ◌+◌, ◌==◌, Bool, false, ◌&&◌, List, if◌then◌else◌, Some}
-use Rattle.dspec_word.specs.declared.code.Code.TheVariants.{Inactive, Active, Committing, CommittingMany, Discarding}
-use Rattle.dspec_deeds.specs.Words.Outside.{SlotState, released}
-use Rattle.dspec_deeds.specs.declared.deed.Deed.{Deed}
-use Rattle.dspec_deeds.specs.declared.deed.Deed.TheVariants.{Opened, Speculate, Commit, Discard, Release}
 use Rattle.dspec_deeds.specs.FateKinds.{spoken_granted, is_commit, is_discard}
 use Rattle.dspec_deeds.specs.History.{issue, callers, joined, is_sole_or_none, active_code, word_at, acks, ack}
+use Rattle.dspec_deeds.specs.Words.Outside.{Inactive, Active, Committing, CommittingMany, Discarding, SlotState, released}
+use Rattle.dspec_deeds.specs.declared.deed.Deed.{Deed, TheVariants.Opened, TheVariants.Speculate, TheVariants.Commit, TheVariants.Discard, TheVariants.Release}
 
 -- the deed may change the word of the slot: it gives a speculation out, has one more caller, decides or releases
 abbrev pub touches : ℕ → Deed → Bool

@@ -28,14 +28,3 @@ pub use Rattle.dspec_deeds.specs.Rules.{drops_of, goes_on, IsGivenBelow, late_ca
 pub use Rattle.dspec_deeds.specs.Settling.{commit_fate, committed_fate, discard_fate, fits_held, settle_fate, settled_fate}
 pub use Rattle.dspec_deeds.specs.Weaving.{ArePlaced, bare, behind, front, HaveLists, IsLastOf, IsPlaced, IsWoven, lead, MayStand, seals_behind, ShowsAlike, taken_off, woven}
 pub use Rattle.dspec_deeds.specs.WordSteps.{ack_after, touches, word_after, word_made}
-pub use Rattle.dspec_deeds.specs.declared.calls.Actor.{Actor}
-pub use Rattle.dspec_deeds.specs.declared.calls.Actor.TheVariants.{Consumer, Cpu}
-pub use Rattle.dspec_deeds.specs.declared.config.Config.{Config}
-pub use Rattle.dspec_deeds.specs.declared.config.Policy.TheVariants.{Switch}
-pub use Rattle.dspec_deeds.specs.declared.config.StartFault.{StartFault}
-pub use Rattle.dspec_deeds.specs.declared.config.StartFault.TheVariants.{Cpus}
-pub use Rattle.dspec_deeds.specs.declared.deed.DecideFate.{DecideFate}
-pub use Rattle.dspec_deeds.specs.declared.deed.Deed.{Deed}
-pub use Rattle.dspec_deeds.specs.declared.deed.Deed.TheVariants.{Commit, Discard, Halt, Miss, Opened, Release, Scan, Seal, Settle, Speculate, Trace}
-pub use Rattle.dspec_deeds.specs.declared.deed.SpeculateFate.{SpeculateFate}
-pub use Rattle.dspec_deeds.specs.declared.deed.TraceFate.{TraceFate}

@@ -2,14 +2,9 @@
 ghost use Rattle.std.specs.Prelude.{ℕ, ◌≡◌, ◌≤◌, ◌<◌, ◌||◌, false, List, ◌∷◌};
 ghost use Rattle.dspec_word.specs.Word.{word_number};
 ghost use Rattle.dspec_deeds.specs.declared.calls.Actor.TheVariants as actor;
-ghost use Rattle.dspec_deeds.specs.declared.config.Config.{Config};
-ghost use Rattle.dspec_deeds.specs.declared.deed.Deed.{Deed};
-ghost use Rattle.dspec_deeds.specs.History.{halted, is_halt, author, same_actor, word_at, ack};
-ghost use Rattle.dspec_deeds.specs.Legal.{Facts, facts, FollowsBy, IsSound, HasAuthors};
-ghost use Rattle.dspec_deeds.specs.CommonDeeds.{IsSameInCommon, AreSameInCommon};
-ghost use Rattle.dspec_deeds.specs.OthersDeeds.{LeavesStanding};
-ghost use Rattle.dspec_deeds.specs.Weaving.{ShowsAlike};
-ghost use Rattle.dspec_deeds.specs.WordSteps.{word_after, ack_after};
+ghost use Rattle.dspec_deeds.specs.{CommonDeeds.IsSameInCommon, CommonDeeds.AreSameInCommon, History.halted, History.is_halt, History.author, History.same_actor, History.word_at, History.ack};
+ghost use Rattle.dspec_deeds.specs.{Legal.Facts, Legal.facts, Legal.FollowsBy, Legal.IsSound, Legal.HasAuthors, OthersDeeds.LeavesStanding, Weaving.ShowsAlike, WordSteps.word_after};
+ghost use Rattle.dspec_deeds.specs.{WordSteps.ack_after, declared.config.Config.Config, declared.deed.Deed.Deed};
 
 /// The common part looks neither at whether a record or a block found room, nor at the numbers of records: lists that differ in
 /// nothing else have the same facts, are legal in it together and show the same words, and one such deed may come where the

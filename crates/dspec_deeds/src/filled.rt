@@ -1,21 +1,11 @@
 //! What policy Fill comes to over a whole list, each a function without a body.
 ghost use Rattle.std.specs.Prelude.{◌≡◌, nat_lt, true, false, ℕ, List, [], ◌∷◌, Option};
-ghost use Rattle.dspec_record.specs.declared.field.Shape.{Shape};
+ghost use Rattle.dspec_record.specs.{Record.Record, declared.field.Shape.Shape};
 ghost use Rattle.dspec_buffer.specs.Extent.{one, block};
-ghost use Rattle.dspec_record.specs.Record.{Record};
 ghost use Rattle.dspec_word.specs.SpecId.{Speculation};
-ghost use Rattle.dspec_deeds.specs.declared.config.Config.{Config};
-ghost use Rattle.dspec_deeds.specs.declared.deed.Deed.{Deed};
-ghost use Rattle.dspec_deeds.specs.declared.deed.Deed.TheVariants.{Trace, Commit, Settle};
-ghost use Rattle.dspec_deeds.specs.declared.deed.DecideFate.{DecideFate};
-ghost use Rattle.dspec_deeds.specs.declared.deed.TraceFate.{TraceFate};
-ghost use Rattle.dspec_deeds.specs.FateKinds.{trace_stopped};
-ghost use Rattle.dspec_deeds.specs.Ranges.{is_fill};
-ghost use Rattle.dspec_deeds.specs.Own.{accepts, full, growing, seals};
-ghost use Rattle.dspec_deeds.specs.Owning.{IsOwn};
-ghost use Rattle.dspec_deeds.specs.Legal.{IsFitting, fits_principal};
-ghost use Rattle.dspec_deeds.specs.Refusals.{BlockRefusalFills, RefusalFills};
-ghost use Rattle.dspec_deeds.specs.Reports.{report};
+ghost use Rattle.dspec_deeds.specs.{FateKinds.trace_stopped, Legal.IsFitting, Legal.fits_principal, Own.accepts, Own.full, Own.growing, Own.seals, Owning.IsOwn, Ranges.is_fill};
+ghost use Rattle.dspec_deeds.specs.{Refusals.BlockRefusalFills, Refusals.RefusalFills, Reports.report, declared.config.Config.Config, declared.deed.DecideFate.DecideFate, declared.deed.Deed.Deed};
+ghost use Rattle.dspec_deeds.specs.{declared.deed.Deed.TheVariants.Trace, declared.deed.Deed.TheVariants.Commit, declared.deed.Deed.TheVariants.Settle, declared.deed.TraceFate.TraceFate};
 
 /// A CPU's principal buffer has refused a reservation exactly where its report counts a drop. Under Fill, where nothing is
 /// sealed, that is where the side counts one: read off the CPU's own list, and off the list of all.

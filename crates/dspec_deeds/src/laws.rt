@@ -1,10 +1,7 @@
 //! The laws of every legal list, each a function without a body.
 ghost use Rattle.std.specs.Prelude.{ℕ, List, Option};
 ghost use Rattle.dspec_record.specs.declared.field.Shape.{Shape};
-ghost use Rattle.dspec_deeds.specs.declared.config.Config.{Config};
-ghost use Rattle.dspec_deeds.specs.declared.deed.Deed.{Deed};
-ghost use Rattle.dspec_deeds.specs.Legal.{IsLegal};
-ghost use Rattle.dspec_deeds.specs.Headline.{PrefixLaw, AcceptanceLaw, FateLaw};
+ghost use Rattle.dspec_deeds.specs.{Headline.PrefixLaw, Headline.AcceptanceLaw, Headline.FateLaw, Legal.IsLegal, declared.config.Config.Config, declared.deed.Deed.Deed};
 
 /// What the consumer has taken from a CPU is a prefix of what that CPU's principal buffers accepted.
 pub fn prefix_law()

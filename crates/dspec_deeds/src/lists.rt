@@ -2,16 +2,10 @@
 ghost use Rattle.std.specs.Prelude.{◌≡◌, ◌<◌, ℕ, List, Option};
 ghost use Rattle.dspec_record.specs.declared.field.Shape.{Shape};
 ghost use Rattle.dspec_deeds.specs.declared.calls.Actor.TheVariants as actor;
-ghost use Rattle.dspec_deeds.specs.declared.config.Config.{Config};
-ghost use Rattle.dspec_deeds.specs.declared.deed.Deed.{Deed};
-ghost use Rattle.dspec_deeds.specs.History.{part, owed};
-ghost use Rattle.dspec_deeds.specs.Legal.{IsLegal, HasAuthors, IsFitting, IsSound};
-ghost use Rattle.dspec_deeds.specs.Headline.{FateLaw, Headline};
-ghost use Rattle.dspec_deeds.specs.Own.{calls};
-ghost use Rattle.dspec_deeds.specs.Reports.{report, CountsWithin};
-ghost use Rattle.dspec_deeds.specs.CpuShown.{own_side, last_called, TellsPresent};
-ghost use Rattle.dspec_deeds.specs.Owning.{IsOwn, ReadsApart, ReadsAlike};
-ghost use Rattle.dspec_deeds.specs.Weaving.{bare, woven, ArePlaced, HaveLists, HaveOwnParts, IsBarePart, ShowsAlike, IsWoven};
+ghost use Rattle.dspec_deeds.specs.{CpuShown.own_side, CpuShown.last_called, CpuShown.TellsPresent, Headline.FateLaw, Headline.Headline, History.part, History.owed, Legal.IsLegal, Legal.HasAuthors};
+ghost use Rattle.dspec_deeds.specs.{Legal.IsFitting, Legal.IsSound, Own.calls, Owning.IsOwn, Owning.ReadsApart, Owning.ReadsAlike, Reports.report, Reports.CountsWithin, Weaving.bare, Weaving.woven};
+ghost use Rattle.dspec_deeds.specs.{Weaving.ArePlaced, Weaving.HaveLists, Weaving.HaveOwnParts, Weaving.IsBarePart, Weaving.ShowsAlike, Weaving.IsWoven, declared.config.Config.Config};
+ghost use Rattle.dspec_deeds.specs.{declared.deed.Deed.Deed};
 
 /// What is read off a CPU's own deeds is the same off the list of all and off the CPU's own list; and, Seals apart, off a
 /// list and off that list without its Seals.

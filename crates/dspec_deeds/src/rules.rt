@@ -1,12 +1,8 @@
 //! What the conditions on the next deed come to over a whole list, each a function without a body.
 ghost use Rattle.std.specs.Prelude.{ℕ, ◌≡◌, ◌≤◌, ◌+◌, List};
 ghost use Rattle.dspec_word.specs.SpecId.{Speculation};
-ghost use Rattle.dspec_deeds.specs.declared.config.Config.{Config};
-ghost use Rattle.dspec_deeds.specs.declared.deed.Deed.{Deed};
-ghost use Rattle.dspec_deeds.specs.Legal.{IsSound};
-ghost use Rattle.dspec_deeds.specs.Own.{growing, batches};
-ghost use Rattle.dspec_deeds.specs.Reports.{report};
-ghost use Rattle.dspec_deeds.specs.Rules.{SettlesOnce, late_calls, IsGivenBelow, drops_of};
+ghost use Rattle.dspec_deeds.specs.{Legal.IsSound, Own.growing, Own.batches, Reports.report, Rules.SettlesOnce, Rules.late_calls, Rules.IsGivenBelow, Rules.drops_of, declared.config.Config.Config};
+ghost use Rattle.dspec_deeds.specs.{declared.deed.Deed.Deed};
 
 /// Of a list that is legal in its common part: a CPU settles a speculation once at most, only after its decision, and never one
 /// that a CPU decided alone.

@@ -1,20 +1,14 @@
 -- What each call makes of what is known of a CPU's files and packets.
-use Rattle.std.proofs.lemmas.Bool.Decides.{nat_tests}
 use Rattle.std.proofs.Common.{◌≡◌, ◌<◌, ◌≤◌, ◌+◌, ◌-◌, ◌^◌, ◌++◌, inl, inr, ℕ, List, [], ◌∷◌, Some, None, ap, sym, subst, ◌∙◌, arith, length, min, take}
-use Rattle.std.specs.Prelude.{slice_range}
-use Rattle.std.proofs.lemmas.List.{append-nil}
 use Rattle.std.proofs.Math.Seq.{take-append_seam}
+use Rattle.std.proofs.lemmas.{Bool.Decides.nat_tests, List.append-nil}
+use Rattle.std.specs.Prelude.{slice_range}
 use Rattle.dspec_filing_reading.specs.Words.{Record, EnabledRows, IsText, CpuFiling, as_written, Hands, HandsNone, HasAsMuchRoom, OpensBatch, unwritten, without_rest, with_more_missed}
 use Rattle.dspec_filing_reading.specs.Words.{AreFrontsKept, FilingCall, CallMakes, told_missed, packets_after, Packets, all_written, opened_text, Opened, OpenRefused, Put, NoMore, PutRefused, Lost}
-use Rattle.dspec_filing_reading.specs.Words.{Missed, Reserved}
+use Rattle.dspec_filing_reading.specs.Words.{Missed, Reserved, Names, Packet, PutFault}
 use Rattle.dspec_record.specs.declared.header.Header.TheVariants as header
-use Rattle.dspec_ctf.specs.declared.names.Names.{Names}
-use Rattle.dspec_ctf.specs.declared.in_memory.packet.Packet.{Packet}
-use Rattle.dspec_ctf.specs.declared.in_memory.fault.PutFault.{PutFault}
-use Rattle.dspec_filing_reading.proofs.FilesLaws.{FilesLaws}
-use Rattle.dspec_filing_reading.proofs.Fronts.{all_accepted, more_fronts, none_between, one_front}
-use Rattle.dspec_filing_reading.proofs.Packets.{reads_same}
-use Rattle.dspec_filing_reading.proofs.Standing.{Stands, finds, hands_missed, hands_run, settles}
+use Rattle.dspec_filing_reading.proofs.{FilesLaws.FilesLaws, Fronts.all_accepted, Fronts.more_fronts, Fronts.none_between, Fronts.one_front, Packets.reads_same, Standing.Stands, Standing.finds}
+use Rattle.dspec_filing_reading.proofs.{Standing.hands_missed, Standing.hands_run, Standing.settles}
 
 -- so many are counted, where 64 bits are enough
 pub counted_whole : (n : ℕ) → min n (2 ^ 64 - 1) + 1 < 2 ^ 64 → min n (2 ^ 64 - 1) ≡ n

@@ -1,9 +1,7 @@
 -- The laws on which the reading of a CPU's files by time stands.
 use Rattle.std.proofs.Common.{◌≡◌, ◌==◌, ℕ, Bool, true, false, cond, refl, ap}
-use Rattle.dspec_filing_reading.specs.Words.{EnabledRows, told_by, MissedReadsBack, RunsReadBack}
-use Rattle.dspec_ctf.specs.declared.names.Names.{Names}
-use Rattle.dspec_filing_reading.proofs.Growing.{FilesJoin}
-use Rattle.dspec_filing_reading.proofs.Sharing.{FilesHaveAll, RunsHaveAll}
+use Rattle.dspec_filing_reading.specs.Words.{EnabledRows, told_by, MissedReadsBack, RunsReadBack, Names}
+use Rattle.dspec_filing_reading.proofs.{Growing.FilesJoin, Sharing.FilesHaveAll, Sharing.RunsHaveAll}
 
 -- that the packets of runs are read as their records, and what tells what was missed as that
 abbrev pub RunsRead : Type 0

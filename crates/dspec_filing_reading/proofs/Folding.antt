@@ -1,17 +1,10 @@
 -- What is known of a CPU's files and packets behind all calls.
-use Rattle.std.proofs.lemmas.Bool.Decides.{nat_tests}
 use Rattle.std.proofs.Common.{◌≡◌, ◌<◌, ◌≤◌, ◌+◌, ◌-◌, ◌^◌, ◌++◌, ℕ, List, [], ◌∷◌, ap, subst, arith, append_assoc, length}
-use Rattle.std.proofs.lemmas.List.{append-nil}
-use Rattle.std.proofs.lemmas.List.Elements.{All-nil}
+use Rattle.std.proofs.lemmas.{Bool.Decides.nat_tests, List.append-nil, List.Elements.All-nil}
 use Rattle.dspec_filing_reading.specs.Words.{EnabledRows, Accepts, CpuFiling, as_written, no_packets, FilingCall, CallsMake, told_missed, all_told_missed, packets_after, packets_after_all}
-use Rattle.dspec_filing_reading.specs.Words.{packets_of, Packets, ReadsWritten, all_written, opened_text, opened_texts, WrittenIsRead}
+use Rattle.dspec_filing_reading.specs.Words.{packets_of, Packets, ReadsWritten, all_written, opened_text, opened_texts, WrittenIsRead, Names}
 use Rattle.dspec_record.specs.declared.header.Header.TheVariants as header
-use Rattle.dspec_ctf.specs.declared.names.Names.{Names}
-use Rattle.dspec_filing_reading.proofs.Calling.{after, rises}
-use Rattle.dspec_filing_reading.proofs.FilesLaws.{FilesLaws}
-use Rattle.dspec_filing_reading.proofs.Fronts.{none_between}
-use Rattle.dspec_filing_reading.proofs.Packets.{reads_none, reads_same}
-use Rattle.dspec_filing_reading.proofs.Standing.{Stands, settles}
+use Rattle.dspec_filing_reading.proofs.{Calling.after, Calling.rises, FilesLaws.FilesLaws, Fronts.none_between, Packets.reads_none, Packets.reads_same, Standing.Stands, Standing.settles}
 
 -- what was missed before no calls make less
 all_rise : (calls : List FilingCall) (old new : CpuFiling) → CallsMake old calls new → new.missed + 1 < 2 ^ 64 → old.missed ≤ new.missed

@@ -1,11 +1,8 @@
 -- First records of texts, and parts of a batch's records.
-use Rattle.std.proofs.lemmas.Bool.Decides.{nat_tests}
 use Rattle.std.proofs.Common.{◌≡◌, ◌≤◌, ◌+◌, ◌-◌, ◌++◌, ℕ, List, [], ◌∷◌, refl, ap, sym, subst, ◌∙◌, arith, append_assoc, drop, length, take, All}
-use Rattle.std.specs.Prelude.{slice_range}
-use Rattle.std.proofs.lemmas.List.{append-nil, length-drop, length-take-le}
-use Rattle.std.proofs.lemmas.List.Elements.{All-cons, All-nil}
-use Rattle.std.proofs.lemmas.List.Folds.{drop_split}
 use Rattle.std.proofs.Math.Seq.{take-append-add}
+use Rattle.std.proofs.lemmas.{Bool.Decides.nat_tests, List.append-nil, List.length-drop, List.length-take-le, List.Elements.All-cons, List.Elements.All-nil, List.Folds.drop_split}
+use Rattle.std.specs.Prelude.{slice_range}
 use Rattle.dspec_filing_reading.specs.Words.{AreFrontsKept, Accepts, BufferText, EnabledRows, IsText, Record, enabled, table_accepts, table_shape, table_text}
 
 -- no records stand between a place and itself

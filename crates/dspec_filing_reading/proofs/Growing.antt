@@ -1,8 +1,6 @@
 -- What is written behind a file is read behind what it has.
 use Rattle.std.proofs.Common.{◌≡◌, ◌<◌, ◌++◌, ℕ, List, [], ◌∷◌, Some, ap, ◌∙◌, arith, All}
-use Rattle.std.proofs.lemmas.Grind.{flat_map-append}
-use Rattle.std.proofs.lemmas.List.{append-nil}
-use Rattle.std.proofs.lemmas.List.Elements.{All-append, All-head, All-tail, All-weaker}
+use Rattle.std.proofs.lemmas.{Grind.flat_map-append, List.append-nil, List.Elements.All-append, List.Elements.All-head, List.Elements.All-tail, List.Elements.All-weaker}
 use Rattle.dspec_filing_reading.specs.Words.{FileTells, PartTells, Layout, EventRead, PacketRead, events_of, loss_of, read_file}
 
 -- that it is read so

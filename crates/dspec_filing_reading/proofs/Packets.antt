@@ -1,21 +1,13 @@
 -- What is read of packets, where more are written behind them.
-use Rattle.std.proofs.lemmas.Bool.Decides.{nat_tests}
 use Rattle.std.proofs.Common.{◌≡◌, ◌<◌, ◌≤◌, ◌^◌, ◌==◌, ◌++◌, ℕ, Bool, true, false, List, [], ◌∷◌, refl, ap, sym, subst, ◌∙◌, arith, length, length-append, map, All}
+use Rattle.std.proofs.lemmas.{Bool.eqb-true, Bool.eqb-false, Bool.ne_eqb, Bool.Decides.nat_tests, Grind.flat_map-append, List.append-nil, List.map-append, List.Elements.All-append}
+use Rattle.std.proofs.lemmas.{List.Elements.All-cons, List.Elements.All-nil, List.Elements.All-weaker, List.Elements.filter-append}
 use Rattle.std.specs.Prelude.{slice_index, slice_range}
-use Rattle.std.proofs.lemmas.Bool.{eqb-true, eqb-false, ne_eqb}
-use Rattle.std.proofs.lemmas.Grind.{flat_map-append}
-use Rattle.std.proofs.lemmas.List.{append-nil, map-append}
-use Rattle.std.proofs.lemmas.List.Elements.{All-append, All-cons, All-nil, All-weaker, filter-append}
 use Rattle.dspec_filing_reading.specs.Words.{Record, EnabledRows, missed_packets, of_file, run_files, run_packet, run_packets, told_by, Accepts, AreRuns, IsFileRun, FileTells, PartTells, file_bytes}
-use Rattle.dspec_filing_reading.specs.Words.{event_of, layout_of, EventRead, ReadsPackets}
+use Rattle.dspec_filing_reading.specs.Words.{event_of, layout_of, EventRead, ReadsPackets, ByTime, Names, Run}
 use Rattle.dspec_record.specs.declared.header.Header.TheVariants as header
-use Rattle.dspec_ctf.specs.declared.form.Form.TheVariants.{ByTime}
-use Rattle.dspec_ctf.specs.declared.names.Names.{Names}
-use Rattle.dspec_ctf.specs.declared.rows.Run.{Run}
-use Rattle.dspec_filing_reading.proofs.FilesLaws.{FilesLaws, told_other, told_same}
-use Rattle.dspec_filing_reading.proofs.Fronts.{none_between}
-use Rattle.dspec_filing_reading.proofs.Growing.{grown, told_more}
-use Rattle.dspec_filing_reading.proofs.Sharing.{of_more, run_few, spread_each}
+use Rattle.dspec_filing_reading.proofs.{FilesLaws.FilesLaws, FilesLaws.told_other, FilesLaws.told_same, Fronts.none_between, Growing.grown, Growing.told_more, Sharing.of_more, Sharing.run_few}
+use Rattle.dspec_filing_reading.proofs.{Sharing.spread_each}
 
 -- packets, each for one of 64 files
 abbrev pub AreFew : List (ℕ × List ℕ) → Type 0

@@ -1,15 +1,12 @@
 -- Records of a batch that are shared out to the files of their CPU.
-use Rattle.std.proofs.lemmas.Bool.Decides.{nat_tests}
-use Rattle.std.proofs.Common.{◌≡◌, ◌<◌, ◌≤◌, ◌-◌, ◌^◌, ◌==◌, ◌++◌, inl, inr, ℕ, zero, suc, Bool, true, false, cond, IsTrue, List, [], ◌∷◌, refl, ap, sym, subst}
-use Rattle.std.proofs.Common.{arith, drop, length, map, replicate, All}
-use Rattle.std.specs.Prelude.{slice_index, slice_range, slice_set, filter, zip}
-use Rattle.std.proofs.lemmas.Bool.{ltb-true, eqb-true}
+use Rattle.std.proofs.Common.{◌≡◌, ◌<◌, ◌≤◌, ◌-◌, ◌^◌, ◌==◌, ◌++◌, inl, inr, ℕ, zero, suc, Bool, true, false, cond, IsTrue, List, [], ◌∷◌, refl, ap, sym, subst, arith, drop, length, map, replicate}
+use Rattle.std.proofs.Common.{All}
+use Rattle.std.proofs.lemmas.Bool.{ltb-true, eqb-true, Decides.nat_tests}
 use Rattle.std.proofs.lemmas.List.Elements.{All-head, All-tail, All-nil, All-cons, All-drop, All-take, All-weaker}
+use Rattle.std.specs.Prelude.{slice_index, slice_range, slice_set, filter, zip}
 use Rattle.dspec_filing_reading.specs.Words.{Record, stamp_fits, enabled, EnabledRows, accepted-parts, AreFiled, HaveAllBetween, Accepts, AreRuns, GoesToFile, IsFileRun, Spreads, of_file, run_files}
-use Rattle.dspec_filing_reading.specs.Words.{run_packets, run_records}
-use Rattle.dspec_record.specs.declared.header.Header.{Header}
+use Rattle.dspec_filing_reading.specs.Words.{run_packets, run_records, Header, Run}
 use Rattle.dspec_record.specs.declared.header.Header.TheVariants as header
-use Rattle.dspec_ctf.specs.declared.rows.Run.{Run}
 
 -- stamps of accepted records have 64 bits
 stamp_low : (h : Header) (stamp : ℕ) → IsTrue (stamp_fits h stamp) → stamp < 2 ^ 64

@@ -1,15 +1,10 @@
 -- What is known of a CPU's files and of the packets that were handed out, between two calls.
-use Rattle.std.proofs.lemmas.Bool.Decides.{nat_tests}
 use Rattle.std.proofs.Common.{◌≡◌, ◌<◌, ◌≤◌, ◌+◌, ◌-◌, ◌^◌, ◌++◌, ℕ, List, [], ◌∷◌, Option, Some, None, refl, ap, sym, subst, ◌∙◌, arith, append_assoc, length, All}
+use Rattle.std.proofs.lemmas.Bool.Decides.{nat_tests}
 use Rattle.std.specs.Prelude.{slice_index, slice_range}
-use Rattle.dspec_filing_reading.specs.Words.{Record, EnabledRows, Accepts, IsFileRun, IsFoundRun, missed_packets, run_packet, CpuFiling, as_written, AreFrontsKept, Packets, all_written}
+use Rattle.dspec_filing_reading.specs.Words.{Record, EnabledRows, Accepts, IsFileRun, IsFoundRun, missed_packets, run_packet, CpuFiling, as_written, AreFrontsKept, Packets, all_written, Names, Run}
 use Rattle.dspec_record.specs.declared.header.Header.TheVariants as header
-use Rattle.dspec_ctf.specs.declared.names.Names.{Names}
-use Rattle.dspec_ctf.specs.declared.rows.Run.{Run}
-use Rattle.dspec_filing_reading.proofs.FilesLaws.{FilesLaws}
-use Rattle.dspec_filing_reading.proofs.Fronts.{behind}
-use Rattle.dspec_filing_reading.proofs.Packets.{Reads, reads_missed, reads_run, reads_same}
-use Rattle.dspec_filing_reading.proofs.Sharing.{lasts_after, stamps_low}
+use Rattle.dspec_filing_reading.proofs.{FilesLaws.FilesLaws, Fronts.behind, Packets.Reads, Packets.reads_missed, Packets.reads_run, Packets.reads_same, Sharing.lasts_after, Sharing.stamps_low}
 
 -- a run that was found, by the last stamps that there were before, and whose packet wasn't handed out yet
 pub record WasFound (records : List Record) (place : ℕ) (after : List ℕ) (run : Run) : Type 0 where

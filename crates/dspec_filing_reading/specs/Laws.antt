@@ -1,10 +1,7 @@
 -- Cited by calls. What the law says.
 use Rattle.std.specs.Prelude.{ℕ, ◌≡◌, ◌<◌, ◌+◌, ◌^◌, List, length}
-use Rattle.dspec_filing_reading.specs.Words.Outside.{EnabledRows, CpuFiling, as_written, no_packets}
-use Rattle.dspec_record.specs.declared.header.Header.TheVariants.{Two}
-use Rattle.dspec_ctf.specs.declared.names.Names.{Names}
-use Rattle.dspec_filing_reading.specs.Sessions.{FilingCall, CallsMake, packets_of, with_last}
-use Rattle.dspec_filing_reading.specs.Reading.{ReadsWritten}
+use Rattle.dspec_filing_reading.specs.{Reading.ReadsWritten, Sessions.FilingCall, Sessions.CallsMake, Sessions.packets_of, Sessions.with_last, Words.Outside.EnabledRows, Words.Outside.CpuFiling}
+use Rattle.dspec_filing_reading.specs.{Words.Outside.as_written, Words.Outside.no_packets, Words.Outside.Two, Words.Outside.Names}
 
 -- Behind all calls on the files of a CPU from the first on, where 64 bits were enough for what was missed: the packets that count as written are read as what is
 -- known of the files says, and so are these with the one that was handed out last, as if that counted too.

@@ -1,9 +1,7 @@
 -- Cited by calls. What is read of the packets that a caller wrote of a CPU.
 use Rattle.std.specs.Prelude.{ℕ, ◌≡◌, ◌<◌, ◌≤◌, ◌+◌, ◌-◌, All, List, [], ◌∷◌, ◌++◌, length, map, slice_range}
-use Rattle.dspec_filing_reading.specs.Words.Outside.{Record, EnabledRows, IsText, CpuFiling, unwritten, of_file, told_by, FileTells, file_bytes, event_of, layout_of}
-use Rattle.dspec_ctf.specs.declared.form.Form.TheVariants.{ByTime}
-use Rattle.dspec_ctf.specs.declared.names.Names.{Names}
 use Rattle.dspec_filing_reading.specs.Sessions.{FilingCall, all_told_missed, opened_texts}
+use Rattle.dspec_filing_reading.specs.Words.Outside.{Record, EnabledRows, IsText, CpuFiling, unwritten, of_file, told_by, FileTells, file_bytes, event_of, layout_of, ByTime, Names}
 
 -- of each of these texts the first records, however many, are kept, and the others are lost: those that are kept, in order, and how many are lost
 abbrev pub AreFrontsKept : EnabledRows → List (List ℕ) → List Record → ℕ → Type 0

@@ -1,9 +1,6 @@
 -- Cited by calls. Calls on the files of a CPU in a trace by time, one after another, and which of the packets that they hand out count as written.
 use Rattle.std.specs.Prelude.{ℕ, ◌≡◌, ◌+◌, List, [], ◌∷◌, ◌++◌, take, Some, None}
-use Rattle.dspec_filing_reading.specs.Words.Outside.{CpuFiling, Hands, HandsNone, HasAsMuchRoom, HasNoBatch, OpensBatch, with_more_missed, without_rest}
-use Rattle.dspec_ctf.specs.declared.stream.PacketFault.{PacketFault}
-use Rattle.dspec_ctf.specs.declared.in_memory.fault.PutFault.{PutFault}
-use Rattle.dspec_ctf.specs.declared.in_memory.packet.Packet.{Packet}
+use Rattle.dspec_filing_reading.specs.Words.Outside.{CpuFiling, Hands, HandsNone, HasAsMuchRoom, HasNoBatch, OpensBatch, with_more_missed, without_rest, PacketFault, PutFault, Packet}
 
 -- a call, and what it did
 pub data FilingCall : Type 0 where

@@ -1,7 +1,6 @@
 -- Places of a list that don't have a value.
-use Rattle.std.proofs.Common.{◌≡◌, ℕ, ◌<◌, ◌≤◌, List, Some, None, length, ⊎_elim, arith}
+use Rattle.std.proofs.{Common.◌≡◌, Common.ℕ, Common.◌<◌, Common.◌≤◌, Common.List, Common.Some, Common.None, Common.length, Common.⊎_elim, Common.arith, lemmas.Option.slice_get_cases}
 use Rattle.std.specs.List.{slice_get}
-use Rattle.std.proofs.lemmas.Option.{slice_get_cases}
 
 -- a value that none of all places has stands nowhere
 pub nowhere : {X : Type 0} (xs : List X) (x : X) (n : ℕ) → length xs ≤ n → ((k : ℕ) → k < n → slice_get xs k ≡ Some x → ⊥) → (k : ℕ) → slice_get xs k ≡ Some x → ⊥

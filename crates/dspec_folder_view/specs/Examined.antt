@@ -1,18 +1,11 @@
 -- Cited by calls. What is told of a trace folder and of its files.
 use Rattle.std.specs.Prelude.{◌≡◌, ◌≢◌, ◌<◌, ℕ, List, ◌++◌, length, take, drop, slice_get, Option, Some, None, codes, decimal}
-use Rattle.std.specs.declared.io.Error.{Error}
-use Rattle.std.specs.declared.io.ErrorKind.{ErrorKind}
+use Rattle.std.specs.declared.io.{Error.Error, ErrorKind.ErrorKind}
 use Rattle.std.specs.declared.io.ErrorKind.TheVariants as kind
-use Rattle.dspec_folder_view.specs.Words.Outside.{Layout, split_packet, IsSoundFrom}
-use Rattle.dspec_ctf_reading.specs.declared.fault.MetadataReadFault.{MetadataReadFault}
-use Rattle.dspec_ctf_reading.specs.declared.fault.MetadataReadFault.TheVariants.{Line, TooLarge, Memory as no_memory}
-use Rattle.dspec_ctf_reading.specs.declared.folder.check.Whose.{Whose}
-use Rattle.dspec_ctf_reading.specs.declared.folder.fault.FileFault.{FileFault}
-use Rattle.dspec_folder_view.specs.declared.folder_fault.TraceFolderFault.{TraceFolderFault}
+use Rattle.dspec_folder_view.specs.Words.Outside.{Layout, split_packet, IsSoundFrom, MetadataReadFault, Line, TooLarge, no_memory, Whose, FileFault}
+use Rattle.dspec_folder_view.specs.declared.{folder_fault.TraceFolderFault.TraceFolderFault, judging.Mend.Mend, judging.Mend.TheVariants.Nothing, judging.Mend.TheVariants.CutAt}
+use Rattle.dspec_folder_view.specs.declared.{judging.Mend.TheVariants.Leave, naming.FileName.FileName}
 use Rattle.dspec_folder_view.specs.declared.folder_fault.TraceFolderFault.TheVariants as folder
-use Rattle.dspec_folder_view.specs.declared.judging.Mend.{Mend}
-use Rattle.dspec_folder_view.specs.declared.judging.Mend.TheVariants.{Nothing, CutAt, Leave}
-use Rattle.dspec_folder_view.specs.declared.naming.FileName.{FileName}
 
 -- ---- names
 

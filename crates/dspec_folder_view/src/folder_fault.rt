@@ -1,7 +1,6 @@
 //! Why a trace folder can't be shown.
 
-ghost use Rattle.std.specs.Prelude.{◌≡◌};
-ghost use Rattle.std.specs.IoError.{error_kind};
+ghost use Rattle.std.specs.{IoError.error_kind, Prelude.◌≡◌};
 ghost use Rattle.dspec_folder_view.specs.Examined.{IsFileRefused, IsMetadataTold, IsTextRefused};
 
 use crate::naming::FileName;

@@ -1,20 +1,15 @@
 -- Each call ends within a number of steps that its kind bounds.
-use Rattle.std.proofs.Common.{◌≡◌, ℕ, ◌+◌, ◌-◌, ◌*◌, ◌<◌, ◌≤◌, List, sym, subst, arith}
+use Rattle.std.proofs.Common.{◌≡◌, ℕ, ◌+◌, ◌-◌, ◌*◌, ◌<◌, ◌≤◌, List, sym, subst, arith, Option, Some, None}
 use Rattle.std.proofs.Math.Nat.{mul-le-mul_right}
-use Rattle.dspec_interleaving.specs.Words.{CpuProgress, ConsumerFlight, ConsumerProgress, CallPlace, is_among, callers, op_bound, flight_bound, clean_bound, StandsCpu, StandsConsumer, cpu_limit}
-use Rattle.dspec_interleaving.specs.Words.{consumer_limit, steps_limit, most_steps, PlayState, progress_of}
-use Rattle.dspec_deeds.specs.declared.config.Config.{Config}
+use Rattle.dspec_interleaving.specs.Words.{is_among, callers, op_bound, flight_bound, clean_bound, StandsCpu, StandsConsumer, cpu_limit, consumer_limit, steps_limit, most_steps, PlayState}
+use Rattle.dspec_interleaving.specs.Words.{progress_of, Config, CpuOp, Deed, Actor}
+use Rattle.dspec_interleaving.specs.declared.flight.{CallPlace.CallPlace, ConsumerFlight.ConsumerFlight, ConsumerProgress.ConsumerProgress, CpuProgress.CpuProgress}
 use Rattle.dspec_deeds.specs.declared.calls.ConsumerOp.TheVariants as consumer_op
-use Rattle.dspec_deeds.specs.declared.calls.CpuOp.{CpuOp}
 use Rattle.dspec_deeds.specs.declared.calls.CpuOp.TheVariants as cpu_op
-use Rattle.dspec_deeds.specs.declared.deed.Deed.{Deed}
 use Rattle.dspec_interleaving.specs.declared.flight.ConsumerFlight.TheVariants as consumer
 use Rattle.dspec_interleaving.specs.declared.flight.CallPlace.TheVariants as cpu
-use Rattle.dspec_interleaving.proofs.ConsumerSteps.{share}
-use Rattle.dspec_interleaving.proofs.StepsWords.{speculate_tells, commit_tells, discard_tells}
-use Rattle.dspec_deeds.specs.declared.calls.Actor.{Actor}
+use Rattle.dspec_interleaving.proofs.{ConsumerSteps.share, StepsWords.speculate_tells, StepsWords.commit_tells, StepsWords.discard_tells}
 use Rattle.dspec_deeds.specs.declared.calls.Actor.TheVariants as actor
-use Rattle.std.proofs.Common.{Option, Some, None}
 
 module _ (k : Config) (c : ℕ) (h : List Deed) (me : CpuProgress) (some : 1 ≤ k.nspec) where
   begun_below : (o : CpuOp) → me.steps ≡ 0 → me.steps < op_bound k o

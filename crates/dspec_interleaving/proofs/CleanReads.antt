@@ -1,25 +1,14 @@
 -- What a coherent state tells an atomic step of the consumer before it is made.
-use Rattle.std.proofs.Common.{◌≡◌, ◌≢◌, ℕ, ◌+◌, ◌^◌, ◌<◌, ◌≤◌, ◌==◌, Bool, true, false, ◌&&◌}
-use Rattle.std.proofs.Common.{List, [], ◌∷◌, ◌++◌, length, get_or, Option, Some, None, if◌then◌else◌, refl, sym, ◌∙◌, subst, arith}
+use Rattle.std.proofs.Common.{◌≡◌, ◌≢◌, ℕ, ◌+◌, ◌^◌, ◌<◌, ◌≤◌, ◌==◌, Bool, true, false, ◌&&◌, List, [], ◌∷◌, ◌++◌, length, get_or, Option, Some, None, if◌then◌else◌, refl, sym, ◌∙◌, subst, arith}
+use Rattle.std.proofs.lemmas.{Nat.mul-le, Option.slice_get_read}
 use Rattle.std.specs.Prelude.{slice_get}
-use Rattle.std.proofs.lemmas.Option.{slice_get_read}
-use Rattle.std.proofs.lemmas.Nat.{mul-le}
-use Rattle.dspec_record.specs.declared.field.Shape.{Shape}
-use Rattle.dspec_word.specs.declared.act.Act.TheVariants.{Attempt, Idle}
-use Rattle.dspec_interleaving.specs.Words.{awaits, SlotState, released, reap_at, CpuProgress, ConsumerFlight, ConsumerProgress, start_fault, word_at, IsAllowed, seals, ConsumerStep, consumer_step}
-use Rattle.dspec_interleaving.specs.Words.{keeps_on, next_slot, same_word, stops, PlayState, IsCoherent, StandsConsumer, StandsState, progress_of}
-use Rattle.dspec_deeds.specs.declared.config.Config.{Config}
+use Rattle.dspec_interleaving.specs.Words.{Shape, Attempt, Idle, awaits, SlotState, released, reap_at, start_fault, word_at, IsAllowed, seals, ConsumerStep, consumer_step, keeps_on, next_slot}
+use Rattle.dspec_interleaving.specs.Words.{same_word, stops, PlayState, IsCoherent, StandsConsumer, StandsState, progress_of, Config, Deed, Release}
+use Rattle.dspec_interleaving.specs.declared.flight.{ConsumerFlight.ConsumerFlight, ConsumerProgress.ConsumerProgress, CpuProgress.CpuProgress}
 use Rattle.dspec_deeds.specs.declared.calls.Answer.TheVariants as answer
-use Rattle.dspec_deeds.specs.declared.deed.Deed.{Deed}
-use Rattle.dspec_deeds.specs.declared.deed.Deed.TheVariants.{Release}
 use Rattle.dspec_interleaving.specs.declared.flight.ConsumerFlight.TheVariants as consumer
-use Rattle.dspec_interleaving.proofs.Counts.{takes_sealed}
-use Rattle.dspec_interleaving.proofs.StepReads.{slots_fit}
-use Rattle.dspec_deeds.proofs.ReportBounds.{fitting_fitted, seals_within}
-use Rattle.dspec_interleaving.proofs.ConsumerSteps.{consumer_keeps}
-use Rattle.dspec_deeds.proofs.SetUp.{set_up, most_cpus}
-use Rattle.dspec_interleaving.proofs.Bounded.{clean_below, clean_within}
-use Rattle.dspec_interleaving.proofs.Tests.{all_fit}
+use Rattle.dspec_interleaving.proofs.{Bounded.clean_below, Bounded.clean_within, ConsumerSteps.consumer_keeps, Counts.takes_sealed, StepReads.slots_fit, Tests.all_fit}
+use Rattle.dspec_deeds.proofs.{ReportBounds.fitting_fitted, ReportBounds.seals_within, SetUp.set_up, SetUp.most_cpus}
 
 -- no more calls than can be counted
 pub calls_fit : (k : Config) → start_fault k ≡ None → k.max_calls ≤ 2 ^ 62

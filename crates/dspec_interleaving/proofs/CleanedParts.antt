@@ -1,20 +1,13 @@
 -- What a clean releases, slot by slot, and when a call of the consumer has ended.
 use Prim.Native.Nat.{zero, suc}
-use Rattle.std.proofs.Common.{◌≡◌, ◌≤◌, ◌<◌, ◌+◌, inl, inr, ℕ, Bool, true, false, ◌&&◌, ◌==◌, List}
-use Rattle.std.proofs.Common.{◌∷◌, ◌++◌, Option, Some, None, is_none, if◌then◌else◌, refl, sym, ap, ◌∙◌, subst, ⊎_elim, arith}
+use Rattle.std.proofs.Common.{◌≡◌, ◌≤◌, ◌<◌, ◌+◌, inl, inr, ℕ, Bool, true, false, ◌&&◌, ◌==◌, List, ◌∷◌, ◌++◌, Option, Some, None, is_none, if◌then◌else◌, refl, sym, ap, ◌∙◌, subst, ⊎_elim, arith}
 use Rattle.std.proofs.lemmas.Bool.Decides.{nat_tests}
-use Rattle.dspec_record.specs.declared.field.Shape.{Shape}
-use Rattle.dspec_interleaving.specs.Words.{Speculation, awaits, CpuProgress, ConsumerFlight, ConsumerProgress, present, verdict, is_undecided, solo, settled, is_busy, owed, releaser, word_at}
-use Rattle.dspec_interleaving.specs.Words.{IsSound, PlayState, ConsumerStep, consumer_step, keeps_on, stops, Stepped, step, on_to_end, WholeConsumer, all_settled, is_reapable, cleaned_at}
-use Rattle.dspec_interleaving.specs.Words.{cleaned_up}
-use Rattle.dspec_deeds.specs.declared.config.Config.{Config}
-use Rattle.dspec_deeds.specs.declared.calls.Actor.{Actor}
+use Rattle.dspec_interleaving.specs.Words.{Shape, Speculation, awaits, present, verdict, is_undecided, solo, settled, is_busy, owed, releaser, word_at, IsSound, PlayState, ConsumerStep}
+use Rattle.dspec_interleaving.specs.Words.{consumer_step, keeps_on, stops, Stepped, step, on_to_end, WholeConsumer, all_settled, is_reapable, cleaned_at, cleaned_up, Config, Actor, Answer, Deed}
+use Rattle.dspec_interleaving.specs.Words.{Release}
+use Rattle.dspec_interleaving.specs.declared.flight.{ConsumerFlight.ConsumerFlight, ConsumerProgress.ConsumerProgress, CpuProgress.CpuProgress}
 use Rattle.dspec_deeds.specs.declared.calls.Actor.TheVariants as actor
-use Rattle.dspec_deeds.specs.declared.calls.Answer.{Answer}
-use Rattle.dspec_deeds.specs.declared.deed.Deed.{Deed}
-use Rattle.dspec_deeds.specs.declared.deed.Deed.TheVariants.{Release}
-use Rattle.dspec_deeds.proofs.TestLemmas.{either_way, and_tells, and_false, off}
-use Rattle.dspec_deeds.proofs.Awaiting.{awaits_is}
+use Rattle.dspec_deeds.proofs.{Awaiting.awaits_is, TestLemmas.either_way, TestLemmas.and_tells, TestLemmas.and_false, TestLemmas.off}
 use Rattle.dspec_interleaving.proofs.Tests.{is_nothing, not_tells}
 
 -- behind a step that no other call overlaps, no release is owed

@@ -1,22 +1,12 @@
 -- What the close of a session enters is of its CPUs, and what it adds to the parts of a list.
 use Rattle.std.proofs.Common.{◌≡◌, ℕ, zero, suc, ◌<◌, ◌≤◌, Bool, true, false, if◌then◌else◌, List, ◌∷◌, Option, subst, arith, ◌==◌, None, refl, sym, ap, ◌∙◌, ⊎_elim, length}
-use Rattle.dspec_record.specs.declared.field.Shape.{Shape}
-use Rattle.dspec_interleaving.specs.Words.{Speculation, settle_at, ack, present, word_at, HasAuthors, settle_fate, is_granted, closed_slots, closed_cpus, closing, SlotState, part, scan, same_actor}
-use Rattle.dspec_interleaving.specs.Words.{CanClose, closed_slot, Headline, IsLegal, start_fault, ReadsAlike, IsWoven, own_closed_slot, own_closed, IsCloseOf}
-use Rattle.dspec_deeds.specs.declared.config.Config.{Config}
-use Rattle.dspec_deeds.specs.declared.deed.DecideFate.{DecideFate}
-use Rattle.dspec_deeds.specs.declared.deed.Deed.{Deed}
-use Rattle.dspec_deeds.specs.declared.deed.Deed.TheVariants.{Settle}
 use Rattle.std.proofs.lemmas.Bool.Decides.{nat_tests}
-use Rattle.dspec_word.specs.declared.code.Code.{Code}
-use Rattle.dspec_word.specs.declared.code.Code.TheVariants.{Discarding}
-use Rattle.dspec_deeds.specs.declared.calls.Actor.{Actor}
-use Rattle.dspec_deeds.specs.declared.calls.Actor.TheVariants.{Cpu, Consumer}
+use Rattle.dspec_interleaving.specs.Words.{Shape, Speculation, settle_at, ack, present, word_at, HasAuthors, settle_fate, is_granted, closed_slots, closed_cpus, closing, SlotState, part, scan}
+use Rattle.dspec_interleaving.specs.Words.{same_actor, CanClose, closed_slot, Headline, IsLegal, start_fault, ReadsAlike, IsWoven, own_closed_slot, own_closed, IsCloseOf, Config, DecideFate, Deed}
+use Rattle.dspec_interleaving.specs.Words.{Settle, Code, Discarding, Actor, Cpu, Consumer}
 use Rattle.dspec_deeds.specs.declared.deed.DecideFate.TheVariants as decided
-use Rattle.dspec_deeds.proofs.TestLemmas.{either_way, same_number, cpu_is_itself, other_number}
+use Rattle.dspec_deeds.proofs.{BareReads.scan_bare, OwnReads.block_alike, OwnReads.reads, TestLemmas.either_way, TestLemmas.same_number, TestLemmas.cpu_is_itself, TestLemmas.other_number}
 use Rattle.dspec_interleaving.proofs.Closing.{closing_closes}
-use Rattle.dspec_deeds.proofs.BareReads.{scan_bare}
-use Rattle.dspec_deeds.proofs.OwnReads.{block_alike, reads}
 
 module _ (shape : ℕ → Option Shape) (k : Config) where
   -- what the close enters is of CPUs of the session

@@ -1,32 +1,17 @@
 -- The settlements of the close are legal, and leave nothing decided in a buffer: what waits then is undecided.
 use Rattle.std.proofs.Common.{◌≡◌, ℕ, zero, suc, ◌<◌, ◌≤◌, Bool, true, false, not, ◌==◌, ◌&&◌, List, [], ◌∷◌, Option, Some, None, if◌then◌else◌, refl, sym, ap, ◌∙◌, subst, ⊎_elim, arith}
 use Rattle.std.specs.Prelude.{nat_le}
-use Rattle.dspec_record.specs.declared.field.Shape.{Shape}
-use Rattle.dspec_word.specs.declared.act.Act.TheVariants.{Granted, Idle}
-use Rattle.dspec_interleaving.specs.Words.{awaits, Speculation, SlotState, CpuProgress, issue, present, opened, verdict, is_undecided, solo, settled, word_at, ack, seals, held, IsAllowed}
+use Rattle.dspec_interleaving.specs.Words.{Shape, Granted, Idle, awaits, Speculation, SlotState, issue, present, opened, verdict, is_undecided, solo, settled, word_at, ack, seals, held, IsAllowed}
 use Rattle.dspec_interleaving.specs.Words.{settle_fate, start_fault, IsSlot, StandsProgress, ProgressStands, progress_of, PlayState, IsCoherent, CanClose, is_granted, closed_slot, closed_slots}
-use Rattle.dspec_interleaving.specs.Words.{closed_cpus, closing, WaitsUndecided, waiting, fate, times, measured}
-use Rattle.dspec_deeds.specs.declared.config.Config.{Config}
-use Rattle.dspec_deeds.specs.declared.calls.Actor.TheVariants.{Cpu}
-use Rattle.dspec_deeds.specs.declared.calls.Served.{Served}
-use Rattle.dspec_deeds.specs.declared.deed.Deed.{Deed}
-use Rattle.dspec_deeds.specs.declared.deed.Deed.TheVariants.{Settle}
+use Rattle.dspec_interleaving.specs.Words.{closed_cpus, closing, WaitsUndecided, waiting, fate, times, measured, Config, Cpu, Served, Deed, Settle}
+use Rattle.dspec_interleaving.specs.declared.flight.CpuProgress.{CpuProgress}
 use Rattle.dspec_interleaving.specs.declared.flight.CallPlace.TheVariants as cpu
 use Rattle.dspec_interleaving.specs.declared.flight.Spare.TheVariants as spare
-use Rattle.dspec_deeds.proofs.TestLemmas.{either_way, and_tells, number_is_itself, same_number, numbers_differ, id_is_itself}
-use Rattle.dspec_deeds.proofs.SetUp.{set_up}
-use Rattle.dspec_deeds.proofs.SoundLists.{opened_by_now, opened_in_range}
-use Rattle.dspec_deeds.proofs.PresentIds.{present_is, decided_given}
-use Rattle.dspec_deeds.proofs.WordCodes.{decided_awaits}
-use Rattle.dspec_deeds.proofs.Acked.{settled_stays, ack_tells}
-use Rattle.dspec_deeds.proofs.DeedOffers.{waits_for}
-use Rattle.dspec_deeds.proofs.DeedEffects.{legal_accounts}
-use Rattle.dspec_deeds.proofs.HeldOffers.{tally, times_held}
-use Rattle.dspec_deeds.proofs.Emptied.{settled_empty, solo_empty, past_empty}
-use Rattle.dspec_deeds.proofs.Going.{GoesOn}
-use Rattle.dspec_interleaving.proofs.StepDeeds.{served_deeds}
-use Rattle.dspec_interleaving.proofs.CpuSteps.{cpu_step_stands}
-use Rattle.dspec_interleaving.proofs.Tests.{not_tells}
+use Rattle.dspec_deeds.proofs.{Acked.settled_stays, Acked.ack_tells, DeedEffects.legal_accounts, DeedOffers.waits_for, Emptied.settled_empty, Emptied.solo_empty, Emptied.past_empty, Going.GoesOn}
+use Rattle.dspec_deeds.proofs.{HeldOffers.tally, HeldOffers.times_held, PresentIds.present_is, PresentIds.decided_given, SetUp.set_up, SoundLists.opened_by_now, SoundLists.opened_in_range}
+use Rattle.dspec_deeds.proofs.{TestLemmas.either_way, TestLemmas.and_tells, TestLemmas.number_is_itself, TestLemmas.same_number, TestLemmas.numbers_differ, TestLemmas.id_is_itself}
+use Rattle.dspec_deeds.proofs.{WordCodes.decided_awaits}
+use Rattle.dspec_interleaving.proofs.{CpuSteps.cpu_step_stands, StepDeeds.served_deeds, Tests.not_tells}
 
 -- a play with no call of a CPU in flight can close
 pub can_close : (shape : ℕ → Option Shape) (st : PlayState) → IsCoherent shape st → ((c : ℕ) → c < st.config.cpus → (progress_of st.progresses c).flight ≡ None) → CanClose shape st.config st.deeds

@@ -1,23 +1,14 @@
 -- Every turn keeps a play coherent.
 use Rattle.std.proofs.Common.{◌≡◌, ℕ, zero, suc, ◌<◌, [], ◌++◌, length, Option, Some, None, refl, sym, ap, ◌∙◌, subst, arith}
 use Rattle.std.proofs.lemmas.List.{length-set}
-use Rattle.dspec_record.specs.declared.field.Shape.{Shape}
-use Rattle.dspec_deeds.specs.declared.config.Config.{Config}
-use Rattle.dspec_deeds.specs.declared.calls.Actor.{Actor}
+use Rattle.dspec_interleaving.specs.Words.{Shape, Config, Actor, Answer, ConsumerOp, CpuOp, cpu_step, start_fault, StandsProgress, StandsState, PushesNext, ProgressStands, progress_of, PlayState}
+use Rattle.dspec_interleaving.specs.Words.{IsCoherent, idle_progress, idle_cpus, at_start, begin_cpu, begin_consumer, step_cpu, step_consumer, step, on_to_end}
+use Rattle.dspec_interleaving.specs.declared.flight.{CallPlace.CallPlace, ConsumerFlight.ConsumerFlight, Spare.Spare}
 use Rattle.dspec_deeds.specs.declared.calls.Actor.TheVariants as actor
-use Rattle.dspec_deeds.specs.declared.calls.Answer.{Answer}
-use Rattle.dspec_deeds.specs.declared.calls.ConsumerOp.{ConsumerOp}
-use Rattle.dspec_deeds.specs.declared.calls.CpuOp.{CpuOp}
-use Rattle.dspec_interleaving.specs.Words.{ConsumerFlight, CallPlace, Spare, cpu_step, start_fault, StandsProgress, StandsState, PushesNext, ProgressStands, progress_of, PlayState, IsCoherent}
-use Rattle.dspec_interleaving.specs.Words.{idle_progress, idle_cpus, at_start, begin_cpu, begin_consumer, step_cpu, step_consumer, step, on_to_end}
 use Rattle.dspec_interleaving.specs.declared.flight.CallPlace.TheVariants as cpu
 use Rattle.dspec_interleaving.specs.declared.flight.Spare.TheVariants as spare
-use Rattle.dspec_interleaving.proofs.OthersStand.{others_stand}
+use Rattle.dspec_interleaving.proofs.{ConsumerSteps.consumer_keeps, CpuSteps.cpu_step_stands, OthersStand.others_stand, Replacing.put, StateStands.side_stands}
 use Rattle.dspec_deeds.proofs.Going.{authors_go_on}
-use Rattle.dspec_interleaving.proofs.CpuSteps.{cpu_step_stands}
-use Rattle.dspec_interleaving.proofs.StateStands.{side_stands}
-use Rattle.dspec_interleaving.proofs.ConsumerSteps.{consumer_keeps}
-use Rattle.dspec_interleaving.proofs.Replacing.{put}
 
 -- a CPU of the session, or the consumer
 abbrev pub IsActor : Config → Actor → Type 0

@@ -1,30 +1,18 @@
 -- A step of the consumer keeps its own side and every CPU's side.
 use Rattle.std.proofs.Common.{◌≡◌, ℕ, ◌+◌, ◌-◌, ◌*◌, ◌<◌, ◌≤◌, true, false, ◌==◌, List, [], ◌∷◌, ◌++◌, length, Option, Some, None, refl, sym, ap, ◌∙◌, subst, ⊎_elim, inl, inr, arith}
+use Rattle.std.proofs.lemmas.{Bool.Decides.nat_tests, List.length-set}
 use Rattle.std.specs.Prelude.{nat_lt}
-use Rattle.std.proofs.lemmas.Bool.Decides.{nat_tests}
-use Rattle.std.proofs.lemmas.List.{length-set}
-use Rattle.dspec_record.specs.declared.field.Shape.{Shape}
-use Rattle.dspec_interleaving.specs.Words.{awaits, SlotState, CpuProgress, ConsumerFlight, ConsumerProgress, CallPlace, Spare, halted, issue, present, settled, releaser, author, owed, word_at, ack}
-use Rattle.dspec_interleaving.specs.Words.{seals, IsAllowed, ConsumerStep, same_word, consumer_step, consumer_begun, changes, stops, takes_at, gives_at, next_slot, loads_slot, loads_ack, reaps}
-use Rattle.dspec_interleaving.specs.Words.{start_fault, IsSlot, StandsProgress, SettledBelow, StandsConsumer, StandsState, SpareCounts, ProgressStands, progress_of}
-use Rattle.dspec_deeds.specs.declared.config.Config.{Config}
-use Rattle.dspec_deeds.specs.declared.calls.Actor.TheVariants.{Consumer}
-use Rattle.dspec_deeds.specs.declared.calls.Answer.{Answer}
+use Rattle.dspec_interleaving.specs.Words.{Shape, awaits, SlotState, halted, issue, present, settled, releaser, author, owed, word_at, ack, seals, IsAllowed, ConsumerStep, same_word, consumer_step}
+use Rattle.dspec_interleaving.specs.Words.{consumer_begun, changes, stops, takes_at, gives_at, next_slot, loads_slot, loads_ack, reaps, start_fault, IsSlot, StandsProgress, SettledBelow}
+use Rattle.dspec_interleaving.specs.Words.{StandsConsumer, StandsState, SpareCounts, ProgressStands, progress_of, Config, Consumer, Answer, ConsumerOp, Deed, Release, Halt}
+use Rattle.dspec_interleaving.specs.declared.flight.{CallPlace.CallPlace, ConsumerFlight.ConsumerFlight, ConsumerProgress.ConsumerProgress, CpuProgress.CpuProgress, Spare.Spare}
 use Rattle.dspec_deeds.specs.declared.calls.Answer.TheVariants as answer
-use Rattle.dspec_deeds.specs.declared.calls.ConsumerOp.{ConsumerOp}
 use Rattle.dspec_deeds.specs.declared.calls.ConsumerOp.TheVariants as consumer_op
-use Rattle.dspec_deeds.specs.declared.deed.Deed.{Deed}
-use Rattle.dspec_deeds.specs.declared.deed.Deed.TheVariants.{Release, Halt}
 use Rattle.dspec_interleaving.specs.declared.flight.ConsumerFlight.TheVariants as consumer
 use Rattle.dspec_interleaving.specs.declared.flight.CallPlace.TheVariants as cpu
 use Rattle.dspec_interleaving.specs.declared.flight.Spare.TheVariants as spare
-use Rattle.dspec_deeds.proofs.TestLemmas.{either_way, same_number, numbers_differ}
-use Rattle.dspec_deeds.proofs.SetUp.{set_up}
-use Rattle.dspec_deeds.proofs.Acked.{acked}
-use Rattle.dspec_deeds.proofs.Awaiting.{awaiting}
-use Rattle.dspec_deeds.proofs.Going.{GoesOn}
-use Rattle.dspec_interleaving.proofs.OthersStand.{others_stand}
-use Rattle.dspec_interleaving.proofs.Replacing.{put}
+use Rattle.dspec_deeds.proofs.{Acked.acked, Awaiting.awaiting, Going.GoesOn, SetUp.set_up, TestLemmas.either_way, TestLemmas.same_number, TestLemmas.numbers_differ}
+use Rattle.dspec_interleaving.proofs.{OthersStand.others_stand, Replacing.put}
 
 -- a side's flight stands where it keeps its steps, and a sealed buffer stays one
 reseated : (k : Config) (c : ℕ) (h : List Deed) (me : CpuProgress) (p : Spare) (n t : ℕ) (f : Option CallPlace) → (me.spare ≡ spare.Sealed → p ≡ spare.Sealed) → StandsProgress k c h me f

@@ -1,13 +1,10 @@
 -- The counters of a side fit: each is at most the number of the deeds. The issue of what was given out fits a word.
-use Rattle.std.proofs.Common.{◌≡◌, ℕ, ◌+◌, ◌<◌, ◌≤◌, ◌^◌, Bool, true, false, not, None, true≢false, List}
-use Rattle.std.proofs.Common.{[], ◌∷◌, ◌++◌, length, reverse, if◌then◌else◌, refl, ap, ◌∙◌, sym, subst, ⊎_elim, arith, length-append}
+use Rattle.std.proofs.Common.{◌≡◌, ℕ, ◌+◌, ◌<◌, ◌≤◌, ◌^◌, Bool, true, false, not, None, true≢false, List, [], ◌∷◌, ◌++◌, length, reverse, if◌then◌else◌, refl, ap, ◌∙◌, sym, subst, ⊎_elim, arith}
+use Rattle.std.proofs.Common.{length-append}
+use Rattle.std.proofs.lemmas.{Bool.Decides.nat_tests, List.length-reverse}
 use Rattle.std.specs.Prelude.{nat_lt}
-use Rattle.std.proofs.lemmas.Bool.Decides.{nat_tests}
-use Rattle.std.proofs.lemmas.List.{length-reverse}
-use Rattle.dspec_interleaving.specs.Words.{Speculation, start_fault, opens, opened, issue, present, Spare, SpareCounts, is_call, calls, seals_now, seals, is_drop, growing, IsSound, Follows}
-use Rattle.dspec_deeds.specs.declared.config.Config.{Config}
-use Rattle.dspec_deeds.specs.declared.deed.Deed.{Deed}
-use Rattle.dspec_deeds.specs.declared.deed.Deed.TheVariants.{Opened}
+use Rattle.dspec_interleaving.specs.{Words.Speculation, Words.start_fault, Words.opens, Words.opened, Words.issue, Words.present, Words.SpareCounts, Words.is_call, Words.calls, Words.seals_now}
+use Rattle.dspec_interleaving.specs.{Words.seals, Words.is_drop, Words.growing, Words.IsSound, Words.Follows, Words.Config, Words.Deed, Words.Opened, declared.flight.Spare.Spare}
 use Rattle.dspec_interleaving.specs.declared.flight.Spare.TheVariants as spare
 use Rattle.dspec_deeds.proofs.TestLemmas.{or_tells, and_tells, same_id_tells}
 use Rattle.dspec_interleaving.proofs.Tests.{all_fit}

@@ -1,26 +1,19 @@
 -- The steps of a CPU's calls: each goes on legally, and leaves its own side in place.
 use Rattle.std.proofs.Common.{◌≡◌, ◌≢◌, ◌⊎◌, ◌≤◌, ◌+◌, ◌*◌, ◌==◌, ℕ, Bool, true, false, not, List, [], ◌∷◌, Option, Some, None, if◌then◌else◌, refl, sym, ap, ◌∙◌, subst, ⊎_elim, inl, inr, arith}
-use Rattle.dspec_record.specs.declared.field.Shape.{Shape}
-use Rattle.dspec_interleaving.specs.Words.{Record, one, is_decided, Speculation, SlotState, speculate_at, open_at, CpuProgress, CallPlace, start_fault, scan, is_among, owed, callers, word_at}
-use Rattle.dspec_interleaving.specs.Words.{is_open, late, is_free, opened_since, fits_principal, fits_speculative, IsAllowed, begun, ends, spoken_at, shown_speculate, missed, shown_scan, same_word}
-use Rattle.dspec_interleaving.specs.Words.{cpu_step, IsSlot, OnItsWay, StandsCpu, StandsProgress, ProgressStands, measured}
-use Rattle.dspec_word.specs.declared.act.Act.{Act}
-use Rattle.dspec_word.specs.declared.act.Act.TheVariants.{Void, Granted, Attempt, Idle}
-use Rattle.dspec_deeds.specs.declared.config.Config.{Config}
+use Rattle.dspec_interleaving.specs.Words.{Shape, Record, one, is_decided, Speculation, SlotState, speculate_at, open_at, start_fault, scan, is_among, owed, callers, word_at, is_open, late, is_free}
+use Rattle.dspec_interleaving.specs.Words.{opened_since, fits_principal, fits_speculative, IsAllowed, begun, ends, spoken_at, shown_speculate, missed, shown_scan, same_word, cpu_step, IsSlot}
+use Rattle.dspec_interleaving.specs.Words.{OnItsWay, StandsCpu, StandsProgress, ProgressStands, measured, Act, Void, Granted, Attempt, Idle, Config, Deed, Trace, Scan, Opened, Miss, Speculate}
+use Rattle.dspec_interleaving.specs.declared.flight.{CallPlace.CallPlace, CpuProgress.CpuProgress}
 use Rattle.dspec_deeds.specs.declared.calls.Answer.TheVariants as answer
 use Rattle.dspec_deeds.specs.declared.calls.CpuOp.TheVariants as cpu_op
 use Rattle.dspec_deeds.specs.declared.calls.Spoken.TheVariants as spoken_answer
 use Rattle.dspec_deeds.specs.declared.deed.SpeculateFate.TheVariants as spoken
 use Rattle.dspec_deeds.specs.declared.deed.TraceFate.TheVariants as traced
-use Rattle.dspec_deeds.specs.declared.deed.Deed.{Deed}
-use Rattle.dspec_deeds.specs.declared.deed.Deed.TheVariants.{Trace, Scan, Opened, Miss, Speculate}
 use Rattle.dspec_interleaving.specs.declared.flight.CallPlace.TheVariants as cpu
-use Rattle.dspec_deeds.proofs.SetUp.{set_up}
-use Rattle.dspec_deeds.proofs.TestLemmas.{number_is_itself, numbers_differ, off}
-use Rattle.dspec_deeds.proofs.WordActs.{speculate_void, speculate_granted, speculate_attempt}
-use Rattle.dspec_deeds.proofs.WordCodes.{busy_is, open_void, open_attempt}
-use Rattle.dspec_interleaving.proofs.StepsParts.{asks_stand, IsEarly, load_early, try_stands, IsUnderWay, StepStands, either_stands, goes_by_none, goes_by, ends_by, begins_stand, pushes_not}
+use Rattle.dspec_deeds.proofs.{SetUp.set_up, TestLemmas.number_is_itself, TestLemmas.numbers_differ, TestLemmas.off, WordActs.speculate_void, WordActs.speculate_granted, WordActs.speculate_attempt}
+use Rattle.dspec_deeds.proofs.{WordCodes.busy_is, WordCodes.open_void, WordCodes.open_attempt}
 use Rattle.dspec_interleaving.proofs.StepsDecide.{commit_begins, commit_loads, commit_tries, commit_releases, discard_begins, discard_loads, discard_tries}
+use Rattle.dspec_interleaving.proofs.StepsParts.{asks_stand, IsEarly, load_early, try_stands, IsUnderWay, StepStands, either_stands, goes_by_none, goes_by, ends_by, begins_stand, pushes_not}
 use Rattle.dspec_interleaving.proofs.StepsService.{service_begins, service_pops, service_pushes, service_loads, service_stores}
 use Rattle.dspec_interleaving.proofs.StepsWords.{word_is_itself, same_word_tells, speculate_tells, speculate_not_idle, open_plain, not_plain}
 

@@ -1,25 +1,16 @@
 -- What a step of a call of commit or discard makes, by the table's act, and the word that it leaves.
 use Rattle.std.proofs.Common.{◌≡◌, ◌≢◌, ℕ, ◌+◌, Bool, true, false, List, [], ◌∷◌, ◌++◌, length, Option, Some, None, if◌then◌else◌, refl, sym, ◌∙◌, subst, ⊎_elim}
 use denote.Enum.Bare.{sameb}
-use Rattle.dspec_record.specs.declared.field.Shape.{Shape}
-use Rattle.dspec_interleaving.specs.Words.{block, is_inactive, Speculation, SlotState, released, commit_at, discard_at, CpuProgress, is_commit, is_among, callers, issue, is_sole, word_at, contents}
-use Rattle.dspec_interleaving.specs.Words.{held, IsSound, fits_principal, ends, shown_commit, shown_discard, discarded_by, commit_fate, discard_fate, answer_of, measured}
+use Rattle.dspec_interleaving.specs.Words.{Shape, block, is_inactive, Speculation, SlotState, released, commit_at, discard_at, is_commit, is_among, callers, issue, is_sole, word_at, contents, held}
+use Rattle.dspec_interleaving.specs.Words.{IsSound, fits_principal, ends, shown_commit, shown_discard, discarded_by, commit_fate, discard_fate, answer_of, measured, Act, Attempt, Code, Inactive}
+use Rattle.dspec_interleaving.specs.Words.{Discarding, Config, Answer, Deed, Commit, Discard, Release}
+use Rattle.dspec_interleaving.specs.declared.flight.CpuProgress.{CpuProgress}
 use Rattle.dspec_word.specs.contracts.code.Code.{the_type}
-use Rattle.dspec_word.specs.declared.act.Act.{Act}
-use Rattle.dspec_word.specs.declared.act.Act.TheVariants.{Attempt}
-use Rattle.dspec_word.specs.declared.code.Code.{Code}
-use Rattle.dspec_word.specs.declared.code.Code.TheVariants.{Inactive, Discarding}
-use Rattle.dspec_deeds.specs.declared.config.Config.{Config}
-use Rattle.dspec_deeds.specs.declared.calls.Answer.{Answer}
 use Rattle.dspec_deeds.specs.declared.calls.Answer.TheVariants as answer
 use Rattle.dspec_deeds.specs.declared.calls.Decided.TheVariants as decided_answer
 use Rattle.dspec_deeds.specs.declared.deed.DecideFate.TheVariants as decided
-use Rattle.dspec_deeds.specs.declared.deed.Deed.{Deed}
-use Rattle.dspec_deeds.specs.declared.deed.Deed.TheVariants.{Commit, Discard, Release}
 use Rattle.dspec_interleaving.specs.declared.flight.CallPlace.TheVariants as cpu
-use Rattle.dspec_deeds.proofs.TestLemmas.{either_way}
-use Rattle.dspec_deeds.proofs.WordActs.{commit_attempt, discard_attempt}
-use Rattle.dspec_deeds.proofs.WordChanges.{committed_word, discarded_word, released_word}
+use Rattle.dspec_deeds.proofs.{TestLemmas.either_way, WordActs.commit_attempt, WordActs.discard_attempt, WordChanges.committed_word, WordChanges.discarded_word, WordChanges.released_word}
 
 -- whether a code is Inactive
 inactive_test : (code : Code) → sameb the_type code Inactive ≡ is_inactive code

@@ -1,23 +1,17 @@
 -- What a step of the consumer makes of its call: it ends the call, or the call goes on with one step more and the same bound; none is worn, and the
 -- CPUs' calls in flight and their counts of worn calls stay; and the answer is read off what the call has entered and what its last step finds.
 use Rattle.std.proofs.Common.{◌≡◌, ℕ, ◌+◌, ◌*◌, ◌<◌, ◌⊎◌, inl, inr, Bool, true, false, ◌==◌, List, [], ◌∷◌, ◌++◌, length, Option, Some, None, if◌then◌else◌, refl, sym, ap, arith}
-use Rattle.std.specs.Prelude.{nat_lt}
 use Rattle.std.proofs.lemmas.Bool.Decides.{nat_tests}
-use Rattle.dspec_interleaving.specs.Words.{awaits, CpuProgress, ConsumerFlight, ConsumerProgress, Spare, release_count, answer_of_consumer, consumer_op_of, is_about, SpareCounts, PlayState}
-use Rattle.dspec_interleaving.specs.Words.{progress_of, halted, word_at, ack, seals, ConsumerStep, same_word, keeps_on, stops, changes, takes_at, gives_at, next_slot, loads_slot, consumer_step}
-use Rattle.dspec_interleaving.specs.Words.{clean_bound, is_told_worn, is_worn_answer}
-use Rattle.dspec_deeds.specs.declared.config.Config.{Config}
-use Rattle.dspec_deeds.specs.declared.calls.Answer.{Answer}
+use Rattle.std.specs.Prelude.{nat_lt}
+use Rattle.dspec_interleaving.specs.Words.{awaits, release_count, answer_of_consumer, consumer_op_of, is_about, SpareCounts, PlayState, progress_of, halted, word_at, ack, seals, ConsumerStep}
+use Rattle.dspec_interleaving.specs.Words.{same_word, keeps_on, stops, changes, takes_at, gives_at, next_slot, loads_slot, consumer_step, clean_bound, is_told_worn, is_worn_answer, Config, Answer}
+use Rattle.dspec_interleaving.specs.Words.{ConsumerOp, Deed, Release}
+use Rattle.dspec_interleaving.specs.declared.flight.{ConsumerFlight.ConsumerFlight, ConsumerProgress.ConsumerProgress, CpuProgress.CpuProgress, Spare.Spare}
 use Rattle.dspec_deeds.specs.declared.calls.Answer.TheVariants as answer
-use Rattle.dspec_deeds.specs.declared.calls.ConsumerOp.{ConsumerOp}
 use Rattle.dspec_deeds.specs.declared.calls.ConsumerOp.TheVariants as consumer_op
-use Rattle.dspec_deeds.specs.declared.deed.Deed.{Deed}
-use Rattle.dspec_deeds.specs.declared.deed.Deed.TheVariants.{Release}
 use Rattle.dspec_interleaving.specs.declared.flight.ConsumerFlight.TheVariants as consumer
 use Rattle.dspec_interleaving.specs.declared.flight.Spare.TheVariants as spare
-use Rattle.dspec_interleaving.proofs.StepEnds.{HasClosed, HasKeptOn}
-use Rattle.dspec_interleaving.proofs.OwnTelling.{Tells}
-use Rattle.dspec_interleaving.proofs.Replacing.{put}
+use Rattle.dspec_interleaving.proofs.{OwnTelling.Tells, Replacing.put, StepEnds.HasClosed, StepEnds.HasKeptOn}
 
 -- what the consumer's call in flight has entered, the latest first; the CPU that it is about exists
 abbrev pub OwnCleaned : Config → ConsumerFlight → List Deed → Type 0

@@ -1,15 +1,8 @@
 -- A step leaves its call in flight, or none.
 use Rattle.std.proofs.Common.{⊎_elim, ◌≡◌, ℕ, ◌<◌, List, length, slice_set, Option, Some, None, sym, subst}
-use Rattle.dspec_record.specs.declared.field.Shape.{Shape}
-use Rattle.dspec_interleaving.specs.Words.{CpuProgress, ConsumerFlight, ConsumerProgress, CallPlace, op_of, consumer_op_of, cpu_step, consumer_step, progress_of}
-use Rattle.dspec_deeds.specs.declared.config.Config.{Config}
-use Rattle.dspec_deeds.specs.declared.calls.ConsumerOp.{ConsumerOp}
-use Rattle.dspec_deeds.specs.declared.calls.CpuOp.{CpuOp}
-use Rattle.dspec_deeds.specs.declared.deed.Deed.{Deed}
-use Rattle.dspec_interleaving.proofs.WornCpuSteps.{cpu_advances}
-use Rattle.dspec_interleaving.proofs.StepEnds.{HasEnded, HasGoneOn, HasClosed, HasKeptOn}
-use Rattle.dspec_interleaving.proofs.FlightsStay.{clean_advances}
-use Rattle.dspec_interleaving.proofs.Replacing.{put}
+use Rattle.dspec_interleaving.specs.Words.{Shape, op_of, consumer_op_of, cpu_step, consumer_step, progress_of, Config, ConsumerOp, CpuOp, Deed}
+use Rattle.dspec_interleaving.specs.declared.flight.{CallPlace.CallPlace, ConsumerFlight.ConsumerFlight, ConsumerProgress.ConsumerProgress, CpuProgress.CpuProgress}
+use Rattle.dspec_interleaving.proofs.{FlightsStay.clean_advances, Replacing.put, StepEnds.HasEnded, StepEnds.HasGoneOn, StepEnds.HasClosed, StepEnds.HasKeptOn, WornCpuSteps.cpu_advances}
 
 module _ (P : CpuOp → Type 0) where
   -- what is said of a call holds of the one in flight, if there is one

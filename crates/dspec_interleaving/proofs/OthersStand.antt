@@ -1,24 +1,12 @@
 -- Another actor's deeds leave a CPU's side standing.
 use Rattle.std.proofs.Common.{◌≡◌, ◌⊎◌, ℕ, ◌<◌, ◌≤◌, Bool, true, false, List, [], ◌∷◌, ◌++◌, Option, Some, None, refl, sym, ap, ◌∙◌, subst, ⊎_elim, inl, inr, arith}
-use Rattle.dspec_record.specs.declared.field.Shape.{Shape}
-use Rattle.dspec_word.specs.declared.act.Act.{Act}
-use Rattle.dspec_interleaving.specs.Words.{Speculation, SlotState, word_number, speculate_at, commit_at, discard_at, CpuProgress, CallPlace, same_actor, author, is_among, issue, present, opened}
-use Rattle.dspec_interleaving.specs.Words.{committed, verdict, is_undecided, callers, solo, settled, scan, opened_since, part, late, owed, word_at, seals, IsSound, sealed_last, OnItsWay, Expects}
-use Rattle.dspec_interleaving.specs.Words.{StandsCpu, StandsProgress, SpareCounts, ProgressStands}
-use Rattle.dspec_deeds.specs.declared.config.Config.{Config}
-use Rattle.dspec_deeds.specs.declared.calls.Actor.{Actor}
-use Rattle.dspec_deeds.specs.declared.calls.Actor.TheVariants.{Cpu}
-use Rattle.dspec_deeds.specs.declared.deed.Deed.{Deed}
+use Rattle.dspec_interleaving.specs.Words.{Shape, Act, Speculation, SlotState, word_number, speculate_at, commit_at, discard_at, same_actor, author, is_among, issue, present, opened, committed}
+use Rattle.dspec_interleaving.specs.Words.{verdict, is_undecided, callers, solo, settled, scan, opened_since, part, late, owed, word_at, seals, IsSound, sealed_last, OnItsWay, Expects, StandsCpu}
+use Rattle.dspec_interleaving.specs.Words.{StandsProgress, SpareCounts, ProgressStands, Config, Actor, Cpu, Deed}
+use Rattle.dspec_interleaving.specs.declared.flight.{CallPlace.CallPlace, CpuProgress.CpuProgress}
 use Rattle.dspec_interleaving.specs.declared.flight.CallPlace.TheVariants as cpu
-use Rattle.dspec_deeds.proofs.TestLemmas.{same_actor_tells}
-use Rattle.dspec_deeds.proofs.PresentIds.{present_is}
-use Rattle.dspec_deeds.proofs.WordsRise.{words_rise}
-use Rattle.dspec_deeds.proofs.WordCodes.{open_inactive}
-use Rattle.dspec_deeds.proofs.StayingOwn.{scan_other, late_other, has_other, seals_other}
-use Rattle.dspec_deeds.proofs.StayingFree.{free_or_taken}
-use Rattle.dspec_deeds.proofs.StayingDecided.{WaitsFor, waits_stays}
-use Rattle.dspec_deeds.proofs.Awaiting.{awaiting}
-use Rattle.dspec_deeds.proofs.Going.{AllBy, GoesOn}
+use Rattle.dspec_deeds.proofs.{Awaiting.awaiting, Going.AllBy, Going.GoesOn, PresentIds.present_is, StayingDecided.WaitsFor, StayingDecided.waits_stays, StayingFree.free_or_taken}
+use Rattle.dspec_deeds.proofs.{StayingOwn.scan_other, StayingOwn.late_other, StayingOwn.has_other, StayingOwn.seals_other, TestLemmas.same_actor_tells, WordCodes.open_inactive, WordsRise.words_rise}
 
 -- what each of an actor's deeds leaves, all of them leave
 pub over : (k : Config) (w : Actor) (P : List Deed → Type 0) → ((x : Deed) (g : List Deed) → IsSound k (x ∷ g) → same_actor w (author x g) ≡ true → P g → P (x ∷ g))

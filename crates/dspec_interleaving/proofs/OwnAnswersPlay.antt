@@ -1,36 +1,23 @@
 -- Each ended call of a play answers what is read off its own deeds, and the worn calls are counted.
 use Rattle.std.proofs.Common.{◌≡◌, ℕ, ◌+◌, ◌-◌, ◌^◌, ◌<◌, Bool, true, false, ◌==◌, ◌&&◌, List, [], ◌∷◌, ◌++◌, Option, Some, None, if◌then◌else◌, refl, sym, ap, ◌∙◌, subst, arith}
-use Rattle.std.specs.Prelude.{min, map, reverse}
-use Rattle.std.specs.List.{AllByRecursion}
-use Rattle.std.proofs.lemmas.Bool.Decides.{nat_tests}
-use Rattle.std.proofs.lemmas.List.{reverse-append, map-append}
-use Rattle.dspec_record.specs.declared.field.Shape.{Shape}
-use Rattle.dspec_interleaving.specs.Words.{Record, CpuProgress, ConsumerFlight, CallPlace, op_of, consumer_op_of, is_about, StandsState, PlayState, progress_of, CpuStep, ConsumerStep, cpu_step}
-use Rattle.dspec_interleaving.specs.Words.{consumer_step, start_fault, EndedCall, Noted, ended, read_off, IsReadOff, Playing, with_note, with_entered, playing_at_start, begun_cpu, begun_consumer}
-use Rattle.dspec_interleaving.specs.Words.{played, answers_of, play_fault, is_worn_answer, is_by, worn_answers, worn_count, same_actor, is_told_worn, entered_calls, AreWornRightly}
-use Rattle.dspec_deeds.specs.declared.config.Config.{Config}
-use Rattle.dspec_deeds.specs.declared.calls.Actor.{Actor}
+use Rattle.std.proofs.lemmas.{Bool.Decides.nat_tests, List.reverse-append, List.map-append}
+use Rattle.std.specs.{List.AllByRecursion, Prelude.min, Prelude.map, Prelude.reverse}
+use Rattle.dspec_interleaving.specs.Words.{Shape, Record, op_of, consumer_op_of, is_about, StandsState, PlayState, progress_of, CpuStep, ConsumerStep, cpu_step, consumer_step, start_fault}
+use Rattle.dspec_interleaving.specs.Words.{EndedCall, Noted, ended, read_off, IsReadOff, Playing, with_note, with_entered, playing_at_start, begun_cpu, begun_consumer, played, answers_of}
+use Rattle.dspec_interleaving.specs.Words.{play_fault, is_worn_answer, is_by, worn_answers, worn_count, same_actor, is_told_worn, entered_calls, AreWornRightly, Config, Actor, Answer, ConsumerOp}
+use Rattle.dspec_interleaving.specs.Words.{CpuOp, Op, Turn, Deed}
+use Rattle.dspec_interleaving.specs.declared.flight.{CallPlace.CallPlace, ConsumerFlight.ConsumerFlight, CpuProgress.CpuProgress}
 use Rattle.dspec_deeds.specs.declared.calls.Actor.TheVariants as actor
-use Rattle.dspec_deeds.specs.declared.calls.Answer.{Answer}
-use Rattle.dspec_deeds.specs.declared.calls.ConsumerOp.{ConsumerOp}
-use Rattle.dspec_deeds.specs.declared.calls.CpuOp.{CpuOp}
-use Rattle.dspec_deeds.specs.declared.calls.Op.{Op}
 use Rattle.dspec_deeds.specs.declared.calls.Op.TheVariants as op
-use Rattle.dspec_deeds.specs.declared.calls.Turn.{Turn}
-use Rattle.dspec_deeds.specs.declared.deed.Deed.{Deed}
 use Rattle.dspec_interleaving.specs.declared.flight.CallPlace.TheVariants as cpu
-use Rattle.dspec_deeds.proofs.TestLemmas.{number_is_itself}
-use Rattle.dspec_interleaving.proofs.Coherence.{idle_at, start_coherent}
-use Rattle.dspec_interleaving.proofs.CpuSteps.{cpu_step_stands}
-use Rattle.dspec_interleaving.proofs.ConsumerSteps.{consumer_keeps}
-use Rattle.dspec_interleaving.proofs.FlightsStay.{OwnsClean, CleanReads, consumer_unworn, flights_stay, worn_stays, consumer_step_reads}
+use Rattle.dspec_deeds.proofs.{Going.AllBy, TestLemmas.number_is_itself}
+use Rattle.dspec_interleaving.proofs.{Coherence.idle_at, Coherence.start_coherent, ConsumerSteps.consumer_keeps, CpuSteps.cpu_step_stands, FlightsStay.OwnsClean, FlightsStay.CleanReads}
+use Rattle.dspec_interleaving.proofs.{FlightsStay.consumer_unworn, FlightsStay.flights_stay, FlightsStay.worn_stays, FlightsStay.consumer_step_reads, OwnTelling.OwnsCall, OwnTelling.Tells}
+use Rattle.dspec_interleaving.proofs.{OwnTelling.worn_behind, OwnTelling.ReadsOff, OwnTelling.others_own, PlaysCarry.behind_cpu_step, PlaysCarry.behind_consumer_step, PlaysCarry.PlayInvariant}
+use Rattle.dspec_interleaving.proofs.{PlaysCarry.play_carries, PlaysEnd.IsCoherentPlay, PlaysEnd.coherence_carried, PlaysEnd.coherence_kept, WornCounts.HasEntered, WornCounts.calls_stay}
+use Rattle.dspec_interleaving.proofs.{WornCounts.entered_beside, WornCounts.entered_now, WornCounts.note_beside, WornCounts.note_right, WornCounts.same_test, WornCpuSteps.ahead}
+use Rattle.dspec_interleaving.proofs.{WornCpuSteps.cpu_step_reads, WornCpuSteps.cpu_step_wears}
 pub use Rattle.dspec_interleaving.proofs.Replacing.{put}
-use Rattle.dspec_interleaving.proofs.OwnTelling.{OwnsCall, Tells, worn_behind, ReadsOff, others_own}
-use Rattle.dspec_interleaving.proofs.WornCpuSteps.{ahead, cpu_step_reads, cpu_step_wears}
-use Rattle.dspec_interleaving.proofs.PlaysCarry.{behind_cpu_step, behind_consumer_step, PlayInvariant, play_carries}
-use Rattle.dspec_interleaving.proofs.PlaysEnd.{IsCoherentPlay, coherence_carried, coherence_kept}
-use Rattle.dspec_interleaving.proofs.WornCounts.{HasEntered, calls_stay, entered_beside, entered_now, note_beside, note_right, same_test}
-use Rattle.dspec_deeds.proofs.Going.{AllBy}
 
 -- what is known of a CPU's calls: what the one in flight has entered, and how many were worn, and entered
 pub record Knows (k : Config) (h : List Deed) (es : List EndedCall) (c : ℕ) (x : Option CallPlace) (n : ℕ) (own : List Deed) : Type 0 where

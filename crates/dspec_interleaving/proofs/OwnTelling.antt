@@ -1,22 +1,14 @@
 -- What a call holds of its own deeds, and that other actors' deeds leave it.
 use Rattle.std.proofs.Common.{◌≡◌, ℕ, ◌+◌, ◌-◌, ◌^◌, Bool, true, false, List, [], ◌∷◌, ◌++◌, Option, Some, None, if◌then◌else◌, refl, sym, ◌∙◌, subst}
 use Rattle.std.specs.Prelude.{min}
-use Rattle.dspec_interleaving.specs.Words.{CpuProgress, CallPlace, is_busy_among, has_seal, settle_count, answer_of_cpu, author, same_actor, CpuStep, answer_of, is_worn_answer, missed_busy}
-use Rattle.dspec_deeds.specs.declared.calls.Actor.{Actor}
-use Rattle.dspec_deeds.specs.declared.calls.Actor.TheVariants.{Cpu}
-use Rattle.dspec_deeds.specs.declared.calls.Answer.{Answer}
+use Rattle.dspec_interleaving.specs.Words.{is_busy_among, has_seal, settle_count, answer_of_cpu, author, same_actor, CpuStep, answer_of, is_worn_answer, missed_busy, Actor, Cpu, Answer, CpuOp}
+use Rattle.dspec_interleaving.specs.Words.{Served, DecideFate, Deed, Miss, Commit, Seal}
+use Rattle.dspec_interleaving.specs.declared.flight.{CallPlace.CallPlace, CpuProgress.CpuProgress}
 use Rattle.dspec_deeds.specs.declared.calls.Answer.TheVariants as answer
-use Rattle.dspec_deeds.specs.declared.calls.CpuOp.{CpuOp}
 use Rattle.dspec_deeds.specs.declared.calls.Opening.TheVariants as opening
-use Rattle.dspec_deeds.specs.declared.calls.Served.{Served}
-use Rattle.dspec_deeds.specs.declared.deed.DecideFate.{DecideFate}
 use Rattle.dspec_deeds.specs.declared.deed.DecideFate.TheVariants as decided
-use Rattle.dspec_deeds.specs.declared.deed.Deed.{Deed}
-use Rattle.dspec_deeds.specs.declared.deed.Deed.TheVariants.{Miss, Commit, Seal}
 use Rattle.dspec_interleaving.specs.declared.flight.CallPlace.TheVariants as cpu
-use Rattle.dspec_deeds.proofs.StayingOwn.{missed_other}
-use Rattle.dspec_deeds.proofs.TestLemmas.{number_is_itself, same_actor_tells}
-use Rattle.dspec_deeds.proofs.Going.{AllBy}
+use Rattle.dspec_deeds.proofs.{Going.AllBy, StayingOwn.missed_other, TestLemmas.number_is_itself, TestLemmas.same_actor_tells}
 
 -- what a service has done so far
 abbrev pub HasServed : Served → List Deed → Type 0

@@ -1,13 +1,10 @@
 -- What a player's steps make of the play that it follows.
 use Rattle.std.proofs.Common.{◌≡◌, ℕ, zero, suc, ◌+◌, ◌-◌, ◌<◌, true, false, List, [], ◌∷◌, ◌++◌, map, reverse, Option, Some, None, is_none, refl, sym, ap, ◌∙◌, subst, arith, true≢false}
 use Rattle.std.proofs.lemmas.List.{reverse-append, map-append}
-use Rattle.dspec_record.specs.declared.field.Shape.{Shape}
-use Rattle.dspec_deeds.specs.declared.calls.Actor.{Actor}
+use Rattle.dspec_interleaving.specs.Words.{Shape, Actor, Answer, Op, cpu_call_of, consumer_call_of, call_of, is_idle, told_step, PlayState, progress_of, EndedCall, IsPlayingAt, Noted, Playing}
+use Rattle.dspec_interleaving.specs.Words.{cpu_stepped, consumer_stepped, ended, with_note, stepped, to_end, step}
+use Rattle.dspec_interleaving.specs.declared.{flight.CallPlace.CallPlace, flight.ConsumerFlight.ConsumerFlight, refusal.Stepped.TheVariants.Done}
 use Rattle.dspec_deeds.specs.declared.calls.Actor.TheVariants as actor
-use Rattle.dspec_deeds.specs.declared.calls.Answer.{Answer}
-use Rattle.dspec_deeds.specs.declared.calls.Op.{Op}
-use Rattle.dspec_interleaving.specs.Words.{ConsumerFlight, CallPlace, Done, cpu_call_of, consumer_call_of, call_of, is_idle, told_step, PlayState, progress_of, EndedCall, IsPlayingAt, Noted}
-use Rattle.dspec_interleaving.specs.Words.{Playing, cpu_stepped, consumer_stepped, ended, with_note, stepped, to_end, step}
 
 -- the latest call to end is put down last
 put_last : (n : Noted) (ns : List Noted) → map ended (reverse (n ∷ ns)) ≡ map ended (reverse ns) ++ ended n ∷ []

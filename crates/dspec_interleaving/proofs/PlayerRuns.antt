@@ -2,15 +2,11 @@
 use Prim.Native.Nat.{zero, suc}
 use Rattle.std.proofs.Common.{◌≡◌, ℕ, ◌+◌, ◌<◌, ◌≤◌, Bool, true, List, [], ◌∷◌, ◌++◌, length, drop, get_or, map, Option, Some, None, refl, sym, ap, ◌∙◌, subst, arith, add-one, drop-cons}
 use Rattle.std.proofs.lemmas.List.{map-append}
-use Rattle.dspec_record.specs.declared.field.Shape.{Shape}
-use Rattle.dspec_interleaving.specs.Words.{Record, PlayFault, is_actor, is_idle, numbers_below, reports, PlayState, IsCoherent, progress_of, EndedCall, IsPlayingAt, Playing, all_ran, all_turned}
-use Rattle.dspec_interleaving.specs.Words.{cpus_ran, or_else, play_fault, played, playing_at_start, ran, refusal, setup_fault, turn_fault, turned, worn_count, start_fault, report}
-use Rattle.dspec_deeds.specs.declared.calls.Actor.{Actor}
-use Rattle.dspec_deeds.specs.declared.calls.Turn.{Turn}
-use Rattle.dspec_deeds.specs.declared.config.Config.{Config}
-use Rattle.dspec_deeds.specs.declared.deed.Deed.{Deed}
-use Rattle.dspec_interleaving.proofs.OwnAnswersPlay.{played_wears}
-use Rattle.dspec_interleaving.proofs.PlaysEnd.{all_ran_idle}
+use Rattle.dspec_interleaving.specs.Words.{Shape, Record, is_actor, is_idle, numbers_below, reports, PlayState, IsCoherent, progress_of, EndedCall, IsPlayingAt, Playing, all_ran, all_turned}
+use Rattle.dspec_interleaving.specs.Words.{cpus_ran, or_else, play_fault, played, playing_at_start, ran, refusal, setup_fault, turn_fault, turned, worn_count, start_fault, report, Actor, Turn}
+use Rattle.dspec_interleaving.specs.Words.{Config, Deed}
+use Rattle.dspec_interleaving.specs.declared.outcome.PlayFault.{PlayFault}
+use Rattle.dspec_interleaving.proofs.{OwnAnswersPlay.played_wears, PlaysEnd.all_ran_idle}
 
 -- behind so many turns a play goes on to the same end, and to the same refusal
 pub record IsSoFar (shape : ℕ → Option Shape) (accepts : Record → Bool) (k : Config) (ts : List Turn) (i : ℕ) (now : PlayState) (answers : List EndedCall) : Type 0 where

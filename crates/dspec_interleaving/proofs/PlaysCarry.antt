@@ -1,21 +1,14 @@
 -- What each begin and each step keeps holds of a whole play.
 use Rattle.std.proofs.Common.{◌≡◌, ℕ, zero, suc, ◌+◌, ◌<◌, ◌≤◌, Bool, true, false, not, List, [], ◌∷◌, ◌++◌, Option, Some, None, if◌then◌else◌, refl, sym, ap, ◌∙◌, subst, arith}
-use Rattle.std.specs.Prelude.{nat_lt, is_none}
 use Rattle.std.proofs.lemmas.Bool.Decides.{nat_tests}
-use Rattle.dspec_record.specs.declared.field.Shape.{Shape}
-use Rattle.dspec_interleaving.specs.Words.{Record, ConsumerFlight, CallPlace, PlayFault, BeginFault, most_steps, op_of, consumer_op_of, record_passes, is_about, is_actor, is_idle, begin_cpu_fault}
-use Rattle.dspec_interleaving.specs.Words.{begin_consumer_fault, PlayState, progress_of, cpu_step, consumer_step, start_fault, moved_to, cleaned_to, step_cpu, Playing, with_note, with_entered}
-use Rattle.dspec_interleaving.specs.Words.{playing_at_start, begun_cpu, begun_consumer, cpu_stepped, stepped, to_end, ran, turned, all_turned, cpus_ran, all_ran, played, begin_refusal, step_refusal}
-use Rattle.dspec_interleaving.specs.Words.{or_else, setup_fault, refusal, turn_fault, play_fault}
-use Rattle.dspec_deeds.specs.declared.config.Config.{Config}
-use Rattle.dspec_deeds.specs.declared.config.StartFault.{StartFault}
-use Rattle.dspec_deeds.specs.declared.calls.Actor.{Actor}
+use Rattle.std.specs.Prelude.{nat_lt, is_none}
+use Rattle.dspec_interleaving.specs.Words.{Shape, Record, most_steps, op_of, consumer_op_of, record_passes, is_about, is_actor, is_idle, begin_cpu_fault, begin_consumer_fault, PlayState}
+use Rattle.dspec_interleaving.specs.Words.{progress_of, cpu_step, consumer_step, start_fault, moved_to, cleaned_to, step_cpu, Playing, with_note, with_entered, playing_at_start, begun_cpu}
+use Rattle.dspec_interleaving.specs.Words.{begun_consumer, cpu_stepped, stepped, to_end, ran, turned, all_turned, cpus_ran, all_ran, played, begin_refusal, step_refusal, or_else, setup_fault}
+use Rattle.dspec_interleaving.specs.Words.{refusal, turn_fault, play_fault, Config, StartFault, Actor, ConsumerOp, CpuOp, Turn, BeginCpu, BeginConsumer, Step, RunCpu, RunConsumer}
+use Rattle.dspec_interleaving.specs.declared.{flight.CallPlace.CallPlace, flight.ConsumerFlight.ConsumerFlight, outcome.PlayFault.PlayFault, refusal.BeginFault.BeginFault}
 use Rattle.dspec_deeds.specs.declared.calls.Actor.TheVariants as actor
-use Rattle.dspec_deeds.specs.declared.calls.ConsumerOp.{ConsumerOp}
-use Rattle.dspec_deeds.specs.declared.calls.CpuOp.{CpuOp}
 use Rattle.dspec_deeds.specs.declared.calls.Op.TheVariants as op
-use Rattle.dspec_deeds.specs.declared.calls.Turn.{Turn}
-use Rattle.dspec_deeds.specs.declared.calls.Turn.TheVariants.{BeginCpu, BeginConsumer, Step, RunCpu, RunConsumer}
 use Rattle.dspec_interleaving.specs.declared.refusal.BeginFault.TheVariants as begin_fault
 use Rattle.dspec_interleaving.specs.declared.refusal.StepFault.TheVariants as step_fault
 use Rattle.dspec_interleaving.proofs.Tests.{is_nothing, passes}

@@ -1,22 +1,14 @@
 -- A whole play is coherent, and at its end no call is in flight.
 use Rattle.std.proofs.Common.{◌≡◌, ℕ, zero, suc, ◌<◌, ◌≤◌, true, false, ◌==◌, Option, Some, None, refl, sym, ap, ◌∙◌, subst, ⊎_elim, arith}
+use Rattle.std.proofs.lemmas.{Bool.Decides.nat_tests, List.get_or-set_other}
 use Rattle.std.specs.Prelude.{is_none}
-use Rattle.std.proofs.lemmas.Bool.Decides.{nat_tests}
-use Rattle.std.proofs.lemmas.List.{get_or-set_other}
-use Rattle.dspec_record.specs.declared.field.Shape.{Shape}
-use Rattle.dspec_deeds.specs.declared.config.Config.{Config}
-use Rattle.dspec_deeds.specs.declared.calls.Actor.{Actor}
+use Rattle.dspec_interleaving.specs.Words.{Shape, Config, Actor, most_steps, is_actor, is_idle, IsCoherent, progress_of, idle_progress, Playing, ran, cpus_ran, all_ran}
+use Rattle.dspec_interleaving.specs.declared.flight.{CallPlace.CallPlace, CpuProgress.CpuProgress}
 use Rattle.dspec_deeds.specs.declared.calls.Actor.TheVariants as actor
-use Rattle.dspec_interleaving.specs.Words.{CpuProgress, CallPlace, most_steps, is_actor, is_idle, IsCoherent, progress_of, idle_progress, Playing, ran, cpus_ran, all_ran}
-use Rattle.dspec_deeds.proofs.SetUp.{set_up}
-use Rattle.dspec_deeds.proofs.TestLemmas.{either_way, same_number, numbers_differ}
-use Rattle.dspec_interleaving.proofs.Coherence.{begin_cpu_coherent, begin_consumer_coherent, step_cpu_coherent, step_consumer_coherent}
-use Rattle.dspec_interleaving.proofs.Bounded.{limit_within}
-use Rattle.dspec_interleaving.proofs.FlightsStay.{flights_stay}
-use Rattle.dspec_interleaving.proofs.PlayerMoves.{ended_stays}
-use Rattle.dspec_interleaving.proofs.WholeEnds.{ends_as}
-use Rattle.dspec_interleaving.proofs.PlaysCarry.{IsCarried, PlayInvariant, ran_carries, cpus_ran_carries}
-use Rattle.dspec_interleaving.proofs.Tests.{is_nothing}
+use Rattle.dspec_deeds.proofs.{SetUp.set_up, TestLemmas.either_way, TestLemmas.same_number, TestLemmas.numbers_differ}
+use Rattle.dspec_interleaving.proofs.{Bounded.limit_within, Coherence.begin_cpu_coherent, Coherence.begin_consumer_coherent, Coherence.step_cpu_coherent, Coherence.step_consumer_coherent}
+use Rattle.dspec_interleaving.proofs.{FlightsStay.flights_stay, PlayerMoves.ended_stays, PlaysCarry.IsCarried, PlaysCarry.PlayInvariant, PlaysCarry.ran_carries, PlaysCarry.cpus_ran_carries}
+use Rattle.dspec_interleaving.proofs.{Tests.is_nothing, WholeEnds.ends_as}
 
 -- a coherent play of the configuration
 pub record IsCoherentPlay (shape : ℕ → Option Shape) (k : Config) (p : Playing) : Type 0 where

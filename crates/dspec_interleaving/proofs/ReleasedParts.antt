@@ -1,22 +1,14 @@
 -- That a service settles a speculation that is decided, and a clean releases one that all have settled.
 use Prim.Native.Nat.{zero, suc}
-use Rattle.std.proofs.Common.{◌≡◌, ◌≤◌, ◌<◌, ◌⊎◌, inl, inr, ℕ, Bool, true, false, not, ◌&&◌, ◌||◌, ◌==◌, List}
-use Rattle.std.proofs.Common.{[], ◌∷◌, ◌++◌, Option, None, is_none, if◌then◌else◌, refl, sym, ap, ◌∙◌, subst, ⊎_elim, arith}
+use Rattle.std.proofs.Common.{◌≡◌, ◌≤◌, ◌<◌, ◌⊎◌, inl, inr, ℕ, Bool, true, false, not, ◌&&◌, ◌||◌, ◌==◌, List, [], ◌∷◌, ◌++◌, Option, None, is_none, if◌then◌else◌, refl, sym, ap, ◌∙◌, subst, ⊎_elim}
+use Rattle.std.proofs.Common.{arith}
 use Rattle.std.proofs.lemmas.Bool.Decides.{nat_tests}
-use Rattle.dspec_record.specs.declared.field.Shape.{Shape}
-use Rattle.dspec_interleaving.specs.Words.{Speculation, issue, present, verdict, is_undecided, solo, solo_of, settled, same_id, IsSound, owes, settled_at, settled_up, settles_as, all_settled}
-use Rattle.dspec_interleaving.specs.Words.{is_reapable, cleaned_at, cleaned_up, IsReleased}
-use Rattle.dspec_deeds.specs.declared.config.Config.{Config}
-use Rattle.dspec_deeds.specs.declared.deed.Deed.{Deed}
-use Rattle.dspec_deeds.specs.declared.deed.Deed.TheVariants.{Settle, Release}
-use Rattle.dspec_deeds.proofs.TestLemmas.{either_way, and_tells, number_is_itself, id_is_itself}
-use Rattle.dspec_deeds.proofs.SoundLists.{opened_by_now}
-use Rattle.dspec_deeds.proofs.PresentIds.{decided_shut, present_is, decided_given}
-use Rattle.dspec_deeds.proofs.Acked.{settled_stays}
-use Rattle.dspec_deeds.proofs.StayingDecided.{shut_stays}
-use Rattle.dspec_interleaving.proofs.WholeSettling.{IsAtRest, settled_up_rests}
-use Rattle.dspec_interleaving.proofs.CleanedParts.{IsQuiet, cleaned_up_rests}
-use Rattle.dspec_interleaving.proofs.WholeStates.{Grows, grows_twice, released_stays}
+use Rattle.dspec_interleaving.specs.Words.{Shape, Speculation, issue, present, verdict, is_undecided, solo, solo_of, settled, same_id, IsSound, owes, settled_at, settled_up, settles_as, all_settled}
+use Rattle.dspec_interleaving.specs.Words.{is_reapable, cleaned_at, cleaned_up, IsReleased, Config, Deed, Settle, Release}
+use Rattle.dspec_deeds.proofs.{Acked.settled_stays, PresentIds.decided_shut, PresentIds.present_is, PresentIds.decided_given, SoundLists.opened_by_now, StayingDecided.shut_stays}
+use Rattle.dspec_deeds.proofs.{TestLemmas.either_way, TestLemmas.and_tells, TestLemmas.number_is_itself, TestLemmas.id_is_itself}
+use Rattle.dspec_interleaving.proofs.{CleanedParts.IsQuiet, CleanedParts.cleaned_up_rests, WholeSettling.IsAtRest, WholeSettling.settled_up_rests, WholeStates.Grows, WholeStates.grows_twice}
+use Rattle.dspec_interleaving.proofs.{WholeStates.released_stays}
 
 -- the speculation was decided, by no CPU alone
 pub record IsShared (id : Speculation) (h : List Deed) : Type 0 where

@@ -1,7 +1,7 @@
 -- One CPU's side is replaced.
 use Rattle.std.proofs.Common.{◌≡◌, ℕ, ◌<◌, true, false, ◌==◌, List, length, slice_set, sym, subst, ⊎_elim, arith}
 use Rattle.std.proofs.lemmas.List.{get_or-set_same, get_or-set_other}
-use Rattle.dspec_interleaving.specs.Words.{CpuProgress, progress_of, idle_progress}
+use Rattle.dspec_interleaving.specs.{Words.progress_of, Words.idle_progress, declared.flight.CpuProgress.CpuProgress}
 use Rattle.dspec_deeds.proofs.TestLemmas.{either_way, same_number, numbers_differ}
 
 -- of each CPU, where one CPU's side is replaced

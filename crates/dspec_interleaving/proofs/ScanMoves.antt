@@ -1,15 +1,9 @@
 -- What a step of a call of speculation makes at a slot, by the table's act.
 use Rattle.std.proofs.Common.{◌≡◌, ℕ, ◌+◌, true, List, [], ◌∷◌, Option, Some, None, refl}
-use Rattle.dspec_record.specs.declared.field.Shape.{Shape}
-use Rattle.dspec_word.specs.declared.act.Act.{Act}
-use Rattle.dspec_word.specs.declared.act.Act.TheVariants.{Attempt}
-use Rattle.dspec_interleaving.specs.Words.{Speculation, SlotState, CpuProgress, word_at, missed, shown_scan, same_word, cpu_step, measured}
-use Rattle.dspec_deeds.specs.declared.config.Config.{Config}
-use Rattle.dspec_deeds.specs.declared.calls.Answer.{Answer}
+use Rattle.dspec_interleaving.specs.Words.{Shape, Act, Attempt, Speculation, SlotState, word_at, missed, shown_scan, same_word, cpu_step, measured, Config, Answer, Deed, Opened}
+use Rattle.dspec_interleaving.specs.declared.flight.CpuProgress.{CpuProgress}
 use Rattle.dspec_deeds.specs.declared.calls.Answer.TheVariants as answer
 use Rattle.dspec_deeds.specs.declared.calls.Opening.TheVariants as opening
-use Rattle.dspec_deeds.specs.declared.deed.Deed.{Deed}
-use Rattle.dspec_deeds.specs.declared.deed.Deed.TheVariants.{Opened}
 use Rattle.dspec_interleaving.specs.declared.flight.CallPlace.TheVariants as cpu
 
 module _ (shape : ℕ → Option Shape) (k : Config) (c : ℕ) (h : List Deed) (me : CpuProgress) (s : ℕ) where

@@ -1,15 +1,9 @@
 -- What a step of a call of service makes, by the ask, the spare and the table's act.
 use Rattle.std.proofs.Common.{◌≡◌, ◌≢◌, ℕ, ◌+◌, ◌<◌, ◌≤◌, Bool, true, false, ◌&&◌, List, [], Option, Some, None, refl, ⊎_elim, arith}
-use Rattle.std.specs.Prelude.{nat_lt}
 use Rattle.std.proofs.lemmas.Bool.Decides.{nat_tests}
-use Rattle.dspec_record.specs.declared.field.Shape.{Shape}
-use Rattle.dspec_word.specs.declared.act.Act.{Act}
-use Rattle.dspec_word.specs.declared.act.Act.TheVariants.{Granted}
-use Rattle.dspec_interleaving.specs.Words.{SlotState, CpuProgress, Spare, is_fill, seals, asked, begun, served, shown_service, measured}
-use Rattle.dspec_deeds.specs.declared.config.Config.{Config}
-use Rattle.dspec_deeds.specs.declared.calls.Answer.{Answer}
-use Rattle.dspec_deeds.specs.declared.calls.Served.{Served}
-use Rattle.dspec_deeds.specs.declared.deed.Deed.{Deed}
+use Rattle.std.specs.Prelude.{nat_lt}
+use Rattle.dspec_interleaving.specs.Words.{Shape, Act, Granted, SlotState, is_fill, seals, asked, begun, served, shown_service, measured, Config, Answer, Served, Deed}
+use Rattle.dspec_interleaving.specs.declared.flight.{CpuProgress.CpuProgress, Spare.Spare}
 use Rattle.dspec_interleaving.specs.declared.flight.CallPlace.TheVariants as cpu
 use Rattle.dspec_interleaving.specs.declared.flight.Spare.TheVariants as spare
 use Rattle.dspec_deeds.specs.declared.calls.CpuOp.TheVariants as cpu_op

@@ -1,17 +1,11 @@
 -- A play with no call in flight can close, and what its close leaves, told of the deeds in order of time.
 use Rattle.std.proofs.Common.{◌≡◌, ℕ, ◌<◌, true, List, Option, sym, ap, ◌∙◌, subst, arith}
+use Rattle.std.proofs.lemmas.{Bool.Decides.nat_tests, List.reverse-reverse}
 use Rattle.std.specs.Prelude.{Result, Ok, Err, IfOk, reverse}
-use Rattle.std.proofs.lemmas.Bool.Decides.{nat_tests}
-use Rattle.std.proofs.lemmas.List.{reverse-reverse}
-use Rattle.dspec_record.specs.declared.field.Shape.{Shape}
-use Rattle.dspec_deeds.specs.declared.calls.Actor.{Actor}
+use Rattle.dspec_interleaving.specs.Words.{Shape, Actor, Config, Deed, is_actor, is_idle, CanClose, closing, progress_of, PlayState, IsCoherent, IsLegal}
+use Rattle.dspec_interleaving.specs.declared.outcome.Close.{Close}
 use Rattle.dspec_deeds.specs.declared.calls.Actor.TheVariants as actor
-use Rattle.dspec_deeds.specs.declared.config.Config.{Config}
-use Rattle.dspec_deeds.specs.declared.deed.Deed.{Deed}
-use Rattle.dspec_interleaving.specs.Words.{Close, is_actor, is_idle, CanClose, closing, progress_of, PlayState, IsCoherent, IsLegal}
-use Rattle.dspec_interleaving.proofs.ClosedParts.{closing_authors}
-use Rattle.dspec_interleaving.proofs.Closing.{can_close, closing_closes}
-use Rattle.dspec_interleaving.proofs.Tests.{is_nothing}
+use Rattle.dspec_interleaving.proofs.{ClosedParts.closing_authors, Closing.can_close, Closing.closing_closes, Tests.is_nothing}
 
 is_there : (k : Config) (c : ℕ) → c < k.cpus → is_actor k (actor.Cpu c) ≡ true
 is_there k c lt = grind (arith, nat_tests)

@@ -2,19 +2,12 @@
 -- deciding step, a commit in the step after.
 use Rattle.std.proofs.Common.{◌≡◌, ◌≢◌, ◌<◌, ℕ, List, [], ◌∷◌, ◌++◌, Option, Some, None, refl, sym, ap, ◌∙◌, subst, ⊎_elim, inl, inr, arith, true≢false}
 use Rattle.std.proofs.lemmas.List.{get_or-set_same}
-use Rattle.dspec_record.specs.declared.field.Shape.{Shape}
-use Rattle.dspec_interleaving.specs.Words.{Speculation, CpuProgress, ConsumerFlight, CallPlace, verdict, solo, CpuStep, cpu_step, StandsState, PlayState, progress_of, IsCoherent, idle_progress}
-use Rattle.dspec_interleaving.specs.Words.{IsReleasing, ReleasesLast, DecidesNothing, moved_to, step_cpu, step_consumer, step}
-use Rattle.dspec_deeds.specs.declared.calls.Actor.TheVariants.{Cpu, Consumer}
-use Rattle.dspec_deeds.specs.declared.deed.DecideFate.{DecideFate}
-use Rattle.dspec_deeds.specs.declared.deed.Deed.{Deed}
-use Rattle.dspec_deeds.specs.declared.deed.Deed.TheVariants.{Release, Halt}
+use Rattle.dspec_interleaving.specs.Words.{Shape, Speculation, verdict, solo, CpuStep, cpu_step, StandsState, PlayState, progress_of, IsCoherent, idle_progress, IsReleasing, ReleasesLast}
+use Rattle.dspec_interleaving.specs.Words.{DecidesNothing, moved_to, step_cpu, step_consumer, step, Cpu, Consumer, DecideFate, Deed, Release, Halt}
+use Rattle.dspec_interleaving.specs.declared.flight.{CallPlace.CallPlace, ConsumerFlight.ConsumerFlight, CpuProgress.CpuProgress}
 use Rattle.dspec_interleaving.specs.declared.flight.CallPlace.TheVariants as cpu
 use Rattle.dspec_deeds.proofs.Going.{AllBy}
-use Rattle.dspec_interleaving.proofs.WornCpuSteps.{goes_untold}
-use Rattle.dspec_interleaving.proofs.ConsumerSteps.{consumer_keeps}
-use Rattle.dspec_interleaving.proofs.CpuSteps.{cpu_step_stands}
-use Rattle.dspec_interleaving.proofs.StepsAlone.{ReleasedNow, ReleasesNext}
+use Rattle.dspec_interleaving.proofs.{ConsumerSteps.consumer_keeps, CpuSteps.cpu_step_stands, StepsAlone.ReleasedNow, StepsAlone.ReleasesNext, WornCpuSteps.goes_untold}
 
 -- the consumer's deeds decide nothing
 consumer_decides_not : (id : Speculation) (ds h : List Deed) → AllBy Consumer ds h → (verdict id (ds ++ h) ≡ verdict id h) × (solo id (ds ++ h) ≡ solo id h)

@@ -1,23 +1,14 @@
 -- What a step of a call of speculate makes, by the table's act, and the word that it leaves.
 use Rattle.std.proofs.Common.{◌≡◌, ◌≢◌, ℕ, true, List, [], ◌∷◌, Option, Some, if◌then◌else◌, refl, sym, ap, ◌∙◌, false, None, ◌+◌}
-use Rattle.dspec_record.specs.declared.field.Shape.{Shape}
-use Rattle.dspec_interleaving.specs.Words.{Record, Speculation, SlotState, speculate_at, CpuProgress, undecided, standing, joined, is_among, callers, verdict, present, issue, is_open, owed, code_at}
-use Rattle.dspec_interleaving.specs.Words.{word_at, IsSound, cpu_step, same_word, ends, shown_speculate, OnItsWay, measured}
-use Rattle.dspec_word.specs.declared.act.Act.{Act}
-use Rattle.dspec_word.specs.declared.act.Act.TheVariants.{Void, Granted, Attempt, Idle}
-use Rattle.dspec_word.specs.declared.code.Code.{Code}
-use Rattle.dspec_word.specs.declared.code.Code.TheVariants.{Inactive}
-use Rattle.dspec_deeds.specs.declared.config.Config.{Config}
+use Rattle.dspec_interleaving.specs.Words.{Shape, Record, Speculation, SlotState, speculate_at, undecided, standing, joined, is_among, callers, verdict, present, issue, is_open, owed, code_at}
+use Rattle.dspec_interleaving.specs.Words.{word_at, IsSound, cpu_step, same_word, ends, shown_speculate, OnItsWay, measured, Act, Void, Granted, Attempt, Idle, Code, Inactive, Config, Deed}
+use Rattle.dspec_interleaving.specs.Words.{Speculate, Answer}
+use Rattle.dspec_interleaving.specs.declared.flight.CpuProgress.{CpuProgress}
 use Rattle.dspec_deeds.specs.declared.calls.Answer.TheVariants as answer
 use Rattle.dspec_deeds.specs.declared.calls.Spoken.TheVariants as spoken_answer
-use Rattle.dspec_deeds.specs.declared.deed.Deed.{Deed}
-use Rattle.dspec_deeds.specs.declared.deed.Deed.TheVariants.{Speculate}
 use Rattle.dspec_deeds.specs.declared.deed.SpeculateFate.TheVariants as spoken
-use Rattle.dspec_deeds.specs.declared.calls.Answer.{Answer}
 use Rattle.dspec_interleaving.specs.declared.flight.CallPlace.TheVariants as cpu
-use Rattle.dspec_deeds.proofs.PresentIds.{open_present}
-use Rattle.dspec_deeds.proofs.WordActs.{speculate_granted, speculate_attempt}
-use Rattle.dspec_deeds.proofs.WordChanges.{granted_word}
+use Rattle.dspec_deeds.proofs.{PresentIds.open_present, WordActs.speculate_granted, WordActs.speculate_attempt, WordChanges.granted_word}
 
 -- the table grants nothing and attempts nothing
 pub shown_voids : (shape : ℕ → Option Shape) (k : Config) (c : ℕ) (h : List Deed) (me : CpuProgress) (id : Speculation) (r : Record) (w : SlotState) (act : Act) → act ≢ Granted

@@ -1,18 +1,10 @@
 -- A CPU's deeds leave the consumer's side standing.
 use Rattle.std.proofs.Common.{◌≡◌, ℕ, ◌<◌, true, false, ◌==◌, ◌||◌, List, ◌∷◌, ◌++◌, Option, Some, None, refl, sym, ap, ◌∙◌, subst, ⊎_elim, true≢false}
-use Rattle.dspec_record.specs.declared.field.Shape.{Shape}
-use Rattle.dspec_interleaving.specs.Words.{SlotState, ConsumerProgress, ConsumerFlight, same_actor, author, releaser, releases, present, opened, verdict, is_undecided, solo, settled, owed, word_at}
-use Rattle.dspec_interleaving.specs.Words.{opens, IsSound, SettledBelow, StandsConsumer, StandsState}
-use Rattle.dspec_deeds.specs.declared.config.Config.{Config}
-use Rattle.dspec_deeds.specs.declared.calls.Actor.TheVariants.{Cpu}
-use Rattle.dspec_deeds.specs.declared.deed.Deed.{Deed}
-use Rattle.dspec_deeds.specs.declared.deed.Deed.TheVariants.{Release}
+use Rattle.dspec_interleaving.specs.Words.{Shape, SlotState, same_actor, author, releaser, releases, present, opened, verdict, is_undecided, solo, settled, owed, word_at, opens, IsSound}
+use Rattle.dspec_interleaving.specs.Words.{SettledBelow, StandsConsumer, StandsState, Config, Cpu, Deed, Release}
+use Rattle.dspec_interleaving.specs.declared.flight.{ConsumerFlight.ConsumerFlight, ConsumerProgress.ConsumerProgress}
 use Rattle.dspec_interleaving.specs.declared.flight.ConsumerFlight.TheVariants as consumer
-use Rattle.dspec_deeds.proofs.TestLemmas.{either_way, same_number, or_true}
-use Rattle.dspec_deeds.proofs.StayingDecided.{decided_stands}
-use Rattle.dspec_deeds.proofs.Acked.{settled_stays}
-use Rattle.dspec_deeds.proofs.Awaiting.{awaiting}
-use Rattle.dspec_deeds.proofs.Going.{GoesOn}
+use Rattle.dspec_deeds.proofs.{Acked.settled_stays, Awaiting.awaiting, Going.GoesOn, StayingDecided.decided_stands, TestLemmas.either_way, TestLemmas.same_number, TestLemmas.or_true}
 use Rattle.dspec_interleaving.proofs.OthersStand.{over, sound_below}
 
 -- a decided slot that no CPU decided alone, and which CPUs have settled it

@@ -1,23 +1,16 @@
 -- The steps of the call in flight: below its bound, and one more at each step after which it goes on; else the step ends the call.
 use Rattle.std.proofs.Common.{◌≡◌, ◌⊎◌, inl, inr, ℕ, ◌+◌, ◌<◌, ◌≤◌, true, false, List, Option, Some, None, refl, sym, ap, ◌∙◌, subst, ⊎_elim, arith}
+use Rattle.std.proofs.lemmas.{Bool.Decides.nat_tests, List.get_or-set_same}
 use Rattle.std.specs.Prelude.{Result, Ok, Err, IfOk, is_none, slice_set}
-use Rattle.std.proofs.lemmas.List.{get_or-set_same}
-use Rattle.std.proofs.lemmas.Bool.Decides.{nat_tests}
-use Rattle.dspec_record.specs.declared.field.Shape.{Shape}
-use Rattle.dspec_deeds.specs.declared.config.Config.{Config}
-use Rattle.dspec_deeds.specs.declared.calls.Actor.{Actor}
+use Rattle.dspec_interleaving.specs.Words.{Shape, Config, Actor, Answer, cpu_limit, consumer_limit, steps_limit, flight_bound, clean_bound, is_actor, is_idle, steps_of, op_of, consumer_op_of}
+use Rattle.dspec_interleaving.specs.Words.{cpu_call_of, consumer_call_of, call_of, Stepped, StandsProgress, StandsState, progress_of, PlayState, IsCoherent, idle_progress, cpu_step, consumer_step}
+use Rattle.dspec_interleaving.specs.Words.{step_cpu, step_consumer, step, Deed}
+use Rattle.dspec_interleaving.specs.declared.flight.{CallPlace.CallPlace, ConsumerFlight.ConsumerFlight, ConsumerProgress.ConsumerProgress, CpuProgress.CpuProgress}
 use Rattle.dspec_deeds.specs.declared.calls.Actor.TheVariants as actor
-use Rattle.dspec_deeds.specs.declared.calls.Answer.{Answer}
-use Rattle.dspec_interleaving.specs.Words.{CpuProgress, ConsumerFlight, ConsumerProgress, CallPlace, cpu_limit, consumer_limit, steps_limit, flight_bound, clean_bound, is_actor, is_idle, steps_of}
-use Rattle.dspec_interleaving.specs.Words.{op_of, consumer_op_of, cpu_call_of, consumer_call_of, call_of, Stepped, StandsProgress, StandsState, progress_of, PlayState, IsCoherent, idle_progress}
-use Rattle.dspec_interleaving.specs.Words.{cpu_step, consumer_step, step_cpu, step_consumer, step}
 use Rattle.dspec_deeds.specs.declared.calls.Op.TheVariants as op
-use Rattle.dspec_deeds.specs.declared.deed.Deed.{Deed}
-use Rattle.dspec_interleaving.proofs.WornCpuSteps.{cpu_advances}
-use Rattle.dspec_interleaving.proofs.Bounded.{cpu_below, clean_below}
+use Rattle.dspec_interleaving.proofs.{Bounded.cpu_below, Bounded.clean_below, FlightsStay.clean_advances, StepEnds.HasEnded, StepEnds.HasGoneOn, StepEnds.HasClosed, StepEnds.HasKeptOn}
+use Rattle.dspec_interleaving.proofs.{WornCpuSteps.cpu_advances}
 use Rattle.dspec_deeds.proofs.SetUp.{set_up}
-use Rattle.dspec_interleaving.proofs.StepEnds.{HasEnded, HasGoneOn, HasClosed, HasKeptOn}
-use Rattle.dspec_interleaving.proofs.FlightsStay.{clean_advances}
 
 -- a CPU that there is
 pub is_below : (k : Config) (c : ℕ) → is_actor k (actor.Cpu c) ≡ true → c < k.cpus

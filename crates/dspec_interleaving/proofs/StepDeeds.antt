@@ -1,15 +1,10 @@
 -- What a row of the table of steps enters, whichever step comes next.
 use Rattle.std.proofs.Common.{◌≡◌, ℕ, ◌==◌, Bool, true, false, List, [], ◌∷◌, if◌then◌else◌, refl, ⊎_elim}
-use Rattle.dspec_interleaving.specs.Words.{Record, is_inactive, is_decided, Speculation, SlotState, CpuProgress, committed_fate, CpuStep, Measured, spoken_at, committed_by, discarded_by, is_alone}
-use Rattle.dspec_interleaving.specs.Words.{missed, served}
-use Rattle.dspec_word.specs.declared.act.Act.{Act}
-use Rattle.dspec_word.specs.declared.act.Act.TheVariants.{Attempt}
-use Rattle.dspec_deeds.specs.declared.config.Config.{Config}
-use Rattle.dspec_deeds.specs.declared.calls.Served.{Served}
+use Rattle.dspec_interleaving.specs.Words.{Record, is_inactive, is_decided, Speculation, SlotState, committed_fate, CpuStep, Measured, spoken_at, committed_by, discarded_by, is_alone, missed}
+use Rattle.dspec_interleaving.specs.Words.{served, Act, Attempt, Config, Served, Deed, Speculate, Commit, Discard, Miss, Release}
+use Rattle.dspec_interleaving.specs.declared.flight.CpuProgress.{CpuProgress}
 use Rattle.dspec_deeds.specs.declared.deed.DecideFate.TheVariants as decided
 use Rattle.dspec_deeds.specs.declared.deed.SpeculateFate.TheVariants as spoken
-use Rattle.dspec_deeds.specs.declared.deed.Deed.{Deed}
-use Rattle.dspec_deeds.specs.declared.deed.Deed.TheVariants.{Speculate, Commit, Discard, Miss, Release}
 use Rattle.dspec_deeds.proofs.TestLemmas.{either_way}
 
 -- by a test, whichever way it falls

@@ -1,10 +1,7 @@
 -- A step ends its call with an answer, or the call goes on with one step more and the same bound.
 use Rattle.std.proofs.Common.{◌≡◌, ◌⊎◌, ℕ, ◌+◌, Some, None}
-use Rattle.dspec_interleaving.specs.Words.{CpuProgress, ConsumerFlight, ConsumerProgress, CallPlace, CpuStep, ConsumerStep, flight_bound, clean_bound, op_of, consumer_op_of}
-use Rattle.dspec_deeds.specs.declared.config.Config.{Config}
-use Rattle.dspec_deeds.specs.declared.calls.Answer.{Answer}
-use Rattle.dspec_deeds.specs.declared.calls.ConsumerOp.{ConsumerOp}
-use Rattle.dspec_deeds.specs.declared.calls.CpuOp.{CpuOp}
+use Rattle.dspec_interleaving.specs.Words.{CpuStep, ConsumerStep, flight_bound, clean_bound, op_of, consumer_op_of, Config, Answer, ConsumerOp, CpuOp}
+use Rattle.dspec_interleaving.specs.declared.flight.{CallPlace.CallPlace, ConsumerFlight.ConsumerFlight, ConsumerProgress.ConsumerProgress, CpuProgress.CpuProgress}
 
 -- the call has ended
 pub record HasEnded (m : CpuStep) : Type 0 where

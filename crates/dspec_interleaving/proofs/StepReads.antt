@@ -1,19 +1,10 @@
 -- What a coherent state tells an atomic step before it is made.
 use Rattle.std.proofs.Common.{◌≡◌, ℕ, ◌^◌, ◌<◌, ◌≤◌, true, false, not, List, ◌++◌, Option, Some, None, refl, ap, ◌∙◌, subst, ⊎_elim, inl, inr, arith}
-use Rattle.dspec_record.specs.declared.field.Shape.{Shape}
-use Rattle.dspec_word.specs.declared.code.Code.{Code}
-use Rattle.dspec_word.specs.declared.code.Code.TheVariants.{Inactive}
-use Rattle.dspec_interleaving.specs.Words.{is_inactive, CanBeReleased, CallPlace, start_fault, opened, present, word_at, issue, IsSound, IsAllowed, CpuStep, cpu_step, PlayState, IsCoherent}
-use Rattle.dspec_interleaving.specs.Words.{StandsCpu, StandsProgress, progress_of}
-use Rattle.dspec_deeds.specs.declared.config.Config.{Config}
-use Rattle.dspec_deeds.specs.declared.deed.Deed.{Deed}
-use Rattle.dspec_deeds.proofs.TestLemmas.{either_way}
-use Rattle.dspec_interleaving.proofs.Counts.{issue_below, issues_fit}
-use Rattle.dspec_deeds.proofs.WordCodes.{word_inactive}
-use Rattle.dspec_interleaving.proofs.CpuSteps.{cpu_step_stands}
-use Rattle.dspec_deeds.proofs.SetUp.{set_up}
-use Rattle.dspec_interleaving.proofs.Bounded.{cpu_below, cpu_within}
-use Rattle.dspec_interleaving.proofs.Tests.{all_fit}
+use Rattle.dspec_interleaving.specs.Words.{Shape, Code, Inactive, is_inactive, CanBeReleased, start_fault, opened, present, word_at, issue, IsSound, IsAllowed, CpuStep, cpu_step, PlayState}
+use Rattle.dspec_interleaving.specs.Words.{IsCoherent, StandsCpu, StandsProgress, progress_of, Config, Deed}
+use Rattle.dspec_interleaving.specs.declared.flight.CallPlace.{CallPlace}
+use Rattle.dspec_deeds.proofs.{SetUp.set_up, TestLemmas.either_way, WordCodes.word_inactive}
+use Rattle.dspec_interleaving.proofs.{Bounded.cpu_below, Bounded.cpu_within, Counts.issue_below, Counts.issues_fit, CpuSteps.cpu_step_stands, Tests.all_fit}
 
 -- the code of an inactive word
 inactive_code : (code : Code) → is_inactive code ≡ true → code ≡ Inactive

@@ -1,18 +1,11 @@
 -- What follows a decision that a CPU makes alone: the release of the slot.
 use Rattle.std.proofs.Common.{◌≡◌, ◌≢◌, ◌⊎◌, ℕ, true, false, ◌&&◌, List, [], ◌∷◌, ◌++◌, Option, Some, None, if◌then◌else◌, refl, sym, ap, ◌∙◌, subst, ⊎_elim, inl, inr}
-use Rattle.dspec_interleaving.specs.Words.{Speculation, CallPlace, spoken_granted, is_commit, is_discard, same_id, undecided, committed, discarded, verdict, latest, callers, joined, is_sole}
-use Rattle.dspec_interleaving.specs.Words.{is_sole_or_none, solo, solo_of, author, owing, IsSound, answer_of}
-use Rattle.dspec_deeds.specs.declared.config.Config.{Config}
-use Rattle.dspec_deeds.specs.declared.calls.Actor.TheVariants.{Cpu}
-use Rattle.dspec_deeds.specs.declared.calls.Answer.{Answer}
-use Rattle.dspec_deeds.specs.declared.deed.DecideFate.{DecideFate}
+use Rattle.dspec_interleaving.specs.Words.{Speculation, spoken_granted, is_commit, is_discard, same_id, undecided, committed, discarded, verdict, latest, callers, joined, is_sole, is_sole_or_none}
+use Rattle.dspec_interleaving.specs.Words.{solo, solo_of, author, owing, IsSound, answer_of, Config, Cpu, Answer, DecideFate, Deed, Speculate, Commit, Discard, Release}
+use Rattle.dspec_interleaving.specs.declared.flight.CallPlace.{CallPlace}
 use Rattle.dspec_deeds.specs.declared.deed.DecideFate.TheVariants as decided
-use Rattle.dspec_deeds.specs.declared.deed.Deed.{Deed}
-use Rattle.dspec_deeds.specs.declared.deed.Deed.TheVariants.{Speculate, Commit, Discard, Release}
 use Rattle.dspec_interleaving.specs.declared.flight.CallPlace.TheVariants as cpu
-use Rattle.dspec_deeds.proofs.TestLemmas.{either_way, and_tells, same_id_tells}
-use Rattle.dspec_deeds.proofs.PresentIds.{open_present}
-use Rattle.dspec_deeds.proofs.WordChanges.{granted_open}
+use Rattle.dspec_deeds.proofs.{PresentIds.open_present, TestLemmas.either_way, TestLemmas.and_tells, TestLemmas.same_id_tells, WordChanges.granted_open}
 
 -- the CPU's discard has released the slot, and its call has ended with the discard's answer
 abbrev pub ReleasedNow : ℕ → Speculation → List Deed → Option CallPlace → Option Answer → Type 0

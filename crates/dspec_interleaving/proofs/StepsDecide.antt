@@ -1,31 +1,21 @@
 -- The steps of calls of commit and discard.
 use Rattle.std.proofs.Common.{◌≡◌, ◌≤◌, ◌+◌, ℕ, Bool, true, false, ◌&&◌, List, [], ◌∷◌, length, Option, Some, if◌then◌else◌, refl, sym, ap, ◌∙◌, subst, inl, inr, arith}
-use Rattle.dspec_record.specs.declared.field.Shape.{Shape}
-use Rattle.dspec_interleaving.specs.Words.{block, Speculation, SlotState, commit_at, discard_at, CpuProgress, is_commit, scan, is_among, issue, opened, owed, committed, discarded, verdict}
-use Rattle.dspec_interleaving.specs.Words.{is_undecided, is_sole, is_sole_or_none, standing, solo, releaser, same_actor, part, callers, present, word_at, is_open, late, contents, held, seals}
-use Rattle.dspec_interleaving.specs.Words.{sealed_last, fits_principal, CpuLegal, begun, ends, call_goes_on, committed_by, is_alone, is_release, shown_commit, discarded_by, shown_discard, cpu_step}
-use Rattle.dspec_interleaving.specs.Words.{answer_of, OnItsWay, StandsCpu, measured}
-use Rattle.dspec_word.specs.declared.act.Act.{Act}
-use Rattle.dspec_word.specs.declared.act.Act.TheVariants.{Void, Attempt}
-use Rattle.dspec_deeds.specs.declared.config.Config.{Config}
-use Rattle.dspec_deeds.specs.declared.calls.Actor.TheVariants.{Cpu}
+use Rattle.dspec_interleaving.specs.Words.{Shape, block, Speculation, SlotState, commit_at, discard_at, is_commit, scan, is_among, issue, opened, owed, committed, discarded, verdict, is_undecided}
+use Rattle.dspec_interleaving.specs.Words.{is_sole, is_sole_or_none, standing, solo, releaser, same_actor, part, callers, present, word_at, is_open, late, contents, held, seals, sealed_last}
+use Rattle.dspec_interleaving.specs.Words.{fits_principal, CpuLegal, begun, ends, call_goes_on, committed_by, is_alone, is_release, shown_commit, discarded_by, shown_discard, cpu_step, answer_of}
+use Rattle.dspec_interleaving.specs.Words.{OnItsWay, StandsCpu, measured, Act, Void, Attempt, Config, Cpu, DecideFate, Deed, Commit, Discard, Release}
+use Rattle.dspec_interleaving.specs.declared.flight.CpuProgress.{CpuProgress}
 use Rattle.dspec_deeds.specs.declared.calls.Answer.TheVariants as answer
 use Rattle.dspec_deeds.specs.declared.calls.CpuOp.TheVariants as cpu_op
 use Rattle.dspec_deeds.specs.declared.calls.Decided.TheVariants as decided_answer
-use Rattle.dspec_deeds.specs.declared.deed.DecideFate.{DecideFate}
 use Rattle.dspec_deeds.specs.declared.deed.DecideFate.TheVariants as decided
-use Rattle.dspec_deeds.specs.declared.deed.Deed.{Deed}
-use Rattle.dspec_deeds.specs.declared.deed.Deed.TheVariants.{Commit, Discard, Release}
 use Rattle.dspec_interleaving.specs.declared.flight.CallPlace.TheVariants as cpu
-use Rattle.dspec_deeds.proofs.Going.{GoesOn}
-use Rattle.dspec_deeds.proofs.PresentIds.{open_present, present_is}
-use Rattle.dspec_deeds.proofs.TestLemmas.{number_is_itself, id_is_itself, cpu_is_itself}
-use Rattle.dspec_deeds.proofs.WordActs.{commit_void, commit_attempt, discard_void, discard_attempt}
+use Rattle.dspec_deeds.proofs.{Going.GoesOn, PresentIds.open_present, PresentIds.present_is, TestLemmas.number_is_itself, TestLemmas.id_is_itself, TestLemmas.cpu_is_itself, WordActs.commit_void}
+use Rattle.dspec_deeds.proofs.{WordActs.commit_attempt, WordActs.discard_void, WordActs.discard_attempt}
 use Rattle.dspec_interleaving.proofs.StepsAlone.{released_rules}
-use Rattle.dspec_interleaving.proofs.StepsParts.{asks_stand, IsEarly, load_early, try_stands}
-use Rattle.dspec_interleaving.proofs.StepsParts.{MayCome, IsUnderWay, StepStands, either_stands, goes_by_none, goes_by, ends_by, ends_stand, slot_in_range, only_cpu}
-use Rattle.dspec_interleaving.proofs.StepsWords.{commit_tells, discard_tells, commit_plain, discard_plain, not_plain}
-use Rattle.dspec_interleaving.proofs.StepsWords.{alone_early, code_alone, word_releases}
+use Rattle.dspec_interleaving.proofs.StepsParts.{asks_stand, IsEarly, load_early, try_stands, MayCome, IsUnderWay, StepStands, either_stands, goes_by_none, goes_by, ends_by, ends_stand}
+use Rattle.dspec_interleaving.proofs.StepsParts.{slot_in_range, only_cpu}
+use Rattle.dspec_interleaving.proofs.StepsWords.{commit_tells, discard_tells, commit_plain, discard_plain, not_plain, alone_early, code_alone, word_releases}
 
 module _ {shape : ℕ → Option Shape} {k : Config} {c : ℕ} {h : List Deed} {me : CpuProgress} (play : IsUnderWay shape k c h me) (id : Speculation) where
   -- commit: of an identifier that isn't open

@@ -1,25 +1,17 @@
 -- What the steps of a CPU's calls have in common.
 use Rattle.std.proofs.Common.{◌≡◌, ◌≢◌, ◌≤◌, ◌+◌, ℕ, Bool, true, false, if◌then◌else◌, List, [], ◌∷◌, ◌++◌, Option, Some, None, refl, sym, ap, ◌∙◌, subst, ⊎_elim, arith}
-use Rattle.std.specs.Prelude.{nat_le}
 use Rattle.std.proofs.lemmas.Bool.Decides.{nat_tests}
-use Rattle.dspec_record.specs.declared.field.Shape.{Shape}
-use Rattle.dspec_interleaving.specs.Words.{Speculation, CpuProgress, CallPlace, Spare, start_fault, author, same_actor, owed, owing, scan, in_range, opened, is_undecided, verdict, is_open, releaser}
-use Rattle.dspec_interleaving.specs.Words.{seals, seals_now, IsSound, IsAllowed, CpuLegal, MayComeBy, Pays, facts, CpuStep, call_goes_on, ends, wears, IsSlot, StandsCpu, SpareCounts, PushesNext}
-use Rattle.dspec_interleaving.specs.Words.{ProgressStands, halted, is_worn, late, OnItsWay, Expects, TriedBy, SlotState, word_at, callers, is_among, code_number, same_word}
-use Rattle.dspec_word.specs.declared.act.Act.{Act}
-use Rattle.dspec_word.specs.declared.act.Act.TheVariants.{Attempt}
+use Rattle.std.specs.Prelude.{nat_le}
+use Rattle.dspec_interleaving.specs.Words.{Shape, Speculation, start_fault, author, same_actor, owed, owing, scan, in_range, opened, is_undecided, verdict, is_open, releaser, seals, seals_now}
+use Rattle.dspec_interleaving.specs.Words.{IsSound, IsAllowed, CpuLegal, MayComeBy, Pays, facts, CpuStep, call_goes_on, ends, wears, IsSlot, StandsCpu, SpareCounts, PushesNext, ProgressStands}
+use Rattle.dspec_interleaving.specs.Words.{halted, is_worn, late, OnItsWay, Expects, TriedBy, SlotState, word_at, callers, is_among, code_number, same_word, Act, Attempt, Config, Cpu, Answer, Deed}
+use Rattle.dspec_interleaving.specs.declared.flight.{CallPlace.CallPlace, CpuProgress.CpuProgress, Spare.Spare}
+use Rattle.dspec_interleaving.proofs.StepsAlone.{KeepsSoloRule, DecidesBeside, beside_rests, none_rules, one_rules}
 use Rattle.dspec_interleaving.proofs.StepsWords.{same_word_tells, code_rises}
-use Rattle.dspec_deeds.specs.declared.config.Config.{Config}
-use Rattle.dspec_deeds.specs.declared.calls.Actor.TheVariants.{Cpu}
-use Rattle.dspec_deeds.specs.declared.calls.Answer.{Answer}
-use Rattle.dspec_deeds.specs.declared.deed.Deed.{Deed}
 use Rattle.dspec_interleaving.specs.declared.flight.CallPlace.TheVariants as cpu
 use Rattle.dspec_interleaving.specs.declared.flight.Spare.TheVariants as spare
-use Rattle.dspec_deeds.proofs.TestLemmas.{either_way, off, and_tells, cpu_is_itself}
-use Rattle.dspec_deeds.proofs.SoundLists.{opened_in_range, running_not_late}
-use Rattle.dspec_deeds.proofs.SetUp.{set_up}
-use Rattle.dspec_deeds.proofs.Going.{GoesOn}
-use Rattle.dspec_interleaving.proofs.StepsAlone.{KeepsSoloRule, DecidesBeside, beside_rests, none_rules, one_rules}
+use Rattle.dspec_deeds.proofs.{Going.GoesOn, SetUp.set_up, SoundLists.opened_in_range, SoundLists.running_not_late, TestLemmas.either_way, TestLemmas.off, TestLemmas.and_tells}
+use Rattle.dspec_deeds.proofs.{TestLemmas.cpu_is_itself}
 
 -- the deed may be next behind this list
 abbrev pub MayCome : Config → List Deed → Deed → Type 0

@@ -1,33 +1,19 @@
 -- The steps of a service: the seal and push of a batch, and the settlements.
 use Rattle.std.proofs.Common.{◌≡◌, ◌≤◌, ◌<◌, ◌+◌, ◌*◌, ◌==◌, ℕ, Bool, true, false, ◌&&◌, List, [], ◌∷◌, length, Option, Some, None, if◌then◌else◌, refl, sym, ap, ◌∙◌, subst, arith, true≢false}
-use Rattle.std.specs.Prelude.{nat_lt, nat_le}
 use Rattle.std.proofs.lemmas.Bool.Decides.{nat_tests}
-use Rattle.dspec_record.specs.declared.field.Shape.{Shape}
-use Rattle.dspec_interleaving.specs.Words.{block, awaits, SlotState, settle_at, CpuProgress, Spare, start_fault, is_fill, scan, issue, owed, present, verdict, solo, settled, word_at, ack, contents}
-use Rattle.dspec_interleaving.specs.Words.{held, seals, IsSound, IsAllowed, CpuLegal, SettlesAs, fits_principal, begun, asked, popped, served, shown_service, call_goes_on, cpu_step, settle_fate}
-use Rattle.dspec_interleaving.specs.Words.{IsSlot, StandsCpu, SpareCounts, measured}
-use Rattle.dspec_word.specs.declared.act.Act.{Act}
-use Rattle.dspec_word.specs.declared.act.Act.TheVariants.{Granted}
-use Rattle.dspec_word.specs.declared.code.Code.{Code}
-use Rattle.dspec_word.specs.declared.code.Code.TheVariants.{CommittingMany, Discarding}
-use Rattle.dspec_deeds.specs.declared.config.Config.{Config}
+use Rattle.std.specs.Prelude.{nat_lt, nat_le}
+use Rattle.dspec_interleaving.specs.Words.{Shape, block, awaits, SlotState, settle_at, start_fault, is_fill, scan, issue, owed, present, verdict, solo, settled, word_at, ack, contents, held, seals}
+use Rattle.dspec_interleaving.specs.Words.{IsSound, IsAllowed, CpuLegal, SettlesAs, fits_principal, begun, asked, popped, served, shown_service, call_goes_on, cpu_step, settle_fate, IsSlot}
+use Rattle.dspec_interleaving.specs.Words.{StandsCpu, SpareCounts, measured, Act, Granted, Code, CommittingMany, Discarding, Config, Served, DecideFate, Deed, Settle, Seal}
+use Rattle.dspec_interleaving.specs.declared.flight.{CpuProgress.CpuProgress, Spare.Spare}
 use Rattle.dspec_deeds.specs.declared.calls.Answer.TheVariants as answer
 use Rattle.dspec_deeds.specs.declared.calls.CpuOp.TheVariants as cpu_op
-use Rattle.dspec_deeds.specs.declared.calls.Served.{Served}
-use Rattle.dspec_deeds.specs.declared.deed.DecideFate.{DecideFate}
 use Rattle.dspec_deeds.specs.declared.deed.DecideFate.TheVariants as decided
-use Rattle.dspec_deeds.specs.declared.deed.Deed.{Deed}
-use Rattle.dspec_deeds.specs.declared.deed.Deed.TheVariants.{Settle, Seal}
 use Rattle.dspec_interleaving.specs.declared.flight.CallPlace.TheVariants as cpu
 use Rattle.dspec_interleaving.specs.declared.flight.Spare.TheVariants as spare
-use Rattle.dspec_deeds.proofs.TestLemmas.{and_tells, number_is_itself, numbers_differ}
-use Rattle.dspec_deeds.proofs.Acked.{ack_tells}
-use Rattle.dspec_deeds.proofs.Awaiting.{IsAwaiting, awaiting}
-use Rattle.dspec_deeds.proofs.SetUp.{set_up}
-use Rattle.dspec_interleaving.proofs.StepsWords.{settle_tells}
-use Rattle.dspec_interleaving.proofs.StepsAlone.{none_rules, one_rules}
-use Rattle.dspec_interleaving.proofs.StepsParts.{IsUnderWay, StepStands, either_stands, one_comes, goes_by_none, goes_by, ends_by_none, ends_by}
-use Rattle.dspec_interleaving.proofs.Tests.{not_tells}
+use Rattle.dspec_deeds.proofs.{Acked.ack_tells, Awaiting.IsAwaiting, Awaiting.awaiting, SetUp.set_up, TestLemmas.and_tells, TestLemmas.number_is_itself, TestLemmas.numbers_differ}
+use Rattle.dspec_interleaving.proofs.{StepsAlone.none_rules, StepsAlone.one_rules, StepsParts.IsUnderWay, StepsParts.StepStands, StepsParts.either_stands, StepsParts.one_comes}
+use Rattle.dspec_interleaving.proofs.{StepsParts.goes_by_none, StepsParts.goes_by, StepsParts.ends_by_none, StepsParts.ends_by, StepsWords.settle_tells, Tests.not_tells}
 
 -- one batch more
 seals_more : (c : ℕ) (h : List Deed) → seals c (Seal c ∷ h) ≡ seals c h + 1

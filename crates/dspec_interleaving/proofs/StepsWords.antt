@@ -1,13 +1,10 @@
 -- What a word that was shown tells of the exchange that expects it.
 use Rattle.std.proofs.Common.{◌≡◌, ◌≢◌, ◌≤◌, ◌<◌, ◌==◌, ℕ, Bool, true, false, ◌&&◌, if◌then◌else◌, refl, sym, ap, ◌∙◌, subst, ⊎_elim, arith, true≢false}
-use Rattle.std.specs.Prelude.{nat_lt, nat_le}
 use Rattle.std.proofs.lemmas.Bool.Decides.{nat_tests}
-use Rattle.dspec_word.specs.declared.act.Act.{Act}
-use Rattle.dspec_word.specs.declared.act.Act.TheVariants.{Void, Granted, Attempt, Idle}
-use Rattle.dspec_word.specs.declared.code.Code.{Code}
-use Rattle.dspec_word.specs.declared.code.Code.TheVariants.{Inactive, Active, ActiveOne, ActiveMany, Committing, CommittingMany, Discarding}
-use Rattle.dspec_interleaving.specs.Words.{code_number, is_inactive, awaits, Speculation, SlotState, word_number, speculate_at, speculate_act, commit_at, commit_act, discard_at, discard_act}
-use Rattle.dspec_interleaving.specs.Words.{open_at, settle_at, same_word, is_alone, is_release, released}
+use Rattle.std.specs.Prelude.{nat_lt, nat_le}
+use Rattle.dspec_interleaving.specs.Words.{Act, Void, Granted, Attempt, Idle, Code, Inactive, Active, ActiveOne, ActiveMany, Committing, CommittingMany, Discarding, code_number, is_inactive, awaits}
+use Rattle.dspec_interleaving.specs.Words.{Speculation, SlotState, word_number, speculate_at, speculate_act, commit_at, commit_act, discard_at, discard_act, open_at, settle_at, same_word, is_alone}
+use Rattle.dspec_interleaving.specs.Words.{is_release, released}
 use Rattle.dspec_word.proofs.Numbers.{one_code, one_word}
 use Rattle.dspec_deeds.proofs.TestLemmas.{either_way, off, and_tells, same_number, number_is_itself}
 

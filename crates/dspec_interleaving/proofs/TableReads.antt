@@ -1,9 +1,6 @@
 -- What the tests of words and the tables' acts say of the list.
 use Rattle.std.proofs.Common.{◌≡◌, ℕ, ◌==◌, Bool, true, false, List, if◌then◌else◌, refl, sym, ap, ◌∙◌, ⊎_elim}
-use Rattle.dspec_word.specs.declared.act.Act.{Act}
-use Rattle.dspec_word.specs.declared.act.Act.TheVariants.{Void}
-use Rattle.dspec_interleaving.specs.Words.{Speculation, SlotState, speculate_at, speculate_act, commit_at, commit_act, discard_at, discard_act, is_among, callers, issue, word_at}
-use Rattle.dspec_deeds.specs.declared.deed.Deed.{Deed}
+use Rattle.dspec_interleaving.specs.Words.{Act, Void, Speculation, SlotState, speculate_at, speculate_act, commit_at, commit_act, discard_at, discard_act, is_among, callers, issue, word_at, Deed}
 use Rattle.dspec_deeds.proofs.TestLemmas.{either_way, same_number}
 
 -- a table asks whether the CPU is a caller only at the present issue

@@ -1,10 +1,8 @@
 -- What tests tell, and the ranges of a configuration.
 use Rattle.std.proofs.Common.{◌≡◌, ℕ, ◌≤◌, ◌^◌, Bool, true, false, not, Option, Some, None, if◌then◌else◌, refl, sym, arith, true≢false}
-use Rattle.std.specs.Prelude.{nat_le, is_none}
 use Rattle.std.proofs.lemmas.Bool.Decides.{nat_tests}
-use Rattle.dspec_interleaving.specs.Words.{is_between, is_size, start_fault}
-use Rattle.dspec_deeds.specs.declared.config.Config.{Config}
-use Rattle.dspec_deeds.specs.declared.config.StartFault.TheVariants.{Cpus, Specs, BufSize, SpecSize, Issues, Calls}
+use Rattle.std.specs.Prelude.{nat_le, is_none}
+use Rattle.dspec_interleaving.specs.Words.{is_between, is_size, start_fault, Config, Cpus, Specs, BufSize, SpecSize, Issues, Calls}
 use Rattle.dspec_deeds.proofs.TestLemmas.{and_tells}
 
 -- nothing is there

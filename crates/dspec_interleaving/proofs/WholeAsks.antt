@@ -1,27 +1,20 @@
 -- A speculate, a commit or a discard that runs alone.
 use Rattle.std.proofs.Common.{◌≡◌, ◌≤◌, ℕ, Bool, true, false, List, [], ◌∷◌, Option, if◌then◌else◌, refl, ap, ◌∙◌, subst}
-use Rattle.dspec_record.specs.declared.field.Shape.{Shape}
-use Rattle.dspec_interleaving.specs.Words.{Speculation, commit_at, discard_at, CpuProgress, is_among, callers, is_open, issue, word_at, is_sole, is_sole_or_none, IsSound, shown_commit}
-use Rattle.dspec_interleaving.specs.Words.{shown_discard, is_alone, is_release, same_word, call_goes_on, ends, commit_fate, discard_fate, answer_of, WholeCpu, whole_cpu, enters, measured, Record}
-use Rattle.dspec_interleaving.specs.Words.{speculate_at, fits_speculative, shown_speculate, spoken_at}
-use Rattle.dspec_word.specs.declared.act.Act.{Act}
-use Rattle.dspec_word.specs.declared.act.Act.TheVariants.{Void, Granted, Attempt, Idle}
-use Rattle.dspec_deeds.specs.declared.config.Config.{Config}
+use Rattle.dspec_interleaving.specs.Words.{Shape, Speculation, commit_at, discard_at, is_among, callers, is_open, issue, word_at, is_sole, is_sole_or_none, IsSound, shown_commit, shown_discard}
+use Rattle.dspec_interleaving.specs.Words.{is_alone, is_release, same_word, call_goes_on, ends, commit_fate, discard_fate, answer_of, WholeCpu, whole_cpu, enters, measured, Record, speculate_at}
+use Rattle.dspec_interleaving.specs.Words.{fits_speculative, shown_speculate, spoken_at, Act, Void, Granted, Attempt, Idle, Config, Deed, Commit, Discard, Release, Speculate}
+use Rattle.dspec_interleaving.specs.declared.flight.CpuProgress.{CpuProgress}
 use Rattle.dspec_deeds.specs.declared.calls.Answer.TheVariants as answer
 use Rattle.dspec_deeds.specs.declared.calls.CpuOp.TheVariants as cpu_op
 use Rattle.dspec_deeds.specs.declared.calls.Decided.TheVariants as decided_answer
 use Rattle.dspec_deeds.specs.declared.deed.DecideFate.TheVariants as decided
-use Rattle.dspec_deeds.specs.declared.deed.Deed.{Deed}
-use Rattle.dspec_deeds.specs.declared.deed.Deed.TheVariants.{Commit, Discard, Release, Speculate}
 use Rattle.dspec_interleaving.specs.declared.flight.CallPlace.TheVariants as cpu
 use Rattle.dspec_deeds.proofs.TestLemmas.{off}
 use Rattle.dspec_deeds.proofs.WordActs.{commit_void, commit_attempt, discard_void, discard_attempt, speculate_void, speculate_granted, speculate_attempt}
 use Rattle.dspec_interleaving.proofs.StepsWords.{word_is_itself, is_plain, commit_plain, discard_plain, not_plain, code_alone, word_releases, speculate_not_idle}
-use Rattle.dspec_interleaving.proofs.WholeLeads.{begins, later, idle, Leads, ended, goes, starts, both, on_true}
+use Rattle.dspec_interleaving.proofs.WholeLeads.{begins, later, idle, Leads, ended, goes, starts, both, on_true, asks_leads, RunsTo}
 use Rattle.dspec_deeds.specs.declared.calls.Spoken.TheVariants as spoken_answer
 use Rattle.dspec_deeds.specs.declared.deed.SpeculateFate.TheVariants as spoken
-use Rattle.dspec_interleaving.proofs.WholeLeads.{asks_leads}
-use Rattle.dspec_interleaving.proofs.WholeLeads.{RunsTo}
 
 module _ (shape : ℕ → Option Shape) (k : Config) (c : ℕ) (h : List Deed) (sound : IsSound k h) (some : 1 ≤ k.nspec) (id : Speculation) (r : Record) where
   abbrev void_whole : CpuProgress → WholeCpu

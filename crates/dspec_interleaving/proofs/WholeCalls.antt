@@ -1,35 +1,24 @@
 -- A whole call that runs alone, step by step, does what the definition of whole calls says.
 use Prim.Native.Nat.{zero, suc}
 use Rattle.std.proofs.Common.{◌≡◌, ◌≢◌, ◌≤◌, ◌<◌, ◌+◌, ℕ, Bool, true, false, List, [], ◌∷◌, length, Option, Some, None, if◌then◌else◌, refl, sym, ap, ◌∙◌, subst, arith}
-use Rattle.std.specs.Prelude.{nat_lt, slice_set}
 use Rattle.std.proofs.lemmas.Bool.Decides.{nat_tests}
-use Rattle.dspec_record.specs.declared.field.Shape.{Shape}
-use Rattle.dspec_deeds.specs.declared.config.Config.{Config}
-use Rattle.dspec_deeds.specs.declared.calls.Actor.TheVariants as actor
-use Rattle.dspec_deeds.specs.declared.calls.Answer.TheVariants as answer
-use Rattle.dspec_deeds.specs.declared.calls.ConsumerOp.{ConsumerOp}
-use Rattle.dspec_deeds.specs.declared.calls.ConsumerOp.TheVariants as consumer_op
-use Rattle.dspec_deeds.specs.declared.calls.CpuOp.{CpuOp}
-use Rattle.dspec_deeds.specs.declared.calls.CpuOp.TheVariants as cpu_op
-use Rattle.dspec_deeds.specs.declared.deed.Deed.{Deed}
-use Rattle.dspec_deeds.specs.declared.deed.Deed.TheVariants.{Halt}
-use Rattle.dspec_interleaving.specs.Words.{CpuProgress, ConsumerProgress, CallPlace, Spare, halted, scan, seals, PlayState, IsCoherent, StandsProgress, SpareCounts, PushesNext, ProgressStands}
+use Rattle.std.specs.Prelude.{nat_lt, slice_set}
+use Rattle.dspec_interleaving.specs.Words.{Shape, Config, ConsumerOp, CpuOp, Deed, Halt, halted, scan, seals, PlayState, IsCoherent, StandsProgress, SpareCounts, PushesNext, ProgressStands}
 use Rattle.dspec_interleaving.specs.Words.{progress_of, consumer_begun, takes_at, gives_at, stops, took, begin_cpu, begin_consumer, on_to_end, whole_cpu, is_out, behind_cpu, behind_consumer}
 use Rattle.dspec_interleaving.specs.Words.{cpu_call, consumer_call, IsApart, op_bound, consumer_bound, is_worn, fits_principal, one}
+use Rattle.dspec_interleaving.specs.declared.flight.{CallPlace.CallPlace, ConsumerProgress.ConsumerProgress, CpuProgress.CpuProgress, Spare.Spare}
+use Rattle.dspec_deeds.specs.declared.calls.Actor.TheVariants as actor
+use Rattle.dspec_deeds.specs.declared.calls.Answer.TheVariants as answer
+use Rattle.dspec_deeds.specs.declared.calls.ConsumerOp.TheVariants as consumer_op
+use Rattle.dspec_deeds.specs.declared.calls.CpuOp.TheVariants as cpu_op
 use Rattle.dspec_interleaving.specs.declared.flight.ConsumerFlight.TheVariants as consumer
 use Rattle.dspec_interleaving.specs.declared.flight.CallPlace.TheVariants as cpu
 use Rattle.dspec_interleaving.specs.declared.flight.Spare.TheVariants as spare
 use Rattle.dspec_deeds.proofs.SetUp.{set_up}
-use Rattle.dspec_interleaving.proofs.WholeLeads.{call_alone}
-use Rattle.dspec_interleaving.proofs.WholeLeads.{begins, idle, RunsTo, starts, worn, ended, both}
-use Rattle.dspec_interleaving.proofs.WholeAsks.{speculate_alone, commit_alone, discard_alone}
-use Rattle.dspec_interleaving.proofs.WholeScan.{speculation_alone}
-use Rattle.dspec_interleaving.proofs.WholeSettling.{IsAtRest}
-use Rattle.dspec_interleaving.proofs.WholeService.{service_alone}
-use Rattle.dspec_interleaving.proofs.CleanedParts.{Clears, clear_ended}
-use Rattle.dspec_interleaving.proofs.WholeClean.{clean_leads}
-use Rattle.dspec_interleaving.proofs.Coherence.{begin_consumer_coherent}
-use Rattle.dspec_interleaving.proofs.WholeEnds.{bare, same_end, ends_as, cpu_ends_as}
+use Rattle.dspec_interleaving.proofs.{CleanedParts.Clears, CleanedParts.clear_ended, Coherence.begin_consumer_coherent, WholeAsks.speculate_alone, WholeAsks.commit_alone, WholeAsks.discard_alone}
+use Rattle.dspec_interleaving.proofs.{WholeClean.clean_leads, WholeEnds.bare, WholeEnds.same_end, WholeEnds.ends_as, WholeEnds.cpu_ends_as, WholeLeads.call_alone, WholeLeads.begins, WholeLeads.idle}
+use Rattle.dspec_interleaving.proofs.{WholeLeads.RunsTo, WholeLeads.starts, WholeLeads.worn, WholeLeads.ended, WholeLeads.both, WholeScan.speculation_alone, WholeService.service_alone}
+use Rattle.dspec_interleaving.proofs.{WholeSettling.IsAtRest}
 
 -- one less
 pub less : (n : ℕ) → 1 ≤ n → (j : ℕ) × (suc j ≡ n)

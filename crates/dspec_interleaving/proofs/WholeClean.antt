@@ -1,20 +1,16 @@
 -- A clean that runs alone.
 use Prim.Native.Nat.{zero, suc}
-use Rattle.std.proofs.Common.{◌≡◌, ◌<◌, ◌+◌, ℕ, Bool, true, false, ◌&&◌, ◌==◌, List, []}
-use Rattle.std.proofs.Common.{◌∷◌, ◌++◌, Option, if◌then◌else◌, refl, sym, ap, ◌∙◌, subst, arith}
-use Rattle.std.specs.Prelude.{nat_lt}
+use Rattle.std.proofs.Common.{◌≡◌, ◌<◌, ◌+◌, ℕ, Bool, true, false, ◌&&◌, ◌==◌, List, [], ◌∷◌, ◌++◌, Option, if◌then◌else◌, refl, sym, ap, ◌∙◌, subst, arith}
 use Rattle.std.proofs.lemmas.Bool.Decides.{nat_tests}
-use Rattle.dspec_record.specs.declared.field.Shape.{Shape}
-use Rattle.dspec_interleaving.specs.Words.{awaits, CpuProgress, ConsumerProgress, issue, present, settled, ack, word_at, PlayState, stops, next_slot, loads_slot, loads_ack, reaps, same_word}
-use Rattle.dspec_interleaving.specs.Words.{WholeConsumer, all_settled, is_reapable, cleaned_up, releases_up}
+use Rattle.std.specs.Prelude.{nat_lt}
+use Rattle.dspec_interleaving.specs.Words.{Shape, awaits, issue, present, settled, ack, word_at, PlayState, stops, next_slot, loads_slot, loads_ack, reaps, same_word, WholeConsumer, all_settled}
+use Rattle.dspec_interleaving.specs.Words.{is_reapable, cleaned_up, releases_up, Deed, Release}
+use Rattle.dspec_interleaving.specs.declared.flight.{ConsumerProgress.ConsumerProgress, CpuProgress.CpuProgress}
 use Rattle.dspec_deeds.specs.declared.calls.Answer.TheVariants as answer
-use Rattle.dspec_deeds.specs.declared.deed.Deed.{Deed}
-use Rattle.dspec_deeds.specs.declared.deed.Deed.TheVariants.{Release}
 use Rattle.dspec_interleaving.specs.declared.flight.ConsumerFlight.TheVariants as consumer
-use Rattle.dspec_deeds.proofs.TestLemmas.{number_is_itself}
-use Rattle.dspec_deeds.proofs.Acked.{acked_is}
-use Rattle.dspec_interleaving.proofs.StepsWords.{word_is_itself}
+use Rattle.dspec_deeds.proofs.{Acked.acked_is, TestLemmas.number_is_itself}
 use Rattle.dspec_interleaving.proofs.CleanedParts.{Clears, IsQuiet, cleaned_up_rests, clear_ended, clear_false, clear_goes, clear_test, clear_true, later_side, one_missing, reapable_is}
+use Rattle.dspec_interleaving.proofs.StepsWords.{word_is_itself}
 
 module _ (shape : ℕ → Option Shape) (st : PlayState) (all : List CpuProgress) (h : List Deed) (q : IsQuiet st.config h) (i0 : ℕ) (cpus : suc i0 ≡ st.config.cpus) where
   -- the list once the first slots are cleaned

@@ -1,23 +1,16 @@
 -- A call that a play runs to its end is put down once, with the answer and the state that its steps one by one leave.
-use Rattle.std.proofs.Common.{◌≡◌, ℕ, zero, suc, ◌+◌, ◌<◌, ◌≤◌, Bool, true, false, List, [], ◌∷◌, ◌++◌, Option, Some, None, if◌then◌else◌, refl, sym, ap, subst, ⊎_elim, arith}
+use Rattle.std.proofs.Common.{◌≡◌, ℕ, zero, suc, ◌+◌, ◌<◌, ◌≤◌, Bool, true, false, List, [], ◌∷◌, ◌++◌, Option, Some, None, if◌then◌else◌, refl, sym, ap, subst, ⊎_elim, arith, ◌∙◌}
+use Rattle.std.proofs.lemmas.{Bool.Decides.nat_tests, List.get_or-set_same}
 use Rattle.std.specs.Prelude.{is_none}
-use Rattle.std.proofs.lemmas.Bool.Decides.{nat_tests}
-use Rattle.std.proofs.lemmas.List.{get_or-set_same}
-use Rattle.dspec_record.specs.declared.field.Shape.{Shape}
-use Rattle.dspec_deeds.specs.declared.calls.Actor.{Actor}
-use Rattle.dspec_deeds.specs.declared.calls.Actor.TheVariants as actor
-use Rattle.dspec_deeds.specs.declared.calls.Answer.{Answer}
-use Rattle.dspec_deeds.specs.declared.calls.CpuOp.{CpuOp}
-use Rattle.dspec_deeds.specs.declared.calls.Op.{Op}
-use Rattle.dspec_deeds.specs.declared.calls.Op.TheVariants as op
-use Rattle.dspec_interleaving.specs.Words.{CpuProgress, CallPlace, op_bound, steps_limit, steps_of, cpu_limit, cpu_call_of, call_of, is_actor, is_idle, IsCoherent, PlayState, progress_of}
+use Rattle.dspec_interleaving.specs.Words.{Shape, Actor, Answer, CpuOp, Op, op_bound, steps_limit, steps_of, cpu_limit, cpu_call_of, call_of, is_actor, is_idle, IsCoherent, PlayState, progress_of}
 use Rattle.dspec_interleaving.specs.Words.{idle_progress, Stepped, begin_cpu, step, on_to_end, EndedCall, IsPlayingAt, Playing, begun_cpu, stepped, to_end}
+use Rattle.dspec_interleaving.specs.declared.flight.{CallPlace.CallPlace, CpuProgress.CpuProgress}
+use Rattle.dspec_deeds.specs.declared.calls.Actor.TheVariants as actor
+use Rattle.dspec_deeds.specs.declared.calls.Op.TheVariants as op
 use Rattle.dspec_interleaving.specs.declared.flight.CallPlace.TheVariants as cpu
-use Rattle.dspec_interleaving.proofs.CleanedParts.{answer_stays, more_steps}
-use Rattle.dspec_interleaving.proofs.Coherence.{IsActor, begin_cpu_coherent, step_config, step_coherent}
-use Rattle.dspec_interleaving.proofs.PlayerMoves.{with_answer, ended_stays, step_at}
-use Rattle.dspec_interleaving.proofs.StepCounts.{Ends, StaysOn, is_below, steps_below, step_ends}
-use Rattle.std.proofs.Common.{◌∙◌}
+use Rattle.dspec_interleaving.proofs.{CleanedParts.answer_stays, CleanedParts.more_steps, Coherence.IsActor, Coherence.begin_cpu_coherent, Coherence.step_config, Coherence.step_coherent}
+use Rattle.dspec_interleaving.proofs.{PlayerMoves.with_answer, PlayerMoves.ended_stays, PlayerMoves.step_at, StepCounts.Ends, StepCounts.StaysOn, StepCounts.is_below, StepCounts.steps_below}
+use Rattle.dspec_interleaving.proofs.{StepCounts.step_ends}
 
 -- behind the run of a call one more is put down, as the steps one by one leave and answer it
 pub record EndsAs (a : Actor) (o : Op) (es : List EndedCall) (q : Playing) (s : Stepped) : Type 0 where

@@ -1,20 +1,15 @@
 -- A CPU's call that runs alone moves its own side and the list only. What all such calls have in common.
 use Prim.Native.Nat.{zero, suc}
 use Rattle.std.proofs.Common.{◌≡◌, ℕ, ◌<◌, List, [], ◌∷◌, ◌++◌, length, Option, Some, None, refl, ap, ◌∙◌, ◌+◌, ◌≤◌, Bool, true, false, not, if◌then◌else◌, arith}
+use Rattle.std.proofs.lemmas.{Bool.Decides.nat_tests, List.get_or-set_same}
 use Rattle.std.specs.Prelude.{slice_set}
-use Rattle.std.proofs.lemmas.List.{get_or-set_same}
-use Rattle.dspec_record.specs.declared.field.Shape.{Shape}
-use Rattle.dspec_deeds.specs.declared.config.Config.{Config}
+use Rattle.dspec_interleaving.specs.Words.{Shape, Config, Answer, CpuOp, Deed, CpuStep, cpu_step, PlayState, progress_of, idle_progress, Stepped, begin_cpu, moved_to, step_cpu, on_to_end, WholeCpu}
+use Rattle.dspec_interleaving.specs.Words.{behind_cpu, Speculation, halted, in_range, opened, verdict, is_undecided, is_open, IsSound, is_worn, call_goes_on, ends, wears, begun, enters, wears_out}
+use Rattle.dspec_interleaving.specs.Words.{measured}
+use Rattle.dspec_interleaving.specs.declared.flight.{CallPlace.CallPlace, CpuProgress.CpuProgress}
 use Rattle.dspec_deeds.specs.declared.calls.Actor.TheVariants as actor
-use Rattle.dspec_deeds.specs.declared.calls.Answer.{Answer}
-use Rattle.dspec_deeds.specs.declared.calls.CpuOp.{CpuOp}
-use Rattle.dspec_deeds.specs.declared.deed.Deed.{Deed}
-use Rattle.dspec_interleaving.specs.Words.{CpuProgress, CallPlace, CpuStep, cpu_step, PlayState, progress_of, idle_progress, Stepped, begin_cpu, moved_to, step_cpu, on_to_end, WholeCpu, behind_cpu}
-use Rattle.dspec_interleaving.specs.Words.{Speculation, halted, in_range, opened, verdict, is_undecided, is_open, IsSound, is_worn, call_goes_on, ends, wears, begun, enters, wears_out, measured}
 use Rattle.dspec_interleaving.specs.declared.flight.CallPlace.TheVariants as cpu
-use Rattle.std.proofs.lemmas.Bool.Decides.{nat_tests}
-use Rattle.dspec_deeds.proofs.TestLemmas.{and_tells, off}
-use Rattle.dspec_deeds.proofs.SoundLists.{opened_in_range}
+use Rattle.dspec_deeds.proofs.{SoundLists.opened_in_range, TestLemmas.and_tells, TestLemmas.off}
 
 -- a CPU's side, the list, and the answer where the call has ended
 pub record Lone : Type 0 where

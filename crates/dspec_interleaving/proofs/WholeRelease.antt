@@ -1,20 +1,15 @@
 -- Once every CPU has run a service after a decision, and the consumer a clean after those, the slot is released.
 use Prim.Native.Nat.{zero, suc}
-use Rattle.std.proofs.Common.{◌≡◌, ◌≤◌, ◌<◌, ◌⊎◌, inl, inr, ℕ, Bool, true, false, ◌&&◌, List}
-use Rattle.std.proofs.Common.{[], ◌∷◌, ◌++◌, Option, Some, None, if◌then◌else◌, refl, sym, ap, ◌∙◌, subst, ⊎_elim, arith}
-use Rattle.dspec_record.specs.declared.field.Shape.{Shape}
-use Rattle.dspec_interleaving.specs.Words.{Speculation, issue, verdict, is_undecided, solo, settled, PlayState, StandsProgress, progress_of, Call, of_cpu, of_consumer, behind_call, behind_all}
-use Rattle.dspec_interleaving.specs.Words.{is_sealing, whole_service, all_settled, IsCall, AreCalls, HasService, IsReleased}
+use Rattle.std.proofs.Common.{◌≡◌, ◌≤◌, ◌<◌, ◌⊎◌, inl, inr, ℕ, Bool, true, false, ◌&&◌, List, [], ◌∷◌, ◌++◌, Option, Some, None, if◌then◌else◌, refl, sym, ap, ◌∙◌, subst, ⊎_elim, arith}
+use Rattle.dspec_interleaving.specs.Words.{Shape, Speculation, issue, verdict, is_undecided, solo, settled, PlayState, StandsProgress, progress_of, Call, of_cpu, of_consumer, behind_call}
+use Rattle.dspec_interleaving.specs.Words.{behind_all, is_sealing, whole_service, all_settled, IsCall, AreCalls, HasService, IsReleased, Seal}
 use Rattle.dspec_deeds.specs.declared.calls.ConsumerOp.TheVariants as consumer_op
 use Rattle.dspec_deeds.specs.declared.calls.CpuOp.TheVariants as cpu_op
-use Rattle.dspec_deeds.specs.declared.deed.Deed.TheVariants.{Seal}
 use Rattle.dspec_interleaving.specs.declared.flight.Spare.TheVariants as spare
-use Rattle.dspec_deeds.proofs.SoundLists.{opened_in_range}
-use Rattle.dspec_deeds.proofs.SetUp.{set_up}
-use Rattle.dspec_deeds.proofs.PresentIds.{decided_given}
+use Rattle.dspec_deeds.proofs.{PresentIds.decided_given, SetUp.set_up, SoundLists.opened_in_range}
+use Rattle.dspec_interleaving.proofs.ReleasedParts.{IsShared, releases_by, settled_more, settles_by, shared_stays, unreleased}
 use Rattle.dspec_interleaving.proofs.WholeSettling.{IsAtRest}
 use Rattle.dspec_interleaving.proofs.WholeStates.{released_stays, IsResting, behind_config, still_calls, rest_all, config_all, behind_rests, behind_grows}
-use Rattle.dspec_interleaving.proofs.ReleasedParts.{IsShared, releases_by, settled_more, settles_by, shared_stays, unreleased}
 
 module _ (shape : ℕ → Option Shape) (id : Speculation) where
   -- released since, or settled by the CPU

@@ -2,23 +2,17 @@
 use Prim.Native.Nat.{zero, suc}
 use Rattle.std.proofs.Common.{◌≡◌, ◌+◌, ◌-◌, ℕ, Bool, true, false, not, ◌&&◌, ◌||◌, ◌==◌, List, [], ◌∷◌, Option, Some, None, if◌then◌else◌, refl, sym, ap, ◌∙◌, subst, arith}
 use Rattle.std.proofs.lemmas.Bool.Decides.{nat_tests}
-use Rattle.dspec_record.specs.declared.field.Shape.{Shape}
-use Rattle.dspec_interleaving.specs.Words.{SlotState, is_decided, open_at, attempt, CpuProgress, halted, issue, present, is_free, is_busy, owed, scan, word_at, IsSound, is_worn, cpu_step}
-use Rattle.dspec_interleaving.specs.Words.{shown_scan, missed, same_word, ends, call_goes_on, missed_busy, WholeCpu, whole_cpu, enters, least_free, is_any_busy, missed_up, gives, or_slot, measured}
-use Rattle.dspec_word.specs.declared.act.Act.TheVariants.{Void}
-use Rattle.dspec_word.specs.declared.code.Code.TheVariants.{Active}
-use Rattle.dspec_deeds.specs.declared.config.Config.{Config}
+use Rattle.dspec_interleaving.specs.Words.{Shape, SlotState, is_decided, open_at, attempt, halted, issue, present, is_free, is_busy, owed, scan, word_at, IsSound, is_worn, cpu_step, shown_scan}
+use Rattle.dspec_interleaving.specs.Words.{missed, same_word, ends, call_goes_on, missed_busy, WholeCpu, whole_cpu, enters, least_free, is_any_busy, missed_up, gives, or_slot, measured, Void}
+use Rattle.dspec_interleaving.specs.Words.{Active, Config, Deed, Scan, Opened, Miss}
+use Rattle.dspec_interleaving.specs.declared.flight.CpuProgress.{CpuProgress}
 use Rattle.dspec_deeds.specs.declared.calls.Answer.TheVariants as answer
 use Rattle.dspec_deeds.specs.declared.calls.CpuOp.TheVariants as cpu_op
 use Rattle.dspec_deeds.specs.declared.calls.Opening.TheVariants as opening
-use Rattle.dspec_deeds.specs.declared.deed.Deed.{Deed}
-use Rattle.dspec_deeds.specs.declared.deed.Deed.TheVariants.{Scan, Opened, Miss}
 use Rattle.dspec_interleaving.specs.declared.flight.CallPlace.TheVariants as cpu
-use Rattle.dspec_deeds.proofs.TestLemmas.{number_is_itself}
-use Rattle.dspec_deeds.proofs.WordCodes.{busy_is, free_is}
+use Rattle.dspec_deeds.proofs.{TestLemmas.number_is_itself, WordCodes.busy_is, WordCodes.free_is}
 use Rattle.dspec_interleaving.proofs.StepsWords.{word_is_itself}
-use Rattle.dspec_interleaving.proofs.WholeLeads.{begins, later, idle, Leads, ended, worn, goes, starts, both, on_true, on_false}
-use Rattle.dspec_interleaving.proofs.WholeLeads.{RunsTo}
+use Rattle.dspec_interleaving.proofs.WholeLeads.{begins, later, idle, Leads, ended, worn, goes, starts, both, on_true, on_false, RunsTo}
 
 -- h is the list behind the call's Scan
 module _ (shape : ℕ → Option Shape) (k : Config) (c : ℕ) (h : List Deed) (sound : IsSound k h) (fresh : missed_busy c h ≡ false) where

@@ -1,16 +1,12 @@
 -- A service that runs alone.
 use Prim.Native.Nat.{zero, suc}
-use Rattle.std.proofs.Common.{◌≡◌, ◌≢◌, ◌+◌, ℕ, Bool, true, false, not, ◌&&◌, ◌==◌, List, []}
-use Rattle.std.proofs.Common.{◌∷◌, Option, Some, if◌then◌else◌, refl, sym, ap, ◌∙◌, subst, arith}
-use Rattle.std.specs.Prelude.{nat_lt}
+use Rattle.std.proofs.Common.{◌≡◌, ◌≢◌, ◌+◌, ℕ, Bool, true, false, not, ◌&&◌, ◌==◌, List, [], ◌∷◌, Option, Some, if◌then◌else◌, refl, sym, ap, ◌∙◌, subst, arith}
 use Rattle.std.proofs.lemmas.Bool.Decides.{nat_tests}
-use Rattle.dspec_record.specs.declared.field.Shape.{Shape}
-use Rattle.dspec_deeds.specs.declared.config.Config.{Config}
+use Rattle.std.specs.Prelude.{nat_lt}
+use Rattle.dspec_interleaving.specs.Words.{Shape, Config, Deed, Seal, is_fill, seals, SpareCounts, cpu_step, loads_service, asked, popped, call_goes_on, WholeCpu, whole_cpu, whole_service}
+use Rattle.dspec_interleaving.specs.Words.{are_all_back, is_out, measured, sealed_by}
+use Rattle.dspec_interleaving.specs.declared.flight.{CpuProgress.CpuProgress, Spare.Spare}
 use Rattle.dspec_deeds.specs.declared.calls.CpuOp.TheVariants as cpu_op
-use Rattle.dspec_deeds.specs.declared.deed.Deed.{Deed}
-use Rattle.dspec_deeds.specs.declared.deed.Deed.TheVariants.{Seal}
-use Rattle.dspec_interleaving.specs.Words.{CpuProgress, Spare, is_fill, seals, SpareCounts, cpu_step, loads_service, asked, popped, call_goes_on, WholeCpu, whole_cpu, whole_service, are_all_back}
-use Rattle.dspec_interleaving.specs.Words.{is_out, measured, sealed_by}
 use Rattle.dspec_interleaving.specs.declared.flight.CallPlace.TheVariants as cpu
 use Rattle.dspec_interleaving.specs.declared.flight.Spare.TheVariants as spare
 use Rattle.dspec_deeds.proofs.TestLemmas.{and_false}

@@ -1,28 +1,18 @@
 -- What a service settles, slot by slot, in a session at rest.
 use Prim.Native.Nat.{zero, suc}
-use Rattle.std.proofs.Common.{◌≡◌, ◌<◌, ◌+◌, ℕ, Bool, true, false, not, ◌&&◌, ◌==◌, List, []}
-use Rattle.std.proofs.Common.{◌∷◌, ◌++◌, Option, None, is_none, if◌then◌else◌, refl, sym, ap, ◌∙◌, subst, arith, true≢false}
-use Rattle.std.specs.Prelude.{nat_le}
+use Rattle.std.proofs.Common.{◌≡◌, ◌<◌, ◌+◌, ℕ, Bool, true, false, not, ◌&&◌, ◌==◌, List, [], ◌∷◌, ◌++◌, Option, None, is_none, if◌then◌else◌, refl, sym, ap, ◌∙◌, subst, arith, true≢false}
 use Rattle.std.proofs.lemmas.Bool.Decides.{nat_tests}
-use Rattle.dspec_record.specs.declared.field.Shape.{Shape}
-use Rattle.dspec_word.specs.declared.act.Act.TheVariants.{Granted, Idle}
-use Rattle.dspec_word.specs.declared.code.Code.TheVariants.{Inactive, Committing, CommittingMany}
-use Rattle.dspec_interleaving.specs.Words.{awaits, CpuProgress, is_commit, issue, present, opened, Ruling, undecided, committed, discarded, verdict, is_undecided, callers, standing, is_sole_or_none}
-use Rattle.dspec_interleaving.specs.Words.{solo, settled, is_busy, owed, scan, ack, word_at, IsSound, SettlesAs, cpu_step, shown_service, served, call_goes_on, ends, commit_fate, settle_fate}
-use Rattle.dspec_interleaving.specs.Words.{WholeCpu, enters, owes, settles_as, settled_at, settled_up, settlements_up_to, whole_service, measured}
-use Rattle.dspec_deeds.specs.declared.config.Config.{Config}
+use Rattle.std.specs.Prelude.{nat_le}
+use Rattle.dspec_interleaving.specs.Words.{Shape, Granted, Idle, Inactive, Committing, CommittingMany, awaits, is_commit, issue, present, opened, Ruling, undecided, committed, discarded, verdict}
+use Rattle.dspec_interleaving.specs.Words.{is_undecided, callers, standing, is_sole_or_none, solo, settled, is_busy, owed, scan, ack, word_at, IsSound, SettlesAs, cpu_step, shown_service, served}
+use Rattle.dspec_interleaving.specs.Words.{call_goes_on, ends, commit_fate, settle_fate, WholeCpu, enters, owes, settles_as, settled_at, settled_up, settlements_up_to, whole_service, measured}
+use Rattle.dspec_interleaving.specs.Words.{Config, Served, DecideFate, Deed, Settle}
+use Rattle.dspec_interleaving.specs.declared.flight.CpuProgress.{CpuProgress}
 use Rattle.dspec_deeds.specs.declared.calls.Answer.TheVariants as answer
-use Rattle.dspec_deeds.specs.declared.calls.Served.{Served}
-use Rattle.dspec_deeds.specs.declared.deed.DecideFate.{DecideFate}
-use Rattle.dspec_deeds.specs.declared.deed.Deed.{Deed}
-use Rattle.dspec_deeds.specs.declared.deed.Deed.TheVariants.{Settle}
 use Rattle.dspec_interleaving.specs.declared.flight.CallPlace.TheVariants as cpu
-use Rattle.dspec_deeds.proofs.TestLemmas.{and_tells, number_is_itself}
-use Rattle.dspec_deeds.proofs.Acked.{ack_tells}
-use Rattle.dspec_deeds.proofs.PresentIds.{decided_given}
-use Rattle.dspec_deeds.proofs.Awaiting.{awaits_is}
-use Rattle.dspec_interleaving.proofs.WholeLeads.{later, idle, Leads, ended, goes, on_true, on_false}
+use Rattle.dspec_deeds.proofs.{Acked.ack_tells, Awaiting.awaits_is, PresentIds.decided_given, TestLemmas.and_tells, TestLemmas.number_is_itself}
 use Rattle.dspec_interleaving.proofs.Tests.{is_nothing, not_tells}
+use Rattle.dspec_interleaving.proofs.WholeLeads.{later, idle, Leads, ended, goes, on_true, on_false}
 
 -- between two calls of the CPU
 pub record IsAtRest (k : Config) (c : ℕ) (h : List Deed) : Type 0 where

@@ -1,35 +1,21 @@
 -- What holds between two whole calls.
-use Rattle.std.proofs.Common.{◌≡◌, ◌≢◌, ◌≤◌, ◌<◌, ◌⊎◌, inl, inr, ℕ, Bool, true, false, List, [], ◌∷◌}
-use Rattle.std.proofs.Common.{◌++◌, length, Option, Some, None, if◌then◌else◌, refl, sym, ap, ◌∙◌, subst, ⊎_elim, arith, append_assoc}
-use Rattle.std.specs.Prelude.{nat_lt, slice_set}
+use Rattle.std.proofs.Common.{◌≡◌, ◌≢◌, ◌≤◌, ◌<◌, ◌⊎◌, inl, inr, ℕ, Bool, true, false, List, [], ◌∷◌, ◌++◌, length, Option, Some, None, if◌then◌else◌, refl, sym, ap, ◌∙◌, subst, ⊎_elim, arith}
+use Rattle.std.proofs.Common.{append_assoc}
 use Rattle.std.proofs.lemmas.List.{get_or-set_same}
-use Rattle.dspec_record.specs.declared.field.Shape.{Shape}
-use Rattle.dspec_interleaving.specs.Words.{Speculation, CpuProgress, ConsumerFlight, CallPlace, issue, solo, start_fault, seals, IsSound, IsLegal, PlayState, IsCoherent, StandsProgress, progress_of}
-use Rattle.dspec_interleaving.specs.Words.{is_idle, idle_progress, answer_of, IsLast, ReleasesThen, Stepped, at_start, begin_cpu, begin_consumer, step, step_cpu, step_consumer, on_to_end}
-use Rattle.dspec_interleaving.specs.Words.{WholeConsumer, is_out, Call, of_cpu, of_consumer, behind_call, behind_all, cpu_call, consumer_call, behind_cpu, behind_consumer, IsApart, IsCall, AreCalls}
-use Rattle.dspec_interleaving.specs.Words.{IsReleased, op_bound, consumer_bound}
-use Rattle.dspec_deeds.specs.declared.config.Config.{Config}
-use Rattle.dspec_deeds.specs.declared.calls.Actor.{Actor}
+use Rattle.std.specs.Prelude.{nat_lt, slice_set}
+use Rattle.dspec_interleaving.specs.Words.{Shape, Speculation, issue, solo, start_fault, seals, IsSound, IsLegal, PlayState, IsCoherent, StandsProgress, progress_of, is_idle, idle_progress}
+use Rattle.dspec_interleaving.specs.Words.{answer_of, IsLast, ReleasesThen, Stepped, at_start, begin_cpu, begin_consumer, step, step_cpu, step_consumer, on_to_end, WholeConsumer, is_out, Call}
+use Rattle.dspec_interleaving.specs.Words.{of_cpu, of_consumer, behind_call, behind_all, cpu_call, consumer_call, behind_cpu, behind_consumer, IsApart, IsCall, AreCalls, IsReleased, op_bound}
+use Rattle.dspec_interleaving.specs.Words.{consumer_bound, Config, Actor, Answer, ConsumerOp, CpuOp, DecideFate, Deed, Commit, Discard, Release}
+use Rattle.dspec_interleaving.specs.declared.flight.{CallPlace.CallPlace, ConsumerFlight.ConsumerFlight, CpuProgress.CpuProgress}
 use Rattle.dspec_deeds.specs.declared.calls.Actor.TheVariants as actor
-use Rattle.dspec_deeds.specs.declared.calls.Answer.{Answer}
-use Rattle.dspec_deeds.specs.declared.calls.ConsumerOp.{ConsumerOp}
 use Rattle.dspec_deeds.specs.declared.calls.ConsumerOp.TheVariants as consumer_op
-use Rattle.dspec_deeds.specs.declared.calls.CpuOp.{CpuOp}
-use Rattle.dspec_deeds.specs.declared.deed.DecideFate.{DecideFate}
 use Rattle.dspec_deeds.specs.declared.deed.DecideFate.TheVariants as decided
-use Rattle.dspec_deeds.specs.declared.deed.Deed.{Deed}
-use Rattle.dspec_deeds.specs.declared.deed.Deed.TheVariants.{Commit, Discard, Release}
 use Rattle.dspec_interleaving.specs.declared.flight.CallPlace.TheVariants as cpu
-use Rattle.dspec_deeds.proofs.TestLemmas.{number_is_itself}
-use Rattle.dspec_deeds.proofs.PresentIds.{open_is_now}
-use Rattle.dspec_deeds.proofs.WordChanges.{discard_open}
-use Rattle.dspec_deeds.proofs.SoundLists.{issue_grows}
-use Rattle.dspec_interleaving.proofs.Coherence.{IsActor, idle_at, start_coherent, begin_cpu_coherent, begin_consumer_coherent, step_config, step_coherent, to_end_keeps, on_to_end_coherent}
-use Rattle.dspec_interleaving.proofs.WholeEnds.{bare, cpu_ends_as}
-use Rattle.dspec_interleaving.proofs.SoloRelease.{decided_alone, consumer_decides_none, released_next}
-use Rattle.dspec_interleaving.proofs.WholeCalls.{cpu_whole, consumer_whole}
-use Rattle.dspec_interleaving.proofs.Replacing.{put}
-use Rattle.dspec_interleaving.proofs.Tests.{is_nothing}
+use Rattle.dspec_deeds.proofs.{PresentIds.open_is_now, SoundLists.issue_grows, TestLemmas.number_is_itself, WordChanges.discard_open}
+use Rattle.dspec_interleaving.proofs.{Coherence.IsActor, Coherence.idle_at, Coherence.start_coherent, Coherence.begin_cpu_coherent, Coherence.begin_consumer_coherent, Coherence.step_config}
+use Rattle.dspec_interleaving.proofs.{Coherence.step_coherent, Coherence.to_end_keeps, Coherence.on_to_end_coherent, Replacing.put, SoloRelease.decided_alone, SoloRelease.consumer_decides_none}
+use Rattle.dspec_interleaving.proofs.{SoloRelease.released_next, Tests.is_nothing, WholeCalls.cpu_whole, WholeCalls.consumer_whole, WholeEnds.bare, WholeEnds.cpu_ends_as}
 
 -- a list goes on from another
 pub record Grows (h now : List Deed) : Type 0 where

@@ -1,29 +1,20 @@
 -- A schedule of whole calls, one after another, plays what the definition of whole calls says.
-use Rattle.std.proofs.Common.{◌≡◌, ℕ, zero, suc, ◌+◌, ◌<◌, ◌≤◌, Bool, true, not, List, [], ◌∷◌}
-use Rattle.std.proofs.Common.{◌++◌, map, Option, Some, None, if◌then◌else◌, refl, sym, ap, ◌∙◌, subst, arith, append_assoc}
+use Rattle.std.proofs.Common.{◌≡◌, ℕ, zero, suc, ◌+◌, ◌<◌, ◌≤◌, Bool, true, not, List, [], ◌∷◌, ◌++◌, map, Option, Some, None, if◌then◌else◌, refl, sym, ap, ◌∙◌, subst, arith, append_assoc}
+use Rattle.std.proofs.lemmas.{Bool.Decides.nat_tests, List.append-nil}
 use Rattle.std.specs.Prelude.{nat_lt, is_none}
-use Rattle.std.proofs.lemmas.Bool.Decides.{nat_tests}
-use Rattle.std.proofs.lemmas.List.{append-nil}
-use Rattle.dspec_record.specs.declared.field.Shape.{Shape}
-use Rattle.dspec_interleaving.specs.Words.{Record, ConsumerFlight, CallPlace, PlayFault, op_bound, consumer_bound, most_steps, record_passes, is_about, PlayState, progress_of, start_fault, Stepped}
-use Rattle.dspec_interleaving.specs.Words.{begin_consumer, at_start, EndedCall, Playing, IsPlayingAt, begun_consumer, playing_at_start, ran, turned, all_turned, cpus_ran, all_ran, played}
-use Rattle.dspec_interleaving.specs.Words.{begin_refusal, or_else, setup_fault, refusal, turn_fault, play_fault, Call, of_cpu, of_consumer, behind_call, behind_all, whole_answer, IsCall, AreCalls}
-use Rattle.dspec_interleaving.specs.Words.{turn_of, actor_of, operation_of, HasAcceptedRecord, AreAccepted, all_ended}
-use Rattle.dspec_deeds.specs.declared.config.Config.{Config}
-use Rattle.dspec_deeds.specs.declared.config.StartFault.{StartFault}
+use Rattle.dspec_interleaving.specs.Words.{Shape, Record, op_bound, consumer_bound, most_steps, record_passes, is_about, PlayState, progress_of, start_fault, Stepped, begin_consumer, at_start}
+use Rattle.dspec_interleaving.specs.Words.{EndedCall, Playing, IsPlayingAt, begun_consumer, playing_at_start, ran, turned, all_turned, cpus_ran, all_ran, played, begin_refusal, or_else, setup_fault}
+use Rattle.dspec_interleaving.specs.Words.{refusal, turn_fault, play_fault, Call, of_cpu, of_consumer, behind_call, behind_all, whole_answer, IsCall, AreCalls, turn_of, actor_of, operation_of}
+use Rattle.dspec_interleaving.specs.Words.{HasAcceptedRecord, AreAccepted, all_ended, Config, StartFault, Answer, ConsumerOp}
+use Rattle.dspec_interleaving.specs.declared.{flight.CallPlace.CallPlace, flight.ConsumerFlight.ConsumerFlight, outcome.PlayFault.PlayFault}
 use Rattle.dspec_deeds.specs.declared.calls.Actor.TheVariants as actor
-use Rattle.dspec_deeds.specs.declared.calls.Answer.{Answer}
-use Rattle.dspec_deeds.specs.declared.calls.ConsumerOp.{ConsumerOp}
 use Rattle.dspec_deeds.specs.declared.calls.ConsumerOp.TheVariants as consumer_op
 use Rattle.dspec_interleaving.specs.declared.flight.ConsumerFlight.TheVariants as consumer
 use Rattle.dspec_interleaving.specs.declared.refusal.BeginFault.TheVariants as begin_fault
 use Rattle.dspec_deeds.proofs.SetUp.{set_up}
-use Rattle.dspec_interleaving.proofs.Coherence.{begin_consumer_coherent}
-use Rattle.dspec_interleaving.proofs.Bounded.{op_within, clean_within}
-use Rattle.dspec_interleaving.proofs.PlayerMoves.{ended_stays}
-use Rattle.dspec_interleaving.proofs.WholeCalls.{cpu_whole, consumer_whole}
-use Rattle.dspec_interleaving.proofs.WholeStates.{IsResting, still_calls, rest_all, behind_rests, start_rests, apart}
-use Rattle.dspec_interleaving.proofs.WholeEnds.{EndsAs, ends_as, cpu_ends_as}
+use Rattle.dspec_interleaving.proofs.{Bounded.op_within, Bounded.clean_within, Coherence.begin_consumer_coherent, PlayerMoves.ended_stays, WholeCalls.cpu_whole, WholeCalls.consumer_whole}
+use Rattle.dspec_interleaving.proofs.{WholeEnds.EndsAs, WholeEnds.ends_as, WholeEnds.cpu_ends_as, WholeStates.IsResting, WholeStates.still_calls, WholeStates.rest_all, WholeStates.behind_rests}
+use Rattle.dspec_interleaving.proofs.{WholeStates.start_rests, WholeStates.apart}
 
 -- a call with its answer
 abbrev pub ended_as : (ℕ → Option Shape) → Call → PlayState → EndedCall

@@ -1,25 +1,15 @@
 -- How many calls of a CPU were entered, and how many told Worn, by what was noted.
 use Rattle.std.proofs.Common.{◌≡◌, ℕ, ◌+◌, Bool, true, false, ◌&&◌, List, [], ◌∷◌, ◌++◌, Option, Some, None, refl, sym, ap, ◌∙◌, subst, ⊎_elim, arith}
 use Rattle.std.specs.Prelude.{map, nat_le}
-use Rattle.dspec_record.specs.declared.field.Shape.{Shape}
-use Rattle.dspec_deeds.specs.declared.config.Config.{Config}
-use Rattle.dspec_deeds.specs.declared.calls.Actor.{Actor}
+use Rattle.dspec_interleaving.specs.Words.{Shape, Config, Actor, Answer, CpuOp, Op, Deed, author, same_actor, calls, op_of, PlayState, progress_of, cpu_step, EndedCall, Noted, ended, with_note}
+use Rattle.dspec_interleaving.specs.Words.{is_by, is_worn_answer, step_cpu, step_consumer, step, is_counted, is_first, is_told_worn, entered_calls, is_worn_behind, AreWornRightly}
+use Rattle.dspec_interleaving.specs.declared.flight.{CallPlace.CallPlace, ConsumerFlight.ConsumerFlight, CpuProgress.CpuProgress}
 use Rattle.dspec_deeds.specs.declared.calls.Actor.TheVariants as actor
-use Rattle.dspec_deeds.specs.declared.calls.Answer.{Answer}
-use Rattle.dspec_deeds.specs.declared.calls.CpuOp.{CpuOp}
-use Rattle.dspec_deeds.specs.declared.calls.Op.{Op}
 use Rattle.dspec_deeds.specs.declared.calls.Op.TheVariants as op
-use Rattle.dspec_deeds.specs.declared.deed.Deed.{Deed}
-use Rattle.dspec_interleaving.specs.Words.{CpuProgress, ConsumerFlight, CallPlace, author, same_actor, calls, op_of, PlayState, progress_of, cpu_step, EndedCall, Noted, ended, with_note, is_by}
-use Rattle.dspec_interleaving.specs.Words.{is_worn_answer, step_cpu, step_consumer, step, is_counted, is_first, is_told_worn, entered_calls, is_worn_behind, AreWornRightly}
 use Rattle.dspec_interleaving.specs.declared.flight.CallPlace.TheVariants as cpu
-use Rattle.dspec_deeds.proofs.Going.{AllBy}
-use Rattle.dspec_deeds.proofs.StayingOwn.{calls_other}
-use Rattle.dspec_deeds.proofs.TestLemmas.{number_is_itself, same_actor_tells}
-use Rattle.dspec_interleaving.proofs.KeptCalls.{step_passes}
-use Rattle.dspec_interleaving.proofs.StepEnds.{HasEnded, HasGoneOn}
-use Rattle.dspec_interleaving.proofs.WornCpuSteps.{ahead, enters, cpu_step_wears, cpu_advances}
-use Rattle.dspec_interleaving.proofs.FlightsStay.{consumer_unworn}
+use Rattle.dspec_deeds.proofs.{Going.AllBy, StayingOwn.calls_other, TestLemmas.number_is_itself, TestLemmas.same_actor_tells}
+use Rattle.dspec_interleaving.proofs.{FlightsStay.consumer_unworn, KeptCalls.step_passes, StepEnds.HasEnded, StepEnds.HasGoneOn, WornCpuSteps.ahead, WornCpuSteps.enters, WornCpuSteps.cpu_step_wears}
+use Rattle.dspec_interleaving.proofs.{WornCpuSteps.cpu_advances}
 
 -- a step of a CPU answers Worn exactly where it is the first of a call that counts, and the CPU has entered as many as it may
 pub step_wears : (shape : ℕ → Option Shape) (st : PlayState) (c : ℕ)

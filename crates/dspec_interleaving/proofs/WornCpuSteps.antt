@@ -2,30 +2,21 @@
 -- Worn, and what it adds to the calls; and the answer is read off what the call has entered.
 use Rattle.std.proofs.Common.{◌*◌, ⊎_elim, inl, inr, ap, sym, ◌≡◌, not, ℕ, ◌+◌, Bool, true, false, ◌==◌, ◌&&◌, List, [], ◌∷◌, ◌++◌, Option, Some, None, if◌then◌else◌, refl, arith}
 use Rattle.std.specs.Prelude.{nat_lt, nat_le}
-use Rattle.dspec_record.specs.declared.field.Shape.{Shape}
-use Rattle.dspec_interleaving.specs.Words.{Record, one, is_decided, Speculation, SlotState, commit_at, discard_at, open_at, settle_at, CpuProgress, CallPlace, Spare, op_of, is_fill, halted}
-use Rattle.dspec_interleaving.specs.Words.{in_range, word_at, ack, calls, seals, fits_principal, fits_speculative, missed_busy, commit_fate, discard_fate, CpuStep, same_word, is_alone, is_release}
-use Rattle.dspec_interleaving.specs.Words.{is_worn, ends, wears, call_goes_on, spoken_at, shown_speculate, shown_commit, shown_discard, missed, shown_scan, asked, begun, popped, served}
-use Rattle.dspec_interleaving.specs.Words.{shown_service, cpu_step, is_worn_answer, is_counted, is_first, is_told_worn, enters_call, measured, is_among, callers, flight_bound, sealed_by}
-use Rattle.dspec_interleaving.specs.Words.{answer_of_cpu, is_busy_among}
-use Rattle.dspec_word.specs.declared.act.Act.{Act}
-use Rattle.dspec_word.specs.declared.act.Act.TheVariants.{Granted, Attempt}
-use Rattle.dspec_deeds.specs.declared.config.Config.{Config}
-use Rattle.dspec_deeds.specs.declared.calls.Answer.{Answer}
+use Rattle.dspec_interleaving.specs.Words.{Shape, Record, one, is_decided, Speculation, SlotState, commit_at, discard_at, open_at, settle_at, op_of, is_fill, halted, in_range, word_at, ack, calls}
+use Rattle.dspec_interleaving.specs.Words.{seals, fits_principal, fits_speculative, missed_busy, commit_fate, discard_fate, CpuStep, same_word, is_alone, is_release, is_worn, ends, wears}
+use Rattle.dspec_interleaving.specs.Words.{call_goes_on, spoken_at, shown_speculate, shown_commit, shown_discard, missed, shown_scan, asked, begun, popped, served, shown_service, cpu_step}
+use Rattle.dspec_interleaving.specs.Words.{is_worn_answer, is_counted, is_first, is_told_worn, enters_call, measured, is_among, callers, flight_bound, sealed_by, answer_of_cpu, is_busy_among, Act}
+use Rattle.dspec_interleaving.specs.Words.{Granted, Attempt, Config, Answer, CpuOp, Op, Served, Deed, Miss}
+use Rattle.dspec_interleaving.specs.declared.flight.{CallPlace.CallPlace, CpuProgress.CpuProgress, Spare.Spare}
 use Rattle.dspec_deeds.specs.declared.calls.Answer.TheVariants as answer
-use Rattle.dspec_deeds.specs.declared.calls.CpuOp.{CpuOp}
 use Rattle.dspec_deeds.specs.declared.calls.CpuOp.TheVariants as cpu_op
-use Rattle.dspec_deeds.specs.declared.calls.Op.{Op}
 use Rattle.dspec_deeds.specs.declared.calls.Op.TheVariants as op
 use Rattle.dspec_deeds.specs.declared.calls.Opening.TheVariants as opening
-use Rattle.dspec_deeds.specs.declared.calls.Served.{Served}
-use Rattle.dspec_deeds.specs.declared.deed.Deed.{Deed}
-use Rattle.dspec_deeds.specs.declared.deed.Deed.TheVariants.{Miss}
 use Rattle.dspec_interleaving.specs.declared.flight.CallPlace.TheVariants as cpu
 use Rattle.dspec_interleaving.specs.declared.flight.Spare.TheVariants as spare
 use Rattle.dspec_deeds.proofs.TestLemmas.{number_is_itself}
-use Rattle.dspec_interleaving.proofs.StepEnds.{HasEnded, HasGoneOn, Advances}
 use Rattle.dspec_interleaving.proofs.OwnTelling.{HasServed, OwnDeeds, ReadsOff, busy_now, fails_unworn, told_unworn}
+use Rattle.dspec_interleaving.proofs.StepEnds.{HasEnded, HasGoneOn, Advances}
 
 -- how many deeds that count the call in flight has entered
 abbrev pub ahead : Option CallPlace → ℕ

@@ -1,17 +1,12 @@
 -- Cited by calls. The most steps of each call.
 use Rattle.std.specs.Prelude.{ℕ, ◌+◌, ◌*◌, Option, Some, None}
-use Rattle.dspec_deeds.specs.declared.config.Config.{Config}
-use Rattle.dspec_deeds.specs.declared.calls.Actor.{Actor}
+use Rattle.dspec_interleaving.specs.{Coherent.PlayState, Coherent.progress_of, Words.Outside.Config, Words.Outside.Actor, Words.Outside.ConsumerOp, Words.Outside.CpuOp}
+use Rattle.dspec_interleaving.specs.{declared.flight.CallPlace.CallPlace, declared.flight.ConsumerFlight.ConsumerFlight}
 use Rattle.dspec_deeds.specs.declared.calls.Actor.TheVariants as actor
-use Rattle.dspec_deeds.specs.declared.calls.ConsumerOp.{ConsumerOp}
 use Rattle.dspec_deeds.specs.declared.calls.ConsumerOp.TheVariants as consumer_op
-use Rattle.dspec_deeds.specs.declared.calls.CpuOp.{CpuOp}
 use Rattle.dspec_deeds.specs.declared.calls.CpuOp.TheVariants as cpu_op
-use Rattle.dspec_interleaving.specs.declared.flight.ConsumerFlight.{ConsumerFlight}
 use Rattle.dspec_interleaving.specs.declared.flight.ConsumerFlight.TheVariants as consumer
-use Rattle.dspec_interleaving.specs.declared.flight.CallPlace.{CallPlace}
 use Rattle.dspec_interleaving.specs.declared.flight.CallPlace.TheVariants as cpu
-use Rattle.dspec_interleaving.specs.Coherent.{PlayState, progress_of}
 
 -- the most steps of a call of a CPU
 abbrev pub op_bound : Config → CpuOp → ℕ

@@ -1,27 +1,17 @@
 -- Cited by calls. Which call is in flight, whether it may begin, and why a begin or a step is refused.
 use Rattle.std.specs.Prelude.{ℕ, nat_lt, Bool, true, not, is_none, if◌then◌else◌, Option, Some, None}
-use Rattle.dspec_interleaving.specs.Words.Outside.{Record}
-use Rattle.dspec_deeds.specs.declared.config.Config.{Config}
-use Rattle.dspec_deeds.specs.declared.calls.Actor.{Actor}
-use Rattle.dspec_deeds.specs.declared.calls.Actor.TheVariants as actor
-use Rattle.dspec_deeds.specs.declared.calls.Answer.{Answer}
-use Rattle.dspec_deeds.specs.declared.calls.ConsumerOp.{ConsumerOp}
-use Rattle.dspec_deeds.specs.declared.calls.ConsumerOp.TheVariants as consumer_op
-use Rattle.dspec_deeds.specs.declared.calls.CpuOp.{CpuOp}
-use Rattle.dspec_deeds.specs.declared.calls.CpuOp.TheVariants as cpu_op
-use Rattle.dspec_deeds.specs.declared.calls.Op.{Op}
-use Rattle.dspec_deeds.specs.declared.calls.Op.TheVariants as op
-use Rattle.dspec_interleaving.specs.declared.flight.ConsumerFlight.{ConsumerFlight}
-use Rattle.dspec_interleaving.specs.declared.flight.ConsumerFlight.TheVariants as consumer
-use Rattle.dspec_interleaving.specs.declared.flight.CallPlace.{CallPlace}
-use Rattle.dspec_interleaving.specs.declared.flight.CallPlace.TheVariants as cpu
-use Rattle.dspec_interleaving.specs.declared.refusal.BeginFault.{BeginFault}
-use Rattle.dspec_interleaving.specs.declared.refusal.BeginFault.TheVariants as begin_fault
-use Rattle.dspec_interleaving.specs.declared.refusal.StepFault.{StepFault}
-use Rattle.dspec_interleaving.specs.declared.refusal.StepFault.TheVariants as step_fault
-use Rattle.dspec_interleaving.specs.declared.refusal.Stepped.{Stepped}
-use Rattle.dspec_interleaving.specs.declared.refusal.Stepped.TheVariants.{Going, Done}
 use Rattle.dspec_interleaving.specs.Coherent.{PlayState, progress_of}
+use Rattle.dspec_interleaving.specs.Words.Outside.{Record, Config, Actor, Answer, ConsumerOp, CpuOp, Op}
+use Rattle.dspec_interleaving.specs.declared.flight.{CallPlace.CallPlace, ConsumerFlight.ConsumerFlight}
+use Rattle.dspec_interleaving.specs.declared.refusal.{BeginFault.BeginFault, StepFault.StepFault, Stepped.Stepped, Stepped.TheVariants.Going, Stepped.TheVariants.Done}
+use Rattle.dspec_deeds.specs.declared.calls.Actor.TheVariants as actor
+use Rattle.dspec_deeds.specs.declared.calls.ConsumerOp.TheVariants as consumer_op
+use Rattle.dspec_deeds.specs.declared.calls.CpuOp.TheVariants as cpu_op
+use Rattle.dspec_deeds.specs.declared.calls.Op.TheVariants as op
+use Rattle.dspec_interleaving.specs.declared.flight.ConsumerFlight.TheVariants as consumer
+use Rattle.dspec_interleaving.specs.declared.flight.CallPlace.TheVariants as cpu
+use Rattle.dspec_interleaving.specs.declared.refusal.BeginFault.TheVariants as begin_fault
+use Rattle.dspec_interleaving.specs.declared.refusal.StepFault.TheVariants as step_fault
 
 -- the call of a CPU that is in flight
 abbrev pub op_of : CallPlace → CpuOp

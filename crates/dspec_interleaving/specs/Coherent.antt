@@ -1,22 +1,12 @@
 -- Cited by calls. What holds between two steps of a play: the list is legal, and each call in flight stands where its deeds, and what it
 -- was shown, have brought it.
 use Rattle.std.specs.Prelude.{ℕ, ◌≡◌, ◌⊎◌, ◌+◌, ◌*◌, ◌-◌, ◌<◌, ◌≤◌, true, false, List, length, slice_index_or, Option, Some, None}
-use Rattle.dspec_record.specs.declared.field.Shape.{Shape}
-use Rattle.dspec_word.specs.declared.act.Act.{Act}
-use Rattle.dspec_word.specs.declared.act.Act.TheVariants.{Attempt}
-use Rattle.dspec_interleaving.specs.Words.Outside.{awaits, code_number, Speculation, SlotState, word_number, speculate_at, commit_at, discard_at, open_at, start_fault, is_fill, committed, verdict}
-use Rattle.dspec_interleaving.specs.Words.Outside.{is_among, callers, in_range, issue, present, solo, scan, opened, opened_since, part, late, owed, settled, word_at, seals, HasAuthors, IsAllowed}
-use Rattle.dspec_interleaving.specs.Words.Outside.{sealed_last}
-use Rattle.dspec_deeds.specs.declared.config.Config.{Config}
-use Rattle.dspec_deeds.specs.declared.calls.Actor.TheVariants.{Cpu}
-use Rattle.dspec_deeds.specs.declared.deed.Deed.{Deed}
-use Rattle.dspec_interleaving.specs.declared.flight.CpuProgress.{CpuProgress}
-use Rattle.dspec_interleaving.specs.declared.flight.ConsumerFlight.{ConsumerFlight}
+use Rattle.dspec_interleaving.specs.Words.Outside.{Shape, Act, Attempt, awaits, code_number, Speculation, SlotState, word_number, speculate_at, commit_at, discard_at, open_at, start_fault, is_fill}
+use Rattle.dspec_interleaving.specs.Words.Outside.{committed, verdict, is_among, callers, in_range, issue, present, solo, scan, opened, opened_since, part, late, owed, settled, word_at, seals}
+use Rattle.dspec_interleaving.specs.Words.Outside.{HasAuthors, IsAllowed, sealed_last, Config, Cpu, Deed}
+use Rattle.dspec_interleaving.specs.declared.flight.{CallPlace.CallPlace, ConsumerFlight.ConsumerFlight, ConsumerProgress.ConsumerProgress, CpuProgress.CpuProgress, Spare.Spare}
 use Rattle.dspec_interleaving.specs.declared.flight.ConsumerFlight.TheVariants as consumer
-use Rattle.dspec_interleaving.specs.declared.flight.ConsumerProgress.{ConsumerProgress}
-use Rattle.dspec_interleaving.specs.declared.flight.CallPlace.{CallPlace}
 use Rattle.dspec_interleaving.specs.declared.flight.CallPlace.TheVariants as cpu
-use Rattle.dspec_interleaving.specs.declared.flight.Spare.{Spare}
 use Rattle.dspec_interleaving.specs.declared.flight.Spare.TheVariants as spare
 
 abbrev pub IsSlot : Config → ℕ → Type 0

@@ -1,12 +1,7 @@
 -- Cited by calls. The settlements of the close, told of one CPU's own list and the words alone.
 use Rattle.std.specs.Prelude.{ℕ, zero, suc, ◌≡◌, ◌<◌, List, [], ◌∷◌, false, Option, if◌then◌else◌}
-use Rattle.dspec_record.specs.declared.field.Shape.{Shape}
-use Rattle.dspec_interleaving.specs.Words.Outside.{Speculation, settle_at, SlotState, part, ack, word_at, verdict, is_undecided, Headline, IsLegal, held, settle_fate, is_granted, WaitsUndecided}
-use Rattle.dspec_interleaving.specs.Words.Outside.{ReadsAlike}
-use Rattle.dspec_deeds.specs.declared.config.Config.{Config}
-use Rattle.dspec_deeds.specs.declared.calls.Actor.TheVariants.{Cpu, Consumer}
-use Rattle.dspec_deeds.specs.declared.deed.Deed.{Deed}
-use Rattle.dspec_deeds.specs.declared.deed.Deed.TheVariants.{Settle}
+use Rattle.dspec_interleaving.specs.Words.Outside.{Shape, Speculation, settle_at, SlotState, part, ack, word_at, verdict, is_undecided, Headline, IsLegal, held, settle_fate, is_granted}
+use Rattle.dspec_interleaving.specs.Words.Outside.{WaitsUndecided, ReadsAlike, Config, Cpu, Consumer, Deed, Settle}
 
 module _ (shape : ℕ → Option Shape) (k : Config) (words : ℕ → SlotState) (c : ℕ) where
   -- what the CPU has still to settle in a slot

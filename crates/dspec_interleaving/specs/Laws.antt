@@ -1,26 +1,15 @@
 -- Cited by calls. What the laws of plays say of a state, of a call and of whole calls, where it is long.
 use Rattle.std.specs.Prelude.{ℕ, ◌≡◌, ◌≢◌, ◌<◌, ◌∷◌, ◌++◌, Bool, false, nat_le, ◌&&◌, List, map, Option, Some, None}
-use Rattle.dspec_interleaving.specs.Words.Outside.{Record, Speculation, closing, solo, verdict, is_undecided, scan, calls, woven, HaveLists}
-use Rattle.dspec_record.specs.declared.field.Shape.{Shape}
+use Rattle.dspec_interleaving.specs.{Bounds.flight_bound, Bounds.op_bound, Bounds.consumer_bound, Coherent.PlayState, Coherent.progress_of, CpuClose.IsCloseOf, Plays.answers_of, Plays.play_fault}
+use Rattle.dspec_interleaving.specs.{Plays.played, Plays.worn_count, SoloRule.IsReleasing, SoloRule.ReleasesLast, Turns.at_start, Turns.begin_cpu, Turns.begin_consumer, Turns.step, Turns.on_to_end}
+use Rattle.dspec_interleaving.specs.{Wearing.is_first, Whole.Call, Whole.of_consumer, Whole.behind_cpu, Whole.cpu_call, Whole.behind_consumer, Whole.consumer_call, Whole.behind_all}
+use Rattle.dspec_interleaving.specs.{Whole.HasService, Whole.IsReleased, WholePlays.turn_of, Words.Outside.Record, Words.Outside.Speculation, Words.Outside.closing, Words.Outside.solo}
+use Rattle.dspec_interleaving.specs.{Words.Outside.verdict, Words.Outside.is_undecided, Words.Outside.scan, Words.Outside.calls, Words.Outside.woven, Words.Outside.HaveLists, Words.Outside.Shape}
+use Rattle.dspec_interleaving.specs.{Words.Outside.ConsumerOp, Words.Outside.CpuOp, Words.Outside.Turn, Words.Outside.Config, Words.Outside.DecideFate, Words.Outside.Deed}
+use Rattle.dspec_interleaving.specs.{declared.flight.CallPlace.CallPlace}
 use Rattle.dspec_deeds.specs.declared.calls.Actor.TheVariants as actor
-use Rattle.dspec_deeds.specs.declared.calls.ConsumerOp.{ConsumerOp}
 use Rattle.dspec_deeds.specs.declared.calls.ConsumerOp.TheVariants as consumer_op
-use Rattle.dspec_deeds.specs.declared.calls.CpuOp.{CpuOp}
-use Rattle.dspec_deeds.specs.declared.calls.Turn.{Turn}
-use Rattle.dspec_deeds.specs.declared.config.Config.{Config}
-use Rattle.dspec_deeds.specs.declared.deed.DecideFate.{DecideFate}
-use Rattle.dspec_deeds.specs.declared.deed.Deed.{Deed}
-use Rattle.dspec_interleaving.specs.declared.flight.CallPlace.{CallPlace}
 use Rattle.dspec_interleaving.specs.declared.flight.CallPlace.TheVariants as flight
-use Rattle.dspec_interleaving.specs.Bounds.{flight_bound, op_bound, consumer_bound}
-use Rattle.dspec_interleaving.specs.Coherent.{PlayState, progress_of}
-use Rattle.dspec_interleaving.specs.CpuClose.{IsCloseOf}
-use Rattle.dspec_interleaving.specs.Plays.{answers_of, play_fault, played, worn_count}
-use Rattle.dspec_interleaving.specs.SoloRule.{IsReleasing, ReleasesLast}
-use Rattle.dspec_interleaving.specs.Turns.{at_start, begin_cpu, begin_consumer, step, on_to_end}
-use Rattle.dspec_interleaving.specs.Wearing.{is_first}
-use Rattle.dspec_interleaving.specs.Whole.{Call, of_consumer, behind_cpu, cpu_call, behind_consumer, consumer_call, behind_all, HasService, IsReleased}
-use Rattle.dspec_interleaving.specs.WholePlays.{turn_of}
 
 -- no call of the CPU is in flight
 abbrev pub IsCpuIdle : ℕ → PlayState → Type 0

@@ -1,25 +1,15 @@
 -- Cited by calls. A play: what each atomic step does, by the call in flight, what it was shown before, and the list of deeds so far.
 -- Every word, acknowledgement and activity that a step is shown is read off the list.
 use Rattle.std.specs.Prelude.{ℕ, ◌+◌, ◌==◌, nat_le, nat_lt, Bool, true, false, List, [], ◌∷◌, length, reverse, slice_index_or, slice_set, Option, Some, None, if◌then◌else◌}
-use Rattle.dspec_record.specs.declared.field.Shape.{Shape}
-use Rattle.dspec_interleaving.specs.Words.Outside.{one, awaits, SlotState, halted, is_among, callers, word_at, ack, calls, seals, batches, taken, Sealing, empty_batch, fits_principal}
-use Rattle.dspec_interleaving.specs.Words.Outside.{fits_speculative, missed_busy, fits_held, held}
-use Rattle.dspec_deeds.specs.declared.config.Config.{Config}
-use Rattle.dspec_deeds.specs.declared.calls.Answer.{Answer}
-use Rattle.dspec_deeds.specs.declared.calls.Answer.TheVariants as answer
-use Rattle.dspec_deeds.specs.declared.calls.ConsumerOp.{ConsumerOp}
-use Rattle.dspec_deeds.specs.declared.calls.ConsumerOp.TheVariants as consumer_op
-use Rattle.dspec_deeds.specs.declared.deed.Deed.{Deed}
-use Rattle.dspec_deeds.specs.declared.deed.Deed.TheVariants.{Miss, Release, Halt}
-use Rattle.dspec_interleaving.specs.declared.flight.CpuProgress.{CpuProgress}
-use Rattle.dspec_interleaving.specs.declared.flight.ConsumerFlight.{ConsumerFlight}
-use Rattle.dspec_interleaving.specs.declared.flight.ConsumerFlight.TheVariants as consumer
-use Rattle.dspec_interleaving.specs.declared.flight.ConsumerProgress.{ConsumerProgress}
-use Rattle.dspec_interleaving.specs.declared.flight.CallPlace.{CallPlace}
-use Rattle.dspec_interleaving.specs.declared.flight.Spare.{Spare}
-use Rattle.dspec_interleaving.specs.declared.flight.Spare.TheVariants as spare
 use Rattle.dspec_interleaving.specs.Coherent.{progress_of}
 use Rattle.dspec_interleaving.specs.Step.{Measured, CpuStep, same_word, call_step}
+use Rattle.dspec_interleaving.specs.Words.Outside.{Shape, one, awaits, SlotState, halted, is_among, callers, word_at, ack, calls, seals, batches, taken, Sealing, empty_batch, fits_principal}
+use Rattle.dspec_interleaving.specs.Words.Outside.{fits_speculative, missed_busy, fits_held, held, Config, Answer, ConsumerOp, Deed, Miss, Release, Halt}
+use Rattle.dspec_interleaving.specs.declared.flight.{CallPlace.CallPlace, ConsumerFlight.ConsumerFlight, ConsumerProgress.ConsumerProgress, CpuProgress.CpuProgress, Spare.Spare}
+use Rattle.dspec_deeds.specs.declared.calls.Answer.TheVariants as answer
+use Rattle.dspec_deeds.specs.declared.calls.ConsumerOp.TheVariants as consumer_op
+use Rattle.dspec_interleaving.specs.declared.flight.ConsumerFlight.TheVariants as consumer
+use Rattle.dspec_interleaving.specs.declared.flight.Spare.TheVariants as spare
 
 -- the CPU has entered as many calls as it may make: the next is worn
 abbrev pub is_worn : Config → ℕ → List Deed → Bool

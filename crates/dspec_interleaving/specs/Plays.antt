@@ -1,39 +1,24 @@
 -- Cited by calls. A whole play: its turns in order, the calls that are then still in flight run to their ends, and the close.
 use Prim.Native.Nat.{zero, suc}
 use Rattle.std.specs.Prelude.{ℕ, ◌≡◌, ◌+◌, ◌-◌, ◌^◌, ◌==◌, min, Bool, true, false, ◌&&◌, List, [], ◌∷◌, ◌++◌, map, reverse, if◌then◌else◌, Option, Some, None}
-use Rattle.dspec_record.specs.declared.field.Shape.{Shape}
-use Rattle.dspec_interleaving.specs.Words.Outside.{Record, start_fault, closing}
-use Rattle.dspec_deeds.specs.declared.config.Config.{Config}
-use Rattle.dspec_deeds.specs.declared.config.StartFault.{StartFault}
-use Rattle.dspec_deeds.specs.declared.calls.Actor.{Actor}
+use Rattle.dspec_interleaving.specs.{Bounds.most_steps, Calls.op_of, Calls.consumer_op_of, Calls.is_idle, Calls.begin_cpu_fault, Calls.begin_consumer_fault, Calls.idle_step_fault}
+use Rattle.dspec_interleaving.specs.{Coherent.PlayState, Coherent.progress_of, Play.cpu_step, Play.consumer_step, ReadOff.answer_of_cpu, ReadOff.answer_of_consumer, Turns.at_start, Turns.begin_cpu}
+use Rattle.dspec_interleaving.specs.{Turns.begin_consumer, Turns.step, Words.Outside.Shape, Words.Outside.Record, Words.Outside.start_fault, Words.Outside.closing, Words.Outside.Config}
+use Rattle.dspec_interleaving.specs.{Words.Outside.StartFault, Words.Outside.Actor, Words.Outside.Answer, Words.Outside.ConsumerOp, Words.Outside.CpuOp, Words.Outside.Op, Words.Outside.Turn}
+use Rattle.dspec_interleaving.specs.{Words.Outside.BeginCpu, Words.Outside.BeginConsumer, Words.Outside.Step, Words.Outside.RunCpu, Words.Outside.RunConsumer, Words.Outside.Deed}
+use Rattle.dspec_interleaving.specs.{declared.flight.CallPlace.CallPlace, declared.flight.ConsumerFlight.ConsumerFlight, declared.outcome.PlayFault.PlayFault}
+use Rattle.dspec_interleaving.specs.{declared.outcome.PlayFault.TheVariants.Setup, declared.outcome.PlayFault.TheVariants.NoSuchActor, declared.outcome.PlayFault.TheVariants.Busy}
+use Rattle.dspec_interleaving.specs.{declared.outcome.PlayFault.TheVariants.IdleStep, declared.outcome.PlayFault.TheVariants.BadRecord, declared.refusal.BeginFault.BeginFault}
+use Rattle.dspec_interleaving.specs.{declared.refusal.StepFault.StepFault}
 use Rattle.dspec_deeds.specs.declared.calls.Actor.TheVariants as actor
-use Rattle.dspec_deeds.specs.declared.calls.Answer.{Answer}
 use Rattle.dspec_deeds.specs.declared.calls.Answer.TheVariants as answer
-use Rattle.dspec_deeds.specs.declared.calls.ConsumerOp.{ConsumerOp}
-use Rattle.dspec_deeds.specs.declared.calls.CpuOp.{CpuOp}
 use Rattle.dspec_deeds.specs.declared.calls.Decided.TheVariants as decided_answer
-use Rattle.dspec_deeds.specs.declared.calls.Op.{Op}
 use Rattle.dspec_deeds.specs.declared.calls.Op.TheVariants as op
 use Rattle.dspec_deeds.specs.declared.calls.Opening.TheVariants as opening
 use Rattle.dspec_deeds.specs.declared.calls.Spoken.TheVariants as spoken_answer
 use Rattle.dspec_deeds.specs.declared.calls.Traced.TheVariants as traced_answer
-use Rattle.dspec_deeds.specs.declared.calls.Turn.{Turn}
-use Rattle.dspec_deeds.specs.declared.calls.Turn.TheVariants.{BeginCpu, BeginConsumer, Step, RunCpu, RunConsumer}
-use Rattle.dspec_deeds.specs.declared.deed.Deed.{Deed}
-use Rattle.dspec_interleaving.specs.declared.flight.ConsumerFlight.{ConsumerFlight}
-use Rattle.dspec_interleaving.specs.declared.flight.CallPlace.{CallPlace}
-use Rattle.dspec_interleaving.specs.declared.outcome.PlayFault.{PlayFault}
-use Rattle.dspec_interleaving.specs.declared.outcome.PlayFault.TheVariants.{Setup, NoSuchActor, Busy, IdleStep, BadRecord}
-use Rattle.dspec_interleaving.specs.declared.refusal.BeginFault.{BeginFault}
 use Rattle.dspec_interleaving.specs.declared.refusal.BeginFault.TheVariants as begin_fault
-use Rattle.dspec_interleaving.specs.declared.refusal.StepFault.{StepFault}
 use Rattle.dspec_interleaving.specs.declared.refusal.StepFault.TheVariants as step_fault
-use Rattle.dspec_interleaving.specs.ReadOff.{answer_of_cpu, answer_of_consumer}
-use Rattle.dspec_interleaving.specs.Bounds.{most_steps}
-use Rattle.dspec_interleaving.specs.Calls.{op_of, consumer_op_of, is_idle, begin_cpu_fault, begin_consumer_fault, idle_step_fault}
-use Rattle.dspec_interleaving.specs.Coherent.{PlayState, progress_of}
-use Rattle.dspec_interleaving.specs.Play.{cpu_step, consumer_step}
-use Rattle.dspec_interleaving.specs.Turns.{at_start, begin_cpu, begin_consumer, step}
 
 abbrev pub EndedCall : Type 0
 EndedCall = Actor × Op × Answer

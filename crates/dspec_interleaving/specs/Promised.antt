@@ -1,8 +1,6 @@
 -- Cited by calls. What is promised of every state of a play.
 use Rattle.std.specs.Prelude.{ℕ, Option}
-use Rattle.dspec_record.specs.declared.field.Shape.{Shape}
-use Rattle.dspec_interleaving.specs.Coherent.{PlayState, IsCoherent}
-use Rattle.dspec_interleaving.specs.Words.Outside.{Headline}
+use Rattle.dspec_interleaving.specs.{Coherent.PlayState, Coherent.IsCoherent, Words.Outside.Shape, Words.Outside.Headline}
 
 -- the state is coherent, so its list of deeds is legal and the laws of plays go on from it; and the headline is true of
 -- that list for each CPU

@@ -1,28 +1,20 @@
 -- Serves proofs. What a call answers, read off the deeds that it entered, the latest first, and for the calls that move batches off what
 -- its last step found.
 use Rattle.std.specs.Prelude.{ℕ, ◌+◌, nat_lt, Bool, true, false, ◌||◌, List, [], ◌∷◌, if◌then◌else◌}
-use Rattle.dspec_deeds.specs.declared.calls.Answer.{Answer}
+use Rattle.dspec_interleaving.specs.{Coherent.PlayState, Coherent.progress_of, Play.took, Whole.is_out, Words.Outside.Answer, Words.Outside.ConsumerOp, Words.Outside.CpuOp, Words.Outside.Deed}
+use Rattle.dspec_interleaving.specs.{Words.Outside.Trace, Words.Outside.Scan, Words.Outside.Opened, Words.Outside.Miss, Words.Outside.Speculate, Words.Outside.Commit, Words.Outside.Discard}
+use Rattle.dspec_interleaving.specs.{Words.Outside.Settle, Words.Outside.Seal, Words.Outside.Release, Words.Outside.SpeculateFate, Words.Outside.TraceFate, Words.Outside.answer_of}
+use Rattle.dspec_interleaving.specs.{Words.Outside.seals, declared.flight.Spare.Spare}
 use Rattle.dspec_deeds.specs.declared.calls.Answer.TheVariants as answer
-use Rattle.dspec_deeds.specs.declared.calls.ConsumerOp.{ConsumerOp}
 use Rattle.dspec_deeds.specs.declared.calls.ConsumerOp.TheVariants as consumer_op
-use Rattle.dspec_deeds.specs.declared.calls.CpuOp.{CpuOp}
 use Rattle.dspec_deeds.specs.declared.calls.CpuOp.TheVariants as cpu_op
 use Rattle.dspec_deeds.specs.declared.calls.Decided.TheVariants as decided_answer
 use Rattle.dspec_deeds.specs.declared.calls.Opening.TheVariants as opening
 use Rattle.dspec_deeds.specs.declared.calls.Spoken.TheVariants as spoken_answer
 use Rattle.dspec_deeds.specs.declared.calls.Traced.TheVariants as traced_answer
-use Rattle.dspec_deeds.specs.declared.deed.Deed.{Deed}
-use Rattle.dspec_deeds.specs.declared.deed.Deed.TheVariants.{Trace, Scan, Opened, Miss, Speculate, Commit, Discard, Settle, Seal, Release}
-use Rattle.dspec_deeds.specs.declared.deed.SpeculateFate.{SpeculateFate}
 use Rattle.dspec_deeds.specs.declared.deed.SpeculateFate.TheVariants as spoken
-use Rattle.dspec_deeds.specs.declared.deed.TraceFate.{TraceFate}
 use Rattle.dspec_deeds.specs.declared.deed.TraceFate.TheVariants as traced
-use Rattle.dspec_interleaving.specs.Words.Outside.{answer_of, seals}
-use Rattle.dspec_interleaving.specs.declared.flight.Spare.{Spare}
 use Rattle.dspec_interleaving.specs.declared.flight.Spare.TheVariants as spare
-use Rattle.dspec_interleaving.specs.Coherent.{PlayState, progress_of}
-use Rattle.dspec_interleaving.specs.Whole.{is_out}
-use Rattle.dspec_interleaving.specs.Play.{took}
 
 abbrev pub told_trace : TraceFate → Answer
 told_trace traced.Kept = answer.Traced traced_answer.Kept

@@ -1,15 +1,10 @@
 -- Serves proofs. What one CPU decides alone is released by its own call, at once or in its next step, which is the call's last; and only
 -- steps of CPUs decide.
 use Rattle.std.specs.Prelude.{ℕ, ◌≡◌, ◌⊎◌, List, ◌∷◌, Some, None}
-use Rattle.dspec_interleaving.specs.Words.Outside.{Speculation, verdict, solo, answer_of}
-use Rattle.dspec_deeds.specs.declared.calls.Answer.{Answer}
-use Rattle.dspec_deeds.specs.declared.deed.DecideFate.{DecideFate}
+use Rattle.dspec_interleaving.specs.{Coherent.progress_of, Turns.Stepped, Words.Outside.Speculation, Words.Outside.verdict, Words.Outside.solo, Words.Outside.answer_of, Words.Outside.Answer}
+use Rattle.dspec_interleaving.specs.{Words.Outside.DecideFate, Words.Outside.Deed, Words.Outside.Commit, Words.Outside.Discard, Words.Outside.Release}
 use Rattle.dspec_deeds.specs.declared.deed.DecideFate.TheVariants as decided
-use Rattle.dspec_deeds.specs.declared.deed.Deed.{Deed}
-use Rattle.dspec_deeds.specs.declared.deed.Deed.TheVariants.{Commit, Discard, Release}
 use Rattle.dspec_interleaving.specs.declared.flight.CallPlace.TheVariants as cpu
-use Rattle.dspec_interleaving.specs.Coherent.{progress_of}
-use Rattle.dspec_interleaving.specs.Turns.{Stepped}
 
 -- the step is its call's last: it answers, and the CPU has no call in flight
 pub record IsLast (c : ℕ) (told : Answer) (t : Stepped) : Type 0 where

@@ -2,29 +2,19 @@
 -- and what the step measures. A play measures off its list of deeds; a CPU at the shared words by its own list and what its step shows.
 use Rattle.std.specs.Prelude.{ℕ, ◌+◌, ◌==◌, ◌-◌, ◌^◌, nat_lt, min, Bool, true, false, ◌&&◌, List, [], ◌∷◌, if◌then◌else◌, Option, Some, None}
 use Rattle.dspec_interleaving.specs.Words.Outside.{Record, is_inactive, is_decided, code_number, Speculation, SlotState, speculate_at, commit_at, discard_at, open_at, settle_at, is_fill, in_range}
-use Rattle.dspec_interleaving.specs.Words.Outside.{committed_fate, settled_fate, answer_of}
-use Rattle.dspec_word.specs.declared.act.Act.{Act}
-use Rattle.dspec_word.specs.declared.act.Act.TheVariants.{Granted, Attempt}
-use Rattle.dspec_deeds.specs.declared.config.Config.{Config}
-use Rattle.dspec_deeds.specs.declared.calls.Answer.{Answer}
+use Rattle.dspec_interleaving.specs.Words.Outside.{committed_fate, settled_fate, answer_of, Act, Granted, Attempt, Config, Answer, CpuOp, Served, DecideFate, Deed, Trace, Scan, Opened, Miss}
+use Rattle.dspec_interleaving.specs.Words.Outside.{Speculate, Commit, Discard, Settle, Seal, Release}
+use Rattle.dspec_interleaving.specs.declared.flight.{CallPlace.CallPlace, CpuProgress.CpuProgress, Spare.Spare}
 use Rattle.dspec_deeds.specs.declared.calls.Answer.TheVariants as answer
-use Rattle.dspec_deeds.specs.declared.calls.CpuOp.{CpuOp}
 use Rattle.dspec_deeds.specs.declared.calls.CpuOp.TheVariants as cpu_op
 use Rattle.dspec_deeds.specs.declared.calls.Decided.TheVariants as decided_answer
 use Rattle.dspec_deeds.specs.declared.calls.Opening.TheVariants as opening
-use Rattle.dspec_deeds.specs.declared.calls.Served.{Served}
 use Rattle.dspec_deeds.specs.declared.calls.Spoken.TheVariants as spoken_answer
 use Rattle.dspec_deeds.specs.declared.calls.Traced.TheVariants as traced_answer
-use Rattle.dspec_deeds.specs.declared.deed.DecideFate.{DecideFate}
 use Rattle.dspec_deeds.specs.declared.deed.DecideFate.TheVariants as decided
 use Rattle.dspec_deeds.specs.declared.deed.SpeculateFate.TheVariants as spoken
 use Rattle.dspec_deeds.specs.declared.deed.TraceFate.TheVariants as traced
-use Rattle.dspec_deeds.specs.declared.deed.Deed.{Deed}
-use Rattle.dspec_deeds.specs.declared.deed.Deed.TheVariants.{Trace, Scan, Opened, Miss, Speculate, Commit, Discard, Settle, Seal, Release}
-use Rattle.dspec_interleaving.specs.declared.flight.CpuProgress.{CpuProgress}
-use Rattle.dspec_interleaving.specs.declared.flight.CallPlace.{CallPlace}
 use Rattle.dspec_interleaving.specs.declared.flight.CallPlace.TheVariants as cpu
-use Rattle.dspec_interleaving.specs.declared.flight.Spare.{Spare}
 use Rattle.dspec_interleaving.specs.declared.flight.Spare.TheVariants as spare
 
 abbrev pub same_word : SlotState → SlotState → Bool

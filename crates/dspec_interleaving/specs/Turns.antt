@@ -1,21 +1,12 @@
 -- Cited by calls. The beginnings and steps of calls: what each makes of a play's state, and which answers end.
 use Prim.Native.Nat.{zero, suc}
 use Rattle.std.specs.Prelude.{ℕ, List, [], ◌∷◌, ◌++◌, slice_set, Option, Some, None}
-use Rattle.dspec_record.specs.declared.field.Shape.{Shape}
-use Rattle.dspec_deeds.specs.declared.config.Config.{Config}
-use Rattle.dspec_deeds.specs.declared.calls.Actor.{Actor}
+use Rattle.dspec_interleaving.specs.{Coherent.PlayState, Coherent.progress_of, Coherent.idle_progress, Play.ConsumerStep, Play.cpu_step, Play.consumer_step, Step.CpuStep, Words.Outside.Shape}
+use Rattle.dspec_interleaving.specs.{Words.Outside.Config, Words.Outside.Actor, Words.Outside.Answer, Words.Outside.ConsumerOp, Words.Outside.CpuOp, declared.flight.CallPlace.CallPlace}
+use Rattle.dspec_interleaving.specs.{declared.flight.ConsumerFlight.ConsumerFlight, declared.flight.CpuProgress.CpuProgress}
 use Rattle.dspec_deeds.specs.declared.calls.Actor.TheVariants as actor
-use Rattle.dspec_deeds.specs.declared.calls.Answer.{Answer}
-use Rattle.dspec_deeds.specs.declared.calls.ConsumerOp.{ConsumerOp}
-use Rattle.dspec_deeds.specs.declared.calls.CpuOp.{CpuOp}
-use Rattle.dspec_interleaving.specs.declared.flight.CpuProgress.{CpuProgress}
-use Rattle.dspec_interleaving.specs.declared.flight.ConsumerFlight.{ConsumerFlight}
 use Rattle.dspec_interleaving.specs.declared.flight.ConsumerFlight.TheVariants as consumer
-use Rattle.dspec_interleaving.specs.declared.flight.CallPlace.{CallPlace}
 use Rattle.dspec_interleaving.specs.declared.flight.CallPlace.TheVariants as cpu
-use Rattle.dspec_interleaving.specs.Step.{CpuStep}
-use Rattle.dspec_interleaving.specs.Play.{ConsumerStep, cpu_step, consumer_step}
-use Rattle.dspec_interleaving.specs.Coherent.{PlayState, progress_of, idle_progress}
 
 abbrev pub idle_cpus : ℕ → List CpuProgress
 idle_cpus zero = []

@@ -1,15 +1,11 @@
 -- Serves proofs. Which calls are answered Worn: those of a CPU that has entered as many calls as it may make.
 use Rattle.std.specs.Prelude.{ℕ, ◌≡◌, ◌+◌, nat_le, Bool, true, false, not, ◌&&◌, List, [], ◌∷◌, if◌then◌else◌, Option, Some, None}
-use Rattle.dspec_deeds.specs.declared.config.Config.{Config}
-use Rattle.dspec_deeds.specs.declared.calls.Actor.{Actor}
+use Rattle.dspec_interleaving.specs.{Plays.EndedCall, Plays.is_by, Plays.is_worn_answer, Words.Outside.Config, Words.Outside.Actor, Words.Outside.Answer, Words.Outside.Op}
+use Rattle.dspec_interleaving.specs.{declared.flight.CallPlace.CallPlace}
 use Rattle.dspec_deeds.specs.declared.calls.Actor.TheVariants as actor
-use Rattle.dspec_deeds.specs.declared.calls.Answer.{Answer}
 use Rattle.dspec_deeds.specs.declared.calls.CpuOp.TheVariants as cpu_op
-use Rattle.dspec_deeds.specs.declared.calls.Op.{Op}
 use Rattle.dspec_deeds.specs.declared.calls.Op.TheVariants as op
-use Rattle.dspec_interleaving.specs.declared.flight.CallPlace.{CallPlace}
 use Rattle.dspec_interleaving.specs.declared.flight.CallPlace.TheVariants as cpu
-use Rattle.dspec_interleaving.specs.Plays.{EndedCall, is_by, is_worn_answer}
 
 -- a call that counts towards the most that a CPU makes: each of a CPU's but a service
 abbrev pub is_counted : Op → Bool

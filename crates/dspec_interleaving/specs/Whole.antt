@@ -1,31 +1,23 @@
 -- Cited by calls. Whole calls: what a call enters and answers where no other call overlaps it, said of the list that it finds.
 use Prim.Native.Nat.{zero, suc}
 use Rattle.std.specs.Prelude.{ℕ, ◌≡◌, ◌<◌, ◌⊎◌, ◌+◌, ◌-◌, ◌==◌, ◌^◌, nat_lt, min, Bool, true, false, not, ◌&&◌, ◌||◌, is_none, List, [], ◌∷◌, slice_set, if◌then◌else◌, Option, Some, None}
-use Rattle.dspec_record.specs.declared.field.Shape.{Shape}
-use Rattle.dspec_interleaving.specs.Words.Outside.{one, Speculation, is_fill, halted, issue, present, Ruling, discarded, verdict, is_open, callers, is_sole, is_sole_or_none, solo, settled, is_free}
-use Rattle.dspec_interleaving.specs.Words.Outside.{is_busy, seals, fits_principal, fits_speculative, commit_fate, discard_fate, answer_of}
-use Rattle.dspec_deeds.specs.declared.config.Config.{Config}
-use Rattle.dspec_deeds.specs.declared.calls.Answer.{Answer}
+use Rattle.dspec_interleaving.specs.Coherent.{progress_of, PlayState}
+use Rattle.dspec_interleaving.specs.Play.{is_worn, took}
+use Rattle.dspec_interleaving.specs.Words.Outside.{Shape, one, Speculation, is_fill, halted, issue, present, Ruling, discarded, verdict, is_open, callers, is_sole, is_sole_or_none, solo, settled}
+use Rattle.dspec_interleaving.specs.Words.Outside.{is_free, is_busy, seals, fits_principal, fits_speculative, commit_fate, discard_fate, answer_of, Config, Answer, ConsumerOp, CpuOp, DecideFate}
+use Rattle.dspec_interleaving.specs.Words.Outside.{Deed, Trace, Scan, Opened, Miss, Speculate, Commit, Discard, Settle, Seal, Release, Halt}
+use Rattle.dspec_interleaving.specs.declared.flight.{CpuProgress.CpuProgress, Spare.Spare}
 use Rattle.dspec_deeds.specs.declared.calls.Answer.TheVariants as answer
-use Rattle.dspec_deeds.specs.declared.calls.ConsumerOp.{ConsumerOp}
 use Rattle.dspec_deeds.specs.declared.calls.ConsumerOp.TheVariants as consumer_op
-use Rattle.dspec_deeds.specs.declared.calls.CpuOp.{CpuOp}
 use Rattle.dspec_deeds.specs.declared.calls.CpuOp.TheVariants as cpu_op
 use Rattle.dspec_deeds.specs.declared.calls.Decided.TheVariants as decided_answer
 use Rattle.dspec_deeds.specs.declared.calls.Opening.TheVariants as opening
 use Rattle.dspec_deeds.specs.declared.calls.Spoken.TheVariants as spoken_answer
 use Rattle.dspec_deeds.specs.declared.calls.Traced.TheVariants as traced_answer
-use Rattle.dspec_deeds.specs.declared.deed.DecideFate.{DecideFate}
 use Rattle.dspec_deeds.specs.declared.deed.DecideFate.TheVariants as decided
 use Rattle.dspec_deeds.specs.declared.deed.SpeculateFate.TheVariants as spoken
 use Rattle.dspec_deeds.specs.declared.deed.TraceFate.TheVariants as traced
-use Rattle.dspec_deeds.specs.declared.deed.Deed.{Deed}
-use Rattle.dspec_deeds.specs.declared.deed.Deed.TheVariants.{Trace, Scan, Opened, Miss, Speculate, Commit, Discard, Settle, Seal, Release, Halt}
-use Rattle.dspec_interleaving.specs.declared.flight.CpuProgress.{CpuProgress}
-use Rattle.dspec_interleaving.specs.declared.flight.Spare.{Spare}
 use Rattle.dspec_interleaving.specs.declared.flight.Spare.TheVariants as spare
-use Rattle.dspec_interleaving.specs.Coherent.{progress_of, PlayState}
-use Rattle.dspec_interleaving.specs.Play.{is_worn, took}
 
 -- a batch that was taken is not given back
 abbrev pub is_out : Spare → Bool

@@ -1,17 +1,9 @@
 -- Serves proofs. A schedule of whole calls: its turns, and what it answers.
 use Rattle.std.specs.Prelude.{◌≡◌, ℕ, Bool, true, List, [], ◌∷◌, Option}
-use Rattle.dspec_record.specs.declared.field.Shape.{Shape}
-use Rattle.dspec_interleaving.specs.Words.Outside.{Record}
-use Rattle.dspec_deeds.specs.declared.calls.Actor.{Actor}
+use Rattle.dspec_interleaving.specs.{Calls.record_passes, Coherent.PlayState, Plays.EndedCall, Whole.Call, Whole.of_cpu, Whole.of_consumer, Whole.behind_call, Whole.whole_answer}
+use Rattle.dspec_interleaving.specs.{Words.Outside.Shape, Words.Outside.Record, Words.Outside.Actor, Words.Outside.Op, Words.Outside.Turn, Words.Outside.RunCpu, Words.Outside.RunConsumer}
 use Rattle.dspec_deeds.specs.declared.calls.Actor.TheVariants as actor
-use Rattle.dspec_deeds.specs.declared.calls.Op.{Op}
 use Rattle.dspec_deeds.specs.declared.calls.Op.TheVariants as op
-use Rattle.dspec_deeds.specs.declared.calls.Turn.{Turn}
-use Rattle.dspec_deeds.specs.declared.calls.Turn.TheVariants.{RunCpu, RunConsumer}
-use Rattle.dspec_interleaving.specs.Calls.{record_passes}
-use Rattle.dspec_interleaving.specs.Coherent.{PlayState}
-use Rattle.dspec_interleaving.specs.Plays.{EndedCall}
-use Rattle.dspec_interleaving.specs.Whole.{Call, of_cpu, of_consumer, behind_call, whole_answer}
 
 -- the turn that begins a call and runs it to its end
 abbrev pub turn_of : Call → Turn

@@ -24,12 +24,3 @@ pub use Rattle.dspec_interleaving.specs.Whole.{enters, gives, HasService, is_any
 pub use Rattle.dspec_interleaving.specs.Whole.{or_slot, owes, releases_up, settled_at, settled_up, settlements_up_to, settles_as, wears_out, whole_answer, whole_cpu, whole_service, WholeConsumer}
 pub use Rattle.dspec_interleaving.specs.Whole.{WholeCpu}
 pub use Rattle.dspec_interleaving.specs.WholePlays.{actor_of, all_ended, AreAccepted, HasAcceptedRecord, operation_of, turn_of}
-pub use Rattle.dspec_interleaving.specs.declared.flight.CallPlace.{CallPlace}
-pub use Rattle.dspec_interleaving.specs.declared.flight.ConsumerFlight.{ConsumerFlight}
-pub use Rattle.dspec_interleaving.specs.declared.flight.ConsumerProgress.{ConsumerProgress}
-pub use Rattle.dspec_interleaving.specs.declared.flight.CpuProgress.{CpuProgress}
-pub use Rattle.dspec_interleaving.specs.declared.flight.Spare.{Spare}
-pub use Rattle.dspec_interleaving.specs.declared.outcome.Close.{Close}
-pub use Rattle.dspec_interleaving.specs.declared.outcome.PlayFault.{PlayFault}
-pub use Rattle.dspec_interleaving.specs.declared.refusal.BeginFault.{BeginFault}
-pub use Rattle.dspec_interleaving.specs.declared.refusal.Stepped.TheVariants.{Done}

@@ -1,31 +1,17 @@
 //! The laws of plays, each a function without a body.
-ghost use Rattle.std.specs.Prelude.{◌≡◌, ◌<◌, ℕ, Bool, false, List, map, reverse, Option, Some, None};
 ghost use Rattle.std.specs.List.{AllByRecursion};
-ghost use Rattle.dspec_record.specs.Record.{Record};
-ghost use Rattle.dspec_record.specs.declared.field.Shape.{Shape};
+ghost use Rattle.std.specs.Prelude.{◌≡◌, ◌<◌, ℕ, Bool, false, List, map, reverse, Option, Some, None};
+ghost use Rattle.dspec_record.specs.{Record.Record, declared.field.Shape.Shape};
 ghost use Rattle.dspec_word.specs.SpecId.{Speculation};
 ghost use Rattle.dspec_deeds.specs.declared.calls.Actor.TheVariants as actor;
-ghost use Rattle.dspec_deeds.specs.declared.calls.ConsumerOp.{ConsumerOp};
-ghost use Rattle.dspec_deeds.specs.declared.calls.CpuOp.{CpuOp};
-ghost use Rattle.dspec_deeds.specs.declared.calls.Turn.{Turn};
-ghost use Rattle.dspec_deeds.specs.declared.config.Config.{Config};
-ghost use Rattle.dspec_deeds.specs.declared.deed.DecideFate.{DecideFate};
-ghost use Rattle.dspec_deeds.specs.declared.deed.Deed.{Deed};
-ghost use Rattle.dspec_interleaving.specs.declared.flight.ConsumerFlight.{ConsumerFlight};
-ghost use Rattle.dspec_interleaving.specs.declared.flight.CallPlace.{CallPlace};
-ghost use Rattle.dspec_deeds.specs.Ranges.{start_fault};
-ghost use Rattle.dspec_deeds.specs.History.{owed};
-ghost use Rattle.dspec_deeds.specs.Legal.{IsLegal, HasAuthors, IsSound};
-ghost use Rattle.dspec_interleaving.specs.Wearing.{is_told_worn, AreWornRightly};
-ghost use Rattle.dspec_interleaving.specs.Coherent.{IsCoherent, PlayState, progress_of};
-ghost use Rattle.dspec_interleaving.specs.Turns.{at_start, begin_cpu, begin_consumer, step};
-ghost use Rattle.dspec_deeds.specs.Closes.{closing, CanClose, WaitsUndecided};
-ghost use Rattle.dspec_interleaving.specs.Bounds.{clean_bound};
-ghost use Rattle.dspec_interleaving.specs.SoloRule.{DecidesNothing};
-ghost use Rattle.dspec_interleaving.specs.Whole.{Call, behind_all, IsApart, AreCalls};
-ghost use Rattle.dspec_interleaving.specs.WholePlays.{turn_of, AreAccepted, all_ended};
-ghost use Rattle.dspec_interleaving.specs.Plays.{IsReadOff, answers_of, play_fault, played};
-ghost use Rattle.dspec_interleaving.specs.Laws.{AreCpusIdle, ArePlayed, ClosesWoven, CountsWorn, IsBelowBound, IsCpuIdle, IsReleasedBy, ReleasesAsItDecides, ReleasesAtNextStep, RunsAsWholeConsumer, RunsAsWholeCpu, is_worn_next};
+ghost use Rattle.dspec_deeds.specs.{Closes.closing, Closes.CanClose, Closes.WaitsUndecided, History.owed, Legal.IsLegal, Legal.HasAuthors, Legal.IsSound, Ranges.start_fault};
+ghost use Rattle.dspec_deeds.specs.{declared.calls.ConsumerOp.ConsumerOp, declared.calls.CpuOp.CpuOp, declared.calls.Turn.Turn, declared.config.Config.Config, declared.deed.DecideFate.DecideFate};
+ghost use Rattle.dspec_deeds.specs.{declared.deed.Deed.Deed};
+ghost use Rattle.dspec_interleaving.specs.{Bounds.clean_bound, Coherent.IsCoherent, Coherent.PlayState, Coherent.progress_of, Laws.AreCpusIdle, Laws.ArePlayed, Laws.ClosesWoven, Laws.CountsWorn};
+ghost use Rattle.dspec_interleaving.specs.{Laws.IsBelowBound, Laws.IsCpuIdle, Laws.IsReleasedBy, Laws.ReleasesAsItDecides, Laws.ReleasesAtNextStep, Laws.RunsAsWholeConsumer, Laws.RunsAsWholeCpu};
+ghost use Rattle.dspec_interleaving.specs.{Laws.is_worn_next, Plays.IsReadOff, Plays.answers_of, Plays.play_fault, Plays.played, SoloRule.DecidesNothing, Turns.at_start, Turns.begin_cpu};
+ghost use Rattle.dspec_interleaving.specs.{Turns.begin_consumer, Turns.step, Wearing.is_told_worn, Wearing.AreWornRightly, Whole.Call, Whole.behind_all, Whole.IsApart, Whole.AreCalls};
+ghost use Rattle.dspec_interleaving.specs.{WholePlays.turn_of, WholePlays.AreAccepted, WholePlays.all_ended, declared.flight.CallPlace.CallPlace, declared.flight.ConsumerFlight.ConsumerFlight};
 
 /// A play begins coherent, and every begin and every atomic step of whichever actor keeps it so: its list of deeds is
 /// legal throughout.

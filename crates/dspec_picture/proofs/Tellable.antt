@@ -1,29 +1,14 @@
 -- A call in flight of a coherent play can be told.
 use Rattle.std.proofs.Common.{◌≡◌, ℕ, suc, ◌<◌, ◌≤◌, ◌^◌, true, false, true≢false, List, [], ◌∷◌, Option, Some, None, refl, sym, ap, ◌∙◌, subst, ⊎_elim, inl, inr, arith}
-use Rattle.dspec_record.specs.declared.field.Shape.{Shape}
-use Rattle.dspec_picture.specs.Words.{code_number, is_inactive, Speculation, SlotState, word_number, CanBeReleased, start_fault, issue, is_undecided, present, releases, verdict, word_at, IsSound}
-use Rattle.dspec_picture.specs.Words.{Follows, consumer_op_of, is_about, Expects, StandsConsumer, StandsCpu, progress_of, PlayState, CanBeTold, ConsumerCanBeTold, IsCoherent, IsNamedSlot, IsSlot}
-use Rattle.dspec_picture.specs.Words.{in_range}
-use Rattle.dspec_word.specs.declared.act.Act.{Act}
-use Rattle.dspec_word.specs.declared.code.Code.{Code}
-use Rattle.dspec_word.specs.declared.code.Code.TheVariants.{Inactive, Active, ActiveOne, ActiveMany, Committing, CommittingMany, Discarding}
+use Rattle.dspec_picture.specs.Words.{Shape, code_number, is_inactive, Speculation, SlotState, word_number, CanBeReleased, start_fault, issue, is_undecided, present, releases, verdict, word_at}
+use Rattle.dspec_picture.specs.Words.{IsSound, Follows, consumer_op_of, is_about, Expects, StandsConsumer, StandsCpu, progress_of, PlayState, CanBeTold, ConsumerCanBeTold, IsCoherent, IsNamedSlot}
+use Rattle.dspec_picture.specs.Words.{IsSlot, in_range, Act, Code, Inactive, Active, ActiveOne, ActiveMany, Committing, CommittingMany, Discarding, Config, Deed, Release, CpuProgress}
+use Rattle.dspec_picture.specs.Words.{ConsumerFlight, ConsumerProgress, CallPlace}
 use Rattle.dspec_word.proofs.Numbers.{code_below}
-use Rattle.dspec_deeds.specs.declared.config.Config.{Config}
-use Rattle.dspec_deeds.specs.declared.deed.Deed.{Deed}
-use Rattle.dspec_deeds.specs.declared.deed.Deed.TheVariants.{Release}
-use Rattle.dspec_deeds.proofs.PresentIds.{decided_given}
-use Rattle.dspec_deeds.proofs.SetUp.{set_up}
-use Rattle.dspec_deeds.proofs.TestLemmas.{either_way, same_number}
-use Rattle.dspec_deeds.proofs.WordCodes.{open_inactive}
-use Rattle.dspec_interleaving.specs.declared.flight.CpuProgress.{CpuProgress}
-use Rattle.dspec_interleaving.specs.declared.flight.ConsumerFlight.{ConsumerFlight}
+use Rattle.dspec_deeds.proofs.{PresentIds.decided_given, SetUp.set_up, TestLemmas.either_way, TestLemmas.same_number, WordCodes.open_inactive}
 use Rattle.dspec_interleaving.specs.declared.flight.ConsumerFlight.TheVariants as consumer
-use Rattle.dspec_interleaving.specs.declared.flight.ConsumerProgress.{ConsumerProgress}
-use Rattle.dspec_interleaving.specs.declared.flight.CallPlace.{CallPlace}
 use Rattle.dspec_interleaving.specs.declared.flight.CallPlace.TheVariants as cpu
-use Rattle.dspec_interleaving.proofs.CleanReads.{clean_stands}
-use Rattle.dspec_interleaving.proofs.Counts.{issue_below, issues_fit}
-use Rattle.dspec_interleaving.proofs.StepReads.{can_be_released, flight_stands, slots_fit}
+use Rattle.dspec_interleaving.proofs.{CleanReads.clean_stands, Counts.issue_below, Counts.issues_fit, StepReads.can_be_released, StepReads.flight_stands, StepReads.slots_fit}
 use Rattle.dspec_core.proofs.MachineReads.{slot_in_range}
 
 -- what is released was decided

@@ -1,10 +1,7 @@
 -- Serves proofs. What has to hold so that the next step of a call in flight can be told.
 use Rattle.std.specs.Prelude.{ℕ, ◌≡◌, ◌<◌, true}
-use Rattle.dspec_picture.specs.Words.Outside.{CanBeReleased, is_about, IsSlot}
-use Rattle.dspec_deeds.specs.declared.config.Config.{Config}
-use Rattle.dspec_interleaving.specs.declared.flight.ConsumerFlight.{ConsumerFlight}
+use Rattle.dspec_picture.specs.Words.Outside.{CanBeReleased, is_about, IsSlot, Config, ConsumerFlight, CallPlace}
 use Rattle.dspec_interleaving.specs.declared.flight.ConsumerFlight.TheVariants as consumer
-use Rattle.dspec_interleaving.specs.declared.flight.CallPlace.{CallPlace}
 use Rattle.dspec_interleaving.specs.declared.flight.CallPlace.TheVariants as cpu
 
 module _ (k : Config) where

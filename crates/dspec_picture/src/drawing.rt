@@ -1,7 +1,6 @@
 //! The picture of a play.
 ghost use Rattle.std.specs.Prelude.{◌≡◌, ◌+◌, ◌*◌, ◌^◌, ◌<◌, ◌≤◌, ◌↔◌, All, Err, IfOk, length};
-ghost use Rattle.dspec_picture.specs.declared.drawing.PictureFault.TheVariants.{Memory};
-ghost use Rattle.dspec_picture.specs.Bands.{IsSmall};
+ghost use Rattle.dspec_picture.specs.{Bands.IsSmall, declared.drawing.PictureFault.TheVariants.Memory};
 
 use crate::band::Band;
 use crate::bars::push_bars;

@@ -1,8 +1,6 @@
 //! What a step finds room for, before it is made.
 ghost use Rattle.std.specs.Prelude.{◌≡◌, ◌<◌, ◌^◌, true};
-ghost use Rattle.dspec_interleaving.specs.Calls.{is_actor};
-ghost use Rattle.dspec_interleaving.specs.Coherent.{IsSlot};
-ghost use Rattle.dspec_interleaving.specs.Promised.{HasHeadline};
+ghost use Rattle.dspec_interleaving.specs.{Calls.is_actor, Coherent.IsSlot, Promised.HasHeadline};
 ghost use Rattle.dspec_picture.specs.Tellable.{CanBeTold};
 
 use crate::showing::is_marked;

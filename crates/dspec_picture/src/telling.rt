@@ -1,7 +1,6 @@
 //! What the next step of a call in flight does, in words, as the world shows it.
 ghost use Rattle.std.specs.Prelude.{◌≡◌, ◌<◌, true};
-ghost use Rattle.dspec_interleaving.specs.Calls.{is_about, is_actor};
-ghost use Rattle.dspec_interleaving.specs.Promised.{HasHeadline};
+ghost use Rattle.dspec_interleaving.specs.{Calls.is_about, Calls.is_actor, Promised.HasHeadline};
 ghost use Rattle.dspec_picture.specs.Tellable.{CanBeTold, ConsumerCanBeTold, IsNamedSlot};
 
 use crate::showing::{ack, attempted, is_marked, word_at};

@@ -1,9 +1,7 @@
 -- A `FieldList` that is made of a list of fields.
 use Rattle.std.proofs.Common.{◌≤◌, ◌++◌, List, length, drop, replicate, refl, ◌∙◌, arith}
 use Rattle.std.proofs.lemmas.List.{length-append, length-drop, drop_at, drop-replicate, length-replicate}
-use Rattle.dspec_record.specs.declared.field.Field.{Field}
-use Rattle.dspec_record.specs.declared.field.Field.TheVariants.{One}
-use Rattle.dspec_probe.specs.Words.{IsFieldList}
+use Rattle.dspec_probe.specs.Words.{Field, One, IsFieldList}
 
 -- fields copied over the first of eight places
 pub IsFieldList-copied : (fs : List Field) → length fs ≤ 8 → IsFieldList (record { held = fs ++ drop (length fs) (replicate 8 One); len = length fs })

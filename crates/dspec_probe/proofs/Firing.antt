@@ -1,16 +1,11 @@
 -- A record of a probe, written by the probe's own fields.
-use Rattle.std.proofs.Common.{◌≡◌, ◌≤◌, ◌<◌, ◌+◌, ◌*◌, ◌/◌, ◌%◌, ◌^◌, ◌∙◌, ℕ, List, IsTrue, length, take, get_or, replicate, sym, ap, subst, arith}
-use Rattle.std.proofs.Math.Nat.{pow-le-pow_right}
-use Rattle.std.proofs.lemmas.List.{length-take-le}
+use Rattle.std.proofs.{Common.◌≡◌, Common.◌≤◌, Common.◌<◌, Common.◌+◌, Common.◌*◌, Common.◌/◌, Common.◌%◌, Common.◌^◌, Common.◌∙◌, Common.ℕ, Common.List, Common.IsTrue, Common.length, Common.take}
+use Rattle.std.proofs.{Common.get_or, Common.replicate, Common.sym, Common.ap, Common.subst, Common.arith, Math.Nat.pow-le-pow_right, lemmas.List.length-take-le}
 use Rattle.dspec_probe.specs.Words.{fields_start, fields_end, layout, rounded_up, number_of_words, value_number, packed_record, ArePacked, IsClean, Record, record_text, fits, fields_end-ge}
-use Rattle.dspec_probe.specs.Words.{length-record_text}
-use Rattle.dspec_record.specs.declared.field.Field.{Field}
-use Rattle.dspec_record.specs.declared.header.Header.{Header}
+use Rattle.dspec_probe.specs.Words.{length-record_text, Field, Header}
 use Rattle.dspec_record.specs.declared.header.Header.TheVariants as header
-use Rattle.dspec_record.proofs.Cutting.{packed}
-use Rattle.dspec_record.proofs.Masking.{pow256, ends-within}
-use Rattle.dspec_record.proofs.PackedValues.{value_number-packed, value_number-below, record-of_number, clean-of_number, taken-number}
-use Rattle.dspec_record.proofs.PackedRecords.{first-zeros, room-of}
+use Rattle.dspec_record.proofs.{Cutting.packed, Masking.pow256, Masking.ends-within, PackedRecords.first-zeros, PackedRecords.room-of, PackedValues.value_number-packed}
+use Rattle.dspec_record.proofs.{PackedValues.value_number-below, PackedValues.record-of_number, PackedValues.clean-of_number, PackedValues.taken-number}
 
 -- the last field ends within nine words
 pub end-near : (fs : List Field) (end : ℕ) → length fs ≤ 8 → end ≡ fields_end 4 fs → end ≤ 72

@@ -1,7 +1,6 @@
 -- A float's bits stand for it again.
 use Rattle.std.proofs.Common.{◌≡◌, ℕ, true, nat_lt, Some, to_bits, ap}
-use Rattle.std.specs.Bool.{passes}
-use Rattle.std.specs.Float.Ieee.{Float, Format, fits}
+use Rattle.std.specs.{Bool.passes, Float.Ieee.Float, Float.Ieee.Format, Float.Ieee.fits}
 use lib.Ieee.Bits.{of_bits-to_bits}
 use Rattle.dspec_probe.specs.Words.{float}
 

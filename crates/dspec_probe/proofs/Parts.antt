@@ -1,10 +1,9 @@
 -- Parts of a record, one behind the other.
-use Rattle.std.proofs.Common.{◌≡◌, ◌≤◌, ◌<◌, ◌+◌, ◌*◌, ◌^◌, ◌++◌, ◌∷◌, ◌∙◌, ◌&&◌, ℕ, Bool, true, false, IsTrue, List}
-use Rattle.std.proofs.Common.{[], length, take, drop, Option, Some, None, option_map, nat_lt, ltb, ap, refl, sym, subst, arith, length-append}
-use Rattle.std.specs.Prelude.{option_and_then, if◌then◌else◌}
+use Rattle.std.proofs.Common.{◌≡◌, ◌≤◌, ◌<◌, ◌+◌, ◌*◌, ◌^◌, ◌++◌, ◌∷◌, ◌∙◌, ◌&&◌, ℕ, Bool, true, false, IsTrue, List, [], length, take, drop, Option, Some, None, option_map, nat_lt, ltb, ap, refl}
+use Rattle.std.proofs.Common.{sym, subst, arith, length-append}
 use Rattle.std.proofs.lemmas.List.{take_at, drop_at}
-use Rattle.dspec_probe.specs.Words.{width, rounded_up, after, fields_end, number_of_words, value_number, AreFree, ArePacked, fits, fields_end-le, both, both_of}
-use Rattle.dspec_record.specs.declared.field.Field.{Field}
+use Rattle.std.specs.Prelude.{option_and_then, if◌then◌else◌}
+use Rattle.dspec_probe.specs.Words.{width, rounded_up, after, fields_end, number_of_words, value_number, AreFree, ArePacked, fits, fields_end-le, both, both_of, Field}
 
 pub fits-long : (fs : List Field) (vs : List ℕ) → IsTrue (fits fs vs) → length vs ≡ length fs
 fits-long [] [] h = refl

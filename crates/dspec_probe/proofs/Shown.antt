@@ -1,9 +1,8 @@
 -- The text of a record that is told, while it is written.
 use Rattle.std.proofs.Common.{◌≡◌, ◌∙◌, ◌+◌, ℕ, suc, true, List, Option, Some, None, IfSome, refl, ap, subst, arith}
 use Rattle.std.proofs.Output.{has_written_append}
-use Rattle.std.specs.Fmt.{HasWritten, IsPlainFormatter, option_append}
-use Rattle.std.specs.declared.fmt.Formatter.{Formatter}
-use Rattle.dspec_probe.specs.Words.{named_text, told_fields, told_meaning, told_name, Meaning, Told}
+use Rattle.std.specs.{Fmt.HasWritten, Fmt.IsPlainFormatter, Fmt.option_append, declared.fmt.Formatter.Formatter}
+use Rattle.dspec_probe.specs.{Words.named_text, Words.told_fields, Words.told_meaning, Words.told_name, declared.telling.Meaning.Meaning, declared.telling.Told.Told}
 
 module _ {W : Type 0} (took : W → List ℕ → W → Type 0) where
   joined : (f g h : Formatter W) (a b : Option (List ℕ)) → IfSome a (λ bs. HasWritten took f bs g)

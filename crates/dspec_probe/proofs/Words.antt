@@ -1,7 +1,7 @@
 -- Words that are filled one behind the other.
 use Rattle.std.proofs.Common.{◌≡◌, ◌<◌, ◌+◌, ◌-◌, ◌++◌, ◌∷◌, ◌∙◌, ℕ, suc, List, [], length, map, take, set, ap, sym, append_assoc, arith}
-use Rattle.std.specs.List.{range_with_len}
 use Rattle.std.proofs.lemmas.List.{take_more_set}
+use Rattle.std.specs.List.{range_with_len}
 
 range-next : (p n : ℕ) → p < n → range_with_len p (n - p) ≡ p ∷ range_with_len (p + 1) (n - (p + 1))
 range-next p n below =

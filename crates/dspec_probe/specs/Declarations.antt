@@ -1,12 +1,7 @@
 -- Cited by calls. The probes of a program: their schema and their names, and what one more adds.
 use Rattle.std.specs.Prelude.{◌≡◌, ◌+◌, ◌++◌, ◌∷◌, [], ℕ, Bool, List, length, map}
-use Rattle.dspec_probe.specs.Words.Outside.{EnabledRows}
-use Rattle.dspec_record.specs.declared.field.Field.{Field}
-use Rattle.dspec_record.specs.declared.header.Header.{Header}
-use Rattle.dspec_probe.specs.Kinds.{next_words}
-use Rattle.dspec_probe.specs.Probes.{HasProbe}
-use Rattle.dspec_probe.specs.declared.probe.Probe.{Probe}
-use Rattle.dspec_probe.specs.declared.probes.ProbeNames.{ProbeNames}
+use Rattle.dspec_probe.specs.{Kinds.next_words, Probes.HasProbe, Words.Outside.EnabledRows, Words.Outside.Field, Words.Outside.Header, declared.probe.Probe.Probe}
+use Rattle.dspec_probe.specs.{declared.probes.ProbeNames.ProbeNames}
 
 pub record Declared : Type 0 where
   pub schema : EnabledRows

@@ -1,8 +1,6 @@
 -- Cited by calls. How a `FieldList` holds fields: those behind them hold one value.
 use Rattle.std.specs.Prelude.{◌≡◌, ◌≤◌, ◌-◌, ◌++◌, List, length, take, drop, replicate}
-use Rattle.dspec_record.specs.declared.field.Field.{Field}
-use Rattle.dspec_record.specs.declared.field.Field.TheVariants.{One}
-use Rattle.dspec_probe.specs.declared.field_list.FieldList.TheInside.{Inside}
+use Rattle.dspec_probe.specs.{Words.Outside.Field, Words.Outside.One, declared.field_list.FieldList.TheInside.Inside}
 
 abbrev pub listed_fields : Inside → List Field
 listed_fields a = take a.len a.held

@@ -1,7 +1,6 @@
 -- Cited by calls. Which fields have a name of their own: all but the next words of a text.
 use Rattle.std.specs.Prelude.{ℕ, ◌+◌, ◌-◌, Bool, true, false, List, [], ◌∷◌, take, slice_index_or, if◌then◌else◌}
-use Rattle.dspec_probe.specs.declared.kind.Kind.{Kind}
-use Rattle.dspec_probe.specs.declared.kind.Kind.TheVariants.{Unsigned, TextNext}
+use Rattle.dspec_probe.specs.declared.kind.Kind.{Kind, TheVariants.Unsigned, TheVariants.TextNext}
 
 abbrev pub is_next : Kind → Bool
 is_next TextNext = true

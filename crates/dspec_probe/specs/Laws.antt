@@ -1,10 +1,6 @@
 -- Serves proofs. The places of a `FieldList` follow from the list that it holds.
-use Rattle.std.proofs.Common.{◌≡◌, ◌≤◌, ◌-◌, ◌++◌, length, take, replicate, arith}
-use Rattle.std.proofs.lemmas.List.{length-take-le}
-use Rattle.dspec_probe.specs.Words.Outside.{padded_list}
-use Rattle.dspec_record.specs.declared.field.Field.TheVariants.{One}
-use Rattle.dspec_probe.specs.FieldLists.{listed_fields, IsFieldList, list_places}
-use Rattle.dspec_probe.specs.declared.field_list.FieldList.TheInside.{Inside}
+use Rattle.std.proofs.{Common.◌≡◌, Common.◌≤◌, Common.◌-◌, Common.◌++◌, Common.length, Common.take, Common.replicate, Common.arith, lemmas.List.length-take-le}
+use Rattle.dspec_probe.specs.{FieldLists.listed_fields, FieldLists.IsFieldList, FieldLists.list_places, Words.Outside.padded_list, Words.Outside.One, declared.field_list.FieldList.TheInside.Inside}
 
 pub list_places-listed_fields : (a : Inside) → IsFieldList a → list_places (listed_fields a) ≡ a
 list_places-listed_fields a p =

@@ -1,6 +1,6 @@
 -- Cited by calls. What the numbers of a record stand for, a part of them each.
-use Rattle.std.specs.Prelude.{ℕ, nat_lt, List, [], ◌∷◌, length, take, drop, Option, Some, None, if◌then◌else◌}
 use Rattle.std.specs.Option.{option_map, option_and_then}
+use Rattle.std.specs.Prelude.{ℕ, nat_lt, List, [], ◌∷◌, length, take, drop, Option, Some, None, if◌then◌else◌}
 
 -- no number stands for nothing
 abbrev pub nothing_of : List ℕ → Option (Unit {0})

@@ -1,10 +1,8 @@
 -- Cited by calls. Which records are those of a probe, and which schemas have the probe.
 use Rattle.std.specs.Prelude.{◌≡◌, ℕ, nat_eq, List, Option, Some, None, if◌then◌else◌}
-use Rattle.dspec_probe.specs.Words.Outside.{EnabledRows, Record, IsLaidBy, Laid, enabled, enabling_of, table_shape, table_text}
-use Rattle.dspec_record.specs.declared.field.Field.{Field}
-use Rattle.dspec_record.specs.declared.header.Header.{Header}
-use Rattle.dspec_record.specs.declared.header.Header.TheVariants as header
+use Rattle.dspec_probe.specs.Words.Outside.{EnabledRows, Record, IsLaidBy, Laid, enabled, enabling_of, table_shape, table_text, Field, Header}
 use Rattle.dspec_probe.specs.declared.probe.Probe.{Probe}
+use Rattle.dspec_record.specs.declared.header.Header.TheVariants as header
 
 -- a stamp as a header has it: left out where it has none
 abbrev pub stamp_in : Header → ℕ → ℕ

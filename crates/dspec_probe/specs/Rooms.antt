@@ -1,7 +1,6 @@
 -- Serves proofs. Parts of a record have room behind each other.
 use Rattle.std.proofs.Common.{◌≡◌, ◌≤◌, ◌+◌, ◌++◌, ℕ, List, length, length-append, arith}
-use Rattle.dspec_record.specs.declared.field.Field.{Field}
-use Rattle.dspec_probe.specs.declared.kind.Kind.{Kind}
+use Rattle.dspec_probe.specs.{Words.Outside.Field, declared.kind.Kind.Kind}
 
 pub le-refl : (n : ℕ) → n ≤ n
 le-refl n = omega arith

@@ -1,22 +1,14 @@
 -- Cited by calls. A record as text: the name of its probe, and behind it what each field says, by its name.
-use Rattle.std.specs.Prelude.{ℕ, zero, suc, ◌^◌, ◌-◌, ◌++◌, Bool, true, false, ℤ, List, [], length, nat_eq, nat_lt, slice_get, slice_index_or, if◌then◌else◌}
-use Rattle.std.specs.Prelude.{Option, Some, None, option_map, option_and_then, codes, decimal}
-use Rattle.std.specs.Fmt.{option_append, signed_decimal}
-use Rattle.std.specs.Int.{w8, w16, w32, w64}
-use Rattle.std.specs.Option.{option_map_or}
-use Rattle.std.specs.Float.Ieee.{binary32, binary64}
-use Rattle.dspec_probe.specs.Words.Outside.{Record, enabling_of}
-use Rattle.dspec_record.specs.declared.field.Field.{Field}
-use Rattle.dspec_record.specs.declared.field.Field.TheVariants.{One, Two, Four, Eight}
-use Rattle.dspec_probe.specs.Declarations.{Declared}
-use Rattle.dspec_probe.specs.Kinds.{name_place}
-use Rattle.dspec_probe.specs.Values.{signed, float}
-use Rattle.dspec_probe.specs.declared.kind.Kind.{Kind}
+use Rattle.std.specs.{Float.Ieee.binary32, Float.Ieee.binary64, Fmt.option_append, Fmt.signed_decimal, Int.w8, Int.w16, Int.w32, Int.w64, Option.option_map_or, Prelude.ℕ, Prelude.zero, Prelude.suc}
+use Rattle.std.specs.{Prelude.◌^◌, Prelude.◌-◌, Prelude.◌++◌, Prelude.Bool, Prelude.true, Prelude.false, Prelude.ℤ, Prelude.List, Prelude.[], Prelude.length, Prelude.nat_eq, Prelude.nat_lt}
+use Rattle.std.specs.{Prelude.slice_get, Prelude.slice_index_or, Prelude.if◌then◌else◌, Prelude.Option, Prelude.Some, Prelude.None, Prelude.option_map, Prelude.option_and_then, Prelude.codes}
+use Rattle.std.specs.{Prelude.decimal}
+use Rattle.dspec_probe.specs.{Declarations.Declared, Kinds.name_place, Values.signed, Values.float, Words.Outside.Record, Words.Outside.enabling_of, Words.Outside.Field, Words.Outside.One}
+use Rattle.dspec_probe.specs.{Words.Outside.Two, Words.Outside.Four, Words.Outside.Eight, declared.kind.Kind.Kind, declared.probes.ProbeNames.ProbeNames, declared.telling.Meaning.Meaning}
+use Rattle.dspec_probe.specs.{declared.telling.Meaning.TheVariants.Unsigned, declared.telling.Meaning.TheVariants.Signed, declared.telling.Meaning.TheVariants.Truth}
+use Rattle.dspec_probe.specs.{declared.telling.Meaning.TheVariants.Label, declared.telling.Meaning.TheVariants.Single, declared.telling.Meaning.TheVariants.Double}
+use Rattle.dspec_probe.specs.{declared.telling.Meaning.TheVariants.Text, declared.telling.Meaning.TheVariants.TextNext, declared.telling.Told.Told}
 use Rattle.dspec_probe.specs.declared.kind.Kind.TheVariants as kind
-use Rattle.dspec_probe.specs.declared.probes.ProbeNames.{ProbeNames}
-use Rattle.dspec_probe.specs.declared.telling.Meaning.{Meaning}
-use Rattle.dspec_probe.specs.declared.telling.Meaning.TheVariants.{Unsigned, Signed, Truth, Label, Single, Double, Text, TextNext}
-use Rattle.dspec_probe.specs.declared.telling.Told.{Told}
 
 -- a number of this width in two's complement
 abbrev pub signed_number : Field → ℕ → Option ℤ

@@ -1,7 +1,7 @@
 -- Cited by calls. Texts as words of eight bytes: how a text stands in so many words, and what words stand for.
-use Rattle.std.specs.Prelude.{ℕ, ◌+◌, ◌-◌, ◌*◌, ◌/◌, ◌^◌, ◌==◌, nat_le, not, Bool, List, [], ◌∷◌, length, map, take, slice_index_or, Option, Some, None, if◌then◌else◌}
 use Rattle.std.specs.Int.{w64, from_le_bytes, to_le_bytes}
 use Rattle.std.specs.List.{flat_map, range_with_len}
+use Rattle.std.specs.Prelude.{ℕ, ◌+◌, ◌-◌, ◌*◌, ◌/◌, ◌^◌, ◌==◌, nat_le, not, Bool, List, [], ◌∷◌, length, map, take, slice_index_or, Option, Some, None, if◌then◌else◌}
 use Rattle.dspec_probe.specs.declared.text.Text.{Text}
 
 -- a byte that goes on with a character of UTF-8

@@ -1,8 +1,7 @@
 -- Cited by calls. Which values the numbers of a record stand for, by the type of their field.
-use Rattle.std.specs.Prelude.{ℕ, zero, suc, ◌^◌, Bool, true, false, ℤ, nat_lt, from_bits, Option, Some, None, if◌then◌else◌}
-use Rattle.std.specs.Int.{Width, cast_signed}
+use Rattle.std.specs.{Float.Ieee.Float, Float.Ieee.Format, Int.Width, Int.cast_signed, Prelude.ℕ, Prelude.zero, Prelude.suc, Prelude.◌^◌, Prelude.Bool, Prelude.true, Prelude.false, Prelude.ℤ}
+use Rattle.std.specs.{Prelude.nat_lt, Prelude.from_bits, Prelude.Option, Prelude.Some, Prelude.None, Prelude.if◌then◌else◌}
 use mir.Val.{bits}
-use Rattle.std.specs.Float.Ieee.{Float, Format}
 
 -- a number below the limit, itself
 abbrev pub below : ℕ → ℕ → Option ℕ

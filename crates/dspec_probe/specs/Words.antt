@@ -10,5 +10,3 @@ pub use Rattle.dspec_probe.specs.Telling.{named_text, told_fields, told_meaning,
 pub use Rattle.dspec_probe.specs.Texts.{before_zero, filled_words}
 unfoldable pub use Rattle.dspec_probe.specs.Texts.{text_word}
 pub use Rattle.dspec_probe.specs.Values.{float, signed}
-pub use Rattle.dspec_probe.specs.declared.telling.Meaning.{Meaning}
-pub use Rattle.dspec_probe.specs.declared.telling.Told.{Told}

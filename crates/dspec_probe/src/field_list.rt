@@ -17,8 +17,7 @@ impl Model for FieldList {
 
     ghost Value = { List Field };
 
-    ghost use Rattle.dspec_probe.specs.FieldLists.{listed_fields, IsFieldList, list_places};
-    ghost use Rattle.dspec_probe.specs.Laws.{list_places-listed_fields};
+    ghost use Rattle.dspec_probe.specs.{FieldLists.listed_fields, FieldLists.IsFieldList, FieldLists.list_places, Laws.list_places-listed_fields};
 
     ghost view = { listed_fields };
 

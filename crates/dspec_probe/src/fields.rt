@@ -1,7 +1,5 @@
 ghost use Rattle.std.specs.Prelude.{◌≡◌, ◌≤◌, ℕ, List, Option, Some, length, IsTrue};
-ghost use Rattle.dspec_record.specs.Packing.{AreFree, ArePacked};
-ghost use Rattle.dspec_record.specs.RecordText.{fits};
-ghost use Rattle.dspec_record.specs.declared.field.Field.{Field};
+ghost use Rattle.dspec_record.specs.{Packing.AreFree, Packing.ArePacked, RecordText.fits, declared.field.Field.Field};
 ghost use Rattle.dspec_probe.specs.declared.kind.Kind.{Kind};
 
 use crate::{FieldList, Kind};

@@ -1,6 +1,5 @@
 ghost use Rattle.std.specs.Prelude.{◌≡◌, IsTrue, length, replicate};
-ghost use Rattle.dspec_record.specs.Packing.{ArePacked};
-ghost use Rattle.dspec_record.specs.RecordText.{fits};
+ghost use Rattle.dspec_record.specs.{Packing.ArePacked, RecordText.fits};
 
 use crate::{Fields, Probe};
 use dspec_record::laid_out::{laid_shape, put_packed};
@@ -71,8 +70,7 @@ impl<F: Fields, H: KnownHeader> Fired<F, H> {
 
 impl<F: Fields, H: KnownHeader> Recorded for Fired<F, H> {
     ghost use Rattle.std.specs.Prelude.{Some};
-    ghost use Rattle.dspec_record.specs.Layout.{layout};
-    ghost use Rattle.dspec_record.specs.RecordText.{record_text};
+    ghost use Rattle.dspec_record.specs.{Layout.layout, RecordText.record_text};
 
     ghost as_record = { λ f. record { epid = f.epid; stamp = f.stamp; values = F.numbers_of f.values } };
 

@@ -1,9 +1,6 @@
 ghost use Rattle.std.specs.Prelude.{◌≡◌, ◌≤◌, ◌<◌, ◌+◌, ◌^◌, ◌++◌, ℕ, List, Option, Some, length, slice_index_or, IsTrue};
-ghost use Rattle.dspec_record.specs.Packing.{number_of_words, AreFree, ArePacked};
-ghost use Rattle.dspec_record.specs.RecordText.{fits};
-ghost use Rattle.dspec_record.specs.declared.field.Field.{Field};
-ghost use Rattle.dspec_probe.specs.declared.kind.Kind.{Kind};
-ghost use Rattle.dspec_probe.specs.declared.kind.Kind.TheVariants.{Unsigned};
+ghost use Rattle.dspec_record.specs.{Packing.number_of_words, Packing.AreFree, Packing.ArePacked, RecordText.fits, declared.field.Field.Field};
+ghost use Rattle.dspec_probe.specs.declared.kind.Kind.{Kind, TheVariants.Unsigned};
 
 use crate::number_list::NumberList;
 use crate::{FieldList, Kind, Value};
@@ -93,8 +90,7 @@ pub trait Part<R: Room>: Copy {
 
 impl<R: Room> Part<R> for () {
     ghost use Rattle.std.specs.Prelude.{[], refl};
-    ghost use Rattle.dspec_probe.specs.Parts.{nothing_of};
-    ghost use Rattle.dspec_probe.specs.Rooms.{none-few};
+    ghost use Rattle.dspec_probe.specs.{Parts.nothing_of, Rooms.none-few};
 
     type Left = R;
 
@@ -146,8 +142,7 @@ impl<R: Room> Part<R> for () {
 
 impl<V: Value, R: Room> Part<Place<R>> for V {
     ghost use Rattle.std.specs.Prelude.{◌∷◌, [], refl};
-    ghost use Rattle.dspec_probe.specs.Parts.{one_of};
-    ghost use Rattle.dspec_probe.specs.Rooms.{le-refl};
+    ghost use Rattle.dspec_probe.specs.{Parts.one_of, Rooms.le-refl};
 
     type Left = R;
 
@@ -201,8 +196,7 @@ impl<V: Value, R: Room> Part<Place<R>> for V {
 }
 
 impl<R: Room, V: Part<R>, W: Part<V::Left>> Part<R> for (V, W) {
-    ghost use Rattle.dspec_probe.specs.Parts.{both_of};
-    ghost use Rattle.dspec_probe.specs.Rooms.{both-few, both-same};
+    ghost use Rattle.dspec_probe.specs.{Parts.both_of, Rooms.both-few, Rooms.both-same};
 
     type Left = W::Left;
 

@@ -1,6 +1,5 @@
 ghost use Rattle.std.specs.Prelude.{◌≡◌, ◌↔◌, Some, IsTrue};
-ghost use Rattle.dspec_record.specs.EnablingRows.{EnabledRows};
-ghost use Rattle.dspec_record.specs.RecordText.{record_text, fits};
+ghost use Rattle.dspec_record.specs.{EnablingRows.EnabledRows, RecordText.record_text, RecordText.fits};
 ghost use Rattle.dspec_probe.specs.Probes.{IsProbeOf, epid_of_probe, header_of_probe, probed_record, read_values};
 
 use crate::Fields;

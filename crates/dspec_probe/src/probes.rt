@@ -1,7 +1,5 @@
 ghost use Rattle.std.specs.Prelude.{◌≡◌, ◌≢◌, ◌≤◌, ◌<◌, ◌+◌, ◌++◌, ◌∷◌, ◌↔◌, [], length, Some, None, IfOk, IsTrue, OnErr, OnOk};
-ghost use Rattle.dspec_probe.specs.declared.fault.ProbeFault.{ProbeFault};
-ghost use Rattle.dspec_probe.specs.Declarations.{Declares};
-ghost use Rattle.dspec_probe.specs.Kinds.{next_words};
+ghost use Rattle.dspec_probe.specs.{Declarations.Declares, Kinds.next_words, declared.fault.ProbeFault.ProbeFault};
 
 use crate::truth::truths;
 use crate::{Fields, Kind, Probe, ProbeFault};
@@ -84,8 +82,7 @@ impl<'n> Model for Probes<'n> {
 }
 
 impl<'n> Probes<'n> {
-    ghost use Rattle.dspec_probe.specs.Declarations.{AreNamed};
-    ghost use Rattle.dspec_probe.specs.Truths.{truths_of};
+    ghost use Rattle.dspec_probe.specs.{Declarations.AreNamed, Truths.truths_of};
 
     /// None yet; each record has a stamp.
     pub fn new(alloc: Global) -> Probes<'n>

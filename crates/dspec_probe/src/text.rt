@@ -1,6 +1,4 @@
-ghost use Rattle.std.specs.Prelude.{◌≡◌, ◌≤◌, ◌<◌, ◌*◌, length, IfOk, slice_index_or};
-ghost use Rattle.std.specs.List.{flat_map};
-ghost use Rattle.std.specs.Int.{w64, to_le_bytes};
+ghost use Rattle.std.specs.{Int.w64, Int.to_le_bytes, List.flat_map, Prelude.◌≡◌, Prelude.◌≤◌, Prelude.◌<◌, Prelude.◌*◌, Prelude.length, Prelude.IfOk, Prelude.slice_index_or};
 ghost use Rattle.dspec_probe.specs.Texts.{is_continuation, cut_place, text_word, filled_words, text_words, text_of, is_whole, text_bytes};
 
 use crate::number_list::NumberList;
@@ -197,11 +195,9 @@ struct First(u64);
 struct Next(u64);
 
 impl Value for First {
-    ghost use Rattle.std.specs.Prelude.{◌^◌};
-    ghost use Rattle.std.specs.Option.{option_map};
-    ghost use Rattle.dspec_probe.specs.Values.{below};
+    ghost use Rattle.std.specs.{Option.option_map, Prelude.◌^◌};
+    ghost use Rattle.dspec_probe.specs.{Values.below, declared.kind.Kind.TheVariants.Text};
     ghost use Rattle.dspec_record.specs.declared.field.Field.TheVariants.{Eight};
-    ghost use Rattle.dspec_probe.specs.declared.kind.Kind.TheVariants.{Text};
 
     ghost field_is = { Eight };
 
@@ -233,11 +229,9 @@ impl Value for First {
 }
 
 impl Value for Next {
-    ghost use Rattle.std.specs.Prelude.{◌^◌};
-    ghost use Rattle.std.specs.Option.{option_map};
-    ghost use Rattle.dspec_probe.specs.Values.{below};
+    ghost use Rattle.std.specs.{Option.option_map, Prelude.◌^◌};
+    ghost use Rattle.dspec_probe.specs.{Values.below, declared.kind.Kind.TheVariants.TextNext};
     ghost use Rattle.dspec_record.specs.declared.field.Field.TheVariants.{Eight};
-    ghost use Rattle.dspec_probe.specs.declared.kind.Kind.TheVariants.{TextNext};
 
     ghost field_is = { Eight };
 
@@ -271,8 +265,7 @@ impl Value for Next {
 impl<R: Room> Part<Place<R>> for Text<1> {
     ghost use Rattle.std.specs.Prelude.{◌∷◌, ◌+◌, [], refl};
     ghost use Rattle.dspec_record.specs.declared.field.Field.TheVariants.{Eight};
-    ghost use Rattle.dspec_probe.specs.Rooms.{le-refl};
-    ghost use Rattle.dspec_probe.specs.Texts.{text_of};
+    ghost use Rattle.dspec_probe.specs.{Rooms.le-refl, Texts.text_of};
     ghost use Rattle.dspec_probe.specs.declared.kind.Kind.TheVariants as kind;
 
     type Left = R;
@@ -325,8 +318,7 @@ impl<R: Room> Part<Place<R>> for Text<1> {
 impl<R: Room> Part<Place<Place<R>>> for Text<2> {
     ghost use Rattle.std.specs.Prelude.{◌∷◌, [], refl};
     ghost use Rattle.dspec_record.specs.declared.field.Field.TheVariants.{Eight};
-    ghost use Rattle.dspec_probe.specs.Rooms.{two-few};
-    ghost use Rattle.dspec_probe.specs.Texts.{text_of};
+    ghost use Rattle.dspec_probe.specs.{Rooms.two-few, Texts.text_of};
     ghost use Rattle.dspec_probe.specs.declared.kind.Kind.TheVariants as kind;
 
     type Left = R;
@@ -386,8 +378,7 @@ impl<R: Room> Part<Place<Place<R>>> for Text<2> {
 impl<R: Room> Part<Place<Place<Place<R>>>> for Text<3> {
     ghost use Rattle.std.specs.Prelude.{◌∷◌, [], refl};
     ghost use Rattle.dspec_record.specs.declared.field.Field.TheVariants.{Eight};
-    ghost use Rattle.dspec_probe.specs.Rooms.{three-few};
-    ghost use Rattle.dspec_probe.specs.Texts.{text_of};
+    ghost use Rattle.dspec_probe.specs.{Rooms.three-few, Texts.text_of};
     ghost use Rattle.dspec_probe.specs.declared.kind.Kind.TheVariants as kind;
 
     type Left = R;
@@ -447,8 +438,7 @@ impl<R: Room> Part<Place<Place<Place<R>>>> for Text<3> {
 impl<R: Room> Part<Place<Place<Place<Place<R>>>>> for Text<4> {
     ghost use Rattle.std.specs.Prelude.{◌∷◌, [], refl};
     ghost use Rattle.dspec_record.specs.declared.field.Field.TheVariants.{Eight};
-    ghost use Rattle.dspec_probe.specs.Rooms.{four-few};
-    ghost use Rattle.dspec_probe.specs.Texts.{text_of};
+    ghost use Rattle.dspec_probe.specs.{Rooms.four-few, Texts.text_of};
     ghost use Rattle.dspec_probe.specs.declared.kind.Kind.TheVariants as kind;
 
     type Left = R;
@@ -509,8 +499,7 @@ impl<R: Room> Part<Place<Place<Place<Place<R>>>>> for Text<4> {
 impl<R: Room> Part<Place<Place<Place<Place<Place<R>>>>>> for Text<5> {
     ghost use Rattle.std.specs.Prelude.{◌∷◌, [], refl};
     ghost use Rattle.dspec_record.specs.declared.field.Field.TheVariants.{Eight};
-    ghost use Rattle.dspec_probe.specs.Rooms.{five-few};
-    ghost use Rattle.dspec_probe.specs.Texts.{text_of};
+    ghost use Rattle.dspec_probe.specs.{Rooms.five-few, Texts.text_of};
     ghost use Rattle.dspec_probe.specs.declared.kind.Kind.TheVariants as kind;
 
     type Left = R;
@@ -578,8 +567,7 @@ impl<R: Room> Part<Place<Place<Place<Place<Place<R>>>>>> for Text<5> {
 impl<R: Room> Part<Place<Place<Place<Place<Place<Place<R>>>>>>> for Text<6> {
     ghost use Rattle.std.specs.Prelude.{◌∷◌, [], refl};
     ghost use Rattle.dspec_record.specs.declared.field.Field.TheVariants.{Eight};
-    ghost use Rattle.dspec_probe.specs.Rooms.{six-few};
-    ghost use Rattle.dspec_probe.specs.Texts.{text_of};
+    ghost use Rattle.dspec_probe.specs.{Rooms.six-few, Texts.text_of};
     ghost use Rattle.dspec_probe.specs.declared.kind.Kind.TheVariants as kind;
 
     type Left = R;

@@ -30,8 +30,7 @@ pub trait Tuple: Copy {
 
 impl<T: Tuple> Fields for T {
     ghost use Rattle.std.specs.Option.{option_map};
-    ghost use Rattle.dspec_probe.specs.Kinds.{eight_kinds};
-    ghost use Rattle.dspec_probe.specs.Rooms.{within-eight};
+    ghost use Rattle.dspec_probe.specs.{Kinds.eight_kinds, Rooms.within-eight};
 
     ghost fields_are = { T.Parts.fields_are };
 

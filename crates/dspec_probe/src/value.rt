@@ -1,6 +1,5 @@
 ghost use Rattle.std.specs.Prelude.{◌≡◌, ◌<◌, ◌^◌, ℕ, Option, Some};
-ghost use Rattle.dspec_record.specs.Layout.{width};
-ghost use Rattle.dspec_record.specs.declared.field.Field.{Field};
+ghost use Rattle.dspec_record.specs.{Layout.width, declared.field.Field.Field};
 ghost use Rattle.dspec_probe.specs.declared.kind.Kind.{Kind};
 
 use crate::Kind;
@@ -44,9 +43,8 @@ pub trait Value: Copy {
 }
 
 impl Value for u8 {
-    ghost use Rattle.dspec_probe.specs.Values.{below};
+    ghost use Rattle.dspec_probe.specs.{Values.below, declared.kind.Kind.TheVariants.Unsigned};
     ghost use Rattle.dspec_record.specs.declared.field.Field.TheVariants.{One};
-    ghost use Rattle.dspec_probe.specs.declared.kind.Kind.TheVariants.{Unsigned};
 
     ghost field_is = { One };
 
@@ -81,9 +79,8 @@ impl Value for u8 {
 }
 
 impl Value for u16 {
-    ghost use Rattle.dspec_probe.specs.Values.{below};
+    ghost use Rattle.dspec_probe.specs.{Values.below, declared.kind.Kind.TheVariants.Unsigned};
     ghost use Rattle.dspec_record.specs.declared.field.Field.TheVariants.{Two};
-    ghost use Rattle.dspec_probe.specs.declared.kind.Kind.TheVariants.{Unsigned};
 
     ghost field_is = { Two };
 
@@ -118,9 +115,8 @@ impl Value for u16 {
 }
 
 impl Value for u32 {
-    ghost use Rattle.dspec_probe.specs.Values.{below};
+    ghost use Rattle.dspec_probe.specs.{Values.below, declared.kind.Kind.TheVariants.Unsigned};
     ghost use Rattle.dspec_record.specs.declared.field.Field.TheVariants.{Four};
-    ghost use Rattle.dspec_probe.specs.declared.kind.Kind.TheVariants.{Unsigned};
 
     ghost field_is = { Four };
 
@@ -155,9 +151,8 @@ impl Value for u32 {
 }
 
 impl Value for u64 {
-    ghost use Rattle.dspec_probe.specs.Values.{below};
+    ghost use Rattle.dspec_probe.specs.{Values.below, declared.kind.Kind.TheVariants.Unsigned};
     ghost use Rattle.dspec_record.specs.declared.field.Field.TheVariants.{Eight};
-    ghost use Rattle.dspec_probe.specs.declared.kind.Kind.TheVariants.{Unsigned};
 
     ghost field_is = { Eight };
 
@@ -190,9 +185,8 @@ impl Value for u64 {
 
 impl Value for i8 {
     ghost use Rattle.std.specs.Int.{cast_unsigned, w8};
-    ghost use Rattle.dspec_probe.specs.Values.{signed};
+    ghost use Rattle.dspec_probe.specs.{Values.signed, declared.kind.Kind.TheVariants.Signed};
     ghost use Rattle.dspec_record.specs.declared.field.Field.TheVariants.{One};
-    ghost use Rattle.dspec_probe.specs.declared.kind.Kind.TheVariants.{Signed};
 
     ghost field_is = { One };
 
@@ -226,9 +220,8 @@ impl Value for i8 {
 
 impl Value for i16 {
     ghost use Rattle.std.specs.Int.{cast_unsigned, w16};
-    ghost use Rattle.dspec_probe.specs.Values.{signed};
+    ghost use Rattle.dspec_probe.specs.{Values.signed, declared.kind.Kind.TheVariants.Signed};
     ghost use Rattle.dspec_record.specs.declared.field.Field.TheVariants.{Two};
-    ghost use Rattle.dspec_probe.specs.declared.kind.Kind.TheVariants.{Signed};
 
     ghost field_is = { Two };
 
@@ -262,9 +255,8 @@ impl Value for i16 {
 
 impl Value for i32 {
     ghost use Rattle.std.specs.Int.{cast_unsigned, w32};
-    ghost use Rattle.dspec_probe.specs.Values.{signed};
+    ghost use Rattle.dspec_probe.specs.{Values.signed, declared.kind.Kind.TheVariants.Signed};
     ghost use Rattle.dspec_record.specs.declared.field.Field.TheVariants.{Four};
-    ghost use Rattle.dspec_probe.specs.declared.kind.Kind.TheVariants.{Signed};
 
     ghost field_is = { Four };
 
@@ -298,9 +290,8 @@ impl Value for i32 {
 
 impl Value for i64 {
     ghost use Rattle.std.specs.Int.{cast_unsigned, w64};
-    ghost use Rattle.dspec_probe.specs.Values.{signed};
+    ghost use Rattle.dspec_probe.specs.{Values.signed, declared.kind.Kind.TheVariants.Signed};
     ghost use Rattle.dspec_record.specs.declared.field.Field.TheVariants.{Eight};
-    ghost use Rattle.dspec_probe.specs.declared.kind.Kind.TheVariants.{Signed};
 
     ghost field_is = { Eight };
 
@@ -332,9 +323,8 @@ impl Value for i64 {
 }
 
 impl Value for bool {
-    ghost use Rattle.dspec_probe.specs.Values.{flag, flag_of};
+    ghost use Rattle.dspec_probe.specs.{Values.flag, Values.flag_of, declared.kind.Kind.TheVariants.Unsigned};
     ghost use Rattle.dspec_record.specs.declared.field.Field.TheVariants.{One};
-    ghost use Rattle.dspec_probe.specs.declared.kind.Kind.TheVariants.{Unsigned};
 
     ghost field_is = { One };
 
@@ -370,11 +360,9 @@ impl Value for bool {
 }
 
 impl Value for f32 {
-    ghost use Rattle.std.specs.Prelude.{to_bits};
-    ghost use Rattle.std.specs.Float.Ieee.{binary32};
-    ghost use Rattle.dspec_probe.specs.Values.{float};
+    ghost use Rattle.std.specs.{Float.Ieee.binary32, Prelude.to_bits};
+    ghost use Rattle.dspec_probe.specs.{Values.float, declared.kind.Kind.TheVariants.Float};
     ghost use Rattle.dspec_record.specs.declared.field.Field.TheVariants.{Four};
-    ghost use Rattle.dspec_probe.specs.declared.kind.Kind.TheVariants.{Float};
 
     ghost field_is = { Four };
 
@@ -407,11 +395,9 @@ impl Value for f32 {
 }
 
 impl Value for f64 {
-    ghost use Rattle.std.specs.Prelude.{to_bits};
-    ghost use Rattle.std.specs.Float.Ieee.{binary64};
-    ghost use Rattle.dspec_probe.specs.Values.{float};
+    ghost use Rattle.std.specs.{Float.Ieee.binary64, Prelude.to_bits};
+    ghost use Rattle.dspec_probe.specs.{Values.float, declared.kind.Kind.TheVariants.Float};
     ghost use Rattle.dspec_record.specs.declared.field.Field.TheVariants.{Eight};
-    ghost use Rattle.dspec_probe.specs.declared.kind.Kind.TheVariants.{Float};
 
     ghost field_is = { Eight };
 

@@ -1,12 +1,9 @@
 -- A decision in the list of deeds is one that a CPU of the session made, and the other way round.
 use Rattle.std.proofs.Common.{arith, ◌≡◌, ℕ, Bool, true, false, ◌||◌, if◌then◌else◌, List, [], ◌∷◌, ◌++◌, refl, sym, ap, ◌∙◌, ⊎_elim, true≢false}
 use Rattle.std.proofs.lemmas.Bool.Decides.{nat_tests}
-use Rattle.dspec_promise.specs.Words.{Speculation, HasAuthors, done_by, did, all_did, commit, discard, Did, emptied, is_commit_of, is_discard_of, some, Happened}
-use Rattle.dspec_deeds.specs.declared.config.Config.{Config}
-use Rattle.dspec_deeds.specs.declared.deed.DecideFate.{DecideFate}
+use Rattle.dspec_promise.specs.Words.{Speculation, HasAuthors, done_by, did, all_did, commit, discard, Did, emptied, is_commit_of, is_discard_of, some, Happened, Config, DecideFate, Deed, Commit}
+use Rattle.dspec_promise.specs.Words.{Discard}
 use Rattle.dspec_deeds.specs.declared.deed.DecideFate.TheVariants as decide
-use Rattle.dspec_deeds.specs.declared.deed.Deed.{Deed}
-use Rattle.dspec_deeds.specs.declared.deed.Deed.TheVariants.{Commit, Discard}
 use Rattle.dspec_deeds.specs.Fates as told
 use Rattle.dspec_deeds.proofs.TestLemmas.{off, or_tells, or_true, number_is_itself}
 

@@ -2,13 +2,11 @@
 use Rattle.std.proofs.Common.{arith, ◌≡◌, ◌⊎◌, ℕ, true, false, if◌then◌else◌, List, [], ◌∷◌, ◌++◌, map, length, Option, None, Some}
 use Rattle.std.proofs.lemmas.Bool.Decides.{nat_tests}
 use Rattle.dspec_promise.specs.Words.{Speculation, offered_by, empties, buffer, traces_dropped_now, specdrops_now, done_by, By, Did, emptied, RecordFate, taken, dropped, specdropped, lost}
-use Rattle.dspec_promise.specs.Words.{discarded, void, held, emptied_fate, same_fate, HandedRecord, once_emptied, handed, held_for, cpu_stream, TellNumbers, IsFate}
-use Rattle.dspec_deeds.specs.declared.deed.DecideFate.{DecideFate}
+use Rattle.dspec_promise.specs.Words.{discarded, void, held, emptied_fate, same_fate, HandedRecord, once_emptied, handed, held_for, cpu_stream, TellNumbers, IsFate, DecideFate, Deed}
 use Rattle.dspec_deeds.specs.declared.deed.DecideFate.TheVariants as decide
-use Rattle.dspec_deeds.specs.declared.deed.Deed.{Deed}
 use Rattle.dspec_deeds.specs.Fates as told
-use Rattle.dspec_deeds.proofs.TestLemmas.{off, id_is_itself}
 use Rattle.dspec_deeds.proofs.DeedOffers.{Idle, Offers, Empties, Effect, idle, offering, emptying}
+use Rattle.dspec_deeds.proofs.TestLemmas.{off, id_is_itself}
 use Rattle.dspec_promise.proofs.Emptying.{one, nothing_emptied}
 
 -- the fate as the list of deeds tells it

@@ -1,21 +1,14 @@
 -- What each deed of a legal list does for a CPU, as the page tells it: nothing, it offers a record, or it empties a buffer.
 use Rattle.std.proofs.Common.{arith, ◌≡◌, ℕ, true, false, ◌==◌, List, [], ◌∷◌, length, Option, None, Some, refl, sym, ◌∙◌, subst, inl, inr, ⊎_elim, true≢false}
 use Rattle.std.proofs.lemmas.Bool.Decides.{nat_tests}
-use Rattle.dspec_record.specs.declared.field.Shape.{Shape}
-use Rattle.dspec_promise.specs.Words.{Record, Speculation, is_commit, is_discard, Ruling, undecided, committed, ruled_out, verdict, buffer, SettlesAs, IsAllowed, traces_dropped_now, specdrops_now}
-use Rattle.dspec_promise.specs.Words.{done_by, By, commit, discard, service, emptied, traced_fate, speculated_fate}
-use Rattle.dspec_deeds.specs.declared.config.Config.{Config}
-use Rattle.dspec_deeds.specs.declared.deed.TraceFate.{TraceFate}
-use Rattle.dspec_deeds.specs.declared.deed.SpeculateFate.{SpeculateFate}
-use Rattle.dspec_deeds.specs.declared.deed.DecideFate.{DecideFate}
+use Rattle.dspec_promise.specs.Words.{Shape, Record, Speculation, is_commit, is_discard, Ruling, undecided, committed, ruled_out, verdict, buffer, SettlesAs, IsAllowed, traces_dropped_now}
+use Rattle.dspec_promise.specs.Words.{specdrops_now, done_by, By, commit, discard, service, emptied, traced_fate, speculated_fate, Config, TraceFate, SpeculateFate, DecideFate, Deed, Trace}
+use Rattle.dspec_promise.specs.Words.{Speculate, Commit, Discard, Settle}
 use Rattle.dspec_deeds.specs.declared.deed.DecideFate.TheVariants as decide
-use Rattle.dspec_deeds.specs.declared.deed.Deed.{Deed}
-use Rattle.dspec_deeds.specs.declared.deed.Deed.TheVariants.{Trace, Speculate, Commit, Discard, Settle}
 use Rattle.dspec_deeds.specs.Fates as told
-use Rattle.dspec_deeds.proofs.TestLemmas.{either_way, and_false, same_number, number_is_itself, id_is_itself}
-use Rattle.dspec_deeds.proofs.Verdicts.{Told, verdict_told}
-use Rattle.dspec_deeds.proofs.DeedOffers.{Empties, own_trace, own_speculate}
-use Rattle.dspec_deeds.proofs.DeedEffects.{copied_commit, lost_commit, thrown_discard, copied_settle, lost_settle, thrown_settle, legal_effect}
+use Rattle.dspec_deeds.proofs.{DeedEffects.copied_commit, DeedEffects.lost_commit, DeedEffects.thrown_discard, DeedEffects.copied_settle, DeedEffects.lost_settle, DeedEffects.thrown_settle}
+use Rattle.dspec_deeds.proofs.{DeedEffects.legal_effect, DeedOffers.Empties, DeedOffers.own_trace, DeedOffers.own_speculate, TestLemmas.either_way, TestLemmas.and_false, TestLemmas.same_number}
+use Rattle.dspec_deeds.proofs.{TestLemmas.number_is_itself, TestLemmas.id_is_itself, Verdicts.Told, Verdicts.verdict_told}
 use Rattle.dspec_promise.proofs.DoingKinds.{Does, DoesEmpty, DoesOffer, does_not, does_not_decide, empties_one, nothing, offers_one}
 
 -- the CPU's own offers

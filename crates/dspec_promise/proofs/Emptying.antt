@@ -1,8 +1,7 @@
 -- What the emptying of a buffer does to the offers.
-use Rattle.std.proofs.lemmas.Bool.Decides.{nat_tests}
 use Rattle.std.proofs.Common.{◌≡◌, ℕ, ◌+◌, Bool, true, false, ◌&&◌, if◌then◌else◌, List, [], ◌∷◌, map, Option, None, Some, refl, sym, ap, true≢false, arith}
-use Rattle.dspec_promise.specs.Words.{Record, Speculation, RecordFate, held, emptied_fate, same_fate, is_same_id, HandedRecord, is_for, waits_for, once_emptied, held_for, number, of}
-use Rattle.dspec_deeds.specs.declared.deed.DecideFate.{DecideFate}
+use Rattle.std.proofs.lemmas.Bool.Decides.{nat_tests}
+use Rattle.dspec_promise.specs.Words.{Record, Speculation, RecordFate, held, emptied_fate, same_fate, is_same_id, HandedRecord, is_for, waits_for, once_emptied, held_for, number, of, DecideFate}
 use Rattle.dspec_deeds.proofs.TestLemmas.{off, and_tells, and_false, same_id_tells}
 
 -- a held record is held

@@ -2,19 +2,13 @@
 use Prim.Native.Nat.{suc}
 use Rattle.std.proofs.Common.{◌≡◌, ℕ, ◌<◌, Bool, true, false, ◌&&◌, ◌==◌, List, [], ◌∷◌, map, length, Option, None, Some, refl, sym, ap, ◌∙◌, subst, ⊎_elim, arith}
 use Rattle.std.proofs.lemmas.Bool.Decides.{nat_tests}
-use Rattle.dspec_record.specs.declared.field.Shape.{Shape}
-use Rattle.dspec_promise.specs.Words.{Speculation, offers_of, IsAllowed, did, RecordFate, taken, dropped, specdropped, lost, discarded, void, held, emptied_fate, same_fate, HandedRecord, is_for}
-use Rattle.dspec_promise.specs.Words.{waits_for, once_emptied, handed, number, IsFate, IsOffer, AreOffers}
-use Rattle.dspec_deeds.specs.declared.config.Config.{Config}
-use Rattle.dspec_deeds.specs.declared.deed.DecideFate.{DecideFate}
-use Rattle.dspec_deeds.specs.declared.deed.Deed.{Deed}
+use Rattle.dspec_promise.specs.Words.{Shape, Speculation, offers_of, IsAllowed, did, RecordFate, taken, dropped, specdropped, lost, discarded, void, held, emptied_fate, same_fate, HandedRecord}
+use Rattle.dspec_promise.specs.Words.{is_for, waits_for, once_emptied, handed, number, IsFate, IsOffer, AreOffers, Config, DecideFate, Deed}
 use Rattle.dspec_deeds.specs.Fates as told
-use Rattle.dspec_deeds.proofs.TestLemmas.{either_way, and_false, number_is_itself, id_is_itself}
-use Rattle.dspec_deeds.proofs.DeedEffects.{legal_before}
-use Rattle.dspec_deeds.proofs.HeldOffers.{fate_idle, fate_offered, fate_earlier, fate_emptied, settled_as, same_id_back}
-use Rattle.dspec_promise.proofs.Emptying.{waits_tells, emptied_one, emptied_other}
-use Rattle.dspec_promise.proofs.DoingKinds.{as_told, DoesEmpty, Does, nothing, offers_one, empties_one}
-use Rattle.dspec_promise.proofs.Doings.{does}
+use Rattle.dspec_deeds.proofs.{DeedEffects.legal_before, HeldOffers.fate_idle, HeldOffers.fate_offered, HeldOffers.fate_earlier, HeldOffers.fate_emptied, HeldOffers.settled_as}
+use Rattle.dspec_deeds.proofs.{HeldOffers.same_id_back, TestLemmas.either_way, TestLemmas.and_false, TestLemmas.number_is_itself, TestLemmas.id_is_itself}
+use Rattle.dspec_promise.proofs.{DoingKinds.as_told, DoingKinds.DoesEmpty, DoingKinds.Does, DoingKinds.nothing, DoingKinds.offers_one, DoingKinds.empties_one, Doings.does, Emptying.waits_tells}
+use Rattle.dspec_promise.proofs.{Emptying.emptied_one, Emptying.emptied_other}
 
 -- a deed that offers none of these, and changes none of their fates
 kept_offers : (c : ℕ) (d : Deed) (h : List Deed) (n : ℕ) (os : List HandedRecord) → ((j : ℕ) → j < n → told.is_offer c j d h ≡ false)

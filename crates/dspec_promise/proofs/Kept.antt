@@ -1,25 +1,14 @@
 -- The page's promise, of every legal list.
-use Rattle.std.proofs.lemmas.Bool.Decides.{nat_tests}
 use Rattle.std.proofs.Common.{◌≡◌, ℕ, ◌+◌, ◌<◌, Bool, true, false, ◌&&◌, ◌||◌, List, [], ◌∷◌, ◌++◌, map, reverse, Option, refl, sym, ap, ◌∙◌, arith}
-use Rattle.std.proofs.lemmas.List.{append-nil}
-use Rattle.dspec_record.specs.declared.field.Shape.{Shape}
-use Rattle.dspec_promise.specs.Words.{Record, Speculation, WaitsUndecided, FateLaw, IsAllowed, IsLegal, stream_of, taken_first, offers_of, report, total, traces_dropped_now, specdrops_now, did}
-use Rattle.dspec_promise.specs.Words.{all_did, AtEachMoment, DecidedSoFar, RecordFate, taken, dropped, specdropped, lost, discarded, void, held, emptied_fate, same_fate, HandedRecord, once_emptied}
-use Rattle.dspec_promise.specs.Words.{handed, cpu_stream, number, of, KeepsPromise, Promise, IsFate}
-use Rattle.dspec_deeds.specs.declared.config.Config.{Config}
-use Rattle.dspec_deeds.specs.declared.deed.DecideFate.{DecideFate}
-use Rattle.dspec_deeds.specs.declared.deed.Deed.{Deed}
+use Rattle.std.proofs.lemmas.{Bool.Decides.nat_tests, List.append-nil}
+use Rattle.dspec_promise.specs.Words.{Shape, Record, Speculation, WaitsUndecided, FateLaw, IsAllowed, IsLegal, stream_of, taken_first, offers_of, report, total, traces_dropped_now, specdrops_now}
+use Rattle.dspec_promise.specs.Words.{did, all_did, AtEachMoment, DecidedSoFar, RecordFate, taken, dropped, specdropped, lost, discarded, void, held, emptied_fate, same_fate, HandedRecord}
+use Rattle.dspec_promise.specs.Words.{once_emptied, handed, cpu_stream, number, of, KeepsPromise, Promise, IsFate, Config, DecideFate, Deed}
 use Rattle.dspec_deeds.specs.Fates as told
-use Rattle.dspec_deeds.proofs.Verdicts.{one_decision}
-use Rattle.dspec_deeds.proofs.DeedEffects.{legal_before}
-use Rattle.dspec_deeds.proofs.Headlines.{headline}
-use Rattle.dspec_promise.proofs.Emptying.{one, counted_emptied}
-use Rattle.dspec_promise.proofs.Once.{once}
-use Rattle.dspec_promise.proofs.DoingKinds.{Does, nothing, offers_one, empties_one}
-use Rattle.dspec_promise.proofs.Doings.{does}
-use Rattle.dspec_promise.proofs.Decisions.{has_committed, never_discarded}
-use Rattle.dspec_promise.proofs.Fated.{are_offers, as_many, same_number_fated}
-use Rattle.dspec_promise.proofs.KeptFates.{accepted_stream, all_decided, all_follow, all_wait, numbers_told}
+use Rattle.dspec_deeds.proofs.{DeedEffects.legal_before, Headlines.headline, Verdicts.one_decision}
+use Rattle.dspec_promise.proofs.{Decisions.has_committed, Decisions.never_discarded, DoingKinds.Does, DoingKinds.nothing, DoingKinds.offers_one, DoingKinds.empties_one, Doings.does, Emptying.one}
+use Rattle.dspec_promise.proofs.{Emptying.counted_emptied, Fated.are_offers, Fated.as_many, Fated.same_number_fated, KeptFates.accepted_stream, KeptFates.all_decided, KeptFates.all_follow}
+use Rattle.dspec_promise.proofs.{KeptFates.all_wait, KeptFates.numbers_told, Once.once}
 
 -- equal tests count alike
 number_alike : (p q : HandedRecord → Bool) → ((o : HandedRecord) → p o ≡ q o) → (os : List HandedRecord) → number p os ≡ number q os

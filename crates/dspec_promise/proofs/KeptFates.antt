@@ -1,23 +1,16 @@
 -- That the fates which a list tells are those of the page, and each follows its decision.
-use Rattle.std.proofs.lemmas.Bool.Decides.{nat_tests}
 use Rattle.std.proofs.Common.{◌≡◌, ℕ, ◌<◌, Bool, true, false, ◌&&◌, ◌||◌, if◌then◌else◌, List, [], ◌∷◌, ◌++◌, map, length, Option, None, Some, refl, sym, ap, ◌∙◌, subst, true≢false, arith}
+use Rattle.std.proofs.lemmas.Bool.Decides.{nat_tests}
 use Rattle.std.specs.List.{AllByRecursion}
-use Rattle.dspec_record.specs.declared.field.Shape.{Shape}
-use Rattle.dspec_promise.specs.Words.{Speculation, WaitsUndecided, Ruling, undecided, committed, ruled_out, verdict, is_undecided, IsAllowed, HasAuthors, Entry, contents, buffer, accepted}
+use Rattle.dspec_promise.specs.Words.{Shape, Speculation, WaitsUndecided, Ruling, undecided, committed, ruled_out, verdict, is_undecided, IsAllowed, HasAuthors, Entry, contents, buffer, accepted}
 use Rattle.dspec_promise.specs.Words.{offers_of, did, all_did, RecordFate, taken, dropped, specdropped, lost, discarded, void, held, same_fate, is_same_id, HandedRecord, is_for, waits_for}
-use Rattle.dspec_promise.specs.Words.{once_emptied, handed, held_for, cpu_stream, is_commit_of, is_discard_of, TellNumbers, Never, AllDecided, WasDecided, IsFate, AreOffers}
-use Rattle.dspec_deeds.specs.declared.config.Config.{Config}
-use Rattle.dspec_deeds.specs.declared.deed.DecideFate.{DecideFate}
-use Rattle.dspec_deeds.specs.declared.deed.Deed.{Deed}
+use Rattle.dspec_promise.specs.Words.{once_emptied, handed, held_for, cpu_stream, is_commit_of, is_discard_of, TellNumbers, Never, AllDecided, WasDecided, IsFate, AreOffers, Config, DecideFate}
+use Rattle.dspec_promise.specs.Words.{Deed}
 use Rattle.dspec_deeds.specs.Fates as told
-use Rattle.dspec_deeds.proofs.TestLemmas.{or_true}
-use Rattle.dspec_deeds.proofs.Verdicts.{Told, verdict_told, commit_stays}
-use Rattle.dspec_deeds.proofs.DeedOffers.{waits_for as waits_told}
-use Rattle.dspec_deeds.proofs.DeedEffects.{legal_before}
-use Rattle.dspec_promise.proofs.Emptying.{waits_tells, emptied_one, emptied_other, waiting_emptied}
-use Rattle.dspec_promise.proofs.DoingKinds.{as_told, IsDue, DoesEmpty, Does, nothing, offers_one, empties_one}
-use Rattle.dspec_promise.proofs.Doings.{does}
-use Rattle.dspec_promise.proofs.Decisions.{committed_by, discarded_by, never_committed, never_discarded}
+use Rattle.dspec_deeds.proofs.{DeedEffects.legal_before, DeedOffers.waits_for as waits_told, TestLemmas.or_true, Verdicts.Told, Verdicts.verdict_told, Verdicts.commit_stays}
+use Rattle.dspec_promise.proofs.{Decisions.committed_by, Decisions.discarded_by, Decisions.never_committed, Decisions.never_discarded, DoingKinds.as_told, DoingKinds.IsDue, DoingKinds.DoesEmpty}
+use Rattle.dspec_promise.proofs.{DoingKinds.Does, DoingKinds.nothing, DoingKinds.offers_one, DoingKinds.empties_one, Doings.does, Emptying.waits_tells, Emptying.emptied_one, Emptying.emptied_other}
+use Rattle.dspec_promise.proofs.{Emptying.waiting_emptied}
 
 -- a fate waits in both alike, and is taken in both alike
 waits_alike : (id : Speculation) (g : RecordFate) (x : Option Speculation) → waits_told id (as_told g x) ≡ (is_for id x && same_fate held g)

@@ -1,14 +1,7 @@
 -- Whatever is answered in a legal list has its reason.
-use Rattle.std.proofs.lemmas.Bool.Decides.{nat_tests}
-use Rattle.std.proofs.Common.{◌≡◌, ℕ, true, false, List, [], ◌∷◌, Option, refl, ⊎_elim, arith}
-use Rattle.dspec_record.specs.declared.field.Shape.{Shape}
-use Rattle.dspec_promise.specs.Words.{Record, Speculation, opens, opened, IsAllowed, IsSound, number, HasReason, HaveReasons, GivenOnce}
-use Rattle.dspec_deeds.specs.declared.config.Config.{Config}
-use Rattle.dspec_deeds.specs.declared.deed.TraceFate.{TraceFate}
-use Rattle.dspec_deeds.specs.declared.deed.SpeculateFate.{SpeculateFate}
-use Rattle.dspec_deeds.specs.declared.deed.DecideFate.{DecideFate}
-use Rattle.dspec_deeds.specs.declared.deed.Deed.{Deed}
-use Rattle.dspec_deeds.specs.declared.deed.Deed.TheVariants.{Trace, Speculate, Commit, Discard, Settle}
+use Rattle.std.proofs.{Common.◌≡◌, Common.ℕ, Common.true, Common.false, Common.List, Common.[], Common.◌∷◌, Common.Option, Common.refl, Common.⊎_elim, Common.arith, lemmas.Bool.Decides.nat_tests}
+use Rattle.dspec_promise.specs.Words.{Shape, Record, Speculation, opens, opened, IsAllowed, IsSound, number, HasReason, HaveReasons, GivenOnce, Config, TraceFate, SpeculateFate, DecideFate, Deed}
+use Rattle.dspec_promise.specs.Words.{Trace, Speculate, Commit, Discard, Settle}
 use Rattle.dspec_deeds.proofs.TestLemmas.{either_way, or_none, not_false, same_id_tells}
 use Rattle.dspec_promise.proofs.Doings.{never_settles}
 

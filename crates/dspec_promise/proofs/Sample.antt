@@ -1,12 +1,9 @@
 -- The page at one small history: two CPUs speculate to a speculation, one commits it, and the other settles that.
 use Rattle.std.proofs.Common.{◌≡◌, ℕ, true, List, [], ◌∷◌, None, Some, refl}
-use Rattle.dspec_promise.specs.Words.{Record, Speculation, did, traced, taken, dropped, held, handed, cpu_stream, Promise}
+use Rattle.dspec_promise.specs.Words.{Record, Speculation, did, traced, taken, dropped, held, handed, cpu_stream, Promise, Deed, Trace, Scan, Opened, Speculate, Commit, Settle, Report}
 use Rattle.dspec_deeds.specs.declared.deed.TraceFate.TheVariants as trace
 use Rattle.dspec_deeds.specs.declared.deed.SpeculateFate.TheVariants as speculate
 use Rattle.dspec_deeds.specs.declared.deed.DecideFate.TheVariants as decide
-use Rattle.dspec_deeds.specs.declared.deed.Deed.{Deed}
-use Rattle.dspec_deeds.specs.declared.deed.Deed.TheVariants.{Trace, Scan, Opened, Speculate, Commit, Settle}
-use Rattle.dspec_deeds.specs.declared.report.Report.{Report}
 
 abbrev id : Speculation
 id = record { issue = 0; slot = 1 }

@@ -1,8 +1,7 @@
 -- Believed. What each CPU did, as a list of deeds tells it.
 use Rattle.std.specs.Prelude.{ℕ, ◌==◌, List, [], ◌∷◌, ◌++◌, if◌then◌else◌}
-use Rattle.dspec_deeds.specs.declared.deed.Deed.{Deed}
-use Rattle.dspec_deeds.specs.declared.deed.Deed.TheVariants.{Trace, Speculate, Commit, Discard, Settle}
 use Rattle.dspec_promise.specs.Promise.{commit, discard, service, Did, traced, speculated, emptied, handed, AllDecided}
+use Rattle.dspec_promise.specs.Words.Outside.{Deed, Trace, Speculate, Commit, Discard, Settle}
 
 abbrev pub done_by : ℕ → Deed → List Did
 done_by c (Trace a r f) = if c == a then traced r f ∷ [] else []

@@ -1,9 +1,8 @@
 -- Serves proofs. The page's fates are those of the list of deeds, record by record.
 use Rattle.std.specs.Prelude.{ℕ, ◌≡◌, suc, List, [], ◌∷◌, Option, Some, None}
-use Rattle.dspec_promise.specs.Words.Outside.{Speculation}
-use Rattle.dspec_deeds.specs.declared.deed.Deed.{Deed}
-use Rattle.dspec_deeds.specs.Fates as told
 use Rattle.dspec_promise.specs.Promise.{RecordFate, taken, dropped, specdropped, lost, discarded, void, held, HandedRecord}
+use Rattle.dspec_promise.specs.Words.Outside.{Speculation, Deed}
+use Rattle.dspec_deeds.specs.Fates as told
 
 -- the fate is the same but for what it waits for, which is what it was offered to, and for where it was dropped
 abbrev pub IsFate : RecordFate → Option Speculation → told.Fate → Type 0

@@ -1,25 +1,14 @@
 //! The laws of the page, each a function without a body.
 ghost use Rattle.std.specs.Prelude.{ℕ, ◌≡◌, ◌<◌, List, ◌∷◌, Option};
-ghost use Rattle.dspec_record.specs.Record.{Record};
-ghost use Rattle.dspec_record.specs.declared.field.Shape.{Shape};
+ghost use Rattle.dspec_record.specs.{Record.Record, declared.field.Shape.Shape};
 ghost use Rattle.dspec_word.specs.SpecId.{Speculation};
 ghost use Rattle.dspec_deeds.specs.declared.calls.Actor.TheVariants as actor;
-ghost use Rattle.dspec_deeds.specs.declared.config.Config.{Config};
-ghost use Rattle.dspec_deeds.specs.declared.deed.TraceFate.{TraceFate};
-ghost use Rattle.dspec_deeds.specs.declared.deed.SpeculateFate.{SpeculateFate};
-ghost use Rattle.dspec_deeds.specs.declared.deed.DecideFate.{DecideFate};
-ghost use Rattle.dspec_deeds.specs.declared.deed.Deed.{Deed};
-ghost use Rattle.dspec_deeds.specs.declared.deed.Deed.TheVariants.{Trace, Speculate, Commit, Discard, Settle};
-ghost use Rattle.dspec_deeds.specs.History.{part};
-ghost use Rattle.dspec_deeds.specs.Weaving.{bare};
-ghost use Rattle.dspec_deeds.specs.Legal.{IsLegal};
-ghost use Rattle.dspec_deeds.specs.Closes.{WaitsUndecided};
-ghost use Rattle.dspec_deeds.specs.Own.{offers as offers_of, stream, taken};
-ghost use Rattle.dspec_deeds.specs.Reports.{report};
-ghost use Rattle.dspec_promise.specs.Promise.{commit, discard, service, traced, speculated, emptied, handed, KeepsPromise, Promise};
-ghost use Rattle.dspec_promise.specs.Deeds.{AtEachMoment, DecidedSoFar, all_did, did};
-ghost use Rattle.dspec_promise.specs.Reasons.{GivenOnce, HaveReasons};
-ghost use Rattle.dspec_promise.specs.SameFates.{AreOffers};
+ghost use Rattle.dspec_deeds.specs.{Closes.WaitsUndecided, History.part, Legal.IsLegal, Own.offers as offers_of, Own.stream, Own.taken, Reports.report, Weaving.bare, declared.config.Config.Config};
+ghost use Rattle.dspec_deeds.specs.{declared.deed.DecideFate.DecideFate, declared.deed.Deed.Deed, declared.deed.Deed.TheVariants.Trace, declared.deed.Deed.TheVariants.Speculate};
+ghost use Rattle.dspec_deeds.specs.{declared.deed.Deed.TheVariants.Commit, declared.deed.Deed.TheVariants.Discard, declared.deed.Deed.TheVariants.Settle, declared.deed.SpeculateFate.SpeculateFate};
+ghost use Rattle.dspec_deeds.specs.{declared.deed.TraceFate.TraceFate};
+ghost use Rattle.dspec_promise.specs.{Deeds.AtEachMoment, Deeds.DecidedSoFar, Deeds.all_did, Deeds.did, Promise.commit, Promise.discard, Promise.service, Promise.traced, Promise.speculated};
+ghost use Rattle.dspec_promise.specs.{Promise.emptied, Promise.handed, Promise.KeepsPromise, Promise.Promise, Reasons.GivenOnce, Reasons.HaveReasons, SameFates.AreOffers};
 
 /// At every moment the page's promise is kept of what the consumer has taken, however many batches; and at each moment before it each
 /// record had a fate of which the decision was made by then.

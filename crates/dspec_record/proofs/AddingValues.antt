@@ -1,12 +1,10 @@
 -- Values that are added to words, each at its field's place.
-use Rattle.std.proofs.lemmas.Bool.Decides.{nat_tests}
 use Rattle.std.proofs.Common.{◌≡◌, ◌≤◌, ◌<◌, ◌+◌, ◌*◌, ◌/◌, ◌%◌, ◌^◌, ℕ, zero, suc, All, List, [], ◌∷◌, length, get_or, set, refl, sym, ◌∙◌, ap, subst, arith}
 use Rattle.std.proofs.Math.Nat.{mul_assoc, pow-le-pow_right}
-use Rattle.std.proofs.lemmas.Nat.{pow-add, shr_below, shr-shr, mul-add-lt}
-use Rattle.std.proofs.lemmas.List.Elements.{All-head, All-tail}
-use Rattle.dspec_record.specs.Words.{width, rounded_up, after, number_of_words, rounded_up-ge, Field, One, Two, Four, Eight}
-use Rattle.dspec_record.proofs.LittleEndian.{pow-add256}
-use Rattle.dspec_record.proofs.Masking.{pow256}
+use Rattle.std.proofs.lemmas.{Bool.Decides.nat_tests, List.Elements.All-head, List.Elements.All-tail, Nat.pow-add, Nat.shr_below, Nat.shr-shr, Nat.mul-add-lt}
+use Rattle.dspec_record.specs.Words.{width, rounded_up, after, number_of_words, rounded_up-ge}
+use Rattle.dspec_record.specs.declared.field.Field.{Field, TheVariants.One, TheVariants.Two, TheVariants.Four, TheVariants.Eight}
+use Rattle.dspec_record.proofs.{LittleEndian.pow-add256, Masking.pow256}
 
 -- ---- places
 

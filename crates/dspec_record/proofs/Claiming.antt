@@ -1,11 +1,11 @@
 -- A claim: of which EPID and which fields it is true, and where these stand.
-use Rattle.std.proofs.lemmas.Bool.Decides.{nat_tests}
-use Rattle.std.proofs.Common.{◌≡◌, ◌≤◌, ◌<◌, ◌+◌, ◌-◌, ◌%◌, ◌^◌, ◌++◌, ℕ, zero, suc, Bool, true, false, cond, IsTrue, List}
-use Rattle.std.proofs.Common.{[], ◌∷◌, length, take, drop, set, replicate, get_or, slice_get, inl, inr, Option, Some, None, option_and_then, refl, sym, ◌∙◌, ap, arith}
+use Rattle.std.proofs.Common.{◌≡◌, ◌≤◌, ◌<◌, ◌+◌, ◌-◌, ◌%◌, ◌^◌, ◌++◌, ℕ, zero, suc, Bool, true, false, cond, IsTrue, List, [], ◌∷◌, length, take, drop, set, replicate, get_or, slice_get, inl, inr}
+use Rattle.std.proofs.Common.{Option, Some, None, option_and_then, refl, sym, ◌∙◌, ap, arith}
 use Rattle.std.proofs.Math.Nat.{pow-suc, pow-le-pow_right}
-use Rattle.std.proofs.lemmas.Bool.{eqb-true, eq-eqb, ltb-true, lt-ltb, cases_lt}
+use Rattle.std.proofs.lemmas.Bool.{eqb-true, eq-eqb, ltb-true, lt-ltb, cases_lt, Decides.nat_tests}
 use Rattle.std.proofs.lemmas.List.{append_assoc, length-append, length-take-le, get_or_append_left, get_or-take, get_or-drop, set_at}
-use Rattle.dspec_record.specs.Words.{width, words_in, signature_of, claim_of, claimed_by, claimed, claims_from, padded_claims, enabling_of, Field, One, Two, Four, Eight}
+use Rattle.dspec_record.specs.Words.{width, words_in, signature_of, claim_of, claimed_by, claimed, claims_from, padded_claims, enabling_of}
+use Rattle.dspec_record.specs.declared.field.Field.{Field, TheVariants.One, TheVariants.Two, TheVariants.Four, TheVariants.Eight}
 
 width-below : (f : Field) → width f < 16
 width-below One = omega arith

@@ -1,9 +1,10 @@
 -- A value that is written in eight bytes, with the zeros behind it.
-use Rattle.std.proofs.lemmas.Bool.Decides.{nat_tests}
 use Rattle.std.proofs.Common.{◌≡◌, ◌≤◌, ◌<◌, ◌+◌, ◌-◌, ◌++◌, ◌^◌, ℕ, zero, suc, List, [], ◌∷◌, length, take, drop, get_or, replicate, sym, ◌∙◌, ap, arith, refl}
-use Rattle.std.proofs.lemmas.List.{append_assoc, length-append, length-take-le, length-drop, get_or-append_right, get_or-replicate, get_or-take, get_or-drop, take-take, drop-take, take-append-drop}
 use Rattle.std.proofs.Math.Seq.{take-append-add}
-use Rattle.dspec_record.specs.Words.{width, rounded_up, little_endian, gap, IsClearBehind, rounded_up-ge, Field, One, Two, Four, Eight}
+use Rattle.std.proofs.lemmas.Bool.Decides.{nat_tests}
+use Rattle.std.proofs.lemmas.List.{append_assoc, length-append, length-take-le, length-drop, get_or-append_right, get_or-replicate, get_or-take, get_or-drop, take-take, drop-take, take-append-drop}
+use Rattle.dspec_record.specs.Words.{width, rounded_up, little_endian, gap, IsClearBehind, rounded_up-ge}
+use Rattle.dspec_record.specs.declared.field.Field.{Field, TheVariants.One, TheVariants.Two, TheVariants.Four, TheVariants.Eight}
 use Rattle.dspec_record.proofs.LittleEndian.{take-little_endian}
 
 -- a value is known from its field's bytes; those above are zero

@@ -1,12 +1,11 @@
 -- Fields that are cut out of words one by one.
-use Rattle.std.proofs.lemmas.Bool.Decides.{nat_tests}
 use Rattle.std.proofs.Common.{◌≡◌, ◌≤◌, ◌<◌, ◌+◌, ◌-◌, ◌*◌, ◌/◌, ◌%◌, ◌^◌, ◌++◌, ℕ, zero, suc, All, List, [], ◌∷◌, length, get_or, drop, refl, sym, ◌∙◌, ap, arith}
 use Rattle.std.proofs.Math.Pow.{mod-mod-pow}
-use Rattle.std.proofs.lemmas.Nat.{shr-shr, field_of, and_mask}
-use Rattle.std.proofs.lemmas.List.{append_assoc, append-nil, length-append, drop_more, drop_all}
-use Rattle.std.proofs.lemmas.List.Elements.{All-head, All-tail}
+use Rattle.std.proofs.lemmas.{Bool.Decides.nat_tests, List.append_assoc, List.append-nil, List.length-append, List.drop_more, List.drop_all, List.Elements.All-head, List.Elements.All-tail}
+use Rattle.std.proofs.lemmas.{Nat.shr-shr, Nat.field_of, Nat.and_mask}
 use Rattle.std.specs.Int.RustNames.{bit_and}
-use Rattle.dspec_record.specs.Words.{width, limit, rounded_up, after, fields_end, number_of_words, cuts, words_in, fields_end-ge, Field, One, Two, Four, Eight}
+use Rattle.dspec_record.specs.Words.{width, limit, rounded_up, after, fields_end, number_of_words, cuts, words_in, fields_end-ge}
+use Rattle.dspec_record.specs.declared.field.Field.{Field, TheVariants.One, TheVariants.Two, TheVariants.Four, TheVariants.Eight}
 use Rattle.dspec_record.proofs.Masking.{pow256, ends-within}
 
 -- a word of a number

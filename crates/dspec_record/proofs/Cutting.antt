@@ -1,9 +1,9 @@
 -- A number whose bytes are the values of fields at their places: its bytes, and the fields that are cut out of it.
 use Rattle.std.proofs.Common.{◌≡◌, ◌<◌, ◌+◌, ◌-◌, ◌*◌, ◌/◌, ◌%◌, ◌^◌, ◌&&◌, ◌++◌, ℕ, ltb, IsTrue, List, [], ◌∷◌, replicate, refl, sym, ◌∙◌, ap, subst, arith}
 use Rattle.std.proofs.Math.Nat.{mod-lt, mul-lt-mul_of_pos_right}
-use Rattle.std.proofs.lemmas.Nat.{div-mul-add, mod-mul-add, mul-add-lt}
-use Rattle.std.proofs.lemmas.Bool.{lt-ltb, ltb-true}
-use Rattle.dspec_record.specs.Words.{width, rounded_up, after, fields_end, little_endian, gap, fields_text, fits, cuts, rounded_up-ge, fields_end-ge, both, Field, One, Two, Four, Eight}
+use Rattle.std.proofs.lemmas.{Bool.lt-ltb, Bool.ltb-true, Nat.div-mul-add, Nat.mod-mul-add, Nat.mul-add-lt}
+use Rattle.dspec_record.specs.Words.{width, rounded_up, after, fields_end, little_endian, gap, fields_text, fits, cuts, rounded_up-ge, fields_end-ge, both}
+use Rattle.dspec_record.specs.declared.field.Field.{Field, TheVariants.One, TheVariants.Two, TheVariants.Four, TheVariants.Eight}
 use Rattle.dspec_record.proofs.LittleEndian.{pow_pos256, pow-add256, div-more, shifted-back, little_endian-zero, little_endian-parts}
 
 -- what is cut fits

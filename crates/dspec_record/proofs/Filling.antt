@@ -1,7 +1,8 @@
 -- An `Enabling` that is made of a list of fields, and `Enablings` with one row more.
 use Rattle.std.proofs.Common.{◌≡◌, ◌≤◌, ◌<◌, ◌-◌, ◌+◌, ◌++◌, ℕ, List, [], ◌∷◌, length, take, drop, set, replicate, refl, sym, ◌∙◌, ap, subst, arith}
 use Rattle.std.proofs.lemmas.List.{length-append, length-drop, length-set, length-take-le, take_more_set, take_at, drop_at, drop-replicate, length-replicate, drop-drop, drop-set-lt}
-use Rattle.dspec_record.specs.Words.{layout, IsLaidOut, padded_places, padded_limits, words_in, claim_of, padded_claims, masks_for, IsFilled, Field, One, Header}
+use Rattle.dspec_record.specs.Words.{layout, IsLaidOut, padded_places, padded_limits, words_in, claim_of, padded_claims, masks_for, IsFilled}
+use Rattle.dspec_record.specs.declared.{field.Field.Field, field.Field.TheVariants.One, header.Header.Header}
 use Rattle.dspec_record.proofs.Claiming.{claims-push}
 use Rattle.dspec_record.specs.declared.header.Header.TheVariants as header
 

@@ -1,6 +1,6 @@
 -- When values fit fields.
 use Rattle.std.proofs.Common.{◌≡◌, ◌≢◌, ◌&&◌, ◌^◌, ℕ, suc, Bool, true, false, ltb, IsTrue, List, [], ◌∷◌, length, refl, ap, ◌∙◌}
-use Rattle.dspec_record.specs.Words.{width, fits, both, Field}
+use Rattle.dspec_record.specs.{Words.width, Words.fits, Words.both, declared.field.Field.Field}
 
 and-false : (b : Bool) → (b && false) ≡ false
 and-false true = refl

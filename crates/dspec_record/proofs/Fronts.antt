@@ -1,9 +1,7 @@
 -- The EPID at the front of some bytes, as a number and as its four bytes.
-use Rattle.std.proofs.lemmas.Bool.Decides.{nat_tests}
 use Rattle.std.proofs.Common.{◌≡◌, ◌≤◌, ◌<◌, ◌^◌, ℕ, zero, suc, List, [], ◌∷◌, length, take, get_or, sym, ◌∙◌, ap, arith}
+use Rattle.std.proofs.lemmas.{Bool.Decides.nat_tests, List.length-take-le, List.get_or-take, Nat.from_le_bytes-to_le_bytes_4}
 use Rattle.std.specs.Int.{w32, from_le_bytes}
-use Rattle.std.proofs.lemmas.List.{length-take-le, get_or-take}
-use Rattle.std.proofs.lemmas.Nat.{from_le_bytes-to_le_bytes_4}
 use Rattle.dspec_record.specs.Words.{little_endian, front_epid}
 
 -- only the first four bytes count for an EPID

@@ -1,11 +1,10 @@
 -- What `get` answers for a table of fields.
-use Rattle.std.proofs.lemmas.Bool.Decides.{nat_tests}
 use Rattle.std.proofs.Common.{◌≡◌, ◌≢◌, ◌≤◌, ◌<◌, ◌^◌, ◌&&◌, ℕ, Bool, false, cond, IsTrue, List, [], length, take, Option, Some, None, sym, ◌∙◌, ap, arith}
-use Rattle.std.specs.Prelude.{unwrap_or, option_and_then}
-use Rattle.std.specs.Option.{option_map_or}
-use Rattle.std.proofs.lemmas.Bool.{lt-ltb, le-leb}
+use Rattle.std.proofs.lemmas.Bool.{lt-ltb, le-leb, Decides.nat_tests}
+use Rattle.std.specs.{Option.option_map_or, Prelude.unwrap_or, Prelude.option_and_then}
 use Rattle.dspec_record.specs.Words.{Record, layout, little_endian, record_text, stamp_fits, fits, IsRead, BeginsWith, FieldTable, table_accepts, table_text, within_limit, enabling_of, enabled}
-use Rattle.dspec_record.specs.Words.{length-record_text, Field, Header}
+use Rattle.dspec_record.specs.Words.{length-record_text}
+use Rattle.dspec_record.specs.declared.{field.Field.Field, header.Header.Header}
 
 enabled-is : (rows : List (List Field)) (epid : ℕ) (fs : List Field) → enabling_of rows epid ≡ Some fs → length fs ≤ 8 → enabled rows epid ≡ Some fs
 enabled-is rows epid fs is few =

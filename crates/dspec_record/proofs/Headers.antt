@@ -1,12 +1,9 @@
 -- What stands before the fields, written in words of eight bytes.
-use Rattle.std.proofs.lemmas.Bool.Decides.{nat_tests}
-use Rattle.std.proofs.Common.{◌≡◌, ◌≤◌, ◌<◌, ◌+◌, ◌*◌, ◌/◌, ◌%◌, ◌^◌, ◌++◌, ℕ, List, length, take, sym, ◌∙◌, ap, subst, arith}
-use Rattle.std.proofs.lemmas.List.{take-take}
-use Rattle.std.proofs.Math.Seq.{take-append-add}
-use Rattle.dspec_record.specs.Words.{fields_start, Record, little_endian, header_text, IsClearBehind, Header, Four}
+use Rattle.std.proofs.{Common.◌≡◌, Common.◌≤◌, Common.◌<◌, Common.◌+◌, Common.◌*◌, Common.◌/◌, Common.◌%◌, Common.◌^◌, Common.◌++◌, Common.ℕ, Common.List, Common.length, Common.take, Common.sym}
+use Rattle.std.proofs.{Common.◌∙◌, Common.ap, Common.subst, Common.arith, Math.Seq.take-append-add, lemmas.Bool.Decides.nat_tests, lemmas.List.take-take}
+use Rattle.dspec_record.specs.{Words.fields_start, Words.Record, Words.little_endian, Words.header_text, Words.IsClearBehind, declared.field.Field.TheVariants.Four, declared.header.Header.Header}
 use Rattle.dspec_record.specs.declared.header.Header.TheVariants as header
-use Rattle.dspec_record.proofs.Clearing.{written-clear}
-use Rattle.dspec_record.proofs.LittleEndian.{little_endian-parts, take-little_endian}
+use Rattle.dspec_record.proofs.{Clearing.written-clear, LittleEndian.little_endian-parts, LittleEndian.take-little_endian}
 
 -- the EPID alone
 front-one : (epid : ℕ) (out : List ℕ) → take 8 out ≡ little_endian 8 epid → take 4 out ≡ little_endian 4 epid

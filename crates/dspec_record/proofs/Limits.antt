@@ -1,10 +1,10 @@
 -- The greatest value of each field.
-use Rattle.std.proofs.lemmas.Bool.Decides.{nat_tests}
 use Rattle.std.proofs.Common.{[], ◌≡◌, ◌≤◌, ◌<◌, ◌+◌, ◌-◌, ◌^◌, ◌++◌, ℕ, ◌&&◌, false, leb, ltb, List, ◌∷◌, length, map, get_or, take, drop, set, replicate, refl, sym, ◌∙◌, ap, arith}
-use Rattle.std.proofs.lemmas.List.{take_at, take_more_set, append_assoc, drop_more, drop-drop, drop-replicate, drop-set-lt, length-set, length-map, get_or-map}
-use Rattle.dspec_record.specs.Words.{width, limit, fits, padded_limits, Field, One, Two, Four, Eight}
 use Rattle.std.proofs.Math.Dec.{leb-suc-suc}
-use Rattle.std.proofs.lemmas.Bool.{le-leb, lt-leb}
+use Rattle.std.proofs.lemmas.Bool.{le-leb, lt-leb, Decides.nat_tests}
+use Rattle.std.proofs.lemmas.List.{take_at, take_more_set, append_assoc, drop_more, drop-drop, drop-replicate, drop-set-lt, length-set, length-map, get_or-map}
+use Rattle.dspec_record.specs.Words.{width, limit, fits, padded_limits}
+use Rattle.dspec_record.specs.declared.field.Field.{Field, TheVariants.One, TheVariants.Two, TheVariants.Four, TheVariants.Eight}
 
 -- the limits of a list of fields, out of those of all eight
 pub take-padded : (fs : List Field) (n : ℕ) → n ≡ length fs → take n (padded_limits fs) ≡ map limit fs

@@ -1,8 +1,7 @@
 -- The bytes of a number that is put together of a low part and a rest, in bytes.
-use Rattle.std.proofs.lemmas.Bool.Decides.{nat_tests}
 use Rattle.std.proofs.Common.{◌≡◌, ◌≤◌, ◌<◌, ◌+◌, ◌*◌, ◌/◌, ◌%◌, ◌^◌, ◌++◌, ℕ, zero, suc, ◌∷◌, take, replicate, refl, sym, ◌∙◌, ap, arith}
 use Rattle.std.proofs.Math.Nat.{one-le-pow, pow-suc, mul_assoc, mul_comm, div-div-eq-div-mul, mul-div_cancel}
-use Rattle.std.proofs.lemmas.Nat.{pow-add, div-mul-add}
+use Rattle.std.proofs.lemmas.{Bool.Decides.nat_tests, Nat.pow-add, Nat.div-mul-add}
 use Rattle.std.specs.Int.{byte_at, bytes_low_first}
 use Rattle.dspec_record.specs.Words.{little_endian}
 

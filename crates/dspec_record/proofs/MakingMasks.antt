@@ -1,12 +1,10 @@
 -- The masks of fields while they are made, field by field.
-use Rattle.std.proofs.lemmas.Bool.Decides.{nat_tests}
 use Rattle.std.proofs.Common.{◌≡◌, ◌≤◌, ◌<◌, ◌+◌, ◌*◌, ◌/◌, ◌%◌, ◌^◌, ℕ, zero, suc, List, ◌∷◌, length, get_or, drop, set, replicate, refl, sym, ◌∙◌, ap, subst, arith}
 use Rattle.std.proofs.Math.Nat.{mul_assoc}
-use Rattle.std.proofs.lemmas.Nat.{pow-add, shr-shr}
-use Rattle.std.proofs.lemmas.List.{drop_more, drop_all}
-use Rattle.dspec_record.specs.Words.{width, limit, rounded_up, after, mask_number, words_of_number, Field, One}
-use Rattle.dspec_record.proofs.LittleEndian.{pow_pos256}
+use Rattle.std.proofs.lemmas.{Bool.Decides.nat_tests, List.drop_more, List.drop_all, Nat.pow-add, Nat.shr-shr}
+use Rattle.dspec_record.specs.{Words.width, Words.limit, Words.rounded_up, Words.after, Words.mask_number, Words.words_of_number, declared.field.Field.Field, declared.field.Field.TheVariants.One}
 use Rattle.dspec_record.proofs.AddingValues.{next-near, place-near, width-some, sum-in-word, sum-below, at-place}
+use Rattle.dspec_record.proofs.LittleEndian.{pow_pos256}
 
 -- a number is added to one word, which holds the sum
 words_of_number-add : (k j n x : ℕ) → j < k → get_or (words_of_number k n) j 0 + x < 2 ^ 64

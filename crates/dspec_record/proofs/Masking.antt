@@ -1,17 +1,14 @@
 -- Words of which a mask has cleared what is no field: they are clean, and stand for the same record.
-use Rattle.std.proofs.lemmas.Bool.Decides.{nat_tests}
 use Rattle.std.proofs.Common.{◌≡◌, ◌≤◌, ◌<◌, ◌+◌, ◌-◌, ◌*◌, ◌/◌, ◌%◌, ◌^◌, ℕ, zero, suc, IsTrue, All, List, [], ◌∷◌, length, map, get_or, refl, sym, ◌∙◌, ap, ap₂, subst, arith}
 use Rattle.std.proofs.Math.Nat.{div-add-mod', mod-lt, mod-mod, pow-suc, pow-le-pow_right}
-use Rattle.std.proofs.lemmas.Nat.{pow_pos, and_block, and_mask, and_comm, pow-add, shr_below}
-use Rattle.std.proofs.lemmas.Bool.{lt-ltb}
-use Rattle.std.proofs.lemmas.List.{ext_get_or}
-use Rattle.std.proofs.lemmas.List.Elements.{All-nil, All-cons, All-head, All-tail}
+use Rattle.std.proofs.lemmas.{Bool.lt-ltb, Bool.Decides.nat_tests, List.ext_get_or, List.Elements.All-nil, List.Elements.All-cons, List.Elements.All-head, List.Elements.All-tail, Nat.pow_pos}
+use Rattle.std.proofs.lemmas.{Nat.and_block, Nat.and_mask, Nat.and_comm, Nat.pow-add, Nat.shr_below}
 use Rattle.std.specs.Int.RustNames.{bit_and}
 use Rattle.dspec_record.specs.Words.{width, limit, rounded_up, after, fields_end, layout, fits, number_of_words, cuts, packed_record, words_in, mask_number, words_of_number, masks_for, masked_words}
-use Rattle.dspec_record.specs.Words.{IsClean, rounded_up-ge, fields_end-le, Field}
-use Rattle.dspec_record.proofs.LittleEndian.{pow_pos256, div-more}
-use Rattle.dspec_record.proofs.Cutting.{packed, cuts_fit}
-use Rattle.dspec_record.proofs.PackedValues.{value_number-packed, value_number-below, record-of_number, clean-of_number}
+use Rattle.dspec_record.specs.Words.{IsClean, rounded_up-ge, fields_end-le}
+use Rattle.dspec_record.specs.declared.field.Field.{Field}
+use Rattle.dspec_record.proofs.{Cutting.packed, Cutting.cuts_fit, LittleEndian.pow_pos256, LittleEndian.div-more, PackedValues.value_number-packed, PackedValues.value_number-below}
+use Rattle.dspec_record.proofs.{PackedValues.record-of_number, PackedValues.clean-of_number}
 use Rattle.dspec_record.specs.declared.header.Header.TheVariants as header
 
 -- ---- words

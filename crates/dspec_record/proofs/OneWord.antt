@@ -1,7 +1,8 @@
 -- The shape of a record whose fields stand in one word.
 use Rattle.std.proofs.Common.{◌≡◌, ◌≤◌, ℕ, Bool, true, false, cond, List, [], ◌∷◌, refl, arith}
 use Rattle.std.specs.List.{list_any}
-use Rattle.dspec_record.specs.Words.{width, rounded_up, after, fields_end, is_eight, layout, words_in, rounded_up-ge, fields_end-ge, Field, One, Two, Four, Eight}
+use Rattle.dspec_record.specs.Words.{width, rounded_up, after, fields_end, is_eight, layout, words_in, rounded_up-ge, fields_end-ge}
+use Rattle.dspec_record.specs.declared.field.Field.{Field, TheVariants.One, TheVariants.Two, TheVariants.Four, TheVariants.Eight}
 use Rattle.dspec_record.specs.declared.header.Header.TheVariants as header
 
 -- a field of eight bytes needs a second word

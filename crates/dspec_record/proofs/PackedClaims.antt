@@ -1,11 +1,9 @@
 -- A record whose claim is true of an enabling is accepted, and laid out as the schema lays it out.
-use Rattle.std.proofs.lemmas.Bool.Decides.{nat_tests}
 use Rattle.std.proofs.Common.{◌≡◌, ◌≤◌, ◌%◌, ◌^◌, ℕ, IsTrue, List, length, Some, arith}
-use Rattle.std.proofs.lemmas.Bool.{lt-ltb, and_from}
-use Rattle.dspec_record.specs.Words.{IsSaid, layout, Record, record_text, stamp_fits, packed_record, claimed, enabled, table_accepts, table_shape, table_text, Field, Header}
-use Rattle.dspec_record.proofs.Claiming.{IsClaimed, claimed-is}
-use Rattle.dspec_record.proofs.Cutting.{cuts_fit}
-use Rattle.dspec_record.proofs.Gets.{enabled-row, table_text-is}
+use Rattle.std.proofs.lemmas.Bool.{lt-ltb, and_from, Decides.nat_tests}
+use Rattle.dspec_record.specs.Words.{IsSaid, layout, Record, record_text, stamp_fits, packed_record, claimed, enabled, table_accepts, table_shape, table_text}
+use Rattle.dspec_record.specs.declared.{field.Field.Field, header.Header.Header}
+use Rattle.dspec_record.proofs.{Claiming.IsClaimed, Claiming.claimed-is, Cutting.cuts_fit, Gets.enabled-row, Gets.table_text-is}
 
 -- the claimed row is enabled
 pub claimed-enabled : (rows : List (List Field)) (claim n : ℕ) (fs : List Field) → claimed rows claim n ≡ Some fs → length fs ≤ 8 → enabled rows (claim % 2 ^ 32) ≡ Some fs

@@ -1,16 +1,14 @@
 -- A packed record while it is made and while it is written: the masked words, the words in their places, and the text that they begin with.
-use Rattle.std.proofs.lemmas.Bool.Decides.{nat_tests}
 use Rattle.std.proofs.Common.{◌≡◌, ◌≤◌, ◌<◌, ◌+◌, ◌*◌, ◌/◌, ◌%◌, ◌^◌, ◌++◌, ℕ, suc, zero, All, List, [], ◌∷◌, length, take, get_or, set, refl, sym, ◌∙◌, ap, subst, arith}
-use Rattle.std.proofs.lemmas.List.{length-take-le, get_or-take, get_or-set_same, get_or-set_other, take_at, take-take, append_assoc}
 use Rattle.std.proofs.Math.Seq.{take-length}
-use Rattle.std.proofs.lemmas.Bool.{cases_lt}
+use Rattle.std.proofs.lemmas.Bool.{cases_lt, Decides.nat_tests}
+use Rattle.std.proofs.lemmas.List.{length-take-le, get_or-take, get_or-set_same, get_or-set_other, take_at, take-take, append_assoc}
 use Rattle.std.specs.Int.RustNames.{bit_and}
 use Rattle.dspec_record.specs.Words.{with_low, rounded_up, fields_start, layout, Record, little_endian, record_text, number_of_words, packed_record, words_in, bytes_of_words, masked_words, IsClean}
-use Rattle.dspec_record.specs.Words.{BeginsWithWords, size-stamped, length-record_text, Field, Header}
+use Rattle.dspec_record.specs.Words.{BeginsWithWords, size-stamped, length-record_text}
+use Rattle.dspec_record.specs.declared.{field.Field.Field, header.Header.Header}
 use Rattle.dspec_record.specs.declared.header.Header.TheVariants as header
-use Rattle.dspec_record.proofs.Cutting.{cuts_fit}
-use Rattle.dspec_record.proofs.Masking.{masked_words-is}
-use Rattle.dspec_record.proofs.Storing.{bytes_of_words-more, stored-words, stored-stamped-words, clean-first, begins}
+use Rattle.dspec_record.proofs.{Cutting.cuts_fit, Masking.masked_words-is, Storing.bytes_of_words-more, Storing.stored-words, Storing.stored-stamped-words, Storing.clean-first, Storing.begins}
 
 -- one word more is masked
 pub masked-more : (ws ms kept : List ℕ) (i : ℕ) → i < length kept → ((k : ℕ) → k < i → get_or kept k 0 ≡ bit_and (get_or ws k 0) (get_or ms k 0))

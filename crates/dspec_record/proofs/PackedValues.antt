@@ -1,12 +1,11 @@
 -- Values of fields at their places, as one number, and words whose number it is.
-use Rattle.std.proofs.lemmas.Bool.Decides.{nat_tests}
 use Rattle.std.proofs.Common.{◌≡◌, ◌≤◌, ◌<◌, ◌+◌, ◌-◌, ◌*◌, ◌/◌, ◌^◌, ◌++◌, ℕ, zero, suc, IsTrue, List, [], ◌∷◌, length, take, refl, sym, ◌∙◌, ap, subst, arith}
 use Rattle.std.proofs.Math.Nat.{mul_assoc, add-mul, mul-lt-mul_of_pos_right}
-use Rattle.std.proofs.lemmas.Nat.{shr_below}
-use Rattle.dspec_record.specs.Words.{width, rounded_up, after, fields_end, layout, little_endian, fields_text, fits, number_of_words, packed_record, value_number, IsClean, rounded_up-ge}
-use Rattle.dspec_record.specs.Words.{fields_end-ge, Field, Four}
-use Rattle.dspec_record.proofs.LittleEndian.{pow_pos256, pow-add256, shifted-back, little_endian-parts, take-little_endian}
+use Rattle.std.proofs.lemmas.{Bool.Decides.nat_tests, Nat.shr_below}
+use Rattle.dspec_record.specs.{Words.width, Words.rounded_up, Words.after, Words.fields_end, Words.layout, Words.little_endian, Words.fields_text, Words.fits, Words.number_of_words}
+use Rattle.dspec_record.specs.{Words.packed_record, Words.value_number, Words.IsClean, Words.rounded_up-ge, Words.fields_end-ge, declared.field.Field.Field, declared.field.Field.TheVariants.Four}
 use Rattle.dspec_record.proofs.Cutting.{packed, cuts-packed, packed-text, packed-below}
+use Rattle.dspec_record.proofs.LittleEndian.{pow_pos256, pow-add256, shifted-back, little_endian-parts, take-little_endian}
 use Rattle.dspec_record.specs.declared.header.Header.TheVariants as header
 
 -- values at their places, as one number

@@ -1,8 +1,9 @@
 -- The places of fields, also where a stamp moves them all.
-use Rattle.std.proofs.lemmas.Bool.Decides.{nat_tests}
 use Rattle.std.proofs.Common.{[], ◌≡◌, ◌≤◌, ◌<◌, ◌+◌, ◌-◌, ◌*◌, ◌%◌, ◌++◌, ℕ, suc, List, ◌∷◌, length, get_or, take, drop, set, replicate, refl, sym, ◌∙◌, ap, arith}
-use Rattle.std.proofs.lemmas.List.{take_at, take_more_set, append_assoc, drop_more, drop-drop, drop-replicate, drop-set-lt, length-set}
-use Rattle.dspec_record.specs.Words.{width, rounded_up, after, field_places, fields_start, padded_places, Field, One, Two, Four, Eight, Header}
+use Rattle.std.proofs.lemmas.{Bool.Decides.nat_tests, List.take_at, List.take_more_set, List.append_assoc, List.drop_more, List.drop-drop, List.drop-replicate, List.drop-set-lt, List.length-set}
+use Rattle.dspec_record.specs.Words.{width, rounded_up, after, field_places, fields_start, padded_places}
+use Rattle.dspec_record.specs.declared.field.Field.{Field, TheVariants.One, TheVariants.Two, TheVariants.Four, TheVariants.Eight}
+use Rattle.dspec_record.specs.declared.header.Header.{Header}
 use Rattle.dspec_record.specs.declared.header.Header.TheVariants as header
 
 pub length-field_places : (start : ℕ) (fs : List Field) → length (field_places start fs) ≡ length fs

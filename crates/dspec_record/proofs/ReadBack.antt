@@ -1,11 +1,10 @@
 -- A record while its text is read.
-use Rattle.std.proofs.lemmas.Bool.Decides.{nat_tests}
 use Rattle.std.proofs.Common.{◌≡◌, ◌≤◌, ◌<◌, ◌+◌, ◌-◌, ◌++◌, ◌^◌, ◌&&◌, ℕ, ltb, IsTrue, List, [], ◌∷◌, length, take, drop, get_or, replicate, sym, ◌∙◌, ap, subst, arith, refl}
-use Rattle.std.proofs.lemmas.List.{append_assoc, append-nil, take_at, drop_at, drop_more, length-replicate, drop-drop, length-append}
-use Rattle.std.proofs.lemmas.List.{length-take, length-drop, take-append-drop, drop-take, take-take, take_rest, drop_all}
-use Rattle.std.proofs.lemmas.Bool.{lt-ltb}
+use Rattle.std.proofs.lemmas.{Bool.lt-ltb, Bool.Decides.nat_tests, List.append_assoc, List.append-nil, List.take_at, List.drop_at, List.drop_more, List.length-replicate, List.drop-drop}
+use Rattle.std.proofs.lemmas.{List.length-append, List.length-take, List.length-drop, List.take-append-drop, List.drop-take, List.take-take, List.take_rest, List.drop_all}
 use Rattle.dspec_record.specs.Words.{Record, width, rounded_up, after, fields_start, fields_end, layout, little_endian, gap, stamp_text, header_text, fields_text, record_text, stamp_fits, fits}
-use Rattle.dspec_record.specs.Words.{IsRead, rounded_up-ge, fields_end-ge, fields_start-ge, layout-IsShape, both, length-little_endian, length-header_text, Field, One, Four, Header}
+use Rattle.dspec_record.specs.Words.{IsRead, rounded_up-ge, fields_end-ge, fields_start-ge, layout-IsShape, both, length-little_endian, length-header_text}
+use Rattle.dspec_record.specs.declared.{field.Field.Field, field.Field.TheVariants.One, field.Field.TheVariants.Four, header.Header.Header}
 
 -- the first values are read, up to `end`: with any further values the text goes on as theirs does, and any
 -- record that has the text has further values whose text is what is left

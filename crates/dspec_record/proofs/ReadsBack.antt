@@ -1,8 +1,7 @@
 -- What reading answers where the bytes begin with the text of an accepted record: that record.
-use Rattle.std.proofs.lemmas.Bool.Decides.{nat_tests}
 use Rattle.std.proofs.Common.{◌≡◌, ◌≤◌, ◌++◌, ℕ, Bool, IsTrue, List, length, take, Option, Some, None, Result, Ok, arith}
-use Rattle.std.proofs.lemmas.List.{take-append-drop, length-append, take-append-le, take_at}
-use Rattle.dspec_record.specs.Words.{Record, IsShape, IsTextOf, front_epid, Answers, Shape, ReadKind}
+use Rattle.std.proofs.lemmas.{Bool.Decides.nat_tests, List.take-append-drop, List.length-append, List.take-append-le, List.take_at}
+use Rattle.dspec_record.specs.{Words.Record, Words.IsShape, Words.IsTextOf, Words.front_epid, Words.Answers, declared.field.Shape.Shape, declared.reading.ReadKind.ReadKind}
 use Rattle.dspec_record.proofs.Fronts.{front_epid-is}
 
 -- the laws of a schema

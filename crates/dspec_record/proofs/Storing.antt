@@ -1,13 +1,10 @@
 -- The bytes of clean words where they are stored with an EPID, and behind it a stamp, in place of the zeros before the fields.
-use Rattle.std.proofs.lemmas.Bool.Decides.{nat_tests}
 use Rattle.std.proofs.Common.{◌≡◌, ◌≤◌, ◌<◌, ◌+◌, ◌-◌, ◌*◌, ◌/◌, ◌%◌, ◌^◌, ◌++◌, ℕ, All, List, [], ◌∷◌, length, take, get_or, refl, sym, ◌∙◌, ap, arith}
 use Rattle.std.proofs.Math.Seq.{take-append-add, take-take}
-use Rattle.std.proofs.lemmas.List.{length-append, append_assoc, append-nil, take_more}
-use Rattle.std.proofs.lemmas.List.Elements.{All-head, All-tail}
-use Rattle.dspec_record.specs.Words.{fields_end, layout, little_endian, fields_text, record_text, number_of_words, cuts, packed_record, bytes_of_words, IsClean, rounded_up-ge, fields_end-ge}
-use Rattle.dspec_record.specs.Words.{size-stamped, Field, Four}
-use Rattle.dspec_record.proofs.LittleEndian.{little_endian-append, little_endian-parts}
-use Rattle.dspec_record.proofs.Cutting.{moved}
+use Rattle.std.proofs.lemmas.{Bool.Decides.nat_tests, List.length-append, List.append_assoc, List.append-nil, List.take_more, List.Elements.All-head, List.Elements.All-tail}
+use Rattle.dspec_record.specs.{Words.fields_end, Words.layout, Words.little_endian, Words.fields_text, Words.record_text, Words.number_of_words, Words.cuts, Words.packed_record}
+use Rattle.dspec_record.specs.{Words.bytes_of_words, Words.IsClean, Words.rounded_up-ge, Words.fields_end-ge, Words.size-stamped, declared.field.Field.Field, declared.field.Field.TheVariants.Four}
+use Rattle.dspec_record.proofs.{Cutting.moved, LittleEndian.little_endian-append, LittleEndian.little_endian-parts}
 use Rattle.dspec_record.specs.declared.header.Header.TheVariants as header
 
 -- words stored one behind the other are their number's bytes

@@ -1,9 +1,9 @@
 -- A record's text while it is written.
-use Rattle.std.proofs.lemmas.Bool.Decides.{nat_tests}
 use Rattle.std.proofs.Common.{◌≡◌, ◌≤◌, ◌-◌, ◌++◌, ◌+◌, ℕ, IsTrue, List, [], ◌∷◌, length, take, drop, replicate, refl, sym, ◌∙◌, ap, arith}
-use Rattle.std.proofs.lemmas.List.{append_assoc}
+use Rattle.std.proofs.lemmas.{Bool.Decides.nat_tests, List.append_assoc}
 use Rattle.dspec_record.specs.Words.{Record, width, rounded_up, after, fields_start, fields_end, layout, little_endian, gap, header_text, fields_text, record_text, fits, IsClearBehind}
-use Rattle.dspec_record.specs.Words.{rounded_up-ge, fields_end-ge, layout-IsShape, Field, Four, Header}
+use Rattle.dspec_record.specs.Words.{rounded_up-ge, fields_end-ge, layout-IsShape}
+use Rattle.dspec_record.specs.declared.{field.Field.Field, field.Field.TheVariants.Four, header.Header.Header}
 use Rattle.dspec_record.proofs.Clearing.{clear-part, take-add}
 
 -- `out` holds the text up to `end`, with zeros behind it, and these fields and values are still to be written

@@ -1,11 +1,8 @@
 -- Cited by calls. How an `Enabling` holds a list of fields.
 use Rattle.std.specs.Prelude.{◌≡◌, ◌≤◌, ◌-◌, ◌++◌, ℕ, List, length, map, take, drop, replicate}
-use Rattle.dspec_record.specs.Layout.{limit, field_places, layout}
-use Rattle.dspec_record.specs.Packing.{words_in, masks_for}
-use Rattle.dspec_record.specs.declared.field.Field.{Field}
-use Rattle.dspec_record.specs.declared.field.Field.TheVariants.{One}
+use Rattle.dspec_record.specs.{Layout.limit, Layout.field_places, Layout.layout, Packing.words_in, Packing.masks_for, declared.enabling.Enabling.TheInside.Inside, declared.field.Field.Field}
+use Rattle.dspec_record.specs.{declared.field.Field.TheVariants.One}
 use Rattle.dspec_record.specs.declared.header.Header.TheVariants as header
-use Rattle.dspec_record.specs.declared.enabling.Enabling.TheInside.{Inside}
 
 abbrev pub fields_of : Inside → List Field
 fields_of a = take a.len a.fields

@@ -1,10 +1,6 @@
 -- Believed. Enablings as contracts see them, and how `Enablings` holds them.
 use Rattle.std.specs.Prelude.{◌≡◌, ◌≤◌, ◌+◌, ◌-◌, ◌++◌, List, [], length, take, drop, replicate}
-use Rattle.dspec_record.specs.Layout.{fields_start}
-use Rattle.dspec_record.specs.Packing.{padded_claims}
-use Rattle.dspec_record.specs.declared.field.Field.{Field}
-use Rattle.dspec_record.specs.declared.header.Header.{Header}
-use Rattle.dspec_record.specs.declared.enabling.Enablings.TheInside.{Inside}
+use Rattle.dspec_record.specs.{Layout.fields_start, Packing.padded_claims, declared.enabling.Enablings.TheInside.Inside, declared.field.Field.Field, declared.header.Header.Header}
 
 -- the header of all records, and the fields of each enabling, in their order
 pub record EnabledRows : Type 0 where

@@ -1,7 +1,6 @@
 -- Cited by calls. A record whose fields are known when a program is compiled says itself what its shape and its bytes are.
 use Rattle.std.specs.Prelude.{◌≡◌, ℕ, List, Option, Some, IfSome}
-use Rattle.dspec_record.specs.Record.{Record}
-use Rattle.dspec_record.specs.declared.field.Shape.{Shape}
+use Rattle.dspec_record.specs.{Record.Record, declared.field.Shape.Shape}
 
 pub record Laid : Type 0 where
   pub shape : Shape

@@ -1,10 +1,8 @@
 -- Believed. Where the fields of a record stand: every field at the first multiple of its width behind the field
 -- before it, counted from the record's start.
-use Rattle.std.specs.Prelude.{ℕ, ◌+◌, ◌-◌, ◌*◌, ◌/◌, ◌^◌, Bool, true, false, List, [], ◌∷◌, if◌then◌else◌}
 use Rattle.std.specs.List.{list_any}
-use Rattle.dspec_record.specs.declared.field.Field.{Field}
-use Rattle.dspec_record.specs.declared.field.Field.TheVariants.{One, Two, Four, Eight}
-use Rattle.dspec_record.specs.declared.field.Shape.{Shape}
+use Rattle.std.specs.Prelude.{ℕ, ◌+◌, ◌-◌, ◌*◌, ◌/◌, ◌^◌, Bool, true, false, List, [], ◌∷◌, if◌then◌else◌}
+use Rattle.dspec_record.specs.declared.field.{Field.Field, Field.TheVariants.One, Field.TheVariants.Two, Field.TheVariants.Four, Field.TheVariants.Eight, Shape.Shape}
 use Rattle.dspec_record.specs.declared.header.Header.{Header}
 use Rattle.dspec_record.specs.declared.header.Header.TheVariants as header
 

@@ -1,15 +1,8 @@
 -- Cited by calls. A packed record as contracts see it: the record that its words stand for, and what it says itself of its shape and
 -- its bytes.
 use Rattle.std.specs.Prelude.{ℕ, List, take, Option, Some}
-use Rattle.dspec_record.specs.Record.{Record}
-use Rattle.dspec_record.specs.LaidOut.{Laid}
-use Rattle.dspec_record.specs.Layout.{layout}
-use Rattle.dspec_record.specs.Packing.{packed_record}
-use Rattle.dspec_record.specs.RecordText.{record_text}
-use Rattle.dspec_record.specs.declared.field.Field.{Field}
-use Rattle.dspec_record.specs.declared.header.Header.{Header}
-use Rattle.dspec_record.specs.declared.known_header.KnownHeader.{Ghosts}
-use Rattle.dspec_record.specs.declared.packed.Packed.{Packed}
+use Rattle.dspec_record.specs.{LaidOut.Laid, Layout.layout, Packing.packed_record, Record.Record, RecordText.record_text, declared.field.Field.Field, declared.header.Header.Header}
+use Rattle.dspec_record.specs.{declared.known_header.KnownHeader.Ghosts, declared.packed.Packed.Packed}
 
 abbrev pub packed_fields : {H : Type 0} {g : Ghosts H} → Packed H g → List Field
 packed_fields p = take p.len p.fields

@@ -1,13 +1,9 @@
 -- Cited by calls. A record as the words of its text, of eight bytes each: what record they stand for, and which of their bits count.
+use Rattle.std.specs.Int.RustNames.{bit_and}
 use Rattle.std.specs.Prelude.{◌≡◌, ℕ, zero, suc, ◌+◌, ◌-◌, ◌*◌, ◌/◌, ◌%◌, ◌^◌, ◌==◌, ◌&&◌, nat_lt, List, [], ◌∷◌, ◌++◌, length, take, replicate, Option, Some, None, option_and_then, if◌then◌else◌}
 use Rattle.std.specs.Prelude.{◌≤◌, ◌<◌, map}
-use Rattle.std.specs.Int.RustNames.{bit_and}
-use Rattle.dspec_record.specs.Record.{Record}
-use Rattle.dspec_record.specs.Layout.{width, limit, rounded_up, after, fields_end, layout}
-use Rattle.dspec_record.specs.RecordText.{little_endian, record_text}
-use Rattle.dspec_record.specs.Schemas.{enabling_of}
-use Rattle.dspec_record.specs.declared.field.Field.{Field}
-use Rattle.dspec_record.specs.declared.header.Header.{Header}
+use Rattle.dspec_record.specs.{Layout.width, Layout.limit, Layout.rounded_up, Layout.after, Layout.fields_end, Layout.layout, Record.Record, RecordText.little_endian, RecordText.record_text}
+use Rattle.dspec_record.specs.{Schemas.enabling_of, declared.field.Field.Field, declared.header.Header.Header}
 use Rattle.dspec_record.specs.declared.header.Header.TheVariants as header
 
 -- a list of words of eight bytes as one number, the first lowest

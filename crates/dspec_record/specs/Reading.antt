@@ -1,12 +1,10 @@
 -- Cited by calls. What reading a record at the front of some bytes answers, for any schema. A schema is seen here by three
 -- functions: the shape of an EPID, which records it accepts, and the text of a record.
-use Rattle.std.specs.Prelude.{◌≡◌, ◌≢◌, ◌≤◌, ◌<◌, ◌%◌, ◌^◌, ◌⊎◌, ◌++◌, All, ℕ, Bool, IsTrue, List, length, take, Option, Some, None, Result, Ok, Err}
 use Rattle.std.specs.Int.{w32, from_le_bytes}
-use Rattle.dspec_record.specs.Record.{Record}
-use Rattle.dspec_record.specs.RecordText.{little_endian}
-use Rattle.dspec_record.specs.declared.field.Shape.{Shape}
-use Rattle.dspec_record.specs.declared.reading.ReadKind.{ReadKind}
-use Rattle.dspec_record.specs.declared.reading.ReadKind.TheVariants.{Truncated, UnknownEpid, Misaligned, GapNotZero, Padding}
+use Rattle.std.specs.Prelude.{◌≡◌, ◌≢◌, ◌≤◌, ◌<◌, ◌%◌, ◌^◌, ◌⊎◌, ◌++◌, All, ℕ, Bool, IsTrue, List, length, take, Option, Some, None, Result, Ok, Err}
+use Rattle.dspec_record.specs.{Record.Record, RecordText.little_endian, declared.field.Shape.Shape, declared.reading.ReadKind.ReadKind, declared.reading.ReadKind.TheVariants.Truncated}
+use Rattle.dspec_record.specs.{declared.reading.ReadKind.TheVariants.UnknownEpid, declared.reading.ReadKind.TheVariants.Misaligned, declared.reading.ReadKind.TheVariants.GapNotZero}
+use Rattle.dspec_record.specs.{declared.reading.ReadKind.TheVariants.Padding}
 
 -- sizes are multiples of four and leave room for an EPID; no offset in a buffer can overflow by one
 pub record IsShape (h : Shape) : Type 0 where

@@ -1,7 +1,6 @@
 -- Cited by calls. How a `Rec` holds a record: its values, and zeros behind them.
 use Rattle.std.specs.Prelude.{◌≡◌, ◌≤◌, ◌-◌, ◌++◌, length, take, drop, replicate}
-use Rattle.dspec_record.specs.Record.{Record}
-use Rattle.dspec_record.specs.declared.record.Rec.TheInside.{Inside}
+use Rattle.dspec_record.specs.{Record.Record, declared.record.Rec.TheInside.Inside}
 
 abbrev pub record_of : Inside → Record
 record_of a = record { epid = a.epid; stamp = a.stamp; values = take a.len a.values }

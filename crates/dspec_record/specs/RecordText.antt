@@ -1,10 +1,7 @@
 -- Believed. The bytes of a record: its header, then each value at its place, little-endian, and zero elsewhere.
-use Rattle.std.specs.Prelude.{◌≡◌, IsTrue, ℕ, ◌-◌, ◌/◌, ◌%◌, ◌==◌, ◌++◌, ◌^◌, Bool, true, false, ◌&&◌, nat_lt, List, [], ◌∷◌, replicate}
 use Rattle.std.specs.Int.{bytes_low_first}
-use Rattle.dspec_record.specs.Record.{Record}
-use Rattle.dspec_record.specs.Layout.{width, rounded_up, after, fields_start}
-use Rattle.dspec_record.specs.declared.field.Field.{Field}
-use Rattle.dspec_record.specs.declared.header.Header.{Header}
+use Rattle.std.specs.Prelude.{◌≡◌, IsTrue, ℕ, ◌-◌, ◌/◌, ◌%◌, ◌==◌, ◌++◌, ◌^◌, Bool, true, false, ◌&&◌, nat_lt, List, [], ◌∷◌, replicate}
+use Rattle.dspec_record.specs.{Layout.width, Layout.rounded_up, Layout.after, Layout.fields_start, Record.Record, declared.field.Field.Field, declared.header.Header.Header}
 use Rattle.dspec_record.specs.declared.header.Header.TheVariants as header
 
 -- a number in so many bytes, the lowest first

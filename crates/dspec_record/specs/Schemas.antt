@@ -1,13 +1,9 @@
 -- Believed. A schema that is a header and a table of fields: which fields the records of an EPID have, if there are any. Its
 -- shapes are their layouts, and its texts their record texts.
-use Rattle.std.specs.Prelude.{ℕ, zero, suc, ◌^◌, Bool, false, ◌&&◌, nat_lt, nat_le, List, [], length, slice_get, Option, Some, None, unwrap_or, option_and_then, if◌then◌else◌}
 use Rattle.std.specs.Option.{option_map, option_map_or}
-use Rattle.dspec_record.specs.Record.{Record}
-use Rattle.dspec_record.specs.Layout.{layout}
-use Rattle.dspec_record.specs.RecordText.{record_text, stamp_fits, fits}
-use Rattle.dspec_record.specs.declared.field.Field.{Field}
-use Rattle.dspec_record.specs.declared.field.Shape.{Shape}
-use Rattle.dspec_record.specs.declared.header.Header.{Header}
+use Rattle.std.specs.Prelude.{ℕ, zero, suc, ◌^◌, Bool, false, ◌&&◌, nat_lt, nat_le, List, [], length, slice_get, Option, Some, None, unwrap_or, option_and_then, if◌then◌else◌}
+use Rattle.dspec_record.specs.{Layout.layout, Record.Record, RecordText.record_text, RecordText.stamp_fits, RecordText.fits, declared.field.Field.Field, declared.field.Shape.Shape}
+use Rattle.dspec_record.specs.{declared.header.Header.Header}
 
 abbrev pub FieldTable : Type 0
 FieldTable = ℕ → Option (List Field)

@@ -17,9 +17,3 @@ pub use Rattle.dspec_record.specs.Record.{Record}
 pub use Rattle.dspec_record.specs.RecordText.{fields_text, fits, gap, header_text, IsRead, little_endian, record_text, stamp_fits, stamp_text}
 pub use Rattle.dspec_record.specs.Schemas.{default_fields, enabled, enabling_of, FieldTable, table_accepts, table_shape, table_text, within_limit}
 pub use Rattle.dspec_record.specs.Writing.{IsClearBehind}
-pub use Rattle.dspec_record.specs.declared.enabling.Enablings.TheInside.{Inside}
-pub use Rattle.dspec_record.specs.declared.field.Field.{Field}
-pub use Rattle.dspec_record.specs.declared.field.Field.TheVariants.{Eight, Four, One, Two}
-pub use Rattle.dspec_record.specs.declared.field.Shape.{Shape}
-pub use Rattle.dspec_record.specs.declared.header.Header.{Header}
-pub use Rattle.dspec_record.specs.declared.reading.ReadKind.{ReadKind}

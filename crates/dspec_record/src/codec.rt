@@ -1,9 +1,7 @@
 ghost use Rattle.std.specs.Prelude.{◌≡◌, ◌≢◌, ◌≤◌, ◌<◌, ◌+◌, ◌%◌, ◌++◌, ◌^◌, ◌↔◌, ℕ, List, ◌⊎◌, nat_le, IsTrue, IfSome, IfNone, IfOk, IfErr, length, map, take, drop, replicate};
-ghost use Rattle.dspec_record.specs.Record.{Record};
-ghost use Rattle.dspec_record.specs.Layout.{width, limit, rounded_up, after, field_places, fields_start, layout};
-ghost use Rattle.dspec_record.specs.Reading.{front_epid};
-ghost use Rattle.dspec_record.specs.RecordText.{little_endian, gap, stamp_text, header_text, record_text, stamp_fits, fits, IsRead};
-ghost use Rattle.dspec_record.specs.Writing.{IsClearBehind};
+ghost use Rattle.dspec_record.specs.{Layout.width, Layout.limit, Layout.rounded_up, Layout.after, Layout.field_places, Layout.fields_start, Layout.layout, Reading.front_epid, Record.Record};
+ghost use Rattle.dspec_record.specs.{RecordText.little_endian, RecordText.gap, RecordText.stamp_text, RecordText.header_text, RecordText.record_text, RecordText.stamp_fits, RecordText.fits};
+ghost use Rattle.dspec_record.specs.{RecordText.IsRead, Writing.IsClearBehind};
 
 use crate::laid_out::put_word;
 use crate::{Field, Header, ReadKind, Rec, Recorded};

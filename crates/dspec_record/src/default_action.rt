@@ -7,9 +7,8 @@ use crate::{ReadKind, Rec, Recorded, Schema, Shape};
 pub struct DefaultAction;
 
 impl Schema for DefaultAction {
-    ghost use Rattle.dspec_record.specs.Schemas.{default_fields, table_shape, table_accepts, table_text};
-    ghost use Rattle.dspec_record.specs.Laws.Tables.{default_fields-IsLimited, table-shapes_fit, table-texts_fit, table-texts_differ};
-    ghost use Rattle.dspec_record.specs.declared.header.Header.TheVariants.{One};
+    ghost use Rattle.dspec_record.specs.{Laws.Tables.default_fields-IsLimited, Laws.Tables.table-shapes_fit, Laws.Tables.table-texts_fit, Laws.Tables.table-texts_differ, Schemas.default_fields};
+    ghost use Rattle.dspec_record.specs.{Schemas.table_shape, Schemas.table_accepts, Schemas.table_text, declared.header.Header.TheVariants.One};
     ghost use Rattle.std.specs.Prelude.{refl};
 
     ghost shape_of = { λ _. table_shape One default_fields };

@@ -5,8 +5,8 @@ use crate::{BorrowedRec, Enablings, Header, ReadKind, Rec, Recorded, Schema, Sha
 const ROOM: usize = 136;
 
 impl Schema for Enablings {
-    ghost use Rattle.dspec_record.specs.Schemas.{enabled, table_shape, table_accepts, table_text};
     ghost use Rattle.dspec_record.specs.Laws.Tables.{enabled-IsLimited, table-shapes_fit, table-texts_fit, table-texts_differ};
+    ghost use Rattle.dspec_record.specs.Schemas.{enabled, table_shape, table_accepts, table_text};
     ghost use Rattle.std.specs.Prelude.{refl};
 
     ghost shape_of = { λ s. table_shape s.header (enabled s.rows) };

@@ -54,8 +54,7 @@ impl Model for Enabling {
 
     ghost Value = { List Field };
 
-    ghost use Rattle.dspec_record.specs.EnablingFields.{fields_of, IsLaidOut, inside_of};
-    ghost use Rattle.dspec_record.specs.Laws.Enablings.{inside_of-fields_of};
+    ghost use Rattle.dspec_record.specs.{EnablingFields.fields_of, EnablingFields.IsLaidOut, EnablingFields.inside_of, Laws.Enablings.inside_of-fields_of};
 
     ghost view = { fields_of };
 
@@ -68,8 +67,7 @@ impl Model for Enabling {
 
 impl Enabling {
     ghost use Rattle.std.specs.Prelude.{◌≡◌, ◌≤◌, ◌+◌, length, map, take};
-    ghost use Rattle.dspec_record.specs.Layout.{limit, field_places, fields_start, layout};
-    ghost use Rattle.dspec_record.specs.Packing.{words_in, masks_for};
+    ghost use Rattle.dspec_record.specs.{Layout.limit, Layout.field_places, Layout.fields_start, Layout.layout, Packing.words_in, Packing.masks_for};
 
     fn of(fields: &[Field]) -> Enabling
         requires { length fields.now ≤ 8 }
@@ -177,8 +175,7 @@ impl Model for Enablings {
 
     ghost Value = { EnabledRows };
 
-    ghost use Rattle.dspec_record.specs.EnablingRows.{rows_of, IsFilled, inside_of};
-    ghost use Rattle.dspec_record.specs.Laws.Enablings.{inside_of-rows_of};
+    ghost use Rattle.dspec_record.specs.{EnablingRows.rows_of, EnablingRows.IsFilled, EnablingRows.inside_of, Laws.Enablings.inside_of-rows_of};
 
     ghost view = { rows_of };
 
@@ -191,9 +188,7 @@ impl Model for Enablings {
 
 impl Enablings {
     ghost use Rattle.std.specs.Prelude.{◌≡◌, ◌≤◌, ◌<◌, ◌+◌, ◌-◌, ◌++◌, ◌∷◌, ◌↔◌, [], length, Some, IsSome, option_copied, IfOk, OnErr};
-    ghost use Rattle.dspec_record.specs.Layout.{fields_start};
-    ghost use Rattle.dspec_record.specs.Schemas.{enabling_of};
-    ghost use Rattle.dspec_record.specs.Packing.{claimed};
+    ghost use Rattle.dspec_record.specs.{Layout.fields_start, Packing.claimed, Schemas.enabling_of};
 
     /// No enabling; records have no stamp.
     pub fn new() -> Enablings

@@ -1,6 +1,5 @@
 ghost use Rattle.std.specs.Prelude.{◌≡◌, ◌<◌, ◌^◌, ◌+◌, length};
-ghost use Rattle.dspec_record.specs.Layout.{width, limit, rounded_up};
-ghost use Rattle.dspec_record.specs.RecordText.{little_endian};
+ghost use Rattle.dspec_record.specs.{Layout.width, Layout.limit, Layout.rounded_up, RecordText.little_endian};
 
 /// A field of a record, by its width: 1, 2, 4 or 8 bytes, little-endian.
 #[derive(Debug, Clone, Copy, PartialEq, Eq)]

@@ -1,11 +1,10 @@
 //! The parts of writing a record whose fields are known when a program is compiled: its shape, the words that hold its values, and
 //! its text.
 
-ghost use Rattle.std.specs.Prelude.{◌≡◌, ◌≤◌, ◌<◌, ◌+◌, ◌*◌, ◌%◌, ◌^◌, ◌++◌, length, take, slice_index_or};
 ghost use Rattle.std.specs.List.{list_any};
-ghost use Rattle.dspec_record.specs.Layout.{width, rounded_up, after, fields_start, layout, is_eight};
-ghost use Rattle.dspec_record.specs.Packing.{number_of_words, BeginsWithWords};
-ghost use Rattle.dspec_record.specs.RecordText.{little_endian};
+ghost use Rattle.std.specs.Prelude.{◌≡◌, ◌≤◌, ◌<◌, ◌+◌, ◌*◌, ◌%◌, ◌^◌, ◌++◌, length, take, slice_index_or};
+ghost use Rattle.dspec_record.specs.{Layout.width, Layout.rounded_up, Layout.after, Layout.fields_start, Layout.layout, Layout.is_eight, Packing.number_of_words, Packing.BeginsWithWords};
+ghost use Rattle.dspec_record.specs.{RecordText.little_endian};
 
 use crate::enabling::MAX_WORDS;
 use crate::{Field, Header, Shape};

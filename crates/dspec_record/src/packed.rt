@@ -1,7 +1,5 @@
 ghost use Rattle.std.specs.Prelude.{◌≡◌, ◌≤◌, ◌<◌, length, take};
-ghost use Rattle.dspec_record.specs.Layout.{layout};
-ghost use Rattle.dspec_record.specs.Packing.{words_in, masked_words, packed_record, IsClean};
-ghost use Rattle.dspec_record.specs.declared.header.Header.TheVariants.{One};
+ghost use Rattle.dspec_record.specs.{Layout.layout, Packing.words_in, Packing.masked_words, Packing.packed_record, Packing.IsClean, declared.header.Header.TheVariants.One};
 
 use crate::codec::fits_header;
 use crate::enabling::{Enabling, MAX_FIELDS, MAX_WORDS};
@@ -49,10 +47,7 @@ impl<H: KnownHeader> Clone for Packed<H> {
 
 impl Enablings {
     ghost use Rattle.std.specs.Prelude.{◌≡◌, ◌↔◌, ◌%◌, ◌^◌, IsTrue, length, IfSome, IsSome};
-    ghost use Rattle.dspec_record.specs.LaidOut.{IsLaidBy};
-    ghost use Rattle.dspec_record.specs.Packing.{claimed, packed_record};
-    ghost use Rattle.dspec_record.specs.PackedFields.{packed_of, laid_of};
-    ghost use Rattle.dspec_record.specs.RecordText.{stamp_fits};
+    ghost use Rattle.dspec_record.specs.{LaidOut.IsLaidBy, PackedFields.packed_of, PackedFields.laid_of, Packing.claimed, Packing.packed_record, RecordText.stamp_fits};
 
     /// The record of the claimed EPID with this stamp, whose fields stand in these words. None where the claim is true of no
     /// enabling, the number of words is another than its fields have, the enablings have another header, or it has no stamp and
@@ -77,8 +72,7 @@ impl Enablings {
 
 impl<H: KnownHeader> Packed<H> {
     ghost use Rattle.std.specs.Prelude.{◌≡◌, ◌≤◌, ◌<◌, ◌%◌, ◌^◌, length, slice_index_or};
-    ghost use Rattle.dspec_record.specs.Packing.{words_in, packed_record};
-    ghost use Rattle.dspec_record.specs.PackedFields.{packed_fields, packed_words, packed_of};
+    ghost use Rattle.dspec_record.specs.{PackedFields.packed_fields, PackedFields.packed_words, PackedFields.packed_of, Packing.words_in, Packing.packed_record};
 
     #[inline(always)]
     fn of(epid: u32, stamp: u64, row: &Enabling, words: &[u64]) -> Packed<H>

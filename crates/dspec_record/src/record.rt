@@ -21,8 +21,7 @@ impl Model for Rec {
 
     ghost Value = { Record };
 
-    ghost use Rattle.dspec_record.specs.RecordFields.{record_of, IsPadded, fields_of};
-    ghost use Rattle.dspec_record.specs.Laws.Records.{fields_of-record_of};
+    ghost use Rattle.dspec_record.specs.{Laws.Records.fields_of-record_of, RecordFields.record_of, RecordFields.IsPadded, RecordFields.fields_of};
 
     ghost view = { record_of };
 

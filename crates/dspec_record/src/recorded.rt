@@ -1,8 +1,5 @@
-ghost use Rattle.std.specs.Prelude.{◌≡◌, ◌≤◌, None, length, take, Option, is_some, is_none, IfSome};
-ghost use Rattle.std.specs.Option.{option_map};
-ghost use Rattle.dspec_record.specs.Record.{Record};
-ghost use Rattle.dspec_record.specs.LaidOut.{Laid};
-ghost use Rattle.dspec_record.specs.Layout.{rounded_up};
+ghost use Rattle.std.specs.{Option.option_map, Prelude.◌≡◌, Prelude.◌≤◌, Prelude.None, Prelude.length, Prelude.take, Prelude.Option, Prelude.is_some, Prelude.is_none, Prelude.IfSome};
+ghost use Rattle.dspec_record.specs.{LaidOut.Laid, Layout.rounded_up, Record.Record};
 
 use crate::{Rec, Shape};
 

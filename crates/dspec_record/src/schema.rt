@@ -1,8 +1,5 @@
 ghost use Rattle.std.specs.Prelude.{◌≡◌, ◌↔◌, ◌&&◌, ℕ, Bool, IsTrue, IfSome, IsSome, List, length, take, ◌+◌, ◌≤◌, nat_le, Option, Some, None, ◌++◌};
-ghost use Rattle.dspec_record.specs.Borrowed.{borrowed_record};
-ghost use Rattle.dspec_record.specs.Record.{Record};
-ghost use Rattle.dspec_record.specs.Reading.{IsShape, IsTextOf, Answers};
-ghost use Rattle.dspec_record.specs.declared.field.Shape.{Shape};
+ghost use Rattle.dspec_record.specs.{Borrowed.borrowed_record, Reading.IsShape, Reading.IsTextOf, Reading.Answers, Record.Record, declared.field.Shape.Shape};
 
 use crate::{BorrowedRec, ReadKind, Rec, Recorded, Shape};
 

@@ -1,12 +1,10 @@
 -- Turns one behind the other: the first that isn't played, and the calls that have ended.
 use Prim.Native.Nat.{zero, suc}
-use Rattle.std.proofs.Common.{◌≡◌, ◌<◌, ◌≤◌, ◌+◌, ◌++◌, ◌∷◌, [], ℕ, Bool, List, Option, Some, None, length, map}
-use Rattle.std.proofs.Common.{Result, Ok, Err, IfOk, take, drop, drop-cons, get_or, add-one, refl, sym, ap, ◌∙◌, subst, arith}
+use Rattle.std.proofs.Common.{◌≡◌, ◌<◌, ◌≤◌, ◌+◌, ◌++◌, ◌∷◌, [], ℕ, Bool, List, Option, Some, None, length, map, Result, Ok, Err, IfOk, take, drop, drop-cons, get_or, add-one, refl, sym, ap, ◌∙◌}
+use Rattle.std.proofs.Common.{subst, arith}
 use Rattle.std.proofs.lemmas.List.{take_more, map-append}
-use Rattle.dspec_replay.specs.Words.{Record, start_fault, EndedCall, SessionFault, Play, NoText, NoWholeCall, IsDue, call_that_ended, first_refusal, first_of, schedule_refusal, setup_refusal}
-use Rattle.dspec_replay.specs.Words.{turn_refusal, whole_call_of}
-use Rattle.dspec_deeds.specs.declared.calls.Turn.{Turn}
-use Rattle.dspec_deeds.specs.declared.config.Config.{Config}
+use Rattle.dspec_replay.specs.Words.{Record, start_fault, EndedCall, IsDue, call_that_ended, first_refusal, first_of, schedule_refusal, setup_refusal, turn_refusal, whole_call_of, Turn, Config}
+use Rattle.dspec_replay.specs.declared.session_fault.SessionFault.{SessionFault, TheVariants.Play, TheVariants.NoText, TheVariants.NoWholeCall}
 use Rattle.dspec_interleaving.specs.declared.outcome.PlayFault.TheVariants as play_fault
 
 -- what is due here is due there

@@ -1,13 +1,8 @@
 -- Serves proofs. The buffers of a session that was played: what is read of a batch, and what is printed of it.
-use Rattle.std.specs.Prelude.{◌≡◌, ℕ, ◌/◌, ◌%◌, false, List, [], ◌∷◌, ◌++◌, length, codes, decimal}
-use Rattle.std.specs.Fmt.{digit_glyph}
-use Rattle.std.specs.List.{enumerate_from, flat_map}
-use Rattle.dspec_record.specs.declared.header.Header.{Header}
-use Rattle.dspec_ring.specs.declared.batch.Batch.{Batch}
-use Rattle.dspec_replay.specs.Words.Outside.{records_text}
-use Rattle.dspec_replay.specs.declared.texts.BufferOrigin.{BufferOrigin}
+use Rattle.std.specs.{Fmt.digit_glyph, List.enumerate_from, List.flat_map, Prelude.◌≡◌, Prelude.ℕ, Prelude.◌/◌, Prelude.◌%◌, Prelude.false, Prelude.List, Prelude.[], Prelude.◌∷◌, Prelude.◌++◌}
+use Rattle.std.specs.{Prelude.length, Prelude.codes, Prelude.decimal}
+use Rattle.dspec_replay.specs.{Words.Outside.Header, Words.Outside.Batch, Words.Outside.records_text, declared.texts.BufferOrigin.BufferOrigin, declared.texts.ReadBuffer.ReadBuffer}
 use Rattle.dspec_replay.specs.declared.texts.BufferOrigin.TheVariants as origin
-use Rattle.dspec_replay.specs.declared.texts.ReadBuffer.{ReadBuffer}
 
 -- the drops and the bytes of this batch
 pub record IsTextOfBatch (o : BufferOrigin) (b : Batch) (t : ReadBuffer) : Type 0 where

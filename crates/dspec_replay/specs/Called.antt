@@ -1,15 +1,9 @@
 -- Serves proofs. A call of a CPU of a session by its kind: why none is made, what one answered and did, and what else of the session moved.
 use Rattle.std.specs.Prelude.{ℕ, ◌≡◌, Bool, nat_lt, List, Option, Some, None, if◌then◌else◌, slice_get, slice_set}
-use Rattle.dspec_replay.specs.Words.Outside.{Record, record_passes, commit, discard, number_in, TracesOne, SpeculatesOne, OpensOne, DecidesOne, ServesOnce}
-use Rattle.dspec_deeds.specs.declared.calls.Answer.{Answer}
+use Rattle.dspec_replay.specs.Words.Outside.{Record, record_passes, commit, discard, number_in, TracesOne, SpeculatesOne, OpensOne, DecidesOne, ServesOnce, Answer, CpuOp, Deed, Cpu, Session}
+use Rattle.dspec_replay.specs.declared.whole_calls.Uncalled.{Uncalled, TheVariants.BadRecord, TheVariants.NoSuchCpu}
 use Rattle.dspec_deeds.specs.declared.calls.Answer.TheVariants as answer
-use Rattle.dspec_deeds.specs.declared.calls.CpuOp.{CpuOp}
 use Rattle.dspec_deeds.specs.declared.calls.CpuOp.TheVariants as op
-use Rattle.dspec_deeds.specs.declared.deed.Deed.{Deed}
-use Rattle.dspec_cpu.specs.declared.cpu.Cpu.{Cpu}
-use Rattle.dspec_session_core.specs.declared.session.Session.{Session}
-use Rattle.dspec_replay.specs.declared.whole_calls.Uncalled.{Uncalled}
-use Rattle.dspec_replay.specs.declared.whole_calls.Uncalled.TheVariants.{BadRecord, NoSuchCpu}
 
 -- the refusal that is due, if one is: the CPU is looked for before the record is looked at
 abbrev pub uncalled : (Record → Bool) → ℕ → ℕ → CpuOp → Option Uncalled

@@ -1,12 +1,7 @@
 -- Cited by calls. What the play of a schedule is, and what is told of a text that says none, or whose play is refused.
 use Rattle.std.specs.Prelude.{◌≡◌, ℕ, ◌⊎◌, Bool, List, reverse, Option, Some, None, Ok, Err}
 use Rattle.dspec_replay.specs.Words.Outside.{Record, EnabledRows, FieldTable, default_fields, enabled, table_shape, table_accepts, reports, streams, IsLegal, answers_of, deeds_of, play_fault}
-use Rattle.dspec_replay.specs.Words.Outside.{worn_count, Plan, header_of, schedule_of, fault_as_told}
-use Rattle.dspec_record.specs.declared.field.Shape.{Shape}
-use Rattle.dspec_interleaving.specs.declared.outcome.Outcome.{Outcome}
-use Rattle.dspec_interleaving.specs.declared.outcome.PlayFault.{PlayFault}
-use Rattle.dspec_schedule.specs.declared.fault.ScheduleFault.{ScheduleFault}
-use Rattle.dspec_schedule.specs.declared.fault.ScheduleFault.TheVariants.{Line, Memory}
+use Rattle.dspec_replay.specs.Words.Outside.{worn_count, Plan, header_of, schedule_of, fault_as_told, Shape, Outcome, PlayFault, ScheduleFault, Line, Memory}
 
 -- which fields the records of a probe have: without an enabling, those of the default action
 abbrev pub table_of : Option EnabledRows → FieldTable

@@ -1,21 +1,13 @@
 -- Cited by calls. Schedules of whole calls on a session: which call a turn is, and why a turn or a whole schedule isn't played.
 use Rattle.std.specs.Prelude.{ℕ, ◌≡◌, ◌+◌, Bool, nat_lt, true, List, [], ◌∷◌, length, Option, Some, None, if◌then◌else◌}
-use Rattle.dspec_replay.specs.Words.Outside.{EnabledRows, Record, default_fields, enabled, table_accepts, start_fault, record_passes, EndedCall}
-use Rattle.dspec_record.specs.declared.header.Header.{Header}
-use Rattle.dspec_deeds.specs.declared.calls.Actor.{Actor}
-use Rattle.dspec_deeds.specs.declared.calls.Actor.TheVariants as actor
-use Rattle.dspec_deeds.specs.declared.calls.ConsumerOp.{ConsumerOp}
-use Rattle.dspec_deeds.specs.declared.calls.ConsumerOp.TheVariants as consumer_op
-use Rattle.dspec_deeds.specs.declared.calls.Op.{Op}
-use Rattle.dspec_deeds.specs.declared.calls.Op.TheVariants as op
-use Rattle.dspec_deeds.specs.declared.calls.Turn.{Turn}
-use Rattle.dspec_deeds.specs.declared.calls.Turn.TheVariants.{RunCpu, RunConsumer}
-use Rattle.dspec_deeds.specs.declared.config.Config.{Config}
-use Rattle.dspec_deeds.specs.declared.config.StartFault.{StartFault}
-use Rattle.dspec_interleaving.specs.declared.outcome.PlayFault.TheVariants as play_fault
-use Rattle.dspec_replay.specs.declared.session_fault.SessionFault.{SessionFault}
+use Rattle.dspec_replay.specs.Words.Outside.{EnabledRows, Record, default_fields, enabled, table_accepts, start_fault, record_passes, EndedCall, Header, Actor, ConsumerOp, Op, Turn, RunCpu}
+use Rattle.dspec_replay.specs.Words.Outside.{RunConsumer, Config, StartFault}
 use Rattle.dspec_replay.specs.declared.playing.SessionReplay.{SessionReplay}
-use Rattle.dspec_replay.specs.declared.session_fault.SessionFault.TheVariants.{Play, NoText, NoWholeCall}
+use Rattle.dspec_replay.specs.declared.session_fault.SessionFault.{SessionFault, TheVariants.Play, TheVariants.NoText, TheVariants.NoWholeCall}
+use Rattle.dspec_deeds.specs.declared.calls.Actor.TheVariants as actor
+use Rattle.dspec_deeds.specs.declared.calls.ConsumerOp.TheVariants as consumer_op
+use Rattle.dspec_deeds.specs.declared.calls.Op.TheVariants as op
+use Rattle.dspec_interleaving.specs.declared.outcome.PlayFault.TheVariants as play_fault
 
 -- who makes the whole call that a turn is, and which call it is
 abbrev pub whole_call_of : Turn → Option (Actor × Op)

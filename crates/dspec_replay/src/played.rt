@@ -1,8 +1,7 @@
 ghost use Rattle.std.specs.Prelude.{◌≡◌, ◌≢◌, List, ℕ, IfErr, IfOk, Some};
 ghost use Rattle.dspec_interleaving.specs.declared.outcome.PlayFault.TheVariants as failure;
 ghost use Rattle.dspec_replay.specs.PlayedTexts.{IsPlayOf, IsPlayedText, IsTextFault, fault_of};
-ghost use Rattle.dspec_schedule.specs.Reading.{HasOneHeader};
-ghost use Rattle.dspec_schedule.specs.Schedules.{plan_of};
+ghost use Rattle.dspec_schedule.specs.{Reading.HasOneHeader, Schedules.plan_of};
 
 use dspec_core::{Outcome, PlayFault, play};
 use dspec_record::{DefaultAction, Header, StampedAction};

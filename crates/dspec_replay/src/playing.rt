@@ -1,7 +1,6 @@
 ghost use Rattle.std.specs.Prelude.{◌≡◌, ◌++◌, ◌∷◌, [], None, Some, length, map, IfErr, IfOk, OnOk};
-ghost use Rattle.dspec_deeds.specs.Ranges.{start_fault};
+ghost use Rattle.dspec_deeds.specs.{Ranges.start_fault, declared.calls.Turn.TheVariants.RunCpu, declared.calls.Turn.TheVariants.RunConsumer};
 ghost use Rattle.dspec_session_core.specs.Sessions.{IsSession};
-ghost use Rattle.dspec_deeds.specs.declared.calls.Turn.TheVariants.{RunCpu, RunConsumer};
 ghost use Rattle.dspec_replay.specs.Replayed.{IsDue, IsSamePlay, call_that_ended, setup_refusal, turn_refusal, whole_call_of};
 
 use crate::calls::call_consumer;

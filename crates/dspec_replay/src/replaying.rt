@@ -1,6 +1,5 @@
 ghost use Rattle.std.specs.Prelude.{◌≡◌, None, map, IfErr, IfOk};
-ghost use Rattle.dspec_schedule.specs.Reading.{header_of};
-ghost use Rattle.dspec_schedule.specs.Schedules.{plan_of};
+ghost use Rattle.dspec_schedule.specs.{Reading.header_of, Schedules.plan_of};
 ghost use Rattle.dspec_replay.specs.Replayed.{IsDue, accepted_in, call_that_ended, schedule_refusal, whole_call_of};
 
 use crate::playing::SessionReplay;

@@ -1,6 +1,4 @@
-ghost use Rattle.std.specs.Prelude.{◌≡◌, ◌<◌, ◌++◌, false, IfOk, OnOk, string_bytes};
-ghost use Rattle.std.specs.Fmt.{digit_glyph};
-ghost use Rattle.std.specs.List.{enumerate_from, flat_map};
+ghost use Rattle.std.specs.{Fmt.digit_glyph, List.enumerate_from, List.flat_map, Prelude.◌≡◌, Prelude.◌<◌, Prelude.◌++◌, Prelude.false, Prelude.IfOk, Prelude.OnOk, Prelude.string_bytes};
 ghost use Rattle.dspec_schedule.specs.Printed.{printed_text, records_text};
 ghost use Rattle.dspec_replay.specs.Buffers.{all_buffers, buffer_front, buffer_lines, bytes_digits, bytes_line, cpu_buffers};
 

@@ -1,6 +1,5 @@
 ghost use Rattle.std.specs.Prelude.{IfErr, OnOk};
-ghost use Rattle.dspec_replay.specs.Buffers.{KeepsBufferText};
-ghost use Rattle.dspec_replay.specs.Replayed.{IsSudden};
+ghost use Rattle.dspec_replay.specs.{Buffers.KeepsBufferText, Replayed.IsSudden};
 
 use crate::session_fault::SessionFault;
 use crate::texts::{BufferOrigin, ReadBuffer};

@@ -1,10 +1,6 @@
 -- Serves proofs. How an end's two parts say what it knows.
-use Rattle.rtrb.specs.Ring.{sent, known_free, received, known_items}
-use Rattle.dspec_ring.specs.Known.{Ring, CpuKnows, ConsumerKnows}
-use Rattle.rtrb.specs.declared.producer.Producer.{Producer}
-use Rattle.rtrb.specs.declared.consumer.Consumer.{Consumer}
-use Rattle.dspec_ring.specs.declared.cpu_end.CpuEnd.TheInside.{Inside}
-use Rattle.dspec_ring.specs.declared.consumer_end.ConsumerEnd.TheInside.{Inside as ConsumerInside}
+use Rattle.rtrb.specs.{Ring.sent, Ring.known_free, Ring.received, Ring.known_items, declared.consumer.Consumer.Consumer, declared.producer.Producer.Producer}
+use Rattle.dspec_ring.specs.{Known.Ring, Known.CpuKnows, Known.ConsumerKnows, declared.consumer_end.ConsumerEnd.TheInside.Inside as ConsumerInside, declared.cpu_end.CpuEnd.TheInside.Inside}
 
 module _ {T A P : Type 0} where
   abbrev pub pushed_into : Producer T A P → Ring

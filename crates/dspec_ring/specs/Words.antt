@@ -1,7 +1,3 @@
 -- Serves proofs. The words of this crate for its proofs and for the crates above, in one place. Declares nothing.
 pub use Rattle.dspec_ring.specs.EndFields.{popped_from, pushed_into}
 pub use Rattle.dspec_ring.specs.Known.{consumer_moved, ConsumerKnows, cpu_moved, CpuKnows, IsUnusedConsumer, IsUnusedCpu, Pair, Ring}
-pub use Rattle.dspec_ring.specs.contracts.moves.Moves.{the_row, the_type}
-pub use Rattle.dspec_ring.specs.contracts.moves.Moves.count.Key.{name as #it}
-pub use Rattle.dspec_ring.specs.contracts.moves.Moves.none.Key.{name as key}
-pub use Rattle.dspec_ring.specs.declared.moves.Moves.{Moves}

@@ -1,7 +1,6 @@
 -- Serves proofs. Each offered record has one fate.
 use Rattle.std.specs.Prelude.{◌≡◌}
-use Rattle.dspec_deeds.specs.declared.report.Report.{Report}
-use Rattle.dspec_samples.specs.Words.Outside.{records_of_report}
+use Rattle.dspec_samples.specs.Words.Outside.{Report, records_of_report}
 
 abbrev pub IsBalanced : Report → Type 0
 IsBalanced r = r.offered ≡ records_of_report r

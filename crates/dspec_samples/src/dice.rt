@@ -1,8 +1,7 @@
 //! Seeded random numbers for tests that choose at random and have to repeat: the generator xoshiro256++ of the kit. The same seed
 //! gives the same numbers on every machine. None is for secrets.
 ghost use Rattle.std.specs.Prelude.{◌≡◌, ◌<◌, ◌≤◌, ◌+◌, ◌-◌, ◌%◌, ◌^◌, ◌↔◌, IsTrue};
-ghost use Rattle.rand_xoshiro.specs.SplitMix64.{splitmix_seed};
-ghost use Rattle.rand_xoshiro.specs.Xoshiro256.{of_seed, plus_plus};
+ghost use Rattle.rand_xoshiro.specs.{SplitMix64.splitmix_seed, Xoshiro256.of_seed, Xoshiro256.plus_plus};
 
 use rand_core::SeedableRng;
 use rand_core::utils::NextWord;

@@ -1,7 +1,6 @@
 -- A text that grows by two pieces for each element of a list.
-use Rattle.std.proofs.Common.{◌≡◌, ℕ, List, [], ◌∷◌, ◌++◌, ◌∙◌, ap, sym, append_assoc}
+use Rattle.std.proofs.{Common.◌≡◌, Common.ℕ, Common.List, Common.[], Common.◌∷◌, Common.◌++◌, Common.◌∙◌, Common.ap, Common.sym, Common.append_assoc, lemmas.List.flat_map_more}
 use Rattle.std.specs.List.{flat_map}
-use Rattle.std.proofs.lemmas.List.{flat_map_more}
 
 pub flat_map-two_more : {X : Type 0} (f : X → List ℕ) (start before middle after first second : List ℕ) (xs : List X) (x : X)
     → before ≡ start ++ flat_map f xs → middle ≡ before ++ first → after ≡ middle ++ second → f x ≡ first ++ second

@@ -1,11 +1,11 @@
 -- The enablings of a schedule that was read have the header of all its records.
 use Rattle.std.proofs.Common.{◌≡◌, ℕ, ◌+◌, ◌&&◌, Bool, true, false, not, nat_le, is_ok, length, if◌then◌else◌, List, [], ◌∷◌, Option, Some, None, Result, Ok, Err, IfOk, IfSome, refl, subst, ◌∙◌}
 use Rattle.std.specs.Prelude.{is_none, unwrap_or}
-use Rattle.dspec_schedule.specs.Words.{EnabledRows, LineKind, BadNumber, BadEnabling, BadHeader, ScheduleFault, Schedule, Plan, HasOneHeader, has_no_turn, may_name_header, no_rows, header_of}
-use Rattle.dspec_schedule.specs.Words.{first_line_of, enabled_by, headed_by, policed_by, turned_by, later_line_of, words_read, line_read, lines_read, lines_of, configured, schedule_of, plan_of}
-use Rattle.dspec_schedule.specs.Words.{added_to, enabling_read, field_of_word, header_of_words, ◌>>=◌, at_line, each, numbers_of, only_word, wide_number_of}
-use Rattle.dspec_record.specs.declared.field.Field.{Field}
-use Rattle.dspec_record.specs.declared.header.Header.{Header}
+use Rattle.dspec_schedule.specs.Words.{EnabledRows, Plan, HasOneHeader, has_no_turn, may_name_header, no_rows, header_of, first_line_of, enabled_by, headed_by, policed_by, turned_by, later_line_of}
+use Rattle.dspec_schedule.specs.Words.{words_read, line_read, lines_read, lines_of, configured, schedule_of, plan_of, added_to, enabling_read, field_of_word, header_of_words, ◌>>=◌, at_line, each}
+use Rattle.dspec_schedule.specs.Words.{numbers_of, only_word, wide_number_of, Field, Header}
+use Rattle.dspec_schedule.specs.declared.fault.{LineKind.LineKind, LineKind.TheVariants.BadNumber, LineKind.TheVariants.BadEnabling, LineKind.TheVariants.BadHeader, ScheduleFault.ScheduleFault}
+use Rattle.dspec_schedule.specs.declared.schedule.Schedule.{Schedule}
 
 -- what a step gives, if it gives anything, has this
 record Leaves {A E : Type 0} (P : A → Type 0) (r : Result A E) : Type 0 where

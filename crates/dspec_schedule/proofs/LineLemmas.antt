@@ -1,10 +1,9 @@
 -- The faults and the schedules of lines, one behind the other.
 use Rattle.std.proofs.Common.{◌≡◌, ℕ, ◌+◌, List, [], ◌∷◌, ◌++◌, length, Option, Some, None, option_map, Result, Ok, Err, refl, ap, sym, ◌∙◌, arith, IfOk, IfErr}
-use Rattle.std.specs.Option.{ok_or}
-use Rattle.std.specs.List.{slice_split}
-use Rattle.std.specs.Prelude.{◌==◌}
-use Rattle.dspec_schedule.specs.Words.{LineKind, NoConfig, ScheduleFault, Line, Memory, Schedule, Plan, first_line_of, words_read, line_read, lines_read, without_empty_end, lines_of, schedule_of}
-use Rattle.dspec_schedule.specs.Words.{configured, IsReadingFault, plan_of, ◌>>=◌, at_line}
+use Rattle.std.specs.{List.slice_split, Option.ok_or, Prelude.◌==◌}
+use Rattle.dspec_schedule.specs.Words.{Plan, first_line_of, words_read, line_read, lines_read, without_empty_end, lines_of, schedule_of, configured, IsReadingFault, plan_of, ◌>>=◌, at_line}
+use Rattle.dspec_schedule.specs.declared.fault.{LineKind.LineKind, LineKind.TheVariants.NoConfig, ScheduleFault.ScheduleFault, ScheduleFault.TheVariants.Line, ScheduleFault.TheVariants.Memory}
+use Rattle.dspec_schedule.specs.declared.schedule.Schedule.{Schedule}
 
 -- a step that has no fault of its own
 IsReadingFault-then : {A B : Type 0} (line : ℕ) (r : Result A LineKind) (f : A → B) (fault : ScheduleFault)

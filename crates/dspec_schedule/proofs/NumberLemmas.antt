@@ -1,11 +1,8 @@
 -- What `parse` answers, and steps over a list, in the words of specs/.
 use Rattle.std.proofs.Common.{◌≡◌, ℕ, ◌<◌, Bool, true, false, nat_lt, List, [], ◌∷◌, slice_index, Result, Ok, Err, refl, ap, arith, IfErr}
-use Rattle.std.specs.Result.{OkIff}
-use Rattle.std.specs.Str.{all_ascii_digits}
-use Rattle.std.specs.Str.Parse.{IsNumeral, digits_value}
-use Rattle.std.proofs.lemmas.Bool.{ltb-true, lt-ltb}
-use Rattle.std.proofs.lemmas.Str.Parse.{IsNumeralModel, numerals_by_value, tells_all_ascii_digits}
-use Rattle.dspec_schedule.specs.Words.{LineKind, BadNumber, is_numeral, number_read}
+use Rattle.std.proofs.lemmas.{Bool.ltb-true, Bool.lt-ltb, Str.Parse.IsNumeralModel, Str.Parse.numerals_by_value, Str.Parse.tells_all_ascii_digits}
+use Rattle.std.specs.{Result.OkIff, Str.all_ascii_digits, Str.Parse.IsNumeral, Str.Parse.digits_value}
+use Rattle.dspec_schedule.specs.{Words.is_numeral, Words.number_read, declared.fault.LineKind.LineKind, declared.fault.LineKind.TheVariants.BadNumber}
 
 digits_model : IsNumeralModel (λ ds. all_ascii_digits ds ≡ true) (digits_value 10)
 digits_model = numerals_by_value (λ ds. all_ascii_digits ds ≡ true) tells_all_ascii_digits

@@ -1,11 +1,7 @@
 -- Printable bytes are text.
 use Rattle.std.proofs.Common.{◌≡◌, ℕ, ◌<◌, true, List, get_or, arith}
-use Rattle.std.specs.List.{list_all}
-use Rattle.std.specs.Str.{IsUtf8}
-use Rattle.std.proofs.lemmas.Str.{IsUtf8-from_ascii}
-use Rattle.std.proofs.lemmas.Str.Ascii.{IsAscii-from_all}
-use Rattle.std.proofs.lemmas.Bool.Decides.{nat_tests}
-use Rattle.std.proofs.lemmas.List.Sums.{AllPass-from_list_all}
+use Rattle.std.proofs.lemmas.{Bool.Decides.nat_tests, List.Sums.AllPass-from_list_all, Str.IsUtf8-from_ascii, Str.Ascii.IsAscii-from_all}
+use Rattle.std.specs.{List.list_all, Str.IsUtf8}
 use Rattle.dspec_schedule.specs.Words.{is_printable}
 
 below_ascii : (byte : ℕ) → is_printable byte ≡ true → byte < 128

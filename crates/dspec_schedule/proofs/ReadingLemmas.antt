@@ -1,8 +1,7 @@
 -- The first fault among the words of a record or of an enabling.
-use Rattle.std.proofs.Common.{◌≡◌, ℕ, ◌≤◌, true, List, ◌∷◌, length, is_ok, Ok, Err, refl}
-use Rattle.std.proofs.lemmas.Bool.{le-leb}
-use Rattle.dspec_schedule.specs.Words.{EnabledRows, LineKind, epid_of, record_read, enabling_read, field_of_word, each, numbers_of}
-use Rattle.dspec_record.specs.declared.header.Header.{Header}
+use Rattle.std.proofs.{Common.◌≡◌, Common.ℕ, Common.◌≤◌, Common.true, Common.List, Common.◌∷◌, Common.length, Common.is_ok, Common.Ok, Common.Err, Common.refl, lemmas.Bool.le-leb}
+use Rattle.dspec_schedule.specs.Words.{EnabledRows, epid_of, record_read, enabling_read, field_of_word, each, numbers_of, Header}
+use Rattle.dspec_schedule.specs.declared.fault.LineKind.{LineKind}
 
 pub record_of-values_fault : (h : Header) (words : List (List ℕ)) (epid : List ℕ) (values : List (List ℕ)) (e : ℕ × ℕ) (kind : LineKind) → words ≡ epid ∷ values
     → length values ≤ 8 → epid_of h epid ≡ Ok e → numbers_of values ≡ Err kind → Err kind ≡ record_read h words

@@ -1,8 +1,8 @@
 -- Steps over a list that grows at its end, or whose first fault is at a place.
 use Rattle.std.proofs.Common.{◌≡◌, ℕ, ◌+◌, ◌<◌, ◌&&◌, List, [], ◌∷◌, ◌++◌, length, map, take, drop, set, get_or, add-one, suc, Result, Ok, Err, is_ok, refl, ap, sym, ◌∙◌}
-use Rattle.std.specs.List.{list_all}
 use Rattle.std.proofs.Math.Seq.{take-suc, take-suc-set, drop-cons}
 use Rattle.std.proofs.lemmas.List.{map-append, take-append-drop}
+use Rattle.std.specs.List.{list_all}
 use Rattle.dspec_schedule.specs.Words.{◌>>=◌, each}
 
 and_then_ok : {C E : Type 0} (r : Result C E) → r ≡ (r >>= λ y. Ok y)

@@ -1,23 +1,14 @@
 -- Cited by calls. What the words of a turn say: a call of an actor, or one step of it.
-use Rattle.std.specs.Prelude.{ℕ, ◌/◌, ◌%◌, ◌==◌, nat_le, nat_lt, ◌&&◌, Bool, List, [], ◌∷◌, length, if◌then◌else◌, bytes_eq, codes, Result, Ok, Err}
 use Rattle.std.specs.List.{position_or_len, before_first, after_first}
-use Rattle.dspec_schedule.specs.Words.Outside.{Record, Speculation}
-use Rattle.dspec_record.specs.declared.header.Header.{Header}
-use Rattle.dspec_record.specs.declared.header.Header.TheVariants as header
-use Rattle.dspec_deeds.specs.declared.calls.Actor.{Actor}
-use Rattle.dspec_deeds.specs.declared.calls.Actor.TheVariants as actor
-use Rattle.dspec_deeds.specs.declared.calls.CpuOp.{CpuOp}
-use Rattle.dspec_deeds.specs.declared.calls.CpuOp.TheVariants.{Trace, Speculation as Open, Speculate, Commit, Discard, Service}
-use Rattle.dspec_deeds.specs.declared.calls.ConsumerOp.{ConsumerOp}
-use Rattle.dspec_deeds.specs.declared.calls.ConsumerOp.TheVariants.{Ask, Take, GiveBack, Clean, Stop}
-use Rattle.dspec_deeds.specs.declared.calls.Turn.{Turn}
-use Rattle.dspec_deeds.specs.declared.calls.Turn.TheVariants.{BeginCpu, BeginConsumer, Step, RunCpu, RunConsumer}
-use Rattle.dspec_schedule.specs.declared.fault.LineKind.{LineKind}
-use Rattle.dspec_schedule.specs.declared.fault.LineKind.TheVariants.{UnknownWord, WordCount}
-use Rattle.dspec_schedule.specs.declared.grammar.ActorCall.{ActorCall}
-use Rattle.dspec_schedule.specs.declared.grammar.ActorCall.TheVariants as call
-use Rattle.dspec_schedule.specs.Steps.{◌>>=◌}
+use Rattle.std.specs.Prelude.{ℕ, ◌/◌, ◌%◌, ◌==◌, nat_le, nat_lt, ◌&&◌, Bool, List, [], ◌∷◌, length, if◌then◌else◌, bytes_eq, codes, Result, Ok, Err}
 use Rattle.dspec_schedule.specs.LineWords.{small_number_of, wide_number_of, numbers_of, only_word, no_word}
+use Rattle.dspec_schedule.specs.Steps.{◌>>=◌}
+use Rattle.dspec_schedule.specs.Words.Outside.{Record, Speculation, Header, Actor, CpuOp, Trace, Open, Speculate, Commit, Discard, Service, ConsumerOp, Ask, Take, GiveBack, Clean, Stop, Turn}
+use Rattle.dspec_schedule.specs.Words.Outside.{BeginCpu, BeginConsumer, Step, RunCpu, RunConsumer}
+use Rattle.dspec_schedule.specs.declared.{fault.LineKind.LineKind, fault.LineKind.TheVariants.UnknownWord, fault.LineKind.TheVariants.WordCount, grammar.ActorCall.ActorCall}
+use Rattle.dspec_record.specs.declared.header.Header.TheVariants as header
+use Rattle.dspec_deeds.specs.declared.calls.Actor.TheVariants as actor
+use Rattle.dspec_schedule.specs.declared.grammar.ActorCall.TheVariants as call
 
 -- `consumer`, or the number of a CPU
 unfoldable pub actor_read : List ℕ → Result Actor LineKind

@@ -1,11 +1,7 @@
 -- Cited by calls. How the bytes of a schedule's line are read as words and numbers.
-use Rattle.std.specs.Prelude.{ℕ, ◌==◌, ◌^◌, not, ◌&&◌, nat_le, nat_lt, Bool, false, List, [], ◌∷◌, length, filter, slice_index, if◌then◌else◌, Result, Ok, Err}
-use Rattle.std.specs.List.{slice_split}
-use Rattle.std.specs.Str.{all_ascii_digits}
-use Rattle.std.specs.Str.Parse.{digits_value}
-use Rattle.dspec_schedule.specs.declared.fault.LineKind.{LineKind}
-use Rattle.dspec_schedule.specs.declared.fault.LineKind.TheVariants.{BadNumber, WordCount}
-use Rattle.dspec_schedule.specs.Steps.{each}
+use Rattle.std.specs.{List.slice_split, Prelude.ℕ, Prelude.◌==◌, Prelude.◌^◌, Prelude.not, Prelude.◌&&◌, Prelude.nat_le, Prelude.nat_lt, Prelude.Bool, Prelude.false, Prelude.List, Prelude.[]}
+use Rattle.std.specs.{Prelude.◌∷◌, Prelude.length, Prelude.filter, Prelude.slice_index, Prelude.if◌then◌else◌, Prelude.Result, Prelude.Ok, Prelude.Err, Str.all_ascii_digits, Str.Parse.digits_value}
+use Rattle.dspec_schedule.specs.{Steps.each, declared.fault.LineKind.LineKind, declared.fault.LineKind.TheVariants.BadNumber, declared.fault.LineKind.TheVariants.WordCount}
 
 -- a space, or a graphic character of ASCII
 abbrev pub is_printable : ℕ → Bool

@@ -1,19 +1,11 @@
 -- Cited by calls. What the text of a schedule says, or which of its lines has the first fault.
-use Rattle.std.specs.Prelude.{◌≡◌, ℕ, ◌+◌, ◌==◌, ◌&&◌, Bool, true, false, not, List, [], ◌∷◌, ◌++◌}
-use Rattle.std.specs.Prelude.{length, if◌then◌else◌, bytes_eq, codes, Option, Some, None, unwrap_or, is_none, IfSome, Result, Ok, Err}
 use Rattle.std.specs.List.{slice_split, list_all}
-use Rattle.dspec_schedule.specs.Words.Outside.{EnabledRows}
-use Rattle.dspec_record.specs.declared.header.Header.{Header}
+use Rattle.std.specs.Prelude.{◌≡◌, ℕ, ◌+◌, ◌==◌, ◌&&◌, Bool, true, false, not, List, [], ◌∷◌, ◌++◌, length, if◌then◌else◌, bytes_eq, codes, Option, Some, None, unwrap_or, is_none, IfSome, Result}
+use Rattle.std.specs.Prelude.{Ok, Err}
+use Rattle.dspec_schedule.specs.{Calls.turn_read, LineWords.is_printable, LineWords.words_of_line, SetUp.config_read, SetUp.enabling_read, SetUp.header_of_words, SetUp.policy_of_words, Steps.◌>>=◌}
+use Rattle.dspec_schedule.specs.{Steps.at_line, Words.Outside.EnabledRows, Words.Outside.Header, Words.Outside.Config, Words.Outside.Policy, Words.Outside.Turn, declared.fault.LineKind.LineKind}
+use Rattle.dspec_schedule.specs.{declared.fault.LineKind.TheVariants.NotPrintable, declared.fault.LineKind.TheVariants.NoConfig}
 use Rattle.dspec_record.specs.declared.header.Header.TheVariants.{One}
-use Rattle.dspec_deeds.specs.declared.config.Config.{Config}
-use Rattle.dspec_deeds.specs.declared.config.Policy.{Policy}
-use Rattle.dspec_deeds.specs.declared.calls.Turn.{Turn}
-use Rattle.dspec_schedule.specs.declared.fault.LineKind.{LineKind}
-use Rattle.dspec_schedule.specs.declared.fault.LineKind.TheVariants.{NotPrintable, NoConfig}
-use Rattle.dspec_schedule.specs.Calls.{turn_read}
-use Rattle.dspec_schedule.specs.SetUp.{config_read, enabling_read, header_of_words, policy_of_words}
-use Rattle.dspec_schedule.specs.Steps.{◌>>=◌, at_line}
-use Rattle.dspec_schedule.specs.LineWords.{is_printable, words_of_line}
 
 -- a schedule: its configuration with its line, the header that a line names, whether a line names the policy, its
 -- enablings where there are any, and its turns with their lines

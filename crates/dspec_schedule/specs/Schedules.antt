@@ -1,14 +1,10 @@
 -- Cited by calls. What a schedule in memory holds, and how the faults of reading it and of its play are told.
 use Rattle.std.specs.Prelude.{◌≡◌, ℕ, List, slice_index_or, Result, Err}
-use Rattle.dspec_interleaving.specs.declared.outcome.PlayFault.{PlayFault}
-use Rattle.dspec_interleaving.specs.declared.outcome.PlayFault.TheVariants.{Setup as setup, NoSuchActor as no_such_actor, Busy as busy}
-use Rattle.dspec_interleaving.specs.declared.outcome.PlayFault.TheVariants.{IdleStep as idle_step, BadRecord as bad_record, Memory as play_memory}
-use Rattle.dspec_schedule.specs.declared.fault.LineKind.{LineKind}
-use Rattle.dspec_schedule.specs.declared.fault.LineKind.TheVariants.{ConfigRefused, NoSuchActor, Busy, IdleStep, BadRecord}
-use Rattle.dspec_schedule.specs.declared.fault.ScheduleFault.{ScheduleFault}
-use Rattle.dspec_schedule.specs.declared.fault.ScheduleFault.TheVariants.{Line, Memory}
-use Rattle.dspec_schedule.specs.declared.schedule.Schedule.{Schedule}
 use Rattle.dspec_schedule.specs.Reading.{Plan}
+use Rattle.dspec_schedule.specs.Words.Outside.{PlayFault, setup, no_such_actor, busy, idle_step, bad_record, play_memory}
+use Rattle.dspec_schedule.specs.declared.fault.LineKind.{LineKind, TheVariants.ConfigRefused, TheVariants.NoSuchActor, TheVariants.Busy, TheVariants.IdleStep, TheVariants.BadRecord}
+use Rattle.dspec_schedule.specs.declared.fault.ScheduleFault.{ScheduleFault, TheVariants.Line, TheVariants.Memory}
+use Rattle.dspec_schedule.specs.declared.schedule.Schedule.{Schedule}
 
 -- what a schedule in memory holds
 abbrev pub plan_of : Schedule → Plan

@@ -1,18 +1,12 @@
 -- Cited by calls. What the lines before the first turn say: the configuration, the header, the policy, and the enablings.
 use Rattle.std.specs.Prelude.{ℕ, ◌==◌, nat_le, nat_lt, ◌&&◌, Bool, List, [], ◌∷◌, ◌++◌, length, if◌then◌else◌, Option, Some, None, Result, Ok, Err, is_ok, not, bytes_eq, codes}
-use Rattle.dspec_schedule.specs.Words.Outside.{EnabledRows, start_fault}
-use Rattle.dspec_record.specs.declared.field.Field.{Field}
-use Rattle.dspec_record.specs.declared.field.Field.TheVariants.{One, Two, Four, Eight}
-use Rattle.dspec_record.specs.declared.header.Header.{Header}
-use Rattle.dspec_record.specs.declared.header.Header.TheVariants as header
-use Rattle.dspec_deeds.specs.declared.config.Config.{Config}
-use Rattle.dspec_deeds.specs.declared.config.Policy.{Policy}
-use Rattle.dspec_deeds.specs.declared.config.Policy.TheVariants as policy
-use Rattle.dspec_deeds.specs.declared.config.StartFault.{StartFault}
+use Rattle.dspec_schedule.specs.LineWords.{small_number_of, wide_number_of, numbers_of, only_word}
+use Rattle.dspec_schedule.specs.Steps.{◌>>=◌, each}
+use Rattle.dspec_schedule.specs.Words.Outside.{EnabledRows, start_fault, Field, One, Two, Four, Eight, Header, Config, Policy, StartFault}
 use Rattle.dspec_schedule.specs.declared.fault.LineKind.{LineKind}
 use Rattle.dspec_schedule.specs.declared.fault.LineKind.TheVariants.{BadNumber, WordCount, ConfigRefused, BadEnabling, BadHeader, BadPolicy}
-use Rattle.dspec_schedule.specs.Steps.{◌>>=◌, each}
-use Rattle.dspec_schedule.specs.LineWords.{small_number_of, wide_number_of, numbers_of, only_word}
+use Rattle.dspec_record.specs.declared.header.Header.TheVariants as header
+use Rattle.dspec_deeds.specs.declared.config.Policy.TheVariants as policy
 
 -- the configuration of six words, in the order of its fields, with the policy where none is named
 unfoldable pub numbered : List ℕ → List ℕ → List ℕ → List ℕ → List ℕ → List ℕ → Result Config LineKind

@@ -11,8 +11,3 @@ pub use Rattle.dspec_schedule.specs.Schedules.{fault_as_told, IsReadingFault, pl
 pub use Rattle.dspec_schedule.specs.SetUp.{added_to}
 unfoldable pub use Rattle.dspec_schedule.specs.SetUp.{enabling_read, field_of_word, header_of_words}
 pub use Rattle.dspec_schedule.specs.Steps.{at_line, each, ◌>>=◌}
-pub use Rattle.dspec_schedule.specs.declared.fault.LineKind.{LineKind}
-pub use Rattle.dspec_schedule.specs.declared.fault.LineKind.TheVariants.{BadEnabling, BadHeader, BadNumber, NoConfig}
-pub use Rattle.dspec_schedule.specs.declared.fault.ScheduleFault.{ScheduleFault}
-pub use Rattle.dspec_schedule.specs.declared.fault.ScheduleFault.TheVariants.{Line, Memory}
-pub use Rattle.dspec_schedule.specs.declared.schedule.Schedule.{Schedule}

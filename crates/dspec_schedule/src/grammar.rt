@@ -1,6 +1,6 @@
-ghost use Rattle.std.specs.Prelude.{◌≡◌, map};
-ghost use Rattle.std.specs.Result.{result_map_both};
-ghost use Rattle.dspec_schedule.specs.Calls.{actor_call_of, actor_read, begun_call, call_read, consumer_call_read, cpu_call_read, cpu_read, epid_of, id_of, record_read, speculate_of, stamped_epid_of, stepping_of, turn_read, whole_call};
+ghost use Rattle.std.specs.{Prelude.◌≡◌, Prelude.map, Result.result_map_both};
+ghost use Rattle.dspec_schedule.specs.Calls.{actor_call_of, actor_read, begun_call, call_read, consumer_call_read, cpu_call_read, cpu_read, epid_of, id_of, record_read, speculate_of};
+ghost use Rattle.dspec_schedule.specs.Calls.{stamped_epid_of, stepping_of, turn_read, whole_call};
 ghost use Rattle.dspec_schedule.specs.LineWords.{no_word, only_word};
 
 use crate::fault::LineKind;

@@ -1,6 +1,7 @@
-ghost use Rattle.std.specs.Prelude.{◌≡◌, ◌++◌, take, drop, IfOk, OnOk, string_bytes};
-ghost use Rattle.std.specs.List.{enumerate_from, flat_map, zip};
-ghost use Rattle.dspec_schedule.specs.Printed.{actor_text, answer_text, batch_text, call_line, consumer_op_text, count_text, cpu_lines, cpu_op_text, decided_text, events_text, fates_text, op_text, opening_text, printed_text, printed_record, records_text, report_line, served_text, spoken_word, printed_stamp, stream_for, stream_line, traced_word, values_text, yes_no};
+ghost use Rattle.std.specs.{List.enumerate_from, List.flat_map, List.zip, Prelude.◌≡◌, Prelude.◌++◌, Prelude.take, Prelude.drop, Prelude.IfOk, Prelude.OnOk, Prelude.string_bytes};
+ghost use Rattle.dspec_schedule.specs.Printed.{actor_text, answer_text, batch_text, call_line, consumer_op_text, count_text, cpu_lines, cpu_op_text, decided_text, events_text, fates_text, op_text};
+ghost use Rattle.dspec_schedule.specs.Printed.{opening_text, printed_text, printed_record, records_text, report_line, served_text, spoken_word, printed_stamp, stream_for, stream_line, traced_word};
+ghost use Rattle.dspec_schedule.specs.Printed.{values_text, yes_no};
 
 use dspec_deeds::{
     Actor, Answer, ConsumerOp, CpuOp, Decided, Op, Opening, Report, Served, Spoken, Traced,

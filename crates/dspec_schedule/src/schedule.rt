@@ -1,7 +1,6 @@
 ghost use Rattle.std.specs.Prelude.{◌≡◌, [], ◌∷◌, ◌++◌, false, None, map, option_map, IfOk, IfErr, Ok, slice_index_or};
-ghost use Rattle.dspec_schedule.specs.Reading.{HasOneHeader, no_rows, enabled_by, first_line_of, header_of, headed_by, later_line_of, line_read, policed_by, schedule_of, turned_by, words_read};
-ghost use Rattle.dspec_schedule.specs.Schedules.{IsReadingFault, plan_of};
-ghost use Rattle.dspec_schedule.specs.Steps.{at_line};
+ghost use Rattle.dspec_schedule.specs.{Reading.HasOneHeader, Reading.no_rows, Reading.enabled_by, Reading.first_line_of, Reading.header_of, Reading.headed_by, Reading.later_line_of};
+ghost use Rattle.dspec_schedule.specs.{Reading.line_read, Reading.policed_by, Reading.schedule_of, Reading.turned_by, Reading.words_read, Schedules.IsReadingFault, Schedules.plan_of, Steps.at_line};
 
 use crate::fault::{LineKind, ScheduleFault};
 use crate::grammar::turn;

@@ -1,5 +1,4 @@
-ghost use Rattle.std.specs.Prelude.{◌≡◌, false, map, IfOk, IfSome, MatchOption, true};
-ghost use Rattle.std.specs.List.{list_all};
+ghost use Rattle.std.specs.{List.list_all, Prelude.◌≡◌, Prelude.false, Prelude.map, Prelude.IfOk, Prelude.IfSome, Prelude.MatchOption, Prelude.true};
 ghost use Rattle.dspec_schedule.specs.LineWords.{is_printable, pieces_of, words_of_line};
 
 use std::alloc::{AllocError, Global};

@@ -1,11 +1,9 @@
 -- Four CPUs of a session, taken out and put back.
 use Rattle.std.proofs.Common.{◌≡◌, ℕ, ◌+◌, Bool, true, List, [], ◌∷◌, ◌&&◌, length, Some, Option, refl, sym, ap, ◌∙◌, subst, arith}
 use Rattle.std.specs.Prelude.{slice_get}
-use Rattle.dspec_session.specs.Words.{EnabledRows, offers, Pair, words_of, identity, Consuming, pairs_of, Stays, Four, AllCanWork, AllWorked, Has, IsCpuOf, CanWork, CpuRounds, demonstrated, IsBack}
-use Rattle.dspec_session.specs.Words.{Worked, HaveMade, HaveOffered, HaveRoom, IsDemonstrated, all_finished}
-use Rattle.dspec_cpu.specs.declared.cpu.Cpu.{Cpu}
-use Rattle.dspec_cpu.specs.declared.shared.Shared.{Shared}
-use Rattle.dspec_session_core.specs.declared.session.Session.{Session}
+use Rattle.dspec_session.specs.Words.{EnabledRows, offers, Pair, words_of, identity, Consuming, pairs_of, Stays, AllCanWork, AllWorked, Has, IsCpuOf, CanWork, CpuRounds, demonstrated, IsBack}
+use Rattle.dspec_session.specs.Words.{Worked, HaveMade, HaveOffered, HaveRoom, IsDemonstrated, all_finished, Cpu, Shared, Session}
+use Rattle.dspec_session.specs.declared.demonstration.four.Four.{Four}
 use Rattle.dspec_session.proofs.Fours.{at_each}
 
 listed : Four (Cpu EnabledRows) → List (Cpu EnabledRows)

@@ -1,8 +1,8 @@
 -- A run of the demonstration in which every worker finished.
 use Rattle.std.proofs.Common.{◌≡◌, ℕ, Bool, true, false, not, length, refl, sym, ap, ◌∙◌, subst}
 use Rattle.std.specs.Prelude.{slice_get}
-use Rattle.dspec_session.specs.Words.{EnabledRows, Demonstration, demonstrated, AreFresh, HaveMade, HaveOffered, IsDemonstrated, IsDone, Stopped, ConsumerRounds, none_taken}
-use Rattle.dspec_session_core.specs.declared.session.Session.{Session}
+use Rattle.dspec_session.specs.Words.{EnabledRows, demonstrated, AreFresh, HaveMade, HaveOffered, IsDemonstrated, IsDone, Stopped, ConsumerRounds, none_taken, Session}
+use Rattle.dspec_session.specs.declared.demonstration.showing.Demonstration.{Demonstration}
 
 pub is_so : (b : Bool) → not b ≡ false → b ≡ true
 is_so true e = refl

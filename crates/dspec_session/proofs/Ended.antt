@@ -1,18 +1,11 @@
 -- What is left of the session of the demonstration.
 use Rattle.std.proofs.Common.{◌≡◌, ℕ, zero, suc, ◌<◌, ◌==◌, Bool, true, false, List, [], length, Some, None, Option, refl, sym, ap, ◌∙◌, subst, arith}
-use Rattle.std.specs.Prelude.{slice_get}
 use Rattle.std.proofs.lemmas.Option.{slice_get_within}
+use Rattle.std.specs.Prelude.{slice_get}
 use Rattle.dspec_session.specs.Words.{Record, EnabledRows, SlotState, settle_at, is_granted, ack, word_at, offers, records_of_report, own_closed, own_closed_slot, IsClosedBy, IsLeftBy, Consuming}
-use Rattle.dspec_session.specs.Words.{IsConsumerOf, IsSameConsumer, Has, HasAt, words_of, DemoLine, AllTold, HaveOffered, IsDemonstrated}
-use Rattle.dspec_record.specs.declared.field.Shape.{Shape}
-use Rattle.dspec_deeds.specs.declared.config.Config.{Config}
-use Rattle.dspec_deeds.specs.declared.deed.Deed.{Deed}
-use Rattle.dspec_deeds.proofs.OwnReads.{reads}
-use Rattle.dspec_deeds.proofs.TestLemmas.{number_is_itself}
-use Rattle.dspec_ring.specs.declared.batch.Batch.{Batch}
-use Rattle.dspec_cpu.specs.declared.cpu.Cpu.{Cpu}
-use Rattle.dspec_session_core.specs.declared.session.Session.{Session}
-use Rattle.dspec_session_core.specs.declared.left.Left.{Left}
+use Rattle.dspec_session.specs.Words.{IsConsumerOf, IsSameConsumer, Has, HasAt, words_of, AllTold, HaveOffered, IsDemonstrated, Shape, Config, Deed, Batch, Cpu, Session, Left}
+use Rattle.dspec_session.specs.declared.demonstration.lines.DemoLine.{DemoLine}
+use Rattle.dspec_deeds.proofs.{OwnReads.reads, TestLemmas.number_is_itself}
 use Rattle.dspec_session_core.proofs.PromisedBy.{there_is}
 
 -- the settlements of the close offer nothing

@@ -1,8 +1,7 @@
 -- A worker that was started, and what it gave back.
 use Rattle.std.proofs.Common.{rules, ◌≡◌, Bool, subst}
 use Rattle.std.specs.Prelude.{Option, Some, None, IfSome, IsSome}
-use Rattle.dspec_session.specs.Words.{EnabledRows, CameBack}
-use Rattle.dspec_cpu.specs.declared.cpu.Cpu.{Cpu}
+use Rattle.dspec_session.specs.Words.{EnabledRows, CameBack, Cpu}
 
 -- what a worker's promise is about is what it was started with
 pub is_back : {H : Type 0} (worker : Option H) (taken : H → Cpu EnabledRows) (old new : Cpu EnabledRows) (finished : Bool) → IfSome worker (λ h. taken h ≡ old)

@@ -1,11 +1,7 @@
 -- A session before any call.
 use Rattle.std.proofs.Common.{◌≡◌, ℕ, ◌≤◌, ap, ◌∙◌, arith, Result, Ok, Err, IfOk, Some}
 use Rattle.std.specs.Prelude.{slice_get}
-use Rattle.dspec_session.specs.Words.{EnabledRows, set_up, words_of, Has, IsFresh, HaveRoom, IsDemonstrated}
-use Rattle.dspec_deeds.specs.declared.config.Config.{Config}
-use Rattle.dspec_deeds.specs.declared.config.StartFault.{StartFault}
-use Rattle.dspec_cpu.specs.declared.cpu.Cpu.{Cpu}
-use Rattle.dspec_session_core.specs.declared.session.Session.{Session}
+use Rattle.dspec_session.specs.Words.{EnabledRows, set_up, words_of, Has, IsFresh, HaveRoom, IsDemonstrated, Config, StartFault, Cpu, Session}
 
 -- no call was made of its CPUs
 pub has_room : (r : Result (Session EnabledRows) StartFault) (k : Config) → 400 ≤ k.max_calls → IfOk r (λ s. set_up (words_of s.shared) ≡ k) → IfOk r (λ s. IsDemonstrated s)

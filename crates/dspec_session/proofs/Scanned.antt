@@ -1,11 +1,8 @@
 -- A call of speculation is one call, and offers nothing.
 use Rattle.std.proofs.Common.{◌≡◌, ℕ, ◌+◌, Bool, true, false, List, [], ◌∷◌, ◌++◌, refl, ◌∙◌, ap, if◌then◌else◌, ◌≤◌, ◌<◌, ◌↔◌, arith, rules}
-use Rattle.dspec_deeds.specs.declared.calls.Opening.{Opening}
+use Rattle.dspec_session.specs.Words.{Opening, Deed, Scan, offers, calls, misses, opening_deeds, is_worn_opening}
 use Rattle.dspec_deeds.specs.declared.calls.Opening.TheVariants as opening
-use Rattle.dspec_deeds.specs.declared.deed.Deed.{Deed}
-use Rattle.dspec_deeds.specs.declared.deed.Deed.TheVariants.{Scan}
 use Rattle.dspec_deeds.proofs.TestLemmas.{number_is_itself}
-use Rattle.dspec_session.specs.Words.{offers, calls, misses, opening_deeds, is_worn_opening}
 
 missed_offers : (c : ℕ) (bs : List Bool) (xs p : List Deed) → offers c ((misses c bs ++ xs) ++ p) ≡ offers c (xs ++ p)
 missed_offers c [] xs p = refl

@@ -1,8 +1,6 @@
 -- A call of service counts as no call, and offers nothing.
 use Rattle.std.proofs.Common.{◌≡◌, ℕ, zero, suc, ◌+◌, Bool, true, false, List, ◌++◌, ◌∙◌, ap, arith, append_assoc}
-use Rattle.dspec_session.specs.Words.{SlotState, offers, calls, SettledBehind, SettledSlots, with_seal}
-use Rattle.dspec_deeds.specs.declared.deed.Deed.{Deed}
-use Rattle.dspec_table.specs.declared.rule.View.{View}
+use Rattle.dspec_session.specs.Words.{SlotState, offers, calls, SettledBehind, SettledSlots, with_seal, Deed, View}
 
 -- a list reads as another, of offers and of calls
 record ReadsAs (c : ℕ) (p q : List Deed) : Type 0 where

@@ -1,7 +1,6 @@
 -- What a visit of the demonstration's consumer came to.
 use Rattle.std.proofs.Common.{◌≡◌, ℕ, ◌<◌, ◌≤◌, inl, inr, Bool, true, false, Result, Ok, Err, OnErr, OnOk, MatchBool, arith}
-use Rattle.dspec_ring.specs.declared.batch.Batch.{Batch}
-use Rattle.dspec_session.specs.Words.{GaveBack, IsNotTakenBack, Consuming, IsBackOrRefused}
+use Rattle.dspec_session.specs.Words.{Batch, GaveBack, IsNotTakenBack, Consuming, IsBackOrRefused}
 
 -- a CPU that is there was asked
 pub asked_there : (A B : Type 0) (asks : Bool) (n c : ℕ) → MatchBool asks ((c < n) × A) ((n ≤ c) × B) → c < n → A

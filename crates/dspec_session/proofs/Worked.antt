@@ -1,7 +1,6 @@
 -- Calls of one CPU, one behind the other.
 use Rattle.std.proofs.Common.{◌≡◌, ℕ, ◌+◌, ◌*◌, true, ◌∙◌, ap, refl, subst, arith}
-use Rattle.dspec_session.specs.Words.{EnabledRows, offers, CpuIdentity, Called, IsBack, Offers, WorkerServed, Worked}
-use Rattle.dspec_cpu.specs.declared.cpu.Cpu.{Cpu}
+use Rattle.dspec_session.specs.Words.{EnabledRows, offers, CpuIdentity, Called, IsBack, Offers, WorkerServed, Worked, Cpu}
 
 back_again : (x y z : Cpu EnabledRows) → IsBack x y → IsBack y z → IsBack x z
 back_again x y z a b = record { same = b.same ∙ a.same; worn = b.worn ∙ a.worn }

@@ -1,10 +1,6 @@
 -- Serves proofs. What four workers are given, and give back.
 use Rattle.std.specs.Prelude.{Bool}
-use Rattle.dspec_session.specs.Words.Outside.{EnabledRows}
-use Rattle.dspec_cpu.specs.declared.cpu.Cpu.{Cpu}
-use Rattle.dspec_cpu.specs.declared.shared.Shared.{Shared}
-use Rattle.dspec_session.specs.declared.demonstration.four.Four.{Four}
-use Rattle.dspec_session.specs.Demonstrated.{CameBack, CanWork}
+use Rattle.dspec_session.specs.{Demonstrated.CameBack, Demonstrated.CanWork, Words.Outside.EnabledRows, Words.Outside.Cpu, Words.Outside.Shared, declared.demonstration.four.Four.Four}
 
 -- each can make its rounds
 pub record AllCanWork (shared : Shared) (cpus : Four (Cpu EnabledRows)) : Type 0 where

@@ -1,19 +1,8 @@
 -- Cited by calls. What the demonstration traces, and what its calls leave of a CPU.
 use Rattle.std.specs.Prelude.{ℕ, ◌≡◌, ◌≤◌, ◌+◌, ◌%◌, ◌==◌, Bool, true, List, [], ◌∷◌, ◌++◌, if◌then◌else◌}
 use Rattle.dspec_session.specs.Words.Outside.{Record, EnabledRows, Speculation, offers, id_given, known, decided_deeds, spoken_deeds, traced_deeds, opening_deeds, Serves, buffers_of, Has, calls_of}
-use Rattle.dspec_session.specs.Words.Outside.{config_of, number_in, schema_of, seat_of, worn_of, IsCallable, identity}
-use Rattle.dspec_record.specs.declared.field.Field.TheVariants.{Four}
-use Rattle.dspec_record.specs.declared.header.Header.TheVariants.{One}
-use Rattle.dspec_deeds.specs.declared.calls.Traced.{Traced}
-use Rattle.dspec_deeds.specs.declared.calls.Opening.{Opening}
-use Rattle.dspec_deeds.specs.declared.calls.Spoken.{Spoken}
-use Rattle.dspec_deeds.specs.declared.calls.Decided.{Decided}
-use Rattle.dspec_deeds.specs.declared.calls.Served.{Served as ServedSo}
-use Rattle.dspec_deeds.specs.declared.deed.DecideFate.{DecideFate}
-use Rattle.dspec_deeds.specs.declared.deed.Deed.{Deed}
-use Rattle.dspec_deeds.specs.declared.deed.Deed.TheVariants.{Commit, Discard}
-use Rattle.dspec_cpu.specs.declared.cpu.Cpu.{Cpu}
-use Rattle.dspec_cpu.specs.declared.shared.Shared.{Shared}
+use Rattle.dspec_session.specs.Words.Outside.{config_of, number_in, schema_of, seat_of, worn_of, IsCallable, identity, Four, One, Traced, Opening, Spoken, Decided, ServedSo, DecideFate, Deed}
+use Rattle.dspec_session.specs.Words.Outside.{Commit, Discard, Cpu, Shared}
 
 -- EPID 1 and EPID 2, each with one field of four bytes
 abbrev pub demonstrated : EnabledRows

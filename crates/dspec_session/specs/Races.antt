@@ -1,13 +1,8 @@
 -- Cited by calls. What the four threads leave of a session.
 use Rattle.std.specs.Prelude.{ℕ, ◌≡◌, ◌≤◌, ◌+◌, Bool, true, ◌&&◌, List, slice_get, Some}
-use Rattle.dspec_session.specs.Words.Outside.{EnabledRows, offers, calls_of, config_of, Has, IsFresh, IsSession, records_of_report}
-use Rattle.dspec_deeds.specs.declared.deed.Deed.{Deed}
-use Rattle.dspec_cpu.specs.declared.cpu.Cpu.{Cpu}
-use Rattle.dspec_session_core.specs.declared.session.Session.{Session}
-use Rattle.dspec_session_core.specs.declared.left.Left.{Left}
-use Rattle.dspec_session.specs.declared.demonstration.four.Four.{Four}
-use Rattle.dspec_session.specs.declared.demonstration.lines.DemoLine.{DemoLine}
 use Rattle.dspec_session.specs.Demonstrated.{CpuRounds, demonstrated}
+use Rattle.dspec_session.specs.Words.Outside.{EnabledRows, offers, calls_of, config_of, Has, IsFresh, IsSession, records_of_report, Deed, Cpu, Session, Left}
+use Rattle.dspec_session.specs.declared.demonstration.{four.Four.Four, lines.DemoLine.DemoLine}
 
 -- the parts of one start, with the schema of the demonstration
 abbrev pub IsDemonstrated : Session EnabledRows → Type 0

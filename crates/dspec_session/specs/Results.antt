@@ -1,18 +1,11 @@
 -- Cited by calls. What a run of the demonstration leaves, and tells.
 use Rattle.std.specs.Prelude.{ℕ, zero, suc, ◌≡◌, true, List, length, slice_get, Some}
-use Rattle.dspec_session.specs.Words.Outside.{EnabledRows, enabled, table_shape, table_accepts, table_text, set_up, words_of, IsClosedBy, Consuming, view_of, Has, HasAt, IsFresh, taken_at, worn_at}
-use Rattle.dspec_session.specs.Words.Outside.{Stopped}
-use Rattle.dspec_cpu.specs.declared.cpu.Cpu.{Cpu}
-use Rattle.dspec_session_core.specs.declared.left.Left.{Left}
-use Rattle.dspec_session_core.specs.declared.session.Session.{Session}
-use Rattle.dspec_session.specs.declared.demonstration.four.Four.{Four}
-use Rattle.dspec_session.specs.declared.demonstration.lines.DemoLine.{DemoLine}
-use Rattle.dspec_session.specs.declared.demonstration.order.Order.{Order}
-use Rattle.dspec_session.specs.declared.demonstration.showing.Demonstration.{Demonstration}
-use Rattle.dspec_session.specs.Demonstrated.{CpuRounds, demonstrated}
-use Rattle.dspec_session.specs.Races.{HaveOffered, IsDemonstrated}
-use Rattle.dspec_session.specs.Rising.{FollowsLeft}
-use Rattle.dspec_session.specs.Visits.{ConsumerRounds, none_taken}
+use Rattle.dspec_session.specs.{Demonstrated.CpuRounds, Demonstrated.demonstrated, Races.HaveOffered, Races.IsDemonstrated, Rising.FollowsLeft, Visits.ConsumerRounds, Visits.none_taken}
+use Rattle.dspec_session.specs.{Words.Outside.EnabledRows, Words.Outside.enabled, Words.Outside.table_shape, Words.Outside.table_accepts, Words.Outside.table_text, Words.Outside.set_up}
+use Rattle.dspec_session.specs.{Words.Outside.words_of, Words.Outside.IsClosedBy, Words.Outside.Consuming, Words.Outside.view_of, Words.Outside.Has, Words.Outside.HasAt, Words.Outside.IsFresh}
+use Rattle.dspec_session.specs.{Words.Outside.taken_at, Words.Outside.worn_at, Words.Outside.Stopped, Words.Outside.Cpu, Words.Outside.Left, Words.Outside.Session}
+use Rattle.dspec_session.specs.{declared.demonstration.four.Four.Four, declared.demonstration.lines.DemoLine.DemoLine, declared.demonstration.order.Order.Order}
+use Rattle.dspec_session.specs.{declared.demonstration.showing.Demonstration.Demonstration}
 
 -- the consumer made a thousand rounds, in which it followed what it took, and then stopped the session
 pub record ConsumerDone (orders : Four Order) (consumer : Consuming) : Type 0 where

@@ -1,10 +1,6 @@
 -- Cited by calls. Whether the values of EPID 1 rise strictly, followed from record to record.
 use Rattle.std.specs.Prelude.{ℕ, ◌≡◌, ◌⊎◌, ◌==◌, Bool, true, false, ◌&&◌, nat_lt, List, [], ◌∷◌, Option, Some, None, if◌then◌else◌}
-use Rattle.dspec_session.specs.Words.Outside.{Record, BufferText}
-use Rattle.dspec_record.specs.declared.field.Shape.{Shape}
-use Rattle.dspec_ring.specs.declared.batch.Batch.{Batch}
-use Rattle.dspec_session_core.specs.declared.left.Left.{Left}
-use Rattle.dspec_session.specs.declared.demonstration.order.Order.{Order}
+use Rattle.dspec_session.specs.{Words.Outside.Record, Words.Outside.BufferText, Words.Outside.Shape, Words.Outside.Batch, Words.Outside.Left, declared.demonstration.order.Order.Order}
 
 abbrev pub is_above : Option ℕ → ℕ → Bool
 is_above None v = true

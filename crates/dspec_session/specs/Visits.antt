@@ -1,10 +1,9 @@
 -- Cited by calls. What the demonstration's consumer does in its rounds, and what it follows of the batches.
 use Rattle.std.specs.Prelude.{ℕ, ◌≡◌, ◌<◌, ◌+◌, ◌⊎◌, true, None}
-use Rattle.dspec_session.specs.Words.Outside.{EnabledRows, enabled, table_shape, table_accepts, table_text, Asked, FoundNone, GaveBack, IsNotTakenBack, Took, Cleaned, Consuming, set_up_of, view_of}
-use Rattle.dspec_ring.specs.declared.batch.Batch.{Batch}
-use Rattle.dspec_session.specs.declared.demonstration.four.Four.{Four}
-use Rattle.dspec_session.specs.declared.demonstration.order.Order.{Order}
 use Rattle.dspec_session.specs.Rising.{FollowsText}
+use Rattle.dspec_session.specs.Words.Outside.{EnabledRows, enabled, table_shape, table_accepts, table_text, Asked, FoundNone, GaveBack, IsNotTakenBack, Took, Cleaned, Consuming, set_up_of, view_of}
+use Rattle.dspec_session.specs.Words.Outside.{Batch}
+use Rattle.dspec_session.specs.declared.demonstration.{four.Four.Four, order.Order.Order}
 
 -- before anything was read
 abbrev pub none_read : Order

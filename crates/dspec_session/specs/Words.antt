@@ -7,6 +7,3 @@ pub use Rattle.dspec_session.specs.Races.{all_finished, AllBalanced, AllTold, Ar
 pub use Rattle.dspec_session.specs.Results.{AllFollow, IsDone, LineFollows, order_at}
 pub use Rattle.dspec_session.specs.Rising.{FollowsText, with_records}
 pub use Rattle.dspec_session.specs.Visits.{ConsumerRounds, IsBackOrRefused, no_round, none_taken, one_round}
-pub use Rattle.dspec_session.specs.declared.demonstration.four.Four.{Four}
-pub use Rattle.dspec_session.specs.declared.demonstration.lines.DemoLine.{DemoLine}
-pub use Rattle.dspec_session.specs.declared.demonstration.showing.Demonstration.{Demonstration}

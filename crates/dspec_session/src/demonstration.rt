@@ -1,6 +1,5 @@
 ghost use Rattle.std.specs.Prelude.{IfOk};
-ghost use Rattle.dspec_session.specs.Races.{AllBalanced};
-ghost use Rattle.dspec_session.specs.Results.{AreLinesOf, IsDone};
+ghost use Rattle.dspec_session.specs.{Races.AllBalanced, Results.AreLinesOf, Results.IsDone};
 
 mod calling;
 mod crew;

@@ -1,16 +1,11 @@
 -- What a clean's loads and exchanges leave its seat.
-use Rattle.std.proofs.lemmas.Bool.Decides.{nat_tests}
 use Rattle.std.proofs.Common.{true≢false, ◌≡◌, ℕ, zero, suc, ◌+◌, ◌*◌, ◌<◌, ◌≤◌, ◌==◌, Bool, true, false, if◌then◌else◌, List, [], ◌∷◌, ◌++◌, length, map, refl, sym, ap, ◌∙◌, subst, arith}
 use Rattle.std.proofs.Common.{append_assoc}
-use Rattle.std.proofs.lemmas.List.{map-append}
+use Rattle.std.proofs.lemmas.{Bool.Decides.nat_tests, List.map-append}
 use Rattle.std.specs.Prelude.{Result, Ok, Err, MatchResult, IsOk, is_ok}
 use Rattle.dspec_session_core.specs.Words.{SlotState, awaits, word_at, ack, of_consumer, Since, MayReap, acted, LookedWord, LoadedAck, ReapedWord, Acknowledged, MissesOne, CleanedSlot}
-use Rattle.dspec_session_core.specs.Words.{waits_for_none, waits_for_one, released, CleanedSlots, Cleaned}
-use Rattle.dspec_deeds.specs.declared.config.Config.{Config}
-use Rattle.dspec_deeds.specs.declared.deed.Deed.{Deed}
-use Rattle.dspec_deeds.specs.declared.deed.Deed.TheVariants.{Release}
+use Rattle.dspec_session_core.specs.Words.{waits_for_none, waits_for_one, released, CleanedSlots, Cleaned, Config, Deed, Release, View}
 use Rattle.dspec_deeds.proofs.Awaiting.{awaiting}
-use Rattle.dspec_table.specs.declared.rule.View.{View}
 use Rattle.dspec_table.proofs.Reaping.{acked_since}
 use Rattle.dspec_session_core.proofs.Waiting.{Waits, awaited_waits, waits_since}
 

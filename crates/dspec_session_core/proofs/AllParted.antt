@@ -1,21 +1,12 @@
 -- CPUs that have parted from their seats, in a list, and the last of them.
 use Rattle.std.proofs.Common.{◌≡◌, ℕ, ◌+◌, ◌<◌, List, [], ◌∷◌, ◌++◌, length, map, reverse, Option, refl, sym, ap, ◌∙◌, subst, append-nil, append_assoc, arith}
+use Rattle.std.proofs.lemmas.{List.length-append, List.length-map, List.map-append, Option.slice_get_read}
 use Rattle.std.specs.Prelude.{Bool, slice_index_or}
-use Rattle.std.proofs.lemmas.List.{length-append, length-map, map-append}
-use Rattle.std.proofs.lemmas.Option.{slice_get_read}
-use Rattle.dspec_session_core.specs.Words.{Record, AreSeats, set_up, ConsumerKnows, rest_with, schema_of, seat_of, RestHasList, Left, Parted, AllParted, AreLeft, AreParting, HasParted, IsRestOf}
-use Rattle.dspec_session_core.specs.Words.{Leaves}
-use Rattle.dspec_record.specs.declared.field.Shape.{Shape}
-use Rattle.dspec_deeds.specs.declared.config.Config.{Config}
-use Rattle.dspec_deeds.specs.declared.deed.Deed.{Deed}
-use Rattle.dspec_table.specs.declared.seats.CpuSeat.{CpuSeat}
+use Rattle.dspec_session_core.specs.{Leaving.Has, Words.Record, Words.AreSeats, Words.set_up, Words.ConsumerKnows, Words.rest_with, Words.schema_of, Words.seat_of, Words.RestHasList}
+use Rattle.dspec_session_core.specs.{Words.AllParted, Words.AreLeft, Words.AreParting, Words.HasParted, Words.IsRestOf, Words.Leaves, Words.Shape, Words.Config, Words.Deed, Words.CpuSeat, Words.Cpu}
+use Rattle.dspec_session_core.specs.{Words.CpuRest, declared.left.Left.Left, declared.parted.Parted.Parted}
 use Rattle.dspec_table.specs.declared.seats.Words.{Words}
-use Rattle.dspec_cpu.specs.declared.cpu.Cpu.{Cpu}
-use Rattle.dspec_cpu.specs.declared.rest.CpuRest.{CpuRest}
-use Rattle.dspec_session_core.specs.Leaving.{Has}
-use Rattle.dspec_session_core.proofs.Ends.{none_in}
-use Rattle.dspec_session_core.proofs.FirstParted.{next_left}
-use Rattle.dspec_session_core.proofs.Partings.{are_seats, one_parted}
+use Rattle.dspec_session_core.proofs.{Ends.none_in, FirstParted.next_left, Partings.are_seats, Partings.one_parted}
 
 module _ {S : Type 0} (shape_of : S → ℕ → Option Shape) (accepted : S → Record → Bool) (text : S → Record → List ℕ) where
   -- one more has parted

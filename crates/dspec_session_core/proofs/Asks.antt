@@ -1,10 +1,9 @@
 -- The asks that the consumer knows, behind one more.
-use Rattle.std.proofs.lemmas.Bool.Decides.{nat_tests}
 use Rattle.std.proofs.Common.{◌≡◌, ℕ, ◌==◌, ◌+◌, ◌≤◌, length, arith, Bool, true, false, if◌then◌else◌, List, refl, ap, ◌∙◌, subst}
+use Rattle.std.proofs.lemmas.Bool.Decides.{nat_tests}
 use Rattle.std.specs.Prelude.{slice_get, slice_index, slice_index_or, Some}
 use Rattle.dspec_deeds.proofs.TestLemmas.{same_number, numbers_differ}
-use Rattle.dspec_table.specs.declared.rule.View.{View}
-use Rattle.dspec_session_core.specs.Words.{with_ask, StoredAsk, ConsumerKnows}
+use Rattle.dspec_session_core.specs.Words.{View, with_ask, StoredAsk, ConsumerKnows}
 use Rattle.dspec_session_core.proofs.Ends.{end_at}
 use Rattle.dspec_table.proofs.AsksKept.{with_ask_same, with_ask_other}
 

@@ -1,9 +1,7 @@
 -- What looks at the slots that wait for a CPU leave the consumer's seat.
-use Rattle.std.proofs.lemmas.Bool.Decides.{nat_tests}
 use Rattle.std.proofs.Common.{◌≡◌, ℕ, zero, suc, ◌+◌, ◌*◌, ◌≤◌, Bool, true, false, if◌then◌else◌, ◌∙◌, subst, arith}
-use Rattle.dspec_deeds.specs.declared.config.Config.{Config}
-use Rattle.dspec_table.specs.declared.rule.View.{View}
-use Rattle.dspec_session_core.specs.Words.{AwaitedIn, AwaitedSlots, Awaited}
+use Rattle.std.proofs.lemmas.Bool.Decides.{nat_tests}
+use Rattle.dspec_session_core.specs.Words.{Config, View, AwaitedIn, AwaitedSlots, Awaited}
 use Rattle.dspec_session_core.proofs.Acknowledging.{Idled, idled_none, idled_more, idled_load}
 
 -- so many steps at most, and nothing entered

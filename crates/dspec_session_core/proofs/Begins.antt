@@ -1,17 +1,11 @@
 -- A session's CPUs, made one by one.
-use Rattle.std.proofs.lemmas.Bool.Decides.{nat_tests}
 use Rattle.std.proofs.Common.{◌≡◌, ℕ, zero, suc, ◌+◌, ◌<◌, ◌⊎◌, inl, inr, ⊎_elim, List, [], ◌∷◌, ◌++◌, length, map, refl, sym, ap, ◌∙◌, subst, arith}
+use Rattle.std.proofs.lemmas.{Bool.Decides.nat_tests, List.length-append, List.length-map, List.map-append, List.Elements.All-nil, List.Elements.All-push}
 use Rattle.std.specs.Prelude.{Some, None, All, remove, slice_get, slice_index_or}
-use Rattle.std.proofs.lemmas.List.{length-append, length-map, map-append}
-use Rattle.std.proofs.lemmas.List.Elements.{All-nil, All-push}
-use Rattle.dspec_deeds.specs.declared.config.Config.{Config}
-use Rattle.dspec_deeds.specs.declared.deed.Deed.{Deed}
-use Rattle.dspec_session_core.specs.Words.{start_fault, Pair, ConsumerKnows, IsUnusedConsumer, known, cpu_of, fresh_seat, set_up, FreshSeats, IsAt, IsConsumerAt, end_of, words_of, identity, Session}
-use Rattle.dspec_session_core.specs.Words.{IsConsumerOf, pairs_of, IsCpuOf, IsSession, IsFresh}
-use Rattle.dspec_table.specs.declared.seats.ConsumerSeat.{ConsumerSeat}
-use Rattle.dspec_table.specs.declared.seats.CpuSeat.{CpuSeat}
+use Rattle.dspec_session_core.specs.Words.{Config, Deed, start_fault, Pair, ConsumerKnows, IsUnusedConsumer, known, cpu_of, fresh_seat, set_up, FreshSeats, IsAt, IsConsumerAt, end_of, words_of}
+use Rattle.dspec_session_core.specs.Words.{identity, IsConsumerOf, pairs_of, IsCpuOf, IsSession, IsFresh, ConsumerSeat, CpuSeat, Cpu}
+use Rattle.dspec_session_core.specs.declared.session.Session.{Session}
 use Rattle.dspec_table.specs.declared.seats.Words.{Words}
-use Rattle.dspec_cpu.specs.declared.cpu.Cpu.{Cpu}
 
 -- what stands in a list behind a push
 pub pushed : {A : Type 0} (xs : List A) (y : A) (i : ℕ) (x : A) → slice_get (xs ++ y ∷ []) i ≡ Some x → (slice_get xs i ≡ Some x) ⊎ ((i ≡ length xs) × (y ≡ x))

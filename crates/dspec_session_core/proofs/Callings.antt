@@ -1,11 +1,9 @@
 -- A session stays one where a CPU of it is called, or its consumer, or where both meet.
 use Rattle.std.proofs.Common.{arith, ◌≡◌, ℕ, zero, suc, ◌<◌, ◌⊎◌, inl, inr, ⊎_elim, List, ◌∷◌, length, length-set, refl, sym, ap, ◌∙◌, subst}
-use Rattle.std.proofs.lemmas.Bool.Decides.{nat_tests}
+use Rattle.std.proofs.lemmas.{Bool.Decides.nat_tests, Option.slice_get_read}
 use Rattle.std.specs.Prelude.{Some, slice_get, slice_set, slice_index_or}
-use Rattle.std.proofs.lemmas.Option.{slice_get_read}
-use Rattle.dspec_session_core.specs.Words.{start_fault, set_up, words_of, identity, Session, IsConsumerOf, IsSameConsumer, pairs_of, IsCpuOf, IsSession}
-use Rattle.dspec_cpu.specs.declared.cpu.Cpu.{Cpu}
-use Rattle.dspec_cpu.specs.declared.shared.Shared.{Shared}
+use Rattle.dspec_session_core.specs.Words.{start_fault, set_up, words_of, identity, IsConsumerOf, IsSameConsumer, pairs_of, IsCpuOf, IsSession, Cpu, Shared}
+use Rattle.dspec_session_core.specs.declared.session.Session.{Session}
 
 -- what stands in a list in which one element was set
 set_there : {A : Type 0} (xs : List A) (i j : ℕ) (y x : A) → slice_get (slice_set xs i y) j ≡ Some x → ((j ≡ i) × (y ≡ x)) ⊎ (slice_get xs j ≡ Some x)

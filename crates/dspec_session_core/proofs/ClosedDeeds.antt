@@ -1,13 +1,7 @@
 -- The close adds settlements to a CPU's list.
 use Rattle.std.proofs.Common.{◌≡◌, ℕ, zero, suc, Bool, true, false, ◌==◌, if◌then◌else◌, List, [], ◌∷◌, ◌++◌, Option, refl, ap, ◌∙◌}
-use Rattle.dspec_session_core.specs.Words.{Record, Speculation, SlotState, own_closed, did, service, emptied, settled_did, AreSealed, settle_deeds}
-use Rattle.dspec_record.specs.declared.field.Shape.{Shape}
-use Rattle.dspec_deeds.specs.declared.config.Config.{Config}
-use Rattle.dspec_deeds.specs.declared.deed.DecideFate.{DecideFate}
-use Rattle.dspec_deeds.specs.declared.deed.Deed.{Deed}
-use Rattle.dspec_deeds.specs.declared.deed.Deed.TheVariants.{Settle}
+use Rattle.dspec_session_core.specs.Words.{Record, Speculation, SlotState, own_closed, did, service, emptied, settled_did, AreSealed, settle_deeds, Shape, Config, DecideFate, Deed, Settle, Batch}
 use Rattle.dspec_promise.proofs.OwnDid.{did_own}
-use Rattle.dspec_ring.specs.declared.batch.Batch.{Batch}
 
 -- the second list has more settlements in front
 abbrev pub AddsSettlements : ℕ → List Deed → List Deed → Type 0

@@ -2,20 +2,11 @@
 use Rattle.std.proofs.Common.{◌≡◌, ℕ, Bool, ◌<◌, [], ◌∷◌, ◌++◌, List, length, reverse, take, Option, Some, None, refl, sym, ap, ◌∙◌, subst, inl, inr, ◌⊎◌, ◌≤◌, slice_get, get_or, arith}
 use Rattle.std.proofs.lemmas.Option.{slice_get_within, slice_get_cases}
 use Rattle.dspec_session_core.specs.Words.{Record, SlotState, part, scan, word_at, closing, batch_records, contents, stream, accepted_first, start_fault, woven, HaveLists, IsWoven, own_closed}
-use Rattle.dspec_session_core.specs.Words.{IsCloseOf, Ended, known, IsSealed, AreSealed, waiting, Left, HoldInOrder, IsAtRest, IsLeftBy, ClosesAs, ClosedFrom}
-use Rattle.dspec_record.specs.declared.field.Shape.{Shape}
-use Rattle.dspec_deeds.specs.declared.config.Config.{Config}
+use Rattle.dspec_session_core.specs.Words.{IsCloseOf, Ended, known, IsSealed, AreSealed, waiting, HoldInOrder, IsAtRest, IsLeftBy, ClosesAs, ClosedFrom, Shape, Config, Deed, View, CpuSeat, Batch}
+use Rattle.dspec_session_core.specs.declared.left.Left.{Left}
 use Rattle.dspec_deeds.specs.declared.calls.Actor.TheVariants.{Cpu}
-use Rattle.dspec_deeds.specs.declared.deed.Deed.{Deed}
-use Rattle.dspec_deeds.proofs.BareReads.{scan_bare}
-use Rattle.dspec_deeds.proofs.Headlines.{headline}
-use Rattle.dspec_deeds.proofs.OwnParts.{own_of_fitting}
-use Rattle.dspec_deeds.proofs.OwnReads.{reads}
-use Rattle.dspec_deeds.proofs.WovenLists.{weaves}
+use Rattle.dspec_deeds.proofs.{BareReads.scan_bare, Headlines.headline, OwnParts.own_of_fitting, OwnReads.reads, WovenLists.weaves}
 use Rattle.dspec_interleaving.proofs.ClosedParts.{closes, cpus_words}
-use Rattle.dspec_table.specs.declared.rule.View.{View}
-use Rattle.dspec_table.specs.declared.seats.CpuSeat.{CpuSeat}
-use Rattle.dspec_ring.specs.declared.batch.Batch.{Batch}
 use Rattle.dspec_session_core.proofs.ClosingRecords.{hold_all, hold_first}
 
 -- there is a seat for each CPU

@@ -1,15 +1,9 @@
 -- The batches of a CPU and its last active buffer hold what it accepted, in order.
 use Rattle.std.proofs.Common.{arith, ◌≡◌, ℕ, ◌+◌, Bool, true, false, ◌&&◌, ◌==◌, if◌then◌else◌, List, [], ◌∷◌, ◌++◌, reverse, length, take, Option, refl, sym, ap, ◌∙◌, subst, subst₂, append_assoc}
-use Rattle.std.proofs.lemmas.Bool.Decides.{nat_tests}
-use Rattle.std.proofs.lemmas.List.{reverse-append, reverse-reverse, append-nil}
+use Rattle.std.proofs.lemmas.{Bool.Decides.nat_tests, List.reverse-append, List.reverse-reverse, List.append-nil}
 use Rattle.dspec_session_core.specs.Words.{Record, Piece, one, block, records, HasPieces, trace_kept, is_copied, Offer, contents, offers, held, active, growing, batches, batch_records, empty_batch}
-use Rattle.dspec_session_core.specs.Words.{stream, taken, Sealing, IsOwn, IsSealed, AreSealed, HoldInOrder}
-use Rattle.dspec_record.specs.declared.field.Shape.{Shape}
-use Rattle.dspec_deeds.specs.declared.config.Config.{Config}
-use Rattle.dspec_deeds.specs.declared.deed.Deed.{Deed}
-use Rattle.dspec_deeds.specs.declared.deed.Deed.TheVariants.{Trace, Commit, Settle, Seal}
+use Rattle.dspec_session_core.specs.Words.{stream, taken, Sealing, IsOwn, IsSealed, AreSealed, HoldInOrder, Shape, Config, Deed, Trace, Commit, Settle, Seal, Batch}
 use Rattle.dspec_deeds.proofs.Prefixes.{stream_in_batches}
-use Rattle.dspec_ring.specs.declared.batch.Batch.{Batch}
 
 -- the contents of two lists, one behind the other
 both_contents : (xs ys : List Offer) → contents (xs ++ ys) ≡ contents xs ++ contents ys

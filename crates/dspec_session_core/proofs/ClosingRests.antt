@@ -1,10 +1,8 @@
 -- Which of a CPU's sealed batches wasn't taken at the close: one at most.
-use Rattle.std.proofs.lemmas.Bool.Decides.{nat_tests}
 use Rattle.std.proofs.Common.{◌≡◌, ℕ, ◌+◌, ◌≤◌, List, [], ◌∷◌, ◌++◌, length, reverse, Option, None, refl, sym, ap, ◌∙◌, append-nil, arith}
-use Rattle.std.proofs.lemmas.List.{reverse-append, length-reverse, length-append}
+use Rattle.std.proofs.lemmas.{Bool.Decides.nat_tests, List.reverse-append, List.length-reverse, List.length-append}
 use mathlib.Core.List.{IsPrefix}
-use Rattle.dspec_ring.specs.declared.batch.Batch.{Batch}
-use Rattle.dspec_session_core.specs.Words.{waiting, rest_of}
+use Rattle.dspec_session_core.specs.Words.{Batch, waiting, rest_of}
 
 -- the batches taken, and the one in hand
 held_back_last : (taken : List Batch) (x : Option Batch) → reverse (taken ++ waiting x) ≡ waiting x ++ reverse taken

@@ -1,11 +1,7 @@
 -- The settlements of the close stand in front of the list before it, CPU by CPU.
 use Rattle.std.proofs.Common.{◌≡◌, ℕ, zero, suc, ◌<◌, ◌≤◌, true, false, ◌==◌, List, [], ◌++◌, Option, refl, sym, ap, ◌∙◌, subst, ⊎_elim, arith}
 use Rattle.std.proofs.lemmas.Bool.Decides.{nat_tests}
-use Rattle.dspec_record.specs.declared.field.Shape.{Shape}
-use Rattle.dspec_session_core.specs.Words.{Speculation, closed_slots, closed_cpus, closing, did, settled_did, settle_deeds, closed_up}
-use Rattle.dspec_deeds.specs.declared.config.Config.{Config}
-use Rattle.dspec_deeds.specs.declared.deed.DecideFate.{DecideFate}
-use Rattle.dspec_deeds.specs.declared.deed.Deed.{Deed}
+use Rattle.dspec_session_core.specs.Words.{Shape, Speculation, closed_slots, closed_cpus, closing, did, settled_did, settle_deeds, closed_up, Config, DecideFate, Deed}
 use Rattle.dspec_deeds.proofs.TestLemmas.{either_way, same_number, other_number}
 use Rattle.dspec_session_core.proofs.ClosedDeeds.{AddsSettlements, did_settlements, did_others, settles}
 

@@ -1,22 +1,13 @@
 -- The end of a session, from what is left of its CPUs.
 use Rattle.std.proofs.Common.{◌≡◌, ℕ, ◌+◌, ◌<◌, List, [], ◌++◌, length, map, reverse, Option, Some, None, refl, sym, ap, ◌∙◌, subst, arith}
-use Rattle.std.specs.Prelude.{Bool, slice_get}
-use Rattle.std.specs.Option.{option_map_or}
-use Rattle.std.proofs.lemmas.List.{length-reverse}
-use Rattle.std.proofs.lemmas.Option.{slice_get_within}
-use Rattle.dspec_session_core.specs.Words.{Record, word_at, own_closed, Ended, known_there, set_up, ConsumerKnows, seat_of, words_of, worn_of, identity, Left, Session, Consuming, IsClosedBy}
-use Rattle.dspec_session_core.specs.Words.{LeftShows, IsClosing, Steady, AllSteady, IsLeft, AreLeft, AreParting, IsCpuOf, IsSession, HasAt, worn_at, taken_at}
-use Rattle.dspec_record.specs.declared.field.Shape.{Shape}
-use Rattle.dspec_deeds.specs.declared.config.Config.{Config}
-use Rattle.dspec_deeds.specs.declared.deed.Deed.{Deed}
-use Rattle.dspec_table.specs.declared.rule.View.{View}
-use Rattle.dspec_table.specs.declared.seats.CpuSeat.{CpuSeat}
-use Rattle.dspec_table.specs.declared.seats.Words.{Words}
-use Rattle.dspec_cpu.specs.declared.cpu.Cpu.{Cpu}
+use Rattle.std.proofs.lemmas.{List.length-reverse, Option.slice_get_within}
+use Rattle.std.specs.{Option.option_map_or, Prelude.Bool, Prelude.slice_get}
 use Rattle.dspec_session_core.specs.Leaving.{Has}
-use Rattle.dspec_session_core.proofs.ClosingLists.{closes_as}
-use Rattle.dspec_session_core.proofs.PromisedBy.{there_is}
-use Rattle.dspec_session_core.proofs.Partings.{all_at_rest, seats_all, closings}
+use Rattle.dspec_session_core.specs.Words.{Record, word_at, own_closed, Ended, known_there, set_up, ConsumerKnows, seat_of, words_of, worn_of, identity, Consuming, IsClosedBy, LeftShows, IsClosing}
+use Rattle.dspec_session_core.specs.Words.{Steady, AllSteady, IsLeft, AreLeft, AreParting, IsCpuOf, IsSession, HasAt, worn_at, taken_at, Shape, Config, Deed, View, CpuSeat, Cpu}
+use Rattle.dspec_session_core.specs.declared.{left.Left.Left, session.Session.Session}
+use Rattle.dspec_table.specs.declared.seats.Words.{Words}
+use Rattle.dspec_session_core.proofs.{ClosingLists.closes_as, Partings.all_at_rest, Partings.seats_all, Partings.closings, PromisedBy.there_is}
 
 module _ {S : Type 0} (shape_of : S → ℕ → Option Shape) (accepted : S → Record → Bool) (text : S → Record → List ℕ) where
   -- one list of each CPU

@@ -1,10 +1,8 @@
 -- The ends of the rings, in a list.
 use Rattle.std.proofs.Common.{◌≡◌, ℕ, ◌<◌, List, [], ◌∷◌, length, refl, ap, ◌∙◌, arith}
-use Rattle.std.specs.Prelude.{slice_get, slice_set, slice_index_or, remove, Some}
-use Rattle.std.specs.Option.{option_map_or}
+use Rattle.std.proofs.lemmas.{List.set-get_or, Option.get_or_from_slice_get, Option.slice_get_read}
+use Rattle.std.specs.{Option.option_map_or, Prelude.slice_get, Prelude.slice_set, Prelude.slice_index_or, Prelude.remove, Prelude.Some}
 use Rattle.dspec_session_core.specs.Words.{ConsumerKnows}
-use Rattle.std.proofs.lemmas.List.{set-get_or}
-use Rattle.std.proofs.lemmas.Option.{get_or_from_slice_get, slice_get_read}
 
 -- the first element, and what is left when it is removed
 pub first_and_rest : {A : Type 0} (xs : List A) (x : A) → 0 < length xs → x ≡ slice_index_or xs 0 x → x ∷ remove xs 0 ≡ xs

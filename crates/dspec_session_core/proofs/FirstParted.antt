@@ -1,21 +1,12 @@
 -- One CPU parts from its seat, before those behind it.
-use Rattle.std.proofs.lemmas.Bool.Decides.{nat_tests}
 use Rattle.std.proofs.Common.{◌≡◌, ℕ, ◌+◌, ◌≤◌, List, [], ◌∷◌, ◌++◌, length, map, reverse, Option, Some, None, refl, sym, ap, ◌∙◌, subst, if◌then◌else◌, arith}
+use Rattle.std.proofs.lemmas.{Bool.Decides.nat_tests, List.length-append}
 use Rattle.std.specs.Prelude.{Bool, Result, Ok, is_ok, slice_get}
-use Rattle.std.proofs.lemmas.List.{length-append}
-use Rattle.dspec_session_core.specs.Words.{Record, start_fault, Ended, last_set_up, set_up, CpuKnows, ConsumerKnows, config_of, end_of, number_in, seat_of, worn_of, AreItsWords, RestHasList}
-use Rattle.dspec_session_core.specs.Words.{waiting, Left, IsClosing, IsRestOf, Leaves, IsLeft, AreLeft, AreParting}
-use Rattle.dspec_record.specs.declared.field.Shape.{Shape}
-use Rattle.dspec_deeds.specs.declared.deed.Deed.{Deed}
-use Rattle.dspec_table.specs.declared.last.LastWords.{LastWords}
-use Rattle.dspec_table.specs.declared.rule.View.{View}
-use Rattle.dspec_table.specs.declared.seats.CpuSeat.{CpuSeat}
+use Rattle.dspec_session_core.specs.{Leaving.Has, Words.Record, Words.start_fault, Words.Ended, Words.last_set_up, Words.set_up, Words.CpuKnows, Words.ConsumerKnows, Words.config_of, Words.end_of}
+use Rattle.dspec_session_core.specs.{Words.number_in, Words.seat_of, Words.worn_of, Words.AreItsWords, Words.RestHasList, Words.waiting, Words.IsClosing, Words.IsRestOf, Words.Leaves, Words.IsLeft}
+use Rattle.dspec_session_core.specs.{Words.AreLeft, Words.AreParting, Words.Shape, Words.Deed, Words.LastWords, Words.View, Words.CpuSeat, Words.Cpu, Words.CpuRest, declared.left.Left.Left}
 use Rattle.dspec_table.specs.declared.seats.Words.{Words}
-use Rattle.dspec_cpu.specs.declared.cpu.Cpu.{Cpu}
-use Rattle.dspec_cpu.specs.declared.rest.CpuRest.{CpuRest}
-use Rattle.dspec_session_core.specs.Leaving.{Has}
-use Rattle.dspec_session_core.proofs.Leavings.{closing_same, leaves_same}
-use Rattle.dspec_session_core.proofs.Partings.{closings, one_left_more}
+use Rattle.dspec_session_core.proofs.{Leavings.closing_same, Leavings.leaves_same, Partings.closings, Partings.one_left_more}
 
 -- what a push that was unwrapped left
 pub pushed_is : {A T E : Type 0} (r : Result T E) (u : T) (new more old : A) → r ≡ Ok u → new ≡ (if is_ok r then more else old) → new ≡ more

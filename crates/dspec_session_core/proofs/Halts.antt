@@ -1,11 +1,6 @@
 -- What a stop enters is read off the consumer's own list.
-use Rattle.std.proofs.Common.{arith, ◌≡◌, List, [], ◌∷◌, ◌++◌, refl}
-use Rattle.std.proofs.lemmas.Bool.Decides.{nat_tests}
-use Rattle.dspec_deeds.specs.declared.calls.Actor.TheVariants.{Consumer}
-use Rattle.dspec_deeds.specs.declared.deed.Deed.{Deed}
-use Rattle.dspec_deeds.specs.declared.deed.Deed.TheVariants.{Halt}
-use Rattle.dspec_session_core.specs.Words.{halted, part, at_stop, of_consumer, StoredActivity}
-use Rattle.dspec_table.specs.declared.rule.View.{View}
+use Rattle.std.proofs.{Common.arith, Common.◌≡◌, Common.List, Common.[], Common.◌∷◌, Common.◌++◌, Common.refl, lemmas.Bool.Decides.nat_tests}
+use Rattle.dspec_session_core.specs.Words.{Consumer, Deed, Halt, halted, part, at_stop, of_consumer, StoredActivity, View}
 
 -- a Halt is the consumer's
 pub halted_part : (h : List Deed) → halted (part Consumer h) ≡ halted h

@@ -1,16 +1,10 @@
 -- What is left of one CPU.
-use Rattle.std.proofs.lemmas.Bool.Decides.{nat_tests}
 use Rattle.std.proofs.Common.{◌≡◌, ℕ, ◌+◌, ◌≤◌, List, ◌++◌, length, reverse, Option, Some, None, sym, ap, ◌∙◌, subst, arith}
-use Rattle.std.specs.Prelude.{Bool}
-use Rattle.std.specs.Option.{option_or}
-use Rattle.std.specs.Iterator.{YieldsFirst}
+use Rattle.std.proofs.lemmas.Bool.Decides.{nat_tests}
+use Rattle.std.specs.{Iterator.YieldsFirst, Option.option_or, Prelude.Bool}
 use mathlib.Core.List.{IsPrefix}
-use Rattle.dspec_session_core.specs.Words.{Record, IsLegalPart, IsSameRest, AreSealed, waiting, IsPartOf, Left, LeftShows, rest_of, IsClosing, Leaves}
-use Rattle.dspec_record.specs.declared.field.Shape.{Shape}
-use Rattle.dspec_deeds.specs.declared.config.Config.{Config}
-use Rattle.dspec_deeds.specs.declared.deed.Deed.{Deed}
-use Rattle.dspec_ring.specs.declared.batch.Batch.{Batch}
-use Rattle.dspec_cpu.specs.declared.rest.CpuRest.{CpuRest}
+use Rattle.dspec_session_core.specs.Words.{Record, IsLegalPart, IsSameRest, AreSealed, waiting, IsPartOf, LeftShows, rest_of, IsClosing, Leaves, Shape, Config, Deed, Batch, CpuRest}
+use Rattle.dspec_session_core.specs.declared.left.Left.{Left}
 use Rattle.dspec_session_core.proofs.ClosingRests.{one_left}
 
 pub closing_part : (shape : ℕ → Option Shape) (k : Config) (words : List ℕ) (c : ℕ) (p log g : List Deed) → IsClosing shape k words c p log g → IsPartOf k c log p

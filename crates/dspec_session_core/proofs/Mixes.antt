@@ -1,16 +1,10 @@
 -- A list of deeds is made of the parts that its actors have in it, and a CPU's list of what its seat entered and its Seals.
 use Rattle.std.proofs.Common.{◌≡◌, ◌≢◌, ℕ, ◌<◌, ◌≤◌, if◌then◌else◌, List, [], ◌∷◌, Option, refl, sym, ap, ◌∙◌, arith}
-use Rattle.std.specs.Prelude.{Bool}
 use Rattle.std.proofs.lemmas.Bool.Decides.{nat_tests}
-use Rattle.dspec_session_core.specs.Words.{Record, author, part, HasAuthors, bare, AreSealed, IsMixOf, IsWithSeals, deeds_by}
-use Rattle.dspec_record.specs.declared.field.Shape.{Shape}
-use Rattle.dspec_deeds.specs.declared.config.Config.{Config}
-use Rattle.dspec_deeds.specs.declared.calls.Actor.{Actor}
-use Rattle.dspec_deeds.specs.declared.calls.Actor.TheVariants.{Cpu, Consumer}
-use Rattle.dspec_deeds.specs.declared.deed.Deed.{Deed}
-use Rattle.dspec_deeds.specs.declared.deed.Deed.TheVariants.{Seal}
+use Rattle.std.specs.Prelude.{Bool}
+use Rattle.dspec_session_core.specs.Words.{Record, author, part, HasAuthors, bare, AreSealed, IsMixOf, IsWithSeals, deeds_by, Shape, Config, Actor, Consumer, Deed, Seal, Batch}
+use Rattle.dspec_deeds.specs.declared.calls.Actor.TheVariants.{Cpu}
 use Rattle.dspec_deeds.proofs.TestLemmas.{actor_is_itself, same_actor_tells}
-use Rattle.dspec_ring.specs.declared.batch.Batch.{Batch}
 
 -- a deed is in no other's part
 not_there : (v : Actor) (d : Deed) (h : List Deed) → v ≢ author d h → part v (d ∷ h) ≡ part v h

@@ -1,19 +1,11 @@
 -- The settlements of the close are those that each CPU owes by the list before it, CPU by CPU.
-use Rattle.std.proofs.lemmas.Bool.Decides.{nat_tests}
 use Rattle.std.proofs.Common.{◌≡◌, ℕ, zero, suc, ◌<◌, ◌≤◌, Bool, true, false, not, ◌&&◌, if◌then◌else◌, List, ◌∷◌, ◌++◌, Option, None, refl, sym, ap, ◌∙◌, subst, ⊎_elim, true≢false, arith}
+use Rattle.std.proofs.lemmas.Bool.Decides.{nat_tests}
 use Rattle.std.specs.Prelude.{is_none, nat_le}
-use Rattle.dspec_record.specs.declared.field.Shape.{Shape}
-use Rattle.dspec_word.specs.declared.act.Act.TheVariants.{Granted, Idle}
-use Rattle.dspec_session_core.specs.Words.{awaits, Speculation, settle_at, CanClose, is_granted, closed_slot, closed_slots, closed_cpus, closing, verdict, is_undecided, is_busy, issue, present}
-use Rattle.dspec_session_core.specs.Words.{owed, settled, solo, word_at, ack, IsSound, start_fault, settle_fate, owes_settlement, owed_fate, owed_more, owed_in, owed_up, settle_deeds}
-use Rattle.dspec_deeds.specs.declared.config.Config.{Config}
-use Rattle.dspec_deeds.specs.declared.deed.DecideFate.{DecideFate}
-use Rattle.dspec_deeds.specs.declared.deed.Deed.{Deed}
-use Rattle.dspec_deeds.specs.declared.deed.Deed.TheVariants.{Settle}
-use Rattle.dspec_deeds.proofs.Acked.{ack_tells}
-use Rattle.dspec_deeds.proofs.Awaiting.{awaits_is}
-use Rattle.dspec_deeds.proofs.PresentIds.{decided_given}
-use Rattle.dspec_deeds.proofs.TestLemmas.{either_way, and_tells}
+use Rattle.dspec_session_core.specs.Words.{Shape, Granted, Idle, awaits, Speculation, settle_at, CanClose, is_granted, closed_slot, closed_slots, closed_cpus, closing, verdict, is_undecided}
+use Rattle.dspec_session_core.specs.Words.{is_busy, issue, present, owed, settled, solo, word_at, ack, IsSound, start_fault, settle_fate, owes_settlement, owed_fate, owed_more, owed_in, owed_up}
+use Rattle.dspec_session_core.specs.Words.{settle_deeds, Config, DecideFate, Deed, Settle}
+use Rattle.dspec_deeds.proofs.{Acked.ack_tells, Awaiting.awaits_is, PresentIds.decided_given, TestLemmas.either_way, TestLemmas.and_tells}
 use Rattle.dspec_interleaving.proofs.Closing.{slots_settle, cpus_settle}
 
 granted_is : (b : Bool) → is_granted (if b then Granted else Idle) ≡ b

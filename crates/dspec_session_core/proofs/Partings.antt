@@ -1,22 +1,13 @@
 -- The CPUs part from their seats, one by one, and say what is left once all seats are back.
-use Rattle.std.proofs.lemmas.Bool.Decides.{nat_tests}
 use Rattle.std.proofs.Common.{◌≡◌, ℕ, zero, suc, ◌+◌, ◌<◌, ◌⊎◌, inl, inr, ⊎_elim, List, [], ◌∷◌, ◌++◌, length, map, reverse, Option, Some, None, refl, sym, ap, ◌∙◌, subst, arith}
+use Rattle.std.proofs.lemmas.{Bool.Decides.nat_tests, List.length-append, List.length-map, List.reverse-append, Option.slice_get_within, Option.slice_get-map}
 use Rattle.std.specs.Prelude.{Bool, option_map, slice_get}
-use Rattle.std.proofs.lemmas.List.{length-append, length-map, reverse-append}
-use Rattle.std.proofs.lemmas.Option.{slice_get_within, slice_get-map}
-use Rattle.dspec_session_core.specs.Words.{Record, scan, start_fault, AreSeats, Ended, known, set_up, ConsumerKnows, seat_of, config_of, number_in, schema_of, identity, Left, IsAtRest, IsClosing}
-use Rattle.dspec_session_core.specs.Words.{IsParted, Steady, IsLeft, AreLeft, AreParting, IsCpuOf}
-use Rattle.dspec_record.specs.declared.field.Shape.{Shape}
-use Rattle.dspec_deeds.specs.declared.config.Config.{Config}
-use Rattle.dspec_deeds.specs.declared.deed.Deed.{Deed}
+use Rattle.dspec_session_core.specs.{Leaving.Has, Words.Record, Words.scan, Words.start_fault, Words.AreSeats, Words.Ended, Words.known, Words.set_up, Words.ConsumerKnows, Words.seat_of}
+use Rattle.dspec_session_core.specs.{Words.config_of, Words.number_in, Words.schema_of, Words.identity, Words.IsAtRest, Words.IsClosing, Words.IsParted, Words.Steady, Words.IsLeft, Words.AreLeft}
+use Rattle.dspec_session_core.specs.{Words.AreParting, Words.IsCpuOf, Words.Shape, Words.Config, Words.Deed, Words.View, Words.CpuSeat, Words.Cpu, declared.left.Left.Left}
 use Rattle.dspec_deeds.proofs.OwnReads.{reads}
-use Rattle.dspec_table.specs.declared.rule.View.{View}
-use Rattle.dspec_table.specs.declared.seats.CpuSeat.{CpuSeat}
 use Rattle.dspec_table.specs.declared.seats.Words.{Words}
-use Rattle.dspec_cpu.specs.declared.cpu.Cpu.{Cpu}
-use Rattle.dspec_session_core.specs.Leaving.{Has}
-use Rattle.dspec_session_core.proofs.Begins.{pushed}
-use Rattle.dspec_session_core.proofs.ClosingLists.{close_of_ended}
+use Rattle.dspec_session_core.proofs.{Begins.pushed, ClosingLists.close_of_ended}
 
 -- places in two lists, one behind the other
 pub behind_there : {A : Type 0} (xs ys : List A) (i : ℕ) (y : A) → slice_get ys i ≡ Some y → slice_get (xs ++ ys) (length xs + i) ≡ Some y

@@ -1,11 +1,8 @@
 -- What goes through an end of the rings, in the list of all ends.
-use Rattle.std.proofs.Common.{arith, ◌≡◌, ℕ, ◌<◌, ◌≤◌, List, length, map, [], refl, ap, ◌∙◌, inr}
-use Rattle.std.proofs.lemmas.Bool.Decides.{nat_tests}
+use Rattle.std.proofs.{Common.arith, Common.◌≡◌, Common.ℕ, Common.◌<◌, Common.◌≤◌, Common.List, Common.length, Common.map, Common.[], Common.refl, Common.ap, Common.◌∙◌, Common.inr}
+use Rattle.std.proofs.{Math.Seq.map-set_same, lemmas.Bool.Decides.nat_tests}
 use Rattle.std.specs.Prelude.{Option, Some, None, IfSome, IfNone, Result, Ok, Err, OnOk, OnErr, IfErr, slice_get, slice_set, slice_index_or}
-use Rattle.std.proofs.Math.Seq.{map-set_same}
-use Rattle.dspec_ring.specs.declared.batch.Batch.{Batch}
-use Rattle.dspec_session_core.specs.Words.{ConsumerKnows, consumer_moved, known_there, IsSameConsumer, TookFrom, GivenTo, Took, FoundNone, GaveBack, IsNotTakenBack}
-use Rattle.dspec_table.specs.declared.seats.ConsumerSeat.{ConsumerSeat}
+use Rattle.dspec_session_core.specs.Words.{Batch, ConsumerKnows, consumer_moved, known_there, IsSameConsumer, TookFrom, GivenTo, Took, FoundNone, GaveBack, IsNotTakenBack, ConsumerSeat}
 use Rattle.dspec_session_core.proofs.Ends.{end_at, put_back}
 
 -- an end that passes batches stays one of its pair

@@ -1,30 +1,16 @@
 -- A list that closes the lists of the CPUs promises each of them what the page says of its calls.
-use Rattle.std.proofs.lemmas.Bool.Decides.{nat_tests}
 use Rattle.std.proofs.Common.{◌≡◌, ℕ, zero, suc, ◌<◌, Bool, List, [], ◌∷◌, ◌++◌, length, Option, Some, refl, sym, ap, ◌∙◌, subst, arith}
-use Rattle.std.specs.Prelude.{reverse, slice_get}
-use Rattle.std.specs.Option.{option_map_or}
-use Rattle.std.proofs.lemmas.List.{length-reverse}
-use Rattle.std.proofs.lemmas.Option.{slice_get_within}
-use Rattle.dspec_session_core.specs.Words.{Record, records, Speculation, part, word_at, stream, bare, own_closed, did, all_did, Promise, known, CallsMade, called, no_calls, settled_did, number_in}
-use Rattle.dspec_session_core.specs.Words.{seat_of, worn_of, AreSealed, waiting, Left, ClosesAs, HoldInOrder, IsPromised, IsPromisedBy, KeepsPage, called_at, closed_up, entered_at, settle_deeds}
-use Rattle.dspec_session_core.specs.Words.{worn_at, HoldRecords}
-use Rattle.dspec_record.specs.declared.field.Shape.{Shape}
-use Rattle.dspec_buffer.proofs.SchemaLaws.{SchemaLaws}
-use Rattle.dspec_buffer.proofs.Walks.{reads_back}
-use Rattle.dspec_deeds.specs.declared.config.Config.{Config}
-use Rattle.dspec_deeds.specs.declared.calls.Actor.TheVariants.{Cpu as CpuActor}
-use Rattle.dspec_deeds.specs.declared.deed.DecideFate.{DecideFate}
-use Rattle.dspec_deeds.specs.declared.deed.Deed.{Deed}
-use Rattle.dspec_deeds.specs.declared.report.Report.{Report}
-use Rattle.dspec_promise.proofs.Kept.{always, promise}
-use Rattle.dspec_promise.proofs.OwnDid.{did_part, did_bare}
-use Rattle.dspec_promise.proofs.Refused.{given_once, reasons}
-use Rattle.dspec_ring.specs.declared.batch.Batch.{Batch}
-use Rattle.dspec_cpu.specs.declared.cpu.Cpu.{Cpu}
+use Rattle.std.proofs.lemmas.{Bool.Decides.nat_tests, List.length-reverse, Option.slice_get_within}
+use Rattle.std.specs.{Option.option_map_or, Prelude.reverse, Prelude.slice_get}
 use Rattle.dspec_session_core.specs.Leaving.{Has}
-use Rattle.dspec_session_core.proofs.ClosedDeeds.{AddsSettlements, close_adds, sealed_before}
-use Rattle.dspec_session_core.proofs.ClosingSaid.{closed_for, closing_said, did_closed}
-use Rattle.dspec_session_core.proofs.Mixes.{mix_of_all, with_seals}
+use Rattle.dspec_session_core.specs.Words.{Record, records, Speculation, part, word_at, stream, bare, own_closed, did, all_did, Promise, known, CallsMade, called, no_calls, settled_did, number_in}
+use Rattle.dspec_session_core.specs.Words.{seat_of, worn_of, AreSealed, waiting, ClosesAs, HoldInOrder, IsPromised, IsPromisedBy, KeepsPage, called_at, closed_up, entered_at, settle_deeds, worn_at}
+use Rattle.dspec_session_core.specs.Words.{HoldRecords, Shape, Config, CpuActor, DecideFate, Deed, Report, Batch, Cpu}
+use Rattle.dspec_session_core.specs.declared.left.Left.{Left}
+use Rattle.dspec_buffer.proofs.{SchemaLaws.SchemaLaws, Walks.reads_back}
+use Rattle.dspec_promise.proofs.{Kept.always, Kept.promise, OwnDid.did_part, OwnDid.did_bare, Refused.given_once, Refused.reasons}
+use Rattle.dspec_session_core.proofs.{ClosedDeeds.AddsSettlements, ClosedDeeds.close_adds, ClosedDeeds.sealed_before, ClosingSaid.closed_for, ClosingSaid.closing_said, ClosingSaid.did_closed}
+use Rattle.dspec_session_core.proofs.{Mixes.mix_of_all, Mixes.with_seals}
 
 -- there is one at each place
 pub there_is : {X : Type 0} (xs : List X) (i : ℕ) → i < length xs → (x : X) × (slice_get xs i ≡ Some x)

@@ -1,13 +1,7 @@
 -- A word that waits for every CPU stands until the consumer releases it.
-use Rattle.std.proofs.Common.{arith, ◌≡◌, ℕ, true, false, List, ◌∷◌, refl, ◌∙◌}
-use Rattle.std.proofs.lemmas.Bool.Decides.{nat_tests}
-use Rattle.dspec_word.specs.declared.code.Code.{Code}
-use Rattle.dspec_deeds.specs.declared.config.Config.{Config}
-use Rattle.dspec_deeds.specs.declared.deed.Deed.{Deed}
-use Rattle.dspec_session_core.specs.Words.{releases, present, opened, verdict, is_undecided, solo, word_at, IsSound, of_consumer, same_holder, doer, Since, here, more}
-use Rattle.dspec_deeds.proofs.TestLemmas.{same_number, or_true}
-use Rattle.dspec_deeds.proofs.Awaiting.{IsAwaiting}
-use Rattle.dspec_deeds.proofs.StayingDecided.{decided_stands}
+use Rattle.std.proofs.{Common.arith, Common.◌≡◌, Common.ℕ, Common.true, Common.false, Common.List, Common.◌∷◌, Common.refl, Common.◌∙◌, lemmas.Bool.Decides.nat_tests}
+use Rattle.dspec_session_core.specs.Words.{Code, Config, Deed, releases, present, opened, verdict, is_undecided, solo, word_at, IsSound, of_consumer, same_holder, doer, Since, here, more}
+use Rattle.dspec_deeds.proofs.{Awaiting.IsAwaiting, StayingDecided.decided_stands, TestLemmas.same_number, TestLemmas.or_true}
 
 -- the present speculation of the slot is decided, and by no CPU alone
 pub record Waits (s : ℕ) (h : List Deed) : Type 0 where

@@ -1,7 +1,6 @@
 -- Cited by calls. What an ask does.
 use Rattle.std.specs.Prelude.{ℕ, ◌≡◌, ◌==◌, ◌+◌, slice_index, if◌then◌else◌}
-use Rattle.dspec_session_core.specs.Words.Outside.{StoredAsk}
-use Rattle.dspec_session_core.specs.Consumers.{Consuming, view_of, taken_from}
+use Rattle.dspec_session_core.specs.{Consumers.Consuming, Consumers.view_of, Consumers.taken_from, Words.Outside.StoredAsk}
 
 -- One store, of one more than the batches taken: the batch after those is asked of the CPU c, and of no other CPU anything. Where
 -- that ask stands, each ask is as it was.

@@ -1,8 +1,7 @@
 -- Cited by calls. For how many slots a session waits for one CPU: those whose speculation is decided and that it hasn't acknowledged.
 use Rattle.std.specs.Prelude.{ℕ, zero, suc, ◌≡◌, ◌<◌, ◌≤◌, ◌+◌, ◌*◌, Bool, true, false, nat_le, if◌then◌else◌}
-use Rattle.dspec_session_core.specs.Words.Outside.{SlotState, awaits, LookedWord, LoadedAck}
-use Rattle.dspec_table.specs.declared.rule.View.{View}
 use Rattle.dspec_session_core.specs.Consumers.{Consuming, set_up_of, view_of}
+use Rattle.dspec_session_core.specs.Words.Outside.{SlotState, awaits, LookedWord, LoadedAck, View}
 
 -- One slot: its word is loaded, and where that is decided and waits for every CPU, this CPU's acknowledgement, which is of an earlier
 -- issue or of this one.

@@ -1,9 +1,7 @@
 -- Cited by calls. What taking a batch and giving one back do.
 use Rattle.std.specs.Prelude.{ℕ, ◌≡◌, ◌≢◌, ◌<◌, ◌≤◌, ◌⊎◌, ◌+◌, [], ◌∷◌, ◌++◌, length, slice_get, slice_set, Some}
 use mathlib.Core.List.{IsPrefix}
-use Rattle.dspec_ring.specs.declared.batch.Batch.{Batch}
-use Rattle.dspec_session_core.specs.Words.Outside.{ConsumerKnows, consumer_moved}
-use Rattle.dspec_session_core.specs.Consumers.{Consuming, set_up_of}
+use Rattle.dspec_session_core.specs.{Consumers.Consuming, Consumers.set_up_of, Words.Outside.Batch, Words.Outside.ConsumerKnows, Words.Outside.consumer_moved}
 
 -- the batch came out of the end, by one pop: it is the one known to be waiting first, if one is
 pub record TookFrom (batch : Batch) (e f : ConsumerKnows) : Type 0 where

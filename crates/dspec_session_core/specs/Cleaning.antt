@@ -1,9 +1,6 @@
 -- Cited by calls. What a clean does: which steps the consumer's seat makes, and which slots it releases.
 use Rattle.std.specs.Prelude.{ℕ, zero, suc, ◌≡◌, ◌<◌, ◌≤◌, ◌+◌, ◌*◌, Bool, true, false, MatchBool, List, [], ◌∷◌, ◌++◌, length, map, if◌then◌else◌}
-use Rattle.dspec_session_core.specs.Words.Outside.{SlotState, awaits, LookedWord, LoadedAck, ReapedWord}
-use Rattle.dspec_deeds.specs.declared.config.Config.{Config}
-use Rattle.dspec_deeds.specs.declared.deed.Deed.TheVariants.{Release}
-use Rattle.dspec_table.specs.declared.rule.View.{View}
+use Rattle.dspec_session_core.specs.Words.Outside.{SlotState, awaits, LookedWord, LoadedAck, ReapedWord, Config, Release, View}
 
 -- the acknowledgements of the CPUs below n were loaded, from the first upwards, and each had acknowledged the issue
 abbrev pub Acknowledged : ℕ → ℕ → View → ℕ → View → Type 0

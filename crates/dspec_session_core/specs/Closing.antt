@@ -1,15 +1,10 @@
 -- Cited by calls. What the close of a session promises.
 use Rattle.std.specs.Prelude.{ℕ, ◌≡◌, ◌<◌, Bool, false, List, [], ◌∷◌, ◌++◌, length, reverse, slice_get, Option, Some, None}
 use Rattle.dspec_session_core.specs.Words.Outside.{Record, Piece, records, HasPieces, Speculation, part, scan, verdict, is_undecided, word_at, CanClose, WaitsUndecided, closing, Headline, IsLegal}
-use Rattle.dspec_session_core.specs.Words.Outside.{HasAuthors, held, stream, accepted_first, IsOwn, start_fault, report, bare, own_closed, Ended, known, IsSealed, AreSealed, waiting}
-use Rattle.dspec_record.specs.declared.field.Shape.{Shape}
-use Rattle.dspec_deeds.specs.declared.config.Config.{Config}
-use Rattle.dspec_deeds.specs.declared.calls.Actor.TheVariants.{Cpu, Consumer}
-use Rattle.dspec_deeds.specs.declared.deed.Deed.{Deed}
-use Rattle.dspec_table.specs.declared.rule.View.{View}
-use Rattle.dspec_table.specs.declared.seats.CpuSeat.{CpuSeat}
-use Rattle.dspec_ring.specs.declared.batch.Batch.{Batch}
+use Rattle.dspec_session_core.specs.Words.Outside.{HasAuthors, held, stream, accepted_first, IsOwn, start_fault, report, bare, own_closed, Ended, known, IsSealed, AreSealed, waiting, Shape, Config}
+use Rattle.dspec_session_core.specs.Words.Outside.{Consumer, Deed, View, CpuSeat, Batch}
 use Rattle.dspec_session_core.specs.declared.left.Left.{Left}
+use Rattle.dspec_deeds.specs.declared.calls.Actor.TheVariants.{Cpu}
 
 -- which sealed batch wasn't taken: the first of those drained, else the one in hand
 abbrev pub rest_of : Option Batch → List Batch → Option Batch

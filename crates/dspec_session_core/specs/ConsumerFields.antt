@@ -1,8 +1,6 @@
 -- Cited by calls. How a consumer's fields say what contracts see, and what holds of them.
 use Rattle.std.specs.Prelude.{ℕ, ◌≡◌, ◌≤◌, ◌+◌, length, slice_get, slice_index, vec_len, vec_capacity, Some}
-use Rattle.dspec_session_core.specs.Words.Outside.{ConsumerKnows, known_there}
-use Rattle.dspec_session_core.specs.Consumers.{Consuming}
-use Rattle.dspec_session_core.specs.declared.consumer.Consumer.TheInside.{Inside}
+use Rattle.dspec_session_core.specs.{Consumers.Consuming, Words.Outside.ConsumerKnows, Words.Outside.known_there, declared.consumer.Consumer.TheInside.Inside}
 
 abbrev pub consuming : Inside → Consuming
 consuming i = record { seat = i.seat; ends = i.ends.items }

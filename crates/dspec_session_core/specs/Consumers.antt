@@ -1,11 +1,7 @@
 -- Believed. What contracts see of a session's consumer.
-use Rattle.std.specs.Prelude.{ℕ, ◌≡◌, List, length, map, slice_get}
-use Rattle.std.specs.Option.{option_map_or}
-use Rattle.dspec_deeds.specs.declared.config.Config.{Config}
-use Rattle.dspec_table.specs.declared.rule.View.{View}
+use Rattle.std.specs.{Option.option_map_or, Prelude.ℕ, Prelude.◌≡◌, Prelude.List, Prelude.length, Prelude.map, Prelude.slice_get}
+use Rattle.dspec_session_core.specs.Words.Outside.{Config, View, ConsumerSeat, known_there, IsConsumerAt, Pair, ConsumerKnows}
 use Rattle.dspec_table.specs.declared.seats.Words.{Words}
-use Rattle.dspec_table.specs.declared.seats.ConsumerSeat.{ConsumerSeat}
-use Rattle.dspec_session_core.specs.Words.Outside.{known_there, IsConsumerAt, Pair, ConsumerKnows}
 
 -- its seat at the words, and its ends of the CPUs' rings, in order
 pub record Consuming : Type 0 where

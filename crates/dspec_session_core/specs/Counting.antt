@@ -1,7 +1,6 @@
 -- Cited by calls. The consumer's end of one CPU's rings, counted.
 use Rattle.std.specs.Prelude.{◌≡◌, ◌≤◌, ◌^◌, length}
-use Rattle.dspec_session_core.specs.Words.Outside.{ConsumerKnows}
-use Rattle.dspec_session_core.specs.declared.counted.CountedEnd.TheInside.{Inside}
+use Rattle.dspec_session_core.specs.{Words.Outside.ConsumerKnows, declared.counted.CountedEnd.TheInside.Inside}
 
 abbrev pub counted_end_of : Inside → ConsumerKnows
 counted_end_of i = i.end

@@ -1,15 +1,8 @@
 -- Believed. What the end of a session promises, said of the session that is ended.
 use Rattle.std.specs.Prelude.{ℕ, ◌≡◌, ◌<◌, Bool, List, [], ◌∷◌, ◌++◌, Option}
-use Rattle.dspec_session_core.specs.Words.Outside.{Record, set_up, words_of, waiting}
-use Rattle.dspec_record.specs.declared.field.Shape.{Shape}
-use Rattle.dspec_deeds.specs.declared.deed.Deed.{Deed}
-use Rattle.dspec_cpu.specs.declared.cpu.Cpu.{Cpu}
-use Rattle.dspec_session_core.specs.declared.left.Left.{Left}
-use Rattle.dspec_session_core.specs.declared.session.Session.{Session}
-use Rattle.dspec_session_core.specs.Closing.{ClosesAs, IsClosedBy}
-use Rattle.dspec_session_core.specs.Consumers.{view_of}
-use Rattle.dspec_session_core.specs.Promised.{IsPromisedBy, KeepsPage, called_at, entered_at}
-use Rattle.dspec_session_core.specs.Sessions.{HasAt, taken_at, worn_at}
+use Rattle.dspec_session_core.specs.{Closing.ClosesAs, Closing.IsClosedBy, Consumers.view_of, Promised.IsPromisedBy, Promised.KeepsPage, Promised.called_at, Promised.entered_at, Sessions.HasAt}
+use Rattle.dspec_session_core.specs.{Sessions.taken_at, Sessions.worn_at, Words.Outside.Record, Words.Outside.set_up, Words.Outside.words_of, Words.Outside.waiting, Words.Outside.Shape}
+use Rattle.dspec_session_core.specs.{Words.Outside.Deed, Words.Outside.Cpu, declared.left.Left.Left, declared.session.Session.Session}
 
 -- by what each schema has
 module _ {S : Type 0} (shape_of : S → ℕ → Option Shape) (accepted : S → Record → Bool) (text : S → Record → List ℕ) where

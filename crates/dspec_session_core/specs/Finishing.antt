@@ -1,16 +1,9 @@
 -- Cited by calls. The laws of a session's close, as sentences.
 use mathlib.Core.List.{IsPrefix}
 use Rattle.std.specs.Prelude.{ℕ, ◌≡◌, ◌≤◌, ◌+◌, Bool, List, ◌++◌, length, reverse, Option, None}
-use Rattle.dspec_session_core.specs.Words.Outside.{Record, CanClose, closing, start_fault, waiting}
-use Rattle.dspec_record.specs.declared.field.Shape.{Shape}
-use Rattle.dspec_deeds.specs.declared.config.Config.{Config}
-use Rattle.dspec_deeds.specs.declared.deed.Deed.{Deed}
-use Rattle.dspec_table.specs.declared.rule.View.{View}
-use Rattle.dspec_table.specs.declared.seats.CpuSeat.{CpuSeat}
-use Rattle.dspec_ring.specs.declared.batch.Batch.{Batch}
-use Rattle.dspec_session_core.specs.declared.left.Left.{Left}
-use Rattle.dspec_session_core.specs.Closing.{ClosedFrom, ClosesAs, rest_of}
-use Rattle.dspec_session_core.specs.Owed.{owed_up}
+use Rattle.dspec_session_core.specs.{Closing.ClosedFrom, Closing.ClosesAs, Closing.rest_of, Owed.owed_up, Words.Outside.Record, Words.Outside.CanClose, Words.Outside.closing}
+use Rattle.dspec_session_core.specs.{Words.Outside.start_fault, Words.Outside.waiting, Words.Outside.Shape, Words.Outside.Config, Words.Outside.Deed, Words.Outside.View, Words.Outside.CpuSeat}
+use Rattle.dspec_session_core.specs.{Words.Outside.Batch, declared.left.Left.Left}
 
 -- Once all seats and ring ends are back, and each CPU has settled by the last words, one legal list of deeds closes whichever lists the
 -- CPUs had.

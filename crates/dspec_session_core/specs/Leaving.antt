@@ -1,21 +1,12 @@
 -- Serves proofs. How a session ends, CPU by CPU.
 use Rattle.std.specs.Prelude.{ℕ, ◌≡◌, ◌+◌, Bool, List, [], ◌∷◌, length, map, slice_get, Option, Some}
-use Rattle.dspec_session_core.specs.Words.Outside.{Record, owed, part, scan, word_at, IsLegal, IsSound, bare, own_closed, known, cpu_of, set_up, IsAt, Shows, ConsumerKnows, CpuKnows, rest_with}
-use Rattle.dspec_session_core.specs.Words.Outside.{HasList, IsSteady, config_of, end_of, held_back_of, number_in, schema_of, worn_of, RestHasList, config_of_rest, held_back_of_rest, number_of_rest}
-use Rattle.dspec_session_core.specs.Words.Outside.{schema_of_rest, worn_of_rest, identity}
-use Rattle.dspec_record.specs.declared.field.Shape.{Shape}
-use Rattle.dspec_deeds.specs.declared.config.Config.{Config}
-use Rattle.dspec_deeds.specs.declared.calls.Actor.TheVariants.{Cpu as CpuActor}
-use Rattle.dspec_deeds.specs.declared.deed.Deed.{Deed}
-use Rattle.dspec_table.specs.declared.seats.CpuSeat.{CpuSeat}
-use Rattle.dspec_table.specs.declared.seats.Words.{Words}
-use Rattle.dspec_ring.specs.declared.batch.Batch.{Batch}
-use Rattle.dspec_cpu.specs.declared.cpu.Cpu.{Cpu}
-use Rattle.dspec_cpu.specs.declared.rest.CpuRest.{CpuRest}
-use Rattle.dspec_session_core.specs.declared.left.Left.{Left}
-use Rattle.dspec_session_core.specs.declared.parted.Parted.{Parted}
 use Rattle.dspec_session_core.specs.Closing.{IsAtRest, LeftShows}
 use Rattle.dspec_session_core.specs.Sessions.{IsCpuOf}
+use Rattle.dspec_session_core.specs.Words.Outside.{Record, owed, part, scan, word_at, IsLegal, IsSound, bare, own_closed, known, cpu_of, set_up, IsAt, Shows, ConsumerKnows, CpuKnows, rest_with}
+use Rattle.dspec_session_core.specs.Words.Outside.{HasList, IsSteady, config_of, end_of, held_back_of, number_in, schema_of, worn_of, RestHasList, config_of_rest, held_back_of_rest, number_of_rest}
+use Rattle.dspec_session_core.specs.Words.Outside.{schema_of_rest, worn_of_rest, identity, Shape, Config, CpuActor, Deed, CpuSeat, Batch, Cpu, CpuRest}
+use Rattle.dspec_session_core.specs.declared.{left.Left.Left, parted.Parted.Parted}
+use Rattle.dspec_table.specs.declared.seats.Words.{Words}
 
 -- The last words show the log, of which the CPU's list is its part, but for the Seals; and a legal list has, as its part of the CPU,
 -- that list and what the CPU has still to settle.

@@ -1,12 +1,8 @@
 -- Cited by calls. What each CPU owes where a session is closed, by decisions and settlements.
 use Rattle.std.specs.Prelude.{ℕ, zero, suc, not, ◌&&◌, Bool, List, [], ◌∷◌, ◌++◌, length, Option, is_none, if◌then◌else◌}
-use Rattle.dspec_record.specs.declared.field.Shape.{Shape}
-use Rattle.dspec_session_core.specs.Words.Outside.{block, Speculation, Ruling, discarded, verdict, present, is_busy, solo, settled, contents, held, fits_principal}
-use Rattle.dspec_deeds.specs.declared.config.Config.{Config}
-use Rattle.dspec_deeds.specs.declared.deed.DecideFate.{DecideFate}
-use Rattle.dspec_deeds.specs.declared.deed.DecideFate.TheVariants as decide
-use Rattle.dspec_deeds.specs.declared.deed.Deed.{Deed}
 use Rattle.dspec_session_core.specs.Promised.{settle_deeds}
+use Rattle.dspec_session_core.specs.Words.Outside.{Shape, block, Speculation, Ruling, discarded, verdict, present, is_busy, solo, settled, contents, held, fits_principal, Config, DecideFate, Deed}
+use Rattle.dspec_deeds.specs.declared.deed.DecideFate.TheVariants as decide
 
 -- The CPU owes a settlement of the slot's present speculation: that was decided, no CPU decided it alone, and this CPU hasn't settled it.
 abbrev pub owes_settlement : ℕ → ℕ → List Deed → Bool

@@ -1,18 +1,8 @@
 -- Believed. What the close of a session promises of each CPU, in the words of the page.
-use Rattle.std.specs.Prelude.{ℕ, zero, suc, ◌≡◌, ◌≢◌, nat_lt, Bool, List, [], ◌∷◌, ◌++◌, length, map, reverse, slice_get, Option, Some, if◌then◌else◌}
 use Rattle.std.specs.Option.{option_map_or}
+use Rattle.std.specs.Prelude.{ℕ, zero, suc, ◌≡◌, ◌≢◌, nat_lt, Bool, List, [], ◌∷◌, ◌++◌, length, map, reverse, slice_get, Option, Some, if◌then◌else◌}
 use Rattle.dspec_session_core.specs.Words.Outside.{Record, Speculation, AtEachMoment, DecidedSoFar, all_did, Did, Promise, GivenOnce, HaveReasons, known, CallsMade, called, no_calls, settled_did}
-use Rattle.dspec_session_core.specs.Words.Outside.{seat_of, IsSealed, waiting, BufferText}
-use Rattle.dspec_record.specs.declared.field.Shape.{Shape}
-use Rattle.dspec_deeds.specs.declared.config.Config.{Config}
-use Rattle.dspec_deeds.specs.declared.calls.Actor.{Actor}
-use Rattle.dspec_deeds.specs.declared.calls.Actor.TheVariants.{Cpu as CpuActor, Consumer}
-use Rattle.dspec_deeds.specs.declared.deed.DecideFate.{DecideFate}
-use Rattle.dspec_deeds.specs.declared.deed.Deed.{Deed}
-use Rattle.dspec_deeds.specs.declared.deed.Deed.TheVariants.{Seal, Settle}
-use Rattle.dspec_deeds.specs.declared.report.Report.{Report}
-use Rattle.dspec_ring.specs.declared.batch.Batch.{Batch}
-use Rattle.dspec_cpu.specs.declared.cpu.Cpu.{Cpu}
+use Rattle.dspec_session_core.specs.Words.Outside.{seat_of, IsSealed, waiting, BufferText, Shape, Config, Actor, CpuActor, Consumer, DecideFate, Deed, Seal, Settle, Report, Batch, Cpu}
 use Rattle.dspec_session_core.specs.declared.left.Left.{Left}
 
 -- what the calls of the CPU with this number did

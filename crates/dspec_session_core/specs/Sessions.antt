@@ -1,14 +1,10 @@
 -- Believed. The parts of one session, and what it begins with.
-use Rattle.std.specs.Prelude.{ℕ, ◌≡◌, List, [], length, Option, Some, None, IsSome, slice_get}
-use Rattle.std.specs.Option.{option_map_or}
-use Rattle.dspec_session_core.specs.Words.Outside.{EnabledRows, enabled, table_shape, table_accepts, table_text, start_fault, Pair, ConsumerKnows, IsUnusedCpu, set_up, HasList, end_of, spare_of}
-use Rattle.dspec_session_core.specs.Words.Outside.{words_of, worn_of, Belongs, CpuIdentity, identity}
-use Rattle.dspec_ring.specs.declared.batch.Batch.{Batch}
-use Rattle.dspec_deeds.specs.declared.deed.Deed.{Deed}
-use Rattle.dspec_table.specs.declared.seats.Words.{Words}
-use Rattle.dspec_cpu.specs.declared.cpu.Cpu.{Cpu}
+use Rattle.std.specs.{Option.option_map_or, Prelude.ℕ, Prelude.◌≡◌, Prelude.List, Prelude.[], Prelude.length, Prelude.Option, Prelude.Some, Prelude.None, Prelude.IsSome, Prelude.slice_get}
 use Rattle.dspec_session_core.specs.Consumers.{Consuming, IsConsumerOf, pairs_of}
+use Rattle.dspec_session_core.specs.Words.Outside.{EnabledRows, enabled, table_shape, table_accepts, table_text, start_fault, Pair, ConsumerKnows, IsUnusedCpu, set_up, HasList, end_of, spare_of}
+use Rattle.dspec_session_core.specs.Words.Outside.{words_of, worn_of, Belongs, CpuIdentity, identity, Batch, Deed, Cpu}
 use Rattle.dspec_session_core.specs.declared.session.Session.{Session}
+use Rattle.dspec_table.specs.declared.seats.Words.{Words}
 
 -- Such a CPU has this number in the session: it belongs to the words, its schema is the one of all, and its rings are the pair
 -- whose other end the consumer has there.

@@ -1,7 +1,6 @@
 -- Cited by calls. What a stop does.
 use Rattle.std.specs.Prelude.{◌≡◌, ◌++◌}
-use Rattle.dspec_session_core.specs.Words.Outside.{halted, at_stop, StoredActivity}
-use Rattle.dspec_session_core.specs.Consumers.{Consuming, view_of}
+use Rattle.dspec_session_core.specs.{Consumers.Consuming, Consumers.view_of, Words.Outside.halted, Words.Outside.at_stop, Words.Outside.StoredActivity}
 
 -- One store, which enters a Halt unless the consumer's list has it.
 pub record Stopped (x y : Consuming) : Type 0 where

@@ -12,6 +12,3 @@ pub use Rattle.dspec_session_core.specs.Owed.{owed_fate, owed_in, owed_more, owe
 pub use Rattle.dspec_session_core.specs.Promised.{called_at, closed_up, deeds_by, entered_at, HoldRecords, IsMixOf, IsPromised, IsPromisedBy, IsWithSeals, KeepsPage, settle_deeds}
 pub use Rattle.dspec_session_core.specs.Sessions.{Has, HasAt, IsCpuOf, IsFresh, IsSession, taken_at, worn_at}
 pub use Rattle.dspec_session_core.specs.Stopping.{Stopped}
-pub use Rattle.dspec_session_core.specs.declared.left.Left.{Left}
-pub use Rattle.dspec_session_core.specs.declared.parted.Parted.{Parted}
-pub use Rattle.dspec_session_core.specs.declared.session.Session.{Session}

@@ -1,7 +1,6 @@
 ghost use Rattle.std.specs.Prelude.{◌≡◌, ◌<◌, ◌≤◌, MatchBool};
-ghost use Rattle.dspec_session_core.specs.Asking.{Asked};
+ghost use Rattle.dspec_session_core.specs.{Asking.Asked, Consumers.IsConsumerOf, Consumers.IsSameConsumer, Consumers.set_up_of};
 ghost use Rattle.dspec_cpu.specs.Lists.{words_of};
-ghost use Rattle.dspec_session_core.specs.Consumers.{IsConsumerOf, IsSameConsumer, set_up_of};
 
 use crate::consumer::Consumer;
 use dspec_cpu::Shared;

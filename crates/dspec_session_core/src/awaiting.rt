@@ -1,8 +1,7 @@
 ghost use Rattle.std.specs.Prelude.{◌≡◌, ◌<◌, ◌≤◌, MatchOption};
 ghost use Rattle.dspec_table.specs.Seats.{known_there, IsConsumerAt, set_up};
-ghost use Rattle.dspec_session_core.specs.Awaiting.{AwaitedIn, Awaited, AwaitedOf};
+ghost use Rattle.dspec_session_core.specs.{Awaiting.AwaitedIn, Awaiting.Awaited, Awaiting.AwaitedOf, Consumers.IsConsumerOf, Consumers.IsSameConsumer, Consumers.set_up_of, Consumers.view_of};
 ghost use Rattle.dspec_cpu.specs.Lists.{words_of};
-ghost use Rattle.dspec_session_core.specs.Consumers.{IsConsumerOf, IsSameConsumer, set_up_of, view_of};
 
 use crate::cleaning::waits;
 use crate::consumer::Consumer;

@@ -1,7 +1,7 @@
 ghost use Rattle.std.specs.Prelude.{◌≡◌, OnOk, OnErr, IfErr, IfSome, IfNone};
 ghost use Rattle.dspec_session_core.specs.Batches.{Took, FoundNone, GaveBack, IsNotTakenBack};
-ghost use Rattle.dspec_cpu.specs.Lists.{words_of};
 ghost use Rattle.dspec_session_core.specs.Consumers.{IsConsumerOf, IsSameConsumer, set_up_of, taken_from};
+ghost use Rattle.dspec_cpu.specs.Lists.{words_of};
 
 use crate::consumer::Consumer;
 use dspec_cpu::Shared;

@@ -2,9 +2,8 @@ ghost use Rattle.std.specs.Prelude.{◌≡◌, ◌<◌, ◌≤◌, true};
 ghost use Rattle.dspec_deeds.specs.History.{word_at};
 ghost use Rattle.dspec_table.specs.Seats.{known_there, IsConsumerAt, set_up};
 ghost use Rattle.dspec_word.specs.Code.{awaits};
-ghost use Rattle.dspec_session_core.specs.Cleaning.{IsAcknowledgedBy, CleanedSlot, Cleaned};
+ghost use Rattle.dspec_session_core.specs.{Cleaning.IsAcknowledgedBy, Cleaning.CleanedSlot, Cleaning.Cleaned, Consumers.IsConsumerOf, Consumers.IsSameConsumer, Consumers.view_of};
 ghost use Rattle.dspec_cpu.specs.Lists.{words_of};
-ghost use Rattle.dspec_session_core.specs.Consumers.{IsConsumerOf, IsSameConsumer, view_of};
 
 use crate::consumer::Consumer;
 use dspec_cpu::Shared;

@@ -1,8 +1,7 @@
 ghost use Rattle.std.specs.Prelude.{◌≡◌, length};
 ghost use Rattle.dspec_table.specs.Seats.{set_up};
 ghost use Rattle.dspec_cpu.specs.Lists.{words_of};
-ghost use Rattle.dspec_session_core.specs.Finish.{FinishByOneList, FinishCloses, FinishKeeps, FinishPromises};
-ghost use Rattle.dspec_session_core.specs.Sessions.{IsSession};
+ghost use Rattle.dspec_session_core.specs.{Finish.FinishByOneList, Finish.FinishCloses, Finish.FinishKeeps, Finish.FinishPromises, Sessions.IsSession};
 
 use crate::closed::Closed;
 use crate::consumer::Consumer;

@@ -1,12 +1,8 @@
 ghost use Rattle.std.specs.Prelude.{◌≡◌, ◌<◌, ◌≤◌, ◌+◌, ◌∷◌, ◌++◌, ℕ, List, length, map, reverse, vec_len, vec_capacity};
 ghost use Rattle.dspec_deeds.specs.declared.deed.Deed.{Deed};
-ghost use Rattle.dspec_table.specs.Last.{Ended, last_words, last_set_up};
-ghost use Rattle.dspec_table.specs.Seats.{IsConsumerAt, known_there, set_up};
-ghost use Rattle.dspec_cpu.specs.declared.cpu.Cpu.{Cpu};
-ghost use Rattle.dspec_cpu.specs.KeptRests.{rest_with};
-ghost use Rattle.dspec_cpu.specs.Lists.{seat_of};
-ghost use Rattle.dspec_cpu.specs.Rests.{AreItsWords, config_of_rest, held_back_of_rest, number_of_rest, schema_of_rest, worn_of_rest};
-ghost use Rattle.dspec_cpu.specs.Sealed.{waiting};
+ghost use Rattle.dspec_table.specs.{Last.Ended, Last.last_words, Last.last_set_up, Seats.IsConsumerAt, Seats.known_there, Seats.set_up};
+ghost use Rattle.dspec_cpu.specs.{KeptRests.rest_with, Lists.seat_of, Rests.AreItsWords, Rests.config_of_rest, Rests.held_back_of_rest, Rests.number_of_rest, Rests.schema_of_rest};
+ghost use Rattle.dspec_cpu.specs.{Rests.worn_of_rest, Sealed.waiting, declared.cpu.Cpu.Cpu};
 ghost use Rattle.dspec_session_core.specs.Leaving.{AllSteady, AreLeft, AreParting, CanLeave, HasParted, LeavesRest};
 
 use crate::counted::CountedEnd;

@@ -3,10 +3,8 @@ ghost use Rattle.dspec_deeds.specs.declared.config.StartFault.TheVariants as sta
 ghost use Rattle.dspec_deeds.specs.Ranges.{start_fault};
 ghost use Rattle.dspec_ring.specs.Known.{IsUnusedConsumer};
 ghost use Rattle.dspec_table.specs.Seats.{FreshSeats, IsConsumerAt, known_there, last_seat, set_up};
-ghost use Rattle.dspec_cpu.specs.declared.cpu.Cpu.{Cpu};
-ghost use Rattle.dspec_cpu.specs.Lists.{words_of};
-ghost use Rattle.dspec_session_core.specs.Consumers.{view_of};
-ghost use Rattle.dspec_session_core.specs.Sessions.{IsSession, IsFresh};
+ghost use Rattle.dspec_cpu.specs.{Lists.words_of, declared.cpu.Cpu.Cpu};
+ghost use Rattle.dspec_session_core.specs.{Consumers.view_of, Sessions.IsSession, Sessions.IsFresh};
 
 use crate::consumer::Consumer;
 use crate::session::Session;

@@ -1,6 +1,5 @@
 ghost use Rattle.dspec_cpu.specs.Lists.{words_of};
-ghost use Rattle.dspec_session_core.specs.Consumers.{IsConsumerOf, IsSameConsumer};
-ghost use Rattle.dspec_session_core.specs.Stopping.{Stopped};
+ghost use Rattle.dspec_session_core.specs.{Consumers.IsConsumerOf, Consumers.IsSameConsumer, Stopping.Stopped};
 
 use crate::consumer::Consumer;
 use dspec_cpu::Shared;

@@ -1,20 +1,15 @@
 -- The load of activity.
 use Rattle.std.proofs.Common.{◌≡◌, ℕ, ◌≤◌, Bool, true, false, ◌==◌, not, if◌then◌else◌, List, [], ◌++◌, Some, refl, sym, ap, ◌∙◌, subst, arith}
-use Rattle.std.specs.Prelude.{slice_index}
 use Rattle.std.proofs.lemmas.Bool.Decides.{nat_tests}
+use Rattle.std.specs.Prelude.{slice_index}
 use Rattle.atomic_table.specs.Table.{keeps, Allows, Me}
-use Rattle.dspec_table.specs.Words.{Speculation, CpuStep, Holder, of_cpu, halted, late, scan, owed, is_open, in_range, IsSound, View, Doing, WordsRule, activity, activity_place, flight_after}
-use Rattle.dspec_table.specs.Words.{calling, acted, Entered, LoadedActivity, at_activity, number_of}
-use Rattle.dspec_deeds.specs.declared.config.Config.{Config}
-use Rattle.dspec_deeds.specs.declared.deed.Deed.{Deed}
-use Rattle.dspec_word.specs.declared.code.Code.TheVariants.{Inactive}
-use Rattle.dspec_deeds.proofs.TestLemmas.{off, and_tells}
-use Rattle.dspec_deeds.proofs.SoundLists.{opened_in_range, running_not_late}
-use Rattle.dspec_deeds.specs.declared.calls.CpuOp.{CpuOp}
-use Rattle.dspec_table.proofs.InFlight.{activity_of, service_begins}
+use Rattle.dspec_table.specs.Words.{Speculation, CpuStep, Holder, of_cpu, halted, late, scan, owed, is_open, in_range, IsSound, WordsRule, activity, activity_place, flight_after, calling, acted}
+use Rattle.dspec_table.specs.Words.{Entered, LoadedActivity, at_activity, number_of, Config, Deed, Inactive, CpuOp}
+use Rattle.dspec_table.specs.declared.{doing.Doing.Doing, rule.View.View}
+use Rattle.dspec_deeds.proofs.{SoundLists.opened_in_range, SoundLists.running_not_late, TestLemmas.off, TestLemmas.and_tells}
+use Rattle.dspec_table.proofs.{Adding.sound_adds, Adding.part_adds, InFlight.activity_of, InFlight.service_begins, Keeps.Owes, Keeps.none_owed, Keeps.acts_owed, Keeps.finds, Keeps.idle_log}
+use Rattle.dspec_table.proofs.{Keeps.is_cpu, Keeps.its_config}
 use Rattle.dspec_interleaving.proofs.StepDeeds.{by_test}
-use Rattle.dspec_table.proofs.Adding.{sound_adds, part_adds}
-use Rattle.dspec_table.proofs.Keeps.{Owes, none_owed, acts_owed, finds, idle_log, is_cpu, its_config}
 use Rattle.dspec_deeds.specs.declared.calls.CpuOp.TheVariants as op
 
 not_open : (k : Config) (log : List Deed) (id : Speculation) → 1 ≤ k.nspec → IsSound k log → in_range k id ≡ false → false ≡ is_open id log

@@ -1,19 +1,15 @@
 -- What deeds that are added to the list of all leave of what each seat has seen.
-use Rattle.std.proofs.lemmas.Bool.Decides.{nat_tests}
 use Rattle.std.proofs.Common.{◌≡◌, ◌≢◌, ℕ, ◌+◌, ◌≤◌, ◌<◌, true, false, if◌then◌else◌, List, [], ◌∷◌, ◌++◌, set, refl, sym, ap, ◌∙◌, subst, ⊎_elim, arith, Option, Some}
+use Rattle.std.proofs.lemmas.Bool.Decides.{nat_tests}
 use Rattle.std.specs.Prelude.{slice_set}
 use mathlib.Core.Option.{some}
 use lib.ListN.{get_elem?}
 use Rattle.atomic_table.specs.Table.{State, keeps, stepped}
 use Rattle.atomic_table.proofs.Lists.{at_set}
-use Rattle.dspec_deeds.specs.declared.config.Config.{Config}
-use Rattle.dspec_deeds.specs.declared.calls.CpuOp.{CpuOp}
-use Rattle.dspec_deeds.specs.declared.deed.Deed.{Deed}
-use Rattle.dspec_table.specs.Words.{Holder, of_cpu, of_nobody, doer, part_of, same_holder, owed, IsSound, Follows, HasAuthors, View, Shows, Since, here, more, Past, holdings, times_among, Parts}
-use Rattle.dspec_table.specs.Words.{Each, Remembers, Knows, KnowsAsks, WordsRule, with_asks}
-use Rattle.dspec_table.proofs.HolderTests.{same_holder_tells}
-use Rattle.dspec_table.proofs.Pasts.{each_map}
-use Rattle.dspec_table.proofs.Totals.{total_two, total_set, one_seat, same_seats, of_session}
+use Rattle.dspec_table.specs.Words.{Config, CpuOp, Deed, Holder, of_cpu, of_nobody, doer, part_of, same_holder, owed, IsSound, Follows, HasAuthors, Shows, Since, here, more, holdings, times_among}
+use Rattle.dspec_table.specs.Words.{Parts, Each, Remembers, Knows, KnowsAsks, WordsRule, with_asks}
+use Rattle.dspec_table.specs.declared.rule.{Past.Past, View.View}
+use Rattle.dspec_table.proofs.{HolderTests.same_holder_tells, Pasts.each_map, Totals.total_two, Totals.total_set, Totals.one_seat, Totals.same_seats, Totals.of_session}
 
 -- the deeds may follow one another, the first one last, and all are w's
 abbrev pub Adds : Config → Holder → List Deed → List Deed → Type 0

@@ -1,7 +1,6 @@
 -- What a call answers, from the number that its exchange found.
-use Rattle.std.proofs.Common.{arith, ◌≡◌, ◌≢◌, ℕ, true, false, ◌==◌, sym, ◌∙◌, subst}
-use Rattle.std.proofs.lemmas.Bool.Decides.{nat_tests}
-use Rattle.dspec_table.specs.Words.{SlotState, word_number, View, Doing, TriedNumber, TriedWord, ReapedNumber, ReapedWord}
+use Rattle.std.proofs.{Common.arith, Common.◌≡◌, Common.◌≢◌, Common.ℕ, Common.true, Common.false, Common.◌==◌, Common.sym, Common.◌∙◌, Common.subst, lemmas.Bool.Decides.nat_tests}
+use Rattle.dspec_table.specs.{Words.SlotState, Words.word_number, Words.TriedNumber, Words.TriedWord, Words.ReapedNumber, Words.ReapedWord, declared.doing.Doing.Doing, declared.rule.View.View}
 use Rattle.dspec_word.proofs.Numbers.{one_word}
 use Rattle.dspec_deeds.proofs.TestLemmas.{number_is_itself, other_number}
 

@@ -1,18 +1,13 @@
 -- The asks: the consumer stores them, and a CPU loads its own.
 use Rattle.std.proofs.Common.{◌≡◌, ◌≢◌, ℕ, zero, suc, ◌≤◌, ◌<◌, true, List, [], ◌∷◌, length, refl, sym, ap, ◌∙◌, subst, arith, true≢false}
-use Rattle.std.specs.Prelude.{slice_index, slice_set}
-use Rattle.std.proofs.lemmas.List.{get_or-set_same, get_or-set_other}
-use Rattle.std.proofs.lemmas.Bool.Decides.{nat_tests}
 use Rattle.std.proofs.Math.ListN.{length-set}
+use Rattle.std.proofs.lemmas.{Bool.Decides.nat_tests, List.get_or-set_same, List.get_or-set_other}
+use Rattle.std.specs.Prelude.{slice_index, slice_set}
 use Rattle.atomic_table.specs.Table.{keeps, Allows, Me}
-use Rattle.dspec_deeds.specs.declared.config.Config.{Config}
-use Rattle.dspec_deeds.specs.declared.deed.Deed.{Deed}
-use Rattle.dspec_table.specs.Words.{of_cpu, of_consumer, same_holder, View, WordsRule, Least, KnowsAsks, Shows, slot_place, activity_place, ack_place, ask_place, with_asks, with_ask, StoredAskAt}
-use Rattle.dspec_table.specs.Words.{LoadedAsk, number_of}
-use Rattle.dspec_table.proofs.Pasts.{each_map}
-use Rattle.dspec_table.proofs.Adding.{acts_asking}
-use Rattle.dspec_table.proofs.Keeps.{same_words, finds, is_cpu, its_config}
-use Rattle.dspec_table.proofs.Places.{before_groups, ask_within, one_ask, no_ask}
+use Rattle.dspec_table.specs.{Words.Config, Words.Deed, Words.of_cpu, Words.of_consumer, Words.same_holder, Words.WordsRule, Words.Least, Words.KnowsAsks, Words.Shows, Words.slot_place}
+use Rattle.dspec_table.specs.{Words.activity_place, Words.ack_place, Words.ask_place, Words.with_asks, Words.with_ask, Words.StoredAskAt, Words.LoadedAsk, Words.number_of, declared.rule.View.View}
+use Rattle.dspec_table.proofs.{Adding.acts_asking, Keeps.same_words, Keeps.finds, Keeps.is_cpu, Keeps.its_config, Pasts.each_map, Places.before_groups, Places.ask_within, Places.one_ask}
+use Rattle.dspec_table.proofs.{Places.no_ask}
 
 pub with_ask_same : (xs : List ℕ) (c n : ℕ) → slice_index (with_ask xs c n) c ≡ n
 with_ask_same [] zero n = refl

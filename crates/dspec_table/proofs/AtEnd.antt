@@ -1,18 +1,14 @@
 -- All seats are back.
-use Rattle.std.proofs.lemmas.Bool.Decides.{nat_tests}
 use Rattle.std.proofs.Common.{◌≡◌, ◌⊎◌, ◌≤◌, ◌<◌, ◌^◌, arith, ℕ, zero, suc, List, [], ◌∷◌, ◌++◌, length, Some, refl, sym, ap, ◌∙◌, subst, ⊎_elim, inl, inr}
+use Rattle.std.proofs.lemmas.Bool.Decides.{nat_tests}
 use Rattle.std.specs.Prelude.{slice_get, slice_index}
 use mathlib.Core.Option.{some, some-injective, some-ne-none}
 use lib.ListN.{get_elem?}
-use Rattle.atomic_table.specs.Table.{Final, Seen}
-use Rattle.atomic_table.specs.Seated.{TableId}
-use Rattle.dspec_deeds.specs.declared.config.Config.{Config}
-use Rattle.dspec_deeds.specs.declared.deed.Deed.{Deed}
-use Rattle.dspec_table.specs.Words.{Holder, of_cpu, of_consumer, part_of, Since, HasAuthors, IsSound, View, CpuSeat, Shows, AreWords, IsWordNumber, ask_place, WordsRule, Parts, Remembers, Least}
+use Rattle.atomic_table.specs.{Seated.TableId, Table.Final, Table.Seen}
+use Rattle.dspec_table.specs.Words.{Config, Deed, Holder, of_cpu, of_consumer, part_of, Since, HasAuthors, IsSound, Shows, AreWords, IsWordNumber, ask_place, WordsRule, Parts, Remembers, Least}
 use Rattle.dspec_table.specs.Words.{holdings, known, In, AllAt, Joined, Recalled, Ended, past_of}
-use Rattle.dspec_table.proofs.Limits.{shown_number}
-use Rattle.dspec_table.proofs.Pasts.{each_in, others_since}
-use Rattle.dspec_table.proofs.Dealing.{got_pushed}
+use Rattle.dspec_table.specs.declared.{rule.View.View, seats.CpuSeat.CpuSeat}
+use Rattle.dspec_table.proofs.{Dealing.got_pushed, Limits.shown_number, Pasts.each_in, Pasts.others_since}
 
 in_front : {A : Type 0} (p : A) (ps qs : List A) → In p ps → In p (ps ++ qs)
 in_front p [] qs i = absurd i

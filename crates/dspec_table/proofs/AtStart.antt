@@ -1,14 +1,13 @@
 -- The rule holds at the start.
 use Rattle.std.proofs.Common.{◌≡◌, ◌≢◌, ℕ, zero, suc, ◌+◌, ◌≤◌, ◌<◌, true, false, ◌==◌, List, [], ◌∷◌, length, replicate, refl, sym, ap, ◌∙◌, subst, ⊎_elim, inr, arith}
-use Rattle.std.specs.Prelude.{slice_index}
-use Rattle.std.proofs.lemmas.Bool.Decides.{nat_tests}
 use Rattle.std.proofs.Math.ListN.{length-replicate}
+use Rattle.std.proofs.lemmas.Bool.Decides.{nat_tests}
+use Rattle.std.specs.Prelude.{slice_index}
 use mathlib.Core.Option.{some, some-injective, some-ne-none}
 use lib.ListN.{get_elem?}
 use Rattle.atomic_table.specs.Table.{opening}
-use Rattle.dspec_deeds.specs.declared.config.Config.{Config}
-use Rattle.dspec_table.specs.Words.{of_cpu, of_consumer, View, here, times_among, Parts, HaveSeats, Knows, KnowsAsks, WordsRule, cpus_from, newcomer, slot_place, word_count, activity_place}
-use Rattle.dspec_table.specs.Words.{ack_place}
+use Rattle.dspec_table.specs.{Words.Config, Words.of_cpu, Words.of_consumer, Words.here, Words.times_among, Words.Parts, Words.HaveSeats, Words.Knows, Words.KnowsAsks, Words.WordsRule}
+use Rattle.dspec_table.specs.{Words.cpus_from, Words.newcomer, Words.slot_place, Words.word_count, Words.activity_place, Words.ack_place, declared.rule.View.View}
 use Rattle.dspec_deeds.proofs.TestLemmas.{either_way, same_number, numbers_differ}
 
 zeros_at : (n i : ℕ) → slice_index (replicate n 0) i ≡ 0

@@ -1,24 +1,19 @@
 -- Deeds that change the word of one slot.
 use Rattle.std.proofs.Common.{◌≡◌, ◌≢◌, ℕ, ◌≤◌, ◌<◌, Bool, true, false, ◌==◌, List, [], ◌∷◌, ◌++◌, refl, sym, ap, ◌∙◌, subst, ⊎_elim, arith, true≢false}
-use Rattle.std.specs.Prelude.{slice_index, slice_set}
-use Rattle.std.proofs.lemmas.List.{get_or-set_same, get_or-set_other}
 use Rattle.std.proofs.Math.ListN.{length-set}
-use Rattle.std.proofs.lemmas.Bool.Decides.{nat_tests}
+use Rattle.std.proofs.lemmas.{Bool.Decides.nat_tests, List.get_or-set_same, List.get_or-set_other}
+use Rattle.std.specs.Prelude.{slice_index, slice_set}
 use mathlib.Core.Option.{some}
 use lib.ListN.{get_elem?}
 use prog.Atomic.{either}
 use Rattle.atomic_table.specs.Table.{State, keeps, Allows, Me, stepped}
-use Rattle.dspec_deeds.specs.declared.config.Config.{Config}
-use Rattle.dspec_deeds.specs.declared.deed.Deed.{Deed}
-use Rattle.dspec_table.specs.Words.{SlotState, word_number, word_at, Follows, Holder, of_cpu, doer, same_holder, ack, owed, View, WordsRule, Shows, activity, word, slot_place, group_place, AreOf}
-use Rattle.dspec_table.specs.Words.{Doing, Found, number_of, at_exchange, flight_after, acted, Entered}
-use Rattle.dspec_deeds.proofs.TestLemmas.{either_way, same_number}
-use Rattle.dspec_deeds.proofs.WordChanges.{slot_of}
-use Rattle.dspec_table.proofs.Places.{slot_within}
-use Rattle.dspec_table.proofs.Adding.{Adds}
-use Rattle.dspec_table.proofs.Keeps.{Owes, LeavesAsks, acts, acts_owed, enters, enters_owed, finds, is_cpu, its_config}
+use Rattle.dspec_table.specs.Words.{Config, Deed, SlotState, word_number, word_at, Follows, Holder, of_cpu, doer, same_holder, ack, owed, WordsRule, Shows, activity, word, slot_place, group_place}
+use Rattle.dspec_table.specs.Words.{AreOf, Found, number_of, at_exchange, flight_after, acted, Entered, CpuOp}
+use Rattle.dspec_table.specs.declared.{doing.Doing.Doing, rule.View.View}
+use Rattle.dspec_deeds.proofs.{TestLemmas.either_way, TestLemmas.same_number, WordChanges.slot_of}
+use Rattle.dspec_table.proofs.{Adding.Adds, Keeps.Owes, Keeps.LeavesAsks, Keeps.acts, Keeps.acts_owed, Keeps.enters, Keeps.enters_owed, Keeps.finds, Keeps.is_cpu, Keeps.its_config}
+use Rattle.dspec_table.proofs.{Places.slot_within}
 use Rattle.dspec_word.proofs.Numbers.{one_word}
-use Rattle.dspec_deeds.specs.declared.calls.CpuOp.{CpuOp}
 
 -- only the word of this slot changes
 pub record IsChange (s : ℕ) (log new : List Deed) : Type 0 where

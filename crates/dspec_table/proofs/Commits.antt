@@ -1,17 +1,9 @@
 -- A commit that waits for no other CPU stands, and is its seat's own.
-use Rattle.std.proofs.Common.{arith, ◌≡◌, ℕ, Bool, true, List, [], ◌∷◌, refl}
-use Rattle.std.proofs.lemmas.Bool.Decides.{nat_tests}
-use Rattle.dspec_table.specs.Words.{Speculation, SlotState, speculate_at, commit_at, discard_at, is_commit, scan, committed, word_at, committed_fate, View, Doing, of_cpu, number_of, MayLoad}
-use Rattle.dspec_table.specs.Words.{Attempts, IsDeciding, OwnCommit, IfCommitting, slot_place, Entered, at_exchange}
-use Rattle.dspec_word.specs.declared.code.Code.{Code}
-use Rattle.dspec_word.specs.declared.code.Code.TheVariants.{Committing}
-use Rattle.dspec_word.specs.declared.act.Act.TheVariants.{Attempt}
-use Rattle.dspec_deeds.specs.declared.config.Config.{Config}
-use Rattle.dspec_deeds.specs.declared.calls.CpuOp.{CpuOp}
-use Rattle.dspec_deeds.specs.declared.deed.Deed.{Deed}
-use Rattle.dspec_deeds.specs.declared.deed.Deed.TheVariants.{Commit}
-use Rattle.dspec_deeds.proofs.TestLemmas.{id_is_itself}
-use Rattle.dspec_deeds.proofs.WordCodes.{committing_tells}
+use Rattle.std.proofs.{Common.arith, Common.◌≡◌, Common.ℕ, Common.Bool, Common.true, Common.List, Common.[], Common.◌∷◌, Common.refl, lemmas.Bool.Decides.nat_tests}
+use Rattle.dspec_table.specs.Words.{Speculation, SlotState, speculate_at, commit_at, discard_at, is_commit, scan, committed, word_at, committed_fate, of_cpu, number_of, MayLoad, Attempts}
+use Rattle.dspec_table.specs.Words.{IsDeciding, OwnCommit, IfCommitting, slot_place, Entered, at_exchange, Code, Committing, Attempt, Config, CpuOp, Deed, Commit}
+use Rattle.dspec_table.specs.declared.{doing.Doing.Doing, rule.View.View}
+use Rattle.dspec_deeds.proofs.{TestLemmas.id_is_itself, WordCodes.committing_tells}
 use Rattle.dspec_interleaving.proofs.StepDeeds.{committed_deeds}
 use Rattle.dspec_table.proofs.Limits.{issue_below}
 

@@ -1,15 +1,10 @@
 -- The same of the consumer's steps.
-use Rattle.std.proofs.Common.{arith, ◌≡◌, ℕ, Bool, List, [], ap, ◌∙◌}
-use Rattle.std.proofs.lemmas.Bool.Decides.{nat_tests}
-use Rattle.dspec_table.specs.Words.{SlotState, halted, word_at, bare, consumer_step, View, Found, LookedWord, slot_there, consumer_deeds, ConsumerSeatStep, IsStepOfPlay}
-use Rattle.dspec_deeds.specs.declared.config.Config.{Config}
+use Rattle.std.proofs.{Common.arith, Common.◌≡◌, Common.ℕ, Common.Bool, Common.List, Common.[], Common.ap, Common.◌∙◌, lemmas.Bool.Decides.nat_tests}
+use Rattle.dspec_table.specs.{Words.SlotState, Words.halted, Words.word_at, Words.bare, Words.consumer_step, Words.Found, Words.LookedWord, Words.slot_there, Words.consumer_deeds}
+use Rattle.dspec_table.specs.{Words.ConsumerSeatStep, Words.IsStepOfPlay, Words.Config, Words.Deed, Words.CpuProgress, Words.ConsumerFlight, Words.ConsumerProgress, declared.rule.View.View}
 use Rattle.dspec_deeds.specs.declared.calls.ConsumerOp.TheVariants as consumer_op
-use Rattle.dspec_deeds.specs.declared.deed.Deed.{Deed}
 use Rattle.dspec_deeds.proofs.BareReads.{shows_bare}
-use Rattle.dspec_interleaving.specs.declared.flight.CpuProgress.{CpuProgress}
-use Rattle.dspec_interleaving.specs.declared.flight.ConsumerFlight.{ConsumerFlight}
 use Rattle.dspec_interleaving.specs.declared.flight.ConsumerFlight.TheVariants as consumer
-use Rattle.dspec_interleaving.specs.declared.flight.ConsumerProgress.{ConsumerProgress}
 use Rattle.dspec_table.proofs.SeatsDid.{IsBehind, bare_joined}
 
 module _ (k : Config) (h : List Deed) (side : ConsumerProgress) (all : List CpuProgress) where

@@ -1,11 +1,10 @@
 -- The seats of the CPUs, dealt out one by one.
-use Rattle.std.proofs.lemmas.Bool.Decides.{nat_tests}
 use Rattle.std.proofs.Common.{◌≡◌, ◌⊎◌, ℕ, zero, suc, ◌+◌, ◌-◌, ◌<◌, List, [], ◌∷◌, ◌++◌, length, Some, refl, sym, ap, subst, ⊎_elim, inl, inr, arith}
+use Rattle.std.proofs.lemmas.Bool.Decides.{nat_tests}
 use Rattle.std.specs.Prelude.{slice_get}
-use Rattle.atomic_table.specs.Table.{Splits}
-use Rattle.atomic_table.specs.Seated.{TableId}
-use Rattle.dspec_deeds.specs.declared.config.Config.{Config}
-use Rattle.dspec_table.specs.Words.{of_cpu, View, CpuSeat, WordsRule, cpus_from, without, dealt, others, first_of_those, known, fresh_seat, dealing, DealtSeats}
+use Rattle.atomic_table.specs.{Seated.TableId, Table.Splits}
+use Rattle.dspec_table.specs.Words.{Config, of_cpu, WordsRule, cpus_from, without, dealt, others, first_of_those, known, fresh_seat, dealing, DealtSeats}
+use Rattle.dspec_table.specs.declared.{rule.View.View, seats.CpuSeat.CpuSeat}
 use Rattle.dspec_table.proofs.Joining.{deals}
 
 more_cpus : (c n : ℕ) → c < n → cpus_from c (n - c) ≡ (of_cpu c, []) ∷ cpus_from (c + 1) (n - (c + 1))

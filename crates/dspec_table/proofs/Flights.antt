@@ -1,15 +1,11 @@
 -- A call in flight on an identifier, behind each of its steps. No proof of this crate cites it; those of the crates above do.
 use Rattle.std.proofs.Common.{arith, Option, inr, ◌≡◌, ℕ, ◌+◌, ◌≤◌, Bool, true, false, List, [], ◌∷◌, sym, ap, ◌∙◌, subst}
 use Rattle.std.proofs.lemmas.Bool.Decides.{nat_tests}
-use Rattle.dspec_word.specs.declared.act.Act.TheVariants.{Void, Attempt}
-use Rattle.dspec_table.specs.Words.{Speculation, SlotState, is_among, callers, scan, late, in_range, mark, View, Doing, of_cpu, number_of, at_activity, at_word, IsOn, IsInFlight, MayLoad, MayTry}
+use Rattle.dspec_table.specs.Words.{Void, Attempt, Speculation, SlotState, is_among, callers, scan, late, in_range, mark, of_cpu, number_of, at_activity, at_word, IsOn, IsInFlight, MayLoad, MayTry}
 use Rattle.dspec_table.specs.Words.{Attempts, calling, flight_after, activity_place, slot_place, acted, Entered, EnteredIn, LoadedActivity, LoadedWord, idle_progress, shown, shown_scan, open_at}
-use Rattle.dspec_table.specs.Words.{is_decided}
-use Rattle.dspec_deeds.specs.declared.deed.Deed.{Deed}
-use Rattle.dspec_deeds.specs.declared.config.Config.{Config}
-use Rattle.dspec_deeds.specs.declared.calls.CpuOp.{CpuOp}
+use Rattle.dspec_table.specs.Words.{is_decided, Deed, Config, CpuOp, Miss}
+use Rattle.dspec_table.specs.declared.{doing.Doing.Doing, rule.View.View}
 use Rattle.dspec_deeds.specs.declared.calls.CpuOp.TheVariants as op
-use Rattle.dspec_deeds.specs.declared.deed.Deed.TheVariants.{Miss}
 use Rattle.dspec_deeds.proofs.SoundLists.{running_not_late}
 use Rattle.dspec_interleaving.proofs.StepDeeds.{missed_deeds}
 use Rattle.dspec_table.proofs.Keeps.{late_since}

@@ -1,10 +1,8 @@
 -- A slot's word only grows, so an exchange that fails shows a greater one.
-use Rattle.std.proofs.lemmas.Bool.Decides.{nat_tests}
-use Rattle.std.proofs.Common.{◌≡◌, ◌≢◌, ℕ, ◌≤◌, ◌<◌, List, ◌∷◌, arith}
-use Rattle.dspec_table.specs.Words.{SlotState, word_number, Holder, word_at, IsSound, View, Since, here, more, Found}
+use Rattle.std.proofs.{Common.◌≡◌, Common.◌≢◌, Common.ℕ, Common.◌≤◌, Common.◌<◌, Common.List, Common.◌∷◌, Common.arith, lemmas.Bool.Decides.nat_tests}
+use Rattle.dspec_table.specs.Words.{SlotState, word_number, Holder, word_at, IsSound, Since, here, more, Found, Config, Deed}
+use Rattle.dspec_table.specs.declared.rule.View.{View}
 use Rattle.dspec_word.proofs.Numbers.{one_word}
-use Rattle.dspec_deeds.specs.declared.config.Config.{Config}
-use Rattle.dspec_deeds.specs.declared.deed.Deed.{Deed}
 use Rattle.dspec_deeds.proofs.WordsRise.{words_rise}
 
 pub word_rises : (k : Config) (w : Holder) (seen log : List Deed) (s : ℕ) → IsSound k log → Since w seen log → word_number (word_at s seen) ≤ word_number (word_at s log)

@@ -1,18 +1,11 @@
 -- The consumer stops the session.
-use Rattle.std.proofs.lemmas.Bool.Decides.{nat_tests}
-use Rattle.std.proofs.Common.{◌≡◌, ℕ, Bool, true, false, List, [], ◌++◌, Option, refl, sym, subst, arith}
+use Rattle.std.proofs.{Common.◌≡◌, Common.ℕ, Common.Bool, Common.true, Common.false, Common.List, Common.[], Common.◌++◌, Common.Option, Common.refl, Common.sym, Common.subst, Common.arith}
+use Rattle.std.proofs.{Math.ListN.length-set, lemmas.Bool.Decides.nat_tests, lemmas.List.get_or-set_same, lemmas.List.get_or-set_other}
 use Rattle.std.specs.Prelude.{slice_set}
-use Rattle.std.proofs.lemmas.List.{get_or-set_same, get_or-set_other}
-use Rattle.std.proofs.Math.ListN.{length-set}
 use Rattle.atomic_table.specs.Table.{keeps, Allows, Me}
-use Rattle.dspec_deeds.specs.declared.config.Config.{Config}
-use Rattle.dspec_deeds.specs.declared.deed.Deed.{Deed}
-use Rattle.dspec_table.specs.Words.{of_consumer, same_holder, halted, owed, View, WordsRule, Shows, activity_place, acted, StoredActivity, at_stop, AreOf}
-use Rattle.dspec_table.proofs.Places.{before_groups}
-use Rattle.dspec_deeds.specs.declared.calls.CpuOp.{CpuOp}
-use Rattle.dspec_table.proofs.Adding.{Adds}
-use Rattle.dspec_table.proofs.Keeps.{acts, enters, finds}
-use Rattle.dspec_table.proofs.Changes.{leaves_asks}
+use Rattle.dspec_table.specs.Words.{Config, Deed, of_consumer, same_holder, halted, owed, WordsRule, Shows, activity_place, acted, StoredActivity, at_stop, AreOf, CpuOp}
+use Rattle.dspec_table.specs.declared.rule.View.{View}
+use Rattle.dspec_table.proofs.{Adding.Adds, Changes.leaves_asks, Keeps.acts, Keeps.enters, Keeps.finds, Places.before_groups}
 
 stop_shows : (k : Config) (words : List ℕ) (log : List Deed) (b : Bool) → halted log ≡ b → Shows k words log → Shows k (slice_set words activity_place 1) (at_stop b ++ log)
 stop_shows k words log b is sh = grind (arith, nat_tests, length-set, get_or-set_same, get_or-set_other, before_groups)

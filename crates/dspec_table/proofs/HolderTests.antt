@@ -1,8 +1,7 @@
 -- What tests on holders tell.
 use Rattle.std.proofs.Common.{◌≡◌, true, if◌then◌else◌, List, ◌∷◌, Some, None, refl, ap}
-use Rattle.dspec_deeds.specs.declared.deed.Deed.{Deed}
+use Rattle.dspec_table.specs.Words.{Deed, Holder, same_holder, doer, part_of}
 use Rattle.dspec_deeds.proofs.TestLemmas.{same_actor_tells}
-use Rattle.dspec_table.specs.Words.{Holder, same_holder, doer, part_of}
 
 pub same_holder_tells : (v w : Holder) → same_holder v w ≡ true → v ≡ w
 same_holder_tells None w e = absurd (cc (e))

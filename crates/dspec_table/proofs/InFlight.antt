@@ -2,18 +2,12 @@
 -- call in flight.
 use Rattle.std.proofs.Common.{arith, ◌≡◌, ℕ, ◌==◌, Bool, true, false, if◌then◌else◌, List, [], Option, Some, refl, sym, subst}
 use Rattle.std.proofs.lemmas.Bool.Decides.{nat_tests}
-use Rattle.dspec_table.specs.Words.{Speculation, SlotState, settle_at, Record, is_fill, bare, View, Doing, at_activity, at_word, at_exchange, MayLoad, AreOf, Measured, CpuStep, begun, idle_progress}
-use Rattle.dspec_table.specs.Words.{missed, seen, shown, shown_commit, shown_discard, shown_scan, shown_service, shown_speculate, spoken_at, committed_by, discarded_by, is_counted}
-use Rattle.dspec_word.specs.declared.act.Act.{Act}
-use Rattle.dspec_word.specs.declared.act.Act.TheVariants.{Granted, Attempt}
-use Rattle.dspec_word.specs.declared.code.Code.TheVariants.{Inactive}
-use Rattle.dspec_deeds.specs.declared.config.Config.{Config}
-use Rattle.dspec_deeds.specs.declared.calls.CpuOp.{CpuOp}
+use Rattle.dspec_table.specs.Words.{Speculation, SlotState, settle_at, Record, is_fill, bare, at_activity, at_word, at_exchange, MayLoad, AreOf, Measured, CpuStep, begun, idle_progress, missed}
+use Rattle.dspec_table.specs.Words.{seen, shown, shown_commit, shown_discard, shown_scan, shown_service, shown_speculate, spoken_at, committed_by, discarded_by, is_counted, Act, Granted, Attempt}
+use Rattle.dspec_table.specs.Words.{Inactive, Config, CpuOp, Served, Deed, CpuProgress}
+use Rattle.dspec_table.specs.declared.{doing.Doing.Doing, rule.View.View}
 use Rattle.dspec_deeds.specs.declared.calls.CpuOp.TheVariants as op
 use Rattle.dspec_deeds.specs.declared.calls.Op.TheVariants.{Cpu}
-use Rattle.dspec_deeds.specs.declared.calls.Served.{Served}
-use Rattle.dspec_deeds.specs.declared.deed.Deed.{Deed}
-use Rattle.dspec_interleaving.specs.declared.flight.CpuProgress.{CpuProgress}
 use Rattle.dspec_interleaving.proofs.StepDeeds.{by_test, served_deeds}
 
 -- a service enters nothing where it loads

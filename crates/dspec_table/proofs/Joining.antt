@@ -1,21 +1,16 @@
 -- Cutting a seat in two, and joining two, keeps the rule.
-use Rattle.std.proofs.lemmas.Bool.Decides.{nat_tests}
 use Rattle.std.proofs.Common.{◌≡◌, ◌≢◌, ℕ, zero, suc, ◌+◌, ◌≤◌, true, false, if◌then◌else◌, List, [], ◌∷◌, ◌++◌, set, refl, sym, ap, ◌∙◌, subst, ⊎_elim, inl, inr, arith, true≢false}
+use Rattle.std.proofs.lemmas.Bool.Decides.{nat_tests}
 use Rattle.std.specs.Prelude.{slice_index}
 use mathlib.Core.Option.{some}
 use lib.ListN.{get_elem?}
 use Rattle.atomic_table.specs.Table.{State, Splits, Joins}
 use Rattle.atomic_table.proofs.Lists.{at_set, at_snoc}
-use Rattle.dspec_deeds.specs.declared.config.Config.{Config}
-use Rattle.dspec_deeds.specs.declared.deed.Deed.{Deed}
-use Rattle.dspec_table.specs.Words.{Holder, of_cpu, of_consumer, of_nobody, doer, part_of, same_holder, View, Since, here, more, holdings, times_among, held_in_all, Parts, Each, Remembers, Least}
-use Rattle.dspec_table.specs.Words.{Knows, KnowsAsks, WordsRule, ask_place, nobody, without, dealt, greater, note, heard, answered, past_of, gathered}
+use Rattle.dspec_table.specs.Words.{Config, Deed, Holder, of_cpu, of_consumer, of_nobody, doer, part_of, same_holder, Since, here, more, holdings, times_among, held_in_all, Parts, Each, Remembers}
+use Rattle.dspec_table.specs.Words.{Least, Knows, KnowsAsks, WordsRule, ask_place, nobody, without, dealt, greater, note, heard, answered, past_of, gathered}
+use Rattle.dspec_table.specs.declared.rule.View.{View}
 use Rattle.dspec_deeds.proofs.TestLemmas.{either_way}
-use Rattle.dspec_table.proofs.HolderTests.{part_next}
-use Rattle.dspec_table.proofs.Totals.{total_set, total_snoc}
-use Rattle.dspec_table.proofs.Adding.{since_nothing}
-use Rattle.dspec_table.proofs.Keeps.{its_config}
-use Rattle.dspec_table.proofs.Pasts.{each_append, since_part}
+use Rattle.dspec_table.proofs.{Adding.since_nothing, HolderTests.part_next, Keeps.its_config, Pasts.each_append, Pasts.since_part, Totals.total_set, Totals.total_snoc}
 
 -- new views, known of the same log
 with_views : (k : Config) (st : State ℕ View) (kept : WordsRule k st) (views : List View) → ((j : ℕ) (u : View) → get_elem? views j ≡ some u → Knows k kept.log u)

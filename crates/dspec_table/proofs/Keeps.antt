@@ -1,20 +1,15 @@
 -- A seat's own deeds, added to the list, keep the rule, where the words show the longer list.
 use Rattle.std.proofs.Common.{arith, ◌≡◌, ℕ, ◌≤◌, ◌<◌, true, false, List, [], ◌∷◌, ◌++◌, refl, sym, ap, ◌∙◌, subst, ⊎_elim, Option, true≢false}
-use Rattle.std.proofs.lemmas.Bool.Decides.{nat_tests}
+use Rattle.std.proofs.lemmas.{Bool.Decides.nat_tests, List.set-get_or}
 use Rattle.std.specs.Prelude.{slice_index, slice_set}
 use mathlib.Core.Option.{some}
 use lib.ListN.{get_elem?}
 use Rattle.atomic_table.specs.Table.{State, keeps, Allows, Me, stepped}
-use Rattle.dspec_deeds.specs.declared.config.Config.{Config}
-use Rattle.dspec_deeds.specs.declared.calls.CpuOp.{CpuOp}
-use Rattle.dspec_deeds.specs.declared.deed.Deed.{Deed}
-use Rattle.dspec_table.specs.Words.{Holder, of_cpu, of_nobody, part_of, same_holder, owed, scan, late, IsSound, View, Shows, Since, here, more, Past, Each, Least, Knows, KnowsAsks, activity, word}
-use Rattle.dspec_table.specs.Words.{ack, WordsRule, ask_place, AreOf, flight_after, acted, Found, Entered}
-use Rattle.dspec_table.proofs.OwnReading.{scan_part}
+use Rattle.dspec_table.specs.Words.{Config, CpuOp, Deed, Holder, of_cpu, of_nobody, part_of, same_holder, owed, scan, late, IsSound, Shows, Since, here, more, Each, Least, Knows, KnowsAsks}
+use Rattle.dspec_table.specs.Words.{activity, word, ack, WordsRule, ask_place, AreOf, flight_after, acted, Found, Entered}
+use Rattle.dspec_table.specs.declared.rule.{Past.Past, View.View}
+use Rattle.dspec_table.proofs.{Adding.Adds, Adding.acts_asking, Adding.flying, Adding.part_adds, Adding.sound_adds, OwnReading.scan_part, Pasts.each_map}
 use Rattle.dspec_deeds.proofs.TestLemmas.{number_is_itself}
-use Rattle.std.proofs.lemmas.List.{set-get_or}
-use Rattle.dspec_table.proofs.Pasts.{each_map}
-use Rattle.dspec_table.proofs.Adding.{Adds, acts_asking, flying, part_adds, sound_adds}
 
 -- the longer list shows in the same words
 pub record IsQuiet (log new : List Deed) : Type 0 where

@@ -1,14 +1,11 @@
 -- The issues that a list shows are within the configuration's limit, and so fit a word.
 use Rattle.std.proofs.Common.{◌≡◌, ℕ, suc, ◌<◌, ◌≤◌, ◌%◌, ◌/◌, ◌^◌, true, false, not, true≢false, List, [], ◌∷◌, refl, ap, ◌∙◌, sym, subst, ⊎_elim, arith}
-use Rattle.std.specs.Prelude.{nat_lt}
 use Rattle.std.proofs.lemmas.Bool.Decides.{nat_tests}
-use Rattle.dspec_table.specs.Words.{Speculation, SlotState, word_number, CanBeReleased, opens, opened, issue, present, releases, verdict, is_undecided, word_at, IsSound, Follows, View, Found}
-use Rattle.dspec_table.specs.Words.{IsWordNumber}
-use Rattle.dspec_deeds.specs.declared.config.Config.{Config}
-use Rattle.dspec_deeds.specs.declared.deed.Deed.{Deed}
-use Rattle.dspec_deeds.specs.declared.deed.Deed.TheVariants.{Opened, Release}
-use Rattle.dspec_deeds.proofs.TestLemmas.{either_way, or_tells, and_tells, same_id_tells, same_number}
-use Rattle.dspec_deeds.proofs.PresentIds.{decided_given}
+use Rattle.std.specs.Prelude.{nat_lt}
+use Rattle.dspec_table.specs.Words.{Speculation, SlotState, word_number, CanBeReleased, opens, opened, issue, present, releases, verdict, is_undecided, word_at, IsSound, Follows, Found}
+use Rattle.dspec_table.specs.Words.{IsWordNumber, Config, Deed, Opened, Release}
+use Rattle.dspec_table.specs.declared.rule.View.{View}
+use Rattle.dspec_deeds.proofs.{PresentIds.decided_given, TestLemmas.either_way, TestLemmas.or_tells, TestLemmas.and_tells, TestLemmas.same_id_tells, TestLemmas.same_number}
 use Rattle.dspec_word.proofs.Numbers.{code_below, one_word}
 
 -- what was given out has an issue below the most

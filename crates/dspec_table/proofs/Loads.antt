@@ -5,27 +5,16 @@ use mathlib.Core.Option.{some}
 use lib.ListN.{get_elem?}
 use Rattle.atomic_table.specs.Table.{State, Allows, Me}
 use Rattle.dspec_table.specs.Words.{Speculation, SlotState, halted, word_number, speculate_at, commit_at, commit_act, discard_at, discard_act, open_at, spoken_granted, Record, slot_place, Holder}
-use Rattle.dspec_table.specs.Words.{of_cpu, part_of, issue, scan, owed, late, present, code_at, word_at, is_among, callers, joined, verdict, standing, is_open, IsSound, mark, View, Doing, WordsRule}
-use Rattle.dspec_table.specs.Words.{Since, number_of, at_word, IsInFlight, MayLoad, LoadedNumber, Measured, idle_progress, settle_at, shown, shown_scan, shown_speculate, shown_commit, shown_discard}
-use Rattle.dspec_table.specs.Words.{StopsOrActs}
-use Rattle.dspec_word.specs.declared.act.Act.{Act}
-use Rattle.dspec_word.specs.declared.code.Code.{Code}
-use Rattle.dspec_deeds.proofs.SoundLists.{granted_goes}
-use Rattle.dspec_word.specs.declared.act.Act.TheVariants.{Void, Granted, Attempt, Idle}
-use Rattle.dspec_deeds.specs.declared.config.Config.{Config}
-use Rattle.dspec_deeds.specs.declared.deed.SpeculateFate.{SpeculateFate}
-use Rattle.dspec_deeds.specs.declared.deed.Deed.{Deed}
-use Rattle.dspec_deeds.specs.declared.deed.Deed.TheVariants.{Speculate}
-use Rattle.dspec_deeds.proofs.TestLemmas.{same_number}
-use Rattle.dspec_deeds.proofs.Marks.{mark_tells, mark_part}
-use Rattle.dspec_table.proofs.OwnReading.{has_part}
-use Rattle.dspec_deeds.proofs.WordActs.{speculate_void, speculate_granted, commit_void, discard_void}
-use Rattle.dspec_deeds.proofs.WordCodes.{busy_is, open_void}
-use Rattle.dspec_deeds.specs.declared.calls.CpuOp.{CpuOp}
-use Rattle.dspec_table.proofs.InFlight.{word_of, looks}
+use Rattle.dspec_table.specs.Words.{of_cpu, part_of, issue, scan, owed, late, present, code_at, word_at, is_among, callers, joined, verdict, standing, is_open, IsSound, mark, WordsRule, Since}
+use Rattle.dspec_table.specs.Words.{number_of, at_word, IsInFlight, MayLoad, LoadedNumber, Measured, idle_progress, settle_at, shown, shown_scan, shown_speculate, shown_commit, shown_discard}
+use Rattle.dspec_table.specs.Words.{StopsOrActs, Act, Code, Void, Granted, Attempt, Idle, Config, SpeculateFate, Deed, Speculate, CpuOp}
+use Rattle.dspec_table.specs.declared.{doing.Doing.Doing, rule.View.View}
+use Rattle.dspec_deeds.proofs.{Marks.mark_tells, Marks.mark_part, SoundLists.granted_goes, TestLemmas.same_number, WordActs.speculate_void, WordActs.speculate_granted, WordActs.commit_void}
+use Rattle.dspec_deeds.proofs.{WordActs.discard_void, WordCodes.busy_is, WordCodes.open_void}
+use Rattle.dspec_table.proofs.{InFlight.word_of, InFlight.looks, Keeps.Owes, Keeps.none_owed, Keeps.loads, Keeps.finds, Keeps.idle_log, Keeps.late_since, Keeps.enters_owed, Keeps.is_cpu}
+use Rattle.dspec_table.proofs.{Keeps.its_config, OwnReading.has_part}
 use Rattle.dspec_interleaving.proofs.StepDeeds.{by_test, missed_deeds}
 use Rattle.dspec_interleaving.proofs.StepsWords.{is_plain, speculate_not_idle, commit_plain, discard_plain, open_plain}
-use Rattle.dspec_table.proofs.Keeps.{Owes, none_owed, loads, finds, idle_log, late_since, enters_owed, is_cpu, its_config}
 use Rattle.dspec_deeds.specs.declared.deed.SpeculateFate.TheVariants as spoken
 use Rattle.dspec_deeds.specs.declared.calls.CpuOp.TheVariants as op
 

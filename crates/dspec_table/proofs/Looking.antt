@@ -4,8 +4,8 @@ use Rattle.std.specs.Prelude.{slice_index}
 use mathlib.Core.Option.{some}
 use lib.ListN.{get_elem?}
 use Rattle.atomic_table.specs.Table.{State, keeps, Allows, Me}
-use Rattle.dspec_deeds.specs.declared.config.Config.{Config}
-use Rattle.dspec_table.specs.Words.{same_holder, word_at, View, WordsRule, slot_place, activity_place, ack_place, acted, Looked, LookedNumber, LoadedAckAt}
+use Rattle.dspec_table.specs.Words.{Config, same_holder, word_at, WordsRule, slot_place, activity_place, ack_place, acted, Looked, LookedNumber, LoadedAckAt}
+use Rattle.dspec_table.specs.declared.rule.View.{View}
 use Rattle.dspec_table.proofs.Keeps.{none_owed, acts_owed, finds, its_config}
 
 -- a load that enters nothing keeps the rule

@@ -3,20 +3,13 @@ use Rattle.std.proofs.Common.{arith, ◌≡◌, ◌≢◌, ◌⊎◌, ℕ, ◌�
 use Rattle.std.proofs.lemmas.Bool.Decides.{nat_tests}
 use prog.Atomic.{either}
 use Rattle.atomic_table.specs.Table.{Allows, Me}
-use Rattle.dspec_table.specs.Words.{SlotState, word_number, open_at, is_inactive, slot_place, of_cpu, scan, owed, present, opened_since, word_at, IsSound, Follows, View, WordsRule, Since, here}
-use Rattle.dspec_table.specs.Words.{more, number_of, MayOpen, OpenedNumber, at_exchange, nothing}
-use Rattle.dspec_word.specs.declared.act.Act.TheVariants.{Attempt}
-use Rattle.dspec_deeds.specs.declared.config.Config.{Config}
+use Rattle.dspec_table.specs.Words.{SlotState, word_number, open_at, is_inactive, slot_place, of_cpu, scan, owed, present, opened_since, word_at, IsSound, Follows, WordsRule, Since, here, more}
+use Rattle.dspec_table.specs.Words.{number_of, MayOpen, OpenedNumber, at_exchange, nothing, Attempt, Config, Deed, Opened}
+use Rattle.dspec_table.specs.declared.rule.View.{View}
 use Rattle.dspec_deeds.specs.declared.calls.CpuOp.TheVariants as op
-use Rattle.dspec_deeds.specs.declared.deed.Deed.{Deed}
-use Rattle.dspec_deeds.specs.declared.deed.Deed.TheVariants.{Opened}
-use Rattle.dspec_deeds.proofs.WordChanges.{opened_word}
-use Rattle.dspec_deeds.proofs.WordCodes.{open_attempt, open_inactive, busy_is}
-use Rattle.dspec_deeds.proofs.StayingFree.{free_or_taken}
-use Rattle.dspec_table.proofs.InFlight.{open_of}
+use Rattle.dspec_deeds.proofs.{StayingFree.free_or_taken, WordChanges.opened_word, WordCodes.open_attempt, WordCodes.open_inactive, WordCodes.busy_is}
+use Rattle.dspec_table.proofs.{Changes.Changes, Changes.one_change, Changes.exchanges_in_call, InFlight.open_of, Keeps.Owes, Keeps.idle_log}
 use Rattle.dspec_interleaving.proofs.StepDeeds.{missed_deeds}
-use Rattle.dspec_table.proofs.Keeps.{Owes, idle_log}
-use Rattle.dspec_table.proofs.Changes.{Changes, one_change, exchanges_in_call}
 
 -- the word that was seen free stands, or the slot was given out since
 taken_since : (k : Config) (c s : ℕ) (seen log : List Deed) → IsSound k log → is_inactive (word_at s seen).code ≡ true → Since (of_cpu c) seen log

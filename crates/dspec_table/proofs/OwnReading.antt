@@ -1,9 +1,6 @@
 -- What is read off a CPU's own list is the same off the list of all.
 use Rattle.std.proofs.Common.{◌≡◌, ℕ, List}
-use Rattle.dspec_table.specs.Words.{Speculation, scan, is_among, callers, ack, part}
-use Rattle.dspec_deeds.specs.declared.config.Config.{Config}
-use Rattle.dspec_deeds.specs.declared.calls.Actor.TheVariants.{Cpu}
-use Rattle.dspec_deeds.specs.declared.deed.Deed.{Deed}
+use Rattle.dspec_table.specs.Words.{Speculation, scan, is_among, callers, ack, part, Config, Cpu, Deed}
 use Rattle.dspec_deeds.proofs.OwnReads.{reads}
 
 pub scan_part : (k : Config) (c : ℕ) (h : List Deed) → scan k c (part (Cpu c) h) ≡ scan k c h

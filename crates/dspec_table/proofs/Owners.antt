@@ -3,15 +3,10 @@ use Rattle.std.proofs.Common.{◌≡◌, ◌≤◌, ◌<◌, ◌⊎◌, ◌+◌,
 use mathlib.Core.Option.{some}
 use lib.ListN.{get_elem?}
 use Rattle.atomic_table.specs.Table.{State}
-use Rattle.dspec_deeds.specs.declared.config.Config.{Config}
-use Rattle.dspec_deeds.specs.declared.calls.Actor.{Actor}
-use Rattle.dspec_deeds.specs.declared.calls.Actor.TheVariants.{Cpu, Consumer}
-use Rattle.dspec_deeds.specs.declared.deed.Deed.{Deed}
-use Rattle.dspec_table.specs.Words.{author, HasAuthors, View, Holder, doer, part_of, same_holder, In, HasOneSeat, holdings, times_among, held_in_all, HaveSeats, WordsRule}
+use Rattle.dspec_table.specs.{Words.Config, Words.Actor, Words.Cpu, Words.Consumer, Words.Deed, Words.author, Words.HasAuthors, Words.Holder, Words.doer, Words.part_of, Words.same_holder, Words.In}
+use Rattle.dspec_table.specs.{Words.HasOneSeat, Words.holdings, Words.times_among, Words.held_in_all, Words.HaveSeats, Words.WordsRule, declared.rule.View.View}
 use Rattle.dspec_deeds.proofs.TestLemmas.{either_way}
-use Rattle.dspec_table.proofs.AtEnd.{part_in}
-use Rattle.dspec_table.proofs.HolderTests.{same_holder_tells, part_next}
-use Rattle.dspec_table.proofs.Adding.{same_turned}
+use Rattle.dspec_table.proofs.{Adding.same_turned, AtEnd.part_in, HolderTests.same_holder_tells, HolderTests.part_next}
 
 -- who is counted stands there
 among_those : (w : Holder) (ps : List (Holder × List Deed)) → 1 ≤ times_among w ps → (p : Holder × List Deed) × In p ps × (same_holder w p.0 ≡ true)

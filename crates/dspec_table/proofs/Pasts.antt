@@ -1,9 +1,9 @@
 -- What seats knew when they were joined.
-use Rattle.std.proofs.lemmas.Bool.Decides.{nat_tests}
 use Rattle.std.proofs.Common.{◌≡◌, ◌≤◌, arith, true, false, List, [], ◌∷◌, ◌++◌, length, refl, sym, ap, ◌∙◌, subst, ⊎_elim}
-use Rattle.dspec_deeds.specs.declared.deed.Deed.{Deed}
+use Rattle.std.proofs.lemmas.Bool.Decides.{nat_tests}
+use Rattle.dspec_table.specs.Words.{Deed, Holder, of_nobody, doer, part_of, same_holder, Since, here, more, Each, In}
+use Rattle.dspec_table.specs.declared.rule.Past.{Past}
 use Rattle.dspec_deeds.proofs.TestLemmas.{either_way}
-use Rattle.dspec_table.specs.Words.{Past, Holder, of_nobody, doer, part_of, same_holder, Since, here, more, Each, In}
 use Rattle.dspec_table.proofs.HolderTests.{part_next}
 
 pub each_map : (P Q : Past → Type 0) → ((p : Past) → P p → Q p) → (ps : List Past) → Each P ps → Each Q ps

@@ -1,8 +1,6 @@
 -- No two words lie at one place.
-use Rattle.std.proofs.lemmas.Bool.Decides.{nat_tests}
-use Rattle.std.proofs.Common.{◌≡◌, ◌≢◌, ℕ, ◌+◌, ◌*◌, ◌≤◌, ◌<◌, arith}
-use Rattle.dspec_deeds.specs.declared.config.Config.{Config}
-use Rattle.dspec_table.specs.Words.{slot_place, slot_at, group_width, group_place, ask_place, ack_place, word_count}
+use Rattle.std.proofs.{Common.◌≡◌, Common.◌≢◌, Common.ℕ, Common.◌+◌, Common.◌*◌, Common.◌≤◌, Common.◌<◌, Common.arith, lemmas.Bool.Decides.nat_tests}
+use Rattle.dspec_table.specs.Words.{Config, slot_place, slot_at, group_width, group_place, ask_place, ack_place, word_count}
 
 -- activity and the slots' words lie before the groups
 pub before_groups : (k : Config) (c : ℕ) → k.nspec * 8 + 16 ≤ group_place k c

@@ -1,19 +1,14 @@
 -- The consumer releases what every CPU has settled.
-use Rattle.std.proofs.lemmas.Bool.Decides.{nat_tests}
 use Rattle.std.proofs.Common.{◌≡◌, ℕ, ◌≤◌, ◌<◌, true, ◌==◌, List, [], ◌∷◌, refl, sym, ap, ◌∙◌, subst, inl, inr, arith, ◌^◌}
+use Rattle.std.proofs.lemmas.Bool.Decides.{nat_tests}
 use prog.Atomic.{either}
 use Rattle.atomic_table.specs.Table.{Allows, Me}
-use Rattle.dspec_table.specs.Words.{SlotState, word_number, released, slot_place, Holder, of_consumer, same_holder, issue, ack, present, settled, releaser, word_at, View, WordsRule, Since, here}
-use Rattle.dspec_table.specs.Words.{more, MayReap, ReapedNumber, IsSound, CanBeReleased, awaits}
+use Rattle.dspec_table.specs.Words.{SlotState, word_number, released, slot_place, Holder, of_consumer, same_holder, issue, ack, present, settled, releaser, word_at, WordsRule, Since, here, more}
+use Rattle.dspec_table.specs.Words.{MayReap, ReapedNumber, IsSound, CanBeReleased, awaits, Config, Deed, Release}
+use Rattle.dspec_table.specs.declared.rule.View.{View}
 use Rattle.dspec_word.proofs.Numbers.{one_word}
-use Rattle.dspec_deeds.specs.declared.config.Config.{Config}
-use Rattle.dspec_deeds.specs.declared.deed.Deed.{Deed}
-use Rattle.dspec_deeds.specs.declared.deed.Deed.TheVariants.{Release}
-use Rattle.dspec_deeds.proofs.Awaiting.{awaiting}
-use Rattle.dspec_table.proofs.Keeps.{finds, none_owed}
-use Rattle.dspec_table.proofs.Changes.{Changes, exchanges}
-use Rattle.dspec_deeds.proofs.WordChanges.{released_word, elsewhere}
-use Rattle.dspec_deeds.proofs.Acked.{acked, acks_rise}
+use Rattle.dspec_deeds.proofs.{Acked.acked, Acked.acks_rise, Awaiting.awaiting, WordChanges.released_word, WordChanges.elsewhere}
+use Rattle.dspec_table.proofs.{Changes.Changes, Changes.exchanges, Keeps.finds, Keeps.none_owed}
 use Rattle.std.specs.Prelude.{Some}
 
 pub acked_since : (k : Config) (w : Holder) (c s : ℕ) (seen log : List Deed) → IsSound k log → Since w seen log → ack c s seen ≤ ack c s log

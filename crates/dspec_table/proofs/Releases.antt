@@ -5,16 +5,10 @@ use lib.ListN.{get_elem?}
 use prog.Atomic.{either}
 use Rattle.atomic_table.specs.Table.{State, Allows, Me}
 use Rattle.dspec_table.specs.Words.{Speculation, SlotState, word_number, slot_place, of_cpu, issue, scan, present, opened, releaser, verdict, is_undecided, callers, solo, solo_of, Ruling, undecided}
-use Rattle.dspec_table.specs.Words.{committed, discarded, IsSound, View, WordsRule, Since, here, more, ReleasedWord, OwnCommit, released}
-use Rattle.dspec_word.specs.declared.code.Code.TheVariants.{Inactive, Committing}
-use Rattle.dspec_deeds.specs.declared.config.Config.{Config}
-use Rattle.dspec_deeds.specs.declared.deed.Deed.{Deed}
-use Rattle.dspec_deeds.specs.declared.deed.Deed.TheVariants.{Release}
-use Rattle.dspec_deeds.proofs.StayingDecided.{WaitsFor, StandsAsBefore, waits_stays}
-use Rattle.dspec_table.proofs.Keeps.{finds, is_cpu, idle_log}
-use Rattle.dspec_table.proofs.Tries.{same_cpu}
-use Rattle.dspec_deeds.proofs.WordChanges.{released_word, elsewhere}
-use Rattle.dspec_table.proofs.Changes.{Changes, exchanges}
+use Rattle.dspec_table.specs.Words.{committed, discarded, IsSound, WordsRule, Since, here, more, ReleasedWord, OwnCommit, released, Inactive, Committing, Config, Deed, Release}
+use Rattle.dspec_table.specs.declared.rule.View.{View}
+use Rattle.dspec_deeds.proofs.{StayingDecided.WaitsFor, StayingDecided.StandsAsBefore, StayingDecided.waits_stays, WordChanges.released_word, WordChanges.elsewhere}
+use Rattle.dspec_table.proofs.{Changes.Changes, Changes.exchanges, Keeps.finds, Keeps.is_cpu, Keeps.idle_log, Tries.same_cpu}
 
 pub held_since : (k : Config) (c s : ℕ) (seen log : List Deed) → c < k.cpus → IsSound k log → Since (of_cpu c) seen log → WaitsFor k c s seen → WaitsFor k c s log × StandsAsBefore s seen log
 held_since k c s seen _ lt sound here held = (held, record { issues = refl; word = refl; verdicts = refl; callings = refl; solos = refl })

@@ -1,27 +1,15 @@
 -- Case by case, the deeds of a step of a play are those of the seat's step: both read the table of steps, by measures that agree.
-use Rattle.std.proofs.lemmas.Bool.Decides.{nat_tests}
 use Rattle.std.proofs.Common.{◌≡◌, ◌==◌, ℕ, Bool, true, false, List, [], Option, Some, if◌then◌else◌, refl, sym, ap, ◌∙◌, arith}
-use Rattle.dspec_record.specs.declared.field.Shape.{Shape}
-use Rattle.dspec_table.specs.Words.{Record, Speculation, speculate_at, speculate_act, commit_at, commit_act, discard_at, discard_act, open_at, settle_at, halted, is_among, callers, word_at, ack}
-use Rattle.dspec_table.specs.Words.{mark, part, IsSound, bare, is_told_worn, is_worn_answer, is_counted, same_word, CpuStep, Measured, measured, idle_progress, cpu_step, wears, popped, begun}
-use Rattle.dspec_table.specs.Words.{is_worn, Doing, deeds_at, seen, seat_reads, IsMine, Measures, IsSameCall, shown_speculate, shown_commit, shown_discard}
-use Rattle.dspec_word.specs.declared.act.Act.{Act}
-use Rattle.dspec_word.specs.declared.act.Act.TheVariants.{Void}
-use Rattle.dspec_deeds.specs.declared.config.Config.{Config}
-use Rattle.dspec_deeds.specs.declared.calls.Answer.{Answer}
-use Rattle.dspec_deeds.specs.declared.calls.CpuOp.{CpuOp}
+use Rattle.std.proofs.lemmas.Bool.Decides.{nat_tests}
+use Rattle.dspec_table.specs.Words.{Shape, Record, Speculation, speculate_at, speculate_act, commit_at, commit_act, discard_at, discard_act, open_at, settle_at, halted, is_among, callers, word_at}
+use Rattle.dspec_table.specs.Words.{ack, mark, part, IsSound, bare, is_told_worn, is_worn_answer, is_counted, same_word, CpuStep, Measured, measured, idle_progress, cpu_step, wears, popped, begun}
+use Rattle.dspec_table.specs.Words.{is_worn, deeds_at, seen, seat_reads, IsMine, Measures, IsSameCall, shown_speculate, shown_commit, shown_discard, Act, Void, Config, Answer, CpuOp, Deed, Cpu}
+use Rattle.dspec_table.specs.Words.{CpuProgress, CallPlace, Spare}
+use Rattle.dspec_table.specs.declared.doing.Doing.{Doing}
 use Rattle.dspec_deeds.specs.declared.calls.CpuOp.TheVariants as cpu_op
 use Rattle.dspec_deeds.specs.declared.calls.Op.TheVariants as op
-use Rattle.dspec_deeds.specs.declared.deed.Deed.{Deed}
-use Rattle.dspec_deeds.proofs.BareReads.{shows_bare}
-use Rattle.dspec_deeds.proofs.Marks.{mark_tells}
-use Rattle.dspec_deeds.specs.declared.calls.Actor.TheVariants.{Cpu}
-use Rattle.dspec_deeds.proofs.OwnReads.{reads}
-use Rattle.dspec_deeds.proofs.TestLemmas.{off}
-use Rattle.dspec_interleaving.specs.declared.flight.CpuProgress.{CpuProgress}
-use Rattle.dspec_interleaving.specs.declared.flight.CallPlace.{CallPlace}
+use Rattle.dspec_deeds.proofs.{BareReads.shows_bare, Marks.mark_tells, OwnReads.reads, TestLemmas.off}
 use Rattle.dspec_interleaving.specs.declared.flight.CallPlace.TheVariants as cpu
-use Rattle.dspec_interleaving.specs.declared.flight.Spare.{Spare}
 use Rattle.dspec_interleaving.specs.declared.flight.Spare.TheVariants as spare
 use Rattle.dspec_interleaving.proofs.StepsWords.{same_word_tells}
 use Rattle.dspec_table.proofs.InFlight as rows

@@ -1,20 +1,15 @@
 -- What the relations of the steps at the words say, place by place, is the list of deeds that the places name.
 use Rattle.std.proofs.Common.{◌≡◌, arith, ℕ, Bool, true, false, List, [], ◌∷◌, ◌++◌, Option, inl, inr, refl, sym, ap, ◌∙◌, subst}
-use Rattle.dspec_record.specs.declared.field.Shape.{Shape}
-use Rattle.dspec_table.specs.Words.{SlotState, halted, word_at, Speculation, IsInFlight, bare, op_of, same_word, cpu_step, Doing, View, nothing, shown, deeds_at, trying, at_activity, at_word}
-use Rattle.dspec_table.specs.Words.{at_exchange, number_of, slot_place, Found, Entered, LoadedActivity, LoadedWord, IsSameCall, seat_reads, IsMine, SeatStep, Exchanges, IsStepOfPlay}
-use Rattle.dspec_deeds.specs.declared.config.Config.{Config}
-use Rattle.dspec_deeds.specs.declared.calls.CpuOp.{CpuOp}
-use Rattle.dspec_deeds.specs.declared.calls.CpuOp.TheVariants as cpu_op
-use Rattle.dspec_deeds.specs.declared.deed.Deed.{Deed}
-use Rattle.dspec_deeds.proofs.OwnReads.{apart_bare}
 use Rattle.std.proofs.lemmas.Bool.Decides.{nat_tests}
-use Rattle.dspec_interleaving.specs.declared.flight.CpuProgress.{CpuProgress}
-use Rattle.dspec_interleaving.specs.declared.flight.CallPlace.{CallPlace}
+use Rattle.dspec_table.specs.Words.{Shape, SlotState, halted, word_at, Speculation, IsInFlight, bare, op_of, same_word, cpu_step, nothing, shown, deeds_at, trying, at_activity, at_word, at_exchange}
+use Rattle.dspec_table.specs.Words.{number_of, slot_place, Found, Entered, LoadedActivity, LoadedWord, IsSameCall, seat_reads, IsMine, SeatStep, Exchanges, IsStepOfPlay, Config, CpuOp, Deed}
+use Rattle.dspec_table.specs.Words.{CpuProgress, CallPlace}
+use Rattle.dspec_table.specs.declared.{doing.Doing.Doing, rule.View.View}
+use Rattle.dspec_deeds.specs.declared.calls.CpuOp.TheVariants as cpu_op
+use Rattle.dspec_deeds.proofs.OwnReads.{apart_bare}
 use Rattle.dspec_interleaving.specs.declared.flight.CallPlace.TheVariants as cpu
 use Rattle.dspec_interleaving.proofs.StepsWords.{same_word_tells}
-use Rattle.dspec_table.proofs.InFlight.{service_begins}
-use Rattle.dspec_table.proofs.SameDeeds.{same_deeds}
+use Rattle.dspec_table.proofs.{InFlight.service_begins, SameDeeds.same_deeds}
 
 -- the deeds ds behind the seat's own list p, and behind the list that the step found
 pub record IsBehind (ds p log : List Deed) (w : View) : Type 0 where

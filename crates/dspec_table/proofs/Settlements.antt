@@ -1,29 +1,17 @@
 -- A CPU settles, and stores its acknowledgement.
 use Rattle.std.proofs.Common.{◌≡◌, ◌≢◌, ℕ, ◌+◌, ◌≤◌, ◌<◌, Bool, true, false, ◌&&◌, ◌==◌, List, [], ◌∷◌, length, None, refl, sym, ap, ◌∙◌, subst, ⊎_elim, inr, arith, true≢false}
-use Rattle.std.specs.Prelude.{slice_index, slice_set, nat_le, not}
-use Rattle.std.proofs.lemmas.List.{get_or-set_same, get_or-set_other}
 use Rattle.std.proofs.Math.ListN.{length-set}
-use Rattle.std.proofs.lemmas.Bool.Decides.{nat_tests}
+use Rattle.std.proofs.lemmas.{Bool.Decides.nat_tests, List.get_or-set_same, List.get_or-set_other}
+use Rattle.std.specs.Prelude.{slice_index, slice_set, nat_le, not}
 use Rattle.atomic_table.specs.Table.{keeps, Allows, Me}
 use Rattle.dspec_table.specs.Words.{Speculation, SlotState, awaits, Holder, of_cpu, part_of, issue, part, present, settled, solo, verdict, ack, word_at, IsSound, SettlesAs, settle_at, settled_fate}
-use Rattle.dspec_table.specs.Words.{View, Doing, WordsRule, Shows, Since, here, more, slot_place, activity_place, group_place, ack_place, ask_place, acted, Found, Entered, StoredAck, number_of}
-use Rattle.dspec_table.specs.Words.{MaySettle}
-use Rattle.dspec_word.specs.declared.code.Code.{Code}
-use Rattle.dspec_word.specs.declared.code.Code.TheVariants.{CommittingMany, Discarding}
-use Rattle.dspec_deeds.specs.declared.config.Config.{Config}
-use Rattle.dspec_deeds.specs.declared.deed.Deed.{Deed}
-use Rattle.dspec_deeds.specs.declared.deed.Deed.TheVariants.{Settle}
-use Rattle.dspec_deeds.proofs.TestLemmas.{either_way, and_tells, same_number, number_is_itself}
-use Rattle.dspec_deeds.proofs.Acked.{ack_tells}
-use Rattle.dspec_deeds.proofs.StayingOwn.{settled_other, ack_other}
-use Rattle.dspec_table.proofs.Places.{before_groups, ack_within, one_group, no_ask}
-use Rattle.dspec_deeds.specs.declared.calls.Actor.TheVariants.{Cpu}
-use Rattle.dspec_word.specs.declared.act.Act.TheVariants.{Granted}
-use Rattle.dspec_deeds.proofs.Awaiting.{awaiting, goes_with}
-use Rattle.dspec_table.proofs.OwnReading.{ack_part}
-use Rattle.dspec_table.proofs.Adding.{Adds}
-use Rattle.dspec_table.proofs.Keeps.{LeavesAsks, acts, enters, finds, is_cpu, idle_log}
-use Rattle.dspec_table.proofs.Releases.{held_since}
+use Rattle.dspec_table.specs.Words.{WordsRule, Shows, Since, here, more, slot_place, activity_place, group_place, ack_place, ask_place, acted, Found, Entered, StoredAck, number_of, MaySettle, Code}
+use Rattle.dspec_table.specs.Words.{CommittingMany, Discarding, Config, Deed, Settle, Cpu, Granted}
+use Rattle.dspec_table.specs.declared.{doing.Doing.Doing, rule.View.View}
+use Rattle.dspec_deeds.proofs.{Acked.ack_tells, Awaiting.awaiting, Awaiting.goes_with, StayingOwn.settled_other, StayingOwn.ack_other, TestLemmas.either_way, TestLemmas.and_tells}
+use Rattle.dspec_deeds.proofs.{TestLemmas.same_number, TestLemmas.number_is_itself}
+use Rattle.dspec_table.proofs.{Adding.Adds, Keeps.LeavesAsks, Keeps.acts, Keeps.enters, Keeps.finds, Keeps.is_cpu, Keeps.idle_log, OwnReading.ack_part, Places.before_groups, Places.ack_within}
+use Rattle.dspec_table.proofs.{Places.one_group, Places.no_ask, Releases.held_since}
 
 -- only this acknowledgement changes
 record IsAck (c s n : ℕ) (log new : List Deed) : Type 0 where

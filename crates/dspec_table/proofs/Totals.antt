@@ -1,11 +1,10 @@
 -- How often each holder stands among the seats.
-use Rattle.std.proofs.lemmas.Bool.Decides.{nat_tests}
 use Rattle.std.proofs.Common.{◌≡◌, ◌≢◌, ℕ, zero, suc, ◌+◌, ◌≤◌, ◌<◌, true, List, [], ◌∷◌, ◌++◌, set, refl, sym, ap, subst, arith, Some, None}
+use Rattle.std.proofs.lemmas.Bool.Decides.{nat_tests}
 use mathlib.Core.Option.{some, some-injective, some-ne-none}
 use lib.ListN.{get_elem?}
-use Rattle.dspec_deeds.specs.declared.calls.Actor.TheVariants.{Cpu, Consumer}
-use Rattle.dspec_deeds.specs.declared.config.Config.{Config}
-use Rattle.dspec_table.specs.Words.{Holder, of_cpu, same_holder, View, holdings, times_among, held_in_all, HaveSeats}
+use Rattle.dspec_table.specs.Words.{Cpu, Consumer, Config, Holder, of_cpu, same_holder, holdings, times_among, held_in_all, HaveSeats}
+use Rattle.dspec_table.specs.declared.rule.View.{View}
 
 pub total_at : (w : Holder) (views : List View) (a : ℕ) (v : View) → get_elem? views a ≡ some v → times_among w (holdings v) ≤ held_in_all w views
 total_at w [] a v e = absurd (some-ne-none v (sym e))

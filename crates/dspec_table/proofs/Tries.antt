@@ -4,27 +4,16 @@ use Rattle.std.proofs.lemmas.Bool.Decides.{nat_tests}
 use prog.Atomic.{either}
 use Rattle.atomic_table.specs.Table.{Allows, Me}
 use Rattle.dspec_table.specs.Words.{Speculation, SlotState, word_number, speculate_at, speculate_act, commit_at, commit_act, discard_at, discard_act, Record, slot_place, of_cpu, issue, owed}
-use Rattle.dspec_table.specs.Words.{verdict, is_open, discarded, callers, is_among, is_sole, word_at, solo, IsSound, View, Doing, WordsRule, Follows, spoken_granted, is_commit, number_of}
-use Rattle.dspec_table.specs.Words.{at_exchange, Attempts, MayTry, TriedNumber, committed_fate, Measured, idle_progress, shown, discarded_by, is_discard}
-use Rattle.dspec_word.specs.declared.act.Act.TheVariants.{Attempt}
-use Rattle.dspec_word.specs.declared.code.Code.TheVariants.{Inactive, Discarding}
-use Rattle.dspec_deeds.specs.declared.config.Config.{Config}
-use Rattle.dspec_deeds.specs.declared.deed.Deed.{Deed}
-use Rattle.dspec_deeds.specs.declared.deed.SpeculateFate.{SpeculateFate}
-use Rattle.dspec_deeds.specs.declared.deed.DecideFate.{DecideFate}
-use Rattle.dspec_deeds.specs.declared.deed.Deed.TheVariants.{Speculate, Commit, Discard, Release}
-use Rattle.dspec_deeds.proofs.TestLemmas.{either_way, id_is_itself}
-use Rattle.dspec_deeds.proofs.SoundLists.{granted_goes, commit_goes}
-use Rattle.dspec_deeds.proofs.WordActs.{speculate_attempt, commit_attempt, discard_attempt}
-use Rattle.dspec_deeds.proofs.PresentIds.{IsPresent, open_present}
-use Rattle.dspec_deeds.proofs.WordChanges.{granted_word, committed_word, discarded_word, released_word, elsewhere}
-use Rattle.dspec_deeds.specs.declared.calls.Actor.TheVariants.{Cpu}
-use Rattle.dspec_deeds.specs.declared.calls.CpuOp.{CpuOp}
-use Rattle.dspec_table.proofs.InFlight.{exchange_of}
+use Rattle.dspec_table.specs.Words.{verdict, is_open, discarded, callers, is_among, is_sole, word_at, solo, IsSound, WordsRule, Follows, spoken_granted, is_commit, number_of, at_exchange, Attempts}
+use Rattle.dspec_table.specs.Words.{MayTry, TriedNumber, committed_fate, Measured, idle_progress, shown, discarded_by, is_discard, Attempt, Inactive, Discarding, Config, Deed, SpeculateFate}
+use Rattle.dspec_table.specs.Words.{DecideFate, Speculate, Commit, Discard, Release, Cpu, CpuOp}
+use Rattle.dspec_table.specs.declared.{doing.Doing.Doing, rule.View.View}
+use Rattle.dspec_deeds.proofs.{PresentIds.IsPresent, PresentIds.open_present, SoundLists.granted_goes, SoundLists.commit_goes, TestLemmas.either_way, TestLemmas.id_is_itself}
+use Rattle.dspec_deeds.proofs.{WordActs.speculate_attempt, WordActs.commit_attempt, WordActs.discard_attempt, WordChanges.granted_word, WordChanges.committed_word, WordChanges.discarded_word}
+use Rattle.dspec_deeds.proofs.{WordChanges.released_word, WordChanges.elsewhere}
+use Rattle.dspec_table.proofs.{Changes.Changes, Changes.one_change, Changes.exchanges_in_call, InFlight.exchange_of, Keeps.Owes, Loads.Flies, Loads.IsReady, Loads.ready, Loads.owes, Loads.acts}
+use Rattle.dspec_table.proofs.{Loads.at_like}
 use Rattle.dspec_interleaving.proofs.StepDeeds.{by_test, committed_deeds}
-use Rattle.dspec_table.proofs.Keeps.{Owes}
-use Rattle.dspec_table.proofs.Changes.{Changes, one_change, exchanges_in_call}
-use Rattle.dspec_table.proofs.Loads.{Flies, IsReady, ready, owes, acts, at_like}
 use Rattle.dspec_deeds.specs.declared.deed.SpeculateFate.TheVariants as spoken
 use Rattle.dspec_deeds.specs.declared.deed.DecideFate.TheVariants as decided
 use Rattle.dspec_deeds.specs.declared.calls.CpuOp.TheVariants as op

@@ -1,14 +1,10 @@
 -- A word that waits for every CPU stands until the consumer releases it.
 use Rattle.std.proofs.Common.{arith, ◌≡◌, ℕ, true, false, List, ◌∷◌, None, refl, ap, ◌∙◌, subst}
 use Rattle.std.proofs.lemmas.Bool.Decides.{nat_tests}
-use Rattle.dspec_table.specs.Words.{word_number, awaits, opened, present, verdict, is_undecided, releases, solo, same_actor, author, word_at, IsSound, View, of_consumer, Since, here, more, Found}
-use Rattle.dspec_table.specs.Words.{ReapedNumber}
-use Rattle.dspec_deeds.specs.declared.config.Config.{Config}
-use Rattle.dspec_deeds.specs.declared.calls.Actor.TheVariants.{Consumer}
-use Rattle.dspec_deeds.specs.declared.deed.Deed.{Deed}
-use Rattle.dspec_deeds.proofs.TestLemmas.{or_true}
-use Rattle.dspec_deeds.proofs.StayingDecided.{decided_stands}
-use Rattle.dspec_deeds.proofs.Awaiting.{awaiting}
+use Rattle.dspec_table.specs.Words.{word_number, awaits, opened, present, verdict, is_undecided, releases, solo, same_actor, author, word_at, IsSound, of_consumer, Since, here, more, Found}
+use Rattle.dspec_table.specs.Words.{ReapedNumber, Config, Consumer, Deed}
+use Rattle.dspec_table.specs.declared.rule.View.{View}
+use Rattle.dspec_deeds.proofs.{Awaiting.awaiting, StayingDecided.decided_stands, TestLemmas.or_true}
 use Rattle.dspec_table.proofs.Settlements.{sound_since}
 
 record Waits (s : ℕ) (h : List Deed) : Type 0 where

@@ -1,16 +1,10 @@
 -- Cited by calls. The deeds that a seat's step enters, the latest first: those of the table of steps, by what was measured for the call in flight
 -- and by what the step showed.
 use Rattle.std.specs.Prelude.{ℕ, Bool, true, false, List, [], ◌∷◌}
-use Rattle.dspec_table.specs.Words.Outside.{SlotState, Measured, call_step, idle_progress}
-use Rattle.dspec_word.specs.declared.code.Code.TheVariants.{Inactive}
-use Rattle.dspec_deeds.specs.declared.config.Config.{Config}
-use Rattle.dspec_deeds.specs.declared.calls.CpuOp.{CpuOp}
-use Rattle.dspec_deeds.specs.declared.calls.CpuOp.TheVariants as op
-use Rattle.dspec_deeds.specs.declared.deed.Deed.{Deed}
-use Rattle.dspec_deeds.specs.declared.deed.Deed.TheVariants.{Halt}
-use Rattle.dspec_interleaving.specs.declared.flight.CallPlace.{CallPlace}
-use Rattle.dspec_interleaving.specs.declared.flight.CallPlace.TheVariants as cpu
+use Rattle.dspec_table.specs.Words.Outside.{SlotState, Measured, call_step, idle_progress, Inactive, Config, CpuOp, Deed, Halt, CallPlace}
 use Rattle.dspec_table.specs.declared.doing.Doing.{Doing}
+use Rattle.dspec_deeds.specs.declared.calls.CpuOp.TheVariants as op
+use Rattle.dspec_interleaving.specs.declared.flight.CallPlace.TheVariants as cpu
 
 abbrev pub nothing : Doing
 nothing = record { op = op.Service; fits = false; count = 0; mine = false }

@@ -1,9 +1,6 @@
 -- Cited by calls. What the steps on the asks do.
 use Rattle.std.specs.Prelude.{ℕ, zero, suc, ◌≡◌, ◌≤◌, List, [], ◌∷◌, slice_index}
-use Rattle.dspec_deeds.specs.declared.deed.Deed.{Deed}
-use Rattle.dspec_table.specs.declared.rule.View.{View}
-use Rattle.dspec_table.specs.Layout.{ask_place}
-use Rattle.dspec_table.specs.Steps.{Found, with_asks}
+use Rattle.dspec_table.specs.{Layout.ask_place, Steps.Found, Steps.with_asks, Words.Outside.Deed, declared.rule.View.View}
 
 -- the asks with a new one of the CPU c; a CPU that the list doesn't reach has 0
 abbrev pub with_ask : List ℕ → ℕ → ℕ → List ℕ

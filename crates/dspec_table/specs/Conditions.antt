@@ -1,14 +1,9 @@
 -- Serves proofs. What a call asks of its seat, by the seat's own list and by what it was shown.
 use Rattle.std.specs.Prelude.{ℕ, ◌≡◌, ◌<◌, ◌≤◌, ◌+◌, true, false, Some, IsTrue}
 use Rattle.dspec_table.specs.Words.Outside.{Speculation, SlotState, awaits, open_at, speculate_at, commit_at, discard_at, settle_at, is_among, callers, late, scan, word_at, opened, solo, ack, mark}
-use Rattle.dspec_word.specs.declared.code.Code.{Code}
-use Rattle.dspec_word.specs.declared.code.Code.TheVariants.{Active, Committing}
-use Rattle.dspec_word.specs.declared.act.Act.TheVariants.{Granted, Attempt}
-use Rattle.dspec_deeds.specs.declared.config.Config.{Config}
-use Rattle.dspec_deeds.specs.declared.calls.CpuOp.{CpuOp}
+use Rattle.dspec_table.specs.Words.Outside.{Code, Active, Committing, Granted, Attempt, Config, CpuOp}
+use Rattle.dspec_table.specs.declared.{doing.Doing.Doing, rule.View.View}
 use Rattle.dspec_deeds.specs.declared.calls.CpuOp.TheVariants as op
-use Rattle.dspec_table.specs.declared.rule.View.{View}
-use Rattle.dspec_table.specs.declared.doing.Doing.{Doing}
 
 -- A call in flight on an identifier's slot: a load of activity of this very call showed that the session runs. Whether the CPU is a caller is as its own
 -- list has it, where the identifier isn't older than the last speculation of the slot that was granted to it: an older one's

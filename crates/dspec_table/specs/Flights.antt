@@ -1,11 +1,8 @@
 -- Cited by calls. Which call of a seat is in flight: a load of activity showed it that the session runs, and it hasn't ended.
 use Rattle.std.specs.Prelude.{◌≡◌, ◌==◌, true, List, [], ◌∷◌, Option, Some, None, if◌then◌else◌}
-use Rattle.dspec_deeds.specs.declared.config.Config.{Config}
-use Rattle.dspec_deeds.specs.declared.calls.CpuOp.{CpuOp}
-use Rattle.dspec_deeds.specs.declared.calls.CpuOp.TheVariants as op
-use Rattle.dspec_deeds.specs.declared.deed.Deed.{Deed}
-use Rattle.dspec_deeds.specs.declared.deed.Deed.TheVariants.{Trace, Scan, Opened, Miss, Speculate, Commit, Discard}
+use Rattle.dspec_table.specs.Words.Outside.{Config, CpuOp, Deed, Trace, Scan, Opened, Miss, Speculate, Commit, Discard}
 use Rattle.dspec_table.specs.declared.rule.View.{View}
+use Rattle.dspec_deeds.specs.declared.calls.CpuOp.TheVariants as op
 
 -- the call that a deed is of; a settlement, a seal, a release and a stop are of none that a stop ends
 abbrev pub call_of_deed : Deed → Option CpuOp

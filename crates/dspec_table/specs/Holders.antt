@@ -1,9 +1,6 @@
 -- Cited by calls. Whose a seat is: a CPU's, the consumer's, or nobody's, as a note is.
 use Rattle.std.specs.Prelude.{ℕ, Bool, false, List, [], Option, Some, None}
-use Rattle.dspec_deeds.specs.declared.calls.Actor.{Actor}
-use Rattle.dspec_deeds.specs.declared.calls.Actor.TheVariants.{Cpu, Consumer}
-use Rattle.dspec_deeds.specs.declared.deed.Deed.{Deed}
-use Rattle.dspec_table.specs.Words.Outside.{author, part, same_actor}
+use Rattle.dspec_table.specs.Words.Outside.{Actor, Cpu, Consumer, Deed, author, part, same_actor}
 
 abbrev pub Holder : Type 0
 Holder = Option Actor

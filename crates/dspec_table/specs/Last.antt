@@ -1,21 +1,10 @@
 -- Cited by calls. What is known once all seats are back.
-use Rattle.std.specs.Prelude.{ℕ, ◌≡◌, ◌⊎◌, ◌<◌, ◌≤◌, List, [], ◌∷◌, length, slice_get, slice_index, Some}
 use Rattle.std.specs.Mem.Slots.{slots_items}
+use Rattle.std.specs.Prelude.{ℕ, ◌≡◌, ◌⊎◌, ◌<◌, ◌≤◌, List, [], ◌∷◌, length, slice_get, slice_index, Some}
 use Rattle.atomic_table.specs.Seated.{TableId}
-use Rattle.dspec_deeds.specs.declared.config.Config.{Config}
-use Rattle.dspec_deeds.specs.declared.calls.Actor.TheVariants.{Cpu, Consumer}
-use Rattle.dspec_deeds.specs.declared.deed.Deed.{Deed}
-use Rattle.dspec_table.specs.Words.Outside.{owed, part, IsSound, HasAuthors}
-use Rattle.dspec_table.specs.declared.rule.View.{View}
-use Rattle.dspec_table.specs.declared.seats.CpuSeat.{CpuSeat}
-use Rattle.dspec_table.specs.declared.seats.Words.{Words}
-use Rattle.dspec_table.specs.declared.last.LastWords.{LastWords}
-use Rattle.dspec_table.specs.Holders.{of_cpu, of_consumer}
-use Rattle.dspec_table.specs.Since.{Since}
-use Rattle.dspec_table.specs.Layout.{ask_place}
-use Rattle.dspec_table.specs.Notes.{past_of}
-use Rattle.dspec_table.specs.Showing.{Shows}
-use Rattle.dspec_table.specs.Seats.{known, IsAt}
+use Rattle.dspec_table.specs.{Holders.of_cpu, Holders.of_consumer, Layout.ask_place, Notes.past_of, Seats.known, Seats.IsAt, Showing.Shows, Since.Since, Words.Outside.Config, Words.Outside.Cpu}
+use Rattle.dspec_table.specs.{Words.Outside.Consumer, Words.Outside.Deed, Words.Outside.owed, Words.Outside.part, Words.Outside.IsSound, Words.Outside.HasAuthors, declared.last.LastWords.LastWords}
+use Rattle.dspec_table.specs.{declared.rule.View.View, declared.seats.CpuSeat.CpuSeat, declared.seats.Words.Words}
 
 -- the numbers that the words had last
 abbrev pub last_words : LastWords → List ℕ

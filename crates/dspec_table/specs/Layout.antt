@@ -1,6 +1,6 @@
 -- Cited by calls. Where the words of a session lie. A line of the cache is 64 bytes, eight words.
 use Rattle.std.specs.Prelude.{ℕ, ◌≤◌, ◌+◌, ◌*◌, ◌/◌, ◌-◌}
-use Rattle.dspec_deeds.specs.declared.config.Config.{Config}
+use Rattle.dspec_table.specs.Words.Outside.{Config}
 
 -- activity lies before the slots, so that its place is the same in every session; seven places before it are left free, since the
 -- block's own alignment isn't known

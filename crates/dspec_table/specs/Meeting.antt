@@ -1,13 +1,7 @@
 -- Cited by calls. What a meeting of a CPU and the consumer leaves.
 use Rattle.std.specs.Prelude.{◌≡◌, List, []}
-use Rattle.dspec_deeds.specs.declared.deed.Deed.{Deed}
-use Rattle.dspec_table.specs.Words.Outside.{owed, IsSound}
-use Rattle.dspec_table.specs.declared.rule.View.{View}
-use Rattle.dspec_table.specs.Holders.{part_of, of_nobody}
-use Rattle.dspec_table.specs.Since.{Since}
-use Rattle.dspec_table.specs.Layout.{activity_place}
-use Rattle.dspec_table.specs.Notes.{greater}
-use Rattle.dspec_table.specs.Steps.{with_asks, acted}
+use Rattle.dspec_table.specs.{Holders.part_of, Holders.of_nobody, Layout.activity_place, Notes.greater, Since.Since, Steps.with_asks, Steps.acted, Words.Outside.Deed, Words.Outside.owed}
+use Rattle.dspec_table.specs.{Words.Outside.IsSound, declared.rule.View.View}
 
 -- Both have seen one list, which begins with what each had seen; the consumer, which looks last, may have seen more of it.
 -- Neither has done a deed, so each one's part of what it has seen is its list, as before. The CPU knows the consumer's asks.

@@ -1,12 +1,6 @@
 -- Cited by calls. Seats that are cut off and joined: the seats of the CPUs, and notes.
 use Rattle.std.specs.Prelude.{ℕ, List, [], ◌∷◌, ◌++◌, max, None}
-use Rattle.dspec_deeds.specs.declared.config.Config.{Config}
-use Rattle.dspec_deeds.specs.declared.config.Policy.TheVariants.{Switch}
-use Rattle.dspec_deeds.specs.declared.deed.Deed.{Deed}
-use Rattle.dspec_table.specs.Holders.{Holder, of_nobody}
-use Rattle.dspec_table.specs.declared.rule.View.{View}
-use Rattle.dspec_table.specs.declared.rule.Past.{Past}
-use Rattle.dspec_table.specs.Rule.{holdings}
+use Rattle.dspec_table.specs.{Holders.Holder, Holders.of_nobody, Rule.holdings, Words.Outside.Config, Words.Outside.Switch, Words.Outside.Deed, declared.rule.Past.Past, declared.rule.View.View}
 
 abbrev pub no_config : Config
 no_config = record { cpus = 0; nspec = 0; bufsize = 0; specsize = 0; max_issues = 0; max_calls = 0; policy = Switch }

@@ -3,13 +3,8 @@ use Rattle.std.specs.Prelude.{ℕ, ◌≡◌, List}
 use mathlib.Core.Option.{some}
 use lib.ListN.{get_elem?}
 use Rattle.atomic_table.specs.Table.{State}
-use Rattle.dspec_deeds.specs.declared.config.Config.{Config}
-use Rattle.dspec_deeds.specs.declared.deed.Deed.{Deed}
-use Rattle.dspec_table.specs.Words.Outside.{owed, IsSound, HasAuthors}
-use Rattle.dspec_table.specs.declared.rule.View.{View}
-use Rattle.dspec_table.specs.Holders.{part_of}
-use Rattle.dspec_table.specs.Showing.{Shows}
-use Rattle.dspec_table.specs.Since.{Since}
+use Rattle.dspec_table.specs.{Holders.part_of, Showing.Shows, Since.Since, Words.Outside.Config, Words.Outside.Deed, Words.Outside.owed, Words.Outside.IsSound, Words.Outside.HasAuthors}
+use Rattle.dspec_table.specs.{declared.rule.View.View}
 
 -- Of the words and of what each seat knows: the list is legal in its common part and owes no release, each of its deeds is of one that the
 -- session has, the words show it; each seat's own deeds are its part of it, and it goes on from what each seat has seen.

@@ -2,11 +2,7 @@
 use Rattle.std.specs.Prelude.{ℕ, ◌≡◌, List, ◌∷◌, ◌++◌}
 use mathlib.Core.Option.{some}
 use lib.ListN.{get_elem?}
-use Rattle.dspec_deeds.specs.declared.deed.Deed.{Deed}
-use Rattle.dspec_table.specs.declared.rule.View.{View}
-use Rattle.dspec_table.specs.Holders.{Holder, doer, part_of}
-use Rattle.dspec_table.specs.Rule.{holdings, held_in_all}
-use Rattle.dspec_table.specs.Last.{In}
+use Rattle.dspec_table.specs.{Holders.Holder, Holders.doer, Holders.part_of, Last.In, Rule.holdings, Rule.held_in_all, Words.Outside.Deed, declared.rule.View.View}
 
 -- the deed, which was done behind these, stands at its place among this holder's
 abbrev pub Holds : Deed → List Deed → (Holder × List Deed) → Type 0

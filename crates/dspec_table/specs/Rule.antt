@@ -3,15 +3,8 @@ use Rattle.std.specs.Prelude.{ℕ, zero, suc, ◌≡◌, ◌⊎◌, ◌<◌, ◌
 use mathlib.Core.Option.{some}
 use lib.ListN.{get_elem?}
 use Rattle.atomic_table.specs.Table.{State}
-use Rattle.dspec_deeds.specs.declared.config.Config.{Config}
-use Rattle.dspec_deeds.specs.declared.deed.Deed.{Deed}
-use Rattle.dspec_table.specs.Holders.{Holder, of_cpu, of_consumer, of_nobody, part_of, same_holder}
-use Rattle.dspec_table.specs.Layout.{ask_place}
-use Rattle.dspec_table.specs.Since.{Since}
-use Rattle.dspec_table.specs.Showing.{Shows}
-use Rattle.dspec_table.specs.Words.Outside.{owed, IsSound, HasAuthors}
-use Rattle.dspec_table.specs.declared.rule.View.{View}
-use Rattle.dspec_table.specs.declared.rule.Past.{Past}
+use Rattle.dspec_table.specs.{Holders.Holder, Holders.of_cpu, Holders.of_consumer, Holders.of_nobody, Holders.part_of, Holders.same_holder, Layout.ask_place, Showing.Shows, Since.Since}
+use Rattle.dspec_table.specs.{Words.Outside.Config, Words.Outside.Deed, Words.Outside.owed, Words.Outside.IsSound, Words.Outside.HasAuthors, declared.rule.Past.Past, declared.rule.View.View}
 
 -- whose deeds a seat has, and which
 abbrev pub holdings : View → List (Holder × List Deed)

@@ -1,26 +1,15 @@
 -- Serves proofs. The deeds of a step of a play, and those of the same step of a seat at the words.
 use Rattle.std.specs.Prelude.{ℕ, ◌≡◌, ◌≤◌, ◌<◌, ◌+◌, Bool, true, false, List, [], ◌∷◌, ◌++◌, Option, ◌⊎◌, if◌then◌else◌}
-use Rattle.dspec_record.specs.declared.field.Shape.{Shape}
-use Rattle.dspec_table.specs.Words.Outside.{Speculation, SlotState, word_number, halted, is_among, callers, part, word_at, IsSound, mark, bare, Measured, measured, op_of, same_word, cpu_step}
-use Rattle.dspec_table.specs.Words.Outside.{consumer_step, is_told_worn}
-use Rattle.dspec_deeds.specs.declared.config.Config.{Config}
-use Rattle.dspec_deeds.specs.declared.calls.Actor.TheVariants.{Cpu}
+use Rattle.dspec_table.specs.{Acts.seen, Acts.deeds_at, Acts.at_stop, Asks.LoadedAsk, Asks.StoredAsk, Holders.number_of, Steps.LoadedActivity, Steps.LoadedWord, Steps.OpenedWord, Steps.TriedWord}
+use Rattle.dspec_table.specs.{Steps.ReleasedWord, Steps.SettledWord, Steps.StoredActivity, Steps.LookedWord, Steps.LoadedAck, Steps.ReapedWord, Words.Outside.Shape, Words.Outside.Speculation}
+use Rattle.dspec_table.specs.{Words.Outside.SlotState, Words.Outside.word_number, Words.Outside.halted, Words.Outside.is_among, Words.Outside.callers, Words.Outside.part, Words.Outside.word_at}
+use Rattle.dspec_table.specs.{Words.Outside.IsSound, Words.Outside.mark, Words.Outside.bare, Words.Outside.Measured, Words.Outside.measured, Words.Outside.op_of, Words.Outside.same_word}
+use Rattle.dspec_table.specs.{Words.Outside.cpu_step, Words.Outside.consumer_step, Words.Outside.is_told_worn, Words.Outside.Config, Words.Outside.Cpu, Words.Outside.Deed, Words.Outside.Release}
+use Rattle.dspec_table.specs.{Words.Outside.CpuProgress, Words.Outside.ConsumerFlight, Words.Outside.ConsumerProgress, Words.Outside.CallPlace, declared.doing.Doing.Doing, declared.rule.View.View}
 use Rattle.dspec_deeds.specs.declared.calls.CpuOp.TheVariants as cpu_op
-use Rattle.dspec_deeds.specs.declared.deed.Deed.{Deed}
-use Rattle.dspec_deeds.specs.declared.deed.Deed.TheVariants.{Release}
-use Rattle.dspec_interleaving.specs.declared.flight.CpuProgress.{CpuProgress}
-use Rattle.dspec_interleaving.specs.declared.flight.ConsumerFlight.{ConsumerFlight}
 use Rattle.dspec_interleaving.specs.declared.flight.ConsumerFlight.TheVariants as consumer
-use Rattle.dspec_interleaving.specs.declared.flight.ConsumerProgress.{ConsumerProgress}
-use Rattle.dspec_interleaving.specs.declared.flight.CallPlace.{CallPlace}
 use Rattle.dspec_interleaving.specs.declared.flight.CallPlace.TheVariants as cpu
 use Rattle.dspec_deeds.specs.declared.calls.ConsumerOp.TheVariants as consumer_op
-use Rattle.dspec_table.specs.declared.doing.Doing.{Doing}
-use Rattle.dspec_table.specs.declared.rule.View.{View}
-use Rattle.dspec_table.specs.Asks.{LoadedAsk, StoredAsk}
-use Rattle.dspec_table.specs.Holders.{number_of}
-use Rattle.dspec_table.specs.Steps.{LoadedActivity, LoadedWord, OpenedWord, TriedWord, ReleasedWord, SettledWord, StoredActivity, LookedWord, LoadedAck, ReapedWord}
-use Rattle.dspec_table.specs.Acts.{seen, deeds_at, at_stop}
 
 -- what a seat's step measures where its words show that list
 abbrev pub seat_reads : Doing → List Deed → Measured

@@ -1,13 +1,8 @@
 -- Believed. Seats at the words.
 use Rattle.std.specs.Prelude.{ℕ, ◌≡◌, ◌-◌, List, [], slice_get, Some, None}
 use Rattle.atomic_table.specs.Seated.{TableId}
-use Rattle.dspec_deeds.specs.declared.config.Config.{Config}
-use Rattle.dspec_table.specs.Holders.{of_cpu, of_consumer}
-use Rattle.dspec_table.specs.Rule.{cpus_from}
-use Rattle.dspec_table.specs.declared.rule.View.{View}
-use Rattle.dspec_table.specs.declared.seats.CpuSeat.{CpuSeat}
-use Rattle.dspec_table.specs.declared.seats.ConsumerSeat.{ConsumerSeat}
-use Rattle.dspec_table.specs.declared.seats.Words.{Words}
+use Rattle.dspec_table.specs.{Holders.of_cpu, Holders.of_consumer, Rule.cpus_from, Words.Outside.Config, declared.rule.View.View, declared.seats.ConsumerSeat.ConsumerSeat}
+use Rattle.dspec_table.specs.{declared.seats.CpuSeat.CpuSeat, declared.seats.Words.Words}
 
 -- what the words were started with
 abbrev pub set_up : Words → Config

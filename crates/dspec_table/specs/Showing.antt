@@ -1,9 +1,7 @@
 -- Cited by calls. Which words show a list of deeds.
 use Rattle.std.specs.Prelude.{ℕ, ◌≡◌, ◌<◌, ◌≤◌, ◌^◌, ◌%◌, List, length, slice_index, if◌then◌else◌}
-use Rattle.dspec_table.specs.Words.Outside.{word_number, halted, word_at, ack}
-use Rattle.dspec_deeds.specs.declared.config.Config.{Config}
-use Rattle.dspec_deeds.specs.declared.deed.Deed.{Deed}
 use Rattle.dspec_table.specs.Layout.{slot_place, activity_place, ack_place, word_count}
+use Rattle.dspec_table.specs.Words.Outside.{word_number, halted, word_at, ack, Config, Deed}
 
 abbrev pub activity : List Deed → ℕ
 activity log = if halted log then 1 else 0

@@ -1,7 +1,6 @@
 -- Cited by calls. A list of deeds that goes on from another.
 use Rattle.std.specs.Prelude.{◌≡◌, false, List, ◌∷◌}
-use Rattle.dspec_deeds.specs.declared.deed.Deed.{Deed}
-use Rattle.dspec_table.specs.Holders.{Holder, same_holder, doer}
+use Rattle.dspec_table.specs.{Holders.Holder, Holders.same_holder, Holders.doer, Words.Outside.Deed}
 
 -- the list goes on from what was seen by deeds of others than w
 pub data Since (w : Holder) (seen : List Deed) : List Deed → Type 0 where

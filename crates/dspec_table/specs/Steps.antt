@@ -1,20 +1,11 @@
 -- Cited by calls. What a step does to its seat's view: by what it showed, and the deeds that it entered.
 use Rattle.std.specs.Prelude.{ℕ, ◌≡◌, ◌⊎◌, ◌<◌, ◌≤◌, ◌+◌, Bool, true, false, List, [], ◌∷◌, ◌++◌, if◌then◌else◌, Result, MatchResult, IfOk, IfErr}
-use Rattle.dspec_table.specs.Words.Outside.{Speculation, SlotState, word_number, CanBeReleased, owed, halted, word_at, ack, IsSound, settled_fate}
-use Rattle.dspec_word.specs.declared.code.Code.{Code}
+use Rattle.dspec_table.specs.{Acts.at_activity, Acts.nothing, Acts.at_word, Acts.at_exchange, Acts.at_stop, Flights.AreOf, Flights.flight_after, Flights.calling, Holders.part_of, Holders.of_nobody}
+use Rattle.dspec_table.specs.{Holders.number_of, Layout.activity_place, Layout.slot_place, Layout.ack_place, Seats.known, Seats.IsAt, Seats.cpu_of, Since.Since, Words.Outside.Speculation}
+use Rattle.dspec_table.specs.{Words.Outside.SlotState, Words.Outside.word_number, Words.Outside.CanBeReleased, Words.Outside.owed, Words.Outside.halted, Words.Outside.word_at, Words.Outside.ack}
+use Rattle.dspec_table.specs.{Words.Outside.IsSound, Words.Outside.settled_fate, Words.Outside.Code, Words.Outside.Deed, Words.Outside.Settle, Words.Outside.Release, declared.doing.Doing.Doing}
+use Rattle.dspec_table.specs.{declared.rule.View.View, declared.seats.CpuSeat.CpuSeat, declared.seats.Words.Words}
 use Rattle.dspec_deeds.specs.declared.calls.CpuOp.TheVariants as op
-use Rattle.dspec_deeds.specs.declared.deed.Deed.{Deed}
-use Rattle.dspec_deeds.specs.declared.deed.Deed.TheVariants.{Settle, Release}
-use Rattle.dspec_table.specs.declared.rule.View.{View}
-use Rattle.dspec_table.specs.declared.doing.Doing.{Doing}
-use Rattle.dspec_table.specs.declared.seats.CpuSeat.{CpuSeat}
-use Rattle.dspec_table.specs.declared.seats.Words.{Words}
-use Rattle.dspec_table.specs.Holders.{part_of, of_nobody, number_of}
-use Rattle.dspec_table.specs.Since.{Since}
-use Rattle.dspec_table.specs.Layout.{activity_place, slot_place, ack_place}
-use Rattle.dspec_table.specs.Flights.{AreOf, flight_after, calling}
-use Rattle.dspec_table.specs.Acts.{at_activity, nothing, at_word, at_exchange, at_stop}
-use Rattle.dspec_table.specs.Seats.{known, IsAt, cpu_of}
 
 -- the view after a step on the word at that place, with deeds of its own behind the list that the step found, where it then knows
 -- these asks

@@ -17,7 +17,3 @@ pub use Rattle.dspec_table.specs.Showing.{activity, AreWords, IsWordNumber, Show
 pub use Rattle.dspec_table.specs.Since.{here, more, Since}
 pub use Rattle.dspec_table.specs.Steps.{acted, Entered, EnteredIn, Found, LoadedAck, LoadedAckAt, LoadedActivity, LoadedNumber, LoadedWord, Looked, LookedNumber, LookedWord, OpenedNumber}
 pub use Rattle.dspec_table.specs.Steps.{OpenedWord, ReapedNumber, ReapedWord, ReleasedWord, SettledWord, StoredAck, StoredActivity, TriedNumber, TriedWord, with_asks}
-pub use Rattle.dspec_table.specs.declared.doing.Doing.{Doing}
-pub use Rattle.dspec_table.specs.declared.rule.Past.{Past}
-pub use Rattle.dspec_table.specs.declared.rule.View.{View}
-pub use Rattle.dspec_table.specs.declared.seats.CpuSeat.{CpuSeat}

@@ -1,7 +1,6 @@
 ghost use Rattle.std.specs.Prelude.{◌≡◌, ◌<◌, ◌≤◌, slice_index};
 ghost use Rattle.dspec_deeds.specs.declared.calls.CpuOp.TheVariants as op;
-ghost use Rattle.dspec_table.specs.Asks.{StoredAsk, LoadedAsk};
-ghost use Rattle.dspec_table.specs.Seats.{known, known_there, IsAt, IsConsumerAt, set_up, cpu_of};
+ghost use Rattle.dspec_table.specs.{Asks.StoredAsk, Asks.LoadedAsk, Seats.known, Seats.known_there, Seats.IsAt, Seats.IsConsumerAt, Seats.set_up, Seats.cpu_of};
 
 use crate::doing::Doing;
 use crate::layout::ask_place;

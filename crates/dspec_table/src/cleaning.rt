@@ -1,10 +1,7 @@
 ghost use Rattle.std.specs.Prelude.{ℕ, ◌≡◌, ◌≢◌, ◌<◌, ◌≤◌, true, false, MatchResult, IsOk, IsTrue};
-ghost use Rattle.dspec_word.specs.Code.{awaits};
+ghost use Rattle.dspec_word.specs.{Code.awaits, Word.CanBeReleased};
 ghost use Rattle.dspec_deeds.specs.History.{word_at};
-ghost use Rattle.dspec_table.specs.Conditions.{MayReap};
-ghost use Rattle.dspec_table.specs.Steps.{LoadedAck, LookedWord, ReapedWord};
-ghost use Rattle.dspec_table.specs.Seats.{known_there, IsConsumerAt, set_up};
-ghost use Rattle.dspec_word.specs.Word.{CanBeReleased};
+ghost use Rattle.dspec_table.specs.{Conditions.MayReap, Seats.known_there, Seats.IsConsumerAt, Seats.set_up, Steps.LoadedAck, Steps.LookedWord, Steps.ReapedWord};
 
 use crate::layout::{ack_place, slot_place};
 use crate::seats::{ConsumerSeat, Words};

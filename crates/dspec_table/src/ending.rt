@@ -1,8 +1,6 @@
 ghost use Rattle.std.specs.Prelude.{ℕ, List, ◌≡◌, ◌≤◌, ◌<◌};
-ghost use Rattle.dspec_deeds.specs.declared.deed.Deed.{Deed};
-ghost use Rattle.dspec_deeds.specs.History.{word_at, ack};
-ghost use Rattle.dspec_table.specs.Last.{last_words, last_set_up};
-ghost use Rattle.dspec_table.specs.Showing.{Shows};
+ghost use Rattle.dspec_deeds.specs.{History.word_at, History.ack, declared.deed.Deed.Deed};
+ghost use Rattle.dspec_table.specs.{Last.last_words, Last.last_set_up, Showing.Shows};
 
 use crate::last::LastWords;
 use crate::layout::{ack_place, slot_place};

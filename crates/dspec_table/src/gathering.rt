@@ -1,6 +1,5 @@
 ghost use Rattle.std.specs.Prelude.{◌≡◌, ◌<◌};
-ghost use Rattle.dspec_table.specs.Last.{AllAt, AreSeats, Joined, Recalled, Ended, last_words, last_set_up};
-ghost use Rattle.dspec_table.specs.Seats.{known_there, set_up, IsConsumerAt};
+ghost use Rattle.dspec_table.specs.{Last.AllAt, Last.AreSeats, Last.Joined, Last.Recalled, Last.Ended, Last.last_words, Last.last_set_up, Seats.known_there, Seats.set_up, Seats.IsConsumerAt};
 
 use crate::last::LastWords;
 use crate::rule::{AnySeat, Board};

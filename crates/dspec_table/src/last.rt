@@ -1,7 +1,5 @@
-ghost use Rattle.std.specs.Prelude.{◌≡◌};
-ghost use Rattle.std.specs.Mem.Slots.{slots_items, slots_len, IsFull};
-ghost use Rattle.dspec_table.specs.Layout.{HasPlaces, word_count};
-ghost use Rattle.dspec_table.specs.Showing.{AreWords};
+ghost use Rattle.std.specs.{Mem.Slots.slots_items, Mem.Slots.slots_len, Mem.Slots.IsFull, Prelude.◌≡◌};
+ghost use Rattle.dspec_table.specs.{Layout.HasPlaces, Layout.word_count, Showing.AreWords};
 
 use atomic_table::Closed;
 use dspec_deeds::Config;

@@ -1,8 +1,6 @@
 ghost use Rattle.std.specs.Prelude.{◌≡◌, ◌≤◌, not};
 ghost use Rattle.dspec_deeds.specs.History.{scan};
-ghost use Rattle.dspec_table.specs.Conditions.{MayLoad};
-ghost use Rattle.dspec_table.specs.Steps.{LoadedActivity, LoadedWord, LoadedNumber};
-ghost use Rattle.dspec_table.specs.Seats.{known, IsAt, set_up, cpu_of};
+ghost use Rattle.dspec_table.specs.{Conditions.MayLoad, Seats.known, Seats.IsAt, Seats.set_up, Seats.cpu_of, Steps.LoadedActivity, Steps.LoadedWord, Steps.LoadedNumber};
 ghost use Rattle.dspec_word.specs.Word.{CanBeReleased};
 
 use crate::doing::Doing;

@@ -1,10 +1,6 @@
 ghost use Rattle.std.specs.Prelude.{◌≡◌, [], true};
-ghost use Rattle.dspec_table.specs.Holders.{of_nobody, same_holder};
-ghost use Rattle.dspec_table.specs.Layout.{activity_place};
-ghost use Rattle.dspec_table.specs.Steps.{Looked};
-ghost use Rattle.dspec_table.specs.Meeting.{Met};
-ghost use Rattle.dspec_table.specs.Notes.{answered, heard, note};
-ghost use Rattle.dspec_table.specs.Seats.{known, known_there, IsAt, IsConsumerAt, cpu_of};
+ghost use Rattle.dspec_table.specs.{Holders.of_nobody, Holders.same_holder, Layout.activity_place, Meeting.Met, Notes.answered, Notes.heard, Notes.note, Seats.known, Seats.known_there, Seats.IsAt};
+ghost use Rattle.dspec_table.specs.{Seats.IsConsumerAt, Seats.cpu_of, Steps.Looked};
 
 use crate::layout::ACTIVITY_PLACE;
 use crate::rule::AnySeat;

@@ -1,9 +1,7 @@
 ghost use Rattle.std.specs.Prelude.{◌≡◌, ◌<◌, ◌≤◌, true, false, MatchResult, IfOk, IfErr};
 ghost use Rattle.dspec_deeds.specs.declared.calls.CpuOp.TheVariants as op;
 ghost use Rattle.dspec_deeds.specs.History.{word_at};
-ghost use Rattle.dspec_table.specs.Conditions.{MayOpen, as_active};
-ghost use Rattle.dspec_table.specs.Steps.{OpenedWord};
-ghost use Rattle.dspec_table.specs.Seats.{known, IsAt, set_up, cpu_of};
+ghost use Rattle.dspec_table.specs.{Conditions.MayOpen, Conditions.as_active, Seats.known, Seats.IsAt, Seats.set_up, Seats.cpu_of, Steps.OpenedWord};
 ghost use Rattle.dspec_word.specs.Word.{word_number, CanBeReleased};
 
 use crate::doing::Doing;

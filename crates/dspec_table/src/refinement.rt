@@ -2,23 +2,14 @@
 //! list. Each law is a function without a body.
 ghost use Rattle.std.specs.Prelude.{ℕ, ◌≡◌, ◌++◌, List, Option};
 ghost use Rattle.dspec_record.specs.declared.field.Shape.{Shape};
-ghost use Rattle.dspec_deeds.specs.declared.config.Config.{Config};
-ghost use Rattle.dspec_deeds.specs.declared.deed.Deed.{Deed};
-ghost use Rattle.dspec_deeds.specs.Weaving.{bare};
-ghost use Rattle.dspec_interleaving.specs.declared.flight.CpuProgress.{CpuProgress};
-ghost use Rattle.dspec_interleaving.specs.declared.flight.ConsumerFlight.{ConsumerFlight};
-ghost use Rattle.dspec_interleaving.specs.declared.flight.ConsumerProgress.{ConsumerProgress};
-ghost use Rattle.dspec_interleaving.specs.declared.flight.CallPlace.{CallPlace};
+ghost use Rattle.dspec_deeds.specs.{Weaving.bare, declared.config.Config.Config, declared.deed.Deed.Deed};
 ghost use Rattle.dspec_interleaving.specs.Play.{consumer_step};
-ghost use Rattle.dspec_table.specs.declared.doing.Doing.{Doing};
-ghost use Rattle.dspec_table.specs.declared.rule.View.{View};
-ghost use Rattle.dspec_table.specs.Conditions.{IsInFlight};
+ghost use Rattle.dspec_interleaving.specs.declared.flight.{CallPlace.CallPlace, ConsumerFlight.ConsumerFlight, ConsumerProgress.ConsumerProgress, CpuProgress.CpuProgress};
+ghost use Rattle.dspec_table.specs.{Conditions.IsInFlight, OneList.ShowOneList, Rule.WordsRule, SameSteps.IsSameCall, SameSteps.EntersSame, SameSteps.IsMine, SameSteps.deeds_cleaned};
+ghost use Rattle.dspec_table.specs.{SameSteps.SeatStep, SameSteps.ConsumerSeatStep, SameSteps.IsCpuStepFrom, SameSteps.IsConsumerStepFrom, Steps.Found, declared.doing.Doing.Doing};
+ghost use Rattle.dspec_table.specs.{declared.rule.View.View};
 ghost use Rattle.dspec_word.specs.SpecId.{Speculation};
-ghost use Rattle.dspec_table.specs.Rule.{WordsRule};
 ghost use Rattle.atomic_table.specs.Table.{State};
-ghost use Rattle.dspec_table.specs.OneList.{ShowOneList};
-ghost use Rattle.dspec_table.specs.Steps.{Found};
-ghost use Rattle.dspec_table.specs.SameSteps.{IsSameCall, EntersSame, IsMine, deeds_cleaned, SeatStep, ConsumerSeatStep, IsCpuStepFrom, IsConsumerStepFrom};
 
 /// The list of a play without its Seals is the list of the words. At each place of a call a step of the play enters, Seals apart,
 /// what the seat's step enters there, by its call in flight and by the activity and the word that its list shows. Whether the CPU

@@ -1,8 +1,6 @@
 ghost use Rattle.std.specs.Prelude.{◌≡◌, ◌≤◌};
 ghost use Rattle.dspec_deeds.specs.declared.calls.CpuOp.TheVariants as op;
-ghost use Rattle.dspec_table.specs.Conditions.{OwnCommit, CommitsNow};
-ghost use Rattle.dspec_table.specs.Steps.{ReleasedWord};
-ghost use Rattle.dspec_table.specs.Seats.{known, IsAt, set_up, cpu_of};
+ghost use Rattle.dspec_table.specs.{Conditions.OwnCommit, Conditions.CommitsNow, Seats.known, Seats.IsAt, Seats.set_up, Seats.cpu_of, Steps.ReleasedWord};
 
 use crate::doing::Doing;
 use crate::layout::slot_place;

@@ -1,6 +1,5 @@
 ghost use Rattle.std.specs.Prelude.{◌≡◌, ◌<◌, ◌≤◌, ◌^◌, []};
-ghost use Rattle.dspec_table.specs.Holders.{of_cpu, of_consumer};
-ghost use Rattle.dspec_table.specs.Layout.{word_count};
+ghost use Rattle.dspec_table.specs.{Holders.of_cpu, Holders.of_consumer, Layout.word_count};
 
 use crate::rule::{AnySeat, Board};
 use dspec_deeds::Config;

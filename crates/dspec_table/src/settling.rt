@@ -1,8 +1,6 @@
 ghost use Rattle.std.specs.Prelude.{◌≡◌, ◌<◌, ◌^◌};
 ghost use Rattle.dspec_deeds.specs.History.{word_at};
-ghost use Rattle.dspec_table.specs.Conditions.{MaySettle};
-ghost use Rattle.dspec_table.specs.Steps.{SettledWord};
-ghost use Rattle.dspec_table.specs.Seats.{known, IsAt, set_up, cpu_of};
+ghost use Rattle.dspec_table.specs.{Conditions.MaySettle, Seats.known, Seats.IsAt, Seats.set_up, Seats.cpu_of, Steps.SettledWord};
 
 use crate::doing::Doing;
 use crate::layout::ack_place;

@@ -1,8 +1,7 @@
 ghost use Rattle.std.specs.Prelude.{◌≡◌, ◌≢◌, IfOk, IfErr, Some, None, [], length, replicate};
 ghost use Rattle.dspec_deeds.specs.declared.config.StartFault.TheVariants as start;
 ghost use Rattle.dspec_deeds.specs.Ranges.{start_fault};
-ghost use Rattle.dspec_table.specs.Layout.{word_count};
-ghost use Rattle.dspec_table.specs.Seats.{dealing, last_seat, set_up, DealtSeats, FreshSeats, IsConsumerAt, known_there};
+ghost use Rattle.dspec_table.specs.{Layout.word_count, Seats.dealing, Seats.last_seat, Seats.set_up, Seats.DealtSeats, Seats.FreshSeats, Seats.IsConsumerAt, Seats.known_there};
 
 use crate::rule::{AnySeat, Board};
 use crate::seats::{ConsumerSeat, CpuSeat, Words};

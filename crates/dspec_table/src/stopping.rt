@@ -1,5 +1,4 @@
-ghost use Rattle.dspec_table.specs.Steps.{StoredActivity};
-ghost use Rattle.dspec_table.specs.Seats.{known_there, IsConsumerAt};
+ghost use Rattle.dspec_table.specs.{Seats.known_there, Seats.IsConsumerAt, Steps.StoredActivity};
 
 use crate::layout::ACTIVITY_PLACE;
 use crate::seats::{ConsumerSeat, Words};

@@ -1,7 +1,5 @@
 ghost use Rattle.std.specs.Prelude.{◌≡◌, ◌≤◌, ◌==◌, IfOk};
-ghost use Rattle.dspec_table.specs.Conditions.{MayTry, OwnCommit, IfCommitting};
-ghost use Rattle.dspec_table.specs.Steps.{TriedExchange, TriedNumber};
-ghost use Rattle.dspec_table.specs.Seats.{known, IsAt, set_up, cpu_of};
+ghost use Rattle.dspec_table.specs.{Conditions.MayTry, Conditions.OwnCommit, Conditions.IfCommitting, Seats.known, Seats.IsAt, Seats.set_up, Seats.cpu_of, Steps.TriedExchange, Steps.TriedNumber};
 ghost use Rattle.dspec_word.specs.Word.{word_number};
 
 use crate::doing::Doing;

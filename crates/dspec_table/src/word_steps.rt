@@ -33,8 +33,7 @@ pub struct LoadsWord<J> {
 
 impl<J: HasDoing> Play<u8, View> for LoadsWord<J> {
     ghost use Rattle.std.specs.Prelude.{◌≡◌};
-    ghost use Rattle.dspec_table.specs.Layout.{slot_at};
-    ghost use Rattle.dspec_table.specs.Steps.{LoadedNumber};
+    ghost use Rattle.dspec_table.specs.{Layout.slot_at, Steps.LoadedNumber};
 
     ghost then = { λ st v n w. LoadedNumber J.doing (slot_at st.word) v.0 n w.0 × (w.1 ≡ v.1) };
 }
@@ -43,8 +42,7 @@ pub struct OpensWord;
 
 impl Play<u8, View> for OpensWord {
     ghost use Rattle.std.specs.Prelude.{◌≡◌, ◌==◌};
-    ghost use Rattle.dspec_table.specs.Layout.{slot_at};
-    ghost use Rattle.dspec_table.specs.Steps.{OpenedNumber};
+    ghost use Rattle.dspec_table.specs.{Layout.slot_at, Steps.OpenedNumber};
 
     ghost then = { λ st v n w. OpenedNumber (slot_at st.word) v.0 st.second n (n == st.first) w.0 × (w.1 ≡ v.1) };
 }
@@ -55,8 +53,7 @@ pub struct TriesWord<J> {
 
 impl<J: HasDoing> Play<u8, View> for TriesWord<J> {
     ghost use Rattle.std.specs.Prelude.{◌≡◌, ◌==◌};
-    ghost use Rattle.dspec_table.specs.Layout.{slot_at};
-    ghost use Rattle.dspec_table.specs.Steps.{TriedNumber};
+    ghost use Rattle.dspec_table.specs.{Layout.slot_at, Steps.TriedNumber};
 
     ghost then = { λ st v n w. TriedNumber J.doing (slot_at st.word) v.0 st.second n (n == st.first) w.0 × (w.1 ≡ v.1) };
 }
@@ -65,8 +62,7 @@ pub struct ReleasesWord;
 
 impl Play<u8, View> for ReleasesWord {
     ghost use Rattle.std.specs.Prelude.{◌≡◌};
-    ghost use Rattle.dspec_table.specs.Layout.{slot_at};
-    ghost use Rattle.dspec_table.specs.Steps.{ReleasedWord};
+    ghost use Rattle.dspec_table.specs.{Layout.slot_at, Steps.ReleasedWord};
 
     ghost then = { λ st v n w. ReleasedWord (slot_at st.word) v.0 w.0 × (w.1 ≡ v.1) };
 }
@@ -86,8 +82,7 @@ pub struct LoadsAsk;
 
 impl Play<u8, View> for LoadsAsk {
     ghost use Rattle.std.specs.Prelude.{◌≡◌};
-    ghost use Rattle.dspec_table.specs.Asks.{LoadedAsk};
-    ghost use Rattle.dspec_table.specs.Holders.{number_of};
+    ghost use Rattle.dspec_table.specs.{Asks.LoadedAsk, Holders.number_of};
 
     ghost then = { λ st v n w. LoadedAsk (number_of v.0.who) v.0 n w.0 × (w.1 ≡ v.1) };
 }
@@ -123,8 +118,7 @@ pub struct LooksAtWord;
 
 impl Play<u8, View> for LooksAtWord {
     ghost use Rattle.std.specs.Prelude.{◌≡◌};
-    ghost use Rattle.dspec_table.specs.Layout.{slot_at};
-    ghost use Rattle.dspec_table.specs.Steps.{LookedNumber};
+    ghost use Rattle.dspec_table.specs.{Layout.slot_at, Steps.LookedNumber};
 
     ghost then = { λ st v n w. LookedNumber (slot_at st.word) v.0 n w.0 × (w.1 ≡ v.1) };
 }
@@ -142,8 +136,7 @@ pub struct Reaps;
 
 impl Play<u8, View> for Reaps {
     ghost use Rattle.std.specs.Prelude.{◌≡◌, ◌==◌};
-    ghost use Rattle.dspec_table.specs.Layout.{slot_at};
-    ghost use Rattle.dspec_table.specs.Steps.{ReapedNumber};
+    ghost use Rattle.dspec_table.specs.{Layout.slot_at, Steps.ReapedNumber};
 
     ghost then = { λ st v n w. ReapedNumber (slot_at st.word) v.0 n (n == st.first) w.0 × (w.1 ≡ v.1) };
 }

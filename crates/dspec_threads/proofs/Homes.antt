@@ -1,11 +1,9 @@
 -- How CPUs go out, and come home.
-use Rattle.std.proofs.lemmas.Bool.Decides.{nat_tests}
 use Rattle.std.proofs.Common.{◌≡◌, ℕ, ◌<◌, List, [], ◌∷◌, ◌++◌, length, sym, ap, ◌∙◌, subst, arith}
+use Rattle.std.proofs.lemmas.Bool.Decides.{nat_tests}
 use Rattle.std.specs.Prelude.{remove, slice_get, slice_index_or}
 use Rattle.dspec_threads.specs.Words.{EnabledRows, CallsMade, called, number_in, words_of, Belongs, CpuIdentity, IsCallable, identity, IsCpuOf, ComesHome, HasDone, WentHome, IsOfRank, IsHomeOf}
-use Rattle.dspec_threads.specs.Words.{IsLentOut, Rank}
-use Rattle.dspec_cpu.specs.declared.cpu.Cpu.{Cpu}
-use Rattle.dspec_cpu.specs.declared.shared.Shared.{Shared}
+use Rattle.dspec_threads.specs.Words.{IsLentOut, Rank, Cpu, Shared}
 
 -- the first element, and what is left when it is removed
 pub first_and_rest : {A : Type 0} (xs : List A) (x : A) → 0 < length xs → x ≡ slice_index_or xs 0 x → x ∷ remove xs 0 ≡ xs

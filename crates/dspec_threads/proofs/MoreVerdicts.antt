@@ -1,16 +1,11 @@
 -- A verdict more is said to one lane, and done behind others.
-use Rattle.std.proofs.lemmas.Bool.Decides.{nat_tests}
 use Rattle.std.proofs.Common.{◌≡◌, ℕ, ◌+◌, ◌<◌, ◌≤◌, Bool, true, false, List, [], ◌∷◌, ◌++◌, length, refl, sym, ap, ◌∙◌, subst, arith, append_assoc, get_or}
-use Rattle.std.specs.Prelude.{MatchBool, slice_set}
-use Rattle.std.proofs.lemmas.List.{append-nil, map-set, length-append, length-map}
-use Rattle.std.proofs.lemmas.Option.{slice_get-map, slice_get_read, slice_get_within}
 use Rattle.std.proofs.Math.Seq.{map-set_same}
+use Rattle.std.proofs.lemmas.{Bool.Decides.nat_tests, List.append-nil, List.map-set, List.length-append, List.length-map, Option.slice_get-map, Option.slice_get_read, Option.slice_get_within}
+use Rattle.std.specs.Prelude.{MatchBool, slice_set}
 use mathlib.Core.List.{IsPrefix}
-use Rattle.dspec_record.specs.declared.schema.Schema.{Ghosts}
-use Rattle.dspec_threads.specs.Words.{Speculation, SaysTo, SaysWithin, room_of_lane, rooms_of_lanes, said_by, DoesVerdict, DoesVerdicts, SettlesNext, Sayer, Verdict}
-use Rattle.dspec_deeds.specs.declared.deed.Deed.{Deed}
-use Rattle.dspec_cpu.specs.declared.cpu.Cpu.{Cpu}
-use Rattle.dspec.specs.declared.lane.Lane.{Lane}
+use Rattle.dspec_threads.specs.Words.{Ghosts, Speculation, SaysTo, SaysWithin, room_of_lane, rooms_of_lanes, said_by, DoesVerdict, DoesVerdicts, SettlesNext, Deed, Cpu, Lane}
+use Rattle.dspec_threads.specs.declared.{saying.Sayer.Sayer, verdict.Verdict.Verdict}
 
 module _ {S : Type 0} {g : Ghosts S} (has : Cpu S → List Deed → Type 0) (may : Speculation → Bool → Type 0) where
   does_snoc : (vs : List Verdict) (v : Verdict) (old mid new : Lane S g) → DoesVerdicts has may vs old mid → may v.path.id v.keep → DoesVerdict has v mid new

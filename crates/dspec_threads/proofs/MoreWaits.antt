@@ -1,14 +1,10 @@
 -- A lane serves once more, asks once more in vain, or attends once more to what is said to it.
-use Rattle.std.proofs.lemmas.Bool.Decides.{nat_tests}
 use Rattle.std.proofs.Common.{◌≡◌, ℕ, ◌+◌, ◌≤◌, ◌++◌, suc, Bool, List, append_assoc, ap, refl, ◌∙◌, subst, sym, arith}
+use Rattle.std.proofs.lemmas.Bool.Decides.{nat_tests}
 use mathlib.Core.List.{IsPrefix}
-use Rattle.dspec_record.specs.declared.schema.Schema.{Ghosts}
-use Rattle.dspec_deeds.specs.declared.deed.Deed.{Deed}
-use Rattle.dspec_cpu.specs.declared.cpu.Cpu.{Cpu}
-use Rattle.dspec.specs.declared.lane.Lane.{Lane}
-use Rattle.dspec_threads.specs.Words.{Speculation, AsksAndAttends, AsksTimes, AttendsOnce, AttendsTimes, AttendsWithin, OpensAttending, settled_by, Settler, OpeningOn, Verdict, AsksAndServes}
-use Rattle.dspec_threads.specs.Words.{AsksInVain, ServesAgain, ServesTimes, ServesWithin}
-use Rattle.dspec_deeds.specs.declared.calls.Opening.{Opening}
+use Rattle.dspec_threads.specs.Words.{Ghosts, Deed, Cpu, Lane, Speculation, AsksAndAttends, AsksTimes, AttendsOnce, AttendsTimes, AttendsWithin, OpensAttending, settled_by, OpeningOn, AsksAndServes}
+use Rattle.dspec_threads.specs.Words.{AsksInVain, ServesAgain, ServesTimes, ServesWithin, Opening}
+use Rattle.dspec_threads.specs.declared.{settling.Settler.Settler, verdict.Verdict.Verdict}
 
 next_is : (n : ℕ) → suc n ≡ n + 1
 next_is n = omega arith

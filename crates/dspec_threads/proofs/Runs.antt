@@ -1,17 +1,10 @@
 -- What a session keeps while it runs on a program's own threads.
 use Rattle.std.proofs.Common.{◌≡◌, ◌≤◌, ℕ, zero, suc, List, [], ◌∷◌, length, map, Some, refl, sym, ap, ◌∙◌, subst}
-use Rattle.std.specs.Prelude.{All, Bool, IfOk, IfSome, None, Ok, Err, Option, Result, slice_get}
-use Rattle.std.specs.Option.{option_map_or}
-use Rattle.std.proofs.lemmas.Option.{slice_get_past}
-use Rattle.std.proofs.lemmas.List.{length-map}
+use Rattle.std.proofs.lemmas.{List.length-map, Option.slice_get_past}
+use Rattle.std.specs.{Option.option_map_or, Prelude.All, Prelude.Bool, Prelude.IfOk, Prelude.IfSome, Prelude.None, Prelude.Ok, Prelude.Err, Prelude.Option, Prelude.Result, Prelude.slice_get}
 use Rattle.dspec_threads.specs.Words.{EnabledRows, IsUnusedConsumer, Pair, last_seat, set_up, CallsMade, called, no_calls, number_in, schema_of, words_of, Consuming, view_of, IsSession, PassesOn}
 use Rattle.dspec_threads.specs.Words.{IsOfRank, AreCpusOf, AreAtPlaces, AtOne, EachPair, IsAtPlace, IsAtPlaceSo, KeepsPlace, LooksAndSends, Rests, StaysIn, Whereabouts, waits_inside, who_is_in}
-use Rattle.dspec_threads.specs.Words.{AreNew, HandsLane, IsLaneOf, IsRun, rank_of, RunningSession}
-use Rattle.dspec_deeds.specs.declared.config.Config.{Config}
-use Rattle.dspec_ring.specs.declared.batch.Batch.{Batch}
-use Rattle.dspec_cpu.specs.declared.cpu.Cpu.{Cpu}
-use Rattle.dspec_cpu.specs.declared.shared.Shared.{Shared}
-use Rattle.dspec_session_core.specs.declared.session.Session.{Session}
+use Rattle.dspec_threads.specs.Words.{AreNew, HandsLane, IsLaneOf, IsRun, rank_of, RunningSession, Config, Batch, Cpu, Shared, Session}
 use Rattle.dspec.proofs.Passing.{passes_both, passes_nothing}
 use Rattle.dspec_threads.proofs.Pairs.{each_itself, pair_count, set_past}
 use Rattle.dspec_threads.proofs.Whereabouts.{begins, each_placed, inside_there, sent_from, stays_itself}

@@ -1,8 +1,7 @@
 -- What holds of each of a list, one by one.
-use Rattle.std.proofs.lemmas.Bool.Decides.{nat_tests}
 use Rattle.std.proofs.Common.{◌≡◌, ℕ, ◌+◌, ◌<◌, ◌⊎◌, List, Some, get_or, arith}
+use Rattle.std.proofs.lemmas.{Bool.Decides.nat_tests, Option.get_or_from_slice_get}
 use Rattle.std.specs.Prelude.{slice_get}
-use Rattle.std.proofs.lemmas.Option.{get_or_from_slice_get}
 
 below : (i n : ℕ) → i < n + 1 → (i < n) ⊎ (i ≡ n)
 below i n h1 = grind (arith, nat_tests)

@@ -1,19 +1,15 @@
 -- Places of CPUs, looked at, tended and left one after another.
-use Rattle.std.proofs.lemmas.Bool.Decides.{nat_tests}
-use Rattle.std.proofs.Common.{◌≡◌, ℕ, zero, suc, ◌+◌, ◌<◌, ◌≤◌, ◌⊎◌, inl, inr, ⊎_elim, Bool, true, false, List, [], ◌∷◌, ◌++◌, length, map, append_assoc, Option, Some, None, refl, sym, ap}
-use Rattle.std.proofs.Common.{◌∙◌, subst, arith}
-use Rattle.std.specs.Prelude.{◌&&◌, Result, Ok, Err, MatchBool, MatchResult, IsSome, is_some, slice_get, slice_index_or, slice_set}
+use Rattle.std.proofs.Common.{◌≡◌, ℕ, zero, suc, ◌+◌, ◌<◌, ◌≤◌, ◌⊎◌, inl, inr, ⊎_elim, Bool, true, false, List, [], ◌∷◌, ◌++◌, length, map, append_assoc, Option, Some, None, refl, sym, ap, ◌∙◌}
+use Rattle.std.proofs.Common.{subst, arith}
+use Rattle.std.proofs.lemmas.{Bool.Decides.nat_tests, List.map-set, List.map_push, Option.slice_get_read, Option.slice_get-map}
 use Rattle.std.specs.Option.{option_map, option_map_or}
-use Rattle.std.proofs.lemmas.List.{map-set, map_push}
-use Rattle.std.proofs.lemmas.Option.{slice_get_read, slice_get-map}
+use Rattle.std.specs.Prelude.{◌&&◌, Result, Ok, Err, MatchBool, MatchResult, IsSome, is_some, slice_get, slice_index_or, slice_set}
 use Rattle.dspec_threads.specs.Words.{EnabledRows, CallsMade, called, no_calls, IsCallable, identity, ServedOnce, ComesHome, IsHomeOf, IsOfRank, Rank, AllIn, AreCpusOf, AreAtPlaces, AtOne, ComesIn}
 use Rattle.dspec_threads.specs.Words.{EachPair, IsCallableInside, IsOneOut, IsAtPlace, IsAtPlaceSo, KeepsPlace, LooksAndSends, Rests, SendsOut, ServesInside, StaysIn, TendsPlace, Whereabouts}
-use Rattle.dspec_threads.specs.Words.{all_whereabouts, is_in_at, waits_inside, whereabouts, who_is_in, LanePlace}
-use Rattle.dspec_cpu.specs.declared.cpu.Cpu.{Cpu}
-use Rattle.dspec_cpu.specs.declared.shared.Shared.{Shared}
+use Rattle.dspec_threads.specs.Words.{all_whereabouts, is_in_at, waits_inside, whereabouts, who_is_in, Cpu, Shared}
+use Rattle.dspec_threads.specs.declared.place.LanePlace.{LanePlace}
 use Rattle.dspec.proofs.Serving.{not_served, served_again}
-use Rattle.dspec_threads.proofs.Homes.{comes_at, still_of_rank}
-use Rattle.dspec_threads.proofs.Pairs.{EachTo, each_seen, each_set, pair_at, set_there, set_twice, so_far_at}
+use Rattle.dspec_threads.proofs.{Homes.comes_at, Homes.still_of_rank, Pairs.EachTo, Pairs.each_seen, Pairs.each_set, Pairs.pair_at, Pairs.set_there, Pairs.set_twice, Pairs.so_far_at}
 
 module _ {D : Type 0} (R : Whereabouts → Whereabouts → Type 0) where
   -- of one place, as it was read and written

@@ -1,19 +1,9 @@
 -- Cited by calls. What a lane did while it waited, and settled what was said to it.
 use Rattle.std.specs.Prelude.{ℕ, ◌≡◌, ◌≤◌, ◌++◌, zero, suc, Bool, List, [], ◌∷◌, Option, MatchOption}
 use mathlib.Core.List.{IsPrefix}
-use Rattle.dspec_record.specs.declared.schema.Schema.{Ghosts}
-use Rattle.dspec_threads.specs.Words.Outside.{Speculation, OpeningOn}
-use Rattle.dspec_deeds.specs.declared.calls.Opening.{Opening}
-use Rattle.dspec_deeds.specs.declared.deed.Deed.{Deed}
-use Rattle.dspec_cpu.specs.declared.cpu.Cpu.{Cpu}
-use Rattle.dspec.specs.declared.lane.Lane.{Lane}
-use Rattle.dspec.specs.declared.path.Path.{Path}
-use Rattle.dspec_threads.specs.Belts.{handed_of, taken_by}
-use Rattle.dspec_threads.specs.Settled.{SettlesNext, seen_by, settled_by}
-use Rattle.dspec_threads.specs.Waits.{IsAskRefused, ServesAgain}
-use Rattle.dspec_threads.specs.declared.ends.Taker.{Taker}
-use Rattle.dspec_threads.specs.declared.settling.Settler.{Settler}
-use Rattle.dspec_threads.specs.declared.verdict.Verdict.{Verdict}
+use Rattle.dspec_threads.specs.{Belts.handed_of, Belts.taken_by, Settled.SettlesNext, Settled.seen_by, Settled.settled_by, Waits.IsAskRefused, Waits.ServesAgain, Words.Outside.Ghosts}
+use Rattle.dspec_threads.specs.{Words.Outside.Speculation, Words.Outside.OpeningOn, Words.Outside.Opening, Words.Outside.Deed, Words.Outside.Cpu, Words.Outside.Lane, Words.Outside.Path}
+use Rattle.dspec_threads.specs.{declared.ends.Taker.Taker, declared.settling.Settler.Settler, declared.verdict.Verdict.Verdict}
 
 module _ {S : Type 0} {g : Ghosts S} (has : Cpu S → List Deed → Type 0) (may : Speculation → Bool → Type 0) where
   -- a service, and then what was said since: what was settled before, and what then

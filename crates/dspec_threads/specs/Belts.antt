@@ -1,11 +1,8 @@
 -- Cited by calls. What went over a belt, by its ends.
 use Rattle.std.specs.Prelude.{ℕ, List}
 use Rattle.rtrb.specs.Ring.{known_free, known_items, received, sent}
-use Rattle.dspec_threads.specs.Words.Outside.{id_given, popped_from, pushed_into, Ring}
-use Rattle.dspec.specs.declared.handing.Handed.{Handed}
-use Rattle.dspec.specs.declared.path.Path.{Path}
-use Rattle.dspec_threads.specs.declared.ends.Giver.{Giver}
-use Rattle.dspec_threads.specs.declared.ends.Taker.{Taker}
+use Rattle.dspec_threads.specs.Words.Outside.{id_given, popped_from, pushed_into, Ring, Handed, Path}
+use Rattle.dspec_threads.specs.declared.ends.{Giver.Giver, Taker.Taker}
 
 -- a path as a word
 abbrev pub handed_of : Path → Handed

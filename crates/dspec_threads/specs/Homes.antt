@@ -1,8 +1,6 @@
 -- Cited by calls. How a CPU comes home: by a ring of its own, through which it went as it went out.
 use Rattle.std.specs.Prelude.{ℕ, ◌≡◌, List, [], ◌∷◌, slice_get}
-use Rattle.dspec_threads.specs.Words.Outside.{EnabledRows, Pair, CallsMade, called, number_in, words_of, identity, IsCpuOf}
-use Rattle.dspec_cpu.specs.declared.cpu.Cpu.{Cpu}
-use Rattle.dspec_cpu.specs.declared.shared.Shared.{Shared}
+use Rattle.dspec_threads.specs.Words.Outside.{EnabledRows, Pair, CallsMade, called, number_in, words_of, identity, IsCpuOf, Cpu, Shared}
 
 -- The CPU is out: what went through its ring when that was made is the same CPU.
 pub record IsLentOut (sent : List (Cpu EnabledRows)) (cpu : Cpu EnabledRows) : Type 0 where

@@ -1,12 +1,10 @@
 -- Cited by calls. Where the CPUs of a session are: each inside, or out, and then what came to its home.
-use Rattle.std.specs.Prelude.{ℕ, ◌≡◌, ◌⊎◌, Bool, false, List, [], ◌∷◌, map, slice_get, slice_set, Option, Some, None, IsSome, is_some, Result, MatchResult}
 use Rattle.std.specs.Option.{option_map, option_map_or}
+use Rattle.std.specs.Prelude.{ℕ, ◌≡◌, ◌⊎◌, Bool, false, List, [], ◌∷◌, map, slice_get, slice_set, Option, Some, None, IsSome, is_some, Result, MatchResult}
 use Rattle.rtrb.specs.Ring.{received}
-use Rattle.dspec_threads.specs.Words.Outside.{EnabledRows, CallsMade, called, no_calls, IsCallable, identity, ServedOnce, ThenServed}
-use Rattle.dspec_cpu.specs.declared.cpu.Cpu.{Cpu}
-use Rattle.dspec_cpu.specs.declared.shared.Shared.{Shared}
-use Rattle.dspec_threads.specs.declared.place.LanePlace.{LanePlace}
 use Rattle.dspec_threads.specs.Homes.{IsHomeOf, IsOfRank, Rank}
+use Rattle.dspec_threads.specs.Words.Outside.{EnabledRows, CallsMade, called, no_calls, IsCallable, identity, ServedOnce, ThenServed, Cpu, Shared}
+use Rattle.dspec_threads.specs.declared.place.LanePlace.{LanePlace}
 
 pub record Whereabouts : Type 0 where
   pub inside : Option (Cpu EnabledRows)

@@ -1,14 +1,10 @@
 -- Cited by calls. What contracts see of a session that runs on a program's own threads, and what it keeps.
-use Rattle.std.specs.Prelude.{ℕ, ◌≡◌, Bool, false, List, length, slice_get, slice_set, All, Option, Some, None, Result, MatchResult}
 use Rattle.std.specs.Option.{option_map_or}
-use Rattle.dspec_threads.specs.Words.Outside.{EnabledRows, start_fault, IsUnusedConsumer, last_seat, set_up, CallsMade, called, no_calls, number_in, schema_of, words_of, Consuming, pairs_of}
-use Rattle.dspec_threads.specs.Words.Outside.{view_of, PassesOn, MakesRound}
-use Rattle.dspec_deeds.specs.declared.config.Config.{Config}
-use Rattle.dspec_ring.specs.declared.batch.Batch.{Batch}
-use Rattle.dspec_cpu.specs.declared.cpu.Cpu.{Cpu}
-use Rattle.dspec_cpu.specs.declared.shared.Shared.{Shared}
+use Rattle.std.specs.Prelude.{ℕ, ◌≡◌, Bool, false, List, length, slice_get, slice_set, All, Option, Some, None, Result, MatchResult}
 use Rattle.dspec_threads.specs.Homes.{Rank}
 use Rattle.dspec_threads.specs.Places.{AreAtPlaces, EachPair, Rests, ServesInside, StaysIn, Whereabouts}
+use Rattle.dspec_threads.specs.Words.Outside.{EnabledRows, start_fault, IsUnusedConsumer, last_seat, set_up, CallsMade, called, no_calls, number_in, schema_of, words_of, Consuming, pairs_of}
+use Rattle.dspec_threads.specs.Words.Outside.{view_of, PassesOn, MakesRound, Config, Batch, Cpu, Shared}
 
 -- its schema and configuration; of each CPU, in order, itself where its lane is back; whether what the lanes share was somebody else's when
 -- it was to end; its consumer, and the sink, as it was at the start and as it is

@@ -1,9 +1,7 @@
 -- Cited by calls. What was said, by the ends of rings.
 use Rattle.std.specs.Prelude.{ℕ, ◌≡◌, ◌≤◌, ◌+◌, Bool, List, [], ◌∷◌, ◌++◌, MatchBool, slice_get, slice_set, Some, map}
 use Rattle.rtrb.specs.Ring.{known_free, sent}
-use Rattle.dspec_threads.specs.Words.Outside.{pushed_into, Ring}
-use Rattle.dspec_threads.specs.declared.verdict.Verdict.{Verdict}
-use Rattle.dspec_threads.specs.declared.saying.Sayer.{Sayer}
+use Rattle.dspec_threads.specs.{Words.Outside.pushed_into, Words.Outside.Ring, declared.saying.Sayer.Sayer, declared.verdict.Verdict.Verdict}
 
 -- what was said by this end so far, the oldest first
 abbrev pub said_by : {J : Type 0} → Sayer J → List Verdict

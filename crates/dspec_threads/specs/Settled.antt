@@ -1,14 +1,8 @@
 -- Cited by calls. What was settled on a lane.
 use Rattle.std.specs.Prelude.{ℕ, ◌≡◌, Bool, List, [], ◌∷◌, ◌++◌, length, if◌then◌else◌}
-use Rattle.dspec_record.specs.declared.schema.Schema.{Ghosts}
-use Rattle.dspec_threads.specs.Words.Outside.{Speculation, commit, discard, popped_from, Ring, DecisionOn, place_of}
-use Rattle.dspec_deeds.specs.declared.calls.Decided.{Decided}
-use Rattle.dspec_deeds.specs.declared.deed.Deed.{Deed}
-use Rattle.dspec_cpu.specs.declared.cpu.Cpu.{Cpu}
+use Rattle.dspec_threads.specs.Words.Outside.{Ghosts, Speculation, commit, discard, popped_from, Ring, DecisionOn, place_of, Decided, Deed, Cpu, Lane}
+use Rattle.dspec_threads.specs.declared.{settling.Settler.Settler, verdict.Verdict.Verdict}
 use Rattle.rtrb.specs.Ring.{known_items, received}
-use Rattle.dspec.specs.declared.lane.Lane.{Lane}
-use Rattle.dspec_threads.specs.declared.settling.Settler.{Settler}
-use Rattle.dspec_threads.specs.declared.verdict.Verdict.{Verdict}
 
 -- what was settled by this end so far, the oldest first
 abbrev pub settled_by : {J : Type 0} → Settler J → List Verdict

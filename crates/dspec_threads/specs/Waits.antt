@@ -1,15 +1,7 @@
 -- Cited by calls. What a lane did while it waited.
 use Rattle.std.specs.Prelude.{ℕ, ◌≡◌, ◌≤◌, ◌++◌, zero, suc, List, [], ◌∷◌, Option, MatchOption}
-use Rattle.dspec_record.specs.declared.schema.Schema.{Ghosts}
-use Rattle.dspec_threads.specs.Words.Outside.{id_number, id_given, OpeningOn, ServiceOn}
-use Rattle.dspec_deeds.specs.declared.calls.Opening.{Opening}
-use Rattle.dspec_deeds.specs.declared.calls.Served.{Served}
-use Rattle.dspec_deeds.specs.declared.deed.Deed.{Deed}
-use Rattle.dspec_cpu.specs.declared.cpu.Cpu.{Cpu}
-use Rattle.dspec.specs.declared.lane.Lane.{Lane}
-use Rattle.dspec.specs.declared.path.Path.{Path}
-use Rattle.dspec_threads.specs.Belts.{handed_of, taken_by}
-use Rattle.dspec_threads.specs.declared.ends.Taker.{Taker}
+use Rattle.dspec_threads.specs.{Belts.handed_of, Belts.taken_by, Words.Outside.Ghosts, Words.Outside.id_number, Words.Outside.id_given, Words.Outside.OpeningOn, Words.Outside.ServiceOn}
+use Rattle.dspec_threads.specs.{Words.Outside.Opening, Words.Outside.Served, Words.Outside.Deed, Words.Outside.Cpu, Words.Outside.Lane, Words.Outside.Path, declared.ends.Taker.Taker}
 
 module _ {S : Type 0} {g : Ghosts S} (has : Cpu S → List Deed → Type 0) where
   -- a service

@@ -10,7 +10,3 @@ pub use Rattle.dspec_threads.specs.Runs.{AreNew, HandsLane, IsLaneOf, IsRun, ran
 pub use Rattle.dspec_threads.specs.Said.{room_of_lane, rooms_of_lanes, said_by, said_into, said_to_each, SaysTo, SaysWithin}
 pub use Rattle.dspec_threads.specs.Settled.{DoesVerdict, DoesVerdicts, seen_by, settled_by, settled_from, SettlesNext}
 pub use Rattle.dspec_threads.specs.Waits.{AsksAndServes, AsksInVain, ServesAgain, ServesTimes, ServesWithin}
-pub use Rattle.dspec_threads.specs.declared.place.LanePlace.{LanePlace}
-pub use Rattle.dspec_threads.specs.declared.saying.Sayer.{Sayer}
-pub use Rattle.dspec_threads.specs.declared.settling.Settler.{Settler}
-pub use Rattle.dspec_threads.specs.declared.verdict.Verdict.{Verdict}

@@ -3,9 +3,8 @@
 ghost use Rattle.std.specs.Prelude.{◌≡◌, ◌++◌, ◌<◌, [], ◌∷◌, IfNone, MatchOption};
 ghost use mathlib.Core.List.{IsPrefix};
 ghost use Rattle.dspec.specs.Lanes.{place_of};
-ghost use Rattle.dspec_threads.specs.Attends.{AsksAttending, AttendsOnce, AttendsWithin, LooksAttending, OpensAttending};
-ghost use Rattle.dspec_threads.specs.Belts.{handed_of, taken_by, taken_from_belt};
-ghost use Rattle.dspec_threads.specs.Settled.{seen_by, settled_by, settled_from};
+ghost use Rattle.dspec_threads.specs.{Attends.AsksAttending, Attends.AttendsOnce, Attends.AttendsWithin, Attends.LooksAttending, Attends.OpensAttending, Belts.handed_of, Belts.taken_by};
+ghost use Rattle.dspec_threads.specs.{Belts.taken_from_belt, Settled.seen_by, Settled.settled_by, Settled.settled_from};
 
 use crate::ends::Taker;
 use crate::judging::Judging;

@@ -1,7 +1,6 @@
 ghost use Rattle.std.specs.Prelude.{◌≡◌, [], IfOk, length, map, replicate};
 ghost use Rattle.dspec.specs.Lanes.{place_of};
-ghost use Rattle.dspec_threads.specs.Said.{SaysTo, SaysWithin, rooms_of_lanes, said_into, said_to_each};
-ghost use Rattle.dspec_threads.specs.Settled.{SettlesSome, settled_from};
+ghost use Rattle.dspec_threads.specs.{Said.SaysTo, Said.SaysWithin, Said.rooms_of_lanes, Said.said_into, Said.said_to_each, Settled.SettlesSome, Settled.settled_from};
 
 use crate::judging::Judging;
 use crate::saying::Sayer;

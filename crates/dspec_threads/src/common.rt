@@ -1,5 +1,4 @@
-ghost use Rattle.std.specs.Prelude.{◌≡◌, IfErr, IfOk, false, true};
-ghost use Rattle.std.specs.Arc.{arc_value};
+ghost use Rattle.std.specs.{Arc.arc_value, Prelude.◌≡◌, Prelude.IfErr, Prelude.IfOk, Prelude.false, Prelude.true};
 
 use dspec_cpu::Shared;
 use std::alloc::{AllocError, Global};

@@ -1,8 +1,5 @@
-ghost use Rattle.std.specs.Prelude.{◌≡◌, ◌<◌};
-ghost use Rattle.std.specs.Arc.{arc_value};
-ghost use Rattle.dspec_cpu.specs.Called.{called};
-ghost use Rattle.dspec_cpu.specs.Lists.{number_in, schema_of};
-ghost use Rattle.dspec_cpu.specs.Standing.{IsCallable, identity};
+ghost use Rattle.std.specs.{Arc.arc_value, Prelude.◌≡◌, Prelude.◌<◌};
+ghost use Rattle.dspec_cpu.specs.{Called.called, Lists.number_in, Lists.schema_of, Standing.IsCallable, Standing.identity};
 ghost use Rattle.rtrb.specs.Ring.{known_free, sent};
 ghost use Rattle.dspec_threads.specs.Homes.{IsLentOut, WentHome};
 
@@ -24,12 +21,10 @@ pub(crate) struct OutLane<D: Duty> {
 }
 
 impl<D: Duty> Model for OutLane<D> {
-    ghost use Rattle.std.specs.Prelude.{◌<◌};
-    ghost use Rattle.std.specs.Arc.{arc_value};
+    ghost use Rattle.std.specs.{Arc.arc_value, Prelude.◌<◌};
     ghost use Rattle.rtrb.specs.Ring.{known_free, sent};
     ghost use Rattle.dspec_record.specs.EnablingRows.{EnabledRows};
-    ghost use Rattle.dspec_cpu.specs.declared.cpu.Cpu.{Cpu};
-    ghost use Rattle.dspec_cpu.specs.Standing.{IsCallable};
+    ghost use Rattle.dspec_cpu.specs.{Standing.IsCallable, declared.cpu.Cpu.Cpu};
     ghost use Rattle.dspec_threads.specs.Homes.{IsLentOut};
 
     ghost Value = { Cpu EnabledRows };

@@ -1,7 +1,5 @@
 ghost use Rattle.std.specs.Prelude.{◌≡◌};
-ghost use Rattle.dspec_cpu.specs.Called.{called};
-ghost use Rattle.dspec_cpu.specs.Lists.{number_in, schema_of};
-ghost use Rattle.dspec_cpu.specs.Standing.{identity};
+ghost use Rattle.dspec_cpu.specs.{Called.called, Lists.number_in, Lists.schema_of, Standing.identity};
 
 use crate::duty::{Anything, Duty};
 use crate::out_lane::OutLane;

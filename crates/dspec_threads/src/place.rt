@@ -1,7 +1,5 @@
-ghost use Rattle.std.specs.Prelude.{◌≡◌, IfOk, IfSome, IsSome, MatchResult, None, OnErr, Some, is_some};
-ghost use Rattle.std.specs.Arc.{arc_value};
-ghost use Rattle.dspec_cpu.specs.Called.{called};
-ghost use Rattle.dspec_cpu.specs.Standing.{IsCallable, identity};
+ghost use Rattle.std.specs.{Arc.arc_value, Prelude.◌≡◌, Prelude.IfOk, Prelude.IfSome, Prelude.IsSome, Prelude.MatchResult, Prelude.None, Prelude.OnErr, Prelude.Some, Prelude.is_some};
+ghost use Rattle.dspec_cpu.specs.{Called.called, Standing.IsCallable, Standing.identity};
 ghost use Rattle.dspec.specs.Serving.{ServedOnce};
 ghost use Rattle.dspec_threads.specs.Places.{ComesIn, IsCallableInside, SendsOut, TendsPlace, waits_inside, whereabouts};
 

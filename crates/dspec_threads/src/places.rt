@@ -1,5 +1,5 @@
-ghost use Rattle.std.specs.Prelude.{◌≡◌, ◌≤◌, ◌<◌, ◌∷◌, ◌&&◌, [], IfOk, MatchBool, Some, length, map, vec_capacity};
 ghost use Rattle.std.specs.Arc.{arc_value};
+ghost use Rattle.std.specs.Prelude.{◌≡◌, ◌≤◌, ◌<◌, ◌∷◌, ◌&&◌, [], IfOk, MatchBool, Some, length, map, vec_capacity};
 ghost use Rattle.dspec_threads.specs.Places.{AllIn, AreCpusOf, AtOne, ComesIn, EachPair, IsOneOut, LooksAndSends, TendsPlace, all_whereabouts, is_in_at, waits_inside, who_is_in};
 
 use crate::common::Common;

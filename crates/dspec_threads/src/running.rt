@@ -4,11 +4,8 @@ ghost use Rattle.dspec_deeds.specs.Ranges.{start_fault};
 ghost use Rattle.dspec_ring.specs.Known.{IsUnusedConsumer};
 ghost use Rattle.dspec_table.specs.Seats.{last_seat, set_up};
 ghost use Rattle.dspec_cpu.specs.Lists.{words_of};
-ghost use Rattle.dspec_session_core.specs.Consumers.{view_of};
-ghost use Rattle.dspec_session_core.specs.Leaving.{AllSteady};
-ghost use Rattle.dspec_session_core.specs.Sessions.{IsSession};
-ghost use Rattle.dspec.specs.Serving.{ThenServed};
-ghost use Rattle.dspec.specs.Traced.{IsKeptWith, IsOneListWith, IsTracedWith};
+ghost use Rattle.dspec_session_core.specs.{Consumers.view_of, Leaving.AllSteady, Sessions.IsSession};
+ghost use Rattle.dspec.specs.{Serving.ThenServed, Traced.IsKeptWith, Traced.IsOneListWith, Traced.IsTracedWith};
 ghost use Rattle.dspec_threads.specs.Places.{AllIn, IsOneOut, NothingOrDone, all_whereabouts, who_is_in, waits_inside};
 ghost use Rattle.dspec_threads.specs.Runs.{AreNew, BeginsRun, HandsLane, IsLaneOf, LooksLater, RoundMade, RunningSession, TendsHome};
 
@@ -40,12 +37,10 @@ pub struct Running<D: Duty, K: Sink<Enablings>> {
 }
 
 impl<D: Duty, K: Sink<Enablings>> Model for Running<D, K> {
-    ghost use Rattle.std.specs.Prelude.{◌≡◌, ◌≤◌, [], length, vec_capacity};
-    ghost use Rattle.std.specs.Arc.{arc_value};
+    ghost use Rattle.std.specs.{Arc.arc_value, Prelude.◌≡◌, Prelude.◌≤◌, Prelude.[], Prelude.length, Prelude.vec_capacity};
     ghost use Rattle.dspec_table.specs.Seats.{set_up};
     ghost use Rattle.dspec_cpu.specs.Lists.{words_of};
-    ghost use Rattle.dspec_threads.specs.Places.{all_whereabouts, who_is_in};
-    ghost use Rattle.dspec_threads.specs.Runs.{IsRun, RunningSession};
+    ghost use Rattle.dspec_threads.specs.{Places.all_whereabouts, Places.who_is_in, Runs.IsRun, Runs.RunningSession};
 
     ghost Value = { RunningSession K };
 

@@ -1,9 +1,8 @@
 ghost use Rattle.std.specs.Prelude.{◌≡◌, ℕ, ◌++◌, [], List, length, IfOk};
 ghost use mathlib.Core.List.{IsPrefix};
 ghost use Rattle.dspec.specs.Lanes.{place_of};
-ghost use Rattle.dspec_threads.specs.Said.{room_of_lane, said_by, said_into};
-ghost use Rattle.dspec_threads.specs.Settled.{DoesVerdict, SettlesNext, seen_by, settled_by, settled_from};
-ghost use Rattle.dspec_threads.specs.declared.verdict.Verdict.{Verdict};
+ghost use Rattle.dspec_threads.specs.{Said.room_of_lane, Said.said_by, Said.said_into, Settled.DoesVerdict, Settled.SettlesNext, Settled.seen_by, Settled.settled_by, Settled.settled_from};
+ghost use Rattle.dspec_threads.specs.{declared.verdict.Verdict.Verdict};
 
 use crate::judging::{Judging, Said};
 use crate::saying::Sayer;

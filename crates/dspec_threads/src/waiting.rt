@@ -1,7 +1,6 @@
 ghost use Rattle.std.specs.Prelude.{◌≡◌, ◌++◌, [], ◌∷◌, MatchOption};
 ghost use Rattle.dspec.specs.Lanes.{place_of};
-ghost use Rattle.dspec_threads.specs.Belts.{handed_of, taken_by, taken_from_belt};
-ghost use Rattle.dspec_threads.specs.Waits.{AsksFor, AsksOnce, LooksOnce, OpensWithin, ServesWithin};
+ghost use Rattle.dspec_threads.specs.{Belts.handed_of, Belts.taken_by, Belts.taken_from_belt, Waits.AsksFor, Waits.AsksOnce, Waits.LooksOnce, Waits.OpensWithin, Waits.ServesWithin};
 
 use crate::ends::Taker;
 use dspec::{Lane, Path};

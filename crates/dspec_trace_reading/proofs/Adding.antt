@@ -1,11 +1,8 @@
 -- What a trace missed of all CPUs together are the drops of its batches and the records that it answers as lost, as far as 64 bits count.
-use Rattle.std.proofs.lemmas.Bool.Decides.{nat_tests}
 use Rattle.std.proofs.Common.{◌≡◌, ◌≢◌, ◌<◌, ◌≤◌, ◌+◌, ◌^◌, ◌⊎◌, ℕ, List, [], ◌∷◌, Option, Some, None, ap, subst, arith}
-use Rattle.dspec_trace_reading.specs.Words.{AreFrom, GotAll, Passed, passed_from, lost_more, HaveNumbers, drops_carried, lost_of, lost_records}
-use Rattle.dspec_ring.specs.declared.batch.Batch.{Batch}
-use Rattle.dspec_ctf_sink.specs.declared.losing.Loss.{Loss}
-use Rattle.dspec_trace_reading.proofs.Apart.{AreOf, all_drops, are_of, drops_apart}
-use Rattle.dspec_trace_reading.proofs.Summing.{both_of, none_of, one_more, rest_none, within_of}
+use Rattle.std.proofs.lemmas.Bool.Decides.{nat_tests}
+use Rattle.dspec_trace_reading.specs.Words.{AreFrom, GotAll, Passed, passed_from, lost_more, HaveNumbers, drops_carried, lost_of, lost_records, Batch, Loss}
+use Rattle.dspec_trace_reading.proofs.{Apart.AreOf, Apart.all_drops, Apart.are_of, Apart.drops_apart, Summing.both_of, Summing.none_of, Summing.one_more, Summing.rest_none, Summing.within_of}
 
 -- so many more records are lost
 abbrev pub LosesMore : Option Loss → ℕ → Option Loss → Type 0

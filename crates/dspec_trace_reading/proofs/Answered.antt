@@ -1,20 +1,9 @@
 -- A trace that is written as batches are taken answers as many records as its CPUs lost.
 use Rattle.std.proofs.Common.{◌≡◌, ◌≢◌, ◌<◌, ◌≤◌, ◌+◌, ◌^◌, ℕ, inl, inr, List, [], Some, refl, sym, ap, ◌∙◌, subst, arith, length, slice_get}
 use Rattle.dspec_trace_reading.specs.Words.{EnabledRows, AreFrom, GotAll, Passed, passed_from, GetsPacket, Tracing, missed_on, HaveNumbers, drops_carried, whole_loss, all_counted, lost_of}
-use Rattle.dspec_trace_reading.specs.Words.{lost_records, missed_in, BegunNew}
-use Rattle.dspec_ring.specs.declared.batch.Batch.{Batch}
-use Rattle.dspec_session_core.specs.declared.left.Left.{Left}
-use Rattle.dspec_ctf.specs.declared.names.Names.{Names}
-use Rattle.dspec_ctf.specs.declared.origin.Origin.{Origin}
-use Rattle.dspec_trace_reading.proofs.Adding.{AddsUp, all_answered}
-use Rattle.dspec_trace_reading.proofs.Apart.{none_from}
-use Rattle.dspec_trace_reading.proofs.Asking.{missed_before, missed_here}
-use Rattle.dspec_trace_reading.proofs.Begun.{none_missed}
-use Rattle.dspec_trace_reading.proofs.Bounded.{bounded}
-use Rattle.dspec_trace_reading.proofs.Folding.{Holds}
-use Rattle.dspec_trace_reading.proofs.Losing.{counted_here, leaves, uncapped}
-use Rattle.dspec_trace_reading.proofs.OwnNumbers.{is_there}
-use Rattle.dspec_trace_reading.proofs.Summing.{all_within}
+use Rattle.dspec_trace_reading.specs.Words.{lost_records, missed_in, BegunNew, Batch, Left, Names, Origin}
+use Rattle.dspec_trace_reading.proofs.{Adding.AddsUp, Adding.all_answered, Apart.none_from, Asking.missed_before, Asking.missed_here, Begun.none_missed, Bounded.bounded, Folding.Holds}
+use Rattle.dspec_trace_reading.proofs.{Losing.counted_here, Losing.leaves, Losing.uncapped, OwnNumbers.is_there, Summing.all_within}
 
 abbrev IsWide : Tracing → Type 0
 IsWide t = length t.missed ≡ 64

@@ -1,13 +1,9 @@
 -- Batches by the CPUs that they came from, where it is known how many CPUs there are.
 use Rattle.std.proofs.Common.{◌≡◌, ◌<◌, ◌≤◌, ◌+◌, ◌==◌, ℕ, Bool, true, false, if◌then◌else◌, List, [], ◌∷◌, refl, arith, length}
+use Rattle.std.proofs.lemmas.{Bool.eq-eqb, Bool.ne_eqb, List.Elements.All-cons, List.Elements.All-head, List.Elements.All-nil, List.Elements.All-tail}
 use Rattle.std.specs.List.{AllByRecursion}
-use Rattle.std.proofs.lemmas.Bool.{eq-eqb, ne_eqb}
-use Rattle.std.proofs.lemmas.List.Elements.{All-cons, All-head, All-nil, All-tail}
-use Rattle.dspec_trace_reading.specs.Words.{AreFrom, Passed, passed_from, GetsTellings, HaveNumbers, drops_carried, lost_of}
-use Rattle.dspec_ring.specs.declared.batch.Batch.{Batch}
-use Rattle.dspec_session_core.specs.declared.left.Left.{Left}
-use Rattle.dspec_trace_reading.proofs.Summing.{none_of, one_more}
-use Rattle.dspec_trace_reading.proofs.Told.{told_of}
+use Rattle.dspec_trace_reading.specs.Words.{AreFrom, Passed, passed_from, GetsTellings, HaveNumbers, drops_carried, lost_of, Batch, Left}
+use Rattle.dspec_trace_reading.proofs.{Summing.none_of, Summing.one_more, Told.told_of}
 
 -- what the end of a trace tells is of the CPUs that are left
 pub told_from : {K : Type 0} (gets : K → Batch → K → Type 0) (n c : ℕ) (ls : List Left) (k l : K) (t : GetsTellings gets c ls k l) → n ≡ c + length ls → AreFrom n (told_of gets c ls k l t)

@@ -1,11 +1,7 @@
 -- What one batch asks of the folder, where nothing is lost.
 use Rattle.std.proofs.Common.{arith, ◌≡◌, ◌<◌, ◌+◌, ℕ, ◌⊎◌, List, [], ◌∷◌, ◌++◌, Option, Some, None, sym, ap, ◌∙◌, subst, length, slice_index}
-use Rattle.std.proofs.lemmas.Bool.Decides.{nat_tests}
-use Rattle.std.proofs.lemmas.List.{get_or-set_same}
-use Rattle.std.proofs.lemmas.Option.{slice_get_within, get_or_from_slice_get}
-use Rattle.dspec_trace_reading.specs.Words.{EnabledRows, Passed, GotAll, missed_on, lost_more, FileWrite, Takes, AddsPacket, GetsPacket, IsNothing, Tracing}
-use Rattle.dspec_ring.specs.declared.batch.Batch.{Batch}
-use Rattle.dspec_ctf_sink.specs.declared.losing.Loss.{Loss}
+use Rattle.std.proofs.lemmas.{Bool.Decides.nat_tests, List.get_or-set_same, Option.slice_get_within, Option.get_or_from_slice_get}
+use Rattle.dspec_trace_reading.specs.Words.{EnabledRows, Passed, GotAll, missed_on, lost_more, FileWrite, Takes, AddsPacket, GetsPacket, IsNothing, Tracing, Batch, Loss}
 
 -- what a place took stands behind what it was asked for before
 pub took : (old new : Option (List FileWrite)) (was : List FileWrite) (name bytes : List ℕ) → old ≡ Some was → Takes old name bytes new

@@ -1,14 +1,9 @@
 -- A folder in which the metadata was written, and no packet yet.
 use Rattle.std.proofs.Common.{arith, ◌≡◌, ◌∙◌, ℕ, zero, suc, List, [], ◌∷◌, ◌++◌, Some, None, refl, sym, ap, codes, replicate, slice_index}
 use Rattle.std.proofs.lemmas.Bool.Decides.{nat_tests}
-use Rattle.dspec_trace_reading.specs.Words.{EnabledRows, origin_text, missed_on, FileWrite, file_of, Tracing, cpu_name, told_on, BegunNew}
-use Rattle.dspec_ctf.specs.declared.form.Form.TheVariants.{AsTaken}
-use Rattle.dspec_ctf.specs.declared.names.Names.{Names}
-use Rattle.dspec_ctf.specs.declared.origin.Origin.{Origin}
+use Rattle.dspec_trace_reading.specs.Words.{EnabledRows, origin_text, missed_on, FileWrite, file_of, Tracing, cpu_name, told_on, BegunNew, AsTaken, Names, Origin}
 use Rattle.dspec_ctf_sink.proofs.Written.{brought_elsewhere, brought_whole}
-use Rattle.dspec_trace_reading.proofs.Naming.{cpu_named, metadata_named, not_metadata}
-use Rattle.dspec_trace_reading.proofs.Placing.{alone}
-use Rattle.dspec_trace_reading.proofs.Asking.{took}
+use Rattle.dspec_trace_reading.proofs.{Asking.took, Naming.cpu_named, Naming.metadata_named, Naming.not_metadata, Placing.alone}
 
 pub all_zero : (n i : ℕ) → slice_index (replicate n 0) i ≡ 0
 all_zero zero i = refl

@@ -1,10 +1,8 @@
 -- What a trace counts of a CPU as missed is no more than its batches' drops and its records, however many are lost.
 use Rattle.std.proofs.Common.{◌≡◌, ◌<◌, ◌≤◌, ◌+◌, ◌==◌, ℕ, Bool, true, false, if◌then◌else◌, List, [], ◌∷◌, refl, sym, ap, ◌∙◌, subst, arith, length}
-use Rattle.std.proofs.lemmas.List.{length-append}
-use Rattle.std.proofs.lemmas.Bool.{eqb-true, eqb-false}
+use Rattle.std.proofs.lemmas.{Bool.eqb-true, Bool.eqb-false, List.length-append}
 use Rattle.dspec_trace_reading.specs.Words.{Record, EnabledRows, Passed, GotAll, passed_from, missed_on, GetsPacket, Tracing, HaveNumbers, drops_carried}
-use Rattle.dspec_trace_reading.proofs.Folding.{Holds, one_text}
-use Rattle.dspec_trace_reading.proofs.Losing.{Came, leaves, own_few}
+use Rattle.dspec_trace_reading.proofs.{Folding.Holds, Folding.one_text, Losing.Came, Losing.leaves, Losing.own_few}
 
 module _ (e : EnabledRows) (c : ℕ) (low : c < 64) where
   next_bounded : (old mid new : Tracing) (x : Passed) (xs : List Passed) (rs : List Record) → length old.missed ≡ 64 → x.batch.cpu ≡ x.from

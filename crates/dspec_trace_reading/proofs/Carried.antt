@@ -1,25 +1,13 @@
 -- What a session promises of a folder that it was traced into, and of the sink beside it.
-use Rattle.std.proofs.lemmas.Bool.Decides.{nat_tests}
 use Rattle.std.proofs.Common.{◌≡◌, ◌<◌, ◌+◌, ℕ, Bool, List, [], ◌∷◌, ◌++◌, Option, Some, None, sym, ap, ◌∙◌, subst, arith, append_assoc, length, slice_get}
-use Rattle.std.proofs.lemmas.List.Elements.{All-append}
-use Rattle.std.proofs.lemmas.Option.{slice_get_within}
+use Rattle.std.proofs.lemmas.{Bool.Decides.nat_tests, List.Elements.All-append, Option.slice_get_within}
 use Rattle.dspec_trace_reading.specs.Words.{Record, EnabledRows, enabled, table_accepts, table_shape, table_text, start_fault, CallsMade, waiting, all_did, IsPromised, GotAll, Passed, passed_from}
-use Rattle.dspec_trace_reading.specs.Words.{AreFrom, IsKept, IsOneListWith, IsTelling, TellsUntold, untold, HaveNumbers, drops_carried, missed_in, BothGet, RanInto}
-use Rattle.dspec_record.specs.declared.field.Shape.{Shape}
-use Rattle.dspec_deeds.specs.declared.config.Config.{Config}
+use Rattle.dspec_trace_reading.specs.Words.{AreFrom, IsKept, IsOneListWith, IsTelling, TellsUntold, untold, HaveNumbers, drops_carried, missed_in, BothGet, RanInto, Shape, Config, Batch, Left, Both}
+use Rattle.dspec_trace_reading.specs.Words.{Telling}
 use Rattle.dspec_deeds.proofs.SetUp.{most_cpus}
-use Rattle.dspec_ring.specs.declared.batch.Batch.{Batch}
-use Rattle.dspec_session_core.specs.declared.left.Left.{Left}
 use Rattle.dspec.proofs.Passing.{from_both, got_both}
-use Rattle.dspec_trace_reading.proofs.Apart.{told_from}
-use Rattle.dspec_trace_reading.proofs.Counted.{accepted_reported, drops_reported}
-use Rattle.dspec_trace_reading.proofs.Folding.{Holds}
-use Rattle.dspec_trace_reading.proofs.Read.{numbered}
-use Rattle.dspec_trace_reading.proofs.Begun.{first}
-use Rattle.dspec_trace_reading.proofs.Through.{got_through}
-use Rattle.dspec_trace_reading.proofs.Told.{drops_more, got_told, hold_more, numbers_both, told_numbers, told_of, told_there}
-use Rattle.dspec.specs.declared.both.Both.{Both}
-use Rattle.dspec_ctf_sink.specs.declared.telling.Telling.{Telling}
+use Rattle.dspec_trace_reading.proofs.{Apart.told_from, Begun.first, Counted.accepted_reported, Counted.drops_reported, Folding.Holds, Read.numbered, Through.got_through, Told.drops_more}
+use Rattle.dspec_trace_reading.proofs.{Told.got_told, Told.hold_more, Told.numbers_both, Told.told_numbers, Told.told_of, Told.told_there}
 
 -- What the promise of a session says of a folder into which it was traced and whose end was told, and of the sink beside it.
 pub record Carries {K F : Type 0} (gets : K → Batch → K → Type 0) (sees : F → Batch → F → Type 0) (does : ℕ → CallsMade → CallsMade → Type 0) (e : EnabledRows) (k : Config) (old : K)

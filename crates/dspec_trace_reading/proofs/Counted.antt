@@ -1,21 +1,9 @@
 -- What a CPU's batches carry as drops, and how many records came out of it, is what its report counts.
-use Rattle.std.proofs.lemmas.Bool.Decides.{nat_tests}
 use Rattle.std.proofs.Common.{◌≡◌, ◌+◌, ◌&&◌, ℕ, Bool, true, false, List, [], ◌∷◌, ◌++◌, Option, refl, sym, ap, ◌∙◌, arith, length, reverse, append_assoc}
-use Rattle.std.proofs.lemmas.List.{length-reverse, reverse-append}
+use Rattle.std.proofs.lemmas.{Bool.Decides.nat_tests, List.length-reverse, List.reverse-append}
 use Rattle.dspec_trace_reading.specs.Words.{Record, CallsMade, waiting, IsPromised, left_batches, drops_carried, Did, HandedRecord, cpu_stream, handed, number, of, taken, Speculation, IsLegal}
-use Rattle.dspec_trace_reading.specs.Words.{IsOwn, batches, drops_of, is_drop, one_if, part, total, AreSealed, IsLeftBy}
-use Rattle.dspec_record.specs.declared.field.Shape.{Shape}
-use Rattle.dspec_deeds.specs.declared.config.Config.{Config}
-use Rattle.dspec_deeds.specs.declared.calls.Actor.TheVariants.{Cpu}
-use Rattle.dspec_deeds.specs.declared.deed.DecideFate.{DecideFate}
-use Rattle.dspec_deeds.specs.declared.deed.Deed.{Deed}
-use Rattle.dspec_deeds.specs.declared.deed.Deed.TheVariants.{Seal}
-use Rattle.dspec_deeds.specs.declared.report.Report.{Report}
-use Rattle.dspec_deeds.proofs.OwnParts.{own_of_fitting}
-use Rattle.dspec_deeds.proofs.OwnReads.{reads}
-use Rattle.dspec_deeds.proofs.WholeLists.{drops_add_up}
-use Rattle.dspec_ring.specs.declared.batch.Batch.{Batch}
-use Rattle.dspec_session_core.specs.declared.left.Left.{Left}
+use Rattle.dspec_trace_reading.specs.Words.{IsOwn, batches, drops_of, is_drop, one_if, part, total, AreSealed, IsLeftBy, Shape, Config, Cpu, DecideFate, Deed, Seal, Report, Batch, Left}
+use Rattle.dspec_deeds.proofs.{OwnParts.own_of_fitting, OwnReads.reads, WholeLists.drops_add_up}
 use Rattle.dspec_trace_reading.proofs.Told.{drops_more}
 
 drops_reversed : (bs : List Batch) → drops_carried (reverse bs) ≡ drops_carried bs

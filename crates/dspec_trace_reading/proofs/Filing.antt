@@ -1,20 +1,13 @@
 -- A CPU's files by time: what they tell, and what one batch brings to them.
-use Rattle.std.proofs.lemmas.Bool.Decides.{nat_tests}
-use Rattle.std.proofs.Common.{◌≡◌, ◌<◌, ◌≤◌, ◌-◌, ◌^◌, ◌==◌, ◌++◌, inl, inr, ℕ, Bool, true, false, cond, List, [], ◌∷◌, Option, Some, refl, ap, sym, subst, ◌∙◌, arith, length, length-append, map, All}
-use Rattle.std.specs.Prelude.{slice_index, slice_range}
-use Rattle.std.specs.List.{flat_map}
-use Rattle.std.proofs.lemmas.Bool.{eqb-true, eqb-false, ne_eqb}
-use Rattle.std.proofs.lemmas.List.{append-nil, map-append, take_all}
-use Rattle.std.proofs.lemmas.List.Elements.{All-append, All-cons, All-nil}
+use Rattle.std.proofs.Common.{◌≡◌, ◌<◌, ◌≤◌, ◌-◌, ◌^◌, ◌==◌, ◌++◌, inl, inr, ℕ, Bool, true, false, cond, List, [], ◌∷◌, Option, Some, refl, ap, sym, subst, ◌∙◌, arith, length, length-append, map}
+use Rattle.std.proofs.Common.{All}
+use Rattle.std.proofs.lemmas.Bool.{eqb-true, eqb-false, ne_eqb, Decides.nat_tests}
+use Rattle.std.proofs.lemmas.List.{append-nil, map-append, take_all, Elements.All-append, Elements.All-cons, Elements.All-nil}
+use Rattle.std.specs.{List.flat_map, Prelude.slice_index, Prelude.slice_range}
 use Rattle.dspec_trace_reading.specs.Words.{Record, EnabledRows, missed_packets, of_file, run_files, run_packets, told_by, Accepts, FileTells, PartTells, file_bytes, event_of, layout_of, EventRead}
-use Rattle.dspec_trace_reading.specs.Words.{AreRuns, AddsAll, TakesAll, TellsMissed, row_name, FileWrite, file_of}
+use Rattle.dspec_trace_reading.specs.Words.{AreRuns, AddsAll, TakesAll, TellsMissed, row_name, FileWrite, file_of, ByTime, Names, Run}
 use Rattle.dspec_record.specs.declared.header.Header.TheVariants as header
-use Rattle.dspec_ctf.specs.declared.form.Form.TheVariants.{ByTime}
-use Rattle.dspec_ctf.specs.declared.names.Names.{Names}
-use Rattle.dspec_ctf.specs.declared.rows.Run.{Run}
-use Rattle.dspec_filing_reading.proofs.FilesLaws.{FilesLaws, told_other}
-use Rattle.dspec_filing_reading.proofs.Growing.{grown, told_more}
-use Rattle.dspec_filing_reading.proofs.Sharing.{of_more, packets_few, shared, stamps_low}
+use Rattle.dspec_filing_reading.proofs.{FilesLaws.FilesLaws, FilesLaws.told_other, Growing.grown, Growing.told_more, Sharing.of_more, Sharing.packets_few, Sharing.shared, Sharing.stamps_low}
 use Rattle.dspec_trace_reading.proofs.Taking.{grows_here, row_writes, took_all}
 
 -- what a CPU's files tell of this stream, with so many missed, and that their last stamps can be told

@@ -1,13 +1,8 @@
 -- What proofs of folders have in common.
 use Rattle.std.proofs.Common.{◌++◌, ◌≡◌, ℕ, List, [], ◌∷◌, Some, None, refl}
 use Rattle.dspec_trace_reading.specs.Words.{FilledFilesReadBack, HasNumbers, MetadataTells, last_missed, origin_fault, Record, EnabledRows, enabled, table_shape, table_accepts, table_text}
-use Rattle.dspec_trace_reading.specs.Words.{enabled-IsLimited, table-shapes_fit, table-texts_fit, table-texts_differ, IsText, FileWrite, file_of, Tracing, HoldRecords}
-use Rattle.dspec_ctf.specs.declared.form.Form.{Form}
-use Rattle.dspec_ctf.specs.declared.names.Names.{Names}
-use Rattle.dspec_ctf.specs.declared.origin.Origin.{Origin}
-use Rattle.dspec_buffer.proofs.SchemaLaws.{SchemaLaws}
-use Rattle.dspec_buffer.proofs.OneReading.{one_reading}
-use Rattle.dspec_ring.specs.declared.batch.Batch.{Batch}
+use Rattle.dspec_trace_reading.specs.Words.{enabled-IsLimited, table-shapes_fit, table-texts_fit, table-texts_differ, IsText, FileWrite, file_of, Tracing, HoldRecords, Form, Names, Origin, Batch}
+use Rattle.dspec_buffer.proofs.{OneReading.one_reading, SchemaLaws.SchemaLaws}
 use Rattle.dspec_trace_reading.proofs.Asking.{took}
 
 -- what the last packet tells, and this number where there is none

@@ -2,21 +2,10 @@
 use Rattle.std.proofs.Common.{◌∷◌, ◌≡◌, ◌<◌, ◌≤◌, ◌+◌, ◌-◌, ◌^◌, ℕ, List, ◌⊎◌, inl, inr, Option, Some, None, sym, ◌∙◌, subst, arith, length, slice_get, codes, Result, Ok, IfOk, IsOk, Err}
 use Rattle.std.proofs.lemmas.Bool.Decides.{nat_tests}
 use Rattle.dspec_trace_reading.specs.Words.{EnabledRows, start_fault, CallsMade, passed_from, layout_of, read_metadata, origin_text, HasNumbers, FileWrite, file_of, drops_carried, IsInFolder}
-use Rattle.dspec_trace_reading.specs.Words.{missed_in, RanBegun, FolderTrace, ToFolderFault, Begun, Ran, HasOriginNumbers, AreCountable, AreNamesOf, ticks_of, TellsProgram, all_counted, lost_of}
-use Rattle.dspec_trace_reading.specs.Words.{lost_records, made_at, path_of, written_in, KeptOf, Reads, ReadsKept, ReadsPart}
-use Rattle.dspec_deeds.specs.declared.config.Config.{Config}
-use Rattle.dspec_ring.specs.declared.batch.Batch.{Batch}
-use Rattle.dspec_session_core.specs.declared.left.Left.{Left}
-use Rattle.dspec_probe.specs.declared.probes.ProbeNames.{ProbeNames}
-use Rattle.dspec_ctf.specs.declared.form.Form.{Form}
-use Rattle.dspec_ctf.specs.declared.names.Names.{Names}
-use Rattle.dspec_ctf.specs.declared.names.Names.TheVariants.{Numbered, Given}
-use Rattle.dspec_ctf.specs.declared.origin.ClockStart.{ClockStart}
-use Rattle.dspec_ctf.specs.declared.origin.Origin.{Origin}
-use Rattle.dspec_ctf_sink.specs.declared.losing.Loss.{Loss}
-use Rattle.dspec_trace_reading.proofs.Carried.{Carries, in_both}
-use Rattle.dspec_trace_reading.proofs.Kept.{kept_before, whole_read}
-use Rattle.dspec_trace_reading.proofs.Summing.{one_within}
+use Rattle.dspec_trace_reading.specs.Words.{missed_in, RanBegun, HasOriginNumbers, AreCountable, AreNamesOf, ticks_of, TellsProgram, all_counted, lost_of, lost_records, made_at, path_of, written_in}
+use Rattle.dspec_trace_reading.specs.Words.{KeptOf, Reads, ReadsKept, ReadsPart, Config, Batch, Left, ProbeNames, Form, Names, Numbered, Given, ClockStart, Origin, Loss}
+use Rattle.dspec_trace_reading.specs.declared.{fault.ToFolderFault.ToFolderFault, folder_trace.FolderTrace.FolderTrace, running.Begun.Begun, running.Ran.Ran}
+use Rattle.dspec_trace_reading.proofs.{Carried.Carries, Carried.in_both, Kept.kept_before, Kept.whole_read, Summing.one_within}
 
 -- with what is so of the probes
 pub all_numbers : (origin : Origin) (form : Form) (e : EnabledRows) (ps : List ProbeNames) (names : Names) → HasOriginNumbers origin → ticks_of form < 2 ^ 64 → AreNamesOf ps names

@@ -1,18 +1,13 @@
 -- What all batches of a session bring to one CPU's file, where some may be lost.
-use Rattle.std.proofs.Common.{◌≡◌, ◌≢◌, ◌<◌, ◌≤◌, ◌+◌, ◌^◌, ◌==◌, ℕ, Bool, true, false, if◌then◌else◌, ◌⊎◌, inl, inr, List, [], ◌∷◌, ◌++◌, Some, None}
-use Rattle.std.proofs.Common.{refl, sym, ap, ◌∙◌, subst, arith, length, All, append_assoc, slice_index}
+use Rattle.std.proofs.Common.{◌≡◌, ◌≢◌, ◌<◌, ◌≤◌, ◌+◌, ◌^◌, ◌==◌, ℕ, Bool, true, false, if◌then◌else◌, ◌⊎◌, inl, inr, List, [], ◌∷◌, ◌++◌, Some, None, refl, sym, ap, ◌∙◌, subst, arith, length, All}
+use Rattle.std.proofs.Common.{append_assoc, slice_index}
+use Rattle.std.proofs.lemmas.{Bool.eqb-true, Bool.eqb-false, List.append-nil, List.get_or-set_same, List.Elements.All-cons, List.Elements.All-nil}
 use Rattle.std.specs.List.{flat_map}
-use Rattle.std.proofs.lemmas.List.{append-nil, get_or-set_same}
-use Rattle.std.proofs.lemmas.List.Elements.{All-cons, All-nil}
-use Rattle.std.proofs.lemmas.Bool.{eqb-true, eqb-false}
 use Rattle.dspec_trace_reading.specs.Words.{Record, EnabledRows, Passed, GotAll, passed_from, filled_packets, Accepts, IsText, missed_on, FileWrite, file_of, AreNextOf, GetsPacket, Tracing}
-use Rattle.dspec_trace_reading.specs.Words.{cpu_name, AreKept, HaveNumbers, drops_carried, told_on}
-use Rattle.dspec_ring.specs.declared.batch.Batch.{Batch}
+use Rattle.dspec_trace_reading.specs.Words.{cpu_name, AreKept, HaveNumbers, drops_carried, told_on, Batch}
 use Rattle.dspec_ctf_sink.proofs.Written.{brought_whole, file_of_more}
-use Rattle.dspec_trace_reading.proofs.Naming.{names_differ}
-use Rattle.dspec_trace_reading.proofs.Asking.{missed_before, missed_here, some_lost, took, unlost}
-use Rattle.dspec_trace_reading.proofs.Losing.{Came, files_stay, leaves, own_missed}
-use Rattle.dspec_trace_reading.proofs.Folding.{Holds, Stays, last_from, one_text}
+use Rattle.dspec_trace_reading.proofs.{Asking.missed_before, Asking.missed_here, Asking.some_lost, Asking.took, Asking.unlost, Folding.Holds, Folding.Stays, Folding.last_from, Folding.one_text}
+use Rattle.dspec_trace_reading.proofs.{Losing.Came, Losing.files_stay, Losing.leaves, Losing.own_missed, Naming.names_differ}
 use Rattle.dspec_filing_reading.proofs.Fronts.{all_accepted}
 
 -- nothing was lost, or 64 bits are enough for what the CPU missed

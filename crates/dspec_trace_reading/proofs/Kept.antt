@@ -1,11 +1,8 @@
 -- What is kept of a CPU's batches, of folders of either form.
 use Rattle.std.proofs.Common.{◌≡◌, ◌+◌, ◌++◌, ◌⊎◌, ℕ, inl, inr, List, [], ◌∷◌, refl, sym, ap, subst, ◌∙◌, arith, length}
 use Rattle.std.proofs.lemmas.List.{append-nil}
-use Rattle.dspec_trace_reading.specs.Words.{IsText, Record, EnabledRows, enabled, table_accepts, table_shape, table_text, FileWrite, IsBare, drops_carried, KeptOf, Reads, ReadsKept}
-use Rattle.dspec_ring.specs.declared.batch.Batch.{Batch}
-use Rattle.dspec_ctf.specs.declared.form.Form.{Form}
-use Rattle.dspec_ctf.specs.declared.form.Form.TheVariants.{AsTaken, ByTime}
-use Rattle.dspec_ctf.specs.declared.names.Names.{Names}
+use Rattle.dspec_trace_reading.specs.Words.{IsText, Record, EnabledRows, enabled, table_accepts, table_shape, table_text, FileWrite, IsBare, drops_carried, KeptOf, Reads, ReadsKept, Batch, Form}
+use Rattle.dspec_trace_reading.specs.Words.{AsTaken, ByTime, Names}
 use Rattle.dspec_buffer.proofs.OneReading.{one_reading}
 use Rattle.dspec_trace_reading.proofs.Folding.{Holds, laws, one_text}
 

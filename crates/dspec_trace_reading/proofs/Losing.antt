@@ -1,12 +1,8 @@
 -- What one batch asks of the folder, where some may be lost.
-use Rattle.std.proofs.lemmas.Bool.Decides.{nat_tests}
 use Rattle.std.proofs.Common.{◌≡◌, ◌≢◌, ◌<◌, ◌≤◌, ◌+◌, ◌^◌, ◌⊎◌, ℕ, inl, inr, List, [], ◌∷◌, ◌++◌, Option, Some, None, sym, ap, ◌∙◌, subst, arith, length, length-set, slice_index}
-use Rattle.std.proofs.lemmas.List.{append-nil, get_or-set_same, get_or-set_other}
+use Rattle.std.proofs.lemmas.{Bool.Decides.nat_tests, List.append-nil, List.get_or-set_same, List.get_or-set_other, Option.slice_get_within}
 use Rattle.dspec_trace_reading.specs.Words.{AddsPacket, IsNothing, cpu_name, told_on, Record, EnabledRows, IsText, missed_on, HasSoManyRecords, capped, FileWrite, Refuses, file_of, LosesPacket}
-use Rattle.dspec_trace_reading.specs.Words.{Tracing}
-use Rattle.dspec_ring.specs.declared.batch.Batch.{Batch}
-use Rattle.dspec_ctf_sink.specs.declared.fault.FolderFault.{FolderFault}
-use Rattle.std.proofs.lemmas.Option.{slice_get_within}
+use Rattle.dspec_trace_reading.specs.Words.{Tracing, Batch, FolderFault}
 use Rattle.dspec_ctf_sink.proofs.Written.{brought_elsewhere, file_of_more}
 use Rattle.dspec_trace_reading.proofs.Asking.{missed_before, missed_here, took}
 

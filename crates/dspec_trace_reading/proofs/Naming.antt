@@ -1,7 +1,5 @@
 -- Each CPU has a file of its own, and none is the metadata.
-use Rattle.std.proofs.lemmas.Bool.Decides.{nat_tests}
-use Rattle.std.proofs.Common.{◌≢◌, ◌<◌, ℕ, List, [], ap, arith, drop, codes}
-use Rattle.std.proofs.lemmas.Fmt.{decimal_injective}
+use Rattle.std.proofs.{Common.◌≢◌, Common.◌<◌, Common.ℕ, Common.List, Common.[], Common.ap, Common.arith, Common.drop, Common.codes, lemmas.Bool.Decides.nat_tests, lemmas.Fmt.decimal_injective}
 use Rattle.dspec_trace_reading.specs.Words.{cpu_name}
 
 pub names_differ : (a b : ℕ) → a < 64 → b < 64 → a ≢ b → cpu_name a ≢ cpu_name b

@@ -1,16 +1,9 @@
 -- Each batch that a sink got of a session has the number of the CPU that it came from.
 use Rattle.std.proofs.Common.{◌≡◌, ◌<◌, ◌==◌, ℕ, zero, suc, Bool, true, false, if◌then◌else◌, List, [], ◌∷◌, ◌++◌, Option, Some, refl, sym, subst, arith, length, reverse, slice_get, append_assoc}
+use Rattle.std.proofs.lemmas.{Bool.eq-eqb, List.reverse-append, List.reverse-reverse, List.Elements.All-head, List.Elements.All-tail}
 use Rattle.std.specs.List.{AllByRecursion}
-use Rattle.std.proofs.lemmas.Bool.{eq-eqb}
-use Rattle.std.proofs.lemmas.List.{reverse-append, reverse-reverse}
-use Rattle.std.proofs.lemmas.List.Elements.{All-head, All-tail}
-use Rattle.dspec_trace_reading.specs.Words.{Record, waiting, IsWithSeals, AreFrom, Passed, left_batches, passed_from, HaveNumbers}
-use Rattle.dspec_record.specs.declared.field.Shape.{Shape}
-use Rattle.dspec_deeds.specs.declared.config.Config.{Config}
-use Rattle.dspec_deeds.specs.declared.deed.Deed.{Deed}
+use Rattle.dspec_trace_reading.specs.Words.{Record, waiting, IsWithSeals, AreFrom, Passed, left_batches, passed_from, HaveNumbers, Shape, Config, Deed, Batch, Left}
 use Rattle.dspec_deeds.specs.declared.deed.Deed.TheVariants as deed
-use Rattle.dspec_ring.specs.declared.batch.Batch.{Batch}
-use Rattle.dspec_session_core.specs.declared.left.Left.{Left}
 
 -- these batches have that number
 abbrev pub Numbered : ℕ → List Batch → Type 0

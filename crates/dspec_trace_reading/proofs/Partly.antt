@@ -1,20 +1,13 @@
 -- A folder that was written as batches were taken, of which some may be lost, and what is read of it.
 use Rattle.std.proofs.Common.{◌≡◌, ◌<◌, ◌≤◌, ◌+◌, ◌^◌, ℕ, inl, inr, List, [], ◌∷◌, ◌++◌, false, Some, sym, ap, ◌∙◌, subst, arith, length, map, slice_get, All, codes, None}
-use Rattle.std.specs.List.{flat_map}
 use Rattle.std.proofs.lemmas.List.Elements.{All-head, All-tail, All-weaker}
+use Rattle.std.specs.List.{flat_map}
 use Rattle.dspec_trace_reading.specs.Words.{FileWrite, Record, EnabledRows, Passed, GotAll, passed_from, filled_packets, origin_text, Accepts, FileTells, last_missed, event_of, layout_of}
 use Rattle.dspec_trace_reading.specs.Words.{read_metadata, HasNumbers, missed_on, file_of, GetsPacket, Tracing, cpu_name, HaveNumbers, drops_carried, told_on, BegunNew, path_of, ReadsAllKept}
-use Rattle.dspec_trace_reading.specs.Words.{ReadsBack, ReadsKept}
-use Rattle.dspec_session_core.specs.declared.left.Left.{Left}
-use Rattle.dspec_ctf.specs.declared.form.Form.TheVariants.{AsTaken}
-use Rattle.dspec_ctf.specs.declared.names.Names.{Names}
-use Rattle.dspec_ctf.specs.declared.origin.Origin.{Origin}
-use Rattle.dspec_trace_reading.proofs.Begun.{asked, begun_with, first, metadata_is, none_missed, none_told, nothing_yet}
-use Rattle.dspec_trace_reading.proofs.Folding.{FilesRead, Holds, MetadataReads, Stays, last_from, last_same}
-use Rattle.dspec_trace_reading.proofs.Keeping.{IsExact, Kept, Told, all_kept, stays}
-use Rattle.dspec_trace_reading.proofs.Naming.{cpu_named, metadata_named, not_metadata}
-use Rattle.dspec_trace_reading.proofs.Placing.{path_stays}
-use Rattle.dspec_trace_reading.proofs.Kept.{whole_read}
+use Rattle.dspec_trace_reading.specs.Words.{ReadsBack, ReadsKept, Left, AsTaken, Names, Origin}
+use Rattle.dspec_trace_reading.proofs.{Begun.asked, Begun.begun_with, Begun.first, Begun.metadata_is, Begun.none_missed, Begun.none_told, Begun.nothing_yet, Folding.FilesRead, Folding.Holds}
+use Rattle.dspec_trace_reading.proofs.{Folding.MetadataReads, Folding.Stays, Folding.last_from, Folding.last_same, Keeping.IsExact, Keeping.Kept, Keeping.Told, Keeping.all_kept, Keeping.stays}
+use Rattle.dspec_trace_reading.proofs.{Kept.whole_read, Naming.cpu_named, Naming.metadata_named, Naming.not_metadata, Placing.path_stays}
 
 -- the last packet tells no more than what no packet tells more than
 last_at_most : (n m : ℕ) (ps : List (ℕ × List Record)) → n ≤ m → All (λ (p : ℕ × List Record). p.0 ≤ m) ps → last_from n ps ≤ m

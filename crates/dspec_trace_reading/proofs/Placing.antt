@@ -1,6 +1,5 @@
 -- A folder that had no file: what it was asked for tells where it was made.
-use Rattle.std.proofs.Common.{◌≡◌, ◌≢◌, List, [], ◌∷◌, ◌++◌, ℕ, ap, sym, refl, ◌∙◌}
-use Rattle.std.proofs.lemmas.List.{append-nil}
+use Rattle.std.proofs.{Common.◌≡◌, Common.◌≢◌, Common.List, Common.[], Common.◌∷◌, Common.◌++◌, Common.ℕ, Common.ap, Common.sym, Common.refl, Common.◌∙◌, lemmas.List.append-nil}
 use Rattle.dspec_trace_reading.specs.Words.{FileWrite, brought_to, file_of, LeaveNone, made_at, path_of}
 use Rattle.dspec_ctf_sink.proofs.Written.{brought_elsewhere, brought_whole, file_of_more}
 

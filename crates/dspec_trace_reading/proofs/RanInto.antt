@@ -1,11 +1,6 @@
 -- A session that ran, and whose folder was ended, ran into that folder.
 use Rattle.std.proofs.Common.{◌≡◌, ℕ, List, sym, refl, subst}
-use Rattle.dspec_trace_reading.specs.Words.{EnabledRows, CallsMade, IsOneListWith, TellsUntold, BothGet, RanInto}
-use Rattle.dspec_deeds.specs.declared.config.Config.{Config}
-use Rattle.dspec_ring.specs.declared.batch.Batch.{Batch}
-use Rattle.dspec_session_core.specs.declared.left.Left.{Left}
-use Rattle.dspec.specs.declared.both.Both.{Both}
-use Rattle.dspec_ctf_sink.specs.declared.telling.Telling.{Telling}
+use Rattle.dspec_trace_reading.specs.Words.{EnabledRows, CallsMade, IsOneListWith, TellsUntold, BothGet, RanInto, Config, Batch, Left, Both, Telling}
 
 pub ran_into : {K T : Type 0} (sees : T → Batch → T → Type 0) (gets : K → Batch → K → Type 0) (does : ℕ → CallsMade → CallsMade → Type 0) (e : EnabledRows) (k : Config) (old : K)
     (begun : Telling T) (mid : Both K (Telling T)) (left closed : List Left) (ended : T) → IsOneListWith e (BothGet gets sees) does k (record { first = old; second = begun }) left mid

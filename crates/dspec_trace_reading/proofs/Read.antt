@@ -1,15 +1,10 @@
 -- What is read of a session that was traced, by what it promises of the batches that its sink got.
 use Rattle.std.proofs.Common.{◌≡◌, ◌<◌, ℕ, List, [], ◌∷◌, ◌∙◌, append_assoc, slice_get, Some, subst, sym}
 use Rattle.dspec_trace_reading.specs.Words.{EnabledRows, enabled, table_accepts, table_shape, table_text, CallsMade, waiting, passed_from, HaveNumbers, KeptIsRead, ListedBy, TakenIsRead}
-use Rattle.dspec_trace_reading.specs.Words.{TimedIsRead, TimedKeptIsRead, TracedBy}
-use Rattle.dspec_deeds.specs.declared.config.Config.{Config}
-use Rattle.dspec_ring.specs.declared.batch.Batch.{Batch}
-use Rattle.dspec_session_core.specs.declared.left.Left.{Left}
+use Rattle.dspec_trace_reading.specs.Words.{TimedIsRead, TimedKeptIsRead, TracedBy, Config, Batch, Left}
 use Rattle.dspec_filing_reading.proofs.FilesLaws.{FilesLaws}
-use Rattle.dspec_trace_reading.proofs.Folding.{FilesRead, Holds, MetadataReads}
-use Rattle.dspec_trace_reading.proofs.OwnNumbers.{Numbered, have_numbers, is_there, taken_numbered}
-use Rattle.dspec_trace_reading.proofs.Partly.{reads_back, reads_kept}
-use Rattle.dspec_trace_reading.proofs.TimedPartly.{reads_back as timed_reads_back, reads_kept as timed_reads_kept}
+use Rattle.dspec_trace_reading.proofs.{Folding.FilesRead, Folding.Holds, Folding.MetadataReads, OwnNumbers.Numbered, OwnNumbers.have_numbers, OwnNumbers.is_there, OwnNumbers.taken_numbered}
+use Rattle.dspec_trace_reading.proofs.{Partly.reads_back, Partly.reads_kept, TimedPartly.reads_back as timed_reads_back, TimedPartly.reads_kept as timed_reads_kept}
 
 module _ (e : EnabledRows) (does : ℕ → CallsMade → CallsMade → Type 0) where
   module _ {K : Type 0} (gets : K → Batch → K → Type 0) (k : Config) (begun : K) (left : List Left) (ended : K) (t : TracedBy e does gets k begun left ended) where

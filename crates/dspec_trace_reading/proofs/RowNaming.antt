@@ -1,9 +1,7 @@
 -- Each file of a CPU by time has a name of its own, and none is the metadata.
-use Rattle.std.proofs.lemmas.Bool.Decides.{nat_tests}
 use Rattle.std.proofs.Common.{◌≡◌, ◌≢◌, ◌<◌, ◌++◌, ℕ, true, List, [], ◌∷◌, refl, ap, sym, ◌∙◌, arith, drop, slice_index, codes, decimal}
+use Rattle.std.proofs.lemmas.{Bool.and_parts, Bool.Decides.nat_tests, Fmt.decimal_injective}
 use Rattle.std.specs.List.{list_all}
-use Rattle.std.proofs.lemmas.Bool.{and_parts}
-use Rattle.std.proofs.lemmas.Fmt.{decimal_injective}
 use Rattle.dspec_trace_reading.specs.Words.{is_digit, row_name}
 use Rattle.dspec_ctf_reading.proofs.Scanning.{decimal-digits}
 

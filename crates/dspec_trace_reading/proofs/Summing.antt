@@ -1,9 +1,7 @@
 -- Sums over the first CPUs, by a number of each.
-use Rattle.std.proofs.lemmas.Bool.Decides.{nat_tests}
 use Rattle.std.proofs.Common.{◌≡◌, ◌<◌, ◌≤◌, ◌+◌, ℕ, zero, suc, inl, inr, List, [], ◌∷◌, Some, refl, sym, subst, arith, length, slice_get}
-use Rattle.std.proofs.lemmas.Bool.{cases_eq, cases_lt}
-use Rattle.dspec_session_core.specs.declared.left.Left.{Left}
-use Rattle.dspec_trace_reading.specs.Words.{all_counted, lost_of, missed_in}
+use Rattle.std.proofs.lemmas.Bool.{cases_eq, cases_lt, Decides.nat_tests}
+use Rattle.dspec_trace_reading.specs.Words.{Left, all_counted, lost_of, missed_in}
 use Rattle.dspec_trace_reading.proofs.OwnNumbers.{is_there}
 
 -- of each the sum of two others

@@ -1,22 +1,11 @@
 -- What is read of a folder into which a session was traced by one call, as its batches were taken.
 use Rattle.std.proofs.Common.{◌≡◌, ◌<◌, ◌≤◌, ◌+◌, ◌^◌, ◌⊎◌, inl, ℕ, List, [], ◌∷◌, Option, None, Some, refl, sym, ap, ◌∙◌, subst, arith, length, slice_get, Result, IfOk, IsOk}
 use Rattle.dspec_trace_reading.specs.Words.{EnabledRows, start_fault, CallsMade, passed_from, GetsPacket, Tracing, missed_on, told_on, IsBegunTrace, IsInFolder, missed_in, IsOfTrace, RanBegun}
-use Rattle.dspec_trace_reading.specs.Words.{FileWrite, written_in, FolderTrace, ToFolderFault, Begun, Ran, lost_records, made_at, BegunNew, ReadsKept, KeptOf, Reads}
-use Rattle.dspec_deeds.specs.declared.config.Config.{Config}
-use Rattle.dspec_ring.specs.declared.batch.Batch.{Batch}
-use Rattle.dspec_session_core.specs.declared.left.Left.{Left}
-use Rattle.dspec_probe.specs.declared.probes.ProbeNames.{ProbeNames}
-use Rattle.dspec_ctf.specs.declared.form.Form.TheVariants.{AsTaken}
-use Rattle.dspec_ctf_sink.specs.declared.losing.Loss.{Loss}
-use Rattle.dspec_trace_reading.proofs.Answered.{lost_answered}
-use Rattle.dspec_trace_reading.proofs.Begun.{none_missed, first}
-use Rattle.dspec_trace_reading.proofs.Bounded.{bounded}
-use Rattle.dspec_trace_reading.proofs.Carried.{Carries}
-use Rattle.dspec_trace_reading.proofs.Folding.{FilesRead, MetadataReads}
-use Rattle.dspec_trace_reading.proofs.InFolder.{Ended, all_numbers, in_folder, read_if}
-use Rattle.dspec_trace_reading.proofs.Partly.{all_writes, writes, metadata_read, metadata_text, none_lost, path_kept, stream_kept}
-use Rattle.dspec_trace_reading.proofs.Placing.{made_new, made_there}
-use Rattle.dspec_trace_reading.proofs.Summing.{most}
+use Rattle.dspec_trace_reading.specs.Words.{FileWrite, written_in, lost_records, made_at, BegunNew, ReadsKept, KeptOf, Reads, Config, Batch, Left, ProbeNames, AsTaken, Loss}
+use Rattle.dspec_trace_reading.specs.declared.{fault.ToFolderFault.ToFolderFault, folder_trace.FolderTrace.FolderTrace, running.Begun.Begun, running.Ran.Ran}
+use Rattle.dspec_trace_reading.proofs.{Answered.lost_answered, Begun.none_missed, Begun.first, Bounded.bounded, Carried.Carries, Folding.FilesRead, Folding.MetadataReads, InFolder.Ended}
+use Rattle.dspec_trace_reading.proofs.{InFolder.all_numbers, InFolder.in_folder, InFolder.read_if, Partly.all_writes, Partly.writes, Partly.metadata_read, Partly.metadata_text, Partly.none_lost}
+use Rattle.dspec_trace_reading.proofs.{Partly.path_kept, Partly.stream_kept, Placing.made_new, Placing.made_there, Summing.most}
 
 module _ (metadata : MetadataReads) (files : FilesRead) {K : Type 0} (gets : K → Batch → K → Type 0) (does : ℕ → CallsMade → CallsMade → Type 0) (e : EnabledRows)
     (ps : List ProbeNames) (path name : List ℕ) (k : Config) (old new : K) where

@@ -1,15 +1,10 @@
 -- What packets of one CPU by time bring to files, which a place took one after another.
 use Rattle.std.proofs.Common.{◌≡◌, ◌≢◌, ◌<◌, ◌==◌, ◌++◌, ◌⊎◌, inl, inr, ℕ, Bool, true, false, cond, List, [], ◌∷◌, Option, Some, None, refl, ap, sym, ◌∙◌, append_assoc, map, All}
-use Rattle.std.specs.Prelude.{filter}
-use Rattle.std.specs.List.{flat_map}
-use Rattle.std.proofs.lemmas.Bool.{eqb-true, eqb-false}
-use Rattle.std.proofs.lemmas.Grind.{flat_map-append}
-use Rattle.std.proofs.lemmas.List.{append-nil}
-use Rattle.std.proofs.lemmas.List.Elements.{All-head, All-tail}
+use Rattle.std.proofs.lemmas.{Bool.eqb-true, Bool.eqb-false, Grind.flat_map-append, List.append-nil, List.Elements.All-head, List.Elements.All-tail}
+use Rattle.std.specs.{List.flat_map, Prelude.filter}
 use Rattle.dspec_trace_reading.specs.Words.{missed_packets, file_bytes, TakesAll, TellsMissed, row_name, FileWrite, brought_to, file_of}
 use Rattle.dspec_ctf_sink.proofs.Written.{brought_elsewhere, brought_whole}
-use Rattle.dspec_trace_reading.proofs.Asking.{took}
-use Rattle.dspec_trace_reading.proofs.RowNaming.{files_differ}
+use Rattle.dspec_trace_reading.proofs.{Asking.took, RowNaming.files_differ}
 
 -- the write of a packet, and of some
 abbrev pub row_write : ℕ → ℕ × List ℕ → FileWrite

@@ -1,10 +1,6 @@
 -- A sink that is part of another got what that got.
 use Rattle.std.proofs.Common.{◌+◌, ℕ, Bool, List, [], ◌∷◌, Option, ap}
-use Rattle.dspec_trace_reading.specs.Words.{Record, CallsMade, GotAll, Passed, IsKept, GetsTellings}
-use Rattle.dspec_record.specs.declared.field.Shape.{Shape}
-use Rattle.dspec_deeds.specs.declared.config.Config.{Config}
-use Rattle.dspec_ring.specs.declared.batch.Batch.{Batch}
-use Rattle.dspec_session_core.specs.declared.left.Left.{Left}
+use Rattle.dspec_trace_reading.specs.Words.{Record, CallsMade, GotAll, Passed, IsKept, GetsTellings, Shape, Config, Batch, Left}
 
 module _ {B K : Type 0} (gets : B → Batch → B → Type 0) (sees : K → Batch → K → Type 0) (f : B → K) (through : (a : B) (b : Batch) (c : B) → gets a b c → sees (f a) b (f c)) where
   pub got_through : (xs : List Passed) (k l : B) → GotAll gets k xs l → GotAll sees (f k) xs (f l)

@@ -1,20 +1,9 @@
 -- A trace that is written by time answers as many records as its CPUs lost.
 use Rattle.std.proofs.Common.{◌≡◌, ◌≢◌, ◌<◌, ◌≤◌, ◌+◌, ◌^◌, ℕ, inl, inr, List, [], Some, refl, sym, ap, ◌∙◌, subst, arith, length, slice_get}
 use Rattle.dspec_trace_reading.specs.Words.{EnabledRows, AreFrom, GotAll, Passed, passed_from, GetsRuns, TimedTracing, HaveNumbers, drops_carried, missed_by_time, all_counted, lost_of, lost_records}
-use Rattle.dspec_trace_reading.specs.Words.{missed_in, TimedBegunNew}
-use Rattle.dspec_ring.specs.declared.batch.Batch.{Batch}
-use Rattle.dspec_session_core.specs.declared.left.Left.{Left}
-use Rattle.dspec_ctf.specs.declared.names.Names.{Names}
-use Rattle.dspec_ctf.specs.declared.origin.Origin.{Origin}
-use Rattle.dspec_trace_reading.proofs.Adding.{AddsUp, all_answered}
-use Rattle.dspec_trace_reading.proofs.Apart.{none_from}
-use Rattle.dspec_trace_reading.proofs.Folding.{Holds}
-use Rattle.dspec_trace_reading.proofs.OwnNumbers.{is_there}
-use Rattle.dspec_trace_reading.proofs.Summing.{all_within}
-use Rattle.dspec_trace_reading.proofs.TimedAsking.{missed_before, missed_here}
-use Rattle.dspec_trace_reading.proofs.TimedBegun.{none_missed}
-use Rattle.dspec_trace_reading.proofs.TimedBounded.{bounded}
-use Rattle.dspec_trace_reading.proofs.TimedLosing.{exact, leaves}
+use Rattle.dspec_trace_reading.specs.Words.{missed_in, TimedBegunNew, Batch, Left, Names, Origin}
+use Rattle.dspec_trace_reading.proofs.{Adding.AddsUp, Adding.all_answered, Apart.none_from, Folding.Holds, OwnNumbers.is_there, Summing.all_within, TimedAsking.missed_before}
+use Rattle.dspec_trace_reading.proofs.{TimedAsking.missed_here, TimedBegun.none_missed, TimedBounded.bounded, TimedLosing.exact, TimedLosing.leaves}
 
 abbrev IsBroad : TimedTracing → Type 0
 IsBroad t = length t.missed ≡ 64

@@ -1,13 +1,9 @@
 -- What one batch asks of a folder by time, where nothing is lost.
 use Rattle.std.proofs.Common.{arith, ◌≡◌, ◌≢◌, ◌<◌, ◌+◌, ℕ, List, [], ◌∷◌, ◌++◌, Some, None, get_or, sym, ap, ◌∙◌, append_assoc, length, slice_index}
-use Rattle.std.proofs.lemmas.Bool.Decides.{nat_tests}
-use Rattle.std.proofs.lemmas.List.{get_or-set_same, get_or-set_other}
-use Rattle.std.proofs.lemmas.Option.{slice_get_within, get_or_from_slice_get}
+use Rattle.std.proofs.lemmas.{Bool.Decides.nat_tests, List.get_or-set_same, List.get_or-set_other, Option.slice_get_within, Option.get_or_from_slice_get}
 use Rattle.dspec_trace_reading.specs.Words.{EnabledRows, Passed, GotAll, run_packets, AddsBatch, ChangesFiles, CpuFiles, GetsRuns, HasFiles, TimedTracing, row_name, FileWrite, file_of}
-use Rattle.dspec_trace_reading.specs.Words.{missed_by_time}
-use Rattle.dspec_ring.specs.declared.batch.Batch.{Batch}
-use Rattle.dspec_trace_reading.proofs.Asking.{some_lost}
-use Rattle.dspec_trace_reading.proofs.Taking.{Telling, row_writes, stays_elsewhere, telling, took_all}
+use Rattle.dspec_trace_reading.specs.Words.{missed_by_time, Batch}
+use Rattle.dspec_trace_reading.proofs.{Asking.some_lost, Taking.Telling, Taking.row_writes, Taking.stays_elsewhere, Taking.telling, Taking.took_all}
 
 -- the last stamps of a CPU's files
 abbrev pub lasts_of : TimedTracing → ℕ → List ℕ

@@ -2,21 +2,12 @@
 use Rattle.std.proofs.Common.{◌≡◌, ◌<◌, ◌≤◌, ◌^◌, ◌==◌, ◌∙◌, ◌++◌, ℕ, zero, suc, get_or, Option, List, [], ◌∷◌, Some, None, refl, sym, ap, subst, arith, length, codes, replicate, slice_index}
 use Rattle.std.proofs.lemmas.List.Elements.{All-nil}
 use Rattle.dspec_trace_reading.specs.Words.{EnabledRows, origin_text, earlier, form_fault, metadata_fault, origin_fault, told_by, FileTells, layout_of, PacketRead, TimedTracing, row_name, FileWrite}
-use Rattle.dspec_trace_reading.specs.Words.{file_of, missed_by_time, TimedBegunNew}
-use Rattle.dspec_record.specs.declared.header.Header.{Header}
+use Rattle.dspec_trace_reading.specs.Words.{file_of, missed_by_time, TimedBegunNew, Header, ByTime, Names, Origin}
 use Rattle.dspec_record.specs.declared.header.Header.TheVariants as header
-use Rattle.dspec_ctf.specs.declared.form.Form.TheVariants.{ByTime}
-use Rattle.dspec_ctf.specs.declared.names.Names.{Names}
-use Rattle.dspec_ctf.specs.declared.origin.Origin.{Origin}
 use Rattle.dspec_ctf_sink.proofs.Written.{brought_elsewhere, brought_whole}
 use Rattle.dspec_filing_reading.proofs.FilesLaws.{told_same}
-use Rattle.dspec_trace_reading.proofs.Asking.{took}
-use Rattle.dspec_trace_reading.proofs.Begun.{all_zero}
-use Rattle.dspec_trace_reading.proofs.Naming.{metadata_named}
-use Rattle.dspec_trace_reading.proofs.Placing.{alone}
-use Rattle.dspec_trace_reading.proofs.RowNaming.{row_named, row_not_metadata}
-use Rattle.dspec_trace_reading.proofs.TimedAsking.{lasts_of}
-use Rattle.dspec_trace_reading.proofs.TimedFronts.{StandsInPart}
+use Rattle.dspec_trace_reading.proofs.{Asking.took, Begun.all_zero, Naming.metadata_named, Placing.alone, RowNaming.row_named, RowNaming.row_not_metadata, TimedAsking.lasts_of}
+use Rattle.dspec_trace_reading.proofs.{TimedFronts.StandsInPart}
 
 all_empty : (n i : ℕ) (d : List ℕ) → get_or (replicate n d) i d ≡ d
 all_empty zero i d = refl

@@ -1,13 +1,9 @@
 -- What a trace by time counts of a CPU as missed never falls, and is no more than its batches' drops and its records, however many are lost.
-use Rattle.std.proofs.lemmas.Bool.Decides.{nat_tests}
 use Rattle.std.proofs.Common.{◌≡◌, ◌≢◌, ◌<◌, ◌≤◌, ◌+◌, ◌==◌, ℕ, Bool, true, false, if◌then◌else◌, List, [], ◌∷◌, inl, inr, refl, sym, ◌∙◌, subst, arith, length}
-use Rattle.std.proofs.lemmas.List.{length-append}
-use Rattle.std.proofs.lemmas.Bool.{eqb-true, eqb-false}
-use Rattle.dspec_trace_reading.specs.Words.{Record, EnabledRows, Passed, GotAll, passed_from, GetsRuns, TimedTracing, HaveNumbers, drops_carried, missed_by_time}
-use Rattle.dspec_ring.specs.declared.batch.Batch.{Batch}
-use Rattle.dspec_trace_reading.proofs.Folding.{Holds, one_text}
-use Rattle.dspec_trace_reading.proofs.TimedLosing.{CameByTime, IsExactByTime, leaves, own_at_most, own_rises}
-use Rattle.dspec_trace_reading.proofs.TimedAsking.{none_before}
+use Rattle.std.proofs.lemmas.{Bool.eqb-true, Bool.eqb-false, Bool.Decides.nat_tests, List.length-append}
+use Rattle.dspec_trace_reading.specs.Words.{Record, EnabledRows, Passed, GotAll, passed_from, GetsRuns, TimedTracing, HaveNumbers, drops_carried, missed_by_time, Batch}
+use Rattle.dspec_trace_reading.proofs.{Folding.Holds, Folding.one_text, TimedAsking.none_before, TimedLosing.CameByTime, TimedLosing.IsExactByTime, TimedLosing.leaves, TimedLosing.own_at_most}
+use Rattle.dspec_trace_reading.proofs.{TimedLosing.own_rises}
 
 module _ (e : EnabledRows) (c : ℕ) (low : c < 64) where
   one_rises : (old new : TimedTracing) (b : Batch) → CameByTime e old b new → length old.missed ≡ 64 → IsExactByTime c new → (q : Bool) → (b.cpu == c) ≡ q

@@ -1,22 +1,14 @@
 -- What one batch brings to the files of its CPU by time, where some of it may be lost.
-use Rattle.std.proofs.lemmas.Bool.Decides.{nat_tests}
 use Rattle.std.proofs.Common.{◌≡◌, ◌<◌, ◌≤◌, ◌+◌, ◌^◌, ◌++◌, inl, inr, ℕ, List, [], ap, Option, Some, sym, subst, ◌∙◌, arith, length, All, slice_index}
+use Rattle.std.proofs.lemmas.{Bool.Decides.nat_tests, List.append-nil}
 use Rattle.std.specs.Prelude.{slice_range}
-use Rattle.std.proofs.lemmas.List.{append-nil}
 use Rattle.dspec_trace_reading.specs.Words.{Record, EnabledRows, AddsRuns, ChangesFiles, CpuFiles, FileWrite, file_of, HasFiles, IsNotTaken, LosesAll, LosesRest, RefusesRun, row_name, StopsRun}
-use Rattle.dspec_trace_reading.specs.Words.{TellsMissed, TimedTracing}
+use Rattle.dspec_trace_reading.specs.Words.{TellsMissed, TimedTracing, Batch, Names, FolderFault, Loss}
 use Rattle.dspec_record.specs.declared.header.Header.TheVariants as header
-use Rattle.dspec_ring.specs.declared.batch.Batch.{Batch}
-use Rattle.dspec_ctf.specs.declared.names.Names.{Names}
-use Rattle.dspec_ctf_sink.specs.declared.fault.FolderFault.{FolderFault}
-use Rattle.dspec_ctf_sink.specs.declared.losing.Loss.{Loss}
 use Rattle.dspec_ctf_sink.proofs.Written.{file_of_more}
-use Rattle.dspec_trace_reading.proofs.Filing.{Filed, add, add_to, still_filed, tell}
-use Rattle.dspec_filing_reading.proofs.FilesLaws.{FilesLaws}
-use Rattle.dspec_filing_reading.proofs.Fronts.{all_accepted}
-use Rattle.dspec_trace_reading.proofs.Losing.{refused_there}
-use Rattle.dspec_filing_reading.proofs.Sharing.{FilesHaveAll, RunsHaveAll, lasts_after, stamps_low}
-use Rattle.dspec_trace_reading.proofs.TimedAsking.{lasts_now, lasts_of, lasts_then, told_now, told_then}
+use Rattle.dspec_trace_reading.proofs.{Filing.Filed, Filing.add, Filing.add_to, Filing.still_filed, Filing.tell, Losing.refused_there, TimedAsking.lasts_now, TimedAsking.lasts_of}
+use Rattle.dspec_trace_reading.proofs.{TimedAsking.lasts_then, TimedAsking.told_now, TimedAsking.told_then}
+use Rattle.dspec_filing_reading.proofs.{FilesLaws.FilesLaws, Fronts.all_accepted, Sharing.FilesHaveAll, Sharing.RunsHaveAll, Sharing.lasts_after, Sharing.stamps_low}
 
 -- a place was asked for nothing that it took: every file stays
 abbrev pub StaysSame : Option (List FileWrite) → List FileWrite → Type 0

@@ -1,17 +1,14 @@
 -- What one batch brings to a CPU's files by time, where some may be lost: its first records are kept.
 use Rattle.std.proofs.Common.{◌≡◌, ◌<◌, ◌≤◌, ◌+◌, ◌-◌, ◌^◌, ◌++◌, inl, inr, ℕ, List, [], None, refl, sym, ap, subst, ◌∙◌, arith, length, drop, take, get_or, slice_index}
-use Rattle.std.specs.Prelude.{slice_range}
 use Rattle.std.proofs.lemmas.List.{append-nil, length-drop, take-append-drop}
+use Rattle.std.specs.Prelude.{slice_range}
 use Rattle.dspec_trace_reading.specs.Words.{Record, EnabledRows, IsText, AddsBatch, HasNoCpu, HasSoManyRecords, LosesBatch, LosesOfFiles, LosesRest, TimedTracing, missed_by_time, told_by_time}
+use Rattle.dspec_trace_reading.specs.Words.{Batch, Names}
 use Rattle.dspec_record.specs.declared.header.Header.TheVariants as header
-use Rattle.dspec_ring.specs.declared.batch.Batch.{Batch}
-use Rattle.dspec_ctf.specs.declared.names.Names.{Names}
-use Rattle.dspec_trace_reading.proofs.Filing.{Filed}
+use Rattle.dspec_trace_reading.proofs.{Asking.some_lost, Filing.Filed, TimedAsking.lasts_of, TimedAsking.missed_before, TimedAsking.missed_here, TimedAsking.missed_then, TimedAsking.told_here}
+use Rattle.dspec_trace_reading.proofs.{TimedAsking.told_now, TimedAsking.told_then, TimedFiles.HasFiled, TimedFiles.all_added, TimedFiles.filed_now, TimedFiles.filed_then, TimedFiles.front_added}
+use Rattle.dspec_trace_reading.proofs.{TimedFiles.none_added, TimedLosing.CameByTime, TimedLosing.IsExactByTime, TimedLosing.exact, TimedLosing.exactly, TimedLosing.small_then}
 use Rattle.dspec_filing_reading.proofs.FilesLaws.{FilesLaws}
-use Rattle.dspec_trace_reading.proofs.TimedAsking.{lasts_of, missed_before, missed_here, missed_then, told_here, told_now, told_then}
-use Rattle.dspec_trace_reading.proofs.TimedFiles.{HasFiled, all_added, filed_now, filed_then, front_added, none_added}
-use Rattle.dspec_trace_reading.proofs.TimedLosing.{CameByTime, IsExactByTime, exact, exactly, small_then}
-use Rattle.dspec_trace_reading.proofs.Asking.{some_lost}
 
 -- what is known of a CPU after some batches, of whose records these are kept so far
 pub record StandsInPart (uuid : List ℕ) (e : EnabledRows) (names : Names) (hertz c : ℕ) (t : TimedTracing) (stream : List Record) : Type 0 where

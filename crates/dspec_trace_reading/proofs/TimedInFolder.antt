@@ -1,24 +1,13 @@
 -- What is read of a folder into which a session was traced by one call, by time.
 use Rattle.std.proofs.Common.{◌≡◌, ◌<◌, ◌≤◌, ◌+◌, ◌^◌, ◌⊎◌, inl, ℕ, List, [], ◌∷◌, Option, None, Some, refl, sym, ap, ◌∙◌, subst, arith, length, slice_get, Result, IfOk, IsOk}
 use Rattle.dspec_trace_reading.specs.Words.{EnabledRows, start_fault, CallsMade, passed_from, GetsRuns, TimedTracing, missed_by_time, told_by_time, IsBegunByTime, IsInFolder, missed_in}
-use Rattle.dspec_trace_reading.specs.Words.{IsOfTimedTrace, RanBegun, FileWrite, written_in, FolderTrace, ToFolderFault, Begun, Ran, lost_records, made_at, TimedBegunNew, ReadsKept, KeptOf, Reads}
-use Rattle.dspec_deeds.specs.declared.config.Config.{Config}
-use Rattle.dspec_ring.specs.declared.batch.Batch.{Batch}
-use Rattle.dspec_session_core.specs.declared.left.Left.{Left}
-use Rattle.dspec_probe.specs.declared.probes.ProbeNames.{ProbeNames}
-use Rattle.dspec_ctf.specs.declared.form.Form.TheVariants.{ByTime}
-use Rattle.dspec_ctf.specs.declared.origin.ClockStart.{ClockStart}
-use Rattle.dspec_ctf_sink.specs.declared.losing.Loss.{Loss}
-use Rattle.dspec_trace_reading.proofs.TimedAnswered.{lost_answered}
-use Rattle.dspec_trace_reading.proofs.TimedBegun.{none_missed, timed_first}
-use Rattle.dspec_trace_reading.proofs.TimedBounded.{bounded}
-use Rattle.dspec_trace_reading.proofs.Carried.{Carries}
-use Rattle.dspec_trace_reading.proofs.Folding.{MetadataReads}
+use Rattle.dspec_trace_reading.specs.Words.{IsOfTimedTrace, RanBegun, FileWrite, written_in, lost_records, made_at, TimedBegunNew, ReadsKept, KeptOf, Reads, Config, Batch, Left, ProbeNames, ByTime}
+use Rattle.dspec_trace_reading.specs.Words.{ClockStart, Loss}
+use Rattle.dspec_trace_reading.specs.declared.{fault.ToFolderFault.ToFolderFault, folder_trace.FolderTrace.FolderTrace, running.Begun.Begun, running.Ran.Ran}
+use Rattle.dspec_trace_reading.proofs.{Carried.Carries, Folding.MetadataReads, InFolder.Ended, InFolder.all_numbers, InFolder.in_folder, InFolder.read_if, Placing.made_new, Placing.made_there}
+use Rattle.dspec_trace_reading.proofs.{Summing.most, TimedAnswered.lost_answered, TimedBegun.none_missed, TimedBegun.timed_first, TimedBounded.bounded, TimedPartly.all_writes, TimedPartly.writes}
+use Rattle.dspec_trace_reading.proofs.{TimedPartly.metadata_read, TimedPartly.metadata_text, TimedPartly.none_lost, TimedPartly.path_kept, TimedPartly.stream_kept}
 use Rattle.dspec_filing_reading.proofs.FilesLaws.{FilesLaws}
-use Rattle.dspec_trace_reading.proofs.InFolder.{Ended, all_numbers, in_folder, read_if}
-use Rattle.dspec_trace_reading.proofs.TimedPartly.{all_writes, writes, metadata_read, metadata_text, none_lost, path_kept, stream_kept}
-use Rattle.dspec_trace_reading.proofs.Placing.{made_new, made_there}
-use Rattle.dspec_trace_reading.proofs.Summing.{most}
 
 module _ (metadata : MetadataReads) (laws : FilesLaws) {K : Type 0} (gets : K → Batch → K → Type 0) (does : ℕ → CallsMade → CallsMade → Type 0) (e : EnabledRows)
     (ps : List ProbeNames) (path name : List ℕ) (hertz : ℕ) (start : Option ClockStart) (k : Config) (old new : K) where

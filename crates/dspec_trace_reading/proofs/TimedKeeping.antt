@@ -1,21 +1,12 @@
 -- What all batches of a session bring to one CPU's files by time, where some of them may be lost.
-use Rattle.std.proofs.lemmas.Bool.Decides.{nat_tests}
 use Rattle.std.proofs.Common.{◌≡◌, ◌≢◌, ◌<◌, ◌+◌, ◌^◌, ◌==◌, ℕ, Bool, true, false, if◌then◌else◌, List, [], ◌∷◌, ◌++◌, Some, None, refl, sym, ap, ◌∙◌, subst, arith, length, append_assoc}
-use Rattle.std.proofs.lemmas.List.{append-nil}
-use Rattle.std.proofs.lemmas.Bool.{eqb-true, eqb-false}
+use Rattle.std.proofs.lemmas.{Bool.eqb-true, Bool.eqb-false, Bool.Decides.nat_tests, List.append-nil}
 use Rattle.dspec_trace_reading.specs.Words.{Record, EnabledRows, Passed, GotAll, passed_from, GetsRuns, TimedTracing, row_name, FileWrite, file_of, HaveNumbers, drops_carried, AreKeptInFront}
-use Rattle.dspec_trace_reading.specs.Words.{missed_by_time, told_by_time}
+use Rattle.dspec_trace_reading.specs.Words.{missed_by_time, told_by_time, Batch, Names}
 use Rattle.dspec_record.specs.declared.header.Header.TheVariants as header
-use Rattle.dspec_ring.specs.declared.batch.Batch.{Batch}
-use Rattle.dspec_ctf.specs.declared.names.Names.{Names}
-use Rattle.dspec_trace_reading.proofs.Filing.{Filed, still_filed}
+use Rattle.dspec_trace_reading.proofs.{Filing.Filed, Filing.still_filed, Folding.Holds, Folding.one_text, RowNaming.cpus_differ, TimedAsking.lasts_of, TimedAsking.none_before, TimedBounded.rises}
+use Rattle.dspec_trace_reading.proofs.{TimedFronts.KeepsFront, TimedFronts.StandsInPart, TimedFronts.keeps, TimedLosing.CameByTime, TimedLosing.IsExactByTime, TimedLosing.Leaves, TimedLosing.leaves}
 use Rattle.dspec_filing_reading.proofs.FilesLaws.{FilesLaws}
-use Rattle.dspec_trace_reading.proofs.Folding.{Holds, one_text}
-use Rattle.dspec_trace_reading.proofs.RowNaming.{cpus_differ}
-use Rattle.dspec_trace_reading.proofs.TimedAsking.{lasts_of, none_before}
-use Rattle.dspec_trace_reading.proofs.TimedBounded.{rises}
-use Rattle.dspec_trace_reading.proofs.TimedFronts.{KeepsFront, StandsInPart, keeps}
-use Rattle.dspec_trace_reading.proofs.TimedLosing.{CameByTime, IsExactByTime, Leaves, leaves}
 
 -- the place took writes behind those of before, which left the file of this name as it was
 abbrev pub TimedStays : List ℕ → TimedTracing → List FileWrite → Type 0

@@ -1,16 +1,12 @@
 -- What one batch makes of a trace by time, where some of it may be lost.
 use Rattle.std.proofs.Common.{◌≡◌, ◌≢◌, ◌<◌, ◌≤◌, ◌+◌, ◌^◌, ◌++◌, ◌⊎◌, inl, inr, ℕ, List, [], Some, None, sym, ap, subst, ◌∙◌, append_assoc, arith, length, length-set, get_or, slice_index}
-use Rattle.std.proofs.lemmas.List.{get_or-set_same, get_or-set_other}
-use Rattle.std.proofs.lemmas.Option.{slice_get_within}
+use Rattle.std.proofs.lemmas.{List.get_or-set_same, List.get_or-set_other, Option.slice_get_within}
 use Rattle.dspec_trace_reading.specs.Words.{Record, EnabledRows, IsText, run_packets, AddsBatch, capped, FileWrite, file_of, HasSoManyRecords, IsBatchLoss, LosesBatch, LosesOfFiles, LosesRest}
-use Rattle.dspec_trace_reading.specs.Words.{row_name, TimedTracing, missed_by_time}
-use Rattle.dspec_ring.specs.declared.batch.Batch.{Batch}
-use Rattle.dspec_ctf_sink.specs.declared.losing.Loss.{Loss}
-use Rattle.dspec_trace_reading.proofs.Asking.{some_lost}
-use Rattle.dspec_trace_reading.proofs.Losing.{uncapped}
-use Rattle.dspec_trace_reading.proofs.Taking.{Telling, row_writes, stays_elsewhere, telling, took_all}
-use Rattle.dspec_trace_reading.proofs.TimedAsking.{asked_then, lasts_elsewhere, lasts_of, lasts_others, missed_before, missed_elsewhere, missed_here, stays_then, told_elsewhere, told_others, added}
-use Rattle.dspec_trace_reading.proofs.TimedFiles.{StaysSame, not_taken, stopped, unasked}
+use Rattle.dspec_trace_reading.specs.Words.{row_name, TimedTracing, missed_by_time, Batch, Loss}
+use Rattle.dspec_trace_reading.proofs.{Asking.some_lost, Losing.uncapped, Taking.Telling, Taking.row_writes, Taking.stays_elsewhere, Taking.telling, Taking.took_all, TimedAsking.asked_then}
+use Rattle.dspec_trace_reading.proofs.{TimedAsking.lasts_elsewhere, TimedAsking.lasts_of, TimedAsking.lasts_others, TimedAsking.missed_before, TimedAsking.missed_elsewhere, TimedAsking.missed_here}
+use Rattle.dspec_trace_reading.proofs.{TimedAsking.stays_then, TimedAsking.told_elsewhere, TimedAsking.told_others, TimedAsking.added, TimedFiles.StaysSame, TimedFiles.not_taken, TimedFiles.stopped}
+use Rattle.dspec_trace_reading.proofs.{TimedFiles.unasked}
 
 -- what may come of a batch
 abbrev pub CameByTime : EnabledRows → TimedTracing → Batch → TimedTracing → Type 0

@@ -2,20 +2,11 @@
 use Rattle.std.proofs.Common.{◌++◌, ◌≡◌, ◌<◌, ◌+◌, ◌^◌, ℕ, inl, inr, List, [], Some, None, sym, ap, ◌∙◌, subst, arith, length, map, codes, slice_get}
 use Rattle.dspec_trace_reading.specs.Words.{FileWrite, Record, EnabledRows, Passed, GotAll, passed_from, origin_text, of_file, told_by, FileTells, event_of, layout_of, read_metadata, HasNumbers}
 use Rattle.dspec_trace_reading.specs.Words.{GetsRuns, TimedTracing, row_name, file_of, HaveNumbers, drops_carried, missed_by_time, told_by_time, path_of, TimedBegunNew, ReadsAllKept, ReadsBack}
-use Rattle.dspec_trace_reading.specs.Words.{ReadsKept}
-use Rattle.dspec_session_core.specs.declared.left.Left.{Left}
-use Rattle.dspec_ctf.specs.declared.form.Form.TheVariants.{ByTime}
-use Rattle.dspec_ctf.specs.declared.names.Names.{Names}
-use Rattle.dspec_ctf.specs.declared.origin.Origin.{Origin}
+use Rattle.dspec_trace_reading.specs.Words.{ReadsKept, Left, ByTime, Names, Origin}
 use Rattle.dspec_filing_reading.proofs.FilesLaws.{FilesLaws}
-use Rattle.dspec_trace_reading.proofs.Folding.{Holds, MetadataReads}
-use Rattle.dspec_trace_reading.proofs.Kept.{whole_read}
-use Rattle.dspec_trace_reading.proofs.TimedBegun.{asked, begins, begun_with, metadata_is, none_missed, none_told, stamped, timed_first}
-use Rattle.dspec_trace_reading.proofs.TimedKeeping.{KeptByTime, TimedStays, all_kept, stays}
-use Rattle.dspec_trace_reading.proofs.Naming.{metadata_named}
-use Rattle.dspec_trace_reading.proofs.Placing.{path_stays}
-use Rattle.dspec_trace_reading.proofs.RowNaming.{row_named, row_not_metadata}
-use Rattle.dspec_trace_reading.proofs.TimedLosing.{IsExactByTime}
+use Rattle.dspec_trace_reading.proofs.{Folding.Holds, Folding.MetadataReads, Kept.whole_read, Naming.metadata_named, Placing.path_stays, RowNaming.row_named, RowNaming.row_not_metadata}
+use Rattle.dspec_trace_reading.proofs.{TimedBegun.asked, TimedBegun.begins, TimedBegun.begun_with, TimedBegun.metadata_is, TimedBegun.none_missed, TimedBegun.none_told, TimedBegun.stamped}
+use Rattle.dspec_trace_reading.proofs.{TimedBegun.timed_first, TimedKeeping.KeptByTime, TimedKeeping.TimedStays, TimedKeeping.all_kept, TimedKeeping.stays, TimedLosing.IsExactByTime}
 
 module _ (metadata_law : MetadataReads) (laws : FilesLaws) (origin : Origin) (hertz : ℕ) (e : EnabledRows) (names : Names) (begun ended : TimedTracing)
     (is : TimedBegunNew origin hertz e names begun) (passed : List Passed) (got : GotAll (GetsRuns e) begun passed ended) where

@@ -1,9 +1,7 @@
 -- What the end of a trace tells of each CPU comes behind the batches that its session passed on.
 use Rattle.std.proofs.Common.{◌≡◌, ◌<◌, ◌+◌, ◌==◌, ℕ, zero, suc, false, List, [], ◌∷◌, ◌++◌, Some, refl, arith, slice_get}
 use Rattle.std.proofs.lemmas.Bool.Decides.{nat_tests}
-use Rattle.dspec_trace_reading.specs.Words.{Record, EnabledRows, GotAll, Passed, passed_from, GetsTellings, IsBare, IsTelling, untold, HaveNumbers, drops_carried}
-use Rattle.dspec_ring.specs.declared.batch.Batch.{Batch}
-use Rattle.dspec_session_core.specs.declared.left.Left.{Left}
+use Rattle.dspec_trace_reading.specs.Words.{Record, EnabledRows, GotAll, Passed, passed_from, GetsTellings, IsBare, IsTelling, untold, HaveNumbers, drops_carried, Batch, Left}
 use Rattle.dspec_trace_reading.proofs.Folding.{Holds}
 
 module _ {K : Type 0} (gets : K → Batch → K → Type 0) where

@@ -1,10 +1,6 @@
 -- Cited by calls. What is read of a folder that was written as a session's batches were taken.
-use Rattle.std.specs.Prelude.{ℕ, ◌≡◌, ◌+◌, ◌⊎◌, slice_index, List, [], ◌∷◌, ◌++◌, length, map}
-use Rattle.std.specs.List.{AllByRecursion}
-use Rattle.dspec_trace_reading.specs.Words.Outside.{Record, EnabledRows, Passed, IsText, Tracing, FileTells, layout_of, event_of, FileWrite, file_of, cpu_name}
-use Rattle.dspec_ctf.specs.declared.form.Form.TheVariants.{AsTaken}
-use Rattle.dspec_ctf.specs.declared.names.Names.{Names}
-use Rattle.dspec_ring.specs.declared.batch.Batch.{Batch}
+use Rattle.std.specs.{List.AllByRecursion, Prelude.ℕ, Prelude.◌≡◌, Prelude.◌+◌, Prelude.◌⊎◌, Prelude.slice_index, Prelude.List, Prelude.[], Prelude.◌∷◌, Prelude.◌++◌, Prelude.length, Prelude.map}
+use Rattle.dspec_trace_reading.specs.Words.Outside.{Record, EnabledRows, Passed, IsText, Tracing, FileTells, layout_of, event_of, FileWrite, file_of, cpu_name, AsTaken, Names, Batch}
 
 -- the drops that these batches carry, together
 abbrev pub drops_carried : List Batch → ℕ

@@ -1,17 +1,11 @@
 -- Serves proofs. A trace that is begun in a folder, and why none is.
-use Rattle.std.specs.Prelude.{ℕ, ◌≡◌, ◌≢◌, ◌<◌, ◌^◌, List, [], ◌∷◌, All, length, unwrap_or, Option, Some, None}
 use Rattle.std.specs.Option.{option_map_or}
-use Rattle.dspec_trace_reading.specs.Words.Outside.{EnabledRows, start_fault, IsTimedBegun, TimedTracing, IsBegun, Tracing, FileWrite, LeaveNone, made_at}
-use Rattle.dspec_deeds.specs.declared.config.Config.{Config}
-use Rattle.dspec_deeds.specs.declared.config.StartFault.{StartFault}
-use Rattle.dspec_deeds.specs.declared.config.StartFault.TheVariants as start
-use Rattle.dspec_probe.specs.declared.probes.ProbeNames.{ProbeNames}
-use Rattle.dspec_ctf.specs.declared.names.Names.{Names}
-use Rattle.dspec_ctf.specs.declared.origin.ClockStart.{ClockStart}
-use Rattle.dspec_ctf.specs.declared.origin.Origin.{Origin}
+use Rattle.std.specs.Prelude.{ℕ, ◌≡◌, ◌≢◌, ◌<◌, ◌^◌, List, [], ◌∷◌, All, length, unwrap_or, Option, Some, None}
 use Rattle.dspec_trace_reading.specs.Folders.{AreNamesOf, TellsProgram}
-use Rattle.dspec_trace_reading.specs.declared.fault.ToFolderFault.{ToFolderFault}
-use Rattle.dspec_trace_reading.specs.declared.fault.ToFolderFault.TheVariants.{Start, Folder}
+use Rattle.dspec_trace_reading.specs.Words.Outside.{EnabledRows, start_fault, IsTimedBegun, TimedTracing, IsBegun, Tracing, FileWrite, LeaveNone, made_at, Config, StartFault, ProbeNames, Names}
+use Rattle.dspec_trace_reading.specs.Words.Outside.{ClockStart, Origin}
+use Rattle.dspec_trace_reading.specs.declared.fault.ToFolderFault.{ToFolderFault, TheVariants.Start, TheVariants.Folder}
+use Rattle.dspec_deeds.specs.declared.config.StartFault.TheVariants as start
 
 -- the numbers that an origin tells have 64 bits, and its uuids are made of bytes
 pub record HasOriginNumbers (origin : Origin) : Type 0 where

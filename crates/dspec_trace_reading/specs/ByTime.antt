@@ -1,9 +1,6 @@
 -- Cited by calls. What is read of a folder that was written by time while a session ran.
 use Rattle.std.specs.Prelude.{ℕ, ◌≡◌, ◌<◌, ◌+◌, slice_index, All, List, [], ◌∷◌, ◌++◌, length, map}
-use Rattle.dspec_trace_reading.specs.Words.Outside.{Record, EnabledRows, IsText, of_file, told_by, FileTells, event_of, layout_of, TimedTracing, row_name, FileWrite, file_of}
-use Rattle.dspec_ring.specs.declared.batch.Batch.{Batch}
-use Rattle.dspec_ctf.specs.declared.form.Form.TheVariants.{ByTime}
-use Rattle.dspec_ctf.specs.declared.names.Names.{Names}
+use Rattle.dspec_trace_reading.specs.Words.Outside.{Record, EnabledRows, IsText, of_file, told_by, FileTells, event_of, layout_of, TimedTracing, row_name, FileWrite, file_of, Batch, ByTime, Names}
 
 -- how many events a CPU missed so far
 abbrev pub missed_by_time : TimedTracing → ℕ → ℕ

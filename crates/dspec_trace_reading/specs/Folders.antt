@@ -1,19 +1,9 @@
 -- Cited by calls. What is read of a folder into which a whole session was traced by one call.
-use Rattle.std.specs.Prelude.{ℕ, zero, suc, ◌≡◌, ◌<◌, ◌≤◌, ◌+◌, ◌^◌, List, [], ◌∷◌, length, slice_get, codes, Option, Some, None, IfSome, IsSome}
 use Rattle.std.specs.Option.{option_map_or}
+use Rattle.std.specs.Prelude.{ℕ, zero, suc, ◌≡◌, ◌<◌, ◌≤◌, ◌+◌, ◌^◌, List, [], ◌∷◌, length, slice_get, codes, Option, Some, None, IfSome, IsSome}
 use Rattle.dspec_trace_reading.specs.Words.Outside.{Record, EnabledRows, enabled, table_accepts, table_shape, table_text, CallsMade, passed_from, IsKept, layout_of, read_metadata, untold, FileWrite}
-use Rattle.dspec_trace_reading.specs.Words.Outside.{file_of, labels_at, event_fields, origin_text, made_at, path_of}
-use Rattle.dspec_deeds.specs.declared.config.Config.{Config}
-use Rattle.dspec_deeds.specs.declared.report.Report.{Report}
-use Rattle.dspec_ring.specs.declared.batch.Batch.{Batch}
-use Rattle.dspec_session_core.specs.declared.left.Left.{Left}
-use Rattle.dspec_probe.specs.declared.probes.ProbeNames.{ProbeNames}
-use Rattle.dspec_ctf.specs.declared.form.Form.{Form}
-use Rattle.dspec_ctf.specs.declared.names.Names.{Names}
-use Rattle.dspec_ctf.specs.declared.names.Names.TheVariants.{Numbered, Given}
-use Rattle.dspec_ctf.specs.declared.origin.ClockStart.{ClockStart}
-use Rattle.dspec_ctf.specs.declared.origin.Origin.{Origin}
-use Rattle.dspec_ctf_sink.specs.declared.losing.Loss.{Loss}
+use Rattle.dspec_trace_reading.specs.Words.Outside.{file_of, labels_at, event_fields, origin_text, made_at, path_of, Config, Report, Batch, Left, ProbeNames, Form, Names, Numbered, Given}
+use Rattle.dspec_trace_reading.specs.Words.Outside.{ClockStart, Origin, Loss}
 
 -- the names are those of these probes
 abbrev pub AreNamesOf : List ProbeNames → Names → Type 0

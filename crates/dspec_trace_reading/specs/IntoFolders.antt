@@ -1,15 +1,8 @@
 -- Cited by calls. A session that was traced into a folder, and what is read of that.
 use Rattle.std.specs.Prelude.{ℕ, List, None}
-use Rattle.dspec_trace_reading.specs.Words.Outside.{Declared, CallsMade, WorkedOn, one_for, written_in}
-use Rattle.dspec_deeds.specs.declared.config.Config.{Config}
-use Rattle.dspec_ring.specs.declared.batch.Batch.{Batch}
-use Rattle.dspec_ctf.specs.declared.form.Form.TheVariants.{AsTaken, ByTime}
-use Rattle.dspec_trace_reading.specs.AsTaken.{AreKept, ReadsFile}
-use Rattle.dspec_trace_reading.specs.ByTime.{AreKeptInFront, ReadsFiles}
-use Rattle.dspec_trace_reading.specs.Folders.{IsInFolder}
-use Rattle.dspec_trace_reading.specs.declared.folder_trace.FolderTrace.{FolderTrace}
-use Rattle.dspec_trace_reading.specs.declared.folder_trace.FolderPlace.{FolderPlace}
-use Rattle.dspec_trace_reading.specs.declared.folder_trace.StampClock.{StampClock}
+use Rattle.dspec_trace_reading.specs.{AsTaken.AreKept, AsTaken.ReadsFile, ByTime.AreKeptInFront, ByTime.ReadsFiles, Folders.IsInFolder, Words.Outside.Declared, Words.Outside.CallsMade}
+use Rattle.dspec_trace_reading.specs.{Words.Outside.WorkedOn, Words.Outside.one_for, Words.Outside.written_in, Words.Outside.Config, Words.Outside.Batch, Words.Outside.AsTaken, Words.Outside.ByTime}
+use Rattle.dspec_trace_reading.specs.{declared.folder_trace.FolderPlace.FolderPlace, declared.folder_trace.FolderTrace.FolderTrace, declared.folder_trace.StampClock.StampClock}
 
 abbrev pub IsTracedInto : {K : Type 0} → (K → Batch → K → Type 0) → (ℕ → CallsMade → CallsMade → Type 0) → Declared → FolderPlace → Config → K → FolderTrace → K → Type 0
 IsTracedInto gets does p place k old t new =

@@ -1,17 +1,10 @@
 -- Cited by calls. What is read of a folder in which a session was traced, whatever its work did.
 use Rattle.std.specs.Prelude.{ℕ, ◌≡◌, ◌<◌, ◌+◌, ◌^◌, List, Some, None, length}
-use Rattle.dspec_trace_reading.specs.Words.Outside.{EnabledRows, enabled, table_accepts, table_shape, table_text, CallsMade, HasLists, passed_from, IsTraced, HasNumbers, missed_on, GetsRuns}
-use Rattle.dspec_trace_reading.specs.Words.Outside.{TimedTracing, GetsPacket, Tracing}
-use Rattle.dspec_deeds.specs.declared.config.Config.{Config}
-use Rattle.dspec_ring.specs.declared.batch.Batch.{Batch}
-use Rattle.dspec_session_core.specs.declared.left.Left.{Left}
-use Rattle.dspec_ctf.specs.declared.form.Form.TheVariants.{AsTaken, ByTime}
-use Rattle.dspec_ctf.specs.declared.names.Names.{Names}
-use Rattle.dspec_ctf.specs.declared.origin.Origin.{Origin}
-use Rattle.dspec_trace_reading.specs.AsTaken.{told_on}
-use Rattle.dspec_trace_reading.specs.Begun.{BegunNew, TimedBegunNew}
-use Rattle.dspec_trace_reading.specs.ByTime.{missed_by_time, told_by_time}
-use Rattle.dspec_trace_reading.specs.Reads.{ReadsAllKept, ReadsBack}
+use Rattle.dspec_trace_reading.specs.{AsTaken.told_on, Begun.BegunNew, Begun.TimedBegunNew, ByTime.missed_by_time, ByTime.told_by_time, Reads.ReadsAllKept, Reads.ReadsBack}
+use Rattle.dspec_trace_reading.specs.{Words.Outside.EnabledRows, Words.Outside.enabled, Words.Outside.table_accepts, Words.Outside.table_shape, Words.Outside.table_text, Words.Outside.CallsMade}
+use Rattle.dspec_trace_reading.specs.{Words.Outside.HasLists, Words.Outside.passed_from, Words.Outside.IsTraced, Words.Outside.HasNumbers, Words.Outside.missed_on, Words.Outside.GetsRuns}
+use Rattle.dspec_trace_reading.specs.{Words.Outside.TimedTracing, Words.Outside.GetsPacket, Words.Outside.Tracing, Words.Outside.Config, Words.Outside.Batch, Words.Outside.Left}
+use Rattle.dspec_trace_reading.specs.{Words.Outside.AsTaken, Words.Outside.ByTime, Words.Outside.Names, Words.Outside.Origin}
 
 module _ (e : EnabledRows) (does : ℕ → CallsMade → CallsMade → Type 0) where
   -- a session of these enablings was traced, in which the work did that, and its sink went from one state to another

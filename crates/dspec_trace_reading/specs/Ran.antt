@@ -1,15 +1,8 @@
 -- Serves proofs. A session that ran into a folder which was begun, and to a sink beside it.
 use Rattle.std.specs.Prelude.{ℕ, ◌≡◌, ◌<◌, ◌^◌, List, Ok, Result, slice_index}
-use Rattle.dspec_trace_reading.specs.Words.Outside.{EnabledRows, CallsMade, IsOneListWith, WorkedOn, one_for, missed_on, TellsUntold, written_in, TimedTracing, Tracing}
-use Rattle.dspec_deeds.specs.declared.config.Config.{Config}
-use Rattle.dspec_ring.specs.declared.batch.Batch.{Batch}
-use Rattle.dspec_session_core.specs.declared.left.Left.{Left}
-use Rattle.dspec.specs.declared.both.Both.{Both}
-use Rattle.dspec_ctf_sink.specs.declared.telling.Telling.{Telling}
-use Rattle.dspec_trace_reading.specs.declared.fault.ToFolderFault.{ToFolderFault}
-use Rattle.dspec_trace_reading.specs.declared.folder_trace.FolderTrace.{FolderTrace}
-use Rattle.dspec_trace_reading.specs.declared.running.Begun.{Begun}
-use Rattle.dspec_trace_reading.specs.declared.running.Ran.{Ran}
+use Rattle.dspec_trace_reading.specs.Words.Outside.{EnabledRows, CallsMade, IsOneListWith, WorkedOn, one_for, missed_on, TellsUntold, written_in, TimedTracing, Tracing, Config, Batch, Left, Both}
+use Rattle.dspec_trace_reading.specs.Words.Outside.{Telling}
+use Rattle.dspec_trace_reading.specs.declared.{fault.ToFolderFault.ToFolderFault, folder_trace.FolderTrace.FolderTrace, running.Begun.Begun, running.Ran.Ran}
 
 -- two sinks got a batch
 abbrev pub BothGet : {K T : Type 0} → (K → Batch → K → Type 0) → (T → Batch → T → Type 0) → Both K (Telling T) → Batch → Both K (Telling T) → Type 0

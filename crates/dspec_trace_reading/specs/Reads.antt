@@ -1,13 +1,8 @@
 -- Cited by calls. What is read of a folder into which a session was traced, as its batches were taken or by time.
 use Rattle.std.specs.Prelude.{ℕ, ◌≡◌, ◌<◌, ◌≤◌, ◌+◌, List, slice_get, codes, Option, Some}
-use Rattle.dspec_trace_reading.specs.Words.Outside.{Record, EnabledRows, layout_of, read_metadata, FileWrite, file_of}
-use Rattle.dspec_ring.specs.declared.batch.Batch.{Batch}
-use Rattle.dspec_session_core.specs.declared.left.Left.{Left}
-use Rattle.dspec_ctf.specs.declared.form.Form.{Form}
-use Rattle.dspec_ctf.specs.declared.form.Form.TheVariants.{AsTaken, ByTime}
-use Rattle.dspec_ctf.specs.declared.names.Names.{Names}
 use Rattle.dspec_trace_reading.specs.AsTaken.{AreKept, ReadsFile, drops_carried}
 use Rattle.dspec_trace_reading.specs.ByTime.{AreKeptInFront, ReadsFiles}
+use Rattle.dspec_trace_reading.specs.Words.Outside.{Record, EnabledRows, layout_of, read_metadata, FileWrite, file_of, Batch, Left, Form, AsTaken, ByTime, Names}
 
 -- a CPU's file is read so, or its files by time
 abbrev pub Reads : Form → List ℕ → EnabledRows → Names → ℕ → List Record → ℕ → List FileWrite → Type 0

@@ -8,7 +8,3 @@ pub use Rattle.dspec_trace_reading.specs.Folders.{all_counted, AreCountable, Are
 pub use Rattle.dspec_trace_reading.specs.Laws.{KeptIsRead, ListedBy, TakenIsRead, TimedIsRead, TimedKeptIsRead, TracedBy}
 pub use Rattle.dspec_trace_reading.specs.Ran.{BothGet, IsOfTimedTrace, IsOfTrace, RanBegun, RanInto}
 pub use Rattle.dspec_trace_reading.specs.Reads.{KeptOf, Reads, ReadsAllKept, ReadsBack, ReadsKept}
-pub use Rattle.dspec_trace_reading.specs.declared.fault.ToFolderFault.{ToFolderFault}
-pub use Rattle.dspec_trace_reading.specs.declared.folder_trace.FolderTrace.{FolderTrace}
-pub use Rattle.dspec_trace_reading.specs.declared.running.Begun.{Begun}
-pub use Rattle.dspec_trace_reading.specs.declared.running.Ran.{Ran}

@@ -1,8 +1,7 @@
 //! The laws, as clauses of functions that have nothing to do.
 
 ghost use Rattle.std.specs.Prelude.{List};
-ghost use Rattle.dspec.specs.Serving.{ThenServed};
-ghost use Rattle.dspec.specs.Workers.{WorkedBy};
+ghost use Rattle.dspec.specs.{Serving.ThenServed, Workers.WorkedBy};
 ghost use Rattle.dspec_trace_reading.specs.Laws.{KeptIsRead, TakenIsRead, TimedIsRead, TimedKeptIsRead};
 
 use dspec::{Enablings, Work, Worker};

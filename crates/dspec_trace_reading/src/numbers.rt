@@ -1,7 +1,6 @@
 //! What the types of an origin's numbers say, as clauses of functions that have nothing to do.
 
-ghost use Rattle.std.specs.Prelude.{◌≡◌, ◌<◌, ◌^◌, [], All, length, unwrap_or};
-ghost use Rattle.std.specs.Option.{option_map_or};
+ghost use Rattle.std.specs.{Option.option_map_or, Prelude.◌≡◌, Prelude.◌<◌, Prelude.◌^◌, Prelude.[], Prelude.All, Prelude.length, Prelude.unwrap_or};
 ghost use Rattle.dspec_trace_reading.specs.Begun.{HasOriginNumbers};
 
 use dspec_ctf::{ClockStart, Process};

@@ -2,14 +2,9 @@
 
 ghost use Rattle.std.specs.Prelude.{◌≡◌, ◌∷◌, [], IfErr, IfOk, List, None, OnErr, Option, Some};
 ghost use Rattle.dspec_deeds.specs.Ranges.{start_fault};
-ghost use Rattle.dspec.specs.Serving.{ThenServed};
-ghost use Rattle.dspec.specs.Workers.{one_for, with_cpus};
-ghost use Rattle.dspec_ctf_sink.specs.Places.{written_in};
-ghost use Rattle.dspec_ctf_sink.specs.Writes.{made_at};
-ghost use Rattle.dspec_trace_reading.specs.Begun.{RefusesFolder};
-ghost use Rattle.dspec_ctf_sink.specs.Ending.{TellsUntold};
-ghost use Rattle.dspec_trace_reading.specs.Ran.{RanBegun, RanWorkers};
-ghost use Rattle.dspec_trace_reading.specs.declared.fault.ToFolderFault.TheVariants.{Start};
+ghost use Rattle.dspec.specs.{Serving.ThenServed, Workers.one_for, Workers.with_cpus};
+ghost use Rattle.dspec_ctf_sink.specs.{Ending.TellsUntold, Places.written_in, Writes.made_at};
+ghost use Rattle.dspec_trace_reading.specs.{Begun.RefusesFolder, Ran.RanBegun, Ran.RanWorkers, declared.fault.ToFolderFault.TheVariants.Start};
 
 use crate::fault::ToFolderFault;
 use dspec::{

@@ -2,11 +2,8 @@
 
 ghost use Rattle.std.specs.Prelude.{◌≡◌, Err, IfErr, IfOk, IsOk, None, OnErr};
 ghost use Rattle.dspec_deeds.specs.Ranges.{start_fault};
-ghost use Rattle.dspec.specs.Serving.{ThenServed};
-ghost use Rattle.dspec.specs.Workers.{one_for, with_cpus};
-ghost use Rattle.dspec_trace_reading.specs.Begun.{IsBegunByTime, RefusesFolder};
-ghost use Rattle.dspec_trace_reading.specs.Ran.{IsOfTimedTrace};
-ghost use Rattle.dspec_trace_reading.specs.IntoFolders.{AreTimedInto, IsTimedInto};
+ghost use Rattle.dspec.specs.{Serving.ThenServed, Workers.one_for, Workers.with_cpus};
+ghost use Rattle.dspec_trace_reading.specs.{Begun.IsBegunByTime, Begun.RefusesFolder, IntoFolders.AreTimedInto, IntoFolders.IsTimedInto, Ran.IsOfTimedTrace};
 
 use crate::fault::ToFolderFault;
 use crate::folder_trace::{FolderPlace, FolderTrace, StampClock};

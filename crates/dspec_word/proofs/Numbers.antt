@@ -1,6 +1,8 @@
 -- A number is of one word at most.
 use Rattle.std.proofs.Common.{◌≡◌, ◌<◌, refl, sym, ap, ◌∙◌, arith}
-use Rattle.dspec_word.specs.Words.{Code, Inactive, Active, ActiveOne, ActiveMany, Committing, CommittingMany, Discarding, SlotState, word_number, code_number, code_of}
+use Rattle.dspec_word.specs.Words.{SlotState, word_number, code_number, code_of}
+use Rattle.dspec_word.specs.declared.code.Code.{Code}
+use Rattle.dspec_word.specs.declared.code.Code.TheVariants.{Inactive, Active, ActiveOne, ActiveMany, Committing, CommittingMany, Discarding}
 
 pub code_below : (c : Code) → code_number c < 7
 code_below Inactive = omega arith

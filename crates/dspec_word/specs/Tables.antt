@@ -1,12 +1,9 @@
 -- Cited by calls. What each call does at the word that it was shown: one line a case.
 use Rattle.std.specs.Prelude.{ℕ, ◌==◌, nat_lt, nat_le, Bool, true, false, ◌&&◌, if◌then◌else◌}
-use Rattle.dspec_word.specs.declared.act.Act.{Act}
-use Rattle.dspec_word.specs.declared.act.Act.TheVariants.{Void, Granted, Attempt, Idle}
-use Rattle.dspec_word.specs.declared.code.Code.{Code}
-use Rattle.dspec_word.specs.declared.code.Code.TheVariants.{Inactive, Active, ActiveOne, ActiveMany, Committing, CommittingMany, Discarding}
-use Rattle.dspec_word.specs.Code.{is_inactive, awaits}
-use Rattle.dspec_word.specs.Word.{SlotState, released}
-use Rattle.dspec_word.specs.SpecId.{Speculation}
+use Rattle.dspec_word.specs.{Code.is_inactive, Code.awaits, SpecId.Speculation, Word.SlotState, Word.released, declared.act.Act.Act, declared.act.Act.TheVariants.Void}
+use Rattle.dspec_word.specs.{declared.act.Act.TheVariants.Granted, declared.act.Act.TheVariants.Attempt, declared.act.Act.TheVariants.Idle, declared.code.Code.Code}
+use Rattle.dspec_word.specs.{declared.code.Code.TheVariants.Inactive, declared.code.Code.TheVariants.Active, declared.code.Code.TheVariants.ActiveOne, declared.code.Code.TheVariants.ActiveMany}
+use Rattle.dspec_word.specs.{declared.code.Code.TheVariants.Committing, declared.code.Code.TheVariants.CommittingMany, declared.code.Code.TheVariants.Discarding}
 
 abbrev pub attempt : ℕ → Code → Act
 attempt i c = Attempt record { issue = i; code = c }

@@ -1,8 +1,6 @@
 -- Cited by calls. What a slot's word says, and its number.
 use Rattle.std.specs.Prelude.{ℕ, ◌≡◌, ◌+◌, ◌*◌, ◌^◌, ◌<◌, ◌⊎◌}
-use Rattle.dspec_word.specs.declared.code.Code.{Code}
-use Rattle.dspec_word.specs.declared.code.Code.TheVariants.{Inactive}
-use Rattle.dspec_word.specs.Code.{code_number}
+use Rattle.dspec_word.specs.{Code.code_number, declared.code.Code.Code, declared.code.Code.TheVariants.Inactive}
 
 -- how often the slot was released, and where its present speculation stands
 pub record SlotState : Type 0 where

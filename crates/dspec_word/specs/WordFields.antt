@@ -1,8 +1,6 @@
 -- Serves proofs. How a `Word` holds a slot's state: as its number.
 use Rattle.std.specs.Prelude.{◌≤◌, ◌<◌, ◌/◌, ◌%◌, ◌^◌}
-use Rattle.dspec_word.specs.Code.{code_of}
-use Rattle.dspec_word.specs.Word.{SlotState, word_number}
-use Rattle.dspec_word.specs.declared.word.Word.TheInside.{Inside}
+use Rattle.dspec_word.specs.{Code.code_of, Word.SlotState, Word.word_number, declared.word.Word.TheInside.Inside}
 
 abbrev pub state_of_raw : Inside → SlotState
 state_of_raw w = record { issue = w.raw / 8; code = code_of (w.raw % 8) }

@@ -3,5 +3,3 @@ pub use Rattle.dspec_word.specs.Code.{awaits, code_number, code_of, is_decided, 
 pub use Rattle.dspec_word.specs.SpecId.{id_number, no_speculation, Speculation}
 pub use Rattle.dspec_word.specs.Tables.{attempt, commit_act, commit_at, discard_act, discard_at, open_at, reap_at, settle_at, speculate_act, speculate_at}
 pub use Rattle.dspec_word.specs.Word.{CanBeReleased, released, SlotState, word_number}
-pub use Rattle.dspec_word.specs.declared.code.Code.{Code}
-pub use Rattle.dspec_word.specs.declared.code.Code.TheVariants.{Active, ActiveMany, ActiveOne, Committing, CommittingMany, Discarding, Inactive}

@@ -1,8 +1,6 @@
-ghost use Rattle.std.specs.Prelude.{◌≡◌, ◌<◌, ℕ, Bool};
-ghost use Rattle.std.specs.Ordering.{nat_cmp};
-ghost use Rattle.dspec_word.specs.Word.{SlotState, Rises, word_number};
-ghost use Rattle.dspec_word.specs.SpecId.{Speculation, id_number};
-ghost use Rattle.dspec_word.specs.Tables.{speculate_at, commit_at, discard_at, open_at, settle_at, reap_at};
+ghost use Rattle.std.specs.{Ordering.nat_cmp, Prelude.◌≡◌, Prelude.◌<◌, Prelude.ℕ, Prelude.Bool};
+ghost use Rattle.dspec_word.specs.{SpecId.Speculation, SpecId.id_number, Tables.speculate_at, Tables.commit_at, Tables.discard_at, Tables.open_at, Tables.settle_at, Tables.reap_at, Word.SlotState};
+ghost use Rattle.dspec_word.specs.{Word.Rises, Word.word_number};
 
 use crate::{Act, SpecId, Word};
 

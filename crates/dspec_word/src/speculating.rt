@@ -1,6 +1,5 @@
 ghost use Rattle.std.specs.Prelude.{◌≡◌};
-ghost use Rattle.dspec_word.specs.Word.{CanBeReleased};
-ghost use Rattle.dspec_word.specs.Tables.{speculate_at};
+ghost use Rattle.dspec_word.specs.{Tables.speculate_at, Word.CanBeReleased};
 
 use crate::{Act, Code, SpecId, Word};
 

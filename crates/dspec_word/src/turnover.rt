@@ -1,6 +1,5 @@
 ghost use Rattle.std.specs.Prelude.{◌≡◌};
-ghost use Rattle.dspec_word.specs.Word.{CanBeReleased};
-ghost use Rattle.dspec_word.specs.Tables.{open_at, settle_at, reap_at};
+ghost use Rattle.dspec_word.specs.{Tables.open_at, Tables.settle_at, Tables.reap_at, Word.CanBeReleased};
 
 use crate::{Act, Code, Word};
 

@@ -1,6 +1,5 @@
 ghost use Rattle.std.specs.Prelude.{◌≡◌, ◌/◌, ◌%◌, ◌^◌, ◌<◌, ◌≤◌, ◌↔◌, ◌⊎◌, IsNone, IfSome, Some, true};
-ghost use Rattle.dspec_word.specs.Code.{is_decided};
-ghost use Rattle.dspec_word.specs.Word.{SlotState, word_number, released};
+ghost use Rattle.dspec_word.specs.{Code.is_decided, Word.SlotState, Word.word_number, Word.released};
 
 use crate::Code;
 use std::fmt;
@@ -21,8 +20,7 @@ impl Model for Word {
 
     ghost Value = { SlotState };
 
-    ghost use Rattle.dspec_word.specs.WordFields.{state_of_raw, IsNumber, inside_of_word};
-    ghost use Rattle.dspec_word.specs.Laws.Words.{inside_of-state_of};
+    ghost use Rattle.dspec_word.specs.{Laws.Words.inside_of-state_of, WordFields.state_of_raw, WordFields.IsNumber, WordFields.inside_of_word};
 
     ghost view = { state_of_raw };
 

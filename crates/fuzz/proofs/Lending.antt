@@ -1,12 +1,8 @@
 -- What was lent of a session is given back.
-use Rattle.std.proofs.Common.{◌≡◌, ℕ, ◌<◌, ◌++◌, List, length, take, drop, Some, refl, sym, ap, ◌∙◌, subst, get_or}
+use Rattle.std.proofs.{Common.◌≡◌, Common.ℕ, Common.◌<◌, Common.◌++◌, Common.List, Common.length, Common.take, Common.drop, Common.Some, Common.refl, Common.sym, Common.ap, Common.◌∙◌, Common.subst}
+use Rattle.std.proofs.{Common.get_or, Math.Seq.take-append_seam, lemmas.Option.slice_get_read}
 use Rattle.std.specs.Prelude.{slice_get}
-use Rattle.std.proofs.lemmas.Option.{slice_get_read}
-use Rattle.std.proofs.Math.Seq.{take-append_seam}
-use Rattle.fuzz.specs.Words.{EnabledRows, words_of, identity, Stays, pairs_of, IsCpuOf, IsSession, AllCanBeCalled, AllWereCalled, CanBeCalled}
-use Rattle.dspec_cpu.specs.declared.cpu.Cpu.{Cpu}
-use Rattle.dspec_cpu.specs.declared.shared.Shared.{Shared}
-use Rattle.dspec_session_core.specs.declared.session.Session.{Session}
+use Rattle.fuzz.specs.Words.{EnabledRows, words_of, identity, Stays, pairs_of, IsCpuOf, IsSession, AllCanBeCalled, AllWereCalled, CanBeCalled, Cpu, Shared, Session}
 
 -- each CPU of a session can be lent
 pub all_can : (schema : EnabledRows) (session : Session EnabledRows) → IsSession schema session → AllCanBeCalled session.shared schema session.cpus.items

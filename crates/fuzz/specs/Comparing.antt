@@ -1,11 +1,7 @@
 -- Cited by calls. How what the player and a session told of a schedule compares.
 use Rattle.std.specs.Prelude.{◌≡◌, string_bytes, None, Option}
-use Rattle.fuzz.specs.Words.Outside.{IsDue, accepted_in, schedule_refusal, header_of, plan_of}
-use Rattle.dspec_replay.specs.declared.session_fault.SessionFault.{SessionFault}
-use Rattle.dspec_replay.specs.declared.session_fault.SessionFault.TheVariants.{Play}
-use Rattle.dspec_schedule.specs.declared.schedule.Schedule.{Schedule}
-use Rattle.fuzz.specs.declared.comparing.ScheduleOutcome.{ScheduleOutcome}
-use Rattle.fuzz.specs.declared.comparing.ScheduleOutcome.TheVariants.{Printed, Refused, CantGoOn}
+use Rattle.fuzz.specs.Words.Outside.{IsDue, accepted_in, schedule_refusal, header_of, plan_of, SessionFault, Play, Schedule}
+use Rattle.fuzz.specs.declared.comparing.ScheduleOutcome.{ScheduleOutcome, TheVariants.Printed, TheVariants.Refused, TheVariants.CantGoOn}
 
 -- both printed the same bytes
 abbrev pub IsAlike : ScheduleOutcome → ScheduleOutcome → Type 0

@@ -1,8 +1,6 @@
 -- Cited by calls. What the threads are lent of a session, and give back.
 use Rattle.std.specs.Prelude.{ℕ, ◌≡◌, List, length, slice_get, Some}
-use Rattle.fuzz.specs.Words.Outside.{EnabledRows, schema_of, IsCallable, identity}
-use Rattle.dspec_cpu.specs.declared.cpu.Cpu.{Cpu}
-use Rattle.dspec_cpu.specs.declared.shared.Shared.{Shared}
+use Rattle.fuzz.specs.Words.Outside.{EnabledRows, schema_of, IsCallable, identity, Cpu, Shared}
 
 -- the CPU takes calls from those who share this, with records of this schema
 pub record CanBeCalled (shared : Shared) (schema : EnabledRows) (cpu : Cpu EnabledRows) : Type 0 where

@@ -1,7 +1,6 @@
 ghost use Rattle.std.specs.Prelude.{◌≡◌, ◌<◌, IfOk};
 ghost use denote.Param.Send.{IsSync};
-ghost use Rattle.dspec_cpu.specs.Lists.{words_of};
-ghost use Rattle.dspec_cpu.specs.Standing.{identity};
+ghost use Rattle.dspec_cpu.specs.{Lists.words_of, Standing.identity};
 ghost use Rattle.dspec_session_core.specs.Sessions.{IsSession};
 ghost use Rattle.fuzz.specs.Lent.{AllCanBeCalled, AllWereCalled, CanBeCalled};
 

@@ -1,7 +1,7 @@
 -- A text that is written piece by piece.
 use Rattle.std.proofs.Common.{◌≡◌, ℕ, List, [], ◌++◌, Option, Some, None, Result, Err, IfSome, OnErr, sym, ap, ◌∙◌, append_assoc, append-nil, take, drop, subst, take-append-drop}
 use Rattle.std.specs.Io.KnownBytes.{Appends, Keeps}
-use Rattle.specplay.specs.Words.{RunFault, IsCutOff, Prints, AppendsBefore, AppendsBeginning}
+use Rattle.specplay.specs.{Words.IsCutOff, Words.Prints, Words.AppendsBefore, Words.AppendsBeginning, declared.fault.RunFault.RunFault}
 
 appends_more : (a b c : Option (List ℕ)) (front piece : List ℕ) → Appends a b front → Appends b c piece → Appends a c (front ++ piece)
 appends_more None b c front piece one two = tt

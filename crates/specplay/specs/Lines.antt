@@ -1,10 +1,6 @@
 -- Cited by calls. What the demonstration prints: a line for each CPU.
-use Rattle.std.specs.Prelude.{ℕ, ◌≡◌, List, ◌++◌, length, Option, codes, decimal}
-use Rattle.std.specs.List.{flat_map}
-use Rattle.std.specs.Io.KnownBytes.{Appends}
-use Rattle.dspec_session.specs.declared.demonstration.lines.DemoLine.{DemoLine}
-use Rattle.specplay.specs.Words.Outside.{AllBalanced, yes_no}
-use Rattle.specplay.specs.Written.{AppendsBeginning}
+use Rattle.std.specs.{Io.KnownBytes.Appends, List.flat_map, Prelude.ℕ, Prelude.◌≡◌, Prelude.List, Prelude.◌++◌, Prelude.length, Prelude.Option, Prelude.codes, Prelude.decimal}
+use Rattle.specplay.specs.{Words.Outside.DemoLine, Words.Outside.AllBalanced, Words.Outside.yes_no, Written.AppendsBeginning}
 
 -- the line of a CPU
 abbrev pub line_text : DemoLine → List ℕ

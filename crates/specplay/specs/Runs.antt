@@ -1,11 +1,9 @@
 -- Cited by calls. What a run's faults say.
 use Rattle.std.specs.Prelude.{ℕ}
-use Rattle.dspec_schedule.specs.declared.fault.ScheduleFault.{ScheduleFault}
+use Rattle.specplay.specs.Words.Outside.{ScheduleFault, InputFault}
+use Rattle.specplay.specs.declared.fault.RunFault.{RunFault, TheVariants.Line, TheVariants.Memory, TheVariants.TooLong, TheVariants.Read, TheVariants.Write}
 use Rattle.dspec_schedule.specs.declared.fault.ScheduleFault.TheVariants as schedule
-use Rattle.dspec_replay.specs.declared.input.InputFault.{InputFault}
 use Rattle.dspec_replay.specs.declared.input.InputFault.TheVariants as input
-use Rattle.specplay.specs.declared.fault.RunFault.{RunFault}
-use Rattle.specplay.specs.declared.fault.RunFault.TheVariants.{Line, Memory, TooLong, Read, Write}
 
 -- the exit status that tells of a fault
 abbrev pub status_of : RunFault → ℕ

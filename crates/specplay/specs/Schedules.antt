@@ -1,11 +1,9 @@
 -- Cited by calls. What the play of a schedule is, and what a run prints or tells of a text.
 use Rattle.std.specs.Prelude.{◌≡◌, ℕ, List, Option, None, Ok}
-use Rattle.dspec_interleaving.specs.declared.outcome.Outcome.{Outcome}
-use Rattle.specplay.specs.Words.Outside.{IsPlayOf, IsTextFault, fault_of, printed_text, Plan, header_of, schedule_of}
-use Rattle.dspec_schedule.specs.declared.fault.ScheduleFault.TheVariants as schedule
-use Rattle.specplay.specs.declared.fault.RunFault.{RunFault}
-use Rattle.specplay.specs.declared.fault.RunFault.TheVariants.{Line, Memory, TooLong, Read, Write}
+use Rattle.specplay.specs.Words.Outside.{Outcome, IsPlayOf, IsTextFault, fault_of, printed_text, Plan, header_of, schedule_of}
 use Rattle.specplay.specs.Written.{AppendsBeginning}
+use Rattle.specplay.specs.declared.fault.RunFault.{RunFault, TheVariants.Line, TheVariants.Memory, TheVariants.TooLong, TheVariants.Read, TheVariants.Write}
+use Rattle.dspec_schedule.specs.declared.fault.ScheduleFault.TheVariants as schedule
 
 -- the text is a schedule, and what is printed is the outcome of its play
 pub record Prints (text printed : List ℕ) : Type 0 where

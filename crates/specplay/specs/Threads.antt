@@ -1,9 +1,8 @@
 -- Cited by calls. What a failed demonstration is told as.
 use Rattle.std.specs.Prelude.{ℕ}
-use Rattle.dspec_session.specs.declared.demonstration.DemoFault.{DemoFault}
+use Rattle.specplay.specs.Words.Outside.{DemoFault}
+use Rattle.specplay.specs.declared.threads.ThreadsFault.{ThreadsFault, TheVariants.GateShut, TheVariants.Memory, TheVariants.Write}
 use Rattle.dspec_session.specs.declared.demonstration.DemoFault.TheVariants as demo
-use Rattle.specplay.specs.declared.threads.ThreadsFault.{ThreadsFault}
-use Rattle.specplay.specs.declared.threads.ThreadsFault.TheVariants.{GateShut, Memory, Write}
 
 -- a thread that can't be made, and a session that can't start, want memory
 abbrev pub threads_fault_of : DemoFault → ThreadsFault

@@ -4,4 +4,3 @@ unfoldable pub use Outside.*
 pub use Rattle.specplay.specs.Lines.{lines_text}
 pub use Rattle.specplay.specs.Schedules.{IsCutOff, Prints}
 pub use Rattle.specplay.specs.Written.{AppendsBefore, AppendsBeginning}
-pub use Rattle.specplay.specs.declared.fault.RunFault.{RunFault}

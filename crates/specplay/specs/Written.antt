@@ -1,6 +1,5 @@
 -- Cited by calls. How far a text was written.
-use Rattle.std.specs.Prelude.{◌≡◌, ℕ, ◌++◌, List, Option}
-use Rattle.std.specs.Io.KnownBytes.{Appends}
+use Rattle.std.specs.{Io.KnownBytes.Appends, Prelude.◌≡◌, Prelude.ℕ, Prelude.◌++◌, Prelude.List, Prelude.Option}
 
 -- known bytes stay at the front and grow by what stands before the rest of the text
 abbrev pub AppendsBefore : Option (List ℕ) → Option (List ℕ) → List ℕ → List ℕ → Type 0

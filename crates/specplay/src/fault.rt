@@ -1,6 +1,5 @@
 ghost use Rattle.std.specs.Prelude.{◌≡◌};
-ghost use Rattle.specplay.specs.declared.fault.RunFault.TheVariants.{Memory};
-ghost use Rattle.specplay.specs.Runs.{run_fault_of};
+ghost use Rattle.specplay.specs.{Runs.run_fault_of, declared.fault.RunFault.TheVariants.Memory};
 
 use dspec_replay::InputFault;
 pub use dspec_schedule::LineKind;

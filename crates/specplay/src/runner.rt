@@ -1,8 +1,6 @@
-ghost use Rattle.std.specs.Prelude.{◌≡◌, ◌≢◌, ◌<◌, List, ℕ, length, IfErr, IfOk, IfSome, IsErrAnd, OnErr, OnOk, string_bytes};
 ghost use Rattle.std.specs.Io.KnownBytes.{Appends};
-ghost use Rattle.specplay.specs.Runs.{IsInputFault, IsScheduleFault};
-ghost use Rattle.specplay.specs.Schedules.{IsCutOff, IsToldOf, Prints};
-ghost use Rattle.specplay.specs.Written.{AppendsBeginning};
+ghost use Rattle.std.specs.Prelude.{◌≡◌, ◌≢◌, ◌<◌, List, ℕ, length, IfErr, IfOk, IfSome, IsErrAnd, OnErr, OnOk, string_bytes};
+ghost use Rattle.specplay.specs.{Runs.IsInputFault, Runs.IsScheduleFault, Schedules.IsCutOff, Schedules.IsToldOf, Schedules.Prints, Written.AppendsBeginning};
 
 use crate::fault::RunFault;
 use dspec_replay::input::MAX_INPUT;

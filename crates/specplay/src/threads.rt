@@ -1,6 +1,5 @@
 ghost use Rattle.std.specs.Prelude.{◌≡◌, ◌≢◌, ◌++◌, IfErr, IfOk, OnOk, string_bytes};
-ghost use Rattle.specplay.specs.Lines.{CutOff, Printed, line_text, lines_text};
-ghost use Rattle.specplay.specs.Threads.{status_of_threads};
+ghost use Rattle.specplay.specs.{Lines.CutOff, Lines.Printed, Lines.line_text, Lines.lines_text, Threads.status_of_threads};
 
 use crate::runner::write_whole;
 use dspec_schedule::yes_or_no;

@@ -1,24 +1,15 @@
 -- The file of each CPU stands at its place.
-use Rattle.std.proofs.lemmas.Bool.Decides.{nat_tests}
-use Rattle.std.proofs.Common.{◌≡◌, ℕ, ◌+◌, ◌<◌, List, [], ◌∷◌, ◌++◌, Option, Bool, true, false, if◌then◌else◌, Some, length, None, ◌==◌, slice_get}
-use Rattle.std.proofs.Common.{reverse, get_or, refl, sym, ap, ◌∙◌, subst, below_more, ⊎_elim, ◌⊎◌, zero, suc, add-one, arith}
-use Rattle.std.proofs.lemmas.Option.{get_or_from_slice_get, slice_get_within}
-use Rattle.std.proofs.lemmas.List.{length-append, length-map, get_or_append_left, get_or_at, get_or_default, get_or-map}
-use Rattle.specview.specs.Words.{Record, EnabledRows, numbers_below, reports, stream, Offer, accepts, accepts_now, report, IsLegal, ViewFault, Line, NoStamp, LateStamp, NoFrequency}
-use Rattle.specview.specs.Words.{GreatestFrequency, NoEvent, Memory, Read, Write, TooLong, NotEmpty, TellsCounts, IsClockFault, AreFiles, AreStreams, IsFile, HasUnknown, IsFileFault, IsFormFault}
-use Rattle.specview.specs.Words.{IsOfNumbered, IsPlayTraceFault, fault_of_metadata, earlier, form_fault, names_fault}
-use Rattle.dspec_record.specs.declared.header.Header.{Header}
+use Rattle.std.proofs.Common.{◌≡◌, ℕ, ◌+◌, ◌<◌, List, [], ◌∷◌, ◌++◌, Option, Bool, true, false, if◌then◌else◌, Some, length, None, ◌==◌, slice_get, reverse, get_or, refl, sym, ap, ◌∙◌, subst}
+use Rattle.std.proofs.Common.{below_more, ⊎_elim, ◌⊎◌, zero, suc, add-one, arith}
+use Rattle.std.proofs.lemmas.{Bool.Decides.nat_tests, List.length-append, List.length-map, List.get_or_append_left, List.get_or_at, List.get_or_default, List.get_or-map}
+use Rattle.std.proofs.lemmas.{Option.get_or_from_slice_get, Option.slice_get_within}
+use Rattle.specview.specs.Words.{Record, EnabledRows, numbers_below, reports, stream, Offer, accepts, accepts_now, report, IsLegal, TellsCounts, IsClockFault, AreFiles, AreStreams, IsFile}
+use Rattle.specview.specs.Words.{HasUnknown, IsFileFault, IsFormFault, IsOfNumbered, IsPlayTraceFault, fault_of_metadata, earlier, form_fault, names_fault, Header, Deed, Report, Form, Shape, Config}
+use Rattle.specview.specs.Words.{AsTaken, ByTime, Numbered, MetadataFault}
+use Rattle.specview.specs.declared.fault.ViewFault.{ViewFault}
+use Rattle.specview.specs.declared.fault.ViewFault.TheVariants.{Line, NoStamp, LateStamp, NoFrequency, GreatestFrequency, NoEvent, Memory, Read, Write, TooLong, NotEmpty}
 use Rattle.dspec_record.specs.declared.header.Header.TheVariants as header
-use Rattle.dspec_deeds.specs.declared.deed.Deed.{Deed}
-use Rattle.dspec_deeds.specs.declared.report.Report.{Report}
-use Rattle.dspec_ctf.specs.declared.form.Form.{Form}
-use Rattle.dspec_record.specs.declared.field.Shape.{Shape}
-use Rattle.dspec_deeds.specs.declared.config.Config.{Config}
-use Rattle.dspec_deeds.proofs.DeedOffers.{next_offer, Effect, idle, offering, emptying}
-use Rattle.dspec_deeds.proofs.DeedEffects.{Accounts, legal_accounts}
-use Rattle.dspec_ctf.specs.declared.form.Form.TheVariants.{AsTaken, ByTime}
-use Rattle.dspec_ctf.specs.declared.names.Names.TheVariants.{Numbered}
-use Rattle.dspec_ctf.specs.declared.fault.MetadataFault.{MetadataFault}
+use Rattle.dspec_deeds.proofs.{DeedEffects.Accounts, DeedEffects.legal_accounts, DeedOffers.next_offer, DeedOffers.Effect, DeedOffers.idle, DeedOffers.offering, DeedOffers.emptying}
 use Rattle.dspec_ctf.specs.declared.fault.MetadataFault.TheVariants as metadata_fault
 
 pub below_long : (n : ℕ) → length (numbers_below n) ≡ n

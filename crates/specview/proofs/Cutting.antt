@@ -1,11 +1,10 @@
 -- A CPU's stream, cut into its batches.
+use Rattle.std.proofs.Common.{◌≡◌, ℕ, suc, ◌+◌, ◌≤◌, ◌<◌, Bool, true, false, List, [], ◌∷◌, ◌++◌, length, map, reverse, take, drop, get_or, refl, sym, ap, ◌∙◌, subst, append_assoc, arith}
+use Rattle.std.proofs.Common.{if◌then◌else◌}
 use Rattle.std.proofs.lemmas.Bool.Decides.{nat_tests}
-use Rattle.std.proofs.Common.{◌≡◌, ℕ, suc, ◌+◌, ◌≤◌, ◌<◌, Bool, true, false, List, [], ◌∷◌, ◌++◌}
-use Rattle.std.proofs.Common.{length, map, reverse, take, drop, get_or, refl, sym, ap, ◌∙◌, subst, append_assoc, arith, if◌then◌else◌}
 use Rattle.std.proofs.lemmas.List.{reverse-append, append-nil, append_cancel_left, take-append-drop, take_all, take_at, drop_at, take_more, map-append, length-append, length-reverse}
 use Rattle.specview.specs.Words.{Record, Offer, contents, accepts, accepted, stream, seals_now, is_drop, Sealing, growing, batches, batch_records, accepts_now, ShareOf, share_of, shares, last_share}
-use Rattle.specview.specs.Words.{TellsCounts}
-use Rattle.dspec_deeds.specs.declared.deed.Deed.{Deed}
+use Rattle.specview.specs.Words.{TellsCounts, Deed}
 use Rattle.dspec_deeds.proofs.Prefixes.{stream_in_batches}
 
 contents_more : (xs ys : List Offer) → contents (xs ++ ys) ≡ contents xs ++ contents ys

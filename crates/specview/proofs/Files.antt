@@ -1,7 +1,6 @@
 -- Files that come behind others in a folder.
-use Rattle.std.proofs.lemmas.Bool.Decides.{nat_tests}
 use Rattle.std.proofs.Common.{◌≡◌, ℕ, ◌+◌, ◌<◌, ◌≤◌, List, [], ◌∷◌, ◌++◌, Option, Some, None, length, map, take, get_or, sym, ap, ◌∙◌, subst, append_assoc, arith}
-use Rattle.std.proofs.lemmas.List.{append-nil, take_more, take_all, map-append, length-map, length-take-le}
+use Rattle.std.proofs.lemmas.{Bool.Decides.nat_tests, List.append-nil, List.take_more, List.take_all, List.map-append, List.length-map, List.length-take-le}
 use Rattle.specview.specs.Words.{NamedFile, AddsFiles, written_files, cpu_files}
 
 pub adds_more : (a b c : Option (List NamedFile)) (xs ys : List NamedFile) → AddsFiles a b xs → AddsFiles b c ys → AddsFiles a c (xs ++ ys)

@@ -1,19 +1,13 @@
 -- The records of a CPU's batches, and what is put around them.
-use Rattle.std.proofs.lemmas.Bool.Decides.{nat_tests}
 use Rattle.std.proofs.Common.{◌≡◌, ℕ, ◌+◌, ◌<◌, List, [], ◌∷◌, ◌++◌, length, map, reverse, Some, drop, get_or, refl, sym, ap, ◌∙◌, subst, append_assoc, All, arith, Bool, true, false, if◌then◌else◌}
 use Rattle.std.proofs.Common.{◌^◌, suc, add-one, drop-cons}
-use Rattle.std.proofs.lemmas.List.{take_at, drop_at, get_or-map, length-map}
-use Rattle.std.proofs.lemmas.List.Elements.{All-nil, All-cons, All-append, All-take, All-drop, All-get_or}
-use Rattle.specview.specs.Words.{Record, EnabledRows, contents, stream, Sealing, growing, batches, batch_records, events, packet_of, HasNoRecordPacket, metadata_fault, form_fault, Share, ShareOf}
-use Rattle.specview.specs.Words.{share_of, shares, last_share, shown_share, HaveShortEvents, packets_behind, refused_in}
-use Rattle.dspec_deeds.specs.declared.deed.Deed.{Deed}
+use Rattle.std.proofs.lemmas.Bool.Decides.{nat_tests}
+use Rattle.std.proofs.lemmas.List.{take_at, drop_at, get_or-map, length-map, Elements.All-nil, Elements.All-cons, Elements.All-append, Elements.All-take, Elements.All-drop, Elements.All-get_or}
+use Rattle.specview.specs.Words.{Record, EnabledRows, contents, stream, Sealing, growing, batches, batch_records, events, packet_of, HasNoRecordPacket, metadata_fault, form_fault, ShareOf, share_of}
+use Rattle.specview.specs.Words.{shares, last_share, shown_share, HaveShortEvents, packets_behind, refused_in, Deed, Form, AsTaken, ByTime, NoStamp, Numbered, PacketFault}
+use Rattle.specview.specs.declared.batches.Share.{Share}
 use Rattle.dspec_deeds.proofs.Prefixes.{stream_in_batches}
 use Rattle.dspec_record.specs.declared.header.Header.TheVariants as header
-use Rattle.dspec_ctf.specs.declared.form.Form.{Form}
-use Rattle.dspec_ctf.specs.declared.form.Form.TheVariants.{AsTaken, ByTime}
-use Rattle.dspec_ctf.specs.declared.fault.MetadataFault.TheVariants.{NoStamp}
-use Rattle.dspec_ctf.specs.declared.names.Names.TheVariants.{Numbered}
-use Rattle.dspec_ctf.specs.declared.stream.PacketFault.{PacketFault}
 use Rattle.dspec_ctf.specs.declared.stream.PacketFault.TheVariants as packet
 
 module _ (P : Record → Type 0) where

@@ -1,33 +1,18 @@
 -- The packets of a play tell small numbers: what was refused and missed is among what a report counts, and each batch comes out of a buffer of a
 -- mebibyte at the most.
-use Rattle.std.proofs.lemmas.Bool.Decides.{nat_tests}
-use Rattle.std.proofs.Common.{◌≡◌, ◌≤◌, ◌<◌, ◌*◌, ◌^◌, ◌==◌, ◌⊎◌, ℕ, zero, suc, Bool, true, IsTrue, if◌then◌else◌, ltb, List, [], ◌∷◌, length, reverse}
-use Rattle.std.proofs.Common.{Option, Some, None, refl, sym, ap, ◌∙◌, subst, inl, inr, ⊎_elim, arith, All, length-append}
-use Rattle.std.proofs.lemmas.Bool.{leb-true}
-use Rattle.std.proofs.lemmas.List.{reverse-append, reverse-reverse}
-use Rattle.std.proofs.lemmas.List.Elements.{All-nil, All-cons, All-head, All-tail, All-push, All-weaker}
+use Rattle.std.proofs.Common.{◌≡◌, ◌≤◌, ◌<◌, ◌*◌, ◌^◌, ◌==◌, ◌⊎◌, ℕ, zero, suc, Bool, true, IsTrue, if◌then◌else◌, ltb, List, [], ◌∷◌, length, reverse, Option, Some, None, refl, sym, ap, ◌∙◌, subst}
+use Rattle.std.proofs.Common.{inl, inr, ⊎_elim, arith, All, length-append}
+use Rattle.std.proofs.lemmas.Bool.{leb-true, Decides.nat_tests}
+use Rattle.std.proofs.lemmas.List.{reverse-append, reverse-reverse, Elements.All-nil, Elements.All-cons, Elements.All-head, Elements.All-tail, Elements.All-push, Elements.All-weaker}
 use Rattle.specview.specs.Words.{Record, EnabledRows, fits, layout, width, layout-IsShape, both, length-little_endian, default_fields, enabled, written_shares, table_shape, within_limit, one}
 use Rattle.specview.specs.Words.{records, event, events, stamp_bytes, values_bytes, Accepts, contents, accepted, stream, start_fault, or_else, setup_fault, worn_count, Plan, header_of, IsPlayOf}
-use Rattle.specview.specs.Words.{shapes_of, table_of, ShareOf, HaveShortEvents, TellsSmall, event_rows, greatest_epid}
-use Rattle.std.specs.Prelude.{option_and_then, unwrap_or, min, replicate, slice_get, not}
-use Rattle.std.specs.Option.{option_map}
-use Rattle.dspec_record.specs.declared.field.Field.{Field}
-use Rattle.dspec_record.specs.declared.field.Field.TheVariants.{One, Two, Four, Eight}
-use Rattle.dspec_record.specs.declared.field.Shape.{Shape}
-use Rattle.dspec_record.specs.declared.header.Header.{Header}
+use Rattle.specview.specs.Words.{shapes_of, table_of, ShareOf, HaveShortEvents, TellsSmall, event_rows, greatest_epid, Field, One, Two, Four, Eight, Shape, Header, Config, StartFault, Cpus, Specs}
+use Rattle.specview.specs.Words.{BufSize, Report, Outcome, PlayFault}
+use Rattle.std.specs.{Option.option_map, Prelude.option_and_then, Prelude.unwrap_or, Prelude.min, Prelude.replicate, Prelude.slice_get, Prelude.not}
 use Rattle.dspec_record.specs.declared.header.Header.TheVariants as header
 use Rattle.dspec_buffer.proofs.Keeping.{shape_says}
-use Rattle.dspec_deeds.specs.declared.config.Config.{Config}
-use Rattle.dspec_deeds.specs.declared.config.StartFault.{StartFault}
-use Rattle.dspec_deeds.specs.declared.config.StartFault.TheVariants.{Cpus, Specs, BufSize}
-use Rattle.dspec_deeds.specs.declared.report.Report.{Report}
-use Rattle.dspec_interleaving.specs.declared.outcome.Outcome.{Outcome}
-use Rattle.dspec_interleaving.specs.declared.outcome.PlayFault.{PlayFault}
-use Rattle.dspec_deeds.proofs.TestLemmas.{and_tells}
-use Rattle.dspec_deeds.proofs.ReportBounds.{fitting_fitted}
-use Rattle.specview.proofs.AllFiles.{report_at}
-use Rattle.specview.proofs.Parts.{Within, written_all}
-use Rattle.specview.proofs.SmallShares.{TakesRoom, drops, missed_few, written_drop, written_few}
+use Rattle.dspec_deeds.proofs.{ReportBounds.fitting_fitted, TestLemmas.and_tells}
+use Rattle.specview.proofs.{AllFiles.report_at, Parts.Within, Parts.written_all, SmallShares.TakesRoom, SmallShares.drops, SmallShares.missed_few, SmallShares.written_drop, SmallShares.written_few}
 
 module _ (P : Record → Type 0) where
   all_turned : (rs : List Record) → All P rs → All P (reverse rs)

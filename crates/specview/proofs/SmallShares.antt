@@ -1,19 +1,12 @@
 -- How many drops and bytes the shares of a CPU's stream have.
-use Rattle.std.proofs.lemmas.Bool.Decides.{nat_tests, eqb_tells}
-use Rattle.std.proofs.Common.{◌≡◌, ◌≤◌, ◌+◌, ◌==◌, ◌&&◌, ◌⊎◌, ℕ, Bool, true, false, if◌then◌else◌, List, [], ◌∷◌, ◌++◌, length, map, reverse}
-use Rattle.std.proofs.Common.{Option, refl, sym, ap, ◌∙◌, subst, inr, ⊎_elim, arith, All, length-append}
-use Rattle.std.proofs.lemmas.Bool.{leb-true}
-use Rattle.std.proofs.lemmas.List.{map-append, reverse-append, length-reverse}
-use Rattle.std.proofs.lemmas.List.Elements.{All-nil, All-cons, All-head, All-tail, All-append, All-push, All-map, All-weaker}
+use Rattle.std.proofs.Common.{◌≡◌, ◌≤◌, ◌+◌, ◌==◌, ◌&&◌, ◌⊎◌, ℕ, Bool, true, false, if◌then◌else◌, List, [], ◌∷◌, ◌++◌, length, map, reverse, Option, refl, sym, ap, ◌∙◌, subst, inr, ⊎_elim, arith}
+use Rattle.std.proofs.Common.{All, length-append}
+use Rattle.std.proofs.lemmas.{Bool.leb-true, Bool.Decides.nat_tests, Bool.Decides.eqb_tells, List.map-append, List.reverse-append, List.length-reverse, List.Elements.All-nil, List.Elements.All-cons}
+use Rattle.std.proofs.lemmas.{List.Elements.All-head, List.Elements.All-tail, List.Elements.All-append, List.Elements.All-push, List.Elements.All-map, List.Elements.All-weaker}
 use Rattle.specview.specs.Words.{Record, Piece, one, block, records, reserved, size_of, align_of, extent, extent_of_records, IsAllowed, Offer, contents, accepted, accepts, active, Sealing}
 use Rattle.specview.specs.Words.{empty_batch, growing, batches, is_drop, offers, seals_now, stream, one_if, report, total, ShareOf, last_share, share_of, shares, missed_by, refused_in}
-use Rattle.specview.specs.Words.{written_shares}
-use Rattle.dspec_record.specs.declared.field.Shape.{Shape}
-use Rattle.dspec_deeds.specs.declared.config.Config.{Config}
-use Rattle.dspec_deeds.specs.declared.deed.Deed.{Deed}
-use Rattle.dspec_deeds.proofs.Balance.{balance}
-use Rattle.dspec_deeds.proofs.DeedEffects.{legal_accounts}
-use Rattle.dspec_deeds.proofs.ReportBounds.{AreFitted, active_within}
+use Rattle.specview.specs.Words.{written_shares, Shape, Config, Deed}
+use Rattle.dspec_deeds.proofs.{Balance.balance, DeedEffects.legal_accounts, ReportBounds.AreFitted, ReportBounds.active_within}
 use Rattle.dspec_core.proofs.Batches.{active_grows}
 use Rattle.specview.proofs.Parts.{back_all, front_all}
 

@@ -1,8 +1,7 @@
 -- Why no steps are told.
 use Rattle.std.proofs.Common.{ℕ, List}
-use Rattle.dspec_schedule.specs.declared.fault.ScheduleFault.{ScheduleFault}
+use Rattle.specview.specs.Words.{ScheduleFault, IsTextFault, view_of_schedule, IsStepsFault}
 use Rattle.dspec_schedule.specs.declared.fault.ScheduleFault.TheVariants as schedule
-use Rattle.specview.specs.Words.{IsTextFault, view_of_schedule, IsStepsFault}
 
 -- what the player tells of a text
 pub steps_fault : (text : List ℕ) (f : ScheduleFault) → IsTextFault text f → IsStepsFault text (view_of_schedule f)

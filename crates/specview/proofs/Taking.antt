@@ -1,9 +1,8 @@
 -- What isn't refused, and why there is no picture.
 use Rattle.std.proofs.Common.{◌↔◌, ◌≤◌, ℕ, ◌<◌, List, length, arith}
-use Rattle.dspec_interleaving.specs.declared.outcome.Outcome.{Outcome}
-use Rattle.specview.specs.Words.{Plan, IsPlayedText, IsTextFault, View, TooManyDeeds, Line, NoStamp, LateStamp, NoFrequency, GreatestFrequency, NoEvent, Memory, Read, Write, TooLong, NotEmpty}
-use Rattle.specview.specs.Words.{view_of_schedule, IsPictureFault, IsPlayPictureFault, DrawingFault}
-use Rattle.dspec_schedule.specs.declared.fault.ScheduleFault.{ScheduleFault}
+use Rattle.specview.specs.Words.{Outcome, Plan, IsPlayedText, IsTextFault, view_of_schedule, IsPictureFault, IsPlayPictureFault, ScheduleFault}
+use Rattle.specview.specs.declared.ending.DrawingFault.{DrawingFault, TheVariants.View, TheVariants.TooManyDeeds}
+use Rattle.specview.specs.declared.fault.ViewFault.TheVariants.{Line, NoStamp, LateStamp, NoFrequency, GreatestFrequency, NoEvent, Memory, Read, Write, TooLong, NotEmpty}
 use Rattle.dspec_schedule.specs.declared.fault.ScheduleFault.TheVariants as schedule
 
 -- what isn't refused has few deeds

@@ -1,7 +1,6 @@
 -- Cited by calls. The batches of a CPU, read off the deeds of a play: what was sealed, and what its buffer has at the end.
 use Rattle.std.specs.Prelude.{ℕ, ◌≡◌, ◌==◌, ◌&&◌, List, [], ◌∷◌, ◌++◌, length, map, reverse, if◌then◌else◌}
-use Rattle.specview.specs.Words.Outside.{Record, contents, accepts, Sealing, growing, batches, accepts_now}
-use Rattle.dspec_deeds.specs.declared.deed.Deed.{Deed}
+use Rattle.specview.specs.Words.Outside.{Record, contents, accepts, Sealing, growing, batches, accepts_now, Deed}
 use Rattle.specview.specs.declared.batches.Share.{Share}
 
 -- the records of a batch in order of time, and how often the buffer had no room

@@ -1,11 +1,7 @@
 -- Cited by calls. What readers of a trace by time take: of a clock the frequency, and of a stamp the time that it tells.
-use Rattle.std.specs.Prelude.{◌≡◌, ℕ, ◌*◌, ◌<◌, Bool, true, false, nat_le, List}
-use Rattle.std.specs.List.{list_any}
-use Rattle.specview.specs.Words.Outside.{Record}
-use Rattle.dspec_ctf.specs.declared.form.Form.{Form}
-use Rattle.dspec_ctf.specs.declared.form.Form.TheVariants.{AsTaken, ByTime}
-use Rattle.specview.specs.declared.fault.ViewFault.{ViewFault}
-use Rattle.specview.specs.declared.fault.ViewFault.TheVariants.{GreatestFrequency, LateStamp}
+use Rattle.std.specs.{List.list_any, Prelude.◌≡◌, Prelude.ℕ, Prelude.◌*◌, Prelude.◌<◌, Prelude.Bool, Prelude.true, Prelude.false, Prelude.nat_le, Prelude.List}
+use Rattle.specview.specs.Words.Outside.{Record, Form, AsTaken, ByTime}
+use Rattle.specview.specs.declared.fault.ViewFault.{ViewFault, TheVariants.GreatestFrequency, TheVariants.LateStamp}
 
 -- by its stamp and a clock of that frequency, a record is so many seconds late that their nanoseconds need more than 63 bits
 abbrev pub is_late : ℕ → Record → Bool

@@ -1,11 +1,10 @@
 -- Cited by calls. What the program tells of the faults of its parts, and its exit status.
 use Rattle.std.specs.Prelude.{ℕ}
-use Rattle.dspec_replay.specs.declared.input.InputFault.{InputFault}
-use Rattle.dspec_replay.specs.declared.input.InputFault.TheVariants as input
-use Rattle.dspec_schedule.specs.declared.fault.ScheduleFault.{ScheduleFault}
-use Rattle.dspec_schedule.specs.declared.fault.ScheduleFault.TheVariants as schedule
+use Rattle.specview.specs.Words.Outside.{InputFault, ScheduleFault}
 use Rattle.specview.specs.declared.fault.ViewFault.{ViewFault}
 use Rattle.specview.specs.declared.fault.ViewFault.TheVariants.{Line, NoStamp, LateStamp, NoFrequency, GreatestFrequency, NoEvent, Memory, Read, Write, TooLong, NotEmpty}
+use Rattle.dspec_replay.specs.declared.input.InputFault.TheVariants as input
+use Rattle.dspec_schedule.specs.declared.fault.ScheduleFault.TheVariants as schedule
 
 -- the exit status that tells of a fault
 abbrev pub status_of_view : ViewFault → ℕ

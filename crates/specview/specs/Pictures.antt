@@ -1,12 +1,9 @@
 -- Cited by calls. Which text has a picture of its play, and why another has none.
 use Rattle.std.specs.Prelude.{ℕ, ◌<◌, ◌≤◌, List, length}
-use Rattle.dspec_interleaving.specs.declared.outcome.Outcome.{Outcome}
-use Rattle.specview.specs.Words.Outside.{Plan, IsPlayedText, IsTextFault}
+use Rattle.specview.specs.{Faults.status_of_view, Words.Outside.Outcome, Words.Outside.Plan, Words.Outside.IsPlayedText, Words.Outside.IsTextFault, declared.ending.DrawingFault.DrawingFault}
+use Rattle.specview.specs.{declared.ending.DrawingFault.TheVariants.View, declared.ending.DrawingFault.TheVariants.TooManyDeeds, declared.fault.ViewFault.TheVariants.Line}
+use Rattle.specview.specs.{declared.fault.ViewFault.TheVariants.Memory}
 use Rattle.dspec_schedule.specs.declared.fault.ScheduleFault.TheVariants as schedule
-use Rattle.specview.specs.declared.ending.DrawingFault.{DrawingFault}
-use Rattle.specview.specs.declared.ending.DrawingFault.TheVariants.{View, TooManyDeeds}
-use Rattle.specview.specs.declared.fault.ViewFault.TheVariants.{Line, Memory}
-use Rattle.specview.specs.Faults.{status_of_view}
 
 -- the exit status that tells of a fault
 abbrev pub status_of_run : DrawingFault → ℕ

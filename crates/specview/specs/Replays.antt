@@ -1,11 +1,8 @@
 -- Cited by calls. What is printed of a text's schedule that a session made.
 use Rattle.std.specs.Prelude.{◌≡◌, ◌++◌, ℕ, Bool, true, false, List, map, Ok}
-use Rattle.dspec_record.specs.declared.header.Header.{Header}
-use Rattle.specview.specs.Words.Outside.{printed_text, Plan, header_of, schedule_of, all_buffers, call_that_ended, whole_call_of}
-use Rattle.dspec_replay.specs.declared.texts.Replayed.{Replayed}
-use Rattle.specview.specs.declared.replaying.ReplayFault.{ReplayFault}
-use Rattle.specview.specs.declared.replaying.ReplayFault.TheVariants.{View, NoWholeCall, NoText}
 use Rattle.specview.specs.Faults.{status_of_view}
+use Rattle.specview.specs.Words.Outside.{Header, printed_text, Plan, header_of, schedule_of, all_buffers, call_that_ended, whole_call_of, Replayed}
+use Rattle.specview.specs.declared.replaying.ReplayFault.{ReplayFault, TheVariants.View, TheVariants.NoWholeCall, TheVariants.NoText}
 
 -- the exit status that tells of a fault
 abbrev pub status_of_replay : ReplayFault → ℕ

@@ -1,9 +1,8 @@
 -- Cited by calls. Which text has a play whose steps are told, and why another has none.
 use Rattle.std.specs.Prelude.{◌≡◌, ℕ, List, None, Ok}
 use Rattle.specview.specs.Words.Outside.{Plan, schedule_of, IsTextFault, fault_of}
+use Rattle.specview.specs.declared.fault.ViewFault.{ViewFault, TheVariants.Line, TheVariants.Memory}
 use Rattle.dspec_schedule.specs.declared.fault.ScheduleFault.TheVariants as schedule
-use Rattle.specview.specs.declared.fault.ViewFault.{ViewFault}
-use Rattle.specview.specs.declared.fault.ViewFault.TheVariants.{Line, Memory}
 
 -- the text says a schedule, whose play nothing refuses
 pub record HasSteps (text : List ℕ) : Type 0 where

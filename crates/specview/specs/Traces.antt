@@ -1,27 +1,17 @@
 -- Cited by calls. The trace of a play: its metadata, and the bytes of each CPU's file.
-use Rattle.std.specs.Prelude.{◌≡◌, ℕ, ◌+◌, ◌^◌, ◌<◌, ◌≤◌, ◌==◌, ◌++◌, List, [], ◌∷◌, length, map, reverse}
-use Rattle.std.specs.Prelude.{replicate, min, max, take, slice_get, slice_index_or, Some, unwrap_or, false, if◌then◌else◌, string_bytes, All}
+use Rattle.std.specs.Prelude.{◌≡◌, ℕ, ◌+◌, ◌^◌, ◌<◌, ◌≤◌, ◌==◌, ◌++◌, List, [], ◌∷◌, length, map, reverse, replicate, min, max, take, slice_get, slice_index_or, Some, unwrap_or, false}
+use Rattle.std.specs.Prelude.{if◌then◌else◌, string_bytes, All}
+use Rattle.specview.specs.Batches.{ShareOf, last_share, shares}
+use Rattle.specview.specs.Clocks.{IsClockFault, IsTakenByReaders}
 use Rattle.specview.specs.Words.Outside.{Record, EnabledRows, enabled, table_accepts, numbers_below, stream, Plan, header_of, IsPlayedText, IsTextFault, ArePacketsOfRecords, metadata_text}
-use Rattle.specview.specs.Words.Outside.{fault_of_metadata, events, packet, Accepts}
-use Rattle.dspec_deeds.specs.declared.deed.Deed.{Deed}
-use Rattle.dspec_deeds.specs.declared.report.Report.{Report}
-use Rattle.dspec_interleaving.specs.declared.outcome.Outcome.{Outcome}
-use Rattle.dspec_schedule.specs.declared.fault.ScheduleFault.TheVariants as schedule
-use Rattle.dspec_ctf.specs.declared.form.Form.{Form}
-use Rattle.dspec_ctf.specs.declared.form.Form.TheVariants.{AsTaken, ByTime}
-use Rattle.dspec_ctf.specs.declared.fault.MetadataFault.TheVariants as metadata_fault
-use Rattle.dspec_ctf.specs.declared.names.Names.TheVariants.{Numbered}
-use Rattle.dspec_ctf.specs.declared.fault.MetadataFault.{MetadataFault}
-use Rattle.sha1.specs.Sha1.{sha1}
-use Rattle.uuid.specs.declared.Variant.TheVariants.{RFC4122}
-use Rattle.uuid.specs.declared.Version.TheVariants.{Sha1}
-use Rattle.uuid.specs.Parts.{with_variant, with_version}
-use Rattle.uuid.specs.Uuid.{namespace_oid}
+use Rattle.specview.specs.Words.Outside.{fault_of_metadata, events, packet, Accepts, Deed, Report, Outcome, Form, AsTaken, ByTime, Numbered, MetadataFault}
 use Rattle.specview.specs.declared.fault.ViewFault.{ViewFault}
 use Rattle.specview.specs.declared.fault.ViewFault.TheVariants.{Line, NoStamp, LateStamp, NoFrequency, GreatestFrequency, NoEvent, Memory}
 use Rattle.specview.specs.declared.trace.Trace.{Trace}
-use Rattle.specview.specs.Batches.{ShareOf, last_share, shares}
-use Rattle.specview.specs.Clocks.{IsClockFault, IsTakenByReaders}
+use Rattle.dspec_schedule.specs.declared.fault.ScheduleFault.TheVariants as schedule
+use Rattle.dspec_ctf.specs.declared.fault.MetadataFault.TheVariants as metadata_fault
+use Rattle.sha1.specs.Sha1.{sha1}
+use Rattle.uuid.specs.{Parts.with_variant, Parts.with_version, Uuid.namespace_oid, declared.Variant.TheVariants.RFC4122, declared.Version.TheVariants.Sha1}
 
 -- the greatest EPID of records, 0 where there is none
 abbrev pub greatest_of : List Record → ℕ

@@ -9,8 +9,3 @@ pub use Rattle.specview.specs.Pictures.{IsPictureFault, IsPlayPictureFault}
 pub use Rattle.specview.specs.Stepping.{IsStepsFault}
 pub use Rattle.specview.specs.Traces.{AreFiles, AreStreams, event_rows, greatest_epid, greatest_of, HasUnknown, HaveShortEvents, IsFile, IsFileFault, IsFormFault, IsOfNumbered, IsPlayTraceFault}
 pub use Rattle.specview.specs.Traces.{missed_by, packets_behind, refused_in, TellsSmall, written_shares}
-pub use Rattle.specview.specs.declared.batches.Share.{Share}
-pub use Rattle.specview.specs.declared.ending.DrawingFault.{DrawingFault}
-pub use Rattle.specview.specs.declared.ending.DrawingFault.TheVariants.{TooManyDeeds, View}
-pub use Rattle.specview.specs.declared.fault.ViewFault.{ViewFault}
-pub use Rattle.specview.specs.declared.fault.ViewFault.TheVariants.{GreatestFrequency, LateStamp, Line, Memory, NoEvent, NoFrequency, NoStamp, NotEmpty, Read, TooLong, Write}

@@ -1,9 +1,7 @@
 //! The batches of a CPU, by the deeds of a play: what it accepted between two switches, and how often its buffer had no room.
 
 ghost use Rattle.std.specs.Prelude.{◌≡◌, ◌++◌, map, reverse, if◌then◌else◌, IfOk};
-ghost use Rattle.dspec_deeds.specs.Own.{is_drop, seals_now, stream};
-ghost use Rattle.dspec_deeds.specs.Reports.{accepts_now};
-ghost use Rattle.dspec_deeds.specs.FateKinds.{is_copied, is_lost, count_of};
+ghost use Rattle.dspec_deeds.specs.{FateKinds.is_copied, FateKinds.is_lost, FateKinds.count_of, Own.is_drop, Own.seals_now, Own.stream, Reports.accepts_now};
 ghost use Rattle.specview.specs.Batches.{TellsCounts, last_share, shares, shown_share};
 
 use dspec_deeds::{DecideFate, Deed, TraceFate};

@@ -1,7 +1,6 @@
 //! What readers of a trace by time take: the frequency of its clock, and the stamps that records have.
 
-ghost use Rattle.std.specs.Prelude.{◌≡◌, ◌*◌, nat_le, IfErr, OnOk};
-ghost use Rattle.std.specs.List.{list_any};
+ghost use Rattle.std.specs.{List.list_any, Prelude.◌≡◌, Prelude.◌*◌, Prelude.nat_le, Prelude.IfErr, Prelude.OnOk};
 ghost use Rattle.specview.specs.Clocks.{IsClockFault, IsTakenByReaders, has_late, is_late};
 
 use crate::fault::ViewFault;

@@ -1,6 +1,5 @@
 ghost use Rattle.std.specs.Prelude.{◌≡◌};
-ghost use Rattle.specview.specs.declared.ending.DrawingFault.TheVariants.{View};
-ghost use Rattle.specview.specs.declared.fault.ViewFault.TheVariants.{Memory};
+ghost use Rattle.specview.specs.declared.{ending.DrawingFault.TheVariants.View, fault.ViewFault.TheVariants.Memory};
 
 use crate::fault::ViewFault;
 use std::alloc::AllocError;

@@ -1,6 +1,5 @@
 ghost use Rattle.std.specs.Prelude.{◌≡◌};
-ghost use Rattle.specview.specs.Faults.{IsReadFault, IsWritingFault};
-ghost use Rattle.specview.specs.declared.fault.ViewFault.TheVariants.{Memory};
+ghost use Rattle.specview.specs.{Faults.IsReadFault, Faults.IsWritingFault, declared.fault.ViewFault.TheVariants.Memory};
 
 use dspec_replay::InputFault;
 use dspec_schedule::{LineKind, ScheduleFault};

@@ -1,8 +1,7 @@
 //! The folder of a trace.
 
 ghost use Rattle.std.specs.Prelude.{◌≡◌, IfErr, IsErrAnd, None, OnErr, OnOk, Option, List};
-ghost use Rattle.specview.specs.Faults.{IsWritingFault};
-ghost use Rattle.specview.specs.Folders.{AddsFiles, IsEmpty, NamedFile, named_file, trace_files, written_files};
+ghost use Rattle.specview.specs.{Faults.IsWritingFault, Folders.AddsFiles, Folders.IsEmpty, Folders.NamedFile, Folders.named_file, Folders.trace_files, Folders.written_files};
 
 use crate::fault::{ViewFault, read_fault, write_fault};
 use crate::program::ProgramFault;

@@ -1,8 +1,7 @@
 //! A schedule of whole calls, made on a session from one thread, and what is printed of it: what the player prints of the same schedule.
 
 ghost use Rattle.std.specs.Prelude.{◌≡◌, IfOk, string_bytes};
-ghost use Rattle.dspec_schedule.specs.Reading.{header_of};
-ghost use Rattle.dspec_schedule.specs.Schedules.{plan_of};
+ghost use Rattle.dspec_schedule.specs.{Reading.header_of, Schedules.plan_of};
 ghost use Rattle.specview.specs.Replays.{IsReplayOf, replay_printed, status_of_replay};
 
 use crate::fault::ViewFault;

@@ -3,8 +3,7 @@
 ghost use Rattle.std.specs.Prelude.{◌≡◌, ◌≢◌, IfErr, IfOk, None, Some};
 ghost use Rattle.dspec_interleaving.specs.declared.outcome.PlayFault.TheVariants as failure;
 ghost use Rattle.dspec_replay.specs.PlayedTexts.{fault_of};
-ghost use Rattle.dspec_schedule.specs.Reading.{HasOneHeader};
-ghost use Rattle.dspec_schedule.specs.Schedules.{plan_of};
+ghost use Rattle.dspec_schedule.specs.{Reading.HasOneHeader, Schedules.plan_of};
 ghost use Rattle.specview.specs.Stepping.{HasSteps, IsStepsFault};
 
 use crate::fault::ViewFault;

@@ -1,14 +1,13 @@
 //! The trace of a play: its metadata, and the bytes of each CPU's file.
 
 ghost use Rattle.std.specs.Prelude.{◌≡◌, ◌≢◌, ℕ, ◌+◌, ◌^◌, ◌<◌, ◌≤◌, map, reverse, length, All, IfOk, IfErr};
-ghost use Rattle.dspec_ctf.specs.ByTime.{ArePacketsOfRecords};
-ghost use Rattle.dspec_ctf.specs.Streams.{Accepts};
+ghost use Rattle.dspec_ctf.specs.{ByTime.ArePacketsOfRecords, Streams.Accepts};
 ghost use Rattle.dspec_deeds.specs.Own.{stream as stream_of};
 ghost use Rattle.dspec_schedule.specs.Schedules.{plan_of};
 ghost use Rattle.dspec_replay.specs.PlayedTexts.{IsPlayOf};
 ghost use Rattle.specview.specs.Batches.{TellsCounts, last_share, shares, shown_share};
-ghost use Rattle.specview.specs.Traces.{AllTellSmall, AreFiles, HaveShortEvents, AreStreams, IsFile, IsFileFault, IsFormFault, IsOfNumbered, IsPlayTrace, IsPlayTraceFault, TellsSmall, IsTraceFault, IsTraceOf};
-ghost use Rattle.specview.specs.Traces.{event_rows, file_as_taken, missed_by, packets_behind, refused_in, written_shares};
+ghost use Rattle.specview.specs.Traces.{AllTellSmall, AreFiles, HaveShortEvents, AreStreams, IsFile, IsFileFault, IsFormFault, IsOfNumbered, IsPlayTrace, IsPlayTraceFault, TellsSmall, IsTraceFault};
+ghost use Rattle.specview.specs.Traces.{IsTraceOf, event_rows, file_as_taken, missed_by, packets_behind, refused_in, written_shares};
 
 use crate::batches::{Share, shares_of, with_last};
 use crate::clock::see_clock;

@@ -1,10 +1,6 @@
 -- A session of one CPU has two actors.
-use Rattle.std.proofs.Common.{◌≡◌, ◌<◌, ℕ, true, arith, subst}
-use Rattle.std.proofs.lemmas.Bool.{ltb-true}
-use Rattle.dspec_deeds.specs.declared.config.Config.{Config}
-use Rattle.dspec_deeds.specs.declared.calls.Actor.{Actor}
-use Rattle.dspec_deeds.specs.declared.calls.Actor.TheVariants.{Cpu, Consumer}
-use Rattle.test_plays.specs.Words.{is_actor, is_idle, PlayState}
+use Rattle.std.proofs.{Common.◌≡◌, Common.◌<◌, Common.ℕ, Common.true, Common.arith, Common.subst, lemmas.Bool.ltb-true}
+use Rattle.test_plays.specs.Words.{Config, Actor, Cpu, Consumer, is_actor, is_idle, PlayState}
 
 -- where both are idle, all are
 pub all_idle : (k : Config) (st : PlayState) → k.cpus ≡ 1 → is_idle (Cpu 0) st ≡ true → is_idle Consumer st ≡ true

@@ -1,9 +1,8 @@
 -- Two seats, taken from a vector.
 use Rattle.std.proofs.Common.{◌≡◌, List, [], ◌∷◌, ◌++◌, length, length-append, refl, ap, ◌∙◌, arith}
 use Rattle.std.specs.Prelude.{slice_get}
-use Rattle.dspec_table.specs.declared.seats.CpuSeat.{CpuSeat}
+use Rattle.test_sessions.specs.Words.{CpuSeat, known, FreshSeats, IsAt, cpu_of}
 use Rattle.dspec_table.specs.declared.seats.Words.{Words}
-use Rattle.test_sessions.specs.Words.{known, FreshSeats, IsAt, cpu_of}
 
 nothing : {A : Type 0} (xs : List A) → length xs ≡ 0 → xs ≡ []
 nothing [] e = refl

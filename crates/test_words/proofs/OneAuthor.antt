@@ -1,11 +1,8 @@
 -- That one actor at most opens the first slot.
 use Rattle.std.proofs.Common.{◌≡◌, ◌⊎◌, ℕ, Bool, true, false, not, ◌||◌, ◌==◌, List, [], ◌∷◌, refl, sym, ap, ◌∙◌, ⊎_elim, true≢false}
 use Rattle.std.specs.Prelude.{nat_lt}
-use Rattle.test_words.specs.Words.{Speculation, halted, issue, present, opened, opens_slot, verdict, undecided, callers, same_id, same_actor, author, part, IsSound, first_slot}
-use Rattle.dspec_deeds.specs.declared.config.Config.{Config}
-use Rattle.dspec_deeds.specs.declared.calls.Actor.{Actor}
-use Rattle.dspec_deeds.specs.declared.deed.Deed.{Deed}
-use Rattle.dspec_deeds.specs.declared.deed.Deed.TheVariants.{Trace, Scan, Opened, Miss, Speculate, Commit, Discard, Settle, Seal, Release, Halt}
+use Rattle.test_words.specs.Words.{Speculation, halted, issue, present, opened, opens_slot, verdict, undecided, callers, same_id, same_actor, author, part, IsSound, first_slot, Config, Actor, Deed}
+use Rattle.test_words.specs.Words.{Trace, Scan, Opened, Miss, Speculate, Commit, Discard, Settle, Seal, Release, Halt}
 use Rattle.dspec_deeds.proofs.TestLemmas.{either_way, or_tells, or_none, same_number, same_actor_tells, actor_is_itself, id_is_itself, not_false}
 
 abbrev pub any : (Deed → Bool) → List Deed → Bool

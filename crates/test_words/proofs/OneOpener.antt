@@ -1,18 +1,11 @@
 -- Of two CPUs that each call speculation once, one is given it.
 use Rattle.std.proofs.Common.{◌≡◌, ◌⊎◌, ℕ, zero, suc, ◌≤◌, Bool, true, false, not, ◌&&◌, ◌||◌, ◌==◌, if◌then◌else◌, List, [], ◌∷◌, refl, sym, ap, ◌∙◌, subst, ⊎_elim, inl, inr, arith, true≢false}
-use Rattle.std.specs.Prelude.{nat_lt}
 use Rattle.std.proofs.lemmas.Bool.Decides.{nat_tests}
+use Rattle.std.specs.Prelude.{nat_lt}
 use Rattle.test_words.specs.Words.{Speculation, issue, present, opened, opens_slot, opened_since, is_scan, code_at, standing, word_at, same_id, same_actor, author, part, is_free, IsSound}
-use Rattle.test_words.specs.Words.{HasAuthors, known, Ended, first_slot, Once, given_out}
-use Rattle.dspec_word.specs.declared.code.Code.TheVariants.{Inactive}
-use Rattle.dspec_deeds.specs.declared.config.Config.{Config}
-use Rattle.dspec_deeds.specs.declared.calls.Actor.{Actor}
-use Rattle.dspec_deeds.specs.declared.calls.Actor.TheVariants.{Cpu, Consumer}
-use Rattle.dspec_deeds.specs.declared.deed.Deed.{Deed}
-use Rattle.dspec_deeds.specs.declared.deed.Deed.TheVariants.{Trace, Scan, Opened, Miss, Speculate, Commit, Discard, Settle, Seal, Release, Halt}
+use Rattle.test_words.specs.Words.{HasAuthors, known, Ended, first_slot, Once, given_out, Inactive, Config, Actor, Cpu, Consumer, Deed, Trace, Scan, Opened, Miss, Speculate, Commit, Discard, Settle}
+use Rattle.test_words.specs.Words.{Seal, Release, Halt, View, CpuSeat}
 use Rattle.dspec_deeds.proofs.TestLemmas.{either_way, or_tells, same_number, same_actor_tells, and_tells}
-use Rattle.dspec_table.specs.declared.rule.View.{View}
-use Rattle.dspec_table.specs.declared.seats.CpuSeat.{CpuSeat}
 use Rattle.test_words.proofs.OneAuthor.{any, any_part, calm, none_any, opened_first, opener_is_one, or_left, or_right, other, part_any, part_miss}
 
 -- a call was stopped

@@ -1,20 +1,13 @@
 -- What a CPU's own list tells behind a call of speculation, or where it has no deed.
 use Rattle.std.proofs.Common.{◌≡◌, ◌≤◌, ◌++◌, ◌∷◌, ◌&&◌, ℕ, Bool, true, false, not, true≢false, List, [], refl, sym, ap, ◌∙◌, subst, arith, inr}
-use Rattle.std.specs.Prelude.{nat_lt}
 use Rattle.std.proofs.lemmas.Bool.Decides.{nat_tests}
+use Rattle.std.specs.Prelude.{nat_lt}
 use denote.Enum.Bare.{sameb}
 use Rattle.test_words.specs.Words.{is_inactive, at_activity, at_word, shown, LoadedActivity, LoadedWord, shown_scan, Shut, of_cpu, is_decided, open_at, SlotState, Unused, idle_progress, number_of}
+use Rattle.test_words.specs.Words.{Void, Code, Inactive, Active, ActiveOne, ActiveMany, Committing, CommittingMany, Discarding, Config, Deed, Scan, Miss, View, Doing}
 use Rattle.dspec_word.specs.contracts.code.Code.{the_type}
-use Rattle.dspec_word.specs.declared.act.Act.TheVariants.{Void}
-use Rattle.dspec_word.specs.declared.code.Code.{Code}
-use Rattle.dspec_word.specs.declared.code.Code.TheVariants.{Inactive, Active, ActiveOne, ActiveMany, Committing, CommittingMany, Discarding}
 use Rattle.dspec_deeds.specs.declared.calls.CpuOp.TheVariants as op
-use Rattle.dspec_deeds.specs.declared.config.Config.{Config}
-use Rattle.dspec_deeds.specs.declared.deed.Deed.{Deed}
-use Rattle.dspec_deeds.specs.declared.deed.Deed.TheVariants.{Scan, Miss}
 use Rattle.dspec_interleaving.proofs.StepDeeds.{missed_deeds}
-use Rattle.dspec_table.specs.declared.rule.View.{View}
-use Rattle.dspec_table.specs.declared.doing.Doing.{Doing}
 
 pub none_unused : (k : Config) (c : ℕ) (own : List Deed) → own ≡ [] → Unused k c own
 none_unused k c own e = subst (Unused k c) (sym e) (refl, (λ id. refl), refl)

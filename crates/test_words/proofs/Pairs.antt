@@ -1,9 +1,8 @@
 -- Two seats, taken from a vector and given back.
 use Rattle.std.proofs.Common.{◌≡◌, ℕ, zero, suc, List, [], ◌∷◌, ◌++◌, length, length-append, Some, refl, sym, ap, subst, ◌∙◌, arith}
 use Rattle.std.specs.Prelude.{slice_get}
-use Rattle.dspec_table.specs.declared.seats.CpuSeat.{CpuSeat}
+use Rattle.test_words.specs.Words.{CpuSeat, known, FreshSeats, IsAt, set_up, cpu_of, AreSeats}
 use Rattle.dspec_table.specs.declared.seats.Words.{Words}
-use Rattle.test_words.specs.Words.{known, FreshSeats, IsAt, set_up, cpu_of, AreSeats}
 
 nothing : {A : Type 0} (xs : List A) → length xs ≡ 0 → xs ≡ []
 nothing [] e = refl

@@ -3,18 +3,11 @@ use Rattle.std.proofs.Common.{◌≡◌, ℕ, zero, suc, ◌<◌, ◌&&◌, ◌�
 use Rattle.std.proofs.lemmas.Bool.Decides.{nat_tests}
 use Rattle.test_words.specs.Words.{Record, Speculation, SlotState, released, awaits, speculate_at, commit_at, discard_at, reap_at, in_range, is_among, callers, ack, number_of, at_activity, IsOn}
 use Rattle.test_words.specs.Words.{IsInFlight, MayLoad, MayTry, Attempts, IsDeciding, calling, activity_place, acted, LoadedActivity, TriedWord, LoadedAck, Unused, Next, at_exchange, shown}
-use Rattle.test_words.specs.Words.{idle_progress, shown_commit, shown_discard, is_alone, is_release, at_word, Entered, LoadedWord, slot_place}
-use Rattle.dspec_word.specs.declared.act.Act.{Act}
-use Rattle.dspec_word.specs.declared.act.Act.TheVariants.{Void, Granted, Attempt, Idle}
-use Rattle.dspec_deeds.specs.declared.config.Config.{Config}
-use Rattle.dspec_deeds.specs.declared.calls.CpuOp.{CpuOp}
+use Rattle.test_words.specs.Words.{idle_progress, shown_commit, shown_discard, is_alone, is_release, at_word, Entered, LoadedWord, slot_place, Act, Void, Granted, Attempt, Idle, Config, CpuOp, Deed}
+use Rattle.test_words.specs.Words.{View, Doing}
 use Rattle.dspec_deeds.specs.declared.calls.CpuOp.TheVariants as op
-use Rattle.dspec_deeds.specs.declared.deed.Deed.{Deed}
-use Rattle.dspec_table.specs.declared.rule.View.{View}
-use Rattle.dspec_table.specs.declared.doing.Doing.{Doing}
-use Rattle.dspec_table.proofs.Flights.{quiet_activity, loads_next, in_flight}
+use Rattle.dspec_table.proofs.{Flights.quiet_activity, Flights.loads_next, Flights.in_flight, Reaping.acked_since}
 use Rattle.dspec_interleaving.proofs.StepDeeds.{by_test}
-use Rattle.dspec_table.proofs.Reaping.{acked_since}
 
 first_in_range : (k : Config) (id : Speculation) → 1 ≤ k.nspec → id.slot ≡ 1 → in_range k id ≡ true
 first_in_range k id low is = grind (arith, nat_tests)

@@ -1,11 +1,6 @@
 -- Cited by calls. What a CPU's own list tells before a call on the first slot.
 use Rattle.std.specs.Prelude.{ℕ, ◌≡◌, List, []}
-use Rattle.test_words.specs.Words.Outside.{Speculation, scan, callers, ack, SlotState, MayLoad, MayTry, Attempts, IsAt, cpu_of, known, set_up}
-use Rattle.dspec_deeds.specs.declared.config.Config.{Config}
-use Rattle.dspec_deeds.specs.declared.deed.Deed.{Deed}
-use Rattle.dspec_table.specs.declared.rule.View.{View}
-use Rattle.dspec_table.specs.declared.doing.Doing.{Doing}
-use Rattle.dspec_table.specs.declared.seats.CpuSeat.{CpuSeat}
+use Rattle.test_words.specs.Words.Outside.{Speculation, scan, callers, ack, SlotState, MayLoad, MayTry, Attempts, IsAt, cpu_of, known, set_up, Config, Deed, View, Doing, CpuSeat}
 use Rattle.dspec_table.specs.declared.seats.Words.{Words}
 
 -- no call of the CPU is in flight, it is no caller of anything, and it has settled nothing of the first slot

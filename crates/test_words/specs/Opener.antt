@@ -1,9 +1,6 @@
 -- Serves proofs. One call of speculation on the first slot, by a CPU that had done nothing.
 use Rattle.std.specs.Prelude.{ℕ, ◌≡◌, ◌⊎◌, Bool, true, false, List, [], ◌∷◌}
-use Rattle.test_words.specs.Words.Outside.{Speculation, SlotState}
-use Rattle.dspec_word.specs.declared.code.Code.TheVariants.{Active}
-use Rattle.dspec_deeds.specs.declared.deed.Deed.{Deed}
-use Rattle.dspec_deeds.specs.declared.deed.Deed.TheVariants.{Scan, Opened, Miss}
+use Rattle.test_words.specs.Words.Outside.{Speculation, SlotState, Active, Deed, Scan, Opened, Miss}
 
 abbrev pub first_slot : ℕ → Speculation
 first_slot n = record { issue = n; slot = 1 }

@@ -1,8 +1,7 @@
 //! Steps of a call on a speculation of the first slot, by a CPU that is no caller.
 ghost use Rattle.std.specs.Prelude.{◌≡◌, ◌≤◌, true, false};
 ghost use Rattle.dspec_deeds.specs.declared.calls.CpuOp.TheVariants as op;
-ghost use Rattle.dspec_table.specs.Conditions.{IsOn, MayLoad};
-ghost use Rattle.dspec_table.specs.Seats.{known, IsAt, set_up, cpu_of};
+ghost use Rattle.dspec_table.specs.{Conditions.IsOn, Conditions.MayLoad, Seats.known, Seats.IsAt, Seats.set_up, Seats.cpu_of};
 ghost use Rattle.test_words.specs.Calls.{Unused};
 
 use dspec_deeds::CpuOp;

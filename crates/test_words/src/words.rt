@@ -1,11 +1,9 @@
 //! Seats in turn on one thread.
 ghost use Rattle.std.specs.Prelude.{◌≡◌, ◌≤◌, IfOk, IfSome, IfNone, true, [], ◌∷◌};
 ghost use Rattle.dspec_deeds.specs.declared.deed.Deed.TheVariants.{Scan};
-ghost use Rattle.dspec_table.specs.Conditions.{MayOpen, as_active};
-ghost use Rattle.dspec_table.specs.Last.{last_set_up, last_words, Ended};
-ghost use Rattle.dspec_table.specs.Seats.{known, known_there, IsAt, IsConsumerAt, set_up, cpu_of};
-ghost use Rattle.test_words.specs.Opener.{Shut};
-ghost use Rattle.test_words.specs.Calls.{Unused};
+ghost use Rattle.dspec_table.specs.{Conditions.MayOpen, Conditions.as_active, Last.last_set_up, Last.last_words, Last.Ended, Seats.known, Seats.known_there, Seats.IsAt, Seats.IsConsumerAt};
+ghost use Rattle.dspec_table.specs.{Seats.set_up, Seats.cpu_of};
+ghost use Rattle.test_words.specs.{Calls.Unused, Opener.Shut};
 
 use crate::calls::doing;
 use dspec_deeds::{Config, CpuOp, StartFault};

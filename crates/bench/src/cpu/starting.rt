@@ -1,7 +1,6 @@
 //! The one CPU of a session that has just begun.
 ghost use Rattle.std.specs.Prelude.{◌≡◌, IfSome};
-ghost use Rattle.dspec_cpu.specs.Lists.{schema_of, words_of};
-ghost use Rattle.dspec_cpu.specs.Standing.{Belongs, identity};
+ghost use Rattle.dspec_cpu.specs.{Lists.schema_of, Lists.words_of, Standing.Belongs, Standing.identity};
 
 use dspec_cpu::{Cpu, Shared};
 use dspec_deeds::Config;

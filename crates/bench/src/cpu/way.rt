@@ -1,7 +1,6 @@
 //! The ways that a record can take through a CPU, each as one loop over many records.
 ghost use Rattle.std.specs.Prelude.{◌≡◌, IsTrue};
-ghost use Rattle.dspec_cpu.specs.Lists.{schema_of, words_of};
-ghost use Rattle.dspec_cpu.specs.Standing.{Belongs, identity};
+ghost use Rattle.dspec_cpu.specs.{Lists.schema_of, Lists.words_of, Standing.Belongs, Standing.identity};
 
 use dspec_cpu::{Cpu, Shared};
 use dspec_deeds::{Decided, Opening, Spoken, Traced};

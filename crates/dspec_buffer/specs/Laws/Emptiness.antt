@@ -1,12 +1,7 @@
 -- Serves proofs. An empty block in front makes no bytes.
 use Rattle.std.specs.Prelude.{ℕ, Bool, List, [], ◌∷◌, Option}
-use Rattle.std.proofs.Common.{sym, ◌∙◌}
-use Rattle.std.proofs.lemmas.List.{append-nil}
-use Rattle.dspec_buffer.specs.Words.Outside.{Record}
-use Rattle.dspec_record.specs.declared.field.Shape.{Shape}
-use Rattle.dspec_buffer.specs.Extent.{Piece, block, bytes}
-use Rattle.dspec_buffer.specs.Listed.{ListView, HasListed}
-use Rattle.dspec_buffer.specs.Stored.{Stored, HasPieces}
+use Rattle.std.proofs.{Common.sym, Common.◌∙◌, lemmas.List.append-nil}
+use Rattle.dspec_buffer.specs.{Extent.Piece, Extent.block, Extent.bytes, Listed.ListView, Listed.HasListed, Stored.Stored, Stored.HasPieces, Words.Outside.Record, Words.Outside.Shape}
 
 pub stored_too : (shape : ℕ → Option Shape) (accepted : Record → Bool) (text : Record → List ℕ) (b : Stored) (ps : List Piece) → HasPieces shape accepted text b ps
     → HasPieces shape accepted text b (block [] ∷ ps)

@@ -1,11 +1,7 @@
 -- Serves proofs. A walk that begins has the texts of all records of the pieces before it.
 use Rattle.std.specs.Prelude.{ℕ, Bool, IsTrue, List, reverse, Option}
-use Rattle.std.proofs.Common.{arith}
-use Rattle.std.proofs.lemmas.List.Sorted.{All-permutation, IsPermutation-reverse}
-use Rattle.dspec_buffer.specs.Words.Outside.{Record}
-use Rattle.dspec_record.specs.declared.field.Shape.{Shape}
-use Rattle.dspec_buffer.specs.Extent.{Piece, records}
-use Rattle.dspec_buffer.specs.Listed.{ListView, HasListed, HasTexts}
+use Rattle.std.proofs.{Common.arith, lemmas.List.Sorted.All-permutation, lemmas.List.Sorted.IsPermutation-reverse}
+use Rattle.dspec_buffer.specs.{Extent.Piece, Extent.records, Listed.ListView, Listed.HasListed, Listed.HasTexts, Words.Outside.Record, Words.Outside.Shape}
 
 pub has_texts : (shape : ℕ → Option Shape) (accepted : Record → Bool) (text : Record → List ℕ) (b : ListView) (ps : List Piece) → HasListed shape accepted text b ps
     → HasTexts accepted text b.texts 0 (reverse (records ps))

@@ -1,11 +1,9 @@
 -- Serves proofs. A text that is read has one list of records before it: the ghost field of `Records` has one value at most.
-use Rattle.std.specs.Prelude.{ℕ, Bool, List, Option, refl}
 use Rattle.std.specs.Coded.{Coded, Coded-set, code_by, coded×, coded_ℕ, coded_list, ×_prop, Π_prop}
+use Rattle.std.specs.Prelude.{ℕ, Bool, List, Option, refl}
 use Rattle.std.proofs.Math.Logic.{∥∥₁_elim, ∥∥₁_prop}
 use mathlib.Core.HLevel.{Σ_prop_path}
-use Rattle.dspec_buffer.specs.Words.Outside.{Record}
-use Rattle.dspec_record.specs.declared.field.Shape.{Shape}
-use Rattle.dspec_buffer.specs.Remaining.{IsOneText, Remaining}
+use Rattle.dspec_buffer.specs.{Remaining.IsOneText, Remaining.Remaining, Words.Outside.Record, Words.Outside.Shape}
 
 abbrev pub record_code : Coded Record
 record_code =

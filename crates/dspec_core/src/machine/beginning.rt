@@ -1,9 +1,6 @@
 ghost use Rattle.std.specs.Prelude.{◌≡◌, ◌<◌, true, None};
-ghost use Rattle.dspec_interleaving.specs.Calls.{record_passes, is_about};
-ghost use Rattle.dspec_interleaving.specs.Coherent.{progress_of};
-ghost use Rattle.dspec_core.specs.Machines.{state_of};
-ghost use Rattle.dspec_interleaving.specs.Turns.{begin_cpu, begin_consumer};
-ghost use Rattle.dspec_core.specs.Worlds.{WorldInvariant};
+ghost use Rattle.dspec_interleaving.specs.{Calls.record_passes, Calls.is_about, Coherent.progress_of, Turns.begin_cpu, Turns.begin_consumer};
+ghost use Rattle.dspec_core.specs.{Machines.state_of, Worlds.WorldInvariant};
 
 use crate::machine::Machine;
 use dspec_buffer::TraceBuffer;

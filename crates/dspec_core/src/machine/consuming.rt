@@ -2,14 +2,9 @@ ghost use Rattle.std.specs.Prelude.{◌≡◌, ◌<◌, ◌≤◌, ◌+◌, ◌^
 ghost use Rattle.dspec_deeds.specs.declared.calls.ConsumerOp.TheVariants as consumer_op;
 ghost use Rattle.dspec_interleaving.specs.declared.flight.ConsumerFlight.TheVariants as flight;
 ghost use Rattle.dspec_interleaving.specs.declared.flight.Spare.TheVariants as spare;
-ghost use Rattle.dspec_interleaving.specs.Coherent.{IsSlot, progress_of};
-ghost use Rattle.dspec_deeds.specs.Legal.{IsAllowed};
-ghost use Rattle.dspec_core.specs.Machines.{ConsumerMakes, IsShownMachine, history, state_of};
-ghost use Rattle.dspec_core.specs.Standing.{ConsumerStandsAt};
-ghost use Rattle.dspec_core.specs.Steps.{ConsumerStepsAs, takes_batch};
-ghost use Rattle.dspec_deeds.specs.Own.{seals};
-ghost use Rattle.dspec_interleaving.specs.Play.{keeps_on, loads_slot, next_slot, stops};
-ghost use Rattle.dspec_deeds.specs.Ranges.{start_fault};
+ghost use Rattle.dspec_interleaving.specs.{Coherent.IsSlot, Coherent.progress_of, Play.keeps_on, Play.loads_slot, Play.next_slot, Play.stops};
+ghost use Rattle.dspec_deeds.specs.{Legal.IsAllowed, Own.seals, Ranges.start_fault};
+ghost use Rattle.dspec_core.specs.{Machines.ConsumerMakes, Machines.IsShownMachine, Machines.history, Machines.state_of, Standing.ConsumerStandsAt, Steps.ConsumerStepsAs, Steps.takes_batch};
 
 use crate::machine::Machine;
 use crate::machine::walking::append_records;

@@ -1,8 +1,6 @@
 //! What each deed makes of a machine. Room is taken first, so that a refused growth changes nothing.
 ghost use Rattle.std.specs.Prelude.{◌≡◌, ◌<◌, OnOk, OnErr};
-ghost use Rattle.dspec_core.specs.Machines.{Adds, IsShownMachine};
-ghost use Rattle.dspec_core.specs.Table.{entry_deeds};
-ghost use Rattle.dspec_core.specs.Worlds.{MayCome};
+ghost use Rattle.dspec_core.specs.{Machines.Adds, Machines.IsShownMachine, Table.entry_deeds, Worlds.MayCome};
 
 mod deciding;
 mod scanning;

@@ -1,8 +1,7 @@
 ghost use Rattle.std.specs.Prelude.{◌≡◌, ◌<◌, IfOk, OnOk, reverse};
 ghost use Rattle.dspec_deeds.specs.Closes.{reports, streams, closed_slot, closed_slots, closing};
 ghost use Rattle.dspec_interleaving.specs.Coherent.{IsSlot, progress_of};
-ghost use Rattle.dspec_core.specs.Closings.{IsClosable, ClosesTo};
-ghost use Rattle.dspec_core.specs.Machines.{history, state_of};
+ghost use Rattle.dspec_core.specs.{Closings.IsClosable, Closings.ClosesTo, Machines.history, Machines.state_of};
 
 use crate::machine::Machine;
 use dspec_buffer::TraceBuffer;

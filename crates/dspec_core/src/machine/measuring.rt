@@ -1,12 +1,7 @@
 ghost use Rattle.std.specs.Prelude.{◌≡◌, ◌<◌, None, Some, true};
-ghost use Rattle.dspec_deeds.specs.History.{in_range, present};
-ghost use Rattle.dspec_deeds.specs.Legal.{IsSound};
-ghost use Rattle.dspec_deeds.specs.Ranges.{start_fault};
-ghost use Rattle.dspec_interleaving.specs.Calls.{op_of, record_passes};
-ghost use Rattle.dspec_interleaving.specs.Coherent.{IsSlot, progress_of};
-ghost use Rattle.dspec_core.specs.Machines.{IsShownMachine, history, state_of};
-ghost use Rattle.dspec_core.specs.Table.{TellsAt, TellsFit, aimed};
-ghost use Rattle.dspec_core.specs.Worlds.{WorldInvariant};
+ghost use Rattle.dspec_deeds.specs.{History.in_range, History.present, Legal.IsSound, Ranges.start_fault};
+ghost use Rattle.dspec_interleaving.specs.{Calls.op_of, Calls.record_passes, Coherent.IsSlot, Coherent.progress_of};
+ghost use Rattle.dspec_core.specs.{Machines.IsShownMachine, Machines.history, Machines.state_of, Table.TellsAt, Table.TellsFit, Table.aimed, Worlds.WorldInvariant};
 
 use crate::machine::Machine;
 use crate::machine::seen::Seen;

@@ -1,9 +1,7 @@
 ghost use Rattle.std.specs.Prelude.{◌≡◌, ◌<◌, None};
 ghost use Rattle.dspec_interleaving.specs.Coherent.{progress_of};
-ghost use Rattle.dspec_deeds.specs.Legal.{IsAllowed};
+ghost use Rattle.dspec_deeds.specs.{Legal.IsAllowed, Ranges.start_fault, Reports.report};
 ghost use Rattle.dspec_core.specs.Machines.{IsShownMachine, history, state_of};
-ghost use Rattle.dspec_deeds.specs.Ranges.{start_fault};
-ghost use Rattle.dspec_deeds.specs.Reports.{report};
 
 use crate::machine::Machine;
 use dspec_buffer::TraceBuffer;

@@ -1,11 +1,8 @@
 ghost use Rattle.std.specs.Prelude.{◌≡◌, ◌<◌, true, slice_get, Some, IsTrue};
 ghost use Rattle.dspec_deeds.specs.declared.calls.Actor.TheVariants as actor;
-ghost use Rattle.dspec_deeds.specs.History.{in_range, issue, part};
-ghost use Rattle.dspec_deeds.specs.Legal.{IsSound, fits_speculative};
-ghost use Rattle.dspec_deeds.specs.Settling.{settle_fate};
+ghost use Rattle.dspec_deeds.specs.{History.in_range, History.issue, History.part, Legal.IsSound, Legal.fits_speculative, Settling.settle_fate};
 ghost use Rattle.dspec_cpu_state.specs.CpuStates.{ShowsList};
-ghost use Rattle.dspec_core.specs.declared.machine.cpu.Cpu.{Cpu};
-ghost use Rattle.dspec_core.specs.Machines.{IsShownMachine, history};
+ghost use Rattle.dspec_core.specs.{Machines.IsShownMachine, Machines.history, declared.machine.cpu.Cpu.Cpu};
 
 use crate::machine::Machine;
 use dspec_buffer::TraceBuffer;

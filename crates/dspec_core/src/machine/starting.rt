@@ -1,10 +1,7 @@
 ghost use Rattle.std.specs.Prelude.{◌≡◌, ◌<◌, ℕ, [], None, IfOk};
-ghost use Rattle.dspec_core.specs.Machines.{state_of};
-ghost use Rattle.dspec_interleaving.specs.Coherent.{idle_progress};
+ghost use Rattle.dspec_core.specs.{Machines.state_of, Shown.ShowsCpu, Worlds.WorldInvariant};
+ghost use Rattle.dspec_interleaving.specs.{Coherent.idle_progress, Turns.at_start};
 ghost use Rattle.dspec_deeds.specs.Ranges.{start_fault};
-ghost use Rattle.dspec_core.specs.Shown.{ShowsCpu};
-ghost use Rattle.dspec_interleaving.specs.Turns.{at_start};
-ghost use Rattle.dspec_core.specs.Worlds.{WorldInvariant};
 
 use crate::machine::Machine;
 use crate::machine::cpu::Cpu;

@@ -1,11 +1,7 @@
 ghost use Rattle.std.specs.Prelude.{◌≡◌, ◌<◌, ◌^◌, Some, IfOk, OnErr};
 ghost use Rattle.dspec_deeds.specs.declared.calls.Actor.TheVariants as actor;
-ghost use Rattle.dspec_interleaving.specs.Coherent.{progress_of};
-ghost use Rattle.dspec_core.specs.Machines.{IsShownMachine, state_of};
-ghost use Rattle.dspec_core.specs.Steps.{ConsumerStepsAs, state_with};
-ghost use Rattle.dspec_core.specs.Table.{moved_by, steps_behind};
-ghost use Rattle.dspec_interleaving.specs.Turns.{step};
-ghost use Rattle.dspec_core.specs.Worlds.{WorldInvariant};
+ghost use Rattle.dspec_interleaving.specs.{Coherent.progress_of, Turns.step};
+ghost use Rattle.dspec_core.specs.{Machines.IsShownMachine, Machines.state_of, Steps.ConsumerStepsAs, Steps.state_with, Table.moved_by, Table.steps_behind, Worlds.WorldInvariant};
 
 use crate::machine::Machine;
 use crate::machine::seen::Move;

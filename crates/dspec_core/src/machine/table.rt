@@ -3,8 +3,7 @@ ghost use Rattle.dspec_deeds.specs.History.{in_range};
 ghost use Rattle.dspec_deeds.specs.declared.calls.CpuOp.TheVariants as cpu_op;
 ghost use Rattle.dspec_interleaving.specs.declared.flight.CallPlace.TheVariants as flight;
 ghost use Rattle.dspec_interleaving.specs.Step.{call_goes_on, committed_by, ends, missed, sealed_by, served, spoken_at, wears};
-ghost use Rattle.dspec_word.specs.Word.{CanBeReleased};
-ghost use Rattle.dspec_word.specs.Tables.{commit_at};
+ghost use Rattle.dspec_word.specs.{Tables.commit_at, Word.CanBeReleased};
 ghost use Rattle.dspec_core.specs.Table.{IsSlotPlace, IsStep, entry_deeds, measured_by, step_of};
 
 use crate::machine::seen::{Entry, Move, Seen};

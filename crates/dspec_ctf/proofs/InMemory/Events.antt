@@ -1,13 +1,10 @@
 -- The names of one event more, behind those of others.
 use Rattle.std.proofs.Common.{◌≡◌, ◌+◌, ◌-◌, ◌<◌, ◌++◌, ◌∷◌, ◌∙◌, ℕ, List, [], length, map, take, drop, get_or, ap, suc, sym, arith, subst}
-use Rattle.std.specs.Prelude.{None, slice_range}
-use Rattle.std.specs.List.{All, flat_map, take-map}
-use Rattle.std.proofs.lemmas.List.{drop-map, flat_map_more, length-drop, length-map, map-append, take_all, take_more}
-use Rattle.std.proofs.Math.ListN.{get_or-map}
-use Rattle.std.proofs.lemmas.List.Elements.{All-drop, All-get_or, All-push}
-use Rattle.std.proofs.Math.Seq.{take-add}
-use Rattle.dspec_probe.specs.declared.probes.ProbeNames.{ProbeNames}
-use Rattle.dspec_ctf.specs.Words.{AreEvents, HasNoEvents, kinds_in, texts_in, TextFault, TooSmall, NotText, BadKind, Count, Metadata}
+use Rattle.std.proofs.Math.{ListN.get_or-map, Seq.take-add}
+use Rattle.std.proofs.lemmas.List.{drop-map, flat_map_more, length-drop, length-map, map-append, take_all, take_more, Elements.All-drop, Elements.All-get_or, Elements.All-push}
+use Rattle.std.specs.{List.All, List.flat_map, List.take-map, Prelude.None, Prelude.slice_range}
+use Rattle.dspec_ctf.specs.Words.{ProbeNames, AreEvents, HasNoEvents, kinds_in, texts_in}
+use Rattle.dspec_ctf.specs.declared.in_memory.fault.TextFault.{TextFault, TheVariants.TooSmall, TheVariants.NotText, TheVariants.BadKind, TheVariants.Count, TheVariants.Metadata}
 
 -- the first of some things, and so many behind it
 pub first_and_some : {X A : Type 0} (f : X → A) (d : X) (n : ℕ) (xs : List X) → n < length xs → f (get_or xs 0 d) ∷ map f (slice_range xs 1 (1 + n)) ≡ take (1 + n) (map f xs)

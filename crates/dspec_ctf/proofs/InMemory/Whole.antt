@@ -1,8 +1,9 @@
 -- All packets of a batch have all its records.
-use Rattle.std.proofs.lemmas.Bool.Decides.{nat_tests}
 use Rattle.std.proofs.Common.{◌≡◌, ◌-◌, ◌<◌, ◌≤◌, ◌==◌, ◌∷◌, ◌∙◌, ℕ, List, [], inl, inr, length, ap, refl, subst, arith}
+use Rattle.std.proofs.lemmas.Bool.Decides.{nat_tests}
 use Rattle.std.specs.Prelude.{None, if◌then◌else◌}
-use Rattle.dspec_ctf.specs.Words.{IsFileRun, Run, CpuFiling, FindsAndHands, HandsMissed, IsAllHanded, IsFoundRun, as_written, HaveAllLeft, PutsPackets, parts_of, Packet}
+use Rattle.dspec_ctf.specs.Words.{IsFileRun, CpuFiling, FindsAndHands, HandsMissed, IsAllHanded, IsFoundRun, as_written, HaveAllLeft, PutsPackets, parts_of}
+use Rattle.dspec_ctf.specs.declared.{in_memory.packet.Packet.Packet, rows.Run.Run}
 
 -- a packet without records is none of the parts
 none_of : (p : Packet) (ps : List Packet) → p.records ≡ 0 → parts_of (p ∷ ps) ≡ parts_of ps

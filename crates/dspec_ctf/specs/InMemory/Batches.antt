@@ -1,10 +1,6 @@
 -- Cited by calls. All packets of a batch.
 use Rattle.std.specs.Prelude.{◌≡◌, ◌-◌, ◌==◌, ℕ, List, [], ◌∷◌, length, Some, if◌then◌else◌}
-use Rattle.dspec_ctf.specs.Rows.{AreRuns}
-use Rattle.dspec_ctf.specs.declared.rows.Run.{Run}
-use Rattle.dspec_ctf.specs.InMemory.Filing.{CpuFiling}
-use Rattle.dspec_ctf.specs.InMemory.Calls.{Hands}
-use Rattle.dspec_ctf.specs.declared.in_memory.packet.Packet.{Packet}
+use Rattle.dspec_ctf.specs.{InMemory.Calls.Hands, InMemory.Filing.CpuFiling, Rows.AreRuns, declared.in_memory.packet.Packet.Packet, declared.rows.Run.Run}
 
 -- calls of `put` one after another, of which each hands out a packet
 abbrev pub PutsPackets : CpuFiling → List Packet → CpuFiling → Type 0

@@ -1,16 +1,10 @@
 -- Cited by calls. What each call makes of a CPU's files.
 use Rattle.std.specs.Prelude.{◌≡◌, ◌≢◌, ℕ, ◌+◌, ◌-◌, ◌^◌, ◌<◌, ◌≤◌, ◌++◌, ◌⊎◌, List, length, drop, slice_range, Option, Some, None}
-use Rattle.dspec_ctf.specs.Words.Outside.{Record}
-use Rattle.dspec_ctf.specs.Packets.{events}
-use Rattle.dspec_ctf.specs.Streams.{HasNoRecords, IsText, IsTooLong}
-use Rattle.dspec_ctf.specs.Rows.{HasNoRoomFor, HasNoRun, IsFileRun, most_records, missed_packets, run_packet}
-use Rattle.dspec_ctf.specs.declared.rows.Run.{Run}
-use Rattle.dspec_ctf.specs.declared.stream.PacketFault.{PacketFault}
-use Rattle.dspec_ctf.specs.declared.stream.PacketFault.TheVariants.{Text, Missed, TooLong, Clock, Memory}
-use Rattle.dspec_ctf.specs.InMemory.Filing.{CpuFiling, IsRunWithin, as_counted, left, unwritten}
-use Rattle.dspec_ctf.specs.declared.in_memory.packet.Packet.{Packet}
-use Rattle.dspec_ctf.specs.declared.in_memory.fault.PutFault.{PutFault}
-use Rattle.dspec_ctf.specs.declared.in_memory.putting.NextPart.{NextPart}
+use Rattle.dspec_ctf.specs.{InMemory.Filing.CpuFiling, InMemory.Filing.IsRunWithin, InMemory.Filing.as_counted, InMemory.Filing.left, InMemory.Filing.unwritten, Packets.events, Rows.HasNoRoomFor}
+use Rattle.dspec_ctf.specs.{Rows.HasNoRun, Rows.IsFileRun, Rows.most_records, Rows.missed_packets, Rows.run_packet, Streams.HasNoRecords, Streams.IsText, Streams.IsTooLong, Words.Outside.Record}
+use Rattle.dspec_ctf.specs.{declared.in_memory.fault.PutFault.PutFault, declared.in_memory.packet.Packet.Packet, declared.in_memory.putting.NextPart.NextPart, declared.rows.Run.Run}
+use Rattle.dspec_ctf.specs.{declared.stream.PacketFault.PacketFault, declared.stream.PacketFault.TheVariants.Text, declared.stream.PacketFault.TheVariants.Missed}
+use Rattle.dspec_ctf.specs.{declared.stream.PacketFault.TheVariants.TooLong, declared.stream.PacketFault.TheVariants.Clock, declared.stream.PacketFault.TheVariants.Memory}
 use Rattle.dspec_ctf.specs.declared.in_memory.putting.NextPart.TheVariants as next
 use Rattle.dspec_ctf.specs.declared.in_memory.fault.PutFault.TheVariants as put
 

@@ -1,9 +1,7 @@
 -- Cited by calls. The files of one CPU in a trace by time whose packets somebody else writes: what is known of them.
 use Rattle.std.specs.Prelude.{ℕ, ◌≡◌, ◌-◌, ◌^◌, ◌<◌, ◌≤◌, min, All, IfSome, List, [], length, Option, None}
-use Rattle.dspec_ctf.specs.Words.Outside.{Record, EnabledRows}
+use Rattle.dspec_ctf.specs.{Streams.Accepts, Words.Outside.Record, Words.Outside.EnabledRows, declared.rows.Run.Run}
 use Rattle.dspec_record.specs.declared.header.Header.TheVariants.{Two}
-use Rattle.dspec_ctf.specs.Streams.{Accepts}
-use Rattle.dspec_ctf.specs.declared.rows.Run.{Run}
 
 -- Each packet that is handed out counts as written once the next `put` or `open` is made.
 pub record CpuFiling : Type 0 where

@@ -1,24 +1,13 @@
 -- Cited by calls. The metadata of a trace by what a caller says of it in plain bytes and numbers.
-use Rattle.std.specs.Prelude.{◌≡◌, ◌+◌, ◌<◌, ◌⊎◌, ℕ, All, Bool, true, false, List, [], ◌∷◌, length, map, take, Option, Some, None}
-use Rattle.std.specs.List.{flat_map}
-use Rattle.std.specs.Str.{IsUtf8}
-use Rattle.dspec_ctf.specs.Words.Outside.{EnabledRows, next_words}
-use Rattle.dspec_probe.specs.declared.kind.Kind.{Kind}
-use Rattle.dspec_probe.specs.declared.kind.Kind.TheVariants.{Unsigned, Signed, Float, Text, TextNext}
-use Rattle.dspec_probe.specs.declared.probes.ProbeNames.{ProbeNames}
-use Rattle.dspec_ctf.specs.Metadata.{origin_text}
-use Rattle.dspec_ctf.specs.Names.{origin_fault}
-use Rattle.dspec_ctf.specs.declared.fault.MetadataFault.{MetadataFault}
+use Rattle.std.specs.{List.flat_map, Prelude.◌≡◌, Prelude.◌+◌, Prelude.◌<◌, Prelude.◌⊎◌, Prelude.ℕ, Prelude.All, Prelude.Bool, Prelude.true, Prelude.false, Prelude.List, Prelude.[], Prelude.◌∷◌}
+use Rattle.std.specs.{Prelude.length, Prelude.map, Prelude.take, Prelude.Option, Prelude.Some, Prelude.None, Str.IsUtf8}
+use Rattle.dspec_ctf.specs.{InMemory.Calls.Fills, Metadata.origin_text, Names.origin_fault, Words.Outside.EnabledRows, Words.Outside.next_words, Words.Outside.Kind, Words.Outside.Unsigned}
+use Rattle.dspec_ctf.specs.{Words.Outside.Signed, Words.Outside.Float, Words.Outside.Text, Words.Outside.TextNext, Words.Outside.ProbeNames, declared.fault.MetadataFault.MetadataFault}
+use Rattle.dspec_ctf.specs.{declared.form.Form.TheVariants.ByTime, declared.in_memory.fault.TextFault.TextFault, declared.in_memory.fault.TextFault.TheVariants.TooSmall}
+use Rattle.dspec_ctf.specs.{declared.in_memory.fault.TextFault.TheVariants.NotText, declared.in_memory.fault.TextFault.TheVariants.BadKind, declared.in_memory.fault.TextFault.TheVariants.Count}
+use Rattle.dspec_ctf.specs.{declared.in_memory.fault.TextFault.TheVariants.Metadata, declared.in_memory.identity.TraceIdentity.TraceIdentity, declared.names.Names.Names}
+use Rattle.dspec_ctf.specs.{declared.names.Names.TheVariants.Numbered, declared.names.Names.TheVariants.Given, declared.origin.Origin.Origin, declared.origin.Process.Process}
 use Rattle.dspec_ctf.specs.declared.fault.MetadataFault.TheVariants as metadata
-use Rattle.dspec_ctf.specs.declared.form.Form.TheVariants.{ByTime}
-use Rattle.dspec_ctf.specs.declared.names.Names.{Names}
-use Rattle.dspec_ctf.specs.declared.names.Names.TheVariants.{Numbered, Given}
-use Rattle.dspec_ctf.specs.declared.origin.Process.{Process}
-use Rattle.dspec_ctf.specs.declared.origin.Origin.{Origin}
-use Rattle.dspec_ctf.specs.InMemory.Calls.{Fills}
-use Rattle.dspec_ctf.specs.declared.in_memory.identity.TraceIdentity.{TraceIdentity}
-use Rattle.dspec_ctf.specs.declared.in_memory.fault.TextFault.{TextFault}
-use Rattle.dspec_ctf.specs.declared.in_memory.fault.TextFault.TheVariants.{TooSmall, NotText, BadKind, Count, Metadata}
 
 -- what numbers of a kind are called at the door
 abbrev pub kind_number : Kind → ℕ

@@ -2,8 +2,7 @@
 
 ghost use Rattle.std.specs.Prelude.{◌≡◌, IfOk, IfErr, IfSome, OnOk, OnErr, None};
 ghost use Rattle.dspec_record.specs.declared.header.Header.TheVariants.{One, Two};
-ghost use Rattle.dspec_ctf.specs.InMemory.Filing.{no_packets, unwritten};
-ghost use Rattle.dspec_ctf.specs.InMemory.Calls.{HasAsMuchRoom, HasNoBatch, OpensBatch, Reserves, with_more_missed, without_rest};
+ghost use Rattle.dspec_ctf.specs.InMemory.{Calls.HasAsMuchRoom, Calls.HasNoBatch, Calls.OpensBatch, Calls.Reserves, Calls.with_more_missed, Calls.without_rest, Filing.no_packets, Filing.unwritten};
 
 use super::scratch::Scratch;
 use crate::rows::{most_records, read_again, reserve_in};

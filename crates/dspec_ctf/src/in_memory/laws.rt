@@ -1,10 +1,7 @@
 //! What follows from the definitions, as a clause of a function that has nothing to do.
 
 ghost use Rattle.std.specs.Prelude.{◌≡◌, ◌≤◌, List, None, length};
-ghost use Rattle.dspec_ctf.specs.InMemory.Filing.{CpuFiling};
-ghost use Rattle.dspec_ctf.specs.InMemory.Calls.{IsAllHanded};
-ghost use Rattle.dspec_ctf.specs.InMemory.Batches.{HaveAllLeft, PutsPackets};
-ghost use Rattle.dspec_ctf.specs.declared.in_memory.packet.Packet.{Packet};
+ghost use Rattle.dspec_ctf.specs.{InMemory.Batches.HaveAllLeft, InMemory.Batches.PutsPackets, InMemory.Calls.IsAllHanded, InMemory.Filing.CpuFiling, declared.in_memory.packet.Packet.Packet};
 
 /// From the opening of a batch on, the packets that are handed out until there is none have all its records, in their order, each in one
 /// packet: they are those of runs one behind another. (That runs have all records once is the law `runs_have_all`.)

@@ -1,11 +1,9 @@
 //! The next packet.
 
 ghost use Rattle.std.specs.Prelude.{◌≡◌, IfOk, IfErr, OnOk, OnErr, slice_range};
-ghost use Rattle.dspec_ctf.specs.Packets.{events};
-ghost use Rattle.dspec_ctf.specs.Streams.{IsTooLong};
-ghost use Rattle.dspec_ctf.specs.Rows.{HasNoRun};
-ghost use Rattle.dspec_ctf.specs.InMemory.Filing.{IsRunWithin};
-ghost use Rattle.dspec_ctf.specs.InMemory.Calls.{Hands, HandsMissed, HandsNone, HandsRun, HasNoMissed, HasNoRunPacket, FindsNext, missed_bytes, run_bytes, as_written};
+ghost use Rattle.dspec_ctf.specs.{InMemory.Calls.Hands, InMemory.Calls.HandsMissed, InMemory.Calls.HandsNone, InMemory.Calls.HandsRun, InMemory.Calls.HasNoMissed, InMemory.Calls.HasNoRunPacket};
+ghost use Rattle.dspec_ctf.specs.{InMemory.Calls.FindsNext, InMemory.Calls.missed_bytes, InMemory.Calls.run_bytes, InMemory.Calls.as_written, InMemory.Filing.IsRunWithin, Packets.events};
+ghost use Rattle.dspec_ctf.specs.{Rows.HasNoRun, Streams.IsTooLong};
 
 use super::room::fill;
 use crate::{CpuPackets, Packet, PacketFault, PutFault, Run, Stream};

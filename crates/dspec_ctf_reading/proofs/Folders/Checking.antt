@@ -1,10 +1,9 @@
 -- A file that is sound is one packet that is, and then the others.
-use Rattle.std.proofs.lemmas.Bool.Decides.{nat_tests}
 use Rattle.std.proofs.Common.{◌≡◌, ◌≤◌, ◌<◌, ◌++◌, ℕ, List, [], ◌∷◌, length, map, Option, Some, None, option_map, refl, ap, sym, subst, ◌∙◌, arith}
-use Rattle.std.specs.Prelude.{All, option_and_then, unwrap_or}
-use Rattle.std.specs.List.{flat_map}
-use Rattle.std.proofs.lemmas.List.Elements.{All-head, All-tail, All-nil}
-use Rattle.dspec_ctf_reading.specs.Words.{Layout, PacketRead, PartRead, read_packet, read_file, Event, as_read, ReadPacket, RisesFrom, last_of, stamps_of, times_of, packet_as_read, IsSoundFrom}
+use Rattle.std.proofs.lemmas.{Bool.Decides.nat_tests, List.Elements.All-head, List.Elements.All-tail, List.Elements.All-nil}
+use Rattle.std.specs.{List.flat_map, Prelude.All, Prelude.option_and_then, Prelude.unwrap_or}
+use Rattle.dspec_ctf_reading.specs.Words.{Layout, PacketRead, PartRead, read_packet, read_file, as_read, RisesFrom, last_of, stamps_of, times_of, packet_as_read, IsSoundFrom}
+use Rattle.dspec_ctf_reading.specs.declared.{events.Event.Event, folder.packet.ReadPacket.ReadPacket}
 use Rattle.dspec_ctf_reading.proofs.Bounds.{packets-on-bytes}
 
 -- a list that rises, in two parts

@@ -1,14 +1,12 @@
 -- What is counted of packets, one behind another.
-use Rattle.std.proofs.lemmas.Bool.Decides.{nat_tests}
-use Rattle.std.proofs.Common.{◌≡◌, ◌<◌, ◌+◌, ◌^◌, ◌==◌, ◌++◌, ℕ, cond, List, [], ◌∷◌, length, map, take, get_or, Option, Some, None, option_map, refl, ap, sym, ◌∙◌, arith, All}
-use Rattle.std.proofs.Common.{append_assoc, length-append}
+use Rattle.std.proofs.Common.{◌≡◌, ◌<◌, ◌+◌, ◌^◌, ◌==◌, ◌++◌, ℕ, cond, List, [], ◌∷◌, length, map, take, get_or, Option, Some, None, option_map, refl, ap, sym, ◌∙◌, arith, All, append_assoc}
+use Rattle.std.proofs.Common.{length-append}
+use Rattle.std.proofs.lemmas.{Bool.Decides.nat_tests, Grind.flat_map-append, List.append-nil, List.take_more, List.Elements.All-head, List.Elements.All-tail, List.Elements.filter_map-append}
+use Rattle.std.proofs.lemmas.{List.Sums.fold-append, List.Sums.sum_by-append, List.Sums.sum_by-cons}
 use Rattle.std.specs.List.{cons_option, count_by, filter_map}
-use Rattle.std.proofs.lemmas.Grind.{flat_map-append}
-use Rattle.std.proofs.lemmas.List.{append-nil, take_more}
-use Rattle.std.proofs.lemmas.List.Sums.{fold-append, sum_by-append, sum_by-cons}
-use Rattle.std.proofs.lemmas.List.Elements.{All-head, All-tail, filter_map-append}
-use Rattle.dspec_ctf_reading.specs.Words.{Layout, EventRead, PacketRead, read_packet, read_file, events_of, loss_of, Fits, as_read, first_place, Event, ReadPacket, CpuCounts, packet_as_read}
-use Rattle.dspec_ctf_reading.specs.Words.{CountsPacket, CountsPackets, BeginsFile, span_from, up_to_64}
+use Rattle.dspec_ctf_reading.specs.Words.{Layout, EventRead, PacketRead, read_packet, read_file, events_of, loss_of, Fits, as_read, first_place, packet_as_read, CountsPacket, CountsPackets}
+use Rattle.dspec_ctf_reading.specs.Words.{BeginsFile, span_from, up_to_64}
+use Rattle.dspec_ctf_reading.specs.declared.{events.Event.Event, folder.counts.CpuCounts.CpuCounts, folder.packet.ReadPacket.ReadPacket}
 use Rattle.dspec_ctf_reading.proofs.Bounds.{packets-on-bytes}
 
 -- events in memory have the stamps that are read, and stand at the places of the texts that their numbers have

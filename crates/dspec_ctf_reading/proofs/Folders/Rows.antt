@@ -1,8 +1,8 @@
 -- The parts of a row tell each of its records once.
-use Rattle.std.proofs.lemmas.Bool.Decides.{nat_tests}
 use Rattle.std.proofs.Common.{◌≡◌, ◌==◌, ◌+◌, ◌++◌, ◌∙◌, ℕ, suc, Bool, true, false, if◌then◌else◌, List, [], ◌∷◌, length, refl, sym, ap, arith}
-use Rattle.std.proofs.lemmas.List.{append-nil}
-use Rattle.dspec_ctf_reading.specs.Words.{RowPart, Mark, Slice, row_parts, records_told}
+use Rattle.std.proofs.lemmas.{Bool.Decides.nat_tests, List.append-nil}
+use Rattle.dspec_ctf_reading.specs.Words.{row_parts, records_told}
+use Rattle.dspec_ctf_reading.specs.declared.folder.track.RowPart.{RowPart, TheVariants.Mark, TheVariants.Slice}
 
 by_kind : (q : Bool) (b : ℕ) (rest : List ℕ) → records_told (row_parts rest) ≡ length rest → records_told (row_parts (b ∷ rest)) ≡ suc (length rest)
     → records_told (if q then Slice ∷ row_parts rest else Mark ∷ row_parts (b ∷ rest)) ≡ suc (suc (length rest))

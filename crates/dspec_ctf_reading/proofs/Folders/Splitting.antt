@@ -1,11 +1,9 @@
 -- A packet that is split off leaves fewer bytes, those from its end on.
-use Rattle.std.proofs.lemmas.Bool.Decides.{nat_tests}
 use Rattle.std.proofs.Common.{◌≡◌, ◌≤◌, ◌<◌, ◌+◌, ◌-◌, ◌++◌, ℕ, Bool, List, [], ◌∷◌, length, drop, Some, None, refl, ap, sym, ◌∙◌, arith, length-drop}
+use Rattle.std.proofs.lemmas.{Bool.Decides.nat_tests, List.drop-drop}
 use Rattle.std.specs.Prelude.{option_and_then}
-use Rattle.std.proofs.lemmas.List.{drop-drop}
 use Rattle.dspec_ctf_reading.specs.Words.{FrontRead, PartRead, read_front, PacketSplit, split_behind, split_packet, SplitsInto, AreWholeBefore}
-use Rattle.dspec_ctf_reading.proofs.Agreeing.{Agrees, agrees}
-use Rattle.dspec_ctf_reading.proofs.Bounds.{Leaves, front-leaves}
+use Rattle.dspec_ctf_reading.proofs.{Agreeing.Agrees, Agreeing.agrees, Bounds.Leaves, Bounds.front-leaves}
 
 -- what a packet leaves
 pub record Left (bytes behind : List ℕ) : Type 0 where

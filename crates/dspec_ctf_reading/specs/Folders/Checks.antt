@@ -1,14 +1,8 @@
 -- Cited by calls. When nothing is wrong with a file of a trace.
-use Rattle.std.specs.Prelude.{◌≡◌, ◌≤◌, ℕ, Bool, true, List, [], ◌∷◌, ◌++◌, map, All, Some, unwrap_or}
-use Rattle.std.specs.Option.{option_map_or}
-use Rattle.std.specs.List.{flat_map}
-use Rattle.dspec_ctf_reading.specs.Reading.{Layout, PacketRead, read_file}
-use Rattle.dspec_ctf_reading.specs.Told.{as_read}
-use Rattle.dspec_ctf_reading.specs.Faults.{is_event_fault}
-use Rattle.dspec_ctf_reading.specs.declared.events.Event.{Event}
-use Rattle.dspec_ctf_reading.specs.Fronts.{front_of}
-use Rattle.dspec_ctf_reading.specs.declared.folder.packet.ReadPacket.{ReadPacket}
-use Rattle.dspec_ctf_reading.specs.declared.folder.fault.Wrong.{Wrong}
+use Rattle.std.specs.{List.flat_map, Option.option_map_or, Prelude.◌≡◌, Prelude.◌≤◌, Prelude.ℕ, Prelude.Bool, Prelude.true, Prelude.List, Prelude.[], Prelude.◌∷◌, Prelude.◌++◌, Prelude.map}
+use Rattle.std.specs.{Prelude.All, Prelude.Some, Prelude.unwrap_or}
+use Rattle.dspec_ctf_reading.specs.{Faults.is_event_fault, Fronts.front_of, Reading.Layout, Reading.PacketRead, Reading.read_file, Told.as_read, declared.events.Event.Event}
+use Rattle.dspec_ctf_reading.specs.{declared.folder.fault.Wrong.Wrong, declared.folder.packet.ReadPacket.ReadPacket}
 use Rattle.dspec_ctf_reading.specs.declared.folder.fault.Wrong.TheVariants as wrong
 
 -- from this number on, none of the list is below the one before it

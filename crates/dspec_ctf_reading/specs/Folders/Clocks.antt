@@ -1,7 +1,6 @@
 -- Cited by calls. The times of stamps.
 use Rattle.std.specs.Prelude.{ℕ, ◌+◌, ◌*◌, ◌/◌, ◌==◌, unwrap_or, Option, Some, None, if◌then◌else◌}
-use Rattle.dspec_ctf_reading.specs.declared.told.ClockText.{ClockText}
-use Rattle.dspec_ctf_reading.specs.declared.folder.clock.Base.{Base}
+use Rattle.dspec_ctf_reading.specs.declared.{folder.clock.Base.Base, told.ClockText.ClockText}
 use Rattle.dspec_ctf_reading.specs.declared.folder.clock.Base.TheVariants as base
 
 -- where times are counted from: whole seconds from the beginning of 1970 on, and ticks behind them

@@ -1,10 +1,8 @@
 -- Cited by calls. What files add to the counts of their CPU.
-use Rattle.std.specs.Prelude.{◌≡◌, ℕ, ◌+◌, ◌-◌, ◌^◌, ◌==◌, min, max, Option, Some, None, List, [], ◌∷◌, length, slice_index}
 use Rattle.std.specs.List.{count_by, filter_map, fold}
-use Rattle.dspec_ctf_reading.specs.Reading.{Layout, PacketRead, events_of, loss_of}
-use Rattle.dspec_ctf_reading.specs.Told.{first_place}
-use Rattle.dspec_ctf_reading.specs.declared.folder.counts.CpuCounts.{CpuCounts}
-use Rattle.dspec_ctf_reading.specs.declared.folder.packet.ReadPacket.{ReadPacket}
+use Rattle.std.specs.Prelude.{◌≡◌, ℕ, ◌+◌, ◌-◌, ◌^◌, ◌==◌, min, max, Option, Some, None, List, [], ◌∷◌, length, slice_index}
+use Rattle.dspec_ctf_reading.specs.{Reading.Layout, Reading.PacketRead, Reading.events_of, Reading.loss_of, Told.first_place, declared.folder.counts.CpuCounts.CpuCounts}
+use Rattle.dspec_ctf_reading.specs.{declared.folder.packet.ReadPacket.ReadPacket}
 
 -- a sum that stops where 64 bits do
 abbrev pub up_to_64 : ℕ → ℕ

@@ -1,7 +1,5 @@
 -- Cited by calls. What happened, in order of time.
-use Rattle.std.specs.Prelude.{List}
-use Rattle.std.specs.List.Sorted.{IsPermutation, IsNonDecreasingBy, IsStableByKey}
-use Rattle.std.specs.Ordering.{nat_cmp}
+use Rattle.std.specs.{List.Sorted.IsPermutation, List.Sorted.IsNonDecreasingBy, List.Sorted.IsStableByKey, Ordering.nat_cmp, Prelude.List}
 use Rattle.dspec_ctf_reading.specs.declared.folder.mark.Mark.{Mark}
 
 -- the same marks in the order of their times; those of one time in the order that they had

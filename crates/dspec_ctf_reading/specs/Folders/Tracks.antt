@@ -1,7 +1,6 @@
 -- Cited by calls. What is drawn of the records of a row.
 use Rattle.std.specs.Prelude.{ℕ, ◌+◌, ◌==◌, List, [], ◌∷◌, if◌then◌else◌}
-use Rattle.dspec_ctf_reading.specs.declared.folder.track.RowPart.{RowPart}
-use Rattle.dspec_ctf_reading.specs.declared.folder.track.RowPart.TheVariants.{Mark, Slice}
+use Rattle.dspec_ctf_reading.specs.declared.folder.track.RowPart.{RowPart, TheVariants.Mark, TheVariants.Slice}
 
 -- By the kinds of the records' events, in order: two of one kind, one behind the other, are a slice; every other one is a mark.
 abbrev pub row_parts : List ℕ → List RowPart

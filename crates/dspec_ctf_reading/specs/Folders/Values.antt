@@ -1,14 +1,8 @@
 -- Cited by calls. What the numbers of fields stand for.
-use Rattle.std.specs.Prelude.{ℕ, ◌^◌, ℤ, Option, Some, None}
-use Rattle.std.specs.Option.{option_map}
-use Rattle.std.specs.Int.{w8, w16, w32, w64}
-use Rattle.std.specs.Float.Ieee.{binary32, binary64}
-use Rattle.dspec_record.specs.declared.field.Field.{Field}
-use Rattle.dspec_record.specs.declared.field.Field.TheVariants.{One, Two, Four, Eight}
-use Rattle.dspec_probe.specs.declared.kind.Kind.{Kind}
-use Rattle.dspec_probe.specs.declared.kind.Kind.TheVariants as kind
-use Rattle.dspec_ctf_reading.specs.Words.Outside.{signed, float}
+use Rattle.std.specs.{Float.Ieee.binary32, Float.Ieee.binary64, Int.w8, Int.w16, Int.w32, Int.w64, Option.option_map, Prelude.ℕ, Prelude.◌^◌, Prelude.ℤ, Prelude.Option, Prelude.Some, Prelude.None}
+use Rattle.dspec_ctf_reading.specs.Words.Outside.{Field, One, Two, Four, Eight, Kind, signed, float}
 use Rattle.dspec_ctf_reading.specs.declared.folder.value.ShownValue.{ShownValue}
+use Rattle.dspec_probe.specs.declared.kind.Kind.TheVariants as kind
 use Rattle.dspec_ctf_reading.specs.declared.folder.value.ShownValue.TheVariants as shown
 
 -- a number in two's complement, by the bytes of its field

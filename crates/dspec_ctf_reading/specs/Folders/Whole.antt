@@ -1,9 +1,7 @@
 -- Cited by calls. Bytes that are whole packets, one behind another.
 use Rattle.std.specs.Prelude.{◌≡◌, ◌<◌, ℕ, Bool, List, [], ◌∷◌, length, take, drop, Some, None}
-use Rattle.dspec_ctf_reading.specs.Fronts.{PacketSplit, split_packet}
-use Rattle.dspec_ctf_reading.specs.Packets.{PacketDue}
-use Rattle.dspec_ctf_reading.specs.declared.folder.whole.Ending.{Ending}
-use Rattle.dspec_ctf_reading.specs.declared.folder.whole.Ending.TheVariants.{Whole, Cut, Broken}
+use Rattle.dspec_ctf_reading.specs.{Fronts.PacketSplit, Fronts.split_packet, Packets.PacketDue, declared.folder.whole.Ending.Ending, declared.folder.whole.Ending.TheVariants.Whole}
+use Rattle.dspec_ctf_reading.specs.{declared.folder.whole.Ending.TheVariants.Cut, declared.folder.whole.Ending.TheVariants.Broken}
 
 -- the bytes are these packets, one behind another, and then the rest
 abbrev pub SplitsInto : Bool → List ℕ → List PacketSplit → List ℕ → Type 0

@@ -1,9 +1,8 @@
 //! What is wrong with a file of a trace, if anything.
 
 ghost use Rattle.std.specs.Prelude.{◌≡◌, IfErr, IfOk, IsTrue, OnErr, OnOk, true};
-ghost use Rattle.dspec_ctf_reading.specs.Fronts.{front_of};
-ghost use Rattle.dspec_ctf_reading.specs.Told.{told_layout};
-ghost use Rattle.dspec_ctf_reading.specs.Folders.Checks.{IsSoundFrom, RisesFrom, RisesTo, is_of_bytes, packet_as_read, stamps_of, times_of};
+ghost use Rattle.dspec_ctf_reading.specs.{Folders.Checks.IsSoundFrom, Folders.Checks.RisesFrom, Folders.Checks.RisesTo, Folders.Checks.is_of_bytes, Folders.Checks.packet_as_read};
+ghost use Rattle.dspec_ctf_reading.specs.{Folders.Checks.stamps_of, Folders.Checks.times_of, Fronts.front_of, Told.told_layout};
 
 use super::fault::{FileFault, Wrong};
 use super::packet::{ReadPacket, read_packet};

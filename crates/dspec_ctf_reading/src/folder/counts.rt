@@ -1,10 +1,9 @@
 //! How many events there are.
 
-ghost use Rattle.std.specs.Prelude.{◌≡◌, ◌+◌, ◌==◌, ℕ, [], IsTrue, IsSomeAnd, OnOk, length, slice_index};
 ghost use Rattle.std.specs.List.{cons_option, count_by, filter_map, sum};
-ghost use Rattle.dspec_ctf_reading.specs.Reading.{read_file};
-ghost use Rattle.dspec_ctf_reading.specs.Told.{told_layout};
-ghost use Rattle.dspec_ctf_reading.specs.Folders.Counts.{CountsPacket, CountsPackets, BeginsFile, span_from, up_to_64};
+ghost use Rattle.std.specs.Prelude.{◌≡◌, ◌+◌, ◌==◌, ℕ, [], IsTrue, IsSomeAnd, OnOk, length, slice_index};
+ghost use Rattle.dspec_ctf_reading.specs.{Folders.Counts.CountsPacket, Folders.Counts.CountsPackets, Folders.Counts.BeginsFile, Folders.Counts.span_from, Folders.Counts.up_to_64, Reading.read_file};
+ghost use Rattle.dspec_ctf_reading.specs.{Told.told_layout};
 
 use super::fault::{FileFault, Wrong};
 use super::packet::{ReadPacket, read_packet};

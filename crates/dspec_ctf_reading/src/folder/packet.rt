@@ -1,9 +1,7 @@
 //! A file, packet by packet.
 
 ghost use Rattle.std.specs.Prelude.{◌≡◌, ◌<◌, All, IfErr, IfOk, IsTrue, None, Some, length};
-ghost use Rattle.dspec_ctf_reading.specs.Reading.{read_packet as packet_from};
-ghost use Rattle.dspec_ctf_reading.specs.Told.{Fits, told_layout};
-ghost use Rattle.dspec_ctf_reading.specs.Folders.Checks.{is_of_bytes, packet_as_read};
+ghost use Rattle.dspec_ctf_reading.specs.{Folders.Checks.is_of_bytes, Folders.Checks.packet_as_read, Reading.read_packet as packet_from, Told.Fits, Told.told_layout};
 
 use super::fault::{FileFault, Wrong};
 use crate::{Event, Front, Metadata, next_packet, read_events};

@@ -1,8 +1,7 @@
 //! How much of a file is whole packets.
 
 ghost use Rattle.std.specs.Prelude.{◌≡◌, ◌≤◌, None, drop, length};
-ghost use Rattle.dspec_ctf_reading.specs.Fronts.{split_packet as packet_split};
-ghost use Rattle.dspec_ctf_reading.specs.Folders.Whole.{AreWholeBefore, IsFileEnd};
+ghost use Rattle.dspec_ctf_reading.specs.{Folders.Whole.AreWholeBefore, Folders.Whole.IsFileEnd, Fronts.split_packet as packet_split};
 
 use crate::fronts::split_packet;
 use crate::{PacketReadFault, next_packet};

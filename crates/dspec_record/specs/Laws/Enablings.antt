@@ -1,14 +1,9 @@
 -- Serves proofs. The fields of an `Enabling` and of `Enablings` follow from the lists that they hold.
-use Rattle.std.proofs.Common.{◌≡◌, ◌≤◌, ◌-◌, ◌++◌, List, [], length, take, replicate, sym, arith}
-use Rattle.std.proofs.lemmas.List.{length-take-le}
-use Rattle.dspec_record.specs.EnablingFields.{fields_of, IsLaidOut}
+use Rattle.std.proofs.{Common.◌≡◌, Common.◌≤◌, Common.◌-◌, Common.◌++◌, Common.List, Common.[], Common.length, Common.take, Common.replicate, Common.sym, Common.arith, lemmas.List.length-take-le}
+use Rattle.dspec_record.specs.{EnablingFields.fields_of, EnablingFields.IsLaidOut, EnablingRows.rows_of, EnablingRows.IsFilled, Laws.Padding.padded_list, Layout.fields_start}
+use Rattle.dspec_record.specs.{declared.field.Field.Field, declared.field.Field.TheVariants.One}
 use Rattle.dspec_record.specs.EnablingFields as laid
-use Rattle.dspec_record.specs.EnablingRows.{rows_of, IsFilled}
 use Rattle.dspec_record.specs.EnablingRows as filled
-use Rattle.dspec_record.specs.Laws.Padding.{padded_list}
-use Rattle.dspec_record.specs.Layout.{fields_start}
-use Rattle.dspec_record.specs.declared.field.Field.{Field}
-use Rattle.dspec_record.specs.declared.field.Field.TheVariants.{One}
 use Rattle.dspec_record.specs.declared.enabling.Enabling.TheInside as one
 use Rattle.dspec_record.specs.declared.enabling.Enablings.TheInside as all
 

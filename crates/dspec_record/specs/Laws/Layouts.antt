@@ -1,11 +1,9 @@
 -- Serves proofs. Bounds on a layout: fields never end before they begin, nor more than eight bytes a field behind it.
 use Rattle.std.proofs.Common.{◌≡◌, ◌≤◌, ◌+◌, ◌*◌, ◌⊎◌, ℕ, Bool, true, false, cond, List, [], ◌∷◌, length, refl, inl, inr, ap, ◌∙◌, arith}
 use Rattle.std.specs.List.{list_any}
-use Rattle.dspec_record.specs.Layout.{width, rounded_up, after, fields_start, fields_end, is_eight, layout}
-use Rattle.dspec_record.specs.Reading.{IsShape}
-use Rattle.dspec_record.specs.declared.field.Field.{Field}
-use Rattle.dspec_record.specs.declared.field.Field.TheVariants.{One, Two, Four, Eight}
-use Rattle.dspec_record.specs.declared.header.Header.{Header}
+use Rattle.dspec_record.specs.{Layout.width, Layout.rounded_up, Layout.after, Layout.fields_start, Layout.fields_end, Layout.is_eight, Layout.layout, Reading.IsShape, declared.field.Field.Field}
+use Rattle.dspec_record.specs.{declared.field.Field.TheVariants.One, declared.field.Field.TheVariants.Two, declared.field.Field.TheVariants.Four, declared.field.Field.TheVariants.Eight}
+use Rattle.dspec_record.specs.{declared.header.Header.Header}
 use Rattle.dspec_record.specs.declared.header.Header.TheVariants as header
 
 pub rounded_up-ge : (f : Field) (o : ℕ) → o ≤ rounded_up o (width f)

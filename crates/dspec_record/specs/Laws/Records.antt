@@ -1,9 +1,6 @@
 -- Serves proofs. The fields of a `Rec` follow from the record that it holds.
-use Rattle.std.proofs.Common.{◌≡◌, ◌≤◌, ◌-◌, ◌++◌, length, take, replicate, arith}
-use Rattle.std.proofs.lemmas.List.{length-take-le}
-use Rattle.dspec_record.specs.Laws.Padding.{padded_list}
-use Rattle.dspec_record.specs.RecordFields.{record_of, IsPadded, fields_of}
-use Rattle.dspec_record.specs.declared.record.Rec.TheInside.{Inside}
+use Rattle.std.proofs.{Common.◌≡◌, Common.◌≤◌, Common.◌-◌, Common.◌++◌, Common.length, Common.take, Common.replicate, Common.arith, lemmas.List.length-take-le}
+use Rattle.dspec_record.specs.{Laws.Padding.padded_list, RecordFields.record_of, RecordFields.IsPadded, RecordFields.fields_of, declared.record.Rec.TheInside.Inside}
 
 pub fields_of-record_of : (a : Inside) → IsPadded a → fields_of (record_of a) ≡ a
 fields_of-record_of a p =

@@ -1,21 +1,13 @@
 -- Serves proofs. A schema that is a table of fields keeps the laws of a schema, where EPID 0 has none and no EPID has more
 -- than eight; the two tables of the crate are such.
 use Rattle.std.proofs.Common.{◌≡◌, ◌≤◌, ◌^◌, ◌&&◌, ℕ, zero, suc, Bool, true, false, cond, ltb, leb, IsTrue, List, [], ◌++◌, length, take, Option, Some, None, option_map, refl, ap, ◌∙◌, subst, arith}
-use Rattle.std.specs.Prelude.{unwrap_or, option_and_then}
-use Rattle.std.specs.Option.{option_map_or}
-use Rattle.std.proofs.lemmas.Bool.{ltb-true, leb-true}
-use Rattle.std.proofs.lemmas.List.{take_at, append_assoc}
-use Rattle.dspec_record.specs.Record.{Record}
-use Rattle.dspec_record.specs.Layout.{fields_start, layout}
-use Rattle.dspec_record.specs.RecordText.{little_endian, stamp_text, fields_text, record_text, stamp_fits, fits}
-use Rattle.dspec_record.specs.Reading.{IsShape, IsTextOf}
-use Rattle.dspec_record.specs.Schemas.{FieldTable, table_shape, table_accepts, table_text, within_limit, enabling_of, enabled, default_fields}
-use Rattle.dspec_record.specs.Laws.Layouts.{layout-IsShape}
-use Rattle.dspec_record.specs.Laws.Texts.{both, length-little_endian, length-record_text, All-record_text, record_text-same, record_text-epid}
-use Rattle.dspec_record.specs.declared.field.Field.{Field}
-use Rattle.dspec_record.specs.declared.field.Field.TheVariants.{Four}
-use Rattle.dspec_record.specs.declared.field.Shape.{Shape}
-use Rattle.dspec_record.specs.declared.header.Header.{Header}
+use Rattle.std.proofs.lemmas.{Bool.ltb-true, Bool.leb-true, List.take_at, List.append_assoc}
+use Rattle.std.specs.{Option.option_map_or, Prelude.unwrap_or, Prelude.option_and_then}
+use Rattle.dspec_record.specs.{Laws.Layouts.layout-IsShape, Laws.Texts.both, Laws.Texts.length-little_endian, Laws.Texts.length-record_text, Laws.Texts.All-record_text, Laws.Texts.record_text-same}
+use Rattle.dspec_record.specs.{Laws.Texts.record_text-epid, Layout.fields_start, Layout.layout, Reading.IsShape, Reading.IsTextOf, Record.Record, RecordText.little_endian, RecordText.stamp_text}
+use Rattle.dspec_record.specs.{RecordText.fields_text, RecordText.record_text, RecordText.stamp_fits, RecordText.fits, Schemas.FieldTable, Schemas.table_shape, Schemas.table_accepts}
+use Rattle.dspec_record.specs.{Schemas.table_text, Schemas.within_limit, Schemas.enabling_of, Schemas.enabled, Schemas.default_fields, declared.field.Field.Field}
+use Rattle.dspec_record.specs.{declared.field.Field.TheVariants.Four, declared.field.Shape.Shape, declared.header.Header.Header}
 
 -- no EPID of the table has more than eight fields
 pub IsLimited : FieldTable → Type 0

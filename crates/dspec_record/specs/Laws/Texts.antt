@@ -1,19 +1,13 @@
 -- Serves proofs. Sizes and differences of texts.
-use Rattle.std.proofs.Common.{◌≡◌, ◌<◌, ◌+◌, ◌-◌, ◌^◌, ◌%◌, ◌/◌, ℕ, Bool, true, false, ◌&&◌, ltb, IsTrue, List, [], ◌∷◌, ◌++◌, length, refl, sym, ◌∙◌, ap, arith, All, zero, suc}
-use Rattle.std.proofs.lemmas.List.{length-append, length-replicate, append_assoc, append_cancel_left}
-use Rattle.std.proofs.lemmas.List.Elements.{All-append, All-nil, All-cons, All-replicate}
-use Rattle.std.proofs.lemmas.List.{take_at, drop_at}
-use Rattle.std.proofs.lemmas.Nat.{from_le_bytes-to_le_bytes_2, from_le_bytes-to_le_bytes_4, from_le_bytes-to_le_bytes_8}
+use Rattle.std.proofs.Common.{◌≡◌, ◌<◌, ◌+◌, ◌-◌, ◌^◌, ◌%◌, ◌/◌, ℕ, Bool, true, false, ◌&&◌, ltb, IsTrue, List, [], ◌∷◌, ◌++◌, length, refl, sym, ◌∙◌, ap, arith, All, zero, suc, drop, take}
+use Rattle.std.proofs.lemmas.{Bool.ltb-true, Bool.eqb-true, List.length-append, List.length-replicate, List.append_assoc, List.append_cancel_left, List.take_at, List.drop_at}
+use Rattle.std.proofs.lemmas.{List.Elements.All-append, List.Elements.All-nil, List.Elements.All-cons, List.Elements.All-replicate, Nat.from_le_bytes-to_le_bytes_2, Nat.from_le_bytes-to_le_bytes_4}
+use Rattle.std.proofs.lemmas.{Nat.from_le_bytes-to_le_bytes_8}
 use Rattle.std.specs.Int.{w16, w32, w64, from_le_bytes, bytes_low_first, byte_at}
-use Rattle.std.proofs.Common.{drop, take}
-use Rattle.std.proofs.lemmas.Bool.{ltb-true, eqb-true}
-use Rattle.dspec_record.specs.Layout.{width, rounded_up, after, fields_start, fields_end}
-use Rattle.dspec_record.specs.RecordText.{little_endian, gap, fields_text, stamp_text, header_text, record_text, stamp_fits, fits}
-use Rattle.dspec_record.specs.Record.{Record}
-use Rattle.dspec_record.specs.Laws.Layouts.{rounded_up-ge}
-use Rattle.dspec_record.specs.declared.field.Field.{Field}
-use Rattle.dspec_record.specs.declared.field.Field.TheVariants.{One, Two, Four, Eight}
-use Rattle.dspec_record.specs.declared.header.Header.{Header}
+use Rattle.dspec_record.specs.{Laws.Layouts.rounded_up-ge, Layout.width, Layout.rounded_up, Layout.after, Layout.fields_start, Layout.fields_end, Record.Record, RecordText.little_endian}
+use Rattle.dspec_record.specs.{RecordText.gap, RecordText.fields_text, RecordText.stamp_text, RecordText.header_text, RecordText.record_text, RecordText.stamp_fits, RecordText.fits}
+use Rattle.dspec_record.specs.{declared.field.Field.Field, declared.field.Field.TheVariants.One, declared.field.Field.TheVariants.Two, declared.field.Field.TheVariants.Four}
+use Rattle.dspec_record.specs.{declared.field.Field.TheVariants.Eight, declared.header.Header.Header}
 use Rattle.dspec_record.specs.declared.header.Header.TheVariants as header
 
 -- a test of two parts that passes has both

@@ -1,9 +1,7 @@
 ghost use Rattle.std.specs.Prelude.{◌≡◌, IfSome, IsSome};
 ghost use Rattle.dspec_cpu.specs.Lists.{words_of};
 ghost use Rattle.dspec_session_core.specs.Consumers.{IsConsumerOf, Stays};
-ghost use Rattle.dspec_session.specs.Crews.{AllCanWork, AllWorked};
-ghost use Rattle.dspec_session.specs.Demonstrated.{CameBack, CanWork};
-ghost use Rattle.dspec_session.specs.Visits.{ConsumerRounds, none_taken};
+ghost use Rattle.dspec_session.specs.{Crews.AllCanWork, Crews.AllWorked, Demonstrated.CameBack, Demonstrated.CanWork, Visits.ConsumerRounds, Visits.none_taken};
 
 use super::four::Four;
 use super::order::Order;

@@ -1,7 +1,6 @@
 ghost use Rattle.std.specs.Prelude.{◌≡◌, length};
 ghost use Rattle.dspec_session_core.specs.Stopping.{Stopped};
-ghost use Rattle.dspec_session.specs.Results.{AllFollow, IsEndOf};
-ghost use Rattle.dspec_session.specs.Races.{AllBalanced, AllTold, HaveOffered, IsDemonstrated};
+ghost use Rattle.dspec_session.specs.{Races.AllBalanced, Races.AllTold, Races.HaveOffered, Races.IsDemonstrated, Results.AllFollow, Results.IsEndOf};
 
 use super::four::Four;
 use super::lines::{DemoLine, line_of};

@@ -1,7 +1,6 @@
 ghost use Rattle.std.specs.Prelude.{◌≡◌, IfOk, length};
 ghost use Rattle.dspec_deeds.specs.declared.config.Policy.TheVariants.{Switch};
-ghost use Rattle.dspec_session.specs.Demonstrated.{demonstrated};
-ghost use Rattle.dspec_session.specs.Races.{AreFresh, HaveOffered, HaveRoom, IsDemonstrated};
+ghost use Rattle.dspec_session.specs.{Demonstrated.demonstrated, Races.AreFresh, Races.HaveOffered, Races.HaveRoom, Races.IsDemonstrated};
 
 use dspec_deeds::{Config, Policy, StartFault};
 use dspec_record::Enablings;

@@ -1,6 +1,5 @@
 ghost use Rattle.std.specs.Prelude.{◌≡◌, true, IfSome, length};
-ghost use Rattle.dspec_session.specs.Races.{all_finished, HaveMade, HaveOffered, HaveRoom, IsDemonstrated};
-ghost use Rattle.dspec_session.specs.Visits.{ConsumerRounds, none_taken};
+ghost use Rattle.dspec_session.specs.{Races.all_finished, Races.HaveMade, Races.HaveOffered, Races.HaveRoom, Races.IsDemonstrated, Visits.ConsumerRounds, Visits.none_taken};
 
 use super::crew::{Back, Crew, run};
 use super::four::Four;

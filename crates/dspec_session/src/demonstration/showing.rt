@@ -1,8 +1,6 @@
 ghost use Rattle.std.specs.Prelude.{◌≡◌};
 ghost use Rattle.dspec_session_core.specs.Consumers.{taken_from};
-ghost use Rattle.dspec_session.specs.Demonstrated.{demonstrated};
-ghost use Rattle.dspec_session.specs.Races.{AllBalanced};
-ghost use Rattle.dspec_session.specs.Results.{AllFollow, IsDone};
+ghost use Rattle.dspec_session.specs.{Demonstrated.demonstrated, Races.AllBalanced, Results.AllFollow, Results.IsDone};
 
 use super::ending::tell;
 use super::four::Four;

@@ -1,9 +1,7 @@
 -- Serves proofs. The number that a `Word` holds follows from the state that it is.
 use Rattle.std.proofs.Common.{◌≡◌, ◌<◌, ◌%◌, ◌∙◌, ℕ, zero, suc, refl, sym, ap, arith}
-use Rattle.dspec_word.specs.Code.{code_number, code_of}
-use Rattle.dspec_word.specs.Word.{SlotState, word_number}
-use Rattle.dspec_word.specs.WordFields.{state_of_raw, inside_of_word, IsNumber}
-use Rattle.dspec_word.specs.declared.word.Word.TheInside.{Inside}
+use Rattle.dspec_word.specs.{Code.code_number, Code.code_of, Word.SlotState, Word.word_number, WordFields.state_of_raw, WordFields.inside_of_word, WordFields.IsNumber}
+use Rattle.dspec_word.specs.{declared.word.Word.TheInside.Inside}
 
 pub code_number-code_of : (n : ℕ) → n < 7 → code_number (code_of n) ≡ n
 code_number-code_of zero h = refl

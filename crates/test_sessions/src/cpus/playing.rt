@@ -2,8 +2,7 @@
 ghost use Rattle.std.specs.Prelude.{◌≡◌, [], IfOk, None};
 ghost use Rattle.dspec_deeds.specs.Ranges.{start_fault};
 ghost use Rattle.dspec_table.specs.Seats.{known, known_there, cpu_of, fresh_seat, set_up, IsAt, IsConsumerAt};
-ghost use Rattle.dspec_cpu.specs.Lists.{schema_of, words_of};
-ghost use Rattle.dspec_cpu.specs.Standing.{Belongs, identity};
+ghost use Rattle.dspec_cpu.specs.{Lists.schema_of, Lists.words_of, Standing.Belongs, Standing.identity};
 
 use dspec_cpu::{Cpu, Shared};
 use dspec_deeds::{Answer, Config, CpuOp, StartFault};

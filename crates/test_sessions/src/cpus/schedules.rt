@@ -1,8 +1,7 @@
 //! Schedules of whole calls, played by the CPUs of a session in place of the player.
 ghost use Rattle.std.specs.Prelude.{◌≡◌, []};
 ghost use Rattle.dspec_table.specs.Seats.{IsConsumerAt, known_there, set_up};
-ghost use Rattle.dspec_cpu.specs.Lists.{schema_of, words_of};
-ghost use Rattle.dspec_cpu.specs.Standing.{Belongs, identity};
+ghost use Rattle.dspec_cpu.specs.{Lists.schema_of, Lists.words_of, Standing.Belongs, Standing.identity};
 
 use super::playing::{Cpus, call, same, session};
 use super::taking::Taker;

@@ -1,8 +1,7 @@
 //! A whole session that is called from one thread: calls, each with what it has to answer, and what has to be left of each CPU.
 ghost use Rattle.std.specs.Prelude.{IfOk};
 ghost use Rattle.dspec_cpu.specs.Lists.{words_of};
-ghost use Rattle.dspec_session_core.specs.Consumers.{IsConsumerOf, IsSameConsumer};
-ghost use Rattle.dspec_session_core.specs.Sessions.{IsSession};
+ghost use Rattle.dspec_session_core.specs.{Consumers.IsConsumerOf, Consumers.IsSameConsumer, Sessions.IsSession};
 
 use super::batches::comes_back;
 use super::calls::{Call, Dealing, Remains};

@@ -1,7 +1,6 @@
 //! Decisions of the first slot: a commit that waits for no other CPU, and two CPUs that both decide, of which one misses.
 ghost use Rattle.std.specs.Prelude.{◌≡◌, ◌≤◌, IfSome};
-ghost use Rattle.dspec_table.specs.Conditions.{MayLoad};
-ghost use Rattle.dspec_table.specs.Seats.{known, IsAt, set_up, cpu_of};
+ghost use Rattle.dspec_table.specs.{Conditions.MayLoad, Seats.known, Seats.IsAt, Seats.set_up, Seats.cpu_of};
 ghost use Rattle.test_words.specs.Calls.{MayBegin, Next, Unused};
 ghost use Rattle.dspec_word.specs.Word.{CanBeReleased};
 

@@ -2,8 +2,7 @@
 ghost use Rattle.std.specs.Prelude.{◌≡◌, ◌≤◌, true, false};
 ghost use Rattle.dspec_record.specs.Record.{Record};
 ghost use Rattle.dspec_deeds.specs.declared.calls.CpuOp.TheVariants as op;
-ghost use Rattle.dspec_table.specs.Conditions.{MayLoad};
-ghost use Rattle.dspec_table.specs.Seats.{known, IsAt, set_up, cpu_of};
+ghost use Rattle.dspec_table.specs.{Conditions.MayLoad, Seats.known, Seats.IsAt, Seats.set_up, Seats.cpu_of};
 
 use super::deciding::shown;
 use super::*;

@@ -1,8 +1,7 @@
 //! Two threads, each with a CPU's seat that it takes, and gives back under a promise.
 ghost use Rattle.std.specs.Prelude.{◌≡◌, ◌≤◌, not, true, IfOk, []};
 ghost use Rattle.dspec_table.specs.Seats.{known, IsAt, set_up, cpu_of};
-ghost use Rattle.test_words.specs.Opener.{Once, given_out};
-ghost use Rattle.test_words.specs.Calls.{Unused};
+ghost use Rattle.test_words.specs.{Calls.Unused, Opener.Once, Opener.given_out};
 
 use super::*;
 use std::sync::Wait;

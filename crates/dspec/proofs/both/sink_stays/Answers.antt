@@ -1,8 +1,7 @@
 -- By induction over the batches.
 use Rattle.std.proofs.Common.{◌≡◌, List, [], ◌∷◌, refl, sym}
 use Rattle.std.specs.Prelude.{None, Option, Some}
-use Rattle.dspec_ring.specs.declared.batch.Batch.{Batch}
-use Rattle.dspec.specs.Words.{GetsIfThere, GotAll, GotThere, Passed}
+use Rattle.dspec.specs.Words.{Batch, GetsIfThere, GotAll, GotThere, Passed}
 use Rattle.dspec.proofs.both.sink_stays.Goals as goal
 
 module _ {K : Type 0} (gets : K → Batch → K → Type 0) where

@@ -1,8 +1,7 @@
 -- Those that came before stand.
 use Rattle.std.proofs.Common.{◌≡◌, ℕ, ◌<◌, Some}
 use Rattle.std.specs.Prelude.{slice_get}
-use Rattle.dspec_cpu.specs.declared.cpu.Cpu.{Cpu}
-use Rattle.dspec.specs.Words.{IsSteady}
+use Rattle.dspec.specs.Words.{Cpu, IsSteady}
 use Rattle.dspec.proofs.running.all_stand.Given as goal
 
 abbrev pub invariant-loop-each : goal.invariant-loop-each

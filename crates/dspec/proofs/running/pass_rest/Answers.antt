@@ -1,5 +1,4 @@
-use Rattle.std.proofs.Common.{arith}
-use Rattle.std.proofs.lemmas.Bool.Decides.{nat_tests}
+use Rattle.std.proofs.{Common.arith, lemmas.Bool.Decides.nat_tests}
 use Rattle.dspec.proofs.Passing.{got_rest, got_rests}
 use Rattle.dspec.proofs.running.pass_rest.Goals as goal
 

@@ -1,6 +1,4 @@
-use Rattle.std.proofs.lemmas.Bool.Decides.{nat_tests}
-use Rattle.std.proofs.Common.{refl, arith}
-use Rattle.std.proofs.lemmas.List.{take_all}
+use Rattle.std.proofs.{Common.refl, Common.arith, lemmas.Bool.Decides.nat_tests, lemmas.List.take_all}
 use Rattle.dspec.proofs.Passing.{got_more}
 use Rattle.dspec.proofs.running.pass_rests.Goals as goal
 

@@ -1,7 +1,6 @@
 use Rattle.std.proofs.Common.{◌≡◌, ◌<◌, length, Some, sym, ap, ◌∙◌, subst, rules, get_or}
 use Rattle.std.proofs.lemmas.Option.{slice_get-get_or, slice_get_within, get_or_from_slice_get}
-use Rattle.dspec.specs.Words.{EnabledRows, identity, called, number_in, schema_of, AllReturned, Returned, ThenServed}
-use Rattle.dspec_cpu.specs.declared.cpu.Cpu.{Cpu}
+use Rattle.dspec.specs.Words.{EnabledRows, identity, called, number_in, schema_of, AllReturned, Returned, ThenServed, Cpu}
 use Rattle.dspec.proofs.Returning.{there, all_returned}
 use Rattle.dspec.proofs.running.work_all.Goals as goal
 

@@ -1,6 +1,5 @@
-use Rattle.std.proofs.lemmas.Bool.Decides.{nat_tests}
-use Rattle.std.proofs.Common.{length, ap, refl, arith}
-use Rattle.dspec.specs.Words.{Working}
+use Rattle.std.proofs.{Common.length, Common.ap, Common.refl, Common.arith, lemmas.Bool.Decides.nat_tests}
+use Rattle.dspec.specs.declared.workers.Working.{Working}
 use Rattle.dspec.proofs.Working.{moved_out}
 use Rattle.dspec.proofs.workers.part_again.Goals as goal
 

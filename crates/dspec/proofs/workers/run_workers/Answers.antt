@@ -1,9 +1,6 @@
-use Rattle.std.proofs.Common.{arith, List, length, sym, ap, ◌∙◌, subst}
-use Rattle.std.proofs.lemmas.Bool.Decides.{nat_tests}
-use Rattle.dspec_cpu.specs.declared.cpu.Cpu.{Cpu}
-use Rattle.dspec.specs.Words.{EnabledRows, AllReturned, ThenServed, AllNumbered, WorkedBy, cpus_of, workers_of}
-use Rattle.dspec.proofs.Returning.{all_callable, session_again}
-use Rattle.dspec.proofs.Working.{all_numbered, pairs_returned, workers_all}
+use Rattle.std.proofs.{Common.arith, Common.List, Common.length, Common.sym, Common.ap, Common.◌∙◌, Common.subst, lemmas.Bool.Decides.nat_tests}
+use Rattle.dspec.specs.Words.{Cpu, EnabledRows, AllReturned, ThenServed, AllNumbered, WorkedBy, cpus_of, workers_of}
+use Rattle.dspec.proofs.{Returning.all_callable, Returning.session_again, Working.all_numbered, Working.pairs_returned, Working.workers_all}
 use Rattle.dspec.proofs.workers.run_workers.Goals as goal
 
 pub run_pairs-requires-clause-callable : goal.run_pairs-requires-clause-callable

@@ -1,12 +1,7 @@
 use Rattle.std.proofs.Common.{◌≡◌, ◌<◌, ℕ, List, length, rules, ap, sym, ◌∙◌, subst}
 use Rattle.dspec.specs.Words.{EnabledRows, enabled, table_shape, table_accepts, table_text, set_up, words_of, ClosesAs, IsClosedBy, view_of, Has, IsPromisedBy, called_at, entered_at, HasAt}
-use Rattle.dspec.specs.Words.{taken_at, worn_at, ThenServed, WorkedBy, with_cpus}
-use Rattle.dspec_deeds.specs.declared.config.Config.{Config}
-use Rattle.dspec_deeds.specs.declared.deed.Deed.{Deed}
-use Rattle.dspec_cpu.specs.declared.shared.Shared.{Shared}
-use Rattle.dspec_table.specs.declared.rule.View.{View}
-use Rattle.dspec.proofs.Returning.{worked}
-use Rattle.dspec.proofs.Tracing.{by_one_list, fresh_none, kept_alone, listed, traced}
+use Rattle.dspec.specs.Words.{taken_at, worn_at, ThenServed, WorkedBy, with_cpus, Config, Deed, Shared, View}
+use Rattle.dspec.proofs.{Returning.worked, Tracing.by_one_list, Tracing.fresh_none, Tracing.kept_alone, Tracing.listed, Tracing.traced}
 use Rattle.dspec.proofs.workers.trace_workers.Goals as goal
 
 pub run_workers-requires-clause-cpus : goal.run_workers-requires-clause-cpus

@@ -1,6 +1,6 @@
 use Rattle.std.proofs.Common.{◌≡◌, ◌<◌, length, Some, sym, ap, ◌∙◌, subst, rules, get_or}
 use Rattle.std.proofs.lemmas.Option.{slice_get-get_or, slice_get_within, get_or_from_slice_get}
-use Rattle.dspec.specs.Words.{AllWorked, WorkedOne, Working}
+use Rattle.dspec.specs.{Words.AllWorked, Words.WorkedOne, declared.workers.Working.Working}
 use Rattle.dspec.proofs.Working.{pair_callable, all_worked}
 use Rattle.dspec.proofs.workers.work_pairs.Goals as goal
 

@@ -1,5 +1,4 @@
-use Rattle.dspec_buffer.proofs.SchemaLaws.{laws_from}
-use Rattle.dspec_buffer.proofs.Walks.{reads_back}
+use Rattle.dspec_buffer.proofs.{SchemaLaws.laws_from, Walks.reads_back}
 use Rattle.dspec_buffer.proofs.laws.has_what_bytes_say.Goals as goal
 
 pub returns-clause-text : goal.returns-clause-text

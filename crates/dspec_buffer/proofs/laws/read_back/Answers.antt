@@ -1,7 +1,6 @@
 use Rattle.std.proofs.Common.{subst, sym, reverse, IfErr}
 use Rattle.dspec_buffer.specs.Words.{records, BufferText, StopsAt}
-use Rattle.dspec_buffer.proofs.SchemaLaws.{laws_from}
-use Rattle.dspec_buffer.proofs.Walks.{reads_back, read_all_reads}
+use Rattle.dspec_buffer.proofs.{SchemaLaws.laws_from, Walks.reads_back, Walks.read_all_reads}
 use Rattle.dspec_buffer.proofs.laws.read_back.Goals as goal
 
 pub returns-clause-pushed : goal.returns-clause-pushed

@@ -1,6 +1,5 @@
 use Rattle.std.proofs.Common.{arith}
-use Rattle.dspec_buffer.proofs.SchemaLaws.{laws_from}
-use Rattle.dspec_buffer.proofs.Ended.{remaining_before, ended_whole, ended_at_fault}
+use Rattle.dspec_buffer.proofs.{Ended.remaining_before, Ended.ended_whole, Ended.ended_at_fault, SchemaLaws.laws_from}
 use Rattle.dspec_buffer.proofs.prefix.read_prefix.Goals as goal
 
 pub invariant_of-records-inside : goal.invariant_of-records-inside

@@ -1,7 +1,6 @@
 use Rattle.std.proofs.Common.{Ok, subst}
 use Rattle.dspec_buffer.specs.Words.{ReadsNext}
-use Rattle.dspec_buffer.proofs.SchemaLaws.{laws_from}
-use Rattle.dspec_buffer.proofs.Coming.{reads_one}
+use Rattle.dspec_buffer.proofs.{Coming.reads_one, SchemaLaws.laws_from}
 use Rattle.dspec_buffer.proofs.prefix.read_up_to.Goals as goal
 
 pub loop-next-preserved : goal.loop-next-preserved

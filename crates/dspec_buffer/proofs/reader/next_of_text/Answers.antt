@@ -1,6 +1,5 @@
 use Rattle.std.proofs.Common.{Ok, Err}
-use Rattle.dspec_buffer.proofs.SchemaLaws.{laws_from}
-use Rattle.dspec_buffer.proofs.Ahead.{walks_on}
+use Rattle.dspec_buffer.proofs.{Ahead.walks_on, SchemaLaws.laws_from}
 use Rattle.dspec_buffer.proofs.reader.next_of_text.Goals as goal
 
 pub returns-in-Ok : goal.returns-in-Ok

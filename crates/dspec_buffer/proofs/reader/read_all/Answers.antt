@@ -1,10 +1,6 @@
-use Rattle.std.proofs.Common.{Ok, subst, arith}
-use Rattle.std.proofs.lemmas.Result.{err_from_is_err_and}
+use Rattle.std.proofs.{Common.Ok, Common.subst, Common.arith, lemmas.Result.err_from_is_err_and}
 use Rattle.dspec_buffer.specs.Words.{ReadsNext}
-use Rattle.dspec_buffer.proofs.SchemaLaws.{laws_from}
-use Rattle.dspec_buffer.proofs.Coming.{reads_one, reads_all, stops}
-use Rattle.dspec_buffer.proofs.Faulty.{stops_unreadable}
-use Rattle.dspec_buffer.proofs.Left.{remaining_at_start}
+use Rattle.dspec_buffer.proofs.{Coming.reads_one, Coming.reads_all, Coming.stops, Faulty.stops_unreadable, Left.remaining_at_start, SchemaLaws.laws_from}
 use Rattle.dspec_buffer.proofs.reader.read_all.Goals as goal
 
 pub returns-in_err-found-clause-fault : goal.returns-in_err-found-clause-fault

@@ -1,9 +1,6 @@
-use Rattle.std.proofs.Common.{Err, subst, refl, drop, arith, length-drop}
-use Rattle.std.proofs.lemmas.List.{take_rest}
-use Rattle.dspec_buffer.specs.Words.{Answers, FaultHere}
-use Rattle.dspec_record.specs.declared.reading.ReadKind.TheVariants.{Misaligned}
-use Rattle.dspec_buffer.proofs.SchemaLaws.{laws_from}
-use Rattle.dspec_buffer.proofs.Got.{got_record, got_fault}
+use Rattle.std.proofs.{Common.Err, Common.subst, Common.refl, Common.drop, Common.arith, Common.length-drop, lemmas.List.take_rest}
+use Rattle.dspec_buffer.specs.Words.{Answers, FaultHere, Misaligned}
+use Rattle.dspec_buffer.proofs.{Got.got_record, Got.got_fault, SchemaLaws.laws_from}
 use Rattle.dspec_buffer.proofs.reader.read_record.Goals as goal
 
 pub returns-in-Err : goal.returns-in-Err

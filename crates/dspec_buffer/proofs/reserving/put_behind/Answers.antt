@@ -1,7 +1,6 @@
 -- A record that knows its text writes it, else the schema does; and that goes over the padding word where there is no padding.
 use Rattle.std.proofs.Common.{sym, ◌∙◌, arith}
-use Rattle.dspec_buffer.proofs.Laid.{said_text}
-use Rattle.dspec_buffer.proofs.Overwriting.{covered}
+use Rattle.dspec_buffer.proofs.{Laid.said_text, Overwriting.covered}
 use Rattle.dspec_buffer.proofs.reserving.put_behind.Goals as goal
 
 pub returns-then-not-put_laid : goal.returns-then-not-put_laid

@@ -28,7 +28,7 @@ use denote.Triple.Walked.{says, Stays, stay_dropped, walk_of, ends_at, walk_Meet
 use denote.RawPtr.{block_ptr}
 use denote.Slice.{slice_val}
 use Rattle.dspec_c.specs.contracts.batches.start_of as F
-use Rattle.dspec_c.specs.Words.{#self}
+use Rattle.dspec_c.specs.contracts.batches.start_of.Key.{name as #self}
 use Rattle.dspec_c.proofs.batches.start_of.Statement as stated
 use Rattle.dspec_c.proofs.batches.start_of.Code as code
 

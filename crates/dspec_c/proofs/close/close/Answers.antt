@@ -1,6 +1,5 @@
 use Rattle.std.proofs.Common.{refl}
-use Rattle.dspec_c.specs.Words.{EnabledRows, pairs_of, IsSession}
-use Rattle.dspec_session_core.specs.declared.session.Session.{Session}
+use Rattle.dspec_c.specs.Words.{EnabledRows, pairs_of, IsSession, Session}
 use Rattle.dspec_c.proofs.EndingPlaces.{as_many, session_is}
 use Rattle.dspec_c.proofs.close.close.Goals as goal
 

@@ -1,6 +1,6 @@
 use Rattle.std.proofs.Common.{ℕ, ◌≡◌, ◌≤◌, false, replicate, take}
 use Rattle.std.specs.Prelude.{slice_index_or}
-use Rattle.dspec_c.specs.Words.{held_in_each, fulls, names, Nothing}
+use Rattle.dspec_c.specs.{Words.held_in_each, Words.fulls, Words.names, declared.held.HandleValue.TheVariants.Nothing}
 use Rattle.dspec_c.proofs.closing.send_all.Given as goal
 
 -- those so far are empty, and the others have what they had

@@ -1,5 +1,4 @@
-use Rattle.std.proofs.Common.{◌∷◌, ◌++◌, [], None, ap, ◌∙◌}
-use Rattle.std.proofs.lemmas.List.{replicate-append-replicate}
+use Rattle.std.proofs.{Common.◌∷◌, Common.◌++◌, Common.[], Common.None, Common.ap, Common.◌∙◌, lemmas.List.replicate-append-replicate}
 use Rattle.dspec_c.proofs.consumer_side.places_for_batches.Goals as goal
 
 pub loop-place-preserved : goal.loop-place-preserved

@@ -1,7 +1,6 @@
 use Rattle.std.proofs.Common.{◌≡◌, ◌+◌, ◌++◌, ◌≤◌, List, length, Some}
 use Rattle.std.specs.Prelude.{map, vec_capacity, vec_len}
-use Rattle.dspec_c.specs.Words.{EnabledRows, Pair, AllInside, EachFrom, IsCpuAt, IsPlaceOf, firsts, insides}
-use Rattle.dspec_cpu.specs.declared.shared.Shared.{Shared}
+use Rattle.dspec_c.specs.Words.{EnabledRows, Pair, AllInside, EachFrom, IsCpuAt, IsPlaceOf, firsts, insides, Shared}
 use Rattle.dspec_c.proofs.gather.gather.Given as goal
 
 abbrev pub invariant-loop-places : goal.invariant-loop-places

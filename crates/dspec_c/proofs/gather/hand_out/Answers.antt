@@ -1,7 +1,5 @@
-use Rattle.std.proofs.Common.{refl, arith}
-use Rattle.std.specs.Prelude.{length}
-use Rattle.std.specs.Arc.{arc_value}
-use Rattle.std.proofs.lemmas.Option.{slice_get_read}
+use Rattle.std.proofs.{Common.refl, Common.arith, lemmas.Option.slice_get_read}
+use Rattle.std.specs.{Arc.arc_value, Prelude.length}
 use Rattle.dspec_c.proofs.Looking.{inside_within, is_here, one_leaves, one_stays}
 use Rattle.dspec_c.proofs.gather.hand_out.Goals as goal
 

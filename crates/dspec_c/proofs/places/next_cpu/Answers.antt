@@ -1,6 +1,5 @@
 use Rattle.std.proofs.Common.{◌∷◌, sym, ap, ◌∙◌}
-use Rattle.dspec_c.specs.Words.{EnabledRows}
-use Rattle.dspec_cpu.specs.declared.cpu.Cpu.{Cpu}
+use Rattle.dspec_c.specs.Words.{EnabledRows, Cpu}
 use Rattle.dspec_c.proofs.Each.{first_and_rest}
 use Rattle.dspec_c.proofs.places.next_cpu.Goals as goal
 

@@ -1,6 +1,5 @@
 use Rattle.std.proofs.Common.{◌≡◌, ◌++◌, length}
-use Rattle.std.specs.Prelude.{map}
-use Rattle.std.specs.Arc.{arc_value}
+use Rattle.std.specs.{Arc.arc_value, Prelude.map}
 use Rattle.dspec_c.specs.Words.{AllCalled, waiting_so}
 use Rattle.dspec_c.proofs.places.places.Given as goal
 

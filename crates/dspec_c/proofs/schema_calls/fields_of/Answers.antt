@@ -1,5 +1,4 @@
-use Rattle.std.proofs.Common.{sym, add-one, arith, ◌∙◌}
-use Rattle.std.proofs.Math.ListN.{length-set}
+use Rattle.std.proofs.{Common.sym, Common.add-one, Common.arith, Common.◌∙◌, Math.ListN.length-set}
 use Rattle.dspec_c.proofs.Widths.{one_more, one_none}
 use Rattle.dspec_c.proofs.schema_calls.fields_of.Goals as goal
 

@@ -1,5 +1,5 @@
 use Rattle.std.proofs.Common.{ℕ, Result, sym, subst}
-use Rattle.dspec_c.specs.Words.{EndsSo, LooksHome, EndedSession, HandleValue}
+use Rattle.dspec_c.specs.{Words.EndsSo, Words.LooksHome, declared.ended.EndedSession.EndedSession, declared.held.HandleValue.HandleValue}
 use Rattle.dspec_c.proofs.Finishing.{ended_in, goes_on_in, refused_in}
 use Rattle.dspec_c.proofs.session_calls.dspec_finish.Goals as goal
 

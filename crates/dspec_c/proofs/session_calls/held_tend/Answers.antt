@@ -1,5 +1,5 @@
 use Rattle.std.proofs.Common.{refl, sym, subst}
-use Rattle.dspec_c.specs.Words.{TendAnswers, HandleValue}
+use Rattle.dspec_c.specs.{Words.TendAnswers, declared.held.HandleValue.HandleValue}
 use Rattle.dspec_c.specs.declared.held.HandleValue.TheVariants as held_as
 use Rattle.dspec_c.proofs.session_calls.held_tend.Goals as goal
 

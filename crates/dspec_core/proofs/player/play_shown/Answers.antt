@@ -1,7 +1,5 @@
-use Rattle.std.proofs.lemmas.Bool.Decides.{nat_tests}
-use Rattle.std.proofs.Common.{◌≡◌, ◌≤◌, length, reverse, ap, ◌∙◌, subst, arith}
-use Rattle.dspec_core.specs.Words.{reports, IsCoherent, progress_of, Headline, IsPlayingAt, all_ran, all_turned, playing_at_start, worn_count}
-use Rattle.dspec_deeds.specs.declared.config.Config.{Config}
+use Rattle.std.proofs.{Common.◌≡◌, Common.◌≤◌, Common.length, Common.reverse, Common.ap, Common.◌∙◌, Common.subst, Common.arith, lemmas.Bool.Decides.nat_tests}
+use Rattle.dspec_core.specs.Words.{reports, IsCoherent, progress_of, Headline, IsPlayingAt, all_ran, all_turned, playing_at_start, worn_count, Config}
 use Rattle.dspec_interleaving.proofs.PlayerRuns.{IsSoFar, all_idle, same_reports, so_far_first, so_far_last, so_far_unrefused, worn_as_told}
 use Rattle.dspec_core.proofs.player.play_shown.Goals as goal
 

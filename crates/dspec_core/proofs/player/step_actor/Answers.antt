@@ -1,5 +1,5 @@
 use Rattle.std.proofs.Common.{sym, ap, ◌∙◌, ◌++◌, ◌∷◌, [], Some}
-use Rattle.dspec_deeds.specs.declared.calls.Op.{Op}
+use Rattle.dspec_core.specs.Words.{Op}
 use Rattle.dspec_interleaving.proofs.PlayerMoves.{step_at}
 use Rattle.dspec_core.proofs.PlayerSteps.{ends_idle, not_refused}
 use Rattle.dspec_core.proofs.player.step_actor.Goals as goal

@@ -1,7 +1,6 @@
 use Rattle.std.proofs.Common.{subst, sym, ap, ◌∙◌}
 use Rattle.dspec_deeds.specs.declared.calls.Actor.TheVariants as actor
-use Rattle.dspec_deeds.specs.declared.calls.Turn.{Turn}
-use Rattle.dspec_core.specs.Words.{IsPlayingAt, begun_consumer, ran, turned, WorldView, begin_consumer}
+use Rattle.dspec_core.specs.Words.{Turn, IsPlayingAt, begun_consumer, ran, turned, WorldView, begin_consumer}
 use Rattle.dspec_core.proofs.player.take_turn.Goals as goal
 
 pub returns-in_ok-run_actor-in-RunConsumer-clause-turned : goal.returns-in_ok-run_actor-in-RunConsumer-clause-turned

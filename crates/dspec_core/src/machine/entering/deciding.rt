@@ -1,9 +1,7 @@
 ghost use Rattle.std.specs.Prelude.{◌≡◌, ◌≤◌, ◌∷◌, [], true, OnOk, OnErr};
 ghost use Rattle.dspec_deeds.specs.declared.deed.Deed.TheVariants as deed;
-ghost use Rattle.dspec_deeds.specs.FateKinds.{is_discard};
-ghost use Rattle.dspec_deeds.specs.Own.{calls};
-ghost use Rattle.dspec_core.specs.Decisions.{deed_of};
-ghost use Rattle.dspec_core.specs.Machines.{Adds, IsShownMachine, MayEnterOn, history};
+ghost use Rattle.dspec_deeds.specs.{FateKinds.is_discard, Own.calls};
+ghost use Rattle.dspec_core.specs.{Decisions.deed_of, Machines.Adds, Machines.IsShownMachine, Machines.MayEnterOn, Machines.history};
 
 use crate::machine::Machine;
 use crate::machine::decision::Decision;

@@ -1,7 +1,6 @@
 ghost use Rattle.std.specs.Prelude.{◌≡◌, ◌≤◌, ◌∷◌, [], IsTrue, OnOk, OnErr};
 ghost use Rattle.dspec_deeds.specs.declared.deed.Deed.TheVariants as deed;
-ghost use Rattle.dspec_deeds.specs.FateKinds.{spoken_granted};
-ghost use Rattle.dspec_deeds.specs.Own.{calls};
+ghost use Rattle.dspec_deeds.specs.{FateKinds.spoken_granted, Own.calls};
 ghost use Rattle.dspec_core.specs.Machines.{Adds, IsShownMachine, MayEnterOn, history};
 
 use crate::machine::Machine;

@@ -1,9 +1,8 @@
 use Rattle.std.proofs.Common.{◌≡◌, ◌∙◌, ℕ, not, refl, sym, subst}
-use Rattle.dspec_cpu.specs.Words.{IsInFlight, known, set_up, cpu_of, LoadedActivity, Reach, Reached, EndsAtWord, act_reached}
+use Rattle.dspec_cpu.specs.{Words.IsInFlight, Words.known, Words.set_up, Words.cpu_of, Words.LoadedActivity, Words.Reached, Words.EndsAtWord, Words.act_reached, declared.reaching.Reach.Reach}
 use Rattle.dspec_cpu.specs.declared.reaching.Reach.TheVariants as reach
-use Rattle.dspec_cpu.proofs.ReachDeeds.{never_idle}
-use Rattle.dspec_cpu.proofs.Reaches.{at_stop, outside, flight, behind, is_running, void_running, at_seat}
-use Rattle.dspec_cpu.proofs.reaching.go_on.Goals.{After-work}
+use Rattle.dspec_cpu.proofs.{ReachDeeds.never_idle, Reaches.at_stop, Reaches.outside, Reaches.flight, Reaches.behind, Reaches.is_running, Reaches.void_running, Reaches.at_seat}
+use Rattle.dspec_cpu.proofs.{reaching.go_on.Goals.After-work}
 use Rattle.dspec_cpu.proofs.reaching.go_on.Goals as goal
 
 pub returns-then-not-load_activity-clause-reached : goal.returns-then-not-load_activity-clause-reached

@@ -1,6 +1,5 @@
 use Rattle.std.proofs.Common.{◌≡◌, ◌∙◌, ◌∷◌, [], true, false, sym, ap, subst}
-use Rattle.dspec_deeds.specs.declared.deed.Deed.TheVariants.{Opened, Miss}
-use Rattle.dspec_cpu.specs.Words.{known, set_up, cpu_of, LoadedWord, Speculation, open_at, nothing, shown, idle_progress}
+use Rattle.dspec_cpu.specs.Words.{Opened, Miss, known, set_up, cpu_of, LoadedWord, Speculation, open_at, nothing, shown, idle_progress}
 use Rattle.dspec_cpu.specs.declared.scanning.Look.TheVariants as look
 use Rattle.dspec_interleaving.proofs.StepDeeds.{missed_deeds}
 use Rattle.dspec_cpu.proofs.Slots.{passes, passed, tried}

@@ -1,10 +1,9 @@
 use Rattle.std.proofs.Common.{◌≡◌, ◌∙◌, ◌+◌, ◌<◌, ◌||◌, ℕ, not, sym, ap, subst, arith}
-use Rattle.dspec_deeds.specs.declared.config.Config.{Config}
-use Rattle.dspec_cpu.specs.Words.{scan, known, set_up, cpu_of, LoadedActivity, LookedAtSlot}
+use Rattle.dspec_cpu.specs.Words.{Config, scan, known, set_up, cpu_of, LoadedActivity, LookedAtSlot}
 use Rattle.dspec_cpu.specs.declared.scanning.Look.TheVariants as look
 use Rattle.dspec_cpu.proofs.Scans.{Came, runs, stops, goes_by, gives, ends, next_slot, next_flight}
-use Rattle.dspec_cpu.proofs.scanning.scan_slots.Goals as goal
 use Rattle.dspec_cpu.proofs.scanning.scan_slots.Goals.{then-was_decided, else-was_decided}
+use Rattle.dspec_cpu.proofs.scanning.scan_slots.Goals as goal
 
 pub returns-then-not-load_activity-clause-scanned :
     goal.returns-then-not-load_activity-clause-scanned

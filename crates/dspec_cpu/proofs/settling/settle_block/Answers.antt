@@ -1,6 +1,5 @@
 use Rattle.std.proofs.Common.{◌≡◌, ◌∙◌, ap}
-use Rattle.dspec_word.specs.declared.code.Code.{Code}
-use Rattle.dspec_cpu.specs.Words.{settled_fate, shown_at}
+use Rattle.dspec_cpu.specs.Words.{Code, settled_fate, shown_at}
 use Rattle.dspec_cpu.proofs.OwnBlocks.{block_settled, drops, room, there}
 use Rattle.dspec_cpu.proofs.settling.settle_block.Goals as goal
 

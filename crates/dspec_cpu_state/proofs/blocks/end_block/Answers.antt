@@ -1,10 +1,8 @@
 use Rattle.std.proofs.Common.{◌≡◌, ◌∙◌, Bool, true, false, List, [], ◌∷◌, map, refl, if◌then◌else◌, sym, ap, subst}
-use Rattle.std.proofs.lemmas.Bool.{OnTrue_at}
-use Rattle.std.proofs.lemmas.Option.{get_or_from_slice_get}
+use Rattle.std.proofs.lemmas.{Bool.OnTrue_at, Option.get_or_from_slice_get}
 use Rattle.dspec_cpu_state.specs.Words.{Piece, one, block, piece_fits}
-use Rattle.dspec_cpu_state.proofs.Ones.{set_same}
+use Rattle.dspec_cpu_state.proofs.{Ones.set_same, blocks.end_block.Goals.then-fit, blocks.end_block.Goals.else-fit}
 use Rattle.dspec_cpu_state.proofs.blocks.end_block.Goals as goal
-use Rattle.dspec_cpu_state.proofs.blocks.end_block.Goals.{then-fit, else-fit}
 
 pub returns-then-not-mine-clause-active : goal.returns-then-not-mine-clause-active
 returns-then-not-mine-clause-active g c = λ s ps rs b at h hb enough.

@@ -2,8 +2,8 @@ use Rattle.std.proofs.Common.{rules, ◌≡◌, ◌+◌, ◌++◌, ◌∙◌, Li
 use Rattle.std.specs.Prelude.{slice_range}
 use Rattle.dspec_ctf.specs.Words.{event, filled_packet, filled_packets}
 use Rattle.dspec_ctf.proofs.Filling.{IsFilledTo, filled-anew, filled-on}
-use Rattle.dspec_ctf.proofs.filled.put_filled.Goals as goal
 use Rattle.dspec_ctf.proofs.filled.put_filled.Goals.{then-front-len-gt-PACKET_SIZE+in_ok-put_packet+in_ok-put_event-2, else-front-len-gt-PACKET_SIZE}
+use Rattle.dspec_ctf.proofs.filled.put_filled.Goals as goal
 
 pub loop-place-preserved : goal.loop-place-preserved
 loop-place-preserved c =

@@ -1,6 +1,4 @@
-use Rattle.std.proofs.Common.{rules, subst, All}
-use Rattle.std.proofs.lemmas.List.{take_all as take_all_of}
-use Rattle.std.proofs.lemmas.List.Elements.{All-more}
+use Rattle.std.proofs.{Common.rules, Common.subst, Common.All, lemmas.List.take_all as take_all_of, lemmas.List.Elements.All-more}
 use Rattle.dspec_ctf.specs.Words.{Accepts}
 use Rattle.dspec_ctf.proofs.records.first_refused.Goals as goal
 

@@ -1,7 +1,5 @@
 use Rattle.std.proofs.Common.{rules, ◌≡◌, ◌<◌, ◌+◌, length, All, refl, sym, subst, arith}
-use Rattle.std.specs.Prelude.{Result, Ok, Err, OnErr}
-use Rattle.std.specs.Result.{IsOk}
-use Rattle.std.specs.Vec.{vec_capacity, vec_len}
+use Rattle.std.specs.{Prelude.Result, Prelude.Ok, Prelude.Err, Prelude.OnErr, Result.IsOk, Vec.vec_capacity, Vec.vec_len}
 use Rattle.dspec_ctf.specs.Words.{Accepts}
 use Rattle.dspec_ctf.proofs.Texts.{text-accepted, text-few}
 use Rattle.dspec_ctf.proofs.rows.read_again.Goals as goal

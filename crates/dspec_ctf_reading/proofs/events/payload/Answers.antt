@@ -1,5 +1,4 @@
-use Rattle.std.proofs.Common.{rules, arith, map}
-use Rattle.std.proofs.lemmas.Grind.{common_steps}
+use Rattle.std.proofs.{Common.rules, Common.arith, Common.map, lemmas.Grind.common_steps}
 use Rattle.dspec_ctf_reading.specs.Words.{read_payload, told_field}
 use Rattle.dspec_ctf_reading.proofs.EventLemmas.{payload-begin, payload-on}
 use Rattle.dspec_ctf_reading.proofs.events.payload.Goals as goal

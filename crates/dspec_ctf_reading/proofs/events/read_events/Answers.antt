@@ -1,6 +1,6 @@
 use Rattle.std.proofs.Common.{rules, arith, ◌≡◌, ◌<◌, ◌+◌, ◌++◌, ◌∷◌, [], Some, length, length-append, option_map, ap, sym, subst, ◌∙◌}
-use Rattle.std.specs.Prelude.{All}
 use Rattle.std.proofs.lemmas.List.Elements.{All-push}
+use Rattle.std.specs.Prelude.{All}
 use Rattle.dspec_ctf_reading.specs.Words.{read_event, read_events, Fits, as_read, told_layout, behind_events}
 use Rattle.dspec_ctf_reading.proofs.EventLemmas.{behind-one-more, events-more}
 use Rattle.dspec_ctf_reading.proofs.events.read_events.Goals as goal

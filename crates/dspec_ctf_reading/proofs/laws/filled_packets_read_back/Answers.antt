@@ -1,9 +1,7 @@
 use Rattle.std.proofs.Common.{◌≡◌, Bool, true, false, refl}
-use Rattle.dspec_record.specs.declared.header.Header.{Header}
+use Rattle.dspec_ctf_reading.specs.Words.{Header, is_timed, names_by}
 use Rattle.dspec_record.specs.declared.header.Header.TheVariants as header
-use Rattle.dspec_ctf_reading.specs.Words.{is_timed, names_by}
-use Rattle.dspec_ctf_reading.proofs.EventsRead.{HasStamps, stamps-with-two}
-use Rattle.dspec_ctf_reading.proofs.FilledRead.{filled-all}
+use Rattle.dspec_ctf_reading.proofs.{EventsRead.HasStamps, EventsRead.stamps-with-two, FilledRead.filled-all}
 use Rattle.dspec_ctf_reading.proofs.laws.filled_packets_read_back.Goals as goal
 
 stamps-if-timed : (timed : Bool) (h : Header) → (timed ≡ true → h ≡ header.Two) → HasStamps timed h

@@ -1,8 +1,6 @@
 use Rattle.std.proofs.Common.{false}
 use Rattle.dspec_ctf_reading.specs.Words.{names_by}
-use Rattle.dspec_ctf_reading.proofs.EventsRead.{HasStamps, stamps-with-two}
-use Rattle.dspec_ctf_reading.proofs.FilledRead.{batches-back}
-use Rattle.dspec_ctf_reading.proofs.Live.{runs-back, missed-back}
+use Rattle.dspec_ctf_reading.proofs.{EventsRead.HasStamps, EventsRead.stamps-with-two, FilledRead.batches-back, Live.runs-back, Live.missed-back}
 use Rattle.dspec_ctf_reading.proofs.laws.live_file_reads_back.Goals as goal
 
 pub returns-clause-runs : goal.returns-clause-runs

@@ -1,5 +1,4 @@
-use Rattle.dspec_ctf_reading.proofs.Headings.{origin-back}
-use Rattle.dspec_ctf_reading.proofs.Allowed.{all-told, names-none, process-shown}
+use Rattle.dspec_ctf_reading.proofs.{Allowed.all-told, Allowed.names-none, Allowed.process-shown, Headings.origin-back}
 use Rattle.dspec_ctf_reading.proofs.laws.metadata_reads_back.Goals as goal
 
 pub returns : goal.returns

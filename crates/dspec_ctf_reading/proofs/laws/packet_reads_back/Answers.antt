@@ -1,7 +1,6 @@
 use Rattle.std.proofs.Common.{Some, None, true, false}
 use Rattle.dspec_ctf_reading.specs.Words.{names_by}
-use Rattle.dspec_ctf_reading.proofs.EventsRead.{HasStamps, stamps-with-two}
-use Rattle.dspec_ctf_reading.proofs.PacketsRead.{HasSpan, packet-back}
+use Rattle.dspec_ctf_reading.proofs.{EventsRead.HasStamps, EventsRead.stamps-with-two, PacketsRead.HasSpan, PacketsRead.packet-back}
 use Rattle.dspec_ctf_reading.proofs.laws.packet_reads_back.Goals as goal
 
 pub returns-clause-taken : goal.returns-clause-taken

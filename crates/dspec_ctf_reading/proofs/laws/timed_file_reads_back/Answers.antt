@@ -1,6 +1,5 @@
 use Rattle.dspec_ctf_reading.specs.Words.{names_by}
-use Rattle.dspec_ctf_reading.proofs.EventsRead.{stamps-with-two}
-use Rattle.dspec_ctf_reading.proofs.Timed.{timed-back}
+use Rattle.dspec_ctf_reading.proofs.{EventsRead.stamps-with-two, Timed.timed-back}
 use Rattle.dspec_ctf_reading.proofs.laws.timed_file_reads_back.Goals as goal
 
 pub returns : goal.returns

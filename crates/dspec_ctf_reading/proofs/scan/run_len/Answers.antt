@@ -1,5 +1,4 @@
-use Rattle.std.proofs.Common.{rules, arith, length}
-use Rattle.std.proofs.lemmas.Grind.{common_steps}
+use Rattle.std.proofs.{Common.rules, Common.arith, Common.length, lemmas.Grind.common_steps}
 use Rattle.dspec_ctf_reading.specs.Words.{test_of}
 use Rattle.dspec_ctf_reading.proofs.ScanLemmas.{run-ends}
 use Rattle.dspec_ctf_reading.proofs.scan.run_len.Goals as goal

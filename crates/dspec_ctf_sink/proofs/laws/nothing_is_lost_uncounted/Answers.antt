@@ -1,5 +1,4 @@
-use Rattle.dspec_ctf_sink.proofs.Accounting.{accounts}
-use Rattle.dspec_ctf_sink.proofs.Timely.{timed-accounts}
+use Rattle.dspec_ctf_sink.proofs.{Accounting.accounts, Timely.timed-accounts}
 use Rattle.dspec_ctf_sink.proofs.laws.nothing_is_lost_uncounted.Goals as goal
 
 pub returns-clause-taken : goal.returns-clause-taken

@@ -1,7 +1,5 @@
-use Rattle.std.proofs.Common.{◌≡◌, [], false}
-use Rattle.std.proofs.lemmas.Result.{IfErr-weaker, IfOk-weaker}
-use Rattle.dspec_ctf_sink.specs.Words.{AreFilledOf, filled_packets, HasNoPacket}
-use Rattle.dspec_ctf.specs.declared.stream.PacketFault.TheVariants.{Memory}
+use Rattle.std.proofs.{Common.◌≡◌, Common.[], Common.false, lemmas.Result.IfErr-weaker, lemmas.Result.IfOk-weaker}
+use Rattle.dspec_ctf_sink.specs.Words.{AreFilledOf, filled_packets, HasNoPacket, Memory}
 use Rattle.dspec_ctf_sink.proofs.Silent.{is_silent, only_memory}
 use Rattle.dspec_ctf_sink.proofs.next.silent_packet.Goals as goal
 

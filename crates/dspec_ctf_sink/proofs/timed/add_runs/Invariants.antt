@@ -1,6 +1,6 @@
 use Rattle.std.proofs.Common.{◌≤◌, ◌-◌, ℕ, List, length}
 use Rattle.std.specs.Prelude.{Option}
-use Rattle.dspec_ctf_sink.specs.Words.{FileWrite, AddsAll, StopsRuns, Loss}
+use Rattle.dspec_ctf_sink.specs.{Words.FileWrite, Words.AddsAll, Words.StopsRuns, declared.losing.Loss.Loss}
 use Rattle.dspec_ctf_sink.proofs.timed.add_runs.Given as goal
 
 abbrev pub invariant-loop-place : goal.invariant-loop-place

@@ -1,7 +1,4 @@
-use Rattle.dspec_deeds.proofs.OwnReads.{alike_other}
-use Rattle.dspec_deeds.proofs.StayingOwn.{late_other}
-use Rattle.dspec_deeds.proofs.StayingFree.{free_or_taken}
-use Rattle.dspec_deeds.proofs.StayingDecided.{waits_stays}
+use Rattle.dspec_deeds.proofs.{OwnReads.alike_other, StayingDecided.waits_stays, StayingFree.free_or_taken, StayingOwn.late_other}
 use Rattle.dspec_deeds.proofs.common.others_leave.Goals as goal
 
 pub returns : goal.returns

@@ -1,7 +1,5 @@
 use Rattle.std.proofs.Common.{refl}
-use Rattle.dspec_deeds.proofs.WordsMade.{words_made, acks_made}
-use Rattle.dspec_deeds.proofs.WordsRise.{words_rise}
-use Rattle.dspec_deeds.proofs.Acked.{acks_rise}
+use Rattle.dspec_deeds.proofs.{Acked.acks_rise, WordsMade.words_made, WordsMade.acks_made, WordsRise.words_rise}
 use Rattle.dspec_deeds.proofs.common.word_changes.Goals as goal
 
 pub returns-clause-words : goal.returns-clause-words

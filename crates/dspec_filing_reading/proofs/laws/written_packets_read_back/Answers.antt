@@ -1,5 +1,4 @@
-use Rattle.dspec_filing_reading.proofs.FilesLaws.{FilesLaws}
-use Rattle.dspec_filing_reading.proofs.Folding.{written_read}
+use Rattle.dspec_filing_reading.proofs.{FilesLaws.FilesLaws, Folding.written_read}
 use Rattle.dspec_filing_reading.proofs.laws.written_packets_read_back.Goals as goal
 
 pub returns : goal.returns

@@ -1,5 +1,4 @@
-use Rattle.std.proofs.Common.{◌≡◌, ◌∙◌, [], Some, ap, below_more, arith}
-use Rattle.std.proofs.lemmas.Option.{slice_get-get_or}
+use Rattle.std.proofs.{Common.◌≡◌, Common.◌∙◌, Common.[], Common.Some, Common.ap, Common.below_more, Common.arith, lemmas.Option.slice_get-get_or}
 use Rattle.std.specs.List.{slice_get}
 use Rattle.dspec_folder_view.proofs.Uuids.{nowhere}
 use Rattle.dspec_folder_view.proofs.judging.place_of.Goals as goal

@@ -1,5 +1,4 @@
-use Rattle.dspec_interleaving.proofs.ClosedParts.{closing_authors}
-use Rattle.dspec_interleaving.proofs.Closing.{can_close, closing_closes}
+use Rattle.dspec_interleaving.proofs.{ClosedParts.closing_authors, Closing.can_close, Closing.closing_closes}
 use Rattle.dspec_interleaving.proofs.laws.close_is_legal.Goals as goal
 
 pub returns-clause-legal : goal.returns-clause-legal

@@ -1,6 +1,5 @@
 use Rattle.std.proofs.Common.{sym}
-use Rattle.dspec_interleaving.proofs.WholeStates.{whole_legal}
-use Rattle.dspec_interleaving.proofs.WholeTurns.{whole_play, whole_unrefused}
+use Rattle.dspec_interleaving.proofs.{WholeStates.whole_legal, WholeTurns.whole_play, WholeTurns.whole_unrefused}
 use Rattle.dspec_interleaving.proofs.laws.whole_plays.Goals as goal
 
 pub returns-clause-unrefused : goal.returns-clause-unrefused

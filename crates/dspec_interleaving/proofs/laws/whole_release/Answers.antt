@@ -1,7 +1,6 @@
 use Rattle.std.proofs.Common.{subst, sym, ◌<◌}
 use Rattle.dspec_interleaving.specs.Words.{at_start, AreCalls}
-use Rattle.dspec_interleaving.proofs.WholeStates.{start_rests, rest_all, config_all}
-use Rattle.dspec_interleaving.proofs.WholeRelease.{whole_release}
+use Rattle.dspec_interleaving.proofs.{WholeRelease.whole_release, WholeStates.start_rests, WholeStates.rest_all, WholeStates.config_all}
 use Rattle.dspec_interleaving.proofs.laws.whole_release.Goals as goal
 
 pub returns : goal.returns

@@ -1,5 +1,4 @@
-use Rattle.dspec_interleaving.proofs.WornCounts.{step_wears, clean_wears}
-use Rattle.dspec_interleaving.proofs.OwnAnswersPlay.{played_worn}
+use Rattle.dspec_interleaving.proofs.{OwnAnswersPlay.played_worn, WornCounts.step_wears, WornCounts.clean_wears}
 use Rattle.dspec_interleaving.proofs.laws.worn_rule.Goals as goal
 
 pub returns-clause-cpu : goal.returns-clause-cpu

@@ -1,5 +1,5 @@
 use Rattle.std.proofs.Common.{sym, ap, ◌∙◌}
-use Rattle.dspec_interleaving.specs.declared.flight.ConsumerProgress.{ConsumerProgress}
+use Rattle.dspec_picture.specs.Words.{ConsumerProgress}
 use Rattle.dspec_picture.proofs.Tellable.{consumer_can_be_told}
 use Rattle.dspec_picture.proofs.telling.tell_consumer_step.Goals as goal
 

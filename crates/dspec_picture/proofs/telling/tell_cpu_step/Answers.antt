@@ -1,5 +1,5 @@
 use Rattle.std.proofs.Common.{sym, ap, ◌∙◌}
-use Rattle.dspec_interleaving.specs.declared.flight.CpuProgress.{CpuProgress}
+use Rattle.dspec_picture.specs.Words.{CpuProgress}
 use Rattle.dspec_picture.proofs.Tellable.{cpu_can_be_told}
 use Rattle.dspec_picture.proofs.telling.tell_cpu_step.Goals as goal
 

@@ -1,6 +1,5 @@
 -- Each field is compared with the one at its place.
-use Rattle.std.proofs.Common.{rules}
-use Rattle.std.proofs.lemmas.Slice.Eq.{slice_eq-Decides}
+use Rattle.std.proofs.{Common.rules, lemmas.Slice.Eq.slice_eq-Decides}
 use denote.Enum.Bare.{same_true, true_same}
 use Rattle.dspec_record.specs.contracts.field.Field.{the_type}
 use Rattle.dspec_probe.proofs.probe.same_fields.Goals as goal

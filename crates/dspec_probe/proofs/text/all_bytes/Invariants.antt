@@ -1,6 +1,5 @@
 use Rattle.std.proofs.Common.{◌≡◌, ◌++◌, drop}
-use Rattle.std.specs.List.{flat_map}
-use Rattle.std.specs.Int.{w64, to_le_bytes}
+use Rattle.std.specs.{Int.w64, Int.to_le_bytes, List.flat_map}
 use Rattle.dspec_probe.proofs.text.all_bytes.Given as goal
 
 abbrev pub invariant-loop-word : goal.invariant-loop-word

@@ -1,6 +1,5 @@
 -- One word more, behind those so far.
-use Rattle.std.proofs.Common.{length, ◌∙◌}
-use Rattle.std.proofs.lemmas.List.{length-set}
+use Rattle.std.proofs.{Common.length, Common.◌∙◌, lemmas.List.length-set}
 use Rattle.dspec_probe.specs.Words.{text_word, filled_words}
 use Rattle.dspec_probe.proofs.Words.{word-on}
 use Rattle.dspec_probe.proofs.text.put_words.Goals as goal

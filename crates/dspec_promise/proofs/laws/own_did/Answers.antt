@@ -1,6 +1,5 @@
 use Rattle.std.proofs.Common.{refl}
-use Rattle.dspec_deeds.specs.declared.deed.Deed.TheVariants.{Trace, Speculate, Commit, Discard, Settle}
-use Rattle.dspec_promise.specs.Words.{commit, discard, service, traced, speculated, emptied}
+use Rattle.dspec_promise.specs.Words.{Trace, Speculate, Commit, Discard, Settle, commit, discard, service, traced, speculated, emptied}
 use Rattle.dspec_promise.proofs.OwnDid.{did_part, did_bare, did_own}
 use Rattle.dspec_promise.proofs.laws.own_did.Goals as goal
 

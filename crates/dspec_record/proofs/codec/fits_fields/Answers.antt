@@ -1,9 +1,7 @@
 -- A value is compared with the limit of its field.
-use Rattle.std.proofs.Common.{◌≡◌, ◌≤◌, ◌<◌, List, ℕ, length, get_or, sym, ◌∙◌, ap, arith}
-use Rattle.std.proofs.lemmas.List.{length-map}
-use Rattle.dspec_record.specs.Words.{limit, Field}
-use Rattle.dspec_record.proofs.Fitting.{fits-apart}
-use Rattle.dspec_record.proofs.Limits.{fits-above, fits-within}
+use Rattle.std.proofs.{Common.◌≡◌, Common.◌≤◌, Common.◌<◌, Common.List, Common.ℕ, Common.length, Common.get_or, Common.sym, Common.◌∙◌, Common.ap, Common.arith, lemmas.List.length-map}
+use Rattle.dspec_record.specs.{Words.limit, declared.field.Field.Field}
+use Rattle.dspec_record.proofs.{Fitting.fits-apart, Limits.fits-above, Limits.fits-within}
 use Rattle.dspec_record.proofs.codec.fits_fields.Goals as goal
 
 pub returns-then-fields-values : goal.returns-then-fields-values

@@ -1,6 +1,5 @@
 -- Each store has zeros behind what it is for.
-use Rattle.std.proofs.Common.{◌∙◌, refl, ap, arith}
-use Rattle.std.proofs.lemmas.List.{length-take-le}
+use Rattle.std.proofs.{Common.◌∙◌, Common.refl, Common.ap, Common.arith, lemmas.List.length-take-le}
 use Rattle.dspec_record.specs.Words.{fields_start}
 use Rattle.dspec_record.proofs.Headers.{one-put, one-clear, two-put, two-clear}
 use Rattle.dspec_record.proofs.codec.put_header.Goals as goal

@@ -1,10 +1,10 @@
 -- The header is written first; then each field finds the room that the layout left for it.
 use Rattle.std.proofs.Common.{◌≡◌, ◌≤◌, ◌<◌, ◌+◌, ◌++◌, ℕ, List, length, take, drop, get_or, arith, sym, ◌∙◌, ap, subst, [], ◌∷◌}
 use Rattle.std.proofs.lemmas.List.{drop_more, drop_all}
-use Rattle.dspec_record.specs.Words.{width, after, fields_start, layout, Record, little_endian, gap, record_text, header-within, IsClearBehind, Field, Header, One}
-use Rattle.dspec_record.proofs.Fitting.{fits-length}
-use Rattle.dspec_record.proofs.Places.{IsPlaced, IsPlaced-start, IsPlaced-place, IsPlaced-next, length-field_places}
-use Rattle.dspec_record.proofs.Writing.{IsWriting, IsWriting-start, IsWriting-room, IsWriting-next, IsWriting-end}
+use Rattle.dspec_record.specs.Words.{width, after, fields_start, layout, Record, little_endian, gap, record_text, header-within, IsClearBehind}
+use Rattle.dspec_record.specs.declared.{field.Field.Field, field.Field.TheVariants.One, header.Header.Header}
+use Rattle.dspec_record.proofs.{Fitting.fits-length, Places.IsPlaced, Places.IsPlaced-start, Places.IsPlaced-place, Places.IsPlaced-next, Places.length-field_places, Writing.IsWriting}
+use Rattle.dspec_record.proofs.{Writing.IsWriting-start, Writing.IsWriting-room, Writing.IsWriting-next, Writing.IsWriting-end}
 use Rattle.dspec_record.proofs.codec.put_values.Goals as goal
 
 pub put_header-end-requires : goal.put_header-end-requires

@@ -1,7 +1,6 @@
 use Rattle.std.proofs.Common.{drop}
 use Rattle.dspec_record.specs.Words.{layout, record_text}
-use Rattle.dspec_record.proofs.Writing.{IsWriting}
-use Rattle.dspec_record.proofs.Places.{IsPlaced}
+use Rattle.dspec_record.proofs.{Places.IsPlaced, Writing.IsWriting}
 use Rattle.dspec_record.proofs.codec.put_values.Given as goal
 
 abbrev pub invariant-loop-i : goal.invariant-loop-i

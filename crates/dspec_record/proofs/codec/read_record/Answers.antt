@@ -1,7 +1,7 @@
 -- Each field is read where the layout has it, behind zeros.
 use Rattle.std.proofs.Common.{◌≡◌, ◌≤◌, ◌+◌, ◌++◌, ℕ, List, [], ◌∷◌, length, drop, arith, subst, sym, ◌∙◌, ap}
 use Rattle.std.proofs.lemmas.List.{length-append}
-use Rattle.dspec_record.specs.Words.{fields_start, Record, IsRead, Header, header-within}
+use Rattle.dspec_record.specs.{Words.fields_start, Words.Record, Words.IsRead, Words.header-within, declared.header.Header.Header}
 use Rattle.dspec_record.proofs.ReadBack.{IsReading, IsReading-start, IsReading-near, next-within, IsReading-next, IsReading-gap, IsReading-whole}
 use Rattle.dspec_record.proofs.codec.read_record.Goals as goal
 

@@ -1,8 +1,7 @@
 -- The value is added to the word in which its field stands: the shift loses no bit of it, and the sum holds.
-use Rattle.std.proofs.Common.{◌≡◌, ◌<◌, ◌+◌, ◌*◌, ◌/◌, ◌%◌, ◌^◌, All, ℕ, List, get_or, set, sym, ◌∙◌, ap, subst, arith}
-use Rattle.std.proofs.Math.Nat.{mod-eq_of_lt}
-use Rattle.std.proofs.lemmas.List.Elements.{All-from_get_or}
-use Rattle.dspec_record.specs.Words.{width, rounded_up, number_of_words, Field}
+use Rattle.std.proofs.{Common.◌≡◌, Common.◌<◌, Common.◌+◌, Common.◌*◌, Common.◌/◌, Common.◌%◌, Common.◌^◌, Common.All, Common.ℕ, Common.List, Common.get_or, Common.set, Common.sym, Common.◌∙◌}
+use Rattle.std.proofs.{Common.ap, Common.subst, Common.arith, Math.Nat.mod-eq_of_lt, lemmas.List.Elements.All-from_get_or}
+use Rattle.dspec_record.specs.{Words.width, Words.rounded_up, Words.number_of_words, declared.field.Field.Field}
 use Rattle.dspec_record.proofs.AddingValues.{word-within, value-room, value-shifted, value-added, sum-below}
 use Rattle.dspec_record.proofs.laid_out.pack_behind.Goals as goal
 

@@ -1,6 +1,6 @@
 -- The limit of each field is written behind those before it.
 use Rattle.std.proofs.Common.{◌<◌, ◌+◌, ℕ, List, length, set, arith, sym, subst}
-use Rattle.dspec_record.specs.Words.{Field}
+use Rattle.dspec_record.specs.declared.field.Field.{Field}
 use Rattle.dspec_record.proofs.Limits.{AreKnown, AreKnown-start, AreKnown-next}
 use Rattle.dspec_record.proofs.layout.limits_of.Goals as goal
 

@@ -1,6 +1,6 @@
 -- The place of each field is written behind those before it.
 use Rattle.std.proofs.Common.{◌<◌, ◌+◌, ℕ, List, length, get_or, set, arith, sym, subst, replicate}
-use Rattle.dspec_record.specs.Words.{width, rounded_up, Field, One}
+use Rattle.dspec_record.specs.{Words.width, Words.rounded_up, declared.field.Field.Field, declared.field.Field.TheVariants.One}
 use Rattle.dspec_record.proofs.Places.{ArePlaced, ArePlaced-start, ArePlaced-next}
 use Rattle.dspec_record.proofs.layout.places_of.Goals as goal
 

@@ -1,6 +1,5 @@
 -- A word is masked behind those before it.
-use Rattle.std.proofs.Common.{length, get_or, refl, ◌∙◌, arith}
-use Rattle.std.proofs.lemmas.List.{length-set}
+use Rattle.std.proofs.{Common.length, Common.get_or, Common.refl, Common.◌∙◌, Common.arith, lemmas.List.length-set}
 use Rattle.std.specs.Int.RustNames.{bit_and}
 use Rattle.dspec_record.proofs.PackedRecords.{kept-masked, masked-more}
 use Rattle.dspec_record.proofs.packed.masked.Goals as goal

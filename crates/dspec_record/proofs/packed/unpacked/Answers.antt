@@ -2,9 +2,9 @@
 use Rattle.std.proofs.Common.{◌≡◌, ◌≤◌, ◌<◌, ◌+◌, ◌*◌, ◌/◌, ◌%◌, ◌^◌, ◌++◌, ◌∷◌, [], All, ℕ, List, length, get_or, sym, ◌∙◌, ap, subst, arith}
 use Rattle.std.proofs.lemmas.List.Elements.{All-from_get_or}
 use Rattle.std.specs.Int.RustNames.{bit_and}
-use Rattle.dspec_record.specs.Words.{width, limit, rounded_up, number_of_words, words_in, Field, One, Two, Four, Eight}
-use Rattle.dspec_record.proofs.CutWords.{AreCut, AreCut-place, AreCut-near, AreCut-value, AreCut-next}
-use Rattle.dspec_record.proofs.Places.{place-le}
+use Rattle.dspec_record.specs.Words.{width, limit, rounded_up, number_of_words, words_in}
+use Rattle.dspec_record.specs.declared.field.Field.{Field, TheVariants.One, TheVariants.Two, TheVariants.Four, TheVariants.Eight}
+use Rattle.dspec_record.proofs.{CutWords.AreCut, CutWords.AreCut-place, CutWords.AreCut-near, CutWords.AreCut-value, CutWords.AreCut-next, Places.place-le}
 use Rattle.dspec_record.proofs.packed.unpacked.Goals as goal
 
 pub place-place-requires : goal.place-place-requires

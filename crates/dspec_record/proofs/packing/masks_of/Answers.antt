@@ -1,9 +1,8 @@
 -- The mask of each field is added to its word.
 use Rattle.std.proofs.Common.{◌≡◌, ◌+◌, ◌*◌, ◌/◌, ◌%◌, ◌^◌, ℕ, List, get_or, set, sym, ◌∙◌, ap, subst, arith}
 use Rattle.std.proofs.Math.Nat.{mod-eq_of_lt}
-use Rattle.dspec_record.specs.Words.{width, limit, rounded_up, Field, One}
-use Rattle.dspec_record.proofs.MakingMasks.{AreMasked, AreMasked-shifted, AreMasked-room, AreMasked-next, AreMasked-end}
-use Rattle.dspec_record.proofs.Masking.{masks_for-is}
+use Rattle.dspec_record.specs.{Words.width, Words.limit, Words.rounded_up, declared.field.Field.Field, declared.field.Field.TheVariants.One}
+use Rattle.dspec_record.proofs.{MakingMasks.AreMasked, MakingMasks.AreMasked-shifted, MakingMasks.AreMasked-room, MakingMasks.AreMasked-next, MakingMasks.AreMasked-end, Masking.masks_for-is}
 use Rattle.dspec_record.proofs.packing.masks_of.Goals as goal
 
 -- what is added: the shift loses no bit

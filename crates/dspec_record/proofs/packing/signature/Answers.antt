@@ -1,8 +1,7 @@
 use Rattle.std.proofs.Common.{◌≡◌, ◌≤◌, ◌<◌, ◌+◌, ◌*◌, ◌-◌, ◌^◌, ℕ, List, length, drop, get_or, ◌∙◌, ap, arith}
 use Rattle.std.proofs.lemmas.List.{length-drop}
-use Rattle.dspec_record.specs.Words.{width, Field, One, signature_of}
-use Rattle.dspec_record.proofs.Claiming.{signature_of-fits}
-use Rattle.dspec_record.proofs.Signing.{signature-more}
+use Rattle.dspec_record.specs.{Words.width, Words.signature_of, declared.field.Field.Field, declared.field.Field.TheVariants.One}
+use Rattle.dspec_record.proofs.{Claiming.signature_of-fits, Signing.signature-more}
 use Rattle.dspec_record.proofs.packing.signature.Goals as goal
 
 below : (fs : List Field) (rest : ℕ) → length fs ≤ 8 → signature_of (drop rest fs) < 2 ^ 32

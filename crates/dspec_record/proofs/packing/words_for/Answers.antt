@@ -1,6 +1,5 @@
 use Rattle.std.proofs.Common.{ap, arith}
-use Rattle.dspec_record.specs.Words.{layout-IsShape}
-use Rattle.dspec_record.specs.declared.header.Header.TheVariants.{One}
+use Rattle.dspec_record.specs.{Words.layout-IsShape, declared.header.Header.TheVariants.One}
 use Rattle.dspec_record.proofs.packing.words_for.Goals as goal
 
 pub overflow_add-result : goal.overflow_add-result

@@ -1,5 +1,4 @@
-use Rattle.std.proofs.Common.{◌<◌, length, refl, arith}
-use Rattle.std.proofs.lemmas.Option.{slice_get_read}
+use Rattle.std.proofs.{Common.◌<◌, Common.length, Common.refl, Common.arith, lemmas.Option.slice_get_read}
 use Rattle.dspec_session_core.proofs.Callings.{cpu_there, met_there}
 use Rattle.dspec_replay.proofs.whole_calls.run_cpu.Goals as goal
 

@@ -1,9 +1,6 @@
-use Rattle.std.proofs.Common.{rules, Bor, List, ℕ, arith, length-set, [], sym, map}
-use Rattle.std.proofs.lemmas.Result.{err_from_is_err_and}
-use Rattle.dspec_schedule.proofs.StepLemmas.{each-more, each-fault}
+use Rattle.std.proofs.{Common.rules, Common.Bor, Common.List, Common.ℕ, Common.arith, Common.length-set, Common.[], Common.sym, Common.map, lemmas.List.length-map, lemmas.Result.err_from_is_err_and}
+use Rattle.dspec_schedule.proofs.{ReadingLemmas.record_of-values_fault, StepLemmas.each-more, StepLemmas.each-fault}
 use Rattle.dspec_schedule.specs.Words.{wide_number_of}
-use Rattle.dspec_schedule.proofs.ReadingLemmas.{record_of-values_fault}
-use Rattle.std.proofs.lemmas.List.{length-map}
 use Rattle.dspec_schedule.proofs.grammar.record.Goals as goal
 
 pub loop-index-preserved : goal.loop-index-preserved

@@ -1,6 +1,5 @@
 use Rattle.std.proofs.Common.{rules, arith, ◌≡◌, ◌<◌, [], length, get_or, false, sym, is_ok}
-use Rattle.std.proofs.lemmas.Grind.{common_steps}
-use Rattle.std.proofs.lemmas.List.Folds.{list_all_at}
+use Rattle.std.proofs.lemmas.{Grind.common_steps, List.Folds.list_all_at}
 use Rattle.dspec_schedule.proofs.StepLemmas.{is_ok-each}
 use Rattle.dspec_schedule.specs.Words.{wide_number_of}
 use Rattle.dspec_schedule.proofs.number.are_numbers.Goals as goal

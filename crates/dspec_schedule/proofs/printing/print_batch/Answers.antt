@@ -1,5 +1,4 @@
-use Rattle.std.proofs.Common.{◌++◌, append_assoc, ◌∙◌, ap, rules}
-use Rattle.std.proofs.lemmas.Result.{IfOk-equal}
+use Rattle.std.proofs.{Common.◌++◌, Common.append_assoc, Common.◌∙◌, Common.ap, Common.rules, lemmas.Result.IfOk-equal}
 use Rattle.dspec_schedule.specs.Words.{records_text}
 use Rattle.dspec_schedule.proofs.printing.print_batch.Goals as goal
 

@@ -1,8 +1,6 @@
-use Rattle.std.proofs.Common.{◌++◌, string_bytes, ◌∙◌, ap, sym, refl}
+use Rattle.std.proofs.{Common.◌++◌, Common.string_bytes, Common.◌∙◌, Common.ap, Common.sym, Common.refl, lemmas.Iterator.YieldsList-from_slice, lemmas.Iterator.YieldsList-from_zip}
+use Rattle.std.proofs.{lemmas.Iterator.Consumers.YieldsList-at, lemmas.Iterator.Consumers.YieldsList-from_enumerate, lemmas.Iterator.Consumers.YieldsList-end, lemmas.List.Folds.flat_map-map}
 use Rattle.std.specs.List.{flat_map}
-use Rattle.std.proofs.lemmas.List.Folds.{flat_map-map}
-use Rattle.std.proofs.lemmas.Iterator.{YieldsList-from_slice, YieldsList-from_zip}
-use Rattle.std.proofs.lemmas.Iterator.Consumers.{YieldsList-at, YieldsList-from_enumerate, YieldsList-end}
 use Rattle.dspec_schedule.proofs.Growing.{flat_map-two_more}
 use Rattle.dspec_schedule.specs.Words.{cpu_lines}
 use Rattle.dspec_schedule.proofs.printing.print_cpus.Goals as goal

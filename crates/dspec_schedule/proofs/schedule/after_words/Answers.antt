@@ -1,5 +1,4 @@
-use Rattle.std.proofs.Common.{rules, map}
-use Rattle.std.proofs.lemmas.Result.{err_from_is_err_and}
+use Rattle.std.proofs.{Common.rules, Common.map, lemmas.Result.err_from_is_err_and}
 use Rattle.dspec_schedule.proofs.LineLemmas.{words_read-first_fault}
 use Rattle.dspec_schedule.proofs.schedule.after_words.Goals as goal
 

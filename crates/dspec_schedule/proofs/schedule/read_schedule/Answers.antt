@@ -1,13 +1,9 @@
 use Rattle.std.proofs.Common.{rules, ◌≡◌, ◌==◌, ◌+◌, arith, length, [], ◌∷◌, map, length-append, None, option_map, drop, suc}
+use Rattle.std.proofs.lemmas.{Iterator.Consumers.YieldsList-at, Iterator.Consumers.YieldsList-so_far, Iterator.Consumers.YieldsList-turn, Iterator.Consumers.YieldsList-end}
+use Rattle.std.proofs.lemmas.{Iterator.Splits.YieldsList-from_slice_split, List.map-append, List.length-map, Result.err_from_is_err_and}
 use Rattle.std.specs.List.{slice_split}
-use Rattle.std.proofs.lemmas.List.{map-append, length-map}
-use Rattle.std.proofs.lemmas.Iterator.Consumers.{YieldsList-at, YieldsList-so_far, YieldsList-turn, YieldsList-end}
-use Rattle.std.proofs.lemmas.Iterator.Splits.{YieldsList-from_slice_split}
-use Rattle.std.proofs.lemmas.Result.{err_from_is_err_and}
 use Rattle.dspec_schedule.specs.Words.{plan_of}
-use Rattle.dspec_schedule.proofs.EndLemmas.{behind-more, cut_at}
-use Rattle.dspec_schedule.proofs.HeaderLemmas.{read-one_header}
-use Rattle.dspec_schedule.proofs.LineLemmas.{lines_read-more, schedule_of-fault, schedule_of-end}
+use Rattle.dspec_schedule.proofs.{EndLemmas.behind-more, EndLemmas.cut_at, HeaderLemmas.read-one_header, LineLemmas.lines_read-more, LineLemmas.schedule_of-fault, LineLemmas.schedule_of-end}
 use Rattle.dspec_schedule.proofs.schedule.read_schedule.Goals as goal
 
 pub loop-bytes-preserved : goal.loop-bytes-preserved

@@ -1,9 +1,7 @@
 use Rattle.std.proofs.Common.{rules, true, Bor, List, ℕ, arith, ◌≡◌, length-set, [], sym, map}
-use Rattle.std.proofs.lemmas.Result.{err_from_is_err_and}
-use Rattle.dspec_schedule.proofs.StepLemmas.{each-more, each-fault}
+use Rattle.std.proofs.lemmas.{List.length-map, Result.err_from_is_err_and}
+use Rattle.dspec_schedule.proofs.{ReadingLemmas.enabling_of-field_fault, StepLemmas.each-more, StepLemmas.each-fault}
 use Rattle.dspec_schedule.specs.Words.{field_of_word}
-use Rattle.dspec_schedule.proofs.ReadingLemmas.{enabling_of-field_fault}
-use Rattle.std.proofs.lemmas.List.{length-map}
 use Rattle.dspec_schedule.proofs.setup.enabling.Goals as goal
 
 pub loop-index-preserved : goal.loop-index-preserved

@@ -1,6 +1,5 @@
 use Rattle.std.proofs.Common.{rules, tests, lit<}
-use Rattle.std.proofs.lemmas.Iterator.Consumers.{map_from_collect, YieldsList-at, YieldsList-from_filter}
-use Rattle.std.proofs.lemmas.Iterator.Splits.{YieldsList-from_str_split}
+use Rattle.std.proofs.lemmas.Iterator.{Consumers.map_from_collect, Consumers.YieldsList-at, Consumers.YieldsList-from_filter, Splits.YieldsList-from_str_split}
 use Rattle.dspec_schedule.proofs.words.pieces.Goals as goal
 
 pub returns : goal.returns

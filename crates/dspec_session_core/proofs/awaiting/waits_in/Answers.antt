@@ -1,7 +1,6 @@
 use Rattle.std.proofs.Common.{◌∙◌, ℕ, ap, sym, subst}
 use Rattle.std.specs.Prelude.{nat_le}
-use Rattle.dspec_session_core.specs.Words.{awaits, known_there, AwaitedIn, waits_for_all}
-use Rattle.dspec_session_core.specs.Awaiting.{waits_for_none}
+use Rattle.dspec_session_core.specs.{Awaiting.waits_for_none, Words.awaits, Words.known_there, Words.AwaitedIn, Words.waits_for_all}
 use Rattle.dspec_session_core.proofs.awaiting.waits_in.Goals as goal
 
 pub returns-then-not-waits-clause-awaited : goal.returns-then-not-waits-clause-awaited

@@ -1,8 +1,6 @@
 use Rattle.std.proofs.Common.{◌≡◌, ◌+◌, ◌∙◌, ℕ, if◌then◌else◌, ap, sym, subst, arith}
-use Rattle.dspec_deeds.specs.declared.config.Config.{Config}
-use Rattle.dspec_session_core.specs.Words.{known_there, AwaitedSlots}
-use Rattle.dspec_session_core.proofs.Awaited.{slots_looked, one_more_looked, all_looked}
-use Rattle.dspec_session_core.proofs.awaiting.waits_of.Goals.{then-waits_in, else-waits_in}
+use Rattle.dspec_session_core.specs.Words.{Config, known_there, AwaitedSlots}
+use Rattle.dspec_session_core.proofs.{Awaited.slots_looked, Awaited.one_more_looked, Awaited.all_looked, awaiting.waits_of.Goals.then-waits_in, awaiting.waits_of.Goals.else-waits_in}
 use Rattle.dspec_session_core.proofs.awaiting.waits_of.Goals as goal
 
 pub overflow_add-count : goal.overflow_add-count

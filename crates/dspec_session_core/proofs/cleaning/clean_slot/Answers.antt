@@ -1,6 +1,5 @@
 use Rattle.std.proofs.Common.{◌∙◌, ℕ, ap, sym, subst}
-use Rattle.dspec_session_core.specs.Words.{awaits, MayReap, known_there, Acknowledged, MissesOne, CleanedSlot, waits_for_none, waits_for_one}
-use Rattle.dspec_deeds.specs.declared.config.Config.{Config}
+use Rattle.dspec_session_core.specs.Words.{awaits, MayReap, known_there, Acknowledged, MissesOne, CleanedSlot, waits_for_none, waits_for_one, Config}
 use Rattle.dspec_session_core.proofs.Acknowledging.{may_reap, reaped}
 use Rattle.dspec_session_core.proofs.cleaning.clean_slot.Goals as goal
 

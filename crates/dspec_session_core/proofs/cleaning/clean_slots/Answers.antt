@@ -1,6 +1,5 @@
 use Rattle.std.proofs.Common.{◌≡◌, ◌+◌, ◌∙◌, ℕ, if◌then◌else◌, ap, sym, subst, arith}
-use Rattle.dspec_deeds.specs.declared.config.Config.{Config}
-use Rattle.dspec_session_core.specs.Words.{known_there, CleanedSlots}
+use Rattle.dspec_session_core.specs.Words.{Config, known_there, CleanedSlots}
 use Rattle.dspec_session_core.proofs.Acknowledging.{slots_done, one_more, all_cleaned}
 use Rattle.dspec_session_core.proofs.cleaning.clean_slots.Goals.{then-clean_slot, else-clean_slot}
 use Rattle.dspec_session_core.proofs.cleaning.clean_slots.Goals as goal

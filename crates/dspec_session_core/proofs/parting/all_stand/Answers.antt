@@ -1,8 +1,6 @@
-use Rattle.std.proofs.Common.{◌≡◌, List, Some, sym, subst, arith}
+use Rattle.std.proofs.{Common.◌≡◌, Common.List, Common.Some, Common.sym, Common.subst, Common.arith, lemmas.Option.slice_get_within}
 use Rattle.std.specs.Prelude.{slice_get}
-use Rattle.std.proofs.lemmas.Option.{slice_get_within}
-use Rattle.dspec_cpu.specs.declared.cpu.Cpu.{Cpu}
-use Rattle.dspec_session_core.specs.Words.{IsSteady}
+use Rattle.dspec_session_core.specs.Words.{Cpu, IsSteady}
 use Rattle.dspec_session_core.proofs.Standing.{one_more_stands}
 use Rattle.dspec_session_core.proofs.parting.all_stand.Goals as goal
 

@@ -1,8 +1,7 @@
 -- Those that came before stand.
 use Rattle.std.proofs.Common.{◌≡◌, ℕ, ◌<◌, Some}
 use Rattle.std.specs.Prelude.{slice_get}
-use Rattle.dspec_cpu.specs.declared.cpu.Cpu.{Cpu}
-use Rattle.dspec_session_core.specs.Words.{IsSteady}
+use Rattle.dspec_session_core.specs.Words.{Cpu, IsSteady}
 use Rattle.dspec_session_core.proofs.parting.all_stand.Given as goal
 
 abbrev pub invariant-loop-cpu : goal.invariant-loop-cpu

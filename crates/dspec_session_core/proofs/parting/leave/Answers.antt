@@ -1,7 +1,6 @@
 use Rattle.std.proofs.Common.{◌≡◌, ◌++◌, ◌∙◌, reverse, Option, sym, subst}
 use mathlib.Core.List.{IsPrefix}
-use Rattle.dspec_session_core.specs.Words.{word_at, own_closed, ConsumerKnows, held_back_of_rest, AreSealed, waiting}
-use Rattle.dspec_ring.specs.declared.batch.Batch.{Batch}
+use Rattle.dspec_session_core.specs.Words.{word_at, own_closed, ConsumerKnows, held_back_of_rest, AreSealed, waiting, Batch}
 use Rattle.dspec_session_core.proofs.Leavings.{closing_part, legal_now, sealed_left, shows_before}
 use Rattle.dspec_session_core.proofs.parting.leave.Goals as goal
 

@@ -1,12 +1,10 @@
 use Rattle.std.proofs.Common.{◌+◌, ◌<◌, ◌++◌, ◌∙◌, List, [], ◌∷◌, length, map, vec_len, refl, sym, ap, subst, append-nil, arith}
 use Rattle.std.specs.Prelude.{option_to_list}
 use Rattle.dspec_deeds.proofs.TestLemmas.{numbers_differ, same_number}
-use Rattle.dspec_table.specs.declared.seats.CpuSeat.{CpuSeat}
-use Rattle.dspec_session_core.specs.Words.{Ended, last_words, known_there, set_up, CpuKnows, rest_with, seat_of, AllParted}
-use Rattle.dspec_session_core.proofs.AllParted.{all_seats, as_many, first_schema, is_rest, left_more, next_of_left, none_told, one_parts, rest_lists, seats_of_all, told_all}
-use Rattle.dspec_session_core.proofs.Ends.{none_in}
-use Rattle.dspec_session_core.proofs.FirstParted.{next_closing, next_few, next_has, next_pair, next_words, pushed_is}
-use Rattle.dspec_session_core.proofs.Partings.{are_seats}
+use Rattle.dspec_session_core.specs.Words.{CpuSeat, Ended, last_words, known_there, set_up, CpuKnows, rest_with, seat_of, AllParted}
+use Rattle.dspec_session_core.proofs.{AllParted.all_seats, AllParted.as_many, AllParted.first_schema, AllParted.is_rest, AllParted.left_more, AllParted.next_of_left, AllParted.none_told}
+use Rattle.dspec_session_core.proofs.{AllParted.one_parts, AllParted.rest_lists, AllParted.seats_of_all, AllParted.told_all, Ends.none_in, FirstParted.next_closing, FirstParted.next_few}
+use Rattle.dspec_session_core.proofs.{FirstParted.next_has, FirstParted.next_pair, FirstParted.next_words, FirstParted.pushed_is, Partings.are_seats}
 use Rattle.dspec_session_core.proofs.parting.part_all.Goals as goal
 
 -- there is no CPU

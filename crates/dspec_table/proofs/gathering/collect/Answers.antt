@@ -1,6 +1,5 @@
 use Rattle.std.proofs.Common.{◌∙◌, ap}
-use Rattle.dspec_table.proofs.Joining.{gathers}
-use Rattle.dspec_table.proofs.AtEnd.{at_last, at_rest, joined_rest, recalled_rest}
+use Rattle.dspec_table.proofs.{AtEnd.at_last, AtEnd.at_rest, AtEnd.joined_rest, AtEnd.recalled_rest, Joining.gathers}
 use Rattle.dspec_table.proofs.gathering.collect.Goals as goal
 
 pub join_seat-requires : goal.join_seat-requires

@@ -1,6 +1,6 @@
 use Rattle.std.proofs.Common.{◌≡◌, ◌⊎◌, ℕ, Some}
 use Rattle.std.specs.Prelude.{slice_get}
-use Rattle.dspec_table.specs.Words.{CpuSeat, known, AllAt, In, past_of}
+use Rattle.dspec_table.specs.{Words.known, Words.AllAt, Words.In, Words.past_of, declared.seats.CpuSeat.CpuSeat}
 use Rattle.dspec_table.proofs.gathering.collect.Given as goal
 
 abbrev pub invariant-loop-next : goal.invariant-loop-next

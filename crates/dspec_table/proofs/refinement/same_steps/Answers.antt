@@ -1,6 +1,4 @@
-use Rattle.dspec_table.proofs.SameDeeds.{same_deeds}
-use Rattle.dspec_table.proofs.SeatsDid.{seat_plays, mine_known}
-use Rattle.dspec_table.proofs.ConsumerMakes.{same_cleans, consumer_plays}
+use Rattle.dspec_table.proofs.{ConsumerMakes.same_cleans, ConsumerMakes.consumer_plays, SameDeeds.same_deeds, SeatsDid.seat_plays, SeatsDid.mine_known}
 use Rattle.dspec_table.proofs.refinement.same_steps.Goals as goal
 
 pub returns-clause-cpu : goal.returns-clause-cpu

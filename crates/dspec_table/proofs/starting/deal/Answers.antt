@@ -1,5 +1,5 @@
 use Rattle.std.proofs.Common.{◌≡◌, ◌+◌, ◌<◌, ◌∙◌, [], length, length-append, ap, sym, subst, arith}
-use Rattle.dspec_table.specs.Words.{dealing, fresh_seat, DealtSeats, dealt, without, View}
+use Rattle.dspec_table.specs.{Words.dealing, Words.fresh_seat, Words.DealtSeats, Words.dealt, Words.without, declared.rule.View.View}
 use Rattle.dspec_table.proofs.Dealing.{dealt_one, dealt_rest, deals_next, dealt_push}
 use Rattle.dspec_table.proofs.starting.deal.Goals as goal
 

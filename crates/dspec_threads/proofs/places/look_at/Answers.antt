@@ -1,5 +1,4 @@
-use Rattle.std.proofs.Common.{arith}
-use Rattle.std.proofs.lemmas.Bool.Decides.{nat_tests}
+use Rattle.std.proofs.{Common.arith, lemmas.Bool.Decides.nat_tests}
 use Rattle.dspec_threads.specs.Words.{ComesIn}
 use Rattle.dspec_threads.proofs.Whereabouts.{at_one, in_at_one}
 use Rattle.dspec_threads.proofs.places.look_at.Goals as goal

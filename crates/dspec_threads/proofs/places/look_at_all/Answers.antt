@@ -1,9 +1,6 @@
-use Rattle.std.proofs.lemmas.Bool.Decides.{nat_tests}
-use Rattle.std.proofs.Common.{arith}
-use Rattle.std.proofs.lemmas.List.{length-map}
+use Rattle.std.proofs.{Common.arith, lemmas.Bool.Decides.nat_tests, lemmas.List.length-map}
 use Rattle.dspec_threads.specs.Words.{ComesIn, whereabouts}
-use Rattle.dspec_threads.proofs.Pairs.{all_of_them, count_so_far, none_yet, one_more_pair}
-use Rattle.dspec_threads.proofs.Whereabouts.{all_or_one, none_in_yet, one_more_looked}
+use Rattle.dspec_threads.proofs.{Pairs.all_of_them, Pairs.count_so_far, Pairs.none_yet, Pairs.one_more_pair, Whereabouts.all_or_one, Whereabouts.none_in_yet, Whereabouts.one_more_looked}
 use Rattle.dspec_threads.proofs.places.look_at_all.Goals as goal
 
 pub loop-index-init : goal.loop-index-init

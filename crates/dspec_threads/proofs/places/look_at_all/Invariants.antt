@@ -1,8 +1,7 @@
 -- Each place so far was looked at: all are inside, or one isn't.
 use Rattle.std.specs.Prelude.{MatchBool}
 use Rattle.dspec_threads.specs.Words.{ComesIn, all_whereabouts}
-use Rattle.dspec_threads.proofs.Pairs.{EachTo}
-use Rattle.dspec_threads.proofs.Whereabouts.{InTo, OutTo}
+use Rattle.dspec_threads.proofs.{Pairs.EachTo, Whereabouts.InTo, Whereabouts.OutTo}
 use Rattle.dspec_threads.proofs.places.look_at_all.Given as goal
 
 abbrev pub invariant-loop-index : goal.invariant-loop-index

@@ -1,5 +1,4 @@
-use Rattle.std.proofs.Common.{ap, ◌∙◌}
-use Rattle.std.proofs.lemmas.List.{map_push}
+use Rattle.std.proofs.{Common.ap, Common.◌∙◌, lemmas.List.map_push}
 use Rattle.dspec_threads.specs.Words.{all_whereabouts, whereabouts}
 use Rattle.dspec_threads.proofs.Whereabouts.{one_more_at_home}
 use Rattle.dspec_threads.proofs.places.places_of.Goals as goal

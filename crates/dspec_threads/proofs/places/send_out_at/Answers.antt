@@ -1,5 +1,4 @@
-use Rattle.std.proofs.Common.{arith}
-use Rattle.std.proofs.lemmas.Bool.Decides.{nat_tests}
+use Rattle.std.proofs.{Common.arith, lemmas.Bool.Decides.nat_tests}
 use Rattle.std.specs.Arc.{arc_value}
 use Rattle.dspec_threads.specs.Words.{all_whereabouts, whereabouts}
 use Rattle.dspec_threads.proofs.Whereabouts.{at_one, callable_behind, there_read}

@@ -1,8 +1,6 @@
-use Rattle.std.proofs.Common.{arith}
-use Rattle.std.proofs.lemmas.List.{length-map}
+use Rattle.std.proofs.{Common.arith, lemmas.List.length-map}
 use Rattle.dspec_threads.specs.Words.{TendsPlace, whereabouts}
-use Rattle.dspec_threads.proofs.Pairs.{all_of_them, none_yet, one_more_pair}
-use Rattle.dspec_threads.proofs.Whereabouts.{placed_so_far}
+use Rattle.dspec_threads.proofs.{Pairs.all_of_them, Pairs.none_yet, Pairs.one_more_pair, Whereabouts.placed_so_far}
 use Rattle.dspec_threads.proofs.places.tend_all.Goals as goal
 
 pub loop-index-init : goal.loop-index-init

@@ -1,8 +1,7 @@
 -- Those that came before stand.
 use Rattle.std.proofs.Common.{◌≡◌, ℕ, ◌<◌, Some}
 use Rattle.std.specs.Prelude.{slice_get}
-use Rattle.dspec_cpu.specs.declared.cpu.Cpu.{Cpu}
-use Rattle.dspec_threads.specs.Words.{IsSteady}
+use Rattle.dspec_threads.specs.Words.{Cpu, IsSteady}
 use Rattle.dspec_threads.proofs.running.tell_all.Given as goal
 
 abbrev pub invariant-loop-one : goal.invariant-loop-one

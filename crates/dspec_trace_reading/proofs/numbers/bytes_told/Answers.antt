@@ -1,5 +1,4 @@
-use Rattle.std.proofs.Common.{◌<◌, arith}
-use Rattle.std.proofs.lemmas.List.Elements.{All-from_get_or}
+use Rattle.std.proofs.{Common.◌<◌, Common.arith, lemmas.List.Elements.All-from_get_or}
 use Rattle.dspec_trace_reading.proofs.numbers.bytes_told.Goals as goal
 
 pub returns : goal.returns

@@ -1,5 +1,4 @@
-use Rattle.dspec_ring.specs.declared.batch.Batch.{Batch}
-use Rattle.dspec_ctf_sink.specs.declared.telling.Telling.{Telling}
+use Rattle.dspec_trace_reading.specs.Words.{Batch, Telling}
 use Rattle.dspec_trace_reading.proofs.Through.{told_through}
 use Rattle.dspec_trace_reading.proofs.running.end_in.Goals as goal
 

@@ -1,7 +1,6 @@
 use Rattle.std.proofs.Common.{◌≡◌, ◌<◌, length, Some, sym, ap, ◌∙◌, subst, rules, get_or}
 use Rattle.std.proofs.lemmas.Option.{slice_get-get_or, slice_get_within, get_or_from_slice_get}
-use Rattle.fuzz.specs.Words.{EnabledRows, identity, AllWereCalled}
-use Rattle.dspec_cpu.specs.declared.cpu.Cpu.{Cpu}
+use Rattle.fuzz.specs.Words.{EnabledRows, identity, AllWereCalled, Cpu}
 use Rattle.fuzz.proofs.Lending.{at_place, all_called}
 use Rattle.fuzz.proofs.racing.work_all.Goals as goal
 

@@ -1,9 +1,8 @@
 -- A write leaves the text written up to the rest, whatever it took.
 use Rattle.std.proofs.Common.{sym, ap, subst}
 use Rattle.specplay.specs.Words.{AppendsBefore}
-use Rattle.specplay.proofs.WritingLemmas.{piece_written, rest_kept}
+use Rattle.specplay.proofs.{WritingLemmas.piece_written, WritingLemmas.rest_kept, runner.write_bytes.Goals.in-Ok, runner.write_bytes.Goals.in-Err+else-ne}
 use Rattle.specplay.proofs.runner.write_bytes.Goals as goal
-use Rattle.specplay.proofs.runner.write_bytes.Goals.{in-Ok, in-Err+else-ne}
 
 pub loop-preserved : goal.loop-preserved
 loop-preserved g c = elim c.match-write.branch [

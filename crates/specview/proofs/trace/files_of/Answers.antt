@@ -1,7 +1,6 @@
 use Rattle.std.proofs.Common.{◌∙◌, sym, ap, subst, reverse, length, slice_index_or, All, arith, slice_get}
 use Rattle.std.proofs.lemmas.Option.{slice_get-get_or}
-use Rattle.specview.specs.Words.{Accepts, stream, TellsCounts, AreStreams, TellsSmall}
-use Rattle.dspec_deeds.specs.declared.report.Report.{Report}
+use Rattle.specview.specs.Words.{Accepts, stream, TellsCounts, AreStreams, TellsSmall, Report}
 use Rattle.specview.proofs.AllFiles.{stream_at, streams_long, no_trace}
 use Rattle.specview.proofs.trace.files_of.Goals as goal
 

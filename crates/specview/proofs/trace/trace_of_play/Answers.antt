@@ -1,8 +1,6 @@
 use Rattle.std.proofs.Common.{◌≡◌, ℕ, ◌∙◌, ap, subst, sym, All, Some, length, reverse, slice_get}
-use Rattle.specview.specs.Words.{Accepts, stream, plan_of, shapes_of, worn_count, TellsSmall, event_rows}
-use Rattle.dspec_deeds.specs.declared.report.Report.{Report}
-use Rattle.specview.proofs.AllFiles.{reports_long, legal_told, of_numbered}
-use Rattle.specview.proofs.SmallPlays.{play_small}
+use Rattle.specview.specs.Words.{Accepts, stream, plan_of, shapes_of, worn_count, TellsSmall, event_rows, Report}
+use Rattle.specview.proofs.{AllFiles.reports_long, AllFiles.legal_told, AllFiles.of_numbered, SmallPlays.play_small}
 use Rattle.specview.proofs.trace.trace_of_play.Goals as goal
 
 pub files_of-requires-clause-reports : goal.files_of-requires-clause-reports

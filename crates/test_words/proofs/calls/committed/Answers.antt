@@ -1,7 +1,6 @@
 use Rattle.std.proofs.Common.{ℕ, true, ◌∙◌, sym, ap, subst}
-use Rattle.dspec_table.specs.declared.rule.View.{View}
+use Rattle.test_words.specs.Words.{View, MayTry, IsDeciding, known, Unused}
 use Rattle.dspec_deeds.specs.declared.calls.CpuOp.TheVariants as op
-use Rattle.test_words.specs.Words.{MayTry, IsDeciding, known, Unused}
 use Rattle.dspec_table.proofs.Flights.{tries_again}
 use Rattle.test_words.proofs.Turns.{attempted, tried_rests}
 use Rattle.test_words.proofs.calls.committed.Goals as goal

@@ -1,6 +1,5 @@
 use Rattle.std.proofs.Common.{List, [], ◌∷◌, ◌++◌, sym, ap, subst, ◌∙◌}
-use Rattle.dspec_table.specs.declared.seats.CpuSeat.{CpuSeat}
-use Rattle.test_words.specs.Words.{AreSeats, Ended, last_words, known_there}
+use Rattle.test_words.specs.Words.{CpuSeat, AreSeats, Ended, last_words, known_there}
 use Rattle.test_words.proofs.Pairs.{are_two}
 use Rattle.test_words.proofs.words.ended.Goals as goal
 

@@ -1,8 +1,7 @@
 use Rattle.std.proofs.Common.{◌≡◌, ◌≤◌, ◌&&◌, false, not, ap, sym, ◌∙◌, subst}
 use Rattle.std.specs.Prelude.{nat_lt}
 use Rattle.test_words.specs.Words.{is_inactive, of_cpu, known, LoadedActivity}
-use Rattle.test_words.proofs.Openers.{is_coded, is_spent, misses}
-use Rattle.test_words.proofs.words.shown_free.Goals.{then-ne-via-then-ne, then-ne-via-else-ne+then-issue-ge8}
+use Rattle.test_words.proofs.{Openers.is_coded, Openers.is_spent, Openers.misses, words.shown_free.Goals.then-ne-via-then-ne, words.shown_free.Goals.then-ne-via-else-ne+then-issue-ge8}
 use Rattle.test_words.proofs.words.shown_free.Goals as goal
 
 pub returns-then-ne-clause-shut : goal.returns-then-ne-clause-shut

@@ -1,8 +1,7 @@
 use Rattle.std.proofs.Common.{◌++◌, ap, ◌∙◌}
 use Rattle.std.specs.Prelude.{option_to_list}
 use Rattle.test_words.specs.Words.{known}
-use Rattle.test_words.proofs.Pairs.{first_is, second_is}
-use Rattle.test_words.proofs.Openers.{none_unused}
+use Rattle.test_words.proofs.{Openers.none_unused, Pairs.first_is, Pairs.second_is}
 use Rattle.test_words.proofs.words.started.Goals as goal
 
 pub returns-clause-first : goal.returns-clause-first

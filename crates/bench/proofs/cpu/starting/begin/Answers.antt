@@ -1,6 +1,5 @@
 use Rattle.std.proofs.Common.{ap, ◌∙◌}
-use Rattle.dspec_table.specs.declared.rule.View.{View}
-use Rattle.bench.specs.Words.{fresh_seat}
+use Rattle.bench.specs.Words.{View, fresh_seat}
 use Rattle.bench.proofs.Alone.{first_is}
 use Rattle.bench.proofs.cpu.starting.begin.Goals as goal
 

@@ -1,5 +1,4 @@
-use Rattle.std.proofs.lemmas.Bool.Decides.{nat_tests}
-use Rattle.std.proofs.Common.{◌<◌, length, arith}
+use Rattle.std.proofs.{Common.◌<◌, Common.length, Common.arith, lemmas.Bool.Decides.nat_tests}
 use Rattle.dspec.proofs.LeftBehind.{fewer, shown_first}
 use Rattle.dspec.proofs.each_closed.ClosedCpusIterator.next.Goals as goal
 

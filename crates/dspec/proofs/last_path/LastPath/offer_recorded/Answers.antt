@@ -1,5 +1,4 @@
-use Rattle.std.proofs.Common.{arith}
-use Rattle.std.proofs.lemmas.Bool.Decides.{nat_tests}
+use Rattle.std.proofs.{Common.arith, lemmas.Bool.Decides.nat_tests}
 use Rattle.dspec.proofs.LastPaths.{records_so}
 use Rattle.dspec.proofs.last_path.LastPath.offer_recorded.Goals as goal
 

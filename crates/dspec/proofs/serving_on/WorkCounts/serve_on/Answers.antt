@@ -1,5 +1,4 @@
-use Rattle.std.proofs.Common.{arith, refl}
-use Rattle.std.proofs.lemmas.Bool.Decides.{nat_tests}
+use Rattle.std.proofs.{Common.arith, Common.refl, lemmas.Bool.Decides.nat_tests}
 use Rattle.dspec.proofs.Serving.{not_served, served_again}
 use Rattle.dspec.proofs.serving_on.WorkCounts.serve_on.Goals as goal
 

@@ -1,8 +1,6 @@
 use Rattle.std.proofs.Common.{◌≡◌, ap, refl, ◌∙◌, subst, nat_le, arith}
 use Rattle.dspec_buffer.specs.Words.{reserved, extent}
-use Rattle.dspec_buffer.proofs.SchemaLaws.{laws_from}
-use Rattle.dspec_buffer.proofs.Fitting.{admits_none, answers}
-use Rattle.dspec_buffer.proofs.Keeping.{reaches}
+use Rattle.dspec_buffer.proofs.{Fitting.admits_none, Fitting.answers, Keeping.reaches, SchemaLaws.laws_from}
 use Rattle.dspec_buffer.proofs.byte_buffer.ByteBufferTraceBuffer.fits.Goals as goal
 
 pub returns-then-size-eq0 : goal.returns-then-size-eq0

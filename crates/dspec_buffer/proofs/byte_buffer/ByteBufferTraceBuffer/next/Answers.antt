@@ -1,7 +1,6 @@
 use Rattle.std.proofs.Common.{subst}
 use Rattle.dspec_buffer.specs.Words.{HasAhead, StepsAhead}
-use Rattle.dspec_buffer.proofs.SchemaLaws.{laws_from}
-use Rattle.dspec_buffer.proofs.Walks.{walk_from}
+use Rattle.dspec_buffer.proofs.{SchemaLaws.laws_from, Walks.walk_from}
 use Rattle.dspec_buffer.proofs.byte_buffer.ByteBufferTraceBuffer.next.Goals as goal
 
 pub returns : goal.returns

@@ -1,6 +1,5 @@
 use Rattle.std.proofs.Common.{length, ap, ◌∙◌}
-use Rattle.dspec_buffer.proofs.SchemaLaws.{laws_from}
-use Rattle.dspec_buffer.proofs.Keeping.{extent_of_pieces}
+use Rattle.dspec_buffer.proofs.{Keeping.extent_of_pieces, SchemaLaws.laws_from}
 use Rattle.dspec_buffer.proofs.byte_buffer.ByteBufferTraceBuffer.offset.Goals as goal
 
 pub returns-clause-extent : goal.returns-clause-extent

@@ -1,9 +1,8 @@
 use Rattle.std.proofs.Common.{◌≡◌, ◌++◌, ◌-◌, true, false, inr, ap, refl, sym, ◌∙◌, arith, length, take, replicate}
 use Rattle.std.proofs.lemmas.List.{length-take-le}
 use Rattle.dspec_buffer.specs.Words.{block, extent, padded}
-use Rattle.dspec_buffer.proofs.SchemaLaws.{laws_from}
-use Rattle.dspec_buffer.proofs.Fitting.{refuses, admits, admits_none, laid_back}
-use Rattle.dspec_buffer.proofs.Keeping.{reaches, fits_says, kept, block_of, block_reaches, kept_empty}
+use Rattle.dspec_buffer.proofs.{Fitting.refuses, Fitting.admits, Fitting.admits_none, Fitting.laid_back, Keeping.reaches, Keeping.fits_says, Keeping.kept, Keeping.block_of, Keeping.block_reaches}
+use Rattle.dspec_buffer.proofs.{Keeping.kept_empty, SchemaLaws.laws_from}
 use Rattle.dspec_buffer.proofs.byte_buffer.ByteBufferTraceBuffer.push_block.Goals as goal
 
 pub returns-then-size-eq0-clause-answer : goal.returns-then-size-eq0-clause-answer

@@ -1,10 +1,7 @@
 use Rattle.std.proofs.Common.{◌≡◌, true, false, ap, sym, ◌∙◌, arith, length, take, replicate, ◌++◌, ◌-◌}
-use Rattle.dspec_record.specs.declared.field.Shape.{Shape}
-use Rattle.dspec_buffer.specs.Words.{one, extent, padded}
-use Rattle.dspec_buffer.proofs.SchemaLaws.{laws_from}
-use Rattle.dspec_buffer.proofs.Texts.{text_facts}
-use Rattle.dspec_buffer.proofs.Fitting.{refuses, admits, placed, laid_whole}
-use Rattle.dspec_buffer.proofs.Keeping.{reaches, fits_says, shape_says, kept, accepted_alone}
+use Rattle.dspec_buffer.specs.Words.{Shape, one, extent, padded}
+use Rattle.dspec_buffer.proofs.{Fitting.refuses, Fitting.admits, Fitting.placed, Fitting.laid_whole, Keeping.reaches, Keeping.fits_says, Keeping.shape_says, Keeping.kept, Keeping.accepted_alone}
+use Rattle.dspec_buffer.proofs.{SchemaLaws.laws_from, Texts.text_facts}
 use Rattle.dspec_buffer.proofs.byte_buffer.ByteBufferTraceBuffer.push_recorded.Goals as goal
 
 pub aligned-place-requires-clause-aligned : goal.aligned-place-requires-clause-aligned

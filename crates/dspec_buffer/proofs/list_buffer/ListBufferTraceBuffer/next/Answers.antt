@@ -1,8 +1,6 @@
-use Rattle.std.proofs.Common.{◌≡◌, Ok, Err, ap, drop, subst, ◌∙◌}
-use Rattle.std.proofs.lemmas.List.{take_rest}
+use Rattle.std.proofs.{Common.◌≡◌, Common.Ok, Common.Err, Common.ap, Common.drop, Common.subst, Common.◌∙◌, lemmas.List.take_rest}
 use Rattle.dspec_buffer.specs.Words.{Answers}
-use Rattle.dspec_buffer.proofs.SchemaLaws.{laws_from}
-use Rattle.dspec_buffer.proofs.Packed.{steps_over, steps_none}
+use Rattle.dspec_buffer.proofs.{Packed.steps_over, Packed.steps_none, SchemaLaws.laws_from}
 use Rattle.dspec_buffer.proofs.list_buffer.ListBufferTraceBuffer.next.Goals as goal
 
 pub returns-in-Ok : goal.returns-in-Ok

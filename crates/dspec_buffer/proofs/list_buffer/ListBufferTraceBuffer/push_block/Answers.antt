@@ -1,8 +1,6 @@
 use Rattle.std.proofs.Common.{◌++◌, true, false, inr, ap, refl, sym, ◌∙◌, arith}
 use Rattle.dspec_buffer.specs.Words.{block, extent, reserved}
-use Rattle.dspec_buffer.proofs.Fitting.{refuses, admits, admits_none, placed}
-use Rattle.dspec_buffer.proofs.Keeping.{fits_says}
-use Rattle.dspec_buffer.proofs.Listing.{listed, listed_block, listed_empty}
+use Rattle.dspec_buffer.proofs.{Fitting.refuses, Fitting.admits, Fitting.admits_none, Fitting.placed, Keeping.fits_says, Listing.listed, Listing.listed_block, Listing.listed_empty}
 use Rattle.dspec_buffer.proofs.list_buffer.ListBufferTraceBuffer.push_block.Goals as goal
 
 pub returns-then-size-eq0-clause-answer : goal.returns-then-size-eq0-clause-answer

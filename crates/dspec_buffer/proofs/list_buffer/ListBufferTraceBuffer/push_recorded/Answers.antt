@@ -1,11 +1,7 @@
-use Rattle.std.proofs.Common.{◌≡◌, ◌++◌, length, true, false, ap, sym, ◌∙◌, arith}
-use Rattle.std.proofs.lemmas.List.{length-take-le}
+use Rattle.std.proofs.{Common.◌≡◌, Common.◌++◌, Common.length, Common.true, Common.false, Common.ap, Common.sym, Common.◌∙◌, Common.arith, lemmas.List.length-take-le}
 use Rattle.dspec_buffer.specs.Words.{one, extent, reserved, piece_align}
-use Rattle.dspec_buffer.proofs.Fitting.{refuses, admits, placed}
-use Rattle.dspec_buffer.proofs.Keeping.{fits_says, shape_says}
-use Rattle.dspec_buffer.proofs.Listing.{listed, one_accepted, one_text}
-use Rattle.dspec_buffer.proofs.SchemaLaws.{laws_from}
-use Rattle.dspec_buffer.proofs.Texts.{text_facts}
+use Rattle.dspec_buffer.proofs.{Fitting.refuses, Fitting.admits, Fitting.placed, Keeping.fits_says, Keeping.shape_says, Listing.listed, Listing.one_accepted, Listing.one_text, SchemaLaws.laws_from}
+use Rattle.dspec_buffer.proofs.{Texts.text_facts}
 use Rattle.dspec_buffer.proofs.list_buffer.ListBufferTraceBuffer.push_recorded.Goals as goal
 
 pub place_for-requires-clause-aligned : goal.place_for-requires-clause-aligned

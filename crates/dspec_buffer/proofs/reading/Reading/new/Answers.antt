@@ -1,7 +1,6 @@
 use Rattle.std.proofs.Common.{[], ap, arith}
 use Rattle.dspec_buffer.specs.Words.{Progress}
-use Rattle.dspec_buffer.proofs.SchemaLaws.{laws_from}
-use Rattle.dspec_buffer.proofs.Taken.{none_given, given_are}
+use Rattle.dspec_buffer.proofs.{SchemaLaws.laws_from, Taken.none_given, Taken.given_are}
 use Rattle.dspec_buffer.proofs.reading.Reading.new.Goals as goal
 
 pub invariant_of-result : goal.invariant_of-result

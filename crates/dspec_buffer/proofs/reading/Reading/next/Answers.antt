@@ -1,8 +1,7 @@
 use Rattle.std.proofs.Common.{Ok, Err, [], ◌∷◌, ◌++◌, ◌≡◌, ◌<◌, ◌≤◌, length, take, refl, subst, ap}
 use Rattle.std.proofs.lemmas.Result.{err_from_is_err_and}
 use Rattle.dspec_buffer.specs.Words.{Progress, Advances, ReadsNext}
-use Rattle.dspec_buffer.proofs.SchemaLaws.{laws_from}
-use Rattle.dspec_buffer.proofs.Taken.{one_given, given_before, given_are, goes_further}
+use Rattle.dspec_buffer.proofs.{SchemaLaws.laws_from, Taken.one_given, Taken.given_before, Taken.given_are, Taken.goes_further}
 use Rattle.dspec_buffer.proofs.reading.Reading.next.Goals as goal
 
 pub returns-in_err-found : goal.returns-in_err-found

@@ -1,7 +1,5 @@
 use Rattle.std.proofs.Common.{◌≡◌, [], length, sym, ap, ◌∙◌, rules}
-use Rattle.dspec_buffer.proofs.SchemaLaws.{laws_from}
-use Rattle.dspec_buffer.proofs.Insides.{same_inside}
-use Rattle.dspec_buffer.proofs.Left.{within_next, remaining_next, first_left, none_left}
+use Rattle.dspec_buffer.proofs.{Insides.same_inside, Left.within_next, Left.remaining_next, Left.first_left, Left.none_left, SchemaLaws.laws_from}
 use Rattle.dspec_buffer.proofs.records.RecordsIterator.next.Goals as goal
 
 pub same-self : goal.same-self

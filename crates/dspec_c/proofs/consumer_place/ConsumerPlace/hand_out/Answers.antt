@@ -1,8 +1,6 @@
 use Rattle.std.proofs.Common.{Option, sym, ap, ◌∙◌, subst}
-use Rattle.std.specs.Prelude.{IsSome, is_some}
-use Rattle.std.specs.Arc.{arc_value}
-use Rattle.dspec_cpu.specs.declared.shared.Shared.{Shared}
-use Rattle.dspec_c.specs.Words.{words_of, Consuming, IsConsumerOf, IsSameConsumer, TheirStay, Theirs}
+use Rattle.std.specs.{Arc.arc_value, Prelude.IsSome, Prelude.is_some}
+use Rattle.dspec_c.specs.Words.{Shared, words_of, Consuming, IsConsumerOf, IsSameConsumer, TheirStay, Theirs}
 use Rattle.dspec_c.proofs.ConsumerHomes.{free_on, goes_out, is_unused, leaves_from, left_so, not_waiting, same_there, went_by}
 use Rattle.dspec_c.proofs.consumer_place.ConsumerPlace.hand_out.Goals as goal
 

@@ -1,6 +1,5 @@
 use Rattle.std.proofs.Common.{Option, sym, ap, ◌∙◌, subst}
-use Rattle.std.specs.Prelude.{IsSome, slice_get}
-use Rattle.std.specs.Arc.{arc_value}
+use Rattle.std.specs.{Arc.arc_value, Prelude.IsSome, Prelude.slice_get}
 use Rattle.dspec_c.specs.Words.{identity, AtHome, CpuStay, CpuSide}
 use Rattle.dspec_c.proofs.Homes.{callable_so, free_on, goes_out, leaves_so, left_again, same_there, went_by}
 use Rattle.dspec_c.proofs.cpu_place.CpuPlace.hand_out_again.Goals as goal

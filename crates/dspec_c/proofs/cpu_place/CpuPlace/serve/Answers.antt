@@ -1,8 +1,7 @@
 use Rattle.std.proofs.Common.{Option, refl, sym, ap, ◌∙◌, subst}
 use Rattle.std.specs.Prelude.{IsSome}
 use Rattle.dspec_c.specs.Words.{AtHome, CpuStay}
-use Rattle.dspec_c.proofs.Homes.{callable_so, free_on, same_there, went_by}
-use Rattle.dspec_c.proofs.Tends.{served_in, served_there}
+use Rattle.dspec_c.proofs.{Homes.callable_so, Homes.free_on, Homes.same_there, Homes.went_by, Tends.served_in, Tends.served_there}
 use Rattle.dspec_c.proofs.cpu_place.CpuPlace.serve.Goals as goal
 
 pub unwrap-home-requires : goal.unwrap-home-requires

@@ -1,6 +1,5 @@
 use Rattle.std.proofs.Common.{refl, rules}
-use Rattle.dspec_c.proofs.Calls.{gave_so}
-use Rattle.dspec_c.proofs.ConsumerHomes.{stays_out}
+use Rattle.dspec_c.proofs.{Calls.gave_so, ConsumerHomes.stays_out}
 use Rattle.dspec_c.proofs.out_consumer.OutConsumer.give_back.Goals as goal
 
 pub invariant_of-self : goal.invariant_of-self

@@ -1,6 +1,5 @@
 use Rattle.std.proofs.Common.{refl, rules}
-use Rattle.dspec_c.proofs.Calls.{took_so}
-use Rattle.dspec_c.proofs.ConsumerHomes.{stays_out}
+use Rattle.dspec_c.proofs.{Calls.took_so, ConsumerHomes.stays_out}
 use Rattle.dspec_c.proofs.out_consumer.OutConsumer.take.Goals as goal
 
 pub invariant_of-self : goal.invariant_of-self

@@ -1,8 +1,6 @@
 use Rattle.std.proofs.Common.{false, refl, ap, ◌∙◌}
-use Rattle.dspec_c.specs.Words.{EnabledRows, identity, CommittedIfRoom}
-use Rattle.dspec_cpu.specs.declared.cpu.Cpu.{Cpu}
-use Rattle.dspec_c.proofs.Calls.{on_boxed}
-use Rattle.dspec_c.proofs.Homes.{stays_out}
+use Rattle.dspec_c.specs.Words.{EnabledRows, identity, CommittedIfRoom, Cpu}
+use Rattle.dspec_c.proofs.{Calls.on_boxed, Homes.stays_out}
 use Rattle.dspec_c.proofs.out_cpu.OutCpu.commit_if_room.Goals as goal
 
 pub invariant_of-self : goal.invariant_of-self

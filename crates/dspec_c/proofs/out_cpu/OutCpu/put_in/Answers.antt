@@ -1,6 +1,5 @@
 use Rattle.std.proofs.Common.{ap, ◌∙◌}
-use Rattle.dspec_c.specs.Words.{EnabledRows, identity}
-use Rattle.dspec_cpu.specs.declared.cpu.Cpu.{Cpu}
+use Rattle.dspec_c.specs.Words.{EnabledRows, identity, Cpu}
 use Rattle.dspec_c.proofs.Homes.{stays_out}
 use Rattle.dspec_c.proofs.out_cpu.OutCpu.put_in.Goals as goal
 

@@ -1,6 +1,5 @@
 use Rattle.std.proofs.Common.{refl, ap, subst}
-use Rattle.dspec_c.specs.Words.{EnabledRows, TellsReport, CpuSide, Reports}
-use Rattle.dspec_cpu.specs.declared.cpu.Cpu.{Cpu}
+use Rattle.dspec_c.specs.Words.{EnabledRows, TellsReport, CpuSide, Reports, Cpu}
 use Rattle.dspec_c.proofs.out_cpu.OutCpu.report.Goals as goal
 
 pub returns : goal.returns

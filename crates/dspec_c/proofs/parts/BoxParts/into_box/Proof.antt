@@ -1,5 +1,5 @@
 -- `into_box` makes the box again.
-use Rattle.std.proofs.Common.{◌≡◌, List, [], ◌∷◌, ◌++◌, refl, sym, ap, subst}
+use Rattle.std.proofs.{Common.◌≡◌, Common.List, Common.[], Common.◌∷◌, Common.◌++◌, Common.refl, Common.sym, Common.ap, Common.subst, raw_atomic.Walks.proved_at, raw_atomic.Walks.leaves}
 use mir.Syntax.{a_type, dcons, dnil}
 use mir.Val.{Val, vptr}
 use mir.MapTy.{inst_fn}
@@ -24,19 +24,12 @@ use denote.Triple.Clauses.{Lasts, lasts}
 use denote.Triple.Spec.{triple_of}
 use denote.Triple.Call.{calls_at_last}
 use denote.Triple.Walked.{Stays, stay_dropped, walk_of}
-use Rattle.core.proofs.alloc.Calls.{Goes-blank}
-use Rattle.core.proofs.alloc.Shapes.{after}
-use Rattle.core.proofs.atomic.Steps.{fm}
-use Rattle.core.proofs.cell.Inside.{Good}
+use Rattle.core.proofs.{alloc.Calls.Goes-blank, alloc.Shapes.after, atomic.Steps.fm, cell.Inside.Good}
 use Rattle.std_alloc.proofs.BoxSteps.Form as box
-use Rattle.std_alloc.proofs.BoxSteps.Steps.{box_out, box_in}
-use Rattle.std.proofs.raw_atomic.Walks.{proved_at, leaves}
-use Rattle.dspec_c.proofs.Values.{both, Loose, loose_good, loose_out}
+use Rattle.std_alloc.proofs.{BoxSteps.Steps.box_out, BoxSteps.Steps.box_in, boxed.Box.from_raw.Met.met}
+use Rattle.dspec_c.proofs.{Values.both, Values.Loose, Values.loose_good, Values.loose_out, parts.BoxParts.into_box.Statement.statement}
 use Rattle.std_alloc.specs.contracts.boxed.Box.from_raw as callee
-use Rattle.std_alloc.proofs.boxed.Box.from_raw.Met.{met}
-use Rattle.dspec_c.specs.Words.{ended, clauses}
-use Rattle.dspec_c.specs.contracts.parts.BoxParts.into_box.Key.{name as #self}
-use Rattle.dspec_c.proofs.parts.BoxParts.into_box.Statement.{statement}
+use Rattle.dspec_c.specs.contracts.parts.BoxParts.into_box.{ended, clauses, Key.name as #self}
 use Rattle.dspec_c.proofs.parts.BoxParts.into_box.Code as code
 
 pub into_box_spec : {M : Type 1} → statement M

@@ -1,5 +1,5 @@
 -- `of` takes the box apart.
-use Rattle.std.proofs.Common.{◌≡◌, List, [], ◌∷◌, ◌++◌, refl, sym, ap, ◌∙◌, subst}
+use Rattle.std.proofs.{Common.◌≡◌, Common.List, Common.[], Common.◌∷◌, Common.◌++◌, Common.refl, Common.sym, Common.ap, Common.◌∙◌, Common.subst, raw_atomic.Walks.proved_at, raw_atomic.Walks.leaves}
 use mir.Syntax.{a_type, dcons, dnil}
 use mir.Raw.{raw as bare}
 use mir.Val.{Val, vptr, vstruct, of_list}
@@ -26,18 +26,13 @@ use denote.Struct.Tuple.{Tuple}
 use denote.Triple.Spec.{triple_of}
 use denote.Triple.Call.{calls_at}
 use denote.Triple.Walked.{Stays, stay_dropped, walk_of}
-use Rattle.core.proofs.alloc.Calls.{Goes-blank, handle_tells}
-use Rattle.core.proofs.atomic.Steps.{fm}
+use Rattle.core.proofs.{alloc.Calls.Goes-blank, alloc.Calls.handle_tells, atomic.Steps.fm}
 use Rattle.std_alloc.specs.Box.Ownership.{box_owns}
 use Rattle.std_alloc.proofs.BoxSteps.Form as box
-use Rattle.std_alloc.proofs.BoxSteps.Steps.{box_out, box_in}
-use Rattle.std.proofs.raw_atomic.Walks.{proved_at, leaves}
-use Rattle.dspec_c.proofs.Values.{both, loose_good, loose_in}
+use Rattle.std_alloc.proofs.{BoxSteps.Steps.box_out, BoxSteps.Steps.box_in, boxed.Box.into_raw_with_allocator.Met.met}
+use Rattle.dspec_c.proofs.{Values.both, Values.loose_good, Values.loose_in, parts.BoxParts.of.Statement.statement}
 use Rattle.std_alloc.specs.contracts.boxed.Box.into_raw_with_allocator as callee
-use Rattle.std_alloc.proofs.boxed.Box.into_raw_with_allocator.Met.{met}
-use Rattle.dspec_c.specs.contracts.parts.BoxParts.of.{ended, clauses}
-use Rattle.dspec_c.specs.contracts.parts.BoxParts.of.Key.{name as #self}
-use Rattle.dspec_c.proofs.parts.BoxParts.of.Statement.{statement}
+use Rattle.dspec_c.specs.contracts.parts.BoxParts.of.{ended, clauses, Key.name as #self}
 use Rattle.dspec_c.proofs.parts.BoxParts.of.Code as code
 
 pub of_spec : {M : Type 1} → statement M

@@ -23,8 +23,7 @@ use denote.Steps.{nothing, heard}
 use denote.Triple.Spec.{triple_of}
 use denote.Triple.Table.{entered}
 use denote.Triple.Walked.{says, Stays, stay_dropped, walk_of, ends_at, Goes-dropped, walk_Meets}
-use Rattle.std_alloc.proofs.BoxSteps.Form.{D, word, box_typed}
-use Rattle.std_alloc.proofs.BoxSteps.Steps.{box_out, box_in}
+use Rattle.std_alloc.proofs.BoxSteps.{Form.D, Form.word, Form.box_typed, Steps.box_out, Steps.box_in}
 use Rattle.dspec_c.proofs.AsBox.{E, FromSeal as From}
 use Rattle.dspec_c.specs.contracts.seal.Seal as Sealed
 use Rattle.dspec_c.specs.contracts.seal.Seal.into_parts as F

@@ -33,17 +33,14 @@ use denote.Triple.Spec.{triple_of}
 use denote.Triple.Table.{entered}
 use denote.Triple.Walked.{says, Stays, stay_dropped, walk_of, ends_at, walked, walk_Meets, Goes-spent_ref}
 use denote.Follow.{follows, Part, lends_Part}
-use Rattle.core.proofs.alloc.Calls.{token}
-use Rattle.core.proofs.alloc.Shapes.{after}
-use Rattle.std_alloc.proofs.BoxSteps.Form.{D, R, τ, handle, word}
-use Rattle.std_alloc.proofs.BoxSteps.Steps.{box_out, box_in}
-use Rattle.dspec_c.specs.Words.{with_inside}
+use Rattle.core.proofs.alloc.{Calls.token, Shapes.after}
+use Rattle.std_alloc.proofs.BoxSteps.{Form.D, Form.R, Form.τ, Form.handle, Form.word, Steps.box_out, Steps.box_in}
+use Rattle.dspec_c.specs.{Words.with_inside, contracts.seal.Seal.lend.Key.name as #self}
 use Rattle.dspec_c.specs.contracts.handle.HandleContents as Home
 use Rattle.dspec_c.proofs.handle.HandleContents.TheLaws as home
 use Rattle.dspec_c.proofs.AsBox.{E}
 use Rattle.dspec_c.specs.contracts.seal.Seal as Sealed
 use Rattle.dspec_c.specs.contracts.seal.Seal.lend as F
-use Rattle.dspec_c.specs.contracts.seal.Seal.lend.Key.{name as #self}
 use Rattle.dspec_c.proofs.seal.Seal.lend.Statement as stated
 use Rattle.dspec_c.proofs.seal.Seal.lend.Code as code
 

@@ -1,9 +1,7 @@
 use Rattle.std.proofs.Common.{◌≤◌, ◌+◌, sym, ap, ◌∙◌, subst}
-use Rattle.std.specs.Prelude.{vec_capacity, vec_len}
-use Rattle.std.specs.Arc.{arc_value}
+use Rattle.std.specs.{Arc.arc_value, Prelude.vec_capacity, Prelude.vec_len}
 use Rattle.dspec_c.specs.Words.{Going, inside_at}
-use Rattle.dspec_c.proofs.EndingPlaces.{place_with}
-use Rattle.dspec_c.proofs.Ending.{asked_count, asked_for_one, goes_from, stays_from}
+use Rattle.dspec_c.proofs.{Ending.asked_count, Ending.asked_for_one, Ending.goes_from, Ending.stays_from, EndingPlaces.place_with}
 use Rattle.dspec_c.proofs.under_way.UnderWay.cpu.Goals as goal
 
 pub hand_out-requires-clause-place : goal.hand_out-requires-clause-place

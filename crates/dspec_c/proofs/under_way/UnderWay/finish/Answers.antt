@@ -1,9 +1,7 @@
 use Rattle.std.proofs.Common.{sym, ap, ◌∙◌, subst}
 use Rattle.std.specs.Prelude.{IsSome}
-use Rattle.dspec_cpu.specs.declared.shared.Shared.{Shared}
-use Rattle.dspec_c.specs.Words.{AllInside, Going, IsEnding, firsts, insides, refusals}
-use Rattle.dspec_c.proofs.EndingPlaces.{ends_so}
-use Rattle.dspec_c.proofs.Finishing.{left_of_home}
+use Rattle.dspec_c.specs.Words.{Shared, AllInside, Going, IsEnding, firsts, insides, refusals}
+use Rattle.dspec_c.proofs.{EndingPlaces.ends_so, Finishing.left_of_home}
 use Rattle.dspec_c.proofs.under_way.UnderWay.finish.Goals as goal
 
 pub into_home-requires : goal.into_home-requires

@@ -1,10 +1,7 @@
-use Rattle.std.proofs.Common.{◌≤◌, ◌+◌, refl, sym, ap, ◌∙◌, subst, arith}
+use Rattle.std.proofs.{Common.◌≤◌, Common.◌+◌, Common.refl, Common.sym, Common.ap, Common.◌∙◌, Common.subst, Common.arith, lemmas.Bool.ltb-true}
 use Rattle.std.specs.Prelude.{nat_lt, vec_capacity, vec_len}
-use Rattle.std.proofs.lemmas.Bool.{ltb-true}
 use Rattle.dspec_c.specs.Words.{Going}
-use Rattle.dspec_c.proofs.Ending.{looks_from}
-use Rattle.dspec_c.proofs.Looking.{looked_came, same_firsts, same_length}
-use Rattle.dspec_c.proofs.Tends.{places_counted, whole_on}
+use Rattle.dspec_c.proofs.{Ending.looks_from, Looking.looked_came, Looking.same_firsts, Looking.same_length, Tends.places_counted, Tends.whole_on}
 use Rattle.dspec_c.proofs.under_way.UnderWay.has_cpu_in.Goals as goal
 
 pub is_in-requires : goal.is_in-requires

@@ -1,7 +1,6 @@
 use Rattle.std.proofs.Common.{◌≤◌, ◌+◌, refl, sym, subst}
 use Rattle.std.specs.Prelude.{vec_capacity, vec_len}
-use Rattle.dspec_c.proofs.EndingPlaces.{looked_so, whole_kept}
-use Rattle.dspec_c.proofs.Looking.{same_length}
+use Rattle.dspec_c.proofs.{EndingPlaces.looked_so, EndingPlaces.whole_kept, Looking.same_length}
 use Rattle.dspec_c.proofs.under_way.UnderWay.is_home.Goals as goal
 
 pub invariant_of-self : goal.invariant_of-self

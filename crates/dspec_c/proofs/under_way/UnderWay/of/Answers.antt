@@ -1,6 +1,5 @@
-use Rattle.std.proofs.Common.{sym, ap, length, ◌∙◌, arith}
+use Rattle.std.proofs.{Common.sym, Common.ap, Common.length, Common.◌∙◌, Common.arith, lemmas.List.length-map}
 use Rattle.std.specs.Arc.{arc_value}
-use Rattle.std.proofs.lemmas.List.{length-map}
 use Rattle.dspec_c.specs.Words.{Theirs, they_wait_so, waiting_so}
 use Rattle.dspec_c.proofs.EndingPlaces.{whole_at_first}
 use Rattle.dspec_c.proofs.under_way.UnderWay.of.Goals as goal

@@ -1,8 +1,6 @@
 use Rattle.std.proofs.Common.{subst}
-use Rattle.std.specs.Prelude.{IfOk}
-use Rattle.std.specs.Arc.{arc_value}
-use Rattle.dspec_cpu.specs.declared.shared.Shared.{Shared}
-use Rattle.dspec_c.specs.Words.{HasAll}
+use Rattle.std.specs.{Arc.arc_value, Prelude.IfOk}
+use Rattle.dspec_c.specs.Words.{Shared, HasAll}
 use Rattle.dspec_c.proofs.EndingPlaces.{all_called, started}
 use Rattle.dspec_c.proofs.under_way.UnderWay.over.Goals as goal
 

@@ -1,5 +1,5 @@
 use Rattle.std.proofs.Common.{refl, sym, ap}
-use Rattle.dspec_deeds.specs.declared.config.Config.{Config}
+use Rattle.dspec_c.specs.Words.{Config}
 use Rattle.dspec_c.proofs.Ending.{begun}
 use Rattle.dspec_c.proofs.under_way.UnderWay.start.Goals as goal
 

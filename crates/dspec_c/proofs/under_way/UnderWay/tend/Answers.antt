@@ -1,8 +1,6 @@
 use Rattle.std.proofs.Common.{◌≤◌, ◌+◌, refl, sym, subst}
-use Rattle.std.specs.Prelude.{vec_capacity, vec_len}
-use Rattle.std.specs.Arc.{arc_value}
-use Rattle.dspec_c.proofs.EndingPlaces.{place_first}
-use Rattle.dspec_c.proofs.Tends.{places_counted, tended_firsts, tended_length, tended_so, whole_on}
+use Rattle.std.specs.{Arc.arc_value, Prelude.vec_capacity, Prelude.vec_len}
+use Rattle.dspec_c.proofs.{EndingPlaces.place_first, Tends.places_counted, Tends.tended_firsts, Tends.tended_length, Tends.tended_so, Tends.whole_on}
 use Rattle.dspec_c.proofs.under_way.UnderWay.tend.Goals as goal
 
 pub tend_all-requires-clause-count : goal.tend_all-requires-clause-count

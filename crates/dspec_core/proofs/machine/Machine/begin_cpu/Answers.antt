@@ -1,10 +1,7 @@
 use Rattle.std.proofs.Common.{Some, refl}
-use Rattle.dspec_interleaving.specs.declared.flight.CpuProgress.{CpuProgress}
+use Rattle.dspec_core.specs.Words.{CpuProgress, state_of}
 use Rattle.dspec_interleaving.specs.declared.flight.CallPlace.TheVariants as flight
-use Rattle.dspec_core.specs.Words.{state_of}
-use Rattle.dspec_core.proofs.Keepings.{state_kept, kept_as, begin_keeps}
-use Rattle.dspec_core.proofs.MachineReads.{cpu_got}
-use Rattle.dspec_core.proofs.Makings.{state_moves, progress_moves}
+use Rattle.dspec_core.proofs.{Keepings.state_kept, Keepings.kept_as, Keepings.begin_keeps, MachineReads.cpu_got, Makings.state_moves, Makings.progress_moves}
 use Rattle.dspec_core.proofs.machine.Machine.begin_cpu.Goals as goal
 
 pub returns-clause-kept : goal.returns-clause-kept

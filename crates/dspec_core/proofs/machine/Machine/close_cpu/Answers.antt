@@ -1,6 +1,5 @@
 -- Each slot more leaves a list that can close.
-use Rattle.std.proofs.lemmas.Bool.Decides.{nat_tests}
-use Rattle.std.proofs.Common.{arith}
+use Rattle.std.proofs.{Common.arith, lemmas.Bool.Decides.nat_tests}
 use Rattle.dspec_core.proofs.Settlings.{closes_further, slots_more}
 use Rattle.dspec_core.proofs.machine.Machine.close_cpu.Goals as goal
 

@@ -1,10 +1,8 @@
 -- What is read, and the settlement that the table grants.
 use Rattle.std.proofs.Common.{◌≡◌, List, refl, sym, subst, arith}
-use Rattle.dspec_core.specs.Words.{Speculation, CanBeReleased, issue, IsAllowed, history}
-use Rattle.dspec_deeds.specs.declared.deed.Deed.{Deed}
-use Rattle.dspec_core.proofs.MachineReads.{cpu_read}
-use Rattle.dspec_core.proofs.Settlings.{named_present, none_due, one_due, closes_still, closes_bare, closes_settled}
-use Rattle.dspec_core.proofs.SlotReads.{slot_read}
+use Rattle.dspec_core.specs.Words.{Speculation, CanBeReleased, issue, IsAllowed, history, Deed}
+use Rattle.dspec_core.proofs.{MachineReads.cpu_read, Settlings.named_present, Settlings.none_due, Settlings.one_due, Settlings.closes_still, Settlings.closes_bare, Settlings.closes_settled}
+use Rattle.dspec_core.proofs.{SlotReads.slot_read}
 use Rattle.dspec_interleaving.proofs.StepReads.{can_be_released}
 use Rattle.dspec_core.proofs.machine.Machine.close_slot.Goals as goal
 

@@ -1,6 +1,5 @@
 -- Each deed is entered as what is asked of it.
-use Rattle.std.proofs.Common.{arith, refl}
-use Rattle.std.proofs.lemmas.Bool.Decides.{nat_tests}
+use Rattle.std.proofs.{Common.arith, Common.refl, lemmas.Bool.Decides.nat_tests}
 use Rattle.dspec_core.specs.Words.{history}
 use Rattle.dspec_core.proofs.Entries.{few_calls, few_takes, may_next, may_next_on, one_comes, opened_slot, passes, released_slot}
 use Rattle.dspec_core.proofs.OwnSlots.{settled_slot}

@@ -1,19 +1,13 @@
 -- A commit or a discard that decides ends the CPU's block, and leaves its word; one that decides nothing is counted, and leaves the words.
 use Rattle.std.proofs.Common.{◌≡◌, ◌-◌, ◌≤◌, ◌∷◌, ◌++◌, [], set, refl, sym, ap, ◌∙◌, subst, rules}
 use Rattle.std.specs.Vec.{with_item}
-use Rattle.dspec_deeds.specs.declared.deed.Deed.{Deed}
+use Rattle.dspec_core.specs.{Words.Deed, Words.CpuState, Words.ShowsList, Words.deed_of, Words.history, Words.ShowsWords, declared.machine.cpu.Cpu.Cpu}
 use Rattle.dspec_deeds.proofs.Items.{kept_item}
-use Rattle.dspec_cpu_state.specs.declared.cpu_state.CpuState.{CpuState}
-use Rattle.dspec_core.specs.Words.{ShowsList, Cpu, deed_of, history, ShowsWords}
-use Rattle.dspec_core.proofs.DecidedCpus.{by_its_cpu, decided_either, decided_stream, decided_unsealed, decided_words, halted_still, nothing_decided}
-use Rattle.dspec_core.proofs.DecidedCpus.{undecided_either, undecided_stream, undecided_words}
-use Rattle.dspec_core.proofs.Entries.{decision_left}
-use Rattle.dspec_core.proofs.KeptCpus.{own_deed}
-use Rattle.dspec_core.proofs.MachineReads.{cpu_got}
-use Rattle.dspec_core.proofs.OneMore.{adds_own, enters, latest_first, read_place, read_released, read_word}
-use Rattle.dspec_core.proofs.OwnBlocks.{block_ended, block_place, block_streamed, decided_block}
-use Rattle.dspec_core.proofs.OwnSlots.{among_is, caller_is, mark_there, on_err, place_there}
-use Rattle.dspec_core.proofs.Rooms.{call_counts, call_fits, counts_fit, decide_counts, decided_counts, drop_counts}
+use Rattle.dspec_core.proofs.{DecidedCpus.by_its_cpu, DecidedCpus.decided_either, DecidedCpus.decided_stream, DecidedCpus.decided_unsealed, DecidedCpus.decided_words, DecidedCpus.halted_still}
+use Rattle.dspec_core.proofs.{DecidedCpus.nothing_decided, DecidedCpus.undecided_either, DecidedCpus.undecided_stream, DecidedCpus.undecided_words, Entries.decision_left, KeptCpus.own_deed}
+use Rattle.dspec_core.proofs.{MachineReads.cpu_got, OneMore.adds_own, OneMore.enters, OneMore.latest_first, OneMore.read_place, OneMore.read_released, OneMore.read_word, OwnBlocks.block_ended}
+use Rattle.dspec_core.proofs.{OwnBlocks.block_place, OwnBlocks.block_streamed, OwnBlocks.decided_block, OwnSlots.among_is, OwnSlots.caller_is, OwnSlots.mark_there, OwnSlots.on_err}
+use Rattle.dspec_core.proofs.{OwnSlots.place_there, Rooms.call_counts, Rooms.call_fits, Rooms.counts_fit, Rooms.decide_counts, Rooms.decided_counts, Rooms.drop_counts}
 use Rattle.dspec_core.proofs.machine.Machine.enter_decision.Goals as goal
 
 pub leave_undecided-requires : goal.leave_undecided-requires

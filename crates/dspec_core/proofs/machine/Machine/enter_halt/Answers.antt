@@ -2,8 +2,7 @@
 use Rattle.std.proofs.Common.{◌∷◌, refl}
 use Rattle.dspec_deeds.specs.declared.deed.Deed.TheVariants as deed
 use Rattle.dspec_core.specs.Words.{history}
-use Rattle.dspec_core.proofs.WordsShown.{words_stay}
-use Rattle.dspec_core.proofs.OneMore.{latest_first, shown_as, cpus_halted}
+use Rattle.dspec_core.proofs.{OneMore.latest_first, OneMore.shown_as, OneMore.cpus_halted, WordsShown.words_stay}
 use Rattle.dspec_core.proofs.machine.Machine.enter_halt.Goals as goal
 
 pub returns-clause-shown : goal.returns-clause-shown

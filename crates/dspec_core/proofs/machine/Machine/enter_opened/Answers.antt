@@ -1,11 +1,9 @@
 -- A slot given out has the word of its present speculation, and the sides stay.
 use Rattle.std.proofs.Common.{◌≡◌, ℕ, ◌∷◌, ◌-◌, ◌≤◌, ◌∙◌, slice_set, sym, ap, subst, arith}
-use Rattle.dspec_word.specs.declared.code.Code.TheVariants.{Active}
+use Rattle.dspec_core.specs.Words.{Active, issue, word_at, history, ShowsWords}
 use Rattle.dspec_deeds.specs.declared.deed.Deed.TheVariants as deed
-use Rattle.dspec_core.specs.Words.{issue, word_at, history, ShowsWords}
 use Rattle.dspec_deeds.proofs.WordChanges.{opened_word}
-use Rattle.dspec_core.proofs.WordsShown.{words_set}
-use Rattle.dspec_core.proofs.OneMore.{latest_first, shown_as, cpus_opened, word_there}
+use Rattle.dspec_core.proofs.{OneMore.latest_first, OneMore.shown_as, OneMore.cpus_opened, OneMore.word_there, WordsShown.words_set}
 use Rattle.dspec_core.proofs.machine.Machine.enter_opened.Goals as goal
 
 pub returns-clause-shown : goal.returns-clause-shown

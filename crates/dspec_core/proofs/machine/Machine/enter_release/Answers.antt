@@ -1,15 +1,10 @@
 -- A released slot has the next issue, and the sides stay.
 use Rattle.std.proofs.Common.{◌≡◌, ℕ, ◌∷◌, ◌+◌, ◌∙◌, sym, ap, arith}
-use Rattle.dspec_word.specs.declared.code.Code.TheVariants.{Inactive}
+use Rattle.dspec_core.specs.Words.{Inactive, issue, present, word_at, history}
 use Rattle.dspec_deeds.specs.declared.deed.Deed.TheVariants as deed
-use Rattle.dspec_core.specs.Words.{issue, present, word_at, history}
-use Rattle.dspec_deeds.proofs.SetUp.{set_up}
-use Rattle.dspec_deeds.proofs.SoundLists.{opened_in_range}
-use Rattle.dspec_deeds.proofs.PresentIds.{decided_given}
+use Rattle.dspec_deeds.proofs.{PresentIds.decided_given, SetUp.set_up, SoundLists.opened_in_range, WordChanges.released_word}
 use Rattle.dspec_interleaving.proofs.Counts.{issue_below, issues_fit}
-use Rattle.dspec_deeds.proofs.WordChanges.{released_word}
-use Rattle.dspec_core.proofs.WordsShown.{words_set}
-use Rattle.dspec_core.proofs.OneMore.{latest_first, shown_as, cpus_released, word_there}
+use Rattle.dspec_core.proofs.{OneMore.latest_first, OneMore.shown_as, OneMore.cpus_released, OneMore.word_there, WordsShown.words_set}
 use Rattle.dspec_core.proofs.machine.Machine.enter_release.Goals as goal
 
 pub overflow_sub-place : goal.overflow_sub-place

@@ -1,13 +1,8 @@
 -- A scan is on its CPU's side, and leaves the words.
 use Rattle.std.proofs.Common.{refl, ap, rules}
-use Rattle.dspec_cpu_state.specs.declared.cpu_state.CpuState.{CpuState}
+use Rattle.dspec_core.specs.Words.{CpuState, history}
 use Rattle.dspec_deeds.specs.declared.deed.Deed.TheVariants as deed
-use Rattle.dspec_core.specs.Words.{history}
-use Rattle.dspec_core.proofs.KeptCpus.{own_deed}
-use Rattle.dspec_core.proofs.MachineReads.{cpu_got}
-use Rattle.dspec_core.proofs.OneMore.{adds_own, enters, latest_first}
-use Rattle.dspec_core.proofs.Rooms.{call_fits, counts_fit}
-use Rattle.dspec_core.proofs.WordsShown.{words_stay}
+use Rattle.dspec_core.proofs.{KeptCpus.own_deed, MachineReads.cpu_got, OneMore.adds_own, OneMore.enters, OneMore.latest_first, Rooms.call_fits, Rooms.counts_fit, WordsShown.words_stay}
 use Rattle.dspec_core.proofs.machine.Machine.enter_scan.Goals as goal
 
 pub scan-requires : goal.scan-requires

@@ -1,14 +1,8 @@
 -- A sealed batch is the second buffer; the words stay.
 use Rattle.std.proofs.Common.{◌≤◌, [], refl, ap, ◌∙◌, subst, rules}
 use Rattle.dspec_deeds.specs.declared.deed.Deed.TheVariants as deed
-use Rattle.dspec_core.specs.Words.{seals, IsFilledWith, history}
-use Rattle.dspec_interleaving.specs.declared.flight.CpuProgress.{CpuProgress}
-use Rattle.dspec_cpu_state.specs.declared.cpu_state.CpuState.{CpuState}
-use Rattle.dspec_core.proofs.KeptCpus.{sealing}
-use Rattle.dspec_core.proofs.MachineReads.{cpu_got}
-use Rattle.dspec_core.proofs.OneMore.{adds_own, progress_there, enters, latest_first}
-use Rattle.dspec_core.proofs.Rooms.{seal_counts}
-use Rattle.dspec_core.proofs.WordsShown.{words_stay}
+use Rattle.dspec_core.specs.Words.{seals, IsFilledWith, history, CpuProgress, CpuState}
+use Rattle.dspec_core.proofs.{KeptCpus.sealing, MachineReads.cpu_got, OneMore.adds_own, OneMore.progress_there, OneMore.enters, OneMore.latest_first, Rooms.seal_counts, WordsShown.words_stay}
 use Rattle.dspec_core.proofs.machine.Machine.enter_seal.Goals as goal
 
 pub seal-own-requires : goal.seal-own-requires

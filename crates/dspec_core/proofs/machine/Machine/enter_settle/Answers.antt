@@ -1,16 +1,12 @@
 -- A settlement ends the CPU's block, and leaves the words.
 use Rattle.std.proofs.Common.{◌≤◌, refl, sym, ap, ◌∙◌, subst, rules}
 use Rattle.std.specs.Vec.{with_item}
-use Rattle.dspec_deeds.specs.declared.deed.Deed.TheVariants.{Settle}
+use Rattle.dspec_core.specs.{Words.Settle, Words.CpuState, Words.history, declared.machine.cpu.Cpu.Cpu}
 use Rattle.dspec_deeds.proofs.Items.{kept_item}
-use Rattle.dspec_cpu_state.specs.declared.cpu_state.CpuState.{CpuState}
 use Rattle.dspec_cpu_state.proofs.Tallies.{settle_counts}
-use Rattle.dspec_core.specs.Words.{Cpu, history}
-use Rattle.dspec_core.proofs.OneMore.{adds_own, enters, latest_first}
-use Rattle.dspec_core.proofs.OwnBlocks.{block_ended, block_place, block_streamed, settled_block}
-use Rattle.dspec_core.proofs.OwnSlots.{ack_there, caller_is, mark_there, on_err, place_there, settles_as, settles_on, stream_settles}
-use Rattle.dspec_core.proofs.Rooms.{decide_counts, lost_counts}
-use Rattle.dspec_core.proofs.WordsShown.{words_stay}
+use Rattle.dspec_core.proofs.{OneMore.adds_own, OneMore.enters, OneMore.latest_first, OwnBlocks.block_ended, OwnBlocks.block_place, OwnBlocks.block_streamed, OwnBlocks.settled_block}
+use Rattle.dspec_core.proofs.{OwnSlots.ack_there, OwnSlots.caller_is, OwnSlots.mark_there, OwnSlots.on_err, OwnSlots.place_there, OwnSlots.settles_as, OwnSlots.settles_on, OwnSlots.stream_settles}
+use Rattle.dspec_core.proofs.{Rooms.decide_counts, Rooms.lost_counts, WordsShown.words_stay}
 use Rattle.dspec_core.proofs.machine.Machine.enter_settle.Goals as goal
 
 pub overflow_sub-place : goal.overflow_sub-place

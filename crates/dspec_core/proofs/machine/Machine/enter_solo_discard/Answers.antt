@@ -1,21 +1,13 @@
 -- A discard by the one caller throws its block away, and releases the slot.
 use Rattle.std.proofs.Common.{◌≡◌, ◌+◌, ◌-◌, ◌≤◌, [], ◌∷◌, ◌++◌, reverse, set, refl, sym, ap, ◌∙◌, subst, arith, rules}
 use Rattle.std.proofs.lemmas.List.{length-set}
-use Rattle.dspec_deeds.specs.declared.deed.Deed.TheVariants.{Discard, Release}
-use Rattle.dspec_deeds.proofs.PresentIds.{open_present}
-use Rattle.dspec_deeds.proofs.Results.{of_ok}
-use Rattle.dspec_deeds.proofs.WordChanges.{discard_open, released_word}
+use Rattle.dspec_core.specs.Words.{Discard, Release, Inactive, CpuState, history, issue, ShowsWords}
+use Rattle.dspec_deeds.proofs.{PresentIds.open_present, Results.of_ok, WordChanges.discard_open, WordChanges.released_word}
 use Rattle.dspec_interleaving.proofs.Counts.{issue_below, issues_fit}
-use Rattle.dspec_word.specs.declared.code.Code.TheVariants.{Inactive}
-use Rattle.dspec_cpu_state.specs.declared.cpu_state.CpuState.{CpuState}
 use Rattle.dspec_core.specs.declared.machine.decision.Decision.TheVariants as decision
-use Rattle.dspec_core.specs.Words.{history, issue, ShowsWords}
-use Rattle.dspec_core.proofs.KeptCpus.{own_deed}
-use Rattle.dspec_core.proofs.OneMore.{cpus_released, cpus_set, latest_first, map_set, read_place, read_word, shown_as}
-use Rattle.dspec_core.proofs.OwnBlocks.{decided_block}
-use Rattle.dspec_core.proofs.OwnSlots.{caller_is, mark_there, place_there}
-use Rattle.dspec_core.proofs.Rooms.{call_counts, decide_counts, decided_counts, drop_counts}
-use Rattle.dspec_core.proofs.SoloDiscards.{adds_all, solo_words}
+use Rattle.dspec_core.proofs.{KeptCpus.own_deed, OneMore.cpus_released, OneMore.cpus_set, OneMore.latest_first, OneMore.map_set, OneMore.read_place, OneMore.read_word, OneMore.shown_as}
+use Rattle.dspec_core.proofs.{OwnBlocks.decided_block, OwnSlots.caller_is, OwnSlots.mark_there, OwnSlots.place_there, Rooms.call_counts, Rooms.decide_counts, Rooms.decided_counts, Rooms.drop_counts}
+use Rattle.dspec_core.proofs.{SoloDiscards.adds_all, SoloDiscards.solo_words}
 use Rattle.dspec_core.proofs.machine.Machine.enter_solo_discard.Goals as goal
 
 pub overflow_sub-place : goal.overflow_sub-place

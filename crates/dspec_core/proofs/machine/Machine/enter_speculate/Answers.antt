@@ -1,17 +1,9 @@
 -- A granted record is on its CPU's side, which is a caller from then on, and leaves its word; one that is granted nothing is counted, and leaves the words.
 use Rattle.std.proofs.Common.{◌-◌, ◌≤◌, ◌∷◌, set, refl, sym, ap, ◌∙◌, subst, rules}
-use Rattle.dspec_deeds.specs.declared.deed.Deed.TheVariants.{Speculate}
-use Rattle.dspec_cpu_state.specs.declared.counts.Counts.{Counts}
-use Rattle.dspec_cpu_state.specs.declared.cpu_state.CpuState.{CpuState}
-use Rattle.dspec_core.specs.Words.{ShowsList, history, ShowsWords, word_left}
-use Rattle.dspec_core.proofs.Entries.{spoken_left}
-use Rattle.dspec_core.proofs.KeptCpus.{own_deed}
-use Rattle.dspec_core.proofs.MachineReads.{cpu_got}
-use Rattle.dspec_core.proofs.OneMore.{adds_own, enters, latest_first, read_place, read_released, read_word}
-use Rattle.dspec_core.proofs.OwnBlocks.{granted_block, granted_slot}
-use Rattle.dspec_core.proofs.OwnSlots.{among_is, caller_is, mark_there, place_there, specdrop_there, spoken_as}
-use Rattle.dspec_core.proofs.Rooms.{call_fits, counts_fit}
-use Rattle.dspec_core.proofs.WordsShown.{words_set, words_stay}
+use Rattle.dspec_core.specs.Words.{Speculate, Counts, CpuState, ShowsList, history, ShowsWords, word_left}
+use Rattle.dspec_core.proofs.{Entries.spoken_left, KeptCpus.own_deed, MachineReads.cpu_got, OneMore.adds_own, OneMore.enters, OneMore.latest_first, OneMore.read_place, OneMore.read_released}
+use Rattle.dspec_core.proofs.{OneMore.read_word, OwnBlocks.granted_block, OwnBlocks.granted_slot, OwnSlots.among_is, OwnSlots.caller_is, OwnSlots.mark_there, OwnSlots.place_there}
+use Rattle.dspec_core.proofs.{OwnSlots.specdrop_there, OwnSlots.spoken_as, Rooms.call_fits, Rooms.counts_fit, WordsShown.words_set, WordsShown.words_stay}
 use Rattle.dspec_core.proofs.machine.Machine.enter_speculate.Goals as goal
 
 pub speculate_nowhere-requires : goal.speculate_nowhere-requires

@@ -4,17 +4,11 @@ use Rattle.std.specs.Vec.{with_item}
 use Rattle.dspec_deeds.specs.declared.deed.Deed.TheVariants as deed
 use Rattle.dspec_deeds.specs.declared.deed.TraceFate.TheVariants as traced
 use Rattle.dspec_deeds.proofs.Items.{kept_item}
-use Rattle.dspec_cpu_state.specs.declared.counts.Counts.{Counts}
-use Rattle.dspec_cpu_state.specs.declared.cpu_state.CpuState.{CpuState}
-use Rattle.dspec_core.specs.Words.{ShowsList, Cpu, history}
-use Rattle.dspec_core.proofs.KeptCpus.{put_deed, put_side}
-use Rattle.dspec_core.proofs.MachineReads.{cpu_got, cpu_read}
-use Rattle.dspec_core.proofs.OneMore.{adds_own, enters, latest_first}
-use Rattle.dspec_core.proofs.OwnSlots.{on_err, stream_traces, traced_as}
-use Rattle.dspec_core.proofs.Rooms.{call_fits, counts_fit, drop_fits}
-use Rattle.dspec_core.proofs.WordsShown.{words_stay}
+use Rattle.dspec_core.specs.{Words.Counts, Words.CpuState, Words.ShowsList, Words.history, declared.machine.cpu.Cpu.Cpu}
+use Rattle.dspec_core.proofs.{KeptCpus.put_deed, KeptCpus.put_side, MachineReads.cpu_got, MachineReads.cpu_read, OneMore.adds_own, OneMore.enters, OneMore.latest_first, OwnSlots.on_err}
+use Rattle.dspec_core.proofs.{OwnSlots.stream_traces, OwnSlots.traced_as, Rooms.call_fits, Rooms.counts_fit, Rooms.drop_fits, WordsShown.words_stay, machine.Machine.enter_trace.Goals.in-Stopped}
+use Rattle.dspec_core.proofs.{machine.Machine.enter_trace.Goals.in_default}
 use Rattle.dspec_core.proofs.machine.Machine.enter_trace.Goals as goal
-use Rattle.dspec_core.proofs.machine.Machine.enter_trace.Goals.{in-Stopped, in_default}
 
 pub returns-in_err-enter_record-clause-refused : goal.returns-in_err-enter_record-clause-refused
 returns-in_err-enter_record-clause-refused g c =

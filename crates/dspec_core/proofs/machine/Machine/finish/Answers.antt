@@ -1,9 +1,7 @@
 -- One CPU more is collected, and in the end all of them are.
-use Rattle.std.proofs.lemmas.Bool.Decides.{nat_tests}
-use Rattle.std.proofs.Common.{◌∙◌, arith}
+use Rattle.std.proofs.{Common.◌∙◌, Common.arith, lemmas.Bool.Decides.nat_tests}
 use Rattle.dspec_core.specs.Words.{progress_of, history, state_of, stream, report}
-use Rattle.dspec_core.proofs.Collected.{one_more_cpu, streams_there, reports_there}
-use Rattle.dspec_core.proofs.MachineReads.{cpu_read}
+use Rattle.dspec_core.proofs.{Collected.one_more_cpu, Collected.streams_there, Collected.reports_there, MachineReads.cpu_read}
 use Rattle.dspec_core.proofs.machine.Machine.finish.Goals as goal
 
 pub loop-cpu-preserved : goal.loop-cpu-preserved

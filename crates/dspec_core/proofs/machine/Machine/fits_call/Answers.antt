@@ -1,9 +1,7 @@
 -- The record is the call's.
-use Rattle.std.proofs.Common.{arith}
-use Rattle.std.proofs.lemmas.Bool.Decides.{nat_tests}
+use Rattle.std.proofs.{Common.arith, lemmas.Bool.Decides.nat_tests}
 use Rattle.dspec_core.specs.Words.{history}
-use Rattle.dspec_core.proofs.MachineReads.{cpu_read}
-use Rattle.dspec_core.proofs.Seeing.{no_record}
+use Rattle.dspec_core.proofs.{MachineReads.cpu_read, Seeing.no_record}
 use Rattle.dspec_core.proofs.machine.Machine.fits_call.Goals as goal
 
 pub fits_speculative-requires : goal.fits_speculative-requires

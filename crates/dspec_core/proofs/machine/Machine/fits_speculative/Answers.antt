@@ -1,7 +1,6 @@
 use Rattle.std.proofs.Common.{sym}
 use Rattle.dspec_core.specs.Words.{history}
-use Rattle.dspec_core.proofs.MachineReads.{cpu_read, slot_in_range}
-use Rattle.dspec_core.proofs.OwnSlots.{caller_is, mark_there, place_there}
+use Rattle.dspec_core.proofs.{MachineReads.cpu_read, MachineReads.slot_in_range, OwnSlots.caller_is, OwnSlots.mark_there, OwnSlots.place_there}
 use Rattle.dspec_core.proofs.machine.Machine.fits_speculative.Goals as goal
 
 pub is_mine-mine-requires : goal.is_mine-mine-requires

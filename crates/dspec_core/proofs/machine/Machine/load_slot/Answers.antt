@@ -2,9 +2,8 @@
 use Rattle.std.proofs.Common.{◌∙◌, sym, subst, [], if◌then◌else◌}
 use Rattle.dspec_core.specs.Words.{awaits, SlotState, CanBeReleased, ConsumerMakes, history, state_of, keeps_on, next_slot}
 use Rattle.dspec_interleaving.specs.declared.flight.ConsumerFlight.TheVariants as flight
-use Rattle.dspec_interleaving.proofs.CleanReads.{tried_awaits, untried_awaits}
+use Rattle.dspec_interleaving.proofs.{CleanReads.tried_awaits, CleanReads.untried_awaits, StepReads.can_be_released}
 use Rattle.dspec_core.proofs.OneMore.{word_there}
-use Rattle.dspec_interleaving.proofs.StepReads.{can_be_released}
 use Rattle.dspec_core.proofs.machine.Machine.load_slot.Goals as goal
 
 pub reap_at-requires : goal.reap_at-requires

@@ -1,11 +1,7 @@
 -- The CPU's progress, and its count of worn calls in both places.
 use Rattle.std.proofs.Common.{◌<◌, ◌^◌, refl, ap, subst, arith}
-use Rattle.dspec_interleaving.specs.declared.flight.CpuProgress.{CpuProgress}
-use Rattle.dspec_core.specs.Words.{history, moved_by}
-use Rattle.dspec_core.proofs.KeptCpus.{moving}
-use Rattle.dspec_core.proofs.MachineReads.{cpu_got}
-use Rattle.dspec_core.proofs.Makings.{cpu_puts, state_moves}
-use Rattle.dspec_core.proofs.OneMore.{progress_there}
+use Rattle.dspec_core.specs.Words.{CpuProgress, history, moved_by}
+use Rattle.dspec_core.proofs.{KeptCpus.moving, MachineReads.cpu_got, Makings.cpu_puts, Makings.state_moves, OneMore.progress_there}
 use Rattle.dspec_core.proofs.machine.Machine.move_cpu.Goals as goal
 
 pub count_steps-own-requires : goal.count_steps-own-requires

@@ -1,8 +1,7 @@
 -- The words are free, what is kept of each CPU shows the empty list, and all is idle.
 use Rattle.std.proofs.Common.{◌≡◌, false, None, refl, subst, arith}
-use Rattle.dspec_core.specs.Words.{Machine, at_start}
-use Rattle.dspec_core.proofs.Keepings.{kept_as}
-use Rattle.dspec_core.proofs.Starts.{Made, IsFree, HasBegun, none_made, one_made, machine_at_start, state_at_start, start_keeps}
+use Rattle.dspec_core.specs.{Words.at_start, declared.machine.Machine.Machine}
+use Rattle.dspec_core.proofs.{Keepings.kept_as, Starts.Made, Starts.IsFree, Starts.HasBegun, Starts.none_made, Starts.one_made, Starts.machine_at_start, Starts.state_at_start, Starts.start_keeps}
 use Rattle.dspec_core.proofs.machine.Machine.new.Goals as goal
 
 pub loop-preserved : goal.loop-preserved

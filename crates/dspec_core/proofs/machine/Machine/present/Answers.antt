@@ -1,10 +1,8 @@
 -- The word that is read is the slot's.
-use Rattle.std.proofs.lemmas.Bool.Decides.{nat_tests}
-use Rattle.std.proofs.Common.{ap, ◌∙◌, arith}
+use Rattle.std.proofs.{Common.ap, Common.◌∙◌, Common.arith, lemmas.Bool.Decides.nat_tests}
 use Rattle.dspec_core.specs.Words.{history}
 use Rattle.dspec_interleaving.proofs.StepReads.{slots_fit}
-use Rattle.dspec_core.proofs.MachineReads.{place_within}
-use Rattle.dspec_core.proofs.OneMore.{word_there}
+use Rattle.dspec_core.proofs.{MachineReads.place_within, OneMore.word_there}
 use Rattle.dspec_core.proofs.machine.Machine.present.Goals as goal
 
 pub index-requires : goal.index-requires

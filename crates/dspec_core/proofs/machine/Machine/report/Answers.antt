@@ -1,10 +1,7 @@
 -- The side counts what the list counts.
 use Rattle.std.proofs.Common.{◌≡◌, sym, ap, ◌∙◌}
-use Rattle.dspec_interleaving.specs.declared.flight.CpuProgress.{CpuProgress}
-use Rattle.dspec_core.specs.Words.{progress_of, history, state_of}
-use Rattle.dspec_core.proofs.MachineReads.{cpu_got, cpu_read}
-use Rattle.dspec_core.proofs.OneMore.{progress_there}
-use Rattle.dspec_core.proofs.Rooms.{fates_within, told}
+use Rattle.dspec_core.specs.Words.{CpuProgress, progress_of, history, state_of}
+use Rattle.dspec_core.proofs.{MachineReads.cpu_got, MachineReads.cpu_read, OneMore.progress_there, Rooms.fates_within, Rooms.told}
 use Rattle.dspec_core.proofs.machine.Machine.report.Goals as goal
 
 pub report-requires : goal.report-requires

@@ -1,12 +1,9 @@
 -- What the machine keeps of the call's slot and of the CPU, and whether its record fits.
-use Rattle.std.proofs.lemmas.Bool.Decides.{nat_tests}
-use Rattle.std.proofs.Common.{◌≡◌, length, refl, sym, ap, ◌∙◌, subst, arith}
+use Rattle.std.proofs.{Common.◌≡◌, Common.length, Common.refl, Common.sym, Common.ap, Common.◌∙◌, Common.subst, Common.arith, lemmas.Bool.Decides.nat_tests}
 use Rattle.std.specs.Prelude.{nat_le}
 use Rattle.dspec_core.specs.Words.{ack, callers, fits_held, held, history, is_among, issue, IsSlot, Speculation, word_at}
-use Rattle.dspec_core.proofs.Driving.{place_aimed, place_slot}
-use Rattle.dspec_core.proofs.MachineReads.{ack_read, cpu_got, cpu_read, slot_inside}
-use Rattle.dspec_core.proofs.OneMore.{progress_there, read_place, read_word}
-use Rattle.dspec_core.proofs.OwnSlots.{ack_there, among_is, caller_is, mark_there, place_there}
+use Rattle.dspec_core.proofs.{Driving.place_aimed, Driving.place_slot, MachineReads.ack_read, MachineReads.cpu_got, MachineReads.cpu_read, MachineReads.slot_inside, OneMore.progress_there}
+use Rattle.dspec_core.proofs.{OneMore.read_place, OneMore.read_word, OwnSlots.ack_there, OwnSlots.among_is, OwnSlots.caller_is, OwnSlots.mark_there, OwnSlots.place_there}
 use Rattle.dspec_core.proofs.machine.Machine.see.Goals as goal
 
 pub aim-id-requires-clause-slot : goal.aim-id-requires-clause-slot

@@ -1,13 +1,9 @@
 -- One batch more is wanted than was taken.
 use Rattle.std.proofs.Common.{◌+◌, ◌<◌, ◌^◌, refl, subst, arith}
 use Rattle.dspec_deeds.specs.declared.calls.Answer.TheVariants as answer
-use Rattle.dspec_interleaving.specs.declared.flight.CpuProgress.{CpuProgress}
-use Rattle.dspec_core.specs.Words.{state_of}
-use Rattle.dspec_core.proofs.CleanMakings.{puts_stops}
+use Rattle.dspec_core.specs.Words.{CpuProgress, state_of}
+use Rattle.dspec_core.proofs.{CleanMakings.puts_stops, MachineReads.cpu_got, Makings.progress_moves, Makings.state_moves, OneMore.progress_there}
 use Rattle.dspec_interleaving.proofs.CleanReads.{takes_fit}
-use Rattle.dspec_core.proofs.MachineReads.{cpu_got}
-use Rattle.dspec_core.proofs.OneMore.{progress_there}
-use Rattle.dspec_core.proofs.Makings.{progress_moves, state_moves}
 use Rattle.dspec_core.proofs.machine.Machine.step_ask.Goals as goal
 
 pub overflow_add-progress : goal.overflow_add-progress

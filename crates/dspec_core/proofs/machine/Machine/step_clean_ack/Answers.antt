@@ -1,7 +1,7 @@
 -- The acknowledgement that was read is the CPU's.
 use Rattle.std.proofs.Common.{◌≡◌, ℕ, ◌+◌, ◌<◌, ◌≤◌, ◌∙◌, true, false, refl, arith}
-use Rattle.std.specs.Prelude.{nat_lt}
 use Rattle.std.proofs.lemmas.Bool.{eq-eqb, le-ltb, lt-ltb}
+use Rattle.std.specs.Prelude.{nat_lt}
 use Rattle.dspec_deeds.proofs.TestLemmas.{other_number}
 use Rattle.dspec_core.specs.Words.{ack, history, state_of}
 use Rattle.dspec_interleaving.proofs.CleanReads.{clean_stands, clean_steps_fit}

@@ -1,12 +1,10 @@
 -- The exchange succeeds where the word is the one that was shown.
 use Rattle.std.proofs.Common.{◌≡◌, ◌+◌, ◌∙◌, true, false, not, [], ◌∷◌, if◌then◌else◌, sym, ap, subst}
 use Rattle.std.proofs.lemmas.Bool.{not-false, not-true}
-use Rattle.dspec_deeds.specs.declared.deed.Deed.TheVariants.{Release}
-use Rattle.dspec_core.specs.Words.{word_at, ConsumerMakes, history, state_of, next_slot, same_word}
+use Rattle.dspec_core.specs.Words.{Release, word_at, ConsumerMakes, history, state_of, next_slot, same_word}
 use Rattle.dspec_interleaving.specs.declared.flight.ConsumerFlight.TheVariants as flight
-use Rattle.dspec_interleaving.proofs.CleanReads.{clean_stands, reap_legal}
+use Rattle.dspec_interleaving.proofs.{CleanReads.clean_stands, CleanReads.reap_legal, StepsWords.words_test}
 use Rattle.dspec_core.proofs.OneMore.{word_there}
-use Rattle.dspec_interleaving.proofs.StepsWords.{words_test}
 use Rattle.dspec_core.proofs.machine.Machine.step_clean_reap.Goals as goal
 
 pub enter_release-requires-clause-may : goal.enter_release-requires-clause-may

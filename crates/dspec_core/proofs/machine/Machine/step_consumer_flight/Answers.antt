@@ -1,9 +1,6 @@
-use Rattle.std.proofs.Common.{◌≡◌, true, subst, arith}
-use Rattle.std.proofs.lemmas.Bool.Decides.{nat_tests}
+use Rattle.std.proofs.{Common.◌≡◌, Common.true, Common.subst, Common.arith, lemmas.Bool.Decides.nat_tests}
 use Rattle.std.specs.Prelude.{nat_lt}
-use Rattle.dspec_deeds.specs.declared.calls.ConsumerOp.{ConsumerOp}
-use Rattle.dspec_interleaving.specs.declared.flight.ConsumerFlight.{ConsumerFlight}
-use Rattle.dspec_core.specs.Words.{consumer_op_of, is_about}
+use Rattle.dspec_core.specs.Words.{ConsumerOp, ConsumerFlight, consumer_op_of, is_about}
 use Rattle.dspec_core.proofs.machine.Machine.step_consumer_flight.Goals as goal
 
 pub step_ask-requires-clause-cpu : goal.step_ask-requires-clause-cpu

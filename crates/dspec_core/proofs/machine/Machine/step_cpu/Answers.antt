@@ -1,11 +1,9 @@
 -- The step is the play's, by what it sees.
 use Rattle.std.proofs.Common.{◌<◌, ◌≤◌, ◌^◌, sym, subst}
-use Rattle.dspec_deeds.specs.declared.config.Config.{Config}
-use Rattle.dspec_core.specs.Words.{IsSlotPlace, CanBeReleased, history, PlayState, progress_of, state_of, aimed}
+use Rattle.dspec_core.specs.Words.{Config, IsSlotPlace, CanBeReleased, history, PlayState, progress_of, state_of, aimed}
 use Rattle.dspec_deeds.proofs.SetUp.{set_up}
 use Rattle.dspec_interleaving.proofs.StepReads.{can_be_released, slots_fit, steps_fit}
-use Rattle.dspec_core.proofs.Driving.{move_comes, move_leaves, place_inside}
-use Rattle.dspec_core.proofs.MachineReads.{flies}
+use Rattle.dspec_core.proofs.{Driving.move_comes, Driving.move_leaves, Driving.place_inside, MachineReads.flies}
 use Rattle.dspec_core.proofs.machine.Machine.step_cpu.Goals as goal
 
 pub see-seen-requires : goal.see-seen-requires

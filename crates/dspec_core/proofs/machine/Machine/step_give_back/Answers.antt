@@ -1,16 +1,11 @@
 -- The buffer that is out is pushed back.
 use Rattle.std.proofs.Common.{◌≡◌, ◌∙◌, true, refl, sym, ap, subst}
 use Rattle.dspec_deeds.specs.declared.calls.Answer.TheVariants as answer
-use Rattle.dspec_interleaving.specs.declared.flight.CpuProgress.{CpuProgress}
-use Rattle.dspec_interleaving.specs.declared.flight.Spare.{Spare}
+use Rattle.dspec_core.specs.Words.{CpuProgress, Spare, progress_of, ConsumerMakes, history, state_of, gives_at}
 use Rattle.dspec_interleaving.specs.declared.flight.Spare.TheVariants as spare
-use Rattle.dspec_core.specs.Words.{progress_of, ConsumerMakes, history, state_of, gives_at}
-use Rattle.dspec_core.proofs.CleanMakings.{puts_stops}
-use Rattle.dspec_core.proofs.MachineReads.{cpu_got}
-use Rattle.dspec_core.proofs.Makings.{progress_moves, state_moves}
-use Rattle.dspec_core.proofs.OneMore.{progress_there}
+use Rattle.dspec_core.proofs.{CleanMakings.puts_stops, MachineReads.cpu_got, Makings.progress_moves, Makings.state_moves, OneMore.progress_there, machine.Machine.step_give_back.Goals.in-Out}
+use Rattle.dspec_core.proofs.{machine.Machine.step_give_back.Goals.in_default}
 use Rattle.dspec_core.proofs.machine.Machine.step_give_back.Goals as goal
-use Rattle.dspec_core.proofs.machine.Machine.step_give_back.Goals.{in-Out, in_default}
 
 pub stop_consumer-requires-2 : goal.stop_consumer-requires-2
 stop_consumer-requires-2 g c =

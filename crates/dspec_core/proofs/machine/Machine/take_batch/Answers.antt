@@ -1,19 +1,12 @@
 -- The records of the batch sealed last are added to what was taken.
 use Rattle.std.proofs.Common.{◌≡◌, ◌+◌, ◌∙◌, ◌++◌, List, length, reverse, refl, sym, ap, subst}
 use Rattle.std.specs.Vec.{with_item}
-use Rattle.dspec_core.specs.Words.{Record, Sealing, contents, seals, taken, ConsumerMakes, history, state_of, batch_at, changes, batch_of_last_seal}
-use Rattle.dspec_deeds.specs.declared.calls.Answer.{Answer}
+use Rattle.dspec_core.specs.Words.{Record, Sealing, contents, seals, taken, ConsumerMakes, history, state_of, batch_at, changes, batch_of_last_seal, Answer, CpuProgress}
 use Rattle.dspec_deeds.specs.declared.calls.Answer.TheVariants as answer
-use Rattle.dspec_interleaving.specs.declared.flight.CpuProgress.{CpuProgress}
 use Rattle.dspec_interleaving.specs.declared.flight.Spare.TheVariants as spare
-use Rattle.dspec_core.proofs.CleanMakings.{puts_stops}
+use Rattle.dspec_core.proofs.{CleanMakings.puts_stops, KeptCpus.taking, MachineReads.length_contents, MachineReads.cpu_got, Makings.cpu_puts, Makings.state_puts, OneMore.progress_there}
+use Rattle.dspec_core.proofs.{OwnSlots.on_err, TakenBatches.next_batch, TakenBatches.taken_more}
 use Rattle.dspec_deeds.proofs.Items.{kept_item}
-use Rattle.dspec_core.proofs.MachineReads.{length_contents, cpu_got}
-use Rattle.dspec_core.proofs.KeptCpus.{taking}
-use Rattle.dspec_core.proofs.Makings.{cpu_puts, state_puts}
-use Rattle.dspec_core.proofs.OneMore.{progress_there}
-use Rattle.dspec_core.proofs.TakenBatches.{next_batch, taken_more}
-use Rattle.dspec_core.proofs.OwnSlots.{on_err}
 use Rattle.dspec_core.proofs.machine.Machine.take_batch.Goals as goal
 
 pub returns-in_err-append_records-clause-refused : goal.returns-in_err-append_records-clause-refused

@@ -1,8 +1,6 @@
 -- One more record is behind what was taken.
-use Rattle.std.proofs.Common.{arith}
-use Rattle.std.proofs.lemmas.Bool.Decides.{nat_tests}
-use Rattle.dspec_deeds.proofs.Results.{of_ok}
-use Rattle.dspec_deeds.proofs.Walks.{walk_goes, grew_more}
+use Rattle.std.proofs.{Common.arith, lemmas.Bool.Decides.nat_tests}
+use Rattle.dspec_deeds.proofs.{Results.of_ok, Walks.walk_goes, Walks.grew_more}
 use Rattle.dspec_core.proofs.machine.walking.append_records.Goals as goal
 
 pub loop-preserved : goal.loop-preserved

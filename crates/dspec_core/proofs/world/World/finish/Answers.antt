@@ -1,9 +1,7 @@
 -- The close of a session with no call in flight.
-use Rattle.std.proofs.Common.{◌≡◌, ℕ, true, IfOk, sym, subst}
+use Rattle.std.proofs.{Common.◌≡◌, Common.ℕ, Common.true, Common.IfOk, Common.sym, Common.subst, lemmas.Result.IfOk-weaker}
 use Rattle.std.specs.Prelude.{reverse}
-use Rattle.std.proofs.lemmas.Result.{IfOk-weaker}
-use Rattle.dspec_deeds.specs.declared.calls.Actor.{Actor}
-use Rattle.dspec_core.specs.Words.{is_actor, is_idle, reports, streams, closing, PlayState, progress_of, Headline, IsLegal, history, state_of, WorldView}
+use Rattle.dspec_core.specs.Words.{Actor, is_actor, is_idle, reports, streams, closing, PlayState, progress_of, Headline, IsLegal, history, state_of, WorldView}
 use Rattle.dspec_deeds.proofs.Headlines.{headline}
 use Rattle.dspec_interleaving.proofs.SessionCloses.{closes_legally, idle_closes, told_in_order}
 use Rattle.dspec_core.proofs.world.World.finish.Goals as goal

@@ -1,6 +1,5 @@
 -- Activity shows the list, by what a world keeps.
-use Rattle.std.proofs.Common.{arith}
-use Rattle.std.proofs.lemmas.Bool.Decides.{nat_tests}
+use Rattle.std.proofs.{Common.arith, lemmas.Bool.Decides.nat_tests}
 use Rattle.dspec_core.proofs.world.World.is_stopped.Goals as goal
 
 pub returns : goal.returns

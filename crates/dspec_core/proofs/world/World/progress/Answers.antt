@@ -1,7 +1,6 @@
 use Rattle.std.proofs.Common.{◌≡◌, ◌<◌, sym, ap, ◌∙◌, subst}
 use Rattle.dspec_core.specs.Words.{PlayState, progress_of, state_of}
-use Rattle.dspec_core.proofs.MachineReads.{cpu_got}
-use Rattle.dspec_core.proofs.OneMore.{progress_there}
+use Rattle.dspec_core.proofs.{MachineReads.cpu_got, OneMore.progress_there}
 use Rattle.dspec_core.proofs.world.World.progress.Goals as goal
 
 pub returns : goal.returns

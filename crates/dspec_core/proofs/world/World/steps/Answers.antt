@@ -1,12 +1,8 @@
 -- The steps stay below the bound of the call in flight.
-use Rattle.std.proofs.Common.{arith, ◌≡◌, ◌<◌, true, sym, ap, subst}
-use Rattle.std.proofs.lemmas.Bool.Decides.{nat_tests}
-use Rattle.dspec_deeds.specs.declared.calls.Actor.{Actor}
+use Rattle.std.proofs.{Common.arith, Common.◌≡◌, Common.◌<◌, Common.true, Common.sym, Common.ap, Common.subst, lemmas.Bool.Decides.nat_tests}
+use Rattle.dspec_core.specs.Words.{Actor, CpuProgress, steps_limit, is_actor, PlayState, state_of}
 use Rattle.dspec_deeds.specs.declared.calls.Actor.TheVariants as actor
-use Rattle.dspec_interleaving.specs.declared.flight.CpuProgress.{CpuProgress}
-use Rattle.dspec_core.specs.Words.{steps_limit, is_actor, PlayState, state_of}
-use Rattle.dspec_core.proofs.MachineReads.{cpu_got}
-use Rattle.dspec_core.proofs.OneMore.{progress_there}
+use Rattle.dspec_core.proofs.{MachineReads.cpu_got, OneMore.progress_there}
 use Rattle.dspec_interleaving.proofs.StepCounts.{is_below, steps_below}
 use Rattle.dspec_core.proofs.world.World.steps.Goals as goal
 

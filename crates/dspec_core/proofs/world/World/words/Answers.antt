@@ -1,6 +1,5 @@
 -- The words show the list, by what a world keeps.
-use Rattle.std.proofs.Common.{arith}
-use Rattle.std.proofs.lemmas.Bool.Decides.{nat_tests}
+use Rattle.std.proofs.{Common.arith, lemmas.Bool.Decides.nat_tests}
 use Rattle.dspec_core.proofs.world.World.words.Goals as goal
 
 pub returns : goal.returns

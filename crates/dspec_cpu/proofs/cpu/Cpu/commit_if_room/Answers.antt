@@ -1,10 +1,9 @@
 use Rattle.std.proofs.Common.{◌≡◌, ◌∙◌, ◌||◌, true, List, refl, sym, ap}
-use Rattle.dspec_deeds.specs.declared.deed.Deed.{Deed}
+use Rattle.dspec_cpu.specs.Words.{Deed, cpu_block_fits, made_all_calls}
 use Rattle.dspec_deeds.proofs.TestLemmas.{or_true}
-use Rattle.dspec_cpu.specs.Words.{cpu_block_fits, made_all_calls}
 use Rattle.dspec_cpu.proofs.Rooms.{has, none_lost}
-use Rattle.dspec_cpu.proofs.cpu.Cpu.commit_if_room.Goals as goal
 use Rattle.dspec_cpu.proofs.cpu.Cpu.commit_if_room.Goals.{else-not-is_worn-via-then-not-is_worn+else-not-has_room_for, else-not-is_worn-via-else-not-is_worn}
+use Rattle.dspec_cpu.proofs.cpu.Cpu.commit_if_room.Goals as goal
 
 pub returns-clause-does : goal.returns-clause-does
 returns-clause-does g c =

@@ -1,10 +1,6 @@
 use Rattle.std.proofs.Common.{◌≡◌, ◌∙◌, List, sym, ap, subst, arith}
-use Rattle.dspec_deeds.specs.declared.deed.Deed.{Deed}
-use Rattle.dspec_cpu.specs.Words.{dropped_in, known, Cpu, drops_told, HasList}
-use Rattle.dspec_cpu.proofs.Limits.{limits}
-use Rattle.dspec_cpu.proofs.Outside.{outside_drops}
-use Rattle.dspec_cpu.proofs.Reaches.{slot_inside}
-use Rattle.dspec_cpu.proofs.Shown.{shows}
+use Rattle.dspec_cpu.specs.{Words.Deed, Words.dropped_in, Words.known, Words.drops_told, Words.HasList, declared.parts.CpuParts.CpuParts as Cpu}
+use Rattle.dspec_cpu.proofs.{Limits.limits, Outside.outside_drops, Reaches.slot_inside, Shown.shows}
 use Rattle.dspec_cpu.proofs.cpu.Cpu.dropped_in.Goals as goal
 
 pub dropped_in-requires : goal.dropped_in-requires

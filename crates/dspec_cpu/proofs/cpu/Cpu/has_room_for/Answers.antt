@@ -1,13 +1,7 @@
 use Rattle.std.proofs.Common.{◌≡◌, ◌∙◌, true, false, true≢false, List, refl, sym, subst, ⊎_elim}
-use Rattle.dspec_deeds.specs.declared.deed.Deed.{Deed}
-use Rattle.dspec_cpu.specs.Words.{in_range, known, Cpu, cpu_block_fits, HasList}
+use Rattle.dspec_cpu.specs.{Words.Deed, Words.in_range, Words.known, Words.cpu_block_fits, Words.HasList, declared.parts.CpuParts.CpuParts as Cpu}
 use Rattle.dspec_deeds.proofs.TestLemmas.{either_way}
-use Rattle.dspec_cpu.proofs.Limits.{limits}
-use Rattle.dspec_cpu.proofs.Mine.{unmarked_empty}
-use Rattle.dspec_cpu.proofs.Marked.{marked_inside, marked_is}
-use Rattle.dspec_cpu.proofs.Outside.{outside_holds}
-use Rattle.dspec_cpu.proofs.Ready.{steady_few}
-use Rattle.dspec_cpu.proofs.Rooms.{nothing_fits}
+use Rattle.dspec_cpu.proofs.{Limits.limits, Marked.marked_inside, Marked.marked_is, Mine.unmarked_empty, Outside.outside_holds, Ready.steady_few, Rooms.nothing_fits}
 use Rattle.dspec_cpu.proofs.cpu.Cpu.has_room_for.Goals as goal
 
 pub returns-then-not-has : goal.returns-then-not-has

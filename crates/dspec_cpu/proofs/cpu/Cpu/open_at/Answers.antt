@@ -1,16 +1,9 @@
 use Rattle.std.proofs.Common.{◌≡◌, true, false, List, [], Some, sym, subst, ⊎_elim, arith}
-use Rattle.dspec_cpu.specs.Words.{Speculation, in_range, held, known, Cpu, HasList, IsOpenAt}
-use Rattle.dspec_deeds.specs.declared.deed.Deed.{Deed}
+use Rattle.dspec_cpu.specs.{Words.Speculation, Words.in_range, Words.held, Words.known, Words.HasList, Words.IsOpenAt, Words.Deed, declared.parts.CpuParts.CpuParts as Cpu}
 use Rattle.dspec_deeds.proofs.TestLemmas.{either_way}
-use Rattle.dspec_cpu.proofs.Limits.{limits}
-use Rattle.dspec_cpu.proofs.OpenAts.{FoundAt, found_in, none_in}
-use Rattle.dspec_cpu.proofs.Outside.{outside_holds}
-use Rattle.dspec_cpu.proofs.Reaches.{slot_inside}
-use Rattle.dspec_cpu.proofs.Ready.{steady_few}
-use Rattle.dspec_cpu.proofs.Shown.{shows}
-use Rattle.dspec_cpu.proofs.cpu.Cpu.open_at.Given.{Over}
+use Rattle.dspec_cpu.proofs.{Limits.limits, OpenAts.FoundAt, OpenAts.found_in, OpenAts.none_in, Outside.outside_holds, Reaches.slot_inside, Ready.steady_few, Shown.shows, cpu.Cpu.open_at.Given.Over}
+use Rattle.dspec_cpu.proofs.{cpu.Cpu.open_at.Goals.then-slot-eq0-via-then-slot-eq0, cpu.Cpu.open_at.Goals.then-slot-eq0-via-else-slot-eq0+then-slot-self}
 use Rattle.dspec_cpu.proofs.cpu.Cpu.open_at.Goals as goal
-use Rattle.dspec_cpu.proofs.cpu.Cpu.open_at.Goals.{then-slot-eq0-via-then-slot-eq0, then-slot-eq0-via-else-slot-eq0+then-slot-self}
 
 pub returns-then-slot-eq0 : goal.returns-then-slot-eq0
 returns-then-slot-eq0 g c =

@@ -1,6 +1,5 @@
 use Rattle.std.proofs.Common.{◌≡◌, List, sym, subst}
-use Rattle.dspec_deeds.specs.declared.deed.Deed.{Deed}
-use Rattle.dspec_cpu.specs.Words.{report, Cpu, HasList, words_of, Belongs, identity}
+use Rattle.dspec_cpu.specs.{Words.Deed, Words.report, Words.HasList, Words.words_of, Words.Belongs, Words.identity, declared.parts.CpuParts.CpuParts as Cpu}
 use Rattle.dspec_cpu.proofs.Ready.{belonging, fated_within, told}
 use Rattle.dspec_cpu.proofs.cpu.Cpu.report.Goals as goal
 

@@ -1,6 +1,5 @@
 use Rattle.std.proofs.Common.{List, subst}
-use Rattle.dspec_deeds.specs.declared.deed.Deed.{Deed}
-use Rattle.dspec_cpu.specs.Words.{Cpu, HasList, ServesOnce}
+use Rattle.dspec_cpu.specs.{Words.Deed, Words.HasList, Words.ServesOnce, declared.parts.CpuParts.CpuParts as Cpu}
 use Rattle.dspec_cpu.proofs.Telling.{service_tells}
 use Rattle.dspec_cpu.proofs.cpu.Cpu.service.Goals as goal
 

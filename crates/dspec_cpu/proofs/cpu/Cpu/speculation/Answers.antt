@@ -1,6 +1,5 @@
 use Rattle.std.proofs.Common.{List, subst}
-use Rattle.dspec_deeds.specs.declared.deed.Deed.{Deed}
-use Rattle.dspec_cpu.specs.Words.{Cpu, HasList, OpensOne}
+use Rattle.dspec_cpu.specs.{Words.Deed, Words.HasList, Words.OpensOne, declared.parts.CpuParts.CpuParts as Cpu}
 use Rattle.dspec_cpu.proofs.Telling.{opens_one}
 use Rattle.dspec_cpu.proofs.cpu.Cpu.speculation.Goals as goal
 

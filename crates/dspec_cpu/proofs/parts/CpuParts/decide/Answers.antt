@@ -1,21 +1,10 @@
 use Rattle.std.proofs.Common.{◌≢◌, ◌+◌, ◌==◌, ◌<◌, ◌^◌, ◌∙◌, true, false, if◌then◌else◌, arith, refl, sym, ap, subst, true≢false}
-use Rattle.dspec_word.specs.declared.code.Code.TheVariants.{Committing}
-use Rattle.dspec_deeds.specs.declared.config.Config.{Config}
-use Rattle.dspec_deeds.specs.declared.calls.CpuOp.{CpuOp}
+use Rattle.dspec_cpu.specs.Words.{Committing, Config, CpuOp, count_of, in_range, mark, CommitsNow, known, set_up, cpu_of, rests, words_of, act_of}
 use Rattle.dspec_deeds.specs.declared.calls.CpuOp.TheVariants as op
-use Rattle.dspec_cpu.specs.Words.{count_of, in_range, mark, CommitsNow, known, set_up, cpu_of, rests, words_of, act_of}
 use Rattle.dspec_cpu.specs.declared.reaching.Reach.TheVariants as reach
-use Rattle.dspec_cpu.proofs.Limits.{has_room, limits}
-use Rattle.dspec_cpu.proofs.ReachDeeds.{decision_grants_none}
-use Rattle.dspec_cpu.proofs.Reaches.{slot_inside}
-use Rattle.dspec_cpu.proofs.Marked.{marked_is}
-use Rattle.dspec_cpu.proofs.Ready.{roomy, few_drops}
-use Rattle.dspec_cpu.proofs.Speculates.{own_mark}
-use Rattle.dspec_cpu.proofs.Decisions.{commits_now, fate_tells, worn_shown}
-use Rattle.dspec_cpu.proofs.Decided.{five_steps, reached_here, undecided}
-use Rattle.dspec_cpu.proofs.Commits.{left, left_open, released}
-use Rattle.dspec_cpu.proofs.Discards.{thrown}
-use Rattle.dspec_cpu.proofs.Leaves.{worn_leaves, reached_leaves, released_leaves, copied_leaves}
+use Rattle.dspec_cpu.proofs.{Commits.left, Commits.left_open, Commits.released, Decided.five_steps, Decided.reached_here, Decided.undecided, Decisions.commits_now, Decisions.fate_tells}
+use Rattle.dspec_cpu.proofs.{Decisions.worn_shown, Discards.thrown, Leaves.worn_leaves, Leaves.reached_leaves, Leaves.released_leaves, Leaves.copied_leaves, Limits.has_room, Limits.limits}
+use Rattle.dspec_cpu.proofs.{Marked.marked_is, ReachDeeds.decision_grants_none, Reaches.slot_inside, Ready.roomy, Ready.few_drops, Speculates.own_mark}
 use Rattle.dspec_cpu.proofs.parts.CpuParts.decide.Goals as goal
 
 pub returns-then-self-clause-decides : goal.returns-then-self-clause-decides

@@ -1,6 +1,5 @@
 use Rattle.std.proofs.Common.{◌∙◌, Some, ap, arith, refl, subst, sym}
-use Rattle.dspec_cpu.specs.Words.{Stored, HandsOn, not_asked, worn_out, buffers_of}
-use Rattle.dspec_cpu_state.specs.declared.cpu_state.CpuState.{CpuState}
+use Rattle.dspec_cpu.specs.Words.{Stored, HandsOn, not_asked, worn_out, buffers_of, CpuState}
 use Rattle.dspec_cpu.proofs.Heeding.{left_held_back, none_found, none_of, sealed_now}
 use Rattle.dspec_cpu.proofs.parts.CpuParts.heed.Goals.{then-ask-self-via-then-ask-self, then-ask-self-via-else-ask-self+then-self}
 use Rattle.dspec_cpu.proofs.parts.CpuParts.heed.Goals as goal

@@ -1,23 +1,13 @@
 use Rattle.std.proofs.Common.{◌≡◌, ◌+◌, ◌==◌, ◌≤◌, ◌∙◌, ℕ, Bool, if◌then◌else◌, true, false, true≢false, [], ◌∷◌, arith, refl, sym, ap, subst}
-use Rattle.dspec_cpu.specs.Words.{Record, fits_speculative, mark, known, Goes, Stands, Reached, words_of, CallLeaves, of_slot}
+use Rattle.dspec_cpu.specs.Words.{Record, fits_speculative, mark, known, Goes, Stands, Reached, words_of, CallLeaves, of_slot, Speculate, Config, Counts}
 use Rattle.dspec_deeds.specs.declared.calls.CpuOp.TheVariants as op
 use Rattle.dspec_deeds.specs.declared.deed.SpeculateFate.TheVariants as spoken
-use Rattle.dspec_deeds.specs.declared.deed.Deed.TheVariants.{Speculate}
-use Rattle.dspec_deeds.specs.declared.config.Config.{Config}
 use Rattle.dspec_cpu.specs.declared.reaching.Reach.TheVariants as reach
-use Rattle.dspec_cpu.proofs.ReachDeeds.{unstopped}
-use Rattle.dspec_cpu.proofs.Reaches.{slot_inside, is_running}
+use Rattle.dspec_cpu.proofs.{Behind.Behind, Behind.behind, Behind.one_behind, Decided.reached_here, Leaves.reached_leaves, Limits.limits, ReachDeeds.unstopped, Reaches.slot_inside}
+use Rattle.dspec_cpu.proofs.{Reaches.is_running, Ready.roomy, Ready.few, Shown.shows, Speculates.asked, Speculates.grants, Speculates.grant_deeds, Speculates.caller_of, Speculates.own_mark}
+use Rattle.dspec_cpu.proofs.{Speculates.granted_shown, parts.CpuParts.offer.Given.Over, parts.CpuParts.offer.Goals.After-grant-kept, parts.CpuParts.offer.Goals.then-inside}
+use Rattle.dspec_cpu.proofs.{parts.CpuParts.offer.Goals.else-inside}
 use Rattle.dspec_deeds.proofs.TestLemmas.{number_is_itself}
-use Rattle.dspec_cpu.proofs.Limits.{limits}
-use Rattle.dspec_cpu.proofs.Behind.{Behind, behind, one_behind}
-use Rattle.dspec_cpu.proofs.Decided.{reached_here}
-use Rattle.dspec_cpu.proofs.Ready.{roomy, few}
-use Rattle.dspec_cpu.proofs.Shown.{shows}
-use Rattle.dspec_cpu.proofs.Speculates.{asked, grants, grant_deeds, caller_of, own_mark, granted_shown}
-use Rattle.dspec_cpu.proofs.Leaves.{reached_leaves}
-use Rattle.dspec_cpu_state.specs.declared.counts.Counts.{Counts}
-use Rattle.dspec_cpu.proofs.parts.CpuParts.offer.Given.{Over}
-use Rattle.dspec_cpu.proofs.parts.CpuParts.offer.Goals.{After-grant-kept, then-inside, else-inside}
 use Rattle.dspec_cpu.proofs.parts.CpuParts.offer.Goals as goal
 
 pub go_on-reached-requires-clause-mine : goal.go_on-reached-requires-clause-mine

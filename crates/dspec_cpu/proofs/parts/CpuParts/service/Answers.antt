@@ -1,8 +1,6 @@
 use Rattle.std.proofs.Common.{ℕ, ◌∙◌, ap, subst, arith}
-use Rattle.dspec_cpu.specs.Words.{CpuKnows, known, Cpu, SettledSlots, words_of, buffers_of}
-use Rattle.dspec_deeds.specs.declared.config.Config.{Config}
-use Rattle.dspec_cpu.proofs.Ready.{holder, set_up_is}
-use Rattle.dspec_cpu.proofs.Touching.{service_touches}
+use Rattle.dspec_cpu.specs.{Words.CpuKnows, Words.known, Words.SettledSlots, Words.words_of, Words.buffers_of, Words.Config, declared.parts.CpuParts.CpuParts as Cpu}
+use Rattle.dspec_cpu.proofs.{Ready.holder, Ready.set_up_is, Touching.service_touches}
 use Rattle.dspec_cpu.proofs.parts.CpuParts.service.Goals as goal
 
 pub returns-clause-same : goal.returns-clause-same

@@ -1,7 +1,6 @@
 use Rattle.std.proofs.Common.{◌<◌, ◌^◌, arith}
 use Rattle.dspec_cpu.specs.Words.{cpu_of, set_up, batches_of}
-use Rattle.dspec_cpu.proofs.Limits.{limits}
-use Rattle.dspec_cpu.proofs.DueSettlements.{can, due_settled, may_settle, ready_now}
+use Rattle.dspec_cpu.proofs.{DueSettlements.can, DueSettlements.due_settled, DueSettlements.may_settle, DueSettlements.ready_now, Limits.limits}
 use Rattle.dspec_cpu.proofs.parts.CpuParts.settle_due.Goals as goal
 
 pub settle_block-doing-requires : goal.settle_block-doing-requires

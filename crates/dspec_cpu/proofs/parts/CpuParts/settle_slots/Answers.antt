@@ -1,9 +1,8 @@
 use Rattle.std.proofs.Common.{◌≡◌, ◌+◌, ◌-◌, ◌∙◌, ℕ, List, if◌then◌else◌, refl, sym, ap, subst, arith}
-use Rattle.dspec_deeds.specs.declared.deed.Deed.{Deed}
-use Rattle.dspec_cpu.specs.Words.{known, Settled, SlotDone, HasList}
+use Rattle.dspec_cpu.specs.Words.{Deed, known, Settled, SlotDone, HasList}
 use Rattle.dspec_cpu.proofs.ServedSlots.{few_settles, none_settled, slot_more}
-use Rattle.dspec_cpu.proofs.parts.CpuParts.settle_slots.Goals as goal
 use Rattle.dspec_cpu.proofs.parts.CpuParts.settle_slots.Goals.{then-settle_slot, else-settle_slot}
+use Rattle.dspec_cpu.proofs.parts.CpuParts.settle_slots.Goals as goal
 
 pub loop-slot-init : goal.loop-slot-init
 loop-slot-init g c =

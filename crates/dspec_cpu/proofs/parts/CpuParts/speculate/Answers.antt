@@ -1,8 +1,6 @@
 use Rattle.std.proofs.Common.{◌≡◌, ◌∙◌, sym}
 use Rattle.dspec_cpu.specs.Words.{in_range, rests}
-use Rattle.dspec_cpu.proofs.Leaves.{worn_leaves}
-use Rattle.dspec_cpu.proofs.Marked.{marked_inside, marked_is}
-use Rattle.dspec_cpu.proofs.parts.CpuParts.speculate.Goals.{then-mine-2, else-mine-2}
+use Rattle.dspec_cpu.proofs.{Leaves.worn_leaves, Marked.marked_inside, Marked.marked_is, parts.CpuParts.speculate.Goals.then-mine-2, parts.CpuParts.speculate.Goals.else-mine-2}
 use Rattle.dspec_cpu.proofs.parts.CpuParts.speculate.Goals as goal
 
 pub returns-then-self-clause-did : goal.returns-then-self-clause-did

@@ -1,14 +1,7 @@
 use Rattle.std.proofs.Common.{◌+◌, ℕ, [], refl, ap, subst}
-use Rattle.dspec_deeds.specs.declared.config.Config.{Config}
-use Rattle.dspec_cpu.specs.Words.{known, rests, words_of, Scanned, opening_deeds}
-use Rattle.dspec_cpu.proofs.Decisions.{worn_shown}
-use Rattle.dspec_cpu.proofs.Limits.{limits}
-use Rattle.dspec_cpu.proofs.Openings.{bare_opening, opening_shown}
-use Rattle.dspec_cpu.proofs.Behind.{behind}
-use Rattle.dspec_cpu.proofs.Ready.{roomy}
-use Rattle.dspec_cpu.proofs.Scans.{idle_again, none_flies}
-use Rattle.dspec_cpu_state.specs.declared.counts.Counts.{Counts}
-use Rattle.dspec_cpu.proofs.Leaves.{worn_leaves, scanned_leaves}
+use Rattle.dspec_cpu.specs.Words.{Config, known, rests, words_of, Scanned, opening_deeds, Counts}
+use Rattle.dspec_cpu.proofs.{Behind.behind, Decisions.worn_shown, Leaves.worn_leaves, Leaves.scanned_leaves, Limits.limits, Openings.bare_opening, Openings.opening_shown, Ready.roomy}
+use Rattle.dspec_cpu.proofs.{Scans.idle_again, Scans.none_flies}
 use Rattle.dspec_cpu.proofs.parts.CpuParts.speculation.Goals as goal
 
 pub returns-then-self-clause-opens : goal.returns-then-self-clause-opens

@@ -1,9 +1,7 @@
 use Rattle.std.proofs.Common.{List, length, sym, ap, ◌∙◌, subst}
-use Rattle.dspec_deeds.specs.declared.deed.Deed.{Deed}
-use Rattle.dspec_cpu.specs.Words.{Cpu, HasList, IsReady, buffers_of, never, with_seal}
-use Rattle.dspec_cpu.proofs.RingMoves.{switched_moves}
-use Rattle.dspec_cpu.proofs.Seals.{batch_count, few_batches}
-use Rattle.dspec_cpu.proofs.Switches.{passed, switched_by, switched_is, switched_list, switched_ready, switched_same}
+use Rattle.dspec_cpu.specs.{Words.Deed, Words.HasList, Words.IsReady, Words.buffers_of, Words.never, Words.with_seal, declared.parts.CpuParts.CpuParts as Cpu}
+use Rattle.dspec_cpu.proofs.{RingMoves.switched_moves, Seals.batch_count, Seals.few_batches, Switches.passed, Switches.switched_by, Switches.switched_is, Switches.switched_list}
+use Rattle.dspec_cpu.proofs.{Switches.switched_ready, Switches.switched_same}
 use Rattle.dspec_cpu.proofs.parts.CpuParts.switch.Goals as goal
 
 pub returns-then-is_fill-clause-switches : goal.returns-then-is_fill-clause-switches

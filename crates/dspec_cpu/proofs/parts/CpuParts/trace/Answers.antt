@@ -1,17 +1,9 @@
 use Rattle.std.proofs.Common.{◌≡◌, ◌∙◌, Bool, true, false, not, [], ◌∷◌, if◌then◌else◌, arith, refl, sym, ap, subst}
 use Rattle.dspec_deeds.specs.declared.deed.TraceFate.TheVariants as traced
-use Rattle.dspec_deeds.specs.declared.deed.Deed.TheVariants.{Trace}
-use Rattle.dspec_cpu.specs.Words.{Record, Stored, HasPieces, LoadedActivity, known, ShowsList, CallLeaves, of_activity, rests, words_of, worn_of}
+use Rattle.dspec_cpu.specs.Words.{Trace, Record, Stored, HasPieces, LoadedActivity, known, ShowsList, CallLeaves, of_activity, rests, words_of, worn_of, Counts}
 use Rattle.dspec_deeds.proofs.TestLemmas.{number_is_itself}
-use Rattle.dspec_cpu_state.specs.declared.counts.Counts.{Counts}
-use Rattle.dspec_cpu.proofs.Limits.{limits}
-use Rattle.dspec_cpu.proofs.Behind.{Behind, one_behind}
-use Rattle.dspec_cpu.proofs.Ready.{roomy, few_drops, set_up_is, holder}
-use Rattle.dspec_cpu.proofs.Shown.{shows}
-use Rattle.dspec_cpu.proofs.Traces.{traces, trace_row, asked}
-use Rattle.dspec_cpu.proofs.Leaves.{worn_leaves, loaded_leaves}
-use Rattle.dspec_cpu.proofs.parts.CpuParts.trace.Given.{Over}
-use Rattle.dspec_cpu.proofs.parts.CpuParts.trace.Goals.{After-trace}
+use Rattle.dspec_cpu.proofs.{Behind.Behind, Behind.one_behind, Leaves.worn_leaves, Leaves.loaded_leaves, Limits.limits, Ready.roomy, Ready.few_drops, Ready.set_up_is, Ready.holder, Shown.shows}
+use Rattle.dspec_cpu.proofs.{Traces.traces, Traces.trace_row, Traces.asked, parts.CpuParts.trace.Given.Over, parts.CpuParts.trace.Goals.After-trace}
 use Rattle.dspec_cpu.proofs.parts.CpuParts.trace.Goals as goal
 
 pub returns-then-self-clause-did : goal.returns-then-self-clause-did

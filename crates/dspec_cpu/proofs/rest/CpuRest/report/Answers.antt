@@ -1,5 +1,4 @@
-use Rattle.dspec_cpu.proofs.LegalParts.{part_balanced}
-use Rattle.dspec_cpu.proofs.Ready.{fated_by, told_by}
+use Rattle.dspec_cpu.proofs.{LegalParts.part_balanced, Ready.fated_by, Ready.told_by}
 use Rattle.dspec_cpu.proofs.rest.CpuRest.report.Goals as goal
 
 pub report-requires : goal.report-requires

@@ -1,6 +1,5 @@
 use Rattle.std.proofs.Common.{◌≡◌, ◌+◌, ◌∙◌, ℕ, sym, subst, arith}
-use Rattle.dspec_deeds.specs.declared.config.Config.{Config}
-use Rattle.dspec_cpu.specs.Words.{word_at, own_closed, own_closed_slot, last_words, CanCloseBehind, RestHasList}
+use Rattle.dspec_cpu.specs.Words.{Config, word_at, own_closed, own_closed_slot, last_words, CanCloseBehind, RestHasList}
 use Rattle.dspec_cpu.proofs.Closes.{can_close, next_closed}
 use Rattle.dspec_cpu.proofs.rest.CpuRest.settle.Goals as goal
 

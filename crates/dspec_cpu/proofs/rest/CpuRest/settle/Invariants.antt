@@ -1,7 +1,5 @@
 use Rattle.std.proofs.Common.{List}
-use Rattle.dspec_deeds.specs.declared.deed.Deed.{Deed}
-use Rattle.dspec_cpu.specs.Words.{word_at, own_closed, last_words, Shows, IsSameRest, RestHasList, IsPartOf}
-use Rattle.dspec_ring.specs.declared.batch.Batch.{Batch}
+use Rattle.dspec_cpu.specs.Words.{Deed, word_at, own_closed, last_words, Shows, IsSameRest, RestHasList, IsPartOf, Batch}
 use Rattle.dspec_cpu.proofs.rest.CpuRest.settle.Given as goal
 
 -- the slots up to this one were settled

@@ -1,6 +1,5 @@
 use Rattle.std.proofs.Common.{◌<◌, ◌^◌, refl, sym, ap, arith}
-use Rattle.dspec_cpu.specs.Words.{is_granted, batches_of_rest}
-use Rattle.dspec_deeds.specs.declared.config.Config.{Config}
+use Rattle.dspec_cpu.specs.Words.{is_granted, batches_of_rest, Config}
 use Rattle.dspec_cpu.proofs.Rests.{can, closed, released, unsettled}
 use Rattle.dspec_cpu.proofs.rest.CpuRest.settle_slot.Goals as goal
 

@@ -1,8 +1,7 @@
 use Rattle.std.proofs.Common.{◌≡◌, ◌≤◌, ◌-◌, ◌+◌, ◌∙◌, Some, slice_get, get_or, ap, sym, arith}
 use Rattle.std.proofs.lemmas.Option.{get_or_from_slice_get}
 use Rattle.dspec_cpu_state.specs.Words.{mark, dropped_in}
-use Rattle.dspec_deeds.proofs.Dropping.{unmarked_drops}
-use Rattle.dspec_deeds.proofs.TestLemmas.{same_number}
+use Rattle.dspec_deeds.proofs.{Dropping.unmarked_drops, TestLemmas.same_number}
 use Rattle.dspec_cpu_state.proofs.Drops.{counted_here}
 use Rattle.dspec_cpu_state.proofs.cpu_state.CpuState.dropped_in.Goals as goal
 

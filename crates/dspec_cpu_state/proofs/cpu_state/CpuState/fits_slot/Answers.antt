@@ -1,7 +1,6 @@
 use Rattle.std.proofs.Common.{◌≡◌, ◌∙◌, ◌-◌, List, [], map, get_or, if◌then◌else◌, sym, ap}
 use Rattle.dspec_cpu_state.specs.Words.{Record, one, piece_fits, contents, held, last_called}
-use Rattle.dspec_cpu_state.proofs.EndedBlocks.{block_is, buffer_there}
-use Rattle.dspec_cpu_state.proofs.Rooms.{behind_fits, front_fits}
+use Rattle.dspec_cpu_state.proofs.{EndedBlocks.block_is, EndedBlocks.buffer_there, Rooms.behind_fits, Rooms.front_fits}
 use Rattle.dspec_cpu_state.proofs.cpu_state.CpuState.fits_slot.Goals as goal
 
 pub fits-requires : goal.fits-requires

@@ -1,8 +1,7 @@
 use Rattle.std.proofs.Common.{◌∙◌, ◌≤◌, ◌<◌, ◌+◌, ◌^◌, refl, sym, arith}
 use Rattle.dspec_deeds.specs.declared.deed.SpeculateFate.TheVariants as spoken
 use Rattle.dspec_cpu_state.specs.Words.{calls}
-use Rattle.dspec_cpu_state.proofs.Drops.{kept_drops, more_drops}
-use Rattle.dspec_cpu_state.proofs.Grants.{as_granted, granted_shown}
+use Rattle.dspec_cpu_state.proofs.{Drops.kept_drops, Drops.more_drops, Grants.as_granted, Grants.granted_shown}
 use Rattle.dspec_cpu_state.proofs.cpu_state.CpuState.grant.Goals as goal
 
 pub returns-then-not-mark_and_keep-clause-answer : goal.returns-then-not-mark_and_keep-clause-answer

@@ -1,6 +1,6 @@
 use Rattle.std.proofs.Common.{◌≡◌, ◌∙◌, ◌&&◌, sym, ap}
 use Rattle.std.specs.Prelude.{nat_lt}
-use Rattle.dspec_cpu_state.specs.Words.{full, Counts}
+use Rattle.dspec_cpu_state.specs.{Words.full, declared.counts.Counts.Counts}
 use Rattle.dspec_deeds.proofs.FullBuffers.{full_counted}
 use Rattle.dspec_cpu_state.proofs.cpu_state.CpuState.is_closed.Goals as goal
 

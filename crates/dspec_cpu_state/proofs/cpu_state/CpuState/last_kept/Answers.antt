@@ -1,8 +1,6 @@
-use Rattle.std.proofs.Common.{◌≡◌, ◌∙◌, ◌-◌, Some, length, map, slice_get, sym, ap, arith}
-use Rattle.std.proofs.lemmas.Option.{slice_get-get_or}
+use Rattle.std.proofs.{Common.◌≡◌, Common.◌∙◌, Common.◌-◌, Common.Some, Common.length, Common.map, Common.slice_get, Common.sym, Common.ap, Common.arith, lemmas.Option.slice_get-get_or}
 use Rattle.dspec_cpu_state.specs.Words.{one, last_called, contents, held}
-use Rattle.dspec_cpu_state.proofs.EndedBlocks.{count_held}
-use Rattle.dspec_cpu_state.proofs.Ones.{records_ones}
+use Rattle.dspec_cpu_state.proofs.{EndedBlocks.count_held, Ones.records_ones}
 use Rattle.dspec_cpu_state.proofs.cpu_state.CpuState.last_kept.Goals as goal
 
 pub returns-clause-count : goal.returns-clause-count

@@ -1,6 +1,6 @@
 -- The side shows the empty list: all numbers are 0, and all buffers empty.
 use Rattle.std.proofs.Common.{◌≡◌, ◌-◌, ◌∙◌, [], replicate, refl, ap, sym, arith}
-use Rattle.dspec_cpu_state.specs.Words.{Counts, counts_of}
+use Rattle.dspec_cpu_state.specs.{Words.counts_of, declared.counts.Counts.Counts}
 use Rattle.dspec_cpu_state.proofs.Starts.{one_made, zero_count, zero_there}
 use Rattle.dspec_cpu_state.proofs.cpu_state.CpuState.make.Goals as goal
 

@@ -1,6 +1,5 @@
 -- Zeros alone, of which as many are marks as there are slots.
-use Rattle.std.proofs.Common.{refl}
-use Rattle.std.proofs.lemmas.List.{take-replicate}
+use Rattle.std.proofs.{Common.refl, lemmas.List.take-replicate}
 use Rattle.dspec_cpu_state.proofs.Starts.{zero_everywhere}
 use Rattle.dspec_cpu_state.proofs.marks.Marks.none.Goals as goal
 

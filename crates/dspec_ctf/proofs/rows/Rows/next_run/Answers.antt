@@ -1,8 +1,6 @@
-use Rattle.std.proofs.Common.{◌<◌, [], get_or, arith}
-use Rattle.std.proofs.lemmas.Option.{slice_get-get_or}
+use Rattle.std.proofs.{Common.◌<◌, Common.[], Common.get_or, Common.arith, lemmas.Option.slice_get-get_or}
 use Rattle.dspec_ctf.specs.Words.{Record}
-use Rattle.dspec_ctf.proofs.Spreading.{run-first}
-use Rattle.dspec_ctf.proofs.Rising.{goes-here}
+use Rattle.dspec_ctf.proofs.{Rising.goes-here, Spreading.run-first}
 use Rattle.dspec_ctf.proofs.rows.Rows.next_run.Goals as goal
 
 pub take_all_on-end-requires-clause-there : goal.take_all_on-end-requires-clause-there

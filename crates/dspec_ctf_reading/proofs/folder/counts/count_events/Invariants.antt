@@ -1,6 +1,5 @@
 use Rattle.std.proofs.Common.{◌≡◌, ◌+◌, ◌==◌, ℕ, take}
-use Rattle.std.specs.Prelude.{slice_index}
-use Rattle.std.specs.List.{count_by}
+use Rattle.std.specs.{List.count_by, Prelude.slice_index}
 use Rattle.dspec_ctf_reading.proofs.folder.counts.count_events.Given as goal
 
 abbrev pub invariant-loop-event : goal.invariant-loop-event

@@ -1,5 +1,4 @@
-use Rattle.std.proofs.Common.{rules}
-use Rattle.std.proofs.lemmas.List.Sorted.{answers_always, IsNonDecreasingBy-from_sort_by_key}
+use Rattle.std.proofs.{Common.rules, lemmas.List.Sorted.answers_always, lemmas.List.Sorted.IsNonDecreasingBy-from_sort_by_key}
 use Rattle.dspec_ctf_reading.proofs.folder.mark.sort_by_time.Goals as goal
 
 pub returns : goal.returns

@@ -1,8 +1,7 @@
 use Rattle.std.proofs.Common.{◌≡◌, ℕ, List, Option, Some, None, rules, ap, ◌∙◌, option_map}
 use Rattle.std.specs.Prelude.{option_and_then}
 use Rattle.dspec_ctf_reading.specs.Words.{Layout, PartRead, FrontRead, EventRead, PacketRead, with_events, PacketSplit, front_of, split_packet, told_layout, told_packet}
-use Rattle.dspec_ctf_reading.proofs.Shorter.{packet-split}
-use Rattle.dspec_ctf_reading.proofs.Folders.Splitting.{left, shorter}
+use Rattle.dspec_ctf_reading.proofs.{Folders.Splitting.left, Folders.Splitting.shorter, Shorter.packet-split}
 use Rattle.dspec_ctf_reading.proofs.folder.packet.read_packet.Goals as goal
 
 -- a packet of these events

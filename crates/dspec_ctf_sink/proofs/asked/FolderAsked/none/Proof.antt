@@ -26,7 +26,7 @@ use denote.Triple.Walked.{says, Stays, walk_of, ends_at, walk_Meets}
 use Rattle.dspec_ctf_sink.proofs.Walks.{none, none_made}
 use Rattle.dspec_ctf_sink.specs.contracts.asked.FolderAsked as FolderAsked
 use Rattle.dspec_ctf_sink.specs.contracts.asked.FolderAsked.none as F
-use Rattle.dspec_ctf_sink.specs.Words.{#self}
+use Rattle.dspec_ctf_sink.specs.contracts.asked.FolderAsked.none.Key.{name as #self}
 use Rattle.dspec_ctf_sink.proofs.asked.FolderAsked.none.Statement as stated
 use Rattle.dspec_ctf_sink.proofs.asked.FolderAsked.none.Code as code
 

@@ -28,9 +28,8 @@ use denote.Triple.Walked.{says, Stays, stay_dropped, walk_of, ends_at, walk_Meet
 use Rattle.dspec_ctf_sink.proofs.Walks.{none, none_made}
 use Rattle.dspec_ctf_sink.specs.contracts.asked.FolderAsked as FolderAsked
 use Rattle.dspec_ctf_sink.specs.contracts.asked.Asking as Asking
-use Rattle.dspec_ctf_sink.specs.Words.{asked_then}
+use Rattle.dspec_ctf_sink.specs.{Words.asked_then, contracts.asked.FolderAsked.then.Key.name as #self}
 use Rattle.dspec_ctf_sink.specs.contracts.asked.FolderAsked.then as F
-use Rattle.dspec_ctf_sink.specs.contracts.asked.FolderAsked.then.Key.{name as #self}
 use Rattle.dspec_ctf_sink.proofs.asked.FolderAsked.then.Statement as stated
 use Rattle.dspec_ctf_sink.proofs.asked.FolderAsked.then.Code as code
 

@@ -1,5 +1,4 @@
-use Rattle.std.proofs.Common.{◌<◌, length, get_or, refl, rules}
-use Rattle.std.proofs.lemmas.Option.{slice_get_read, slice_get-get_or}
+use Rattle.std.proofs.{Common.◌<◌, Common.length, Common.get_or, Common.refl, Common.rules, lemmas.Option.slice_get_read, lemmas.Option.slice_get-get_or}
 use Rattle.dspec_ctf_sink.proofs.Batching.{adds-batch, loses-some}
 use Rattle.dspec_ctf_sink.proofs.timed.TimedFolder.add.Goals as goal
 

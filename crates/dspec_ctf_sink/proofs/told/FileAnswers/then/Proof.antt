@@ -28,9 +28,8 @@ use denote.Triple.Walked.{says, Stays, stay_dropped, walk_of, ends_at, walk_Meet
 use Rattle.dspec_ctf_sink.proofs.Walks.{none, none_made}
 use Rattle.dspec_ctf_sink.specs.contracts.told.FileAnswers as FileAnswers
 use Rattle.dspec_ctf_sink.specs.contracts.told.FileAnswer as FileAnswer
-use Rattle.dspec_ctf_sink.specs.Words.{answered_by}
+use Rattle.dspec_ctf_sink.specs.{Words.answered_by, contracts.told.FileAnswers.then.Key.name as #self}
 use Rattle.dspec_ctf_sink.specs.contracts.told.FileAnswers.then as F
-use Rattle.dspec_ctf_sink.specs.contracts.told.FileAnswers.then.Key.{name as #self}
 use Rattle.dspec_ctf_sink.proofs.told.FileAnswers.then.Statement as stated
 use Rattle.dspec_ctf_sink.proofs.told.FileAnswers.then.Code as code
 

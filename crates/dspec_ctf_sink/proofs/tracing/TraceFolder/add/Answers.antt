@@ -1,5 +1,4 @@
-use Rattle.std.proofs.Common.{length, refl, rules}
-use Rattle.std.proofs.lemmas.Option.{slice_get_read}
+use Rattle.std.proofs.{Common.length, Common.refl, Common.rules, lemmas.Option.slice_get_read}
 use Rattle.dspec_ctf_sink.proofs.Handing.{adds, refuses}
 use Rattle.dspec_ctf_sink.proofs.tracing.TraceFolder.add.Goals as goal
 

@@ -1,7 +1,7 @@
 -- One field more, over the first of the places that hold none.
 use Rattle.std.proofs.Common.{◌≡◌, ◌<◌, ◌+◌, ◌-◌, length, take, drop, replicate, ap, sym, ◌∙◌, arith}
 use Rattle.std.proofs.lemmas.List.{length-set, length-take-le, drop-drop, drop-set-lt, drop-replicate}
-use Rattle.dspec_record.specs.declared.field.Field.TheVariants.{One}
+use Rattle.dspec_probe.specs.Words.{One}
 use Rattle.dspec_probe.proofs.field_list.FieldList.with.Goals as goal
 
 pub invariant_of-result : goal.invariant_of-result

@@ -1,9 +1,9 @@
 -- The row of the EPID at the front decides what can be read.
 use Rattle.std.proofs.Common.{◌≡◌, ◌≤◌, ◌<◌, ◌^◌, ℕ, List, Some, length, take, get_or, option_map, sym, ◌∙◌, ap, subst, arith}
 use Rattle.std.proofs.lemmas.List.{take-take}
-use Rattle.dspec_record.specs.Words.{layout, little_endian, front_epid, BeginsWith, NamesShape, HasNoText, enabled, table_shape, table_accepts, table_text, layout-IsShape, Field, Shape, Header}
-use Rattle.dspec_record.proofs.Fronts.{little_endian-front_epid, front_epid-lt}
-use Rattle.dspec_record.proofs.Gets.{enabled-row, BeginsWith-read, no_text-unread}
+use Rattle.dspec_record.specs.Words.{layout, little_endian, front_epid, BeginsWith, NamesShape, HasNoText, enabled, table_shape, table_accepts, table_text, layout-IsShape}
+use Rattle.dspec_record.specs.declared.{field.Field.Field, field.Shape.Shape, header.Header.Header}
+use Rattle.dspec_record.proofs.{Fronts.little_endian-front_epid, Fronts.front_epid-lt, Gets.enabled-row, Gets.BeginsWith-read, Gets.no_text-unread}
 use Rattle.dspec_record.proofs.enabled.EnablingsSchema.get.Goals as goal
 
 -- the first four bytes of the part that is read are the EPID's

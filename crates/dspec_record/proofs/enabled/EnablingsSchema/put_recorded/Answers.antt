@@ -1,6 +1,7 @@
 -- The text is that of the record's own enabling, whichever the header is.
 use Rattle.std.proofs.Common.{◌≡◌, ◌≤◌, ◌+◌, IsTrue, List, ℕ, Some, length, take, sym, ◌∙◌, ap, arith}
-use Rattle.dspec_record.specs.Words.{Record, EnabledRows, layout, record_text, table_accepts, table_text, enabling_of, enabled, Field, Header}
+use Rattle.dspec_record.specs.Words.{Record, EnabledRows, layout, record_text, table_accepts, table_text, enabling_of, enabled}
+use Rattle.dspec_record.specs.declared.{field.Field.Field, header.Header.Header}
 use Rattle.dspec_record.proofs.Gets.{enabled-row, length-accepted, table_text-is}
 use Rattle.dspec_record.proofs.enabled.EnablingsSchema.put_recorded.Goals as goal
 

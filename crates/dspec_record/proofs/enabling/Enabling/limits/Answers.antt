@@ -1,6 +1,5 @@
-use Rattle.std.proofs.Common.{◌≤◌, List, length, map, take, sym, ◌∙◌, ap, arith}
-use Rattle.std.proofs.lemmas.List.{length-take-le}
-use Rattle.dspec_record.specs.Words.{limit, Field}
+use Rattle.std.proofs.{Common.◌≤◌, Common.List, Common.length, Common.map, Common.take, Common.sym, Common.◌∙◌, Common.ap, Common.arith, lemmas.List.length-take-le}
+use Rattle.dspec_record.specs.{Words.limit, declared.field.Field.Field}
 use Rattle.dspec_record.proofs.Limits.{take-padded}
 use Rattle.dspec_record.proofs.enabling.Enabling.limits.Goals as goal
 

@@ -1,6 +1,5 @@
-use Rattle.std.proofs.Common.{◌≤◌, List, length, take, sym, ◌∙◌, ap, arith}
-use Rattle.std.proofs.lemmas.List.{length-take-le}
-use Rattle.dspec_record.specs.Words.{field_places, Field}
+use Rattle.std.proofs.{Common.◌≤◌, Common.List, Common.length, Common.take, Common.sym, Common.◌∙◌, Common.ap, Common.arith, lemmas.List.length-take-le}
+use Rattle.dspec_record.specs.{Words.field_places, declared.field.Field.Field}
 use Rattle.dspec_record.proofs.Places.{take-padded}
 use Rattle.dspec_record.proofs.enabling.Enabling.places.Goals as goal
 

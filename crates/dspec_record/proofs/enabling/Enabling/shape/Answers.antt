@@ -1,8 +1,6 @@
 -- A stamp makes a record longer by its own eight bytes, and moves no alignment.
-use Rattle.std.proofs.Common.{◌≡◌, ◌+◌, ◌≤◌, ℕ, List, length, take, sym, ◌∙◌, ap, arith}
-use Rattle.std.proofs.lemmas.List.{length-take-le}
-use Rattle.dspec_record.specs.Words.{layout, layout-IsShape, size-moved, Field, Header}
-use Rattle.dspec_record.specs.declared.header.Header.TheVariants.{One}
+use Rattle.std.proofs.{Common.◌≡◌, Common.◌+◌, Common.◌≤◌, Common.ℕ, Common.List, Common.length, Common.take, Common.sym, Common.◌∙◌, Common.ap, Common.arith, lemmas.List.length-take-le}
+use Rattle.dspec_record.specs.{Words.layout, Words.layout-IsShape, Words.size-moved, declared.field.Field.Field, declared.header.Header.Header, declared.header.Header.TheVariants.One}
 use Rattle.dspec_record.proofs.enabling.Enabling.shape.Goals as goal
 
 pub overflow_add-result : goal.overflow_add-result

@@ -1,7 +1,7 @@
 -- Where the claim is true of a row, it is the row at the place that is looked at.
 use Rattle.std.proofs.Common.{◌≡◌, ◌<◌, ◌+◌, ◌-◌, ◌%◌, ◌^◌, ℕ, zero, suc, List, [], get_or, take, Option, Some, None, refl, sym, ◌∙◌, ap, arith}
 use Rattle.std.proofs.lemmas.List.{get_or_default}
-use Rattle.dspec_record.specs.Words.{IsFilled, claimed, words_in, Field, Inside}
+use Rattle.dspec_record.specs.{Words.IsFilled, Words.claimed, Words.words_in, declared.enabling.Enablings.TheInside.Inside, declared.field.Field.Field}
 use Rattle.dspec_record.proofs.Claiming.{claimed-some, claimed-place}
 use Rattle.dspec_record.proofs.enabling.Enablings.claimed_row.Goals.{then-self-place-via-then-self-place, then-self-place-via-else-self-place+then-words-count}
 use Rattle.dspec_record.proofs.enabling.Enablings.claimed_row.Goals.{then-self-place-via-else-self-place+else-words-count+then-count-eq0}

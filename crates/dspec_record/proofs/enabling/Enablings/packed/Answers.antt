@@ -1,6 +1,6 @@
 -- The claimed row is the record's, and the header the enablings' own.
 use Rattle.std.proofs.Common.{◌≡◌, IsTrue, List, length, Some, sym, ◌∙◌, ap, subst}
-use Rattle.dspec_record.specs.Words.{packed_fields, packed_of, claimed, Record, stamp_fits, enabled, table_accepts, Field}
+use Rattle.dspec_record.specs.{Words.packed_fields, Words.packed_of, Words.claimed, Words.Record, Words.stamp_fits, Words.enabled, Words.table_accepts, declared.field.Field.Field}
 use Rattle.dspec_record.proofs.PackedClaims.{claimed-enabled, claimed-accepted, laid-enabled}
 use Rattle.dspec_record.proofs.enabling.Enablings.packed.Goals as goal
 

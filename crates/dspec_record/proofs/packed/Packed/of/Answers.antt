@@ -1,7 +1,7 @@
 -- The masked words are clean, and stand for the record of all words.
 use Rattle.std.proofs.Common.{◌≡◌, ◌≤◌, ◌<◌, ◌^◌, All, ℕ, List, length, take, subst, sym, ◌∙◌, ap, arith}
 use Rattle.std.proofs.lemmas.List.Elements.{All-from_get_or}
-use Rattle.dspec_record.specs.Words.{layout, words_in, masked_words, masks_for, packed_record, IsClean, Field}
+use Rattle.dspec_record.specs.{Words.layout, Words.words_in, Words.masked_words, Words.masks_for, Words.packed_record, Words.IsClean, declared.field.Field.Field}
 use Rattle.dspec_record.specs.declared.header.Header.TheVariants as header
 use Rattle.dspec_record.proofs.Masking.{words_in-most, masked-record, masked-clean}
 use Rattle.dspec_record.proofs.packed.Packed.of.Goals as goal

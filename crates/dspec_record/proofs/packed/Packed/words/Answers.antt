@@ -1,9 +1,7 @@
 -- There are nine words at most.
-use Rattle.std.proofs.Common.{◌≡◌, length, arith}
-use Rattle.std.proofs.lemmas.List.{length-take-le}
+use Rattle.std.proofs.{Common.◌≡◌, Common.length, Common.arith, lemmas.List.length-take-le}
 use Rattle.dspec_record.specs.Words.{packed_fields, packed_words}
-use Rattle.dspec_record.proofs.Masking.{words_in-most}
-use Rattle.dspec_record.proofs.PackedRecords.{few-taken, first-zeros}
+use Rattle.dspec_record.proofs.{Masking.words_in-most, PackedRecords.few-taken, PackedRecords.first-zeros}
 use Rattle.dspec_record.proofs.packed.Packed.words.Goals as goal
 
 pub shared_ref_as_front-result : goal.shared_ref_as_front-result

@@ -1,7 +1,7 @@
 -- A stamp makes the text longer by its own eight bytes, and moves no alignment.
 use Rattle.std.proofs.Common.{◌≡◌, ◌+◌, ℕ, List, Some, sym, ◌∙◌, ap, arith}
-use Rattle.dspec_record.specs.Words.{fields_start, layout, packed_fields, layout-IsShape, size-moved, Field, Header}
-use Rattle.dspec_record.specs.declared.header.Header.TheVariants.{One}
+use Rattle.dspec_record.specs.Words.{fields_start, layout, packed_fields, layout-IsShape, size-moved}
+use Rattle.dspec_record.specs.declared.{field.Field.Field, header.Header.Header, header.Header.TheVariants.One}
 use Rattle.dspec_record.proofs.PackedRecords.{few-taken}
 use Rattle.dspec_record.proofs.packed.RefPackedRecorded.laid_shape.Goals as goal
 

@@ -1,8 +1,8 @@
 -- The words are stored as the text of the header that there is.
 use Rattle.std.proofs.Common.{◌≤◌, ◌<◌, ℕ, List, length, sym, ap, subst, arith}
-use Rattle.dspec_record.specs.Words.{rounded_up, layout, packed_fields, packed_words, words_in, packed_record, IsClean, Field, Header}
-use Rattle.dspec_record.proofs.Masking.{size-in-words}
-use Rattle.dspec_record.proofs.PackedRecords.{room-of, rounds-up, size-of_text, text-put}
+use Rattle.dspec_record.specs.Words.{rounded_up, layout, packed_fields, packed_words, words_in, packed_record, IsClean}
+use Rattle.dspec_record.specs.declared.{field.Field.Field, header.Header.Header}
+use Rattle.dspec_record.proofs.{Masking.size-in-words, PackedRecords.room-of, PackedRecords.rounds-up, PackedRecords.size-of_text, PackedRecords.text-put}
 use Rattle.dspec_record.proofs.packed.RefPackedRecorded.put_laid.Goals as goal
 
 pub put_packed-requires-clause-some : goal.put_packed-requires-clause-some

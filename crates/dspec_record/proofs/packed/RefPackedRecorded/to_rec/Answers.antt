@@ -1,9 +1,7 @@
 -- There are nine words at most, and eight fields.
-use Rattle.std.proofs.Common.{◌≡◌, ◌∙◌, length, sym, arith}
-use Rattle.std.proofs.lemmas.List.{length-take-le}
+use Rattle.std.proofs.{Common.◌≡◌, Common.◌∙◌, Common.length, Common.sym, Common.arith, lemmas.List.length-take-le}
 use Rattle.dspec_record.specs.Words.{packed_fields, packed_words}
-use Rattle.dspec_record.proofs.Masking.{words_in-most}
-use Rattle.dspec_record.proofs.PackedRecords.{few-taken}
+use Rattle.dspec_record.proofs.{Masking.words_in-most, PackedRecords.few-taken}
 use Rattle.dspec_record.proofs.packed.RefPackedRecorded.to_rec.Goals as goal
 
 pub slice_bounds-fields-end : goal.slice_bounds-fields-end

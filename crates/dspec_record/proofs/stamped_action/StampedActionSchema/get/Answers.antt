@@ -1,10 +1,8 @@
 -- Every EPID but zero has a shape, and no record of twelve bytes has a gap.
 use Rattle.std.proofs.Common.{◌≡◌, ◌≢◌, ◌<◌, ◌^◌, ℕ, zero, suc, List, [], Some, take, option_map, inr, refl, sym, ◌∙◌, ap, arith}
 use Rattle.std.proofs.lemmas.List.{take-take}
-use Rattle.dspec_record.specs.Words.{layout, little_endian, front_epid, default_fields, Field}
-use Rattle.dspec_record.specs.declared.header.Header.TheVariants.{Two}
-use Rattle.dspec_record.proofs.Fronts.{little_endian-front_epid, front_epid-lt}
-use Rattle.dspec_record.proofs.Gets.{no_text-unread}
+use Rattle.dspec_record.specs.{Words.layout, Words.little_endian, Words.front_epid, Words.default_fields, declared.field.Field.Field, declared.header.Header.TheVariants.Two}
+use Rattle.dspec_record.proofs.{Fronts.little_endian-front_epid, Fronts.front_epid-lt, Gets.no_text-unread}
 use Rattle.dspec_record.proofs.stamped_action.StampedActionSchema.get.Goals as goal
 
 row-is : (epid : ℕ) → epid ≢ 0 → default_fields epid ≡ Some []

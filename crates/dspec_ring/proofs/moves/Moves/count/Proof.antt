@@ -25,7 +25,7 @@ use denote.Triple.Entry.{on_entry}
 use denote.Triple.Spec.{Meets, triple_of}
 use denote.Triple.Table.{entered}
 use denote.Triple.Walked.{says, Stays, stay_ref, walk_of, AllGo, Goes-ref, Walks, ends_at, walked, walk_Meets}
-use Rattle.dspec_ring.specs.Words.{Moves, #it}
+use Rattle.dspec_ring.specs.{contracts.moves.Moves.count.Key.name as #it, declared.moves.Moves.Moves}
 use Rattle.dspec_ring.specs.contracts.moves.Moves as T
 use Rattle.dspec_ring.specs.contracts.moves.Moves.count as it
 use Rattle.dspec_ring.proofs.moves.Moves.count.Statement as stated

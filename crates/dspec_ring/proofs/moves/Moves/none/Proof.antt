@@ -23,7 +23,7 @@ use denote.Triple.Table.{entered}
 use denote.Triple.Walked.{says, Stays, walk_of, Walks, ends_at, walked, walk_Meets}
 use Rattle.dspec_ring.specs.contracts.moves.Moves as made
 use Rattle.dspec_ring.specs.contracts.moves.Moves.none as f
-use Rattle.dspec_ring.specs.Words.{key}
+use Rattle.dspec_ring.specs.contracts.moves.Moves.none.Key.{name as key}
 use Rattle.dspec_ring.proofs.moves.Moves.none.Statement as stated
 use Rattle.dspec_ring.proofs.moves.Moves.none.Code as code
 

@@ -1,7 +1,6 @@
 -- The decision that was asked for is the one that was made.
 use Rattle.std.proofs.Common.{List, ◌++◌, sym, subst}
-use Rattle.dspec_deeds.specs.declared.deed.Deed.{Deed}
-use Rattle.dspec_session.specs.Words.{decided_deeds, number_in, Has, decision_of}
+use Rattle.dspec_session.specs.Words.{Deed, decided_deeds, number_in, Has, decision_of}
 use Rattle.dspec_session.proofs.demonstration.calling.decide.Goals as goal
 
 pub returns-then-commits-clause-decides : goal.returns-then-commits-clause-decides

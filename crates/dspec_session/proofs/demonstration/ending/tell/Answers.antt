@@ -1,7 +1,6 @@
 use Rattle.std.proofs.Common.{◌≡◌, ℕ, true, arith}
-use Rattle.dspec_session.specs.Words.{DemoLine, LineFollows, order_at}
-use Rattle.dspec_session.proofs.Ended.{line_told}
-use Rattle.dspec_session.proofs.Fours.{at_each}
+use Rattle.dspec_session.specs.{Words.LineFollows, Words.order_at, declared.demonstration.lines.DemoLine.DemoLine}
+use Rattle.dspec_session.proofs.{Ended.line_told, Fours.at_each}
 use Rattle.dspec_session.proofs.demonstration.ending.tell.Goals as goal
 
 pub returns-clause-balanced : goal.returns-clause-balanced

@@ -1,6 +1,5 @@
 use Rattle.std.proofs.Common.{subst, ap, arith, IfOk}
-use Rattle.dspec_deeds.specs.declared.config.Config.{Config}
-use Rattle.dspec_session.specs.Words.{IsSession}
+use Rattle.dspec_session.specs.Words.{Config, IsSession}
 use Rattle.dspec_session.proofs.Opened.{has_room}
 use Rattle.dspec_session.proofs.demonstration.opening.open.Goals as goal
 

@@ -1,7 +1,6 @@
 use Rattle.std.proofs.Common.{◌+◌, ◌≤◌, vec_len}
 use Rattle.std.specs.Prelude.{vec_capacity}
-use Rattle.dspec_session.proofs.Fours.{all_free, four_pushed, has_place, one_less}
-use Rattle.dspec_session.proofs.demonstration.team.put_all.Goals.{After-put, After-put-2}
+use Rattle.dspec_session.proofs.{Fours.all_free, Fours.four_pushed, Fours.has_place, Fours.one_less, demonstration.team.put_all.Goals.After-put, demonstration.team.put_all.Goals.After-put-2}
 use Rattle.dspec_session.proofs.demonstration.team.put_all.Goals as goal
 
 -- with each put one place less is free

@@ -1,6 +1,5 @@
 use Rattle.std.proofs.Common.{◌≡◌, ◌+◌, ℕ, refl, subst, arith}
-use Rattle.dspec_session.specs.Words.{CpuRounds}
-use Rattle.dspec_session.specs.Demonstrated.{no_round, one_round}
+use Rattle.dspec_session.specs.{Demonstrated.no_round, Demonstrated.one_round, Words.CpuRounds}
 use Rattle.dspec_session.proofs.Worked.{none_worked, round_worked}
 use Rattle.dspec_session.proofs.demonstration.working.work.Goals as goal
 

@@ -1,9 +1,6 @@
 use Rattle.std.proofs.Common.{◌<◌, ◌+◌, ◌∙◌, ℕ, length, refl, ap, sym, subst}
-use Rattle.dspec_deeds.specs.declared.config.Config.{Config}
-use Rattle.dspec_table.specs.declared.rule.View.{View}
-use Rattle.dspec_session_core.specs.Words.{StoredAsk, known_there, taken_from}
-use Rattle.dspec_session_core.proofs.Asks.{stored_asks, none_beyond}
-use Rattle.dspec_session_core.proofs.Ends.{taken_is}
+use Rattle.dspec_session_core.specs.Words.{Config, View, StoredAsk, known_there, taken_from}
+use Rattle.dspec_session_core.proofs.{Asks.stored_asks, Asks.none_beyond, Ends.taken_is}
 use Rattle.dspec_session_core.proofs.consumer.Consumer.ask.Goals as goal
 
 pub invariant_of-self : goal.invariant_of-self

@@ -1,6 +1,5 @@
-use Rattle.std.proofs.Common.{◌<◌, ◌∙◌, ℕ, length, refl, sym, ap, subst}
-use Rattle.std.proofs.lemmas.Option.{slice_get_read}
-use Rattle.dspec_deeds.specs.declared.config.Config.{Config}
+use Rattle.std.proofs.{Common.◌<◌, Common.◌∙◌, Common.ℕ, Common.length, Common.refl, Common.sym, Common.ap, Common.subst, lemmas.Option.slice_get_read}
+use Rattle.dspec_session_core.specs.Words.{Config}
 use Rattle.dspec_session_core.proofs.Passing.{gave_same, gave_there, none_out, refused_full}
 use Rattle.dspec_session_core.proofs.consumer.Consumer.give_back.Goals as goal
 

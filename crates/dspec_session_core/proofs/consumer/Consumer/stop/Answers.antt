@@ -1,6 +1,5 @@
 use Rattle.std.proofs.Common.{refl, ap}
-use Rattle.dspec_table.specs.declared.rule.View.{View}
-use Rattle.dspec_session_core.specs.Words.{known_there}
+use Rattle.dspec_session_core.specs.Words.{View, known_there}
 use Rattle.dspec_session_core.proofs.Halts.{stop_enters}
 use Rattle.dspec_session_core.proofs.consumer.Consumer.stop.Goals as goal
 

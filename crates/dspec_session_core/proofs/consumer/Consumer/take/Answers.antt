@@ -1,6 +1,5 @@
-use Rattle.std.proofs.Common.{ℕ, ◌<◌, length, refl, sym, subst}
-use Rattle.std.proofs.lemmas.Option.{slice_get_read}
-use Rattle.dspec_deeds.specs.declared.config.Config.{Config}
+use Rattle.std.proofs.{Common.ℕ, Common.◌<◌, Common.length, Common.refl, Common.sym, Common.subst, lemmas.Option.slice_get_read}
+use Rattle.dspec_session_core.specs.Words.{Config}
 use Rattle.dspec_session_core.proofs.Passing.{took_none, took_same, took_there}
 use Rattle.dspec_session_core.proofs.consumer.Consumer.take.Goals as goal
 

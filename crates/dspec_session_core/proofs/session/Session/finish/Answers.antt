@@ -1,11 +1,9 @@
-use Rattle.std.proofs.Common.{◌<◌, ◌≤◌, ◌∙◌, length, sym, ap, subst}
-use Rattle.std.proofs.lemmas.List.{length-reverse}
+use Rattle.std.proofs.{Common.◌<◌, Common.◌≤◌, Common.◌∙◌, Common.length, Common.sym, Common.ap, Common.subst, lemmas.List.length-reverse}
 use Rattle.dspec_buffer.proofs.SchemaLaws.{SchemaLaws}
 use Rattle.dspec_deeds.proofs.SetUp.{most_cpus}
 use Rattle.dspec_session_core.specs.Words.{set_up, words_of, CallsMade, view_of, called_at, entered_at, taken_at, worn_at}
-use Rattle.dspec_session_core.proofs.Ends.{none_in}
-use Rattle.dspec_session_core.proofs.Ending.{some_lists, begins_parting, finished}
-use Rattle.dspec_session_core.proofs.PromisedBy.{there_is, called_there, entered_there, same_worn, had_tells, page_alone, promised_with}
+use Rattle.dspec_session_core.proofs.{Ending.some_lists, Ending.begins_parting, Ending.finished, Ends.none_in, PromisedBy.there_is, PromisedBy.called_there, PromisedBy.entered_there}
+use Rattle.dspec_session_core.proofs.{PromisedBy.same_worn, PromisedBy.had_tells, PromisedBy.page_alone, PromisedBy.promised_with}
 use Rattle.dspec_session_core.proofs.session.Session.finish.Goals as goal
 
 pub part_all-last-requires-clause-parting : goal.part_all-last-requires-clause-parting

@@ -1,8 +1,6 @@
 -- The CPUs below this one are made.
 use Rattle.std.proofs.Common.{List}
-use Rattle.dspec_deeds.specs.declared.deed.Deed.{Deed}
-use Rattle.dspec_cpu.specs.declared.cpu.Cpu.{Cpu}
-use Rattle.dspec_session_core.specs.Words.{HasList}
+use Rattle.dspec_session_core.specs.Words.{Deed, Cpu, HasList}
 use Rattle.dspec_session_core.proofs.Begins.{Begun}
 use Rattle.dspec_session_core.proofs.session.Session.on_words.Given as goal
 

@@ -1,8 +1,7 @@
 use Rattle.std.proofs.Common.{◌∙◌, sym, ap, subst}
 use Rattle.std.specs.Prelude.{slice_index}
 use Rattle.dspec_table.specs.Words.{word_at, last_words, IsWordNumber}
-use Rattle.dspec_table.proofs.AtEnd.{got_is}
-use Rattle.dspec_table.proofs.Limits.{reads_word}
+use Rattle.dspec_table.proofs.{AtEnd.got_is, Limits.reads_word}
 use Rattle.dspec_word.proofs.Numbers.{one_word}
 use Rattle.dspec_table.proofs.last.LastWords.word.Goals as goal
 

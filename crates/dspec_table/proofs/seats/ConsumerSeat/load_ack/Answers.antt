@@ -1,8 +1,6 @@
 use Rattle.std.proofs.Common.{◌≡◌, true, subst, sym, refl, ap, ◌∙◌}
 use Rattle.dspec_table.specs.Words.{word_at, Holder, same_holder}
-use Rattle.dspec_table.proofs.Waiting.{awaited_stands}
-use Rattle.dspec_table.proofs.Looking.{looks_ack}
-use Rattle.dspec_table.proofs.Places.{ack_within}
+use Rattle.dspec_table.proofs.{Looking.looks_ack, Places.ack_within, Waiting.awaited_stands}
 use Rattle.dspec_table.proofs.seats.ConsumerSeat.load_ack.Goals as goal
 
 pub load-requires : goal.load-requires

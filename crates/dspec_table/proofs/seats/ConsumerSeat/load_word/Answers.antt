@@ -1,10 +1,7 @@
 use Rattle.std.proofs.Common.{ℕ, ◌≡◌, true, ◌≤◌, ◌^◌, subst, sym, refl, ◌∙◌}
-use Rattle.dspec_table.specs.Words.{SlotState, Holder, same_holder, LookedWord, LookedNumber, known_there}
-use Rattle.dspec_deeds.specs.declared.config.Config.{Config}
-use Rattle.dspec_table.proofs.Places.{slot_within, slot_there}
+use Rattle.dspec_table.specs.Words.{SlotState, Holder, same_holder, LookedWord, LookedNumber, known_there, Config}
+use Rattle.dspec_table.proofs.{Limits.finds_word, Limits.finds_limit, Looking.looks_word, Places.slot_within, Places.slot_there}
 use Rattle.dspec_word.proofs.Numbers.{one_word}
-use Rattle.dspec_table.proofs.Limits.{finds_word, finds_limit}
-use Rattle.dspec_table.proofs.Looking.{looks_word}
 use Rattle.dspec_table.proofs.seats.ConsumerSeat.load_word.Goals as goal
 
 pub load-found-requires : goal.load-found-requires

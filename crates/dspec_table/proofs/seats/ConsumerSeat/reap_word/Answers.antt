@@ -1,11 +1,6 @@
 use Rattle.std.proofs.Common.{ℕ, ◌==◌, ◌≤◌, ◌^◌, ◌≡◌, true, ap, sym, subst, ◌∙◌, arith}
-use Rattle.dspec_table.specs.Words.{awaits, SlotState, ReapedNumber, word_number, released, known_there}
-use Rattle.dspec_table.proofs.Places.{slot_within, slot_there}
-use Rattle.dspec_table.proofs.Waiting.{reaped_found}
-use Rattle.dspec_deeds.specs.declared.config.Config.{Config}
-use Rattle.dspec_table.proofs.Limits.{finds_word}
-use Rattle.dspec_table.proofs.Reaping.{reaps, awaited_below}
-use Rattle.dspec_table.proofs.Answered.{reaped_hit}
+use Rattle.dspec_table.specs.Words.{awaits, SlotState, ReapedNumber, word_number, released, known_there, Config}
+use Rattle.dspec_table.proofs.{Answered.reaped_hit, Limits.finds_word, Places.slot_within, Places.slot_there, Reaping.reaps, Reaping.awaited_below, Waiting.reaped_found}
 use Rattle.dspec_table.proofs.seats.ConsumerSeat.reap_word.Goals as goal
 
 pub compare_exchange-found-requires : goal.compare_exchange-found-requires

@@ -1,5 +1,4 @@
-use Rattle.dspec_table.proofs.AsksKept.{stores_ask}
-use Rattle.dspec_table.proofs.Places.{ask_within}
+use Rattle.dspec_table.proofs.{AsksKept.stores_ask, Places.ask_within}
 use Rattle.dspec_table.proofs.seats.ConsumerSeat.store_ask.Goals as goal
 
 pub store-requires : goal.store-requires

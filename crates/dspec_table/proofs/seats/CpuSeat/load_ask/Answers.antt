@@ -1,7 +1,6 @@
 use Rattle.std.proofs.Common.{◌<◌, subst}
-use Rattle.dspec_deeds.specs.declared.config.Config.{Config}
-use Rattle.dspec_table.proofs.AsksKept.{loads_ask}
-use Rattle.dspec_table.proofs.Places.{ask_within}
+use Rattle.dspec_table.specs.Words.{Config}
+use Rattle.dspec_table.proofs.{AsksKept.loads_ask, Places.ask_within}
 use Rattle.dspec_table.proofs.seats.CpuSeat.load_ask.Goals as goal
 
 pub load-requires : goal.load-requires

@@ -1,6 +1,5 @@
 use Rattle.std.proofs.Common.{◌≤◌, ◌^◌, sym, ◌∙◌, subst}
-use Rattle.dspec_table.specs.Words.{SlotState, LoadedWord, known}
-use Rattle.dspec_deeds.specs.declared.config.Config.{Config}
+use Rattle.dspec_table.specs.Words.{SlotState, LoadedWord, known, Config}
 use Rattle.dspec_word.proofs.Numbers.{one_word}
 use Rattle.dspec_table.proofs.Limits.{finds_word, finds_limit}
 use Rattle.dspec_table.proofs.seats.CpuSeat.load_word.Goals as goal

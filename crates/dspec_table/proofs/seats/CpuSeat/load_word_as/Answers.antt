@@ -1,5 +1,4 @@
-use Rattle.dspec_table.proofs.Places.{slot_within, slot_there}
-use Rattle.dspec_table.proofs.Loads.{loads_word}
+use Rattle.dspec_table.proofs.{Loads.loads_word, Places.slot_within, Places.slot_there}
 use Rattle.dspec_table.proofs.seats.CpuSeat.load_word_as.Goals as goal
 
 pub load-requires : goal.load-requires

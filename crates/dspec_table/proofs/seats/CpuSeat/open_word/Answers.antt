@@ -1,12 +1,7 @@
 use Rattle.std.proofs.Common.{ℕ, ◌≡◌, ◌==◌, true, ◌≤◌, ◌^◌, sym, ap, subst, ◌∙◌}
-use Rattle.dspec_table.specs.Words.{word_number, OpenedNumber, known, as_active}
-use Rattle.dspec_deeds.specs.declared.config.Config.{Config}
-use Rattle.dspec_table.proofs.Places.{slot_within, slot_there}
+use Rattle.dspec_table.specs.Words.{word_number, OpenedNumber, known, as_active, Config}
+use Rattle.dspec_table.proofs.{Answered.left_word, Grows.shown_greater, Limits.finds_word, Limits.finds_limit, Opens.opens_word, Places.slot_within, Places.slot_there}
 use Rattle.dspec_word.proofs.Numbers.{one_word}
-use Rattle.dspec_table.proofs.Limits.{finds_word, finds_limit}
-use Rattle.dspec_table.proofs.Grows.{shown_greater}
-use Rattle.dspec_table.proofs.Answered.{left_word}
-use Rattle.dspec_table.proofs.Opens.{opens_word}
 use Rattle.dspec_table.proofs.seats.CpuSeat.open_word.Goals as goal
 
 pub compare_exchange-found-requires : goal.compare_exchange-found-requires

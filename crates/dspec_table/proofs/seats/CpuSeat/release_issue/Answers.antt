@@ -1,8 +1,6 @@
 use Rattle.std.proofs.Common.{◌<◌, ◌∙◌, ap, sym, subst, arith}
-use Rattle.dspec_table.specs.Words.{word_number}
-use Rattle.dspec_deeds.specs.declared.config.Config.{Config}
-use Rattle.dspec_table.proofs.Places.{slot_within, slot_there}
-use Rattle.dspec_table.proofs.Releases.{gives_back}
+use Rattle.dspec_table.specs.Words.{word_number, Config}
+use Rattle.dspec_table.proofs.{Places.slot_within, Places.slot_there, Releases.gives_back}
 use Rattle.dspec_table.proofs.seats.CpuSeat.release_issue.Goals as goal
 
 pub of-from-requires : goal.of-from-requires

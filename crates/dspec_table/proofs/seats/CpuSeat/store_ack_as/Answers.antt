@@ -1,9 +1,6 @@
 use Rattle.std.proofs.Common.{ℕ, ◌<◌, [], ◌∷◌, refl, sym, ◌∙◌, subst}
-use Rattle.dspec_table.specs.Words.{Speculation, ack_place, number_of, known, Entered}
-use Rattle.dspec_deeds.specs.declared.config.Config.{Config}
-use Rattle.dspec_deeds.specs.declared.deed.Deed.{Deed}
-use Rattle.dspec_table.proofs.Settlements.{stores_ack}
-use Rattle.dspec_table.proofs.Places.{ack_within}
+use Rattle.dspec_table.specs.Words.{Speculation, ack_place, number_of, known, Entered, Config, Deed}
+use Rattle.dspec_table.proofs.{Places.ack_within, Settlements.stores_ack}
 use Rattle.dspec_table.proofs.seats.CpuSeat.store_ack_as.Goals as goal
 
 pub store-requires : goal.store-requires

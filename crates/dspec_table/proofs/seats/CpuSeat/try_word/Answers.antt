@@ -1,11 +1,7 @@
 use Rattle.std.proofs.Common.{ℕ, ◌≤◌, ◌^◌, sym, ap, subst, ◌∙◌}
-use Rattle.dspec_table.specs.Words.{word_number, of_cpu, MayLoad, known}
-use Rattle.dspec_deeds.specs.declared.config.Config.{Config}
+use Rattle.dspec_table.specs.Words.{word_number, of_cpu, MayLoad, known, Config}
 use Rattle.dspec_word.proofs.Numbers.{one_word}
-use Rattle.dspec_table.proofs.Limits.{finds_word, finds_limit}
-use Rattle.dspec_table.proofs.Grows.{shown_greater}
-use Rattle.dspec_table.proofs.Answered.{tried_hit, tried_miss, left_word}
-use Rattle.dspec_table.proofs.Commits.{releases_next}
+use Rattle.dspec_table.proofs.{Answered.tried_hit, Answered.tried_miss, Answered.left_word, Commits.releases_next, Grows.shown_greater, Limits.finds_word, Limits.finds_limit}
 use Rattle.dspec_table.proofs.seats.CpuSeat.try_word.Goals as goal
 
 pub of_number-requires : goal.of_number-requires

@@ -1,5 +1,4 @@
-use Rattle.dspec_table.proofs.Places.{slot_within, slot_there}
-use Rattle.dspec_table.proofs.Tries.{tries_word}
+use Rattle.dspec_table.proofs.{Places.slot_within, Places.slot_there, Tries.tries_word}
 use Rattle.dspec_table.proofs.seats.CpuSeat.try_word_as.Goals as goal
 
 pub compare_exchange-requires : goal.compare_exchange-requires

@@ -1,5 +1,4 @@
-use Rattle.std.proofs.Common.{arith}
-use Rattle.std.proofs.lemmas.Bool.Decides.{nat_tests}
+use Rattle.std.proofs.{Common.arith, lemmas.Bool.Decides.nat_tests}
 use Rattle.dspec_threads.proofs.MoreWaits.{serves_once_more}
 use Rattle.dspec_threads.proofs.barrier.Barrier.wait.Goals as goal
 

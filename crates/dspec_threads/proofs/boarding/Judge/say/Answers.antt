@@ -1,5 +1,4 @@
-use Rattle.std.proofs.lemmas.Bool.Decides.{nat_tests}
-use Rattle.std.proofs.Common.{arith}
+use Rattle.std.proofs.{Common.arith, lemmas.Bool.Decides.nat_tests}
 use Rattle.dspec_threads.proofs.MoreVerdicts.{said_to_one, said_within}
 use Rattle.dspec_threads.proofs.boarding.Judge.say.Goals as goal
 

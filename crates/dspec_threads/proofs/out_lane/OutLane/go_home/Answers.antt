@@ -1,8 +1,6 @@
-use Rattle.std.proofs.Common.{arith, subst}
-use Rattle.std.proofs.lemmas.Bool.Decides.{nat_tests}
+use Rattle.std.proofs.{Common.arith, Common.subst, lemmas.Bool.Decides.nat_tests}
 use Rattle.rtrb.specs.Ring.{sent}
-use Rattle.dspec_threads.specs.Words.{EnabledRows, WentHome}
-use Rattle.dspec_cpu.specs.declared.cpu.Cpu.{Cpu}
+use Rattle.dspec_threads.specs.Words.{EnabledRows, WentHome, Cpu}
 use Rattle.dspec_threads.proofs.Homes.{has_gone, may_go}
 use Rattle.dspec_threads.proofs.out_lane.OutLane.go_home.Goals as goal
 

@@ -1,5 +1,4 @@
-use Rattle.std.proofs.Common.{arith}
-use Rattle.std.proofs.lemmas.Bool.Decides.{nat_tests}
+use Rattle.std.proofs.{Common.arith, lemmas.Bool.Decides.nat_tests}
 use Rattle.dspec_threads.proofs.Whereabouts.{comes_in}
 use Rattle.dspec_threads.proofs.place.LanePlace.look.Goals as goal
 

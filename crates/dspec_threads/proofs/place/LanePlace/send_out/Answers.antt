@@ -1,7 +1,6 @@
 use Rattle.std.proofs.Common.{Some, sym, ap, ◌∙◌}
 use Rattle.dspec_threads.specs.Words.{whereabouts}
-use Rattle.dspec_threads.proofs.Homes.{out_first}
-use Rattle.dspec_threads.proofs.Whereabouts.{sends_out}
+use Rattle.dspec_threads.proofs.{Homes.out_first, Whereabouts.sends_out}
 use Rattle.dspec_threads.proofs.place.LanePlace.send_out.Goals as goal
 
 pub of-lane-requires-clause-out : goal.of-lane-requires-clause-out

@@ -1,12 +1,7 @@
 use Rattle.std.proofs.Common.{◌≡◌, ◌<◌, ℕ, List, sym, ap, ◌∙◌, subst}
 use Rattle.std.specs.Arc.{arc_value}
 use Rattle.dspec_threads.specs.Words.{EnabledRows, enabled, table_shape, table_accepts, table_text, set_up, words_of, ClosesAs, view_of, Has, IsPromisedBy, called_at, entered_at, HasAt, IsSession}
-use Rattle.dspec_threads.specs.Words.{taken_at, worn_at, ThenServed, IsOneList, IsTraced, AllIn, NothingOrDone, RunningSession}
-use Rattle.dspec_deeds.specs.declared.config.Config.{Config}
-use Rattle.dspec_deeds.specs.declared.deed.Deed.{Deed}
-use Rattle.dspec_table.specs.declared.rule.View.{View}
-use Rattle.dspec_cpu.specs.declared.shared.Shared.{Shared}
-use Rattle.dspec_session_core.specs.declared.session.Session.{Session}
+use Rattle.dspec_threads.specs.Words.{taken_at, worn_at, ThenServed, IsOneList, IsTraced, AllIn, NothingOrDone, RunningSession, Config, Deed, View, Shared, Session}
 use Rattle.dspec.proofs.Tracing.{by_one_list, kept_alone, traced}
 use Rattle.dspec_threads.proofs.Runs.{session_again, stands}
 use Rattle.dspec_threads.proofs.running.Running.close.Goals as goal

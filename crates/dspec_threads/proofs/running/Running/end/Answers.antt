@@ -1,5 +1,4 @@
-use Rattle.std.proofs.Common.{arith, IfOk, subst}
-use Rattle.std.proofs.lemmas.Bool.Decides.{nat_tests}
+use Rattle.std.proofs.{Common.arith, Common.IfOk, Common.subst, lemmas.Bool.Decides.nat_tests}
 use Rattle.dspec_threads.specs.Words.{ThenServed, IsOneListWith, NothingOrDone, RunningSession}
 use Rattle.dspec_threads.proofs.running.Running.end.Goals as goal
 

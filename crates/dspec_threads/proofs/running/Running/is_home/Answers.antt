@@ -1,11 +1,7 @@
-use Rattle.std.proofs.lemmas.Bool.Decides.{nat_tests}
-use Rattle.std.proofs.Common.{arith}
+use Rattle.std.proofs.{Common.arith, lemmas.Bool.Decides.nat_tests, lemmas.List.length-map}
 use Rattle.std.specs.Arc.{arc_value}
-use Rattle.std.proofs.lemmas.List.{length-map}
 use Rattle.dspec_threads.specs.Words.{ComesIn, whereabouts}
-use Rattle.dspec_threads.proofs.Pairs.{pair_count}
-use Rattle.dspec_threads.proofs.Whereabouts.{each_stays}
-use Rattle.dspec_threads.proofs.Runs.{later_so, placed_later}
+use Rattle.dspec_threads.proofs.{Pairs.pair_count, Runs.later_so, Runs.placed_later, Whereabouts.each_stays}
 use Rattle.dspec_threads.proofs.running.Running.is_home.Goals as goal
 
 pub invariant_of-self : goal.invariant_of-self

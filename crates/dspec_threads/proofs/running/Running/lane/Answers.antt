@@ -1,12 +1,8 @@
-use Rattle.std.proofs.lemmas.Bool.Decides.{nat_tests}
-use Rattle.std.proofs.Common.{IfOk, refl, subst, arith}
-use Rattle.std.specs.Arc.{arc_value}
-use Rattle.std.specs.Prelude.{IfSome}
-use Rattle.std.proofs.lemmas.List.{length-map}
+use Rattle.std.proofs.{Common.IfOk, Common.refl, Common.subst, Common.arith, lemmas.Bool.Decides.nat_tests, lemmas.List.length-map}
+use Rattle.std.specs.{Arc.arc_value, Prelude.IfSome}
 use Rattle.dspec_threads.specs.Words.{EachPair, KeepsPlace, LooksAndSends, StaysIn, whereabouts, IsLaneOf, RunningSession}
-use Rattle.dspec_threads.proofs.Pairs.{pair_count}
-use Rattle.dspec_threads.proofs.Whereabouts.{one_placed, seen_behind, seen_handed, seen_later, sends_keeps}
-use Rattle.dspec_threads.proofs.Runs.{lane_sent, later_so, none_handed, of_run, placed_later}
+use Rattle.dspec_threads.proofs.{Pairs.pair_count, Runs.lane_sent, Runs.later_so, Runs.none_handed, Runs.of_run, Runs.placed_later, Whereabouts.one_placed, Whereabouts.seen_behind}
+use Rattle.dspec_threads.proofs.{Whereabouts.seen_handed, Whereabouts.seen_later, Whereabouts.sends_keeps}
 use Rattle.dspec_threads.proofs.running.Running.lane.Goals as goal
 
 pub send_out_at-requires-clause-callable : goal.send_out_at-requires-clause-callable

@@ -1,7 +1,5 @@
-use Rattle.std.proofs.lemmas.Bool.Decides.{nat_tests}
-use Rattle.std.proofs.Common.{ap, length, arith}
+use Rattle.std.proofs.{Common.ap, Common.length, Common.arith, lemmas.Bool.Decides.nat_tests, lemmas.List.length-map}
 use Rattle.std.specs.Arc.{arc_value}
-use Rattle.std.proofs.lemmas.List.{length-map}
 use Rattle.dspec_threads.specs.Words.{all_whereabouts, waits_inside, whereabouts, who_is_in}
 use Rattle.dspec_threads.proofs.Runs.{all_at_home}
 use Rattle.dspec_threads.proofs.running.Running.over.Goals as goal

@@ -1,8 +1,6 @@
 use Rattle.std.proofs.Common.{List, sym, ap, ◌∙◌, subst}
 use Rattle.std.specs.Prelude.{Option}
-use Rattle.dspec_threads.specs.Words.{EnabledRows, enabled, table_accepts, table_shape, table_text, AreNew}
-use Rattle.dspec_deeds.specs.declared.config.Config.{Config}
-use Rattle.dspec_cpu.specs.declared.cpu.Cpu.{Cpu}
+use Rattle.dspec_threads.specs.Words.{EnabledRows, enabled, table_accepts, table_shape, table_text, AreNew, Config, Cpu}
 use Rattle.dspec.proofs.Tracing.{fresh_none}
 use Rattle.dspec_threads.proofs.Runs.{all_new}
 use Rattle.dspec_threads.proofs.running.Running.start.Goals as goal

@@ -1,11 +1,7 @@
-use Rattle.std.proofs.lemmas.Bool.Decides.{nat_tests}
-use Rattle.std.proofs.Common.{arith}
+use Rattle.std.proofs.{Common.arith, lemmas.Bool.Decides.nat_tests, lemmas.List.length-map}
 use Rattle.std.specs.Arc.{arc_value}
-use Rattle.std.proofs.lemmas.List.{length-map}
 use Rattle.dspec_threads.specs.Words.{ComesIn, TendsPlace, whereabouts}
-use Rattle.dspec_threads.proofs.Pairs.{pair_count}
-use Rattle.dspec_threads.proofs.Whereabouts.{each_serves, each_stays}
-use Rattle.dspec_threads.proofs.Runs.{later_so, of_run, placed_later}
+use Rattle.dspec_threads.proofs.{Pairs.pair_count, Runs.later_so, Runs.of_run, Runs.placed_later, Whereabouts.each_serves, Whereabouts.each_stays}
 use Rattle.dspec_threads.proofs.running.Running.tend.Goals as goal
 
 pub tend_all-requires : goal.tend_all-requires

@@ -1,6 +1,5 @@
 use Rattle.std.proofs.Common.{◌∙◌, ap, nat_cmp}
-use Rattle.dspec_word.specs.Words.{word_number}
-use Rattle.dspec_word.specs.Laws.Words.{raw_is}
+use Rattle.dspec_word.specs.{Laws.Words.raw_is, Words.word_number}
 use Rattle.dspec_word.proofs.word.WordOrd.cmp.Goals as goal
 
 pub returns : goal.returns

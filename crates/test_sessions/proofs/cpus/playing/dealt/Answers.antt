@@ -1,7 +1,6 @@
 use Rattle.std.proofs.Common.{◌++◌, ap, ◌∙◌}
 use Rattle.std.specs.Prelude.{option_to_list, slice_get}
-use Rattle.dspec_table.specs.declared.rule.View.{View}
-use Rattle.test_sessions.specs.Words.{fresh_seat}
+use Rattle.test_sessions.specs.Words.{View, fresh_seat}
 use Rattle.test_sessions.proofs.Lone.{stood_two}
 use Rattle.test_sessions.proofs.cpus.playing.dealt.Goals as goal
 

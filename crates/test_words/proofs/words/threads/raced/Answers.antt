@@ -1,8 +1,6 @@
 use Rattle.std.proofs.Common.{◌≡◌, ◌∙◌, not, sym, subst, arith}
-use Rattle.dspec_deeds.specs.declared.config.Config.{Config}
-use Rattle.test_words.specs.Words.{word_at, last_words, known_there, Shows, given_out}
-use Rattle.test_words.proofs.OneOpener.{raced}
-use Rattle.test_words.proofs.words.threads.raced.Given.{Over}
+use Rattle.test_words.specs.Words.{Config, word_at, last_words, known_there, Shows, given_out}
+use Rattle.test_words.proofs.{OneOpener.raced, words.threads.raced.Given.Over}
 use Rattle.test_words.proofs.words.threads.raced.Goals as goal
 
 -- what all seats that are back tell

@@ -1,11 +1,10 @@
 -- The records of a buffer that has them alone are added in their order.
 use Rattle.std.proofs.Common.{◌≡◌, true, List, [], ◌∷◌, ◌++◌, map, reverse, refl, sym, ap, ◌∙◌, subst, true≢false}
-use Rattle.std.specs.Prelude.{if◌then◌else◌, length}
 use Rattle.std.proofs.lemmas.Option.{slice_get_read}
+use Rattle.std.specs.Prelude.{if◌then◌else◌, length}
 use Rattle.dspec_core.specs.Words.{Record, one, records, is_copied}
-use Rattle.dspec_core.proofs.OwnSlots.{on_ok}
+use Rattle.dspec_core.proofs.{OwnSlots.on_ok, machine.cpu.Cpu.stream_block.Goals.in-Copied, machine.cpu.Cpu.stream_block.Goals.in_default}
 use Rattle.dspec_core.proofs.machine.cpu.Cpu.stream_block.Goals as goal
-use Rattle.dspec_core.proofs.machine.cpu.Cpu.stream_block.Goals.{in-Copied, in_default}
 
 records_of_ones : (rs : List Record) → records (map one rs) ≡ rs
 records_of_ones [] = refl

@@ -1,7 +1,6 @@
 -- The slot of the place is one of the session.
 use Rattle.std.proofs.Common.{subst}
-use Rattle.dspec_interleaving.specs.declared.flight.CallPlace.{CallPlace}
-use Rattle.dspec_core.specs.Words.{IsSlotPlace}
+use Rattle.dspec_core.specs.Words.{CallPlace, IsSlotPlace}
 use Rattle.dspec_core.proofs.machine.seen.Seen.next.Goals as goal
 
 pub loads_scan-requires-clause-slot : goal.loads_scan-requires-clause-slot

@@ -1,6 +1,5 @@
 -- The word that is found is the one that was expected.
-use Rattle.std.proofs.Common.{◌≡◌, true, sym, ◌∙◌, subst}
-use Rattle.std.proofs.lemmas.Bool.{not-false}
+use Rattle.std.proofs.{Common.◌≡◌, Common.true, Common.sym, Common.◌∙◌, Common.subst, lemmas.Bool.not-false}
 use Rattle.dspec_core.specs.Words.{SlotState, commit_at, committed_by, measured_by, same_word, step_of}
 use Rattle.dspec_interleaving.proofs.StepsWords.{same_word_tells, words_test}
 use Rattle.dspec_core.proofs.machine.seen.Seen.tries_commit.Goals as goal
