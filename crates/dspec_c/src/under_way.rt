@@ -42,10 +42,10 @@ impl Model for UnderWay {
 }
 
 impl UnderWay {
+    ghost use Rattle.std.specs.Arc.{arc_value};
     ghost use Rattle.std.specs.Prelude.{◌≡◌, ◌≢◌, ℕ, MatchBool, nat_lt, IfErr, IfOk, IfSome, IfNone, OnErr, Some, None, true, false, length, slice_get};
     ghost use Rattle.dspec_deeds.specs.declared.config.StartFault.TheVariants as start;
     ghost use Rattle.dspec_deeds.specs.Ranges.{start_fault};
-    ghost use Rattle.std.specs.Arc.{arc_value};
     ghost use Rattle.dspec_record.specs.EnablingRows.{EnabledRows};
     ghost use Rattle.dspec_table.specs.Seats.{last_seat, set_up};
     ghost use Rattle.dspec_cpu.specs.{Lists.words_of, declared.cpu.Cpu.Cpu};

@@ -1,13 +1,12 @@
 ghost use Rattle.std.specs.Prelude.{◌≡◌, ◌≢◌, ◌<◌, ◌+◌, ℕ, true, false, None, Some, IfOk, IfErr, OnOk, OnErr, reverse};
-ghost use Rattle.dspec_deeds.specs.declared.calls.Actor.{Actor};
+ghost use Rattle.dspec_deeds.specs.{Closes.reports, Closes.streams, Closes.closing, Headline.Headline, History.halted, Legal.IsLegal, Own.stream, Own.taken, Ranges.start_fault, Reports.report};
+ghost use Rattle.dspec_deeds.specs.{declared.calls.Actor.Actor};
 ghost use Rattle.dspec_deeds.specs.declared.config.StartFault.TheVariants as start;
-ghost use Rattle.dspec_interleaving.specs.declared.flight.ConsumerFlight.{ConsumerFlight};
-ghost use Rattle.dspec_interleaving.specs.declared.refusal.StepFault.TheVariants as refusal;
-ghost use Rattle.dspec_interleaving.specs.declared.refusal.Stepped.TheVariants as stepped;
 ghost use Rattle.dspec_interleaving.specs.{Bounds.steps_limit, Calls.begin_consumer_fault, Calls.begin_cpu_fault, Calls.call_of, Calls.consumer_op_of, Calls.idle_step_fault, Calls.is_about};
 ghost use Rattle.dspec_interleaving.specs.{Calls.is_actor, Calls.is_idle, Calls.record_passes, Calls.steps_of, Calls.told_step, Coherent.progress_of, Promised.HasHeadline, Turns.at_start};
-ghost use Rattle.dspec_interleaving.specs.{Turns.begin_consumer, Turns.begin_cpu, Turns.step};
-ghost use Rattle.dspec_deeds.specs.{Closes.reports, Closes.streams, Closes.closing, Headline.Headline, History.halted, Legal.IsLegal, Own.stream, Own.taken, Ranges.start_fault, Reports.report};
+ghost use Rattle.dspec_interleaving.specs.{Turns.begin_consumer, Turns.begin_cpu, Turns.step, declared.flight.ConsumerFlight.ConsumerFlight};
+ghost use Rattle.dspec_interleaving.specs.declared.refusal.StepFault.TheVariants as refusal;
+ghost use Rattle.dspec_interleaving.specs.declared.refusal.Stepped.TheVariants as stepped;
 ghost use Rattle.dspec_core.specs.Shown.{ShowsWords};
 ghost use Rattle.dspec_cpu_state.specs.CpuStates.{ShowsList};
 

@@ -1,10 +1,9 @@
 ghost use Rattle.std.specs.Prelude.{◌≡◌, ◌↔◌, IsTrue, length, option_and_then, slice_get, slice_index_or};
 ghost use Rattle.dspec_probe.specs.Telling.{field_meaning, kind_meaning, meaning_text, signed_number, told_record, named_text, told_meaning, told_name, told_name_place, told_number, told_text};
 ghost use Rattle.dspec_probe.specs.Telling.{truth_meaning};
+ghost use Rattle.dspec_probe.specs.declared.{kind.Kind.TheVariants.Unsigned, telling.Meaning.TheVariants.TextNext};
 ghost use Rattle.dspec_record.specs.declared.field.Field.TheVariants as field;
-ghost use Rattle.dspec_probe.specs.declared.telling.Meaning.TheVariants.{TextNext};
 ghost use Rattle.dspec_probe.specs.declared.kind.Kind.TheVariants as kind;
-ghost use Rattle.dspec_probe.specs.declared.kind.Kind.TheVariants.{Unsigned};
 
 use crate::{FieldList, Kind, ProbeNames, Probes, Value, next_words};
 use dspec_record::{Field, Rec};
