@@ -4,9 +4,8 @@ mod LeftBehind
 pub mod Passing
 pub mod Returning
 pub mod Serving
-mod Standing
+pub mod Standing
 mod TakenUp
 pub mod Tracing
 mod Visiting
 mod Working
-pub mod Works

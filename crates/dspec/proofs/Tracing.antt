@@ -2,9 +2,9 @@
 use Rattle.std.proofs.Common.{◌≡◌, ℕ, zero, suc, ◌+◌, ◌<◌, Bool, List, [], ◌∷◌, ◌++◌, length, map, All, refl, sym, ap, ◌∙◌, subst, arith}
 use Rattle.std.proofs.lemmas.{Bool.Decides.nat_tests, List.append-nil, List.append_assoc, List.Elements.All-append, List.Elements.All-head, List.Elements.All-tail}
 use Rattle.std.specs.{Option.option_map_or, Prelude.slice_get, Prelude.Option, Prelude.Some}
-use Rattle.dspec.specs.Words.{Record, stream, known, ConsumerKnows, IsUnusedConsumer, CallsMade, called, no_calls, number_in, seat_of, waiting, ClosesAs, HoldInOrder, IsClosedBy, Consuming}
-use Rattle.dspec.specs.Words.{set_up_of, view_of, AllSteady, Has, IsPromised, IsPromisedBy, called_at, entered_at, HasAt, IsFresh, taken_at, all_did, did, Passed, AreFrom, passed_from, left_batches}
-use Rattle.dspec.specs.Words.{rests_passed, GotAll, PassesOn, HasLists, IsOneList, IsKept, IsTraced, Shape, Config, Deed, Release, Batch, Cpu, Left}
+use Rattle.dspec.specs.Words.{Record, stream, known, ConsumerKnows, IsUnusedConsumer, CallsMade, called, no_calls, number_in, seat_of, waiting, ClosesAs, HoldInOrder, Consuming, set_up_of, view_of}
+use Rattle.dspec.specs.Words.{AllSteady, Has, IsPromised, IsPromisedBy, called_at, entered_at, HasAt, IsFresh, taken_at, all_did, did, Passed, AreFrom, passed_from, left_batches, rests_passed}
+use Rattle.dspec.specs.Words.{GotAll, PassesOn, HasLists, IsOneList, IsKept, IsTraced, Shape, Config, Deed, Release, Batch, Cpu, Left}
 use Rattle.dspec_table.specs.declared.seats.Words.{Words}
 use Rattle.dspec_session_core.proofs.PromisedBy.{there_is, called_there, entered_there, had_tells}
 use Rattle.dspec.proofs.Passing.{from_both, got_both, rest_there, rests_from}
@@ -69,14 +69,6 @@ module _ {S : Type 0} (shape_of : S → ℕ → Option Shape) (accepted : S → 
           (append_assoc (taken_at y c) (waiting l.rest) (l.last ∷ []) ∙ sym (whole c l at)) (closes.each c l at).kept;
     }
 
-    pub listed : (k : Config) (cpus : List (Cpu S)) (worn : ℕ → ℕ) (deeds : List Deed) → AllSteady shape_of accepted text cpus
-        → IsClosedBy (shape_of schema) (accepted schema) (text schema) k (HasAt (Has shape_of accepted text) cpus) worn (taken_at y) deeds left
-        → HasLists gets (shape_of schema) (accepted schema) (text schema) k old left new
-    listed k cpus worn deeds steady closed =
-        let had = lists_had cpus steady in
-        let made = closed had.0 (λ c lt. had.1 c) in
-        listed_by k worn deeds had.0 made.0 made.1
-
     -- what the consumer's seat entered
     entered_last : (view_of x).own ≡ [] → (view_of y).own ≡ map (λ s. Release s) passes.released
     entered_last none =
@@ -114,12 +106,6 @@ module _ {S : Type 0} (shape_of : S → ℕ → Option Shape) (accepted : S → 
         whole = whole;
         promised = promised;
       }
-
-      pub traced : IsPromisedBy (shape_of schema) (accepted schema) (text schema) k (entered_at cpus) (view_of y).own (called_at cpus) (taken_at y) left
-          → IsTraced gets does (shape_of schema) (accepted schema) (text schema) k old left new
-      traced promised =
-          traced_by
-          (subst (λ ds. IsPromisedBy (shape_of schema) (accepted schema) (text schema) k (entered_at cpus) ds (called_at cpus) (taken_at y) left) (entered_last none) promised)
 
       -- the list that closes the lists of the CPUs is the one of the page
       pub by_one_list : (worn : ℕ → ℕ) → AllSteady shape_of accepted text cpus

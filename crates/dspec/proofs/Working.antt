@@ -1,16 +1,11 @@
 -- CPUs that are paired with workers, what those did, and both apart again.
-use Rattle.std.proofs.Common.{◌≡◌, ℕ, zero, suc, ◌<◌, List, [], ◌∷◌, ◌++◌, length, map, take, drop, append_assoc, Some, refl, sym, ap, ◌∙◌, subst, get_or, arith}
+use Rattle.std.proofs.Common.{◌≡◌, ℕ, zero, suc, ◌<◌, List, [], ◌∷◌, ◌++◌, length, map, take, drop, append_assoc, Some, refl, sym, ap, ◌∙◌, subst, get_or}
 use Rattle.std.proofs.Math.Seq.{take-append_seam}
 use Rattle.std.proofs.lemmas.{List.length-map, List.map_push, Option.slice_get-map, Option.slice_get_read}
-use Rattle.std.specs.{Option.option_map, Prelude.slice_get, Prelude.slice_index_or, Prelude.remove}
+use Rattle.std.specs.{Option.option_map, Prelude.slice_get}
 use Rattle.dspec.specs.Words.{EnabledRows, CallsMade, called, number_in, schema_of, IsCallable, IsSession, AllCallable, AllReturned, Returned, ThenServed, AllNumbered, AllWorked, WorkedBy, cpus_of}
 use Rattle.dspec.specs.Words.{workers_of, Cpu, Shared, Session}
 use Rattle.dspec.specs.declared.workers.Working.{Working}
-
--- the first element, and what is left when it is removed
-pub first_and_rest : {A : Type 0} (xs : List A) (x : A) → 0 < length xs → x ≡ slice_index_or xs 0 x → x ∷ remove xs 0 ≡ xs
-first_and_rest [] x some is = absurd (omega arith)
-first_and_rest (y ∷ ys) x some is = ap (λ z. z ∷ ys) is
 
 module _ {A B : Type 0} (f : A → B) where
   -- one more is moved into the pairs

@@ -10,7 +10,6 @@ pub mod Passed
 pub mod Serving
 pub mod Visits
 pub mod Traced
-pub mod Works
 pub mod Workers
 pub mod Counts
 pub mod Walks

@@ -13,4 +13,3 @@ pub use Rattle.dspec.specs.TextSinks.{told_line, ToldInTurn}
 pub use Rattle.dspec.specs.Traced.{IsKept, IsOneList, IsOneListWith, IsTraced}
 pub use Rattle.dspec.specs.Visits.{MakesRound, MakesRounds, no_rounds, none_visited, one_more, rounds_more, VisitsFirst}
 pub use Rattle.dspec.specs.Workers.{AllNumbered, AllWorked, cpus_of, one_for, with_cpus, WorkedBy, WorkedOn, WorkedOne, workers_of}
-pub use Rattle.dspec.specs.Works.{DidRecord, DidStep}

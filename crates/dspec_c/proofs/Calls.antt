@@ -1,8 +1,8 @@
 -- A call on what a handle holds is one on the CPU, or the consumer, that is there.
 use Rattle.std.proofs.Common.{◌≡◌, ℕ, Bool, true, false, refl, Option, Some, None, sym, subst, ap, ◌∙◌}
 use Rattle.std.specs.Prelude.{if◌then◌else◌, Result, Ok, Err, IfErr, IfNone, IfSome, MatchOption, MatchResult, OnErr, OnOk}
-use Rattle.dspec_c.specs.Words.{Batch, EnabledRows, FoundNone, GaveBack, IsNotTakenBack, Took, Consuming, OnConsumer, OnTheirs, Theirs, OnCpu, OnSide, one_refused, CpuSide, held_in, with_held}
-use Rattle.dspec_c.specs.Words.{is_consumer_in, is_cpu_in, Cpu, Shared}
+use Rattle.dspec_c.specs.Words.{Batch, EnabledRows, FoundNone, GaveBack, IsNotTakenBack, Took, Consuming, OnConsumer, OnTheirs, Theirs, OnCpu, OnSide, one_refused, CpuSide, held_in, with_held, Cpu}
+use Rattle.dspec_c.specs.Words.{Shared}
 use Rattle.dspec_c.specs.declared.{consumer_side.ConsumerSide.ConsumerSide, handle.Handle.Handle, held.HandleValue.HandleValue}
 use Rattle.dspec_c.specs.declared.held.HandleValue.TheVariants as held
 use Rattle.dspec_c.proofs.Options.{unless}
@@ -21,26 +21,27 @@ pub on_cpu : (did : CpuSide → CpuSide → Type 0) (stays : Type 0) (was : Hand
     → OnCpu did stays was status now
 on_cpu did stays was status now old new e f done = subst (λ (h : HandleValue). OnCpu did stays h status now) (sym e) (new, f, done)
 
+abbrev has_some : HandleValue → Bool
+has_some held.Nothing = false
+has_some h = true
+
 -- a handle that isn't empty has what is put into it
-holds : (full : Bool) (was kind now : HandleValue) → (held.Nothing ≡ kind → ⊥) → (if full then was else held.Nothing) ≡ kind → (if full then now else held.Nothing) ≡ now
-holds true was kind now differ e = refl
-holds false was kind now differ e = absurd (differ e)
+holds : (full : Bool) (was kind now : HandleValue) → has_some kind ≡ true → (if full then was else held.Nothing) ≡ kind → (if full then now else held.Nothing) ≡ now
+holds true was kind now some e = refl
+holds false was kind now some e = absurd (subst (λ y. unless y) (ap has_some e ∙ some) tt)
 
 -- what is lent of a handle
+pub lent_so : (P : HandleValue → HandleValue → Type 0) (h : Handle) (v was now : HandleValue) → v ≡ held_in h → v ≡ was → has_some was ≡ true → P was now → P (held_in h) (held_in (with_held h now))
+lent_so P h v was now e f some is = subst (λ x. P x (held_in (with_held h now))) (sym (sym e ∙ f))
+    (subst (λ y. P was y) (sym (holds h.held h.seal.inside.held was now some (sym e ∙ f))) is)
+
 pub on_lent : (did : CpuSide → CpuSide → Type 0) (stays : Type 0) (h : Handle) (v : HandleValue) (status : ℕ) (old new : CpuSide) → v ≡ held_in h → v ≡ held.Cpu old → did old new
     → OnCpu did stays (held_in h) status (held_in (with_held h (held.Cpu new)))
-on_lent did stays h v status old new e f done = on_cpu did stays (held_in h) status (held_in (with_held h (held.Cpu new))) old new (sym e ∙ f)
-    (holds h.held h.seal.inside.held (held.Cpu old) (held.Cpu new) (λ n. subst (λ y. unless y) (ap is_cpu_in n) tt) (sym e ∙ f)) done
-
-pub on_consumer : (did : ConsumerSide → ConsumerSide → Type 0) (stays : Type 0) (was : HandleValue) (status : ℕ) (now : HandleValue) (old new : ConsumerSide) → was ≡ held.Consumer old
-    → now ≡ held.Consumer new → did old new → OnConsumer did stays was status now
-on_consumer did stays was status now old new e f done = subst (λ (h : HandleValue). OnConsumer did stays h status now) (sym e) (new, f, done)
+on_lent did stays h v status old new e f done = lent_so (λ was now. OnCpu did stays was status now) h v (held.Cpu old) (held.Cpu new) e f refl (new, refl, done)
 
 pub on_lent_consumer : (did : ConsumerSide → ConsumerSide → Type 0) (stays : Type 0) (h : Handle) (v : HandleValue) (status : ℕ) (old new : ConsumerSide) → v ≡ held_in h
     → v ≡ held.Consumer old → did old new → OnConsumer did stays (held_in h) status (held_in (with_held h (held.Consumer new)))
-on_lent_consumer did stays h v status old new e f done =
-    on_consumer did stays (held_in h) status (held_in (with_held h (held.Consumer new))) old new (sym e ∙ f)
-    (holds h.held h.seal.inside.held (held.Consumer old) (held.Consumer new) (λ n. subst (λ y. unless y) (ap is_consumer_in n) tt) (sym e ∙ f)) done
+on_lent_consumer did stays h v status old new e f done = lent_so (λ was now. OnConsumer did stays was status now) h v (held.Consumer old) (held.Consumer new) e f refl (new, refl, done)
 
 pub on_theirs : (did : Consuming → Consuming → Type 0) (old was new : Theirs) → was ≡ old → new.shared ≡ was.shared → did was.consumer new.consumer → OnTheirs did old new
 on_theirs did old was new e shared done = subst (λ (s : Theirs). OnTheirs did s new) e (record { shared = shared; consumer = done })

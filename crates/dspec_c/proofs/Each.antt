@@ -1,9 +1,9 @@
 -- Lists each element of which has something at its place.
-use Rattle.std.proofs.Common.{◌≡◌, ℕ, ◌+◌, ◌<◌, List, [], ◌∷◌, ◌++◌, length, length-append, append_assoc, Option, take, suc, zero, refl, sym, ap, ◌∙◌, subst, arith}
+use Rattle.std.proofs.Common.{◌≡◌, ℕ, ◌+◌, ◌<◌, List, [], ◌∷◌, ◌++◌, length, length-append, append_assoc, Option, suc, zero, refl, sym, ap, ◌∙◌, subst, arith}
 use Rattle.std.proofs.lemmas.Bool.Decides.{nat_tests}
 use Rattle.std.specs.Prelude.{slice_get, slice_index_or, slice_set, map, remove, Some, IsSome}
 use Rattle.dspec_c.specs.Words.{Pair, EnabledRows, words_of, CpuIdentity, IsCallable, identity, IsCpuOf, AtHome, CpuStay, CpuSide, AllCalled, AllInside, EachFrom, IsCpuAt, IsPlaceOf, cpu_inside}
-use Rattle.dspec_c.specs.Words.{firsts, insides, new_side, refused_inside, refusals, waiting_so, Cpu, Shared}
+use Rattle.dspec_c.specs.Words.{firsts, insides, new_side, waiting_so, Cpu, Shared}
 
 -- the first element, and what is left when it is removed
 pub first_and_rest : {A : Type 0} (xs : List A) (x : A) → 0 < length xs → x ≡ slice_index_or xs 0 x → x ∷ remove xs 0 ≡ xs
@@ -62,12 +62,11 @@ first_inside places place rest cons all = all 0 place (ap (λ xs. slice_get xs 0
 pub rest_inside : (places : List CpuStay) (place : CpuStay) (rest : List CpuStay) → places ≡ place ∷ rest → AllInside places → AllInside rest
 rest_inside places place rest cons all = λ c s at. all (suc c) s (ap (λ xs. slice_get xs (suc c)) cons ∙ at)
 
--- one more waits
-pub one_waits : (shared : Shared) (waiting : List CpuStay) (rest : List (Cpu EnabledRows)) (cpu : Cpu EnabledRows) (left : List (Cpu EnabledRows)) (place : CpuStay) (now all : List CpuStay)
-    → rest ≡ cpu ∷ left → now ≡ waiting ++ place ∷ [] → place ≡ waiting_so shared cpu → waiting ++ map (waiting_so shared) rest ≡ all → now ++ map (waiting_so shared) left ≡ all
-one_waits shared waiting rest cpu left place now all cons is made was =
-    ap (λ xs. xs ++ map (waiting_so shared) left) is ∙ append_assoc waiting (place ∷ []) (map (waiting_so shared) left)
-    ∙ ap (λ (s : CpuStay). waiting ++ s ∷ map (waiting_so shared) left) made ∙ ap (λ (xs : List (Cpu EnabledRows)). waiting ++ map (waiting_so shared) xs) (sym cons) ∙ was
+-- one more of a list has gone over to what is made of each
+pub one_mapped : {A B : Type 0} (f : A → B) (done : List B) (xs : List A) (x : A) (rest : List A) (y : B) (now all : List B)
+    → xs ≡ x ∷ rest → now ≡ done ++ y ∷ [] → y ≡ f x → done ++ map f xs ≡ all → now ++ map f rest ≡ all
+one_mapped f done xs x rest y now all cons is made was =
+    ap (λ zs. zs ++ map f rest) is ∙ append_assoc done (y ∷ []) (map f rest) ∙ ap (λ z. done ++ z ∷ map f rest) made ∙ ap (λ zs. done ++ map f zs) (sym cons) ∙ was
 
 -- the places of a session's CPUs
 pub each_placed : (shared : Shared) (schema : EnabledRows) (pairs : List Pair) (n : ℕ) (cpus : List (Cpu EnabledRows)) → EachFrom (IsCpuAt shared schema pairs) n cpus
@@ -75,21 +74,3 @@ pub each_placed : (shared : Shared) (schema : EnabledRows) (pairs : List Pair) (
 each_placed shared schema pairs n [] all = tt
 each_placed shared schema pairs n (cpu ∷ cpus) all =
     (record { side = new_side shared cpu; is = refl; shares = refl; cpu = all.0 }, each_placed shared schema pairs (suc n) cpus all.1)
-
--- the counts of the places so far, one place more
-counts_to : (places : List CpuStay) (n : ℕ) (place : CpuStay) → n < length places → place ≡ slice_index_or places n place
-    → take (suc n) (refusals places) ≡ take n (refusals places) ++ refused_inside place ∷ []
-counts_to [] n place small at = absurd (omega arith)
-counts_to (p ∷ ps) zero place small at = ap (λ (s : CpuStay). refused_inside s ∷ []) (sym at)
-counts_to (p ∷ ps) (suc n) place small at = ap (λ (ks : List ℕ). refused_inside p ∷ ks) (counts_to ps n place (omega arith) at)
-
-pub one_counted : (places : List CpuStay) (n : ℕ) (place : CpuStay) (count : ℕ) (was now : List ℕ) → n < length places → place ≡ slice_index_or places n place → count ≡ refused_inside place
-    → was ≡ take n (refusals places) → now ≡ was ++ count ∷ [] → now ≡ take (suc n) (refusals places)
-one_counted places n place count was now small at is before e =
-    e ∙ ap (λ (ks : List ℕ). ks ++ count ∷ []) before ∙ ap (λ (k : ℕ). take n (refusals places) ++ k ∷ []) is ∙ sym (counts_to places n place small at)
-
--- the counts of all of them
-pub all_counted : (places : List CpuStay) (n : ℕ) → n ≡ length places → take n (refusals places) ≡ refusals places
-all_counted [] n e = ap (λ (k : ℕ). take k (refusals [])) e
-all_counted (p ∷ ps) zero e = absurd (omega (arith, e))
-all_counted (p ∷ ps) (suc n) e = ap (λ (ks : List ℕ). refused_inside p ∷ ks) (all_counted ps n (omega (arith, e)))

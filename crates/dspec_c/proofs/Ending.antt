@@ -5,12 +5,12 @@ use Rattle.std.specs.Prelude.{Result, Ok, Err, IfNone, IfOk, IfSome, IsSomeAnd, 
 use Rattle.dspec_c.specs.Words.{Config, EnabledRows, last_seat, set_up, schema_of, words_of, Consuming, pairs_of, view_of, Has, IsCpuOf, IsFresh, CpuIdentity, IsTheirPlaceWith, LeaveTheirs}
 use Rattle.dspec_c.specs.Words.{TheirStay, Theirs, Pair, CpuStay, IsSameSide, LeavesPlace, CpuSide, EachFrom, Going, GoesOut, IsJustStarted, IsCpuAt, IsPlaceOf, IsWhole, LeavesOne, LooksAt}
 use Rattle.dspec_c.specs.Words.{LooksAtOne, TheyGoOut, firsts, they_wait_so, waiting_so, Cpu, Shared}
-use Rattle.dspec_c.proofs.{EndingPlaces.all_fresh, EndingPlaces.number_out, EndingPlaces.or_else, Looking.first_at}
+use Rattle.dspec_c.proofs.{EndingPlaces.all_fresh, EndingPlaces.number_out, Looking.first_at, Options.or_this}
 
 pub each_set : {X : Type 0} (P : ℕ → X → Type 0) (n : ℕ) (xs : List X) (c : ℕ) (x y : X) → EachFrom P n xs → slice_get xs c ≡ Some x → ((k : ℕ) → P k x → P k y)
     → EachFrom P n (slice_set xs c y)
 each_set P n [] c x y all at f = tt
-each_set P n (z ∷ zs) zero x y all at f = (f n (subst (λ w. P n w) (ap (or_else z) at) all.0), all.1)
+each_set P n (z ∷ zs) zero x y all at f = (f n (subst (λ w. P n w) (ap (or_this z) at) all.0), all.1)
 each_set P n (z ∷ zs) (suc c) x y all at f = (all.0, each_set P (suc n) zs c x y all.1 at f)
 
 firsts_set : (xs : List CpuStay) (c : ℕ) (y : CpuStay) → firsts (slice_set xs c y) ≡ slice_set (firsts xs) c y.first
@@ -85,18 +85,13 @@ pub asked_for_one : {E : Type 0} (shared given : Shared) (n c : ℕ) (places now
 asked_for_one shared given n c places now theirs (Err x) e is leaves none = subst (λ (ps : List CpuStay). IsWhole shared n (firsts ps) theirs) (sym none) is
 asked_for_one shared given n c places now theirs (Ok side) e is leaves none = one_goes shared given n c places now theirs side e is leaves
 
-pub asked_count : {E : Type 0} (given : Shared) (c : ℕ) (places now : List CpuStay) (r : Result CpuSide E) → IfOk r (λ side. LeavesOne given c places side now) → OnErr r (now ≡ places)
-    → length now ≡ length places
-asked_count given c places now (Err x) leaves none = ap length none
-asked_count given c places now (Ok side) leaves none = left_count given c places now side leaves
-
 -- a look at one place of a session as it was seen
 pub looks_from : (c : ℕ) (w old now : Going) → w ≡ old → now.shared ≡ w.shared → now.cpus ≡ w.cpus → now.consumer ≡ w.consumer → LooksAt c w.places now.places → LooksAtOne c old now
 looks_from c w old now seen e f g is = subst (λ (x : Going). LooksAtOne c x now) seen (record { shared = e; cpus = f; consumer = g; places = is })
 
 -- so does the consumer
 pub they_share : (shared given : Shared) (n : ℕ) (places : List (Option CpuSide)) (theirs : Option Theirs) → IsWhole shared n places theirs → given ≡ shared → IsTheirPlaceWith given theirs
-they_share shared given n places theirs is e = λ first f. e ∙ sym is.shares ∙ ap (λ (o : Option Theirs). (or_else first o).shared) (sym is.is ∙ f)
+they_share shared given n places theirs is e = λ first f. e ∙ sym is.shares ∙ ap (λ (o : Option Theirs). (or_this first o).shared) (sym is.is ∙ f)
 
 pub they_go : (shared given : Shared) (n : ℕ) (w : Going) (o : Option Theirs) (now : TheirStay) → w.shared ≡ shared → w.cpus ≡ n → given ≡ shared → IsWhole shared n (firsts w.places) w.consumer.first
     → IfSome o (λ side. LeaveTheirs given w.consumer side now) → IfSome o (λ side. TheyGoOut w side (record w { consumer = now }))

@@ -1,23 +1,15 @@
 -- What the places of CPUs that are out have, before any goes home.
-use Rattle.std.proofs.Common.{◌≡◌, ℕ, ◌+◌, List, [], ◌∷◌, length, Option, Some, None, suc, zero, refl, sym, ap, ◌∙◌, subst, arith}
+use Rattle.std.proofs.Common.{◌≡◌, ℕ, ◌+◌, List, [], ◌∷◌, length, Option, Some, suc, zero, refl, sym, ap, ◌∙◌, subst, arith}
 use Rattle.std.proofs.lemmas.{Bool.Decides.nat_tests, List.length-map}
 use Rattle.std.specs.Prelude.{map, slice_get}
 use Rattle.dspec_c.specs.Words.{EnabledRows, set_up, number_in, schema_of, words_of, Consuming, IsConsumerOf, IsSameConsumer, pairs_of, Has, IsFresh, IsSession, TheirStay, Theirs, Came, CpuStay}
 use Rattle.dspec_c.specs.Words.{IsPlaceWith, CpuSide, AllCalled, AreCame, EachFrom, Going, IsFreshIn, IsCpuAt, IsEnding, IsPlaceOf, IsStarted, IsWhole, LeavesOne, LookedLater, cpu_inside, firsts}
 use Rattle.dspec_c.specs.Words.{insides, they_wait_so, waiting_so, Cpu, Shared, Session}
-use Rattle.dspec_c.proofs.{Each.each_placed, Looking.first_at, Looking.same_firsts}
-
-abbrev if_some : {X : Type 0} → Option X → Type 0
-if_some None = ⊥
-if_some (Some x) = Unit {0}
-
-abbrev pub or_else : {X : Type 0} → X → Option X → X
-or_else x None = x
-or_else x (Some y) = y
+use Rattle.dspec_c.proofs.{Each.each_placed, Looking.first_at, Looking.same_firsts, Options.if_some, Options.or_this}
 
 pub each_at : {X : Type 0} (P : ℕ → X → Type 0) (n : ℕ) (xs : List X) (k : ℕ) (x : X) → EachFrom P n xs → slice_get xs k ≡ Some x → P (n + k) x
 each_at P n [] k x all at = absurd (subst (λ o. if_some o) (sym at) tt)
-each_at P n (y ∷ ys) zero x all at = subst (λ k. P k x) (omega arith) (subst (λ z. P n z) (ap (or_else y) at) all.0)
+each_at P n (y ∷ ys) zero x all at = subst (λ k. P k x) (omega arith) (subst (λ z. P n z) (ap (or_this y) at) all.0)
 each_at P n (y ∷ ys) (suc k) x all at = subst (λ j. P j x) (omega arith) (each_at P (suc n) ys k x all.1 at)
 
 pub each_from : {X : Type 0} (P : ℕ → X → Type 0) (n : ℕ) (xs : List X) → ((k : ℕ) (x : X) → slice_get xs k ≡ Some x → P (n + k) x) → EachFrom P n xs

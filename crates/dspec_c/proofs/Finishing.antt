@@ -1,24 +1,15 @@
 -- How a session ends, or goes on.
-use Rattle.std.proofs.Common.{arith, ◌≡◌, ℕ, List, true, false, Option, Some, refl, sym, ◌∙◌, subst, inl, inr}
-use Rattle.std.proofs.lemmas.Bool.Decides.{nat_tests}
+use Rattle.std.proofs.Common.{◌≡◌, ℕ, List, true, false, Option, Some, refl, sym, ◌∙◌, subst, inl, inr}
 use Rattle.std.specs.Prelude.{Result, Ok, Err, MatchResult, length}
 use Rattle.dspec_c.specs.Words.{EnabledRows, Consuming, held_in, is_full, EndsSo, FinishAnswers, LooksHome, busy, not_home, ClosedBy, EndedBy, Going, IsAway, IsHome, LookedLater, insides, refusals}
 use Rattle.dspec_c.specs.Words.{Cpu, Shared, Left}
 use Rattle.dspec_c.specs.declared.{ended.EndedSession.EndedSession, handle.Handle.Handle, held.HandleValue.HandleValue}
 use Rattle.dspec_c.specs.declared.held.HandleValue.TheVariants as held
 
-abbrev going_of : Going → HandleValue → Going
-going_of g (held.Session w) = w
-going_of g h = g
-
 -- a look at the session that is held
 pub looks_so : {U : Type 0} (h now : HandleValue) (old new : Going) (r : Result U ℕ) → h ≡ held.Session old → now ≡ held.Session new → LookedLater old new
     → MatchResult r (λ _. IsHome new) (λ why. (why ≡ not_home) × IsAway new) → LooksHome h r now
 looks_so h now old new r e f looked home = subst (λ (x : HandleValue). LooksHome x r now) (sym e) (new, f, looked, home)
-
--- what is held is home, where a look said so
-pub home_then : {U : Type 0} (h now : HandleValue) (u : U) → LooksHome h (Ok u) now → (w : Going) → now ≡ held.Session w → IsHome w
-home_then = grind (arith, nat_tests)
 
 module _ (was new closed : Handle) where
   -- something isn't home, or there is no session

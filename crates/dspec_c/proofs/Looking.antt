@@ -29,14 +29,6 @@ no_stay (Some x) P e = absurd (subst (λ (t : Bool). if_true t) (sym e) tt)
 pub comes : {A B : Type 0} (old new : Stay A B) → false ≡ is_some old.inside → new.first ≡ old.first → new.waits ≡ old.waits → Came old new
 comes old new none e f = record { first = e; waits = f; stays = no_stay old.inside _ none }
 
-pub unchanged : {A B : Type 0} (old new : Stay A B) → new ≡ old → Came old new
-unchanged old new e = subst (λ (s : Stay _ _). Came old s) (sym e) (itself old)
-
--- what comes is behind the first
-pub first_stays : {A : Type 0} (xs ys : List A) (x a : A) → slice_get xs 0 ≡ Some a → ys ≡ xs ++ x ∷ [] → slice_get ys 0 ≡ slice_get xs 0
-first_stays [] ys x a at e = absurd (subst (λ (o : Option _). if_some o) (sym at) tt)
-first_stays (z ∷ zs) ys x a at e = ap (λ (ws : List _). slice_get ws 0) e
-
 pub after : {A B : Type 0} (a b c : Stay A B) → Came a b → Came b c → Came a c
 after a b c is was = record { first = was.first ∙ is.first; waits = was.waits ∙ is.waits; stays = still a.inside b.inside c.inside is.stays was.stays }
 

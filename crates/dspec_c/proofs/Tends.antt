@@ -2,25 +2,27 @@
 use Rattle.std.proofs.Common.{arith, ◌≡◌, ◌<◌, ◌+◌, ℕ, List, [], ◌∷◌, length, Bool, false, Option, Some, None, suc, zero, refl, sym, ap, ◌∙◌, subst}
 use Rattle.std.proofs.lemmas.{Bool.Decides.nat_tests, List.length-map, List.length-set, Option.slice_get_read}
 use Rattle.std.specs.Prelude.{IfSome, MatchOption, is_some, slice_get, slice_index_or, slice_set}
-use Rattle.dspec_c.specs.Words.{EnabledRows, identity, Theirs, ServicedSo, AtHome, CpuStay, IsPlaceWith, IsUnused, CpuSide, AreTended, IsTended, IsTendedWhole, ServedAtHome, ServedIfThere}
-use Rattle.dspec_c.specs.Words.{ServedThere, TendsOne, Going, IsWhole, firsts, Served, Cpu, Shared}
-use Rattle.dspec_c.proofs.{Homes.IsPlace, Homes.same_there, Looking.first_at, Options.if_true, Options.or_this}
+use Rattle.rtrb.specs.Ring.{known_free, sent}
+use Rattle.dspec_c.specs.Words.{IsAtHomeOf, IsSameSide, EnabledRows, identity, Theirs, ServicedSo, AtHome, CpuStay, IsPlaceWith, IsUnused, CpuSide, AreTended, IsTended, IsTendedWhole, ServedAtHome}
+use Rattle.dspec_c.specs.Words.{ServedIfThere, ServedThere, TendsOne, Going, IsWhole, firsts, Served, Cpu, Shared}
+use Rattle.dspec_c.proofs.{Homes.IsPlace, Homes.WayOf, Homes.same_there, Looking.first_at, Options.if_true, Options.or_this}
 
 -- a service of a CPU in its box
 pub served_boxed : (n : ℕ) (told : Served) (old new : AtHome) (was cpu : Cpu EnabledRows) (refused : ℕ) → record { cpu = cpu; refused = refused } ≡ old → was ≡ cpu → n ≡ told.settled
     → ServicedSo told was new.cpu → new.refused ≡ refused → ServedAtHome n old new
 served_boxed n told old new was cpu refused e f count done same = grind (arith, nat_tests)
 
-module _ {X : Type 0} (went : X → List CpuSide) (free : X → ℕ) where
-  still_unused : (first : CpuSide) (received : List CpuSide) (way : Option X) (inside : Option AtHome) (y : AtHome) → IfSome way (λ w. IsUnused first received (went w) (free w) inside)
-      → IfSome way (λ w. IsUnused first received (went w) (free w) (Some y))
+module _ {R : Type 0} where
+  still_unused : (first : CpuSide) (received : List CpuSide) (way : Option (WayOf CpuSide R)) (inside : Option AtHome) (y : AtHome)
+      → IfSome way (λ w. IsUnused first received (sent w) (known_free w) inside) → IfSome way (λ w. IsUnused first received (sent w) (known_free w) (Some y))
   still_unused first received None inside y is = tt
   still_unused first received (Some w) inside y is = record { came = is.came; went = is.went; room = is.room; is = refl }
 
   -- the CPU that was served is at its place
-  pub served_in : (received : List CpuSide) (way : Option X) (inside now : Option AtHome) (x y : AtHome) → IsPlace went free received way inside → inside ≡ Some x → identity y.cpu ≡ identity x.cpu
-      → now ≡ Some y → IsPlace went free received way now
-  served_in received way inside now x y is at same e = subst (λ (o : Option AtHome). IsPlace went free received way o) (sym e)
+  pub served_in : (received : List CpuSide) (way : Option (WayOf CpuSide R)) (inside now : Option AtHome) (x y : AtHome) → IsPlace IsSameSide IsAtHomeOf received way inside → inside ≡ Some x →
+      identity y.cpu ≡ identity x.cpu
+      → now ≡ Some y → IsPlace IsSameSide IsAtHomeOf received way now
+  served_in received way inside now x y is at same e = subst (λ (o : Option AtHome). IsPlace IsSameSide IsAtHomeOf received way o) (sym e)
       (is.0, is.1, record { out = tt; same = same ∙ same_there is.0 received inside x is.2 at }, still_unused is.0 received way inside y is.3)
 
 pub served_there : (n : ℕ) (old new : CpuStay) (x y : AtHome) → old.inside ≡ Some x → new.first ≡ old.first → new.waits ≡ old.waits → new.inside ≡ Some y → ServedAtHome n x y

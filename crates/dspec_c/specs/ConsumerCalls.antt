@@ -1,12 +1,9 @@
 -- Cited by calls. The calls on the consumer's handle: each did what the library's call says of its answer.
-use Rattle.std.specs.Prelude.{ℕ, ◌≡◌, ◌<◌, ◌≤◌, Bool, Option, Some, None, MatchBool, MatchOption, slice_get, slice_set, ⊤}
-use Rattle.dspec_c.specs.{Answered.Answered, ConsumerHomes.Theirs, Shows.TellsBatch, Statuses.asked_status, Statuses.bad_handle, Statuses.found_status, Statuses.no_such_cpu}
-use Rattle.dspec_c.specs.{Statuses.returned_status, Words.Outside.Batch, Words.Outside.Asked, Words.Outside.Awaited, Words.Outside.FoundNone, Words.Outside.GaveBack, Words.Outside.IsNotTakenBack}
+use Rattle.std.specs.Prelude.{ℕ, ◌≡◌, ◌<◌, ◌≤◌, ◌⊎◌, Bool, Option, Some, None, MatchBool, MatchOption, slice_get, slice_set, ⊤}
+use Rattle.dspec_c.specs.{Answered.Answered, ConsumerHomes.Theirs, Shows.TellsBatch, Statuses.asked_status, Statuses.bad_handle, Statuses.no_such_cpu, Statuses.already_out, Statuses.busy}
+use Rattle.dspec_c.specs.{Statuses.no_batch, Words.Outside.Batch, Words.Outside.Asked, Words.Outside.Awaited, Words.Outside.FoundNone, Words.Outside.GaveBack, Words.Outside.IsNotTakenBack}
 use Rattle.dspec_c.specs.{Words.Outside.Took, Words.Outside.Cleaned, Words.Outside.Consuming, Words.Outside.set_up_of, Words.Outside.view_of, Words.Outside.Stopped, declared.batches.CBatch.CBatch}
-use Rattle.dspec_c.specs.{declared.consumer_side.ConsumerSide.ConsumerSide, declared.consumer_side.GiveBackOutcome.GiveBackOutcome, declared.consumer_side.TakeOutcome.TakeOutcome}
-use Rattle.dspec_c.specs.{declared.held.HandleValue.HandleValue}
-use Rattle.dspec_c.specs.declared.consumer_side.TakeOutcome.TheVariants as found
-use Rattle.dspec_c.specs.declared.consumer_side.GiveBackOutcome.TheVariants as returned
+use Rattle.dspec_c.specs.{declared.consumer_side.ConsumerSide.ConsumerSide, declared.held.HandleValue.HandleValue}
 use Rattle.dspec_c.specs.declared.held.HandleValue.TheVariants as held
 
 -- `Consumer::ask`
@@ -41,20 +38,21 @@ IsOutOf c b side = slice_get side.taken.items c ≡ Some (Some b)
 abbrev pub NoneIsOutOf : ℕ → ConsumerSide → Type 0
 NoneIsOutOf c side = slice_get side.taken.items c ≡ Some None
 
--- what a take found, and what it told of a batch: one at a time of a CPU is out
-abbrev pub Finds : ℕ → TakeOutcome → CBatch → CBatch → ConsumerSide → ConsumerSide → Type 0
-Finds c found.NoCpu before told old new = ((set_up_of old.out.consumer).cpus ≤ c) × (told ≡ before) × (new ≡ old)
-Finds c found.IsOut before told old new = ((b : Batch) × IsOutOf c b old) × (told ≡ before) × (new ≡ old)
-Finds c found.NoBatch before told old new = NoneIsOutOf c old × (told ≡ before) × OnOut (FoundNone c) old new
-Finds c found.Taken before told old new =
-    (b : Batch) × NoneIsOutOf c old × TellsBatch told b × OnTheirs (Took c b) old.out new.out × (new.taken.items ≡ slice_set old.taken.items c (Some b))
+-- what a take found, and what it told of a batch: there is no such CPU; one is out, of which there is one at a time; there is none; or it is out from then on
+abbrev pub Finds : ℕ → ℕ → CBatch → CBatch → ConsumerSide → ConsumerSide → Type 0
+Finds c status before told old new =
+    ((status ≡ no_such_cpu) × ((set_up_of old.out.consumer).cpus ≤ c) × (told ≡ before) × (new ≡ old))
+    ⊎ (((status ≡ already_out) × ((b : Batch) × IsOutOf c b old) × (told ≡ before) × (new ≡ old))
+    ⊎ (((status ≡ no_batch) × NoneIsOutOf c old × (told ≡ before) × OnOut (FoundNone c) old new)
+    ⊎ ((status ≡ 0) × ((b : Batch) × NoneIsOutOf c old × TellsBatch told b × OnTheirs (Took c b) old.out new.out × (new.taken.items ≡ slice_set old.taken.items c (Some b))))))
 
--- what became of a batch that was to go back
-abbrev pub Returns : ℕ → GiveBackOutcome → ConsumerSide → ConsumerSide → Type 0
-Returns c returned.NoCpu old new = ((set_up_of old.out.consumer).cpus ≤ c) × (new ≡ old)
-Returns c returned.NoneOut old new = NoneIsOutOf c old × (new.out ≡ old.out) × (new.taken.items ≡ old.taken.items)
-Returns c returned.NoRoom old new = (b : Batch) × IsOutOf c b old × OnOut (IsNotTakenBack b) old new
-Returns c returned.Back old new = (b : Batch) × IsOutOf c b old × OnTheirs (GaveBack b) old.out new.out × (new.taken.items ≡ slice_set old.taken.items c None)
+-- what became of a batch that was to go back: there is no such CPU; none of it is out; there is no room on the way back, and it stays out; or it went back
+abbrev pub Returns : ℕ → ℕ → ConsumerSide → ConsumerSide → Type 0
+Returns c status old new =
+    ((status ≡ no_such_cpu) × ((set_up_of old.out.consumer).cpus ≤ c) × (new ≡ old))
+    ⊎ (((status ≡ no_batch) × NoneIsOutOf c old × (new.out ≡ old.out) × (new.taken.items ≡ old.taken.items))
+    ⊎ (((status ≡ busy) × ((b : Batch) × IsOutOf c b old × OnOut (IsNotTakenBack b) old new))
+    ⊎ ((status ≡ 0) × ((b : Batch) × IsOutOf c b old × OnTheirs (GaveBack b) old.out new.out × (new.taken.items ≡ slice_set old.taken.items c None)))))
 
 -- A call of the consumer, on what a handle holds: where that is the consumer, it stays so, and this was done on it; else the status
 -- is BAD_HANDLE, what is held stays as it was, and so do the out parameters.
@@ -66,10 +64,10 @@ abbrev pub AskAnswers : ℕ → HandleValue → ℕ → HandleValue → Type 0
 AskAnswers c was status now = OnConsumer (λ old new. Answered asked_status (λ a. OnOut (Asks c a) old new) status) ⊤ was status now
 
 abbrev pub TakeAnswers : ℕ → HandleValue → ℕ → CBatch → CBatch → HandleValue → Type 0
-TakeAnswers c was status before told now = OnConsumer (λ old new. Answered found_status (λ a. Finds c a before told old new) status) (told ≡ before) was status now
+TakeAnswers c was status before told now = OnConsumer (Finds c status before told) (told ≡ before) was status now
 
 abbrev pub GiveBackAnswers : ℕ → HandleValue → ℕ → HandleValue → Type 0
-GiveBackAnswers c was status now = OnConsumer (λ old new. Answered returned_status (λ a. Returns c a old new) status) ⊤ was status now
+GiveBackAnswers c was status now = OnConsumer (Returns c status) ⊤ was status now
 
 abbrev pub CleanAnswers : HandleValue → ℕ → ℕ → ℕ → HandleValue → Type 0
 CleanAnswers was status before released now = OnConsumer (λ old new. (status ≡ 0) × OnOut (CleansSo released) old new) (released ≡ before) was status now

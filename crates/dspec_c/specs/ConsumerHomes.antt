@@ -1,5 +1,5 @@
 -- Cited by calls. How the consumer comes home, as a CPU does.
-use Rattle.std.specs.Prelude.{◌≡◌, true, List, [], ◌∷◌, Option, Some, IfSome, IfNone, ⊤}
+use Rattle.std.specs.Prelude.{◌≡◌, true, Option, Some}
 use Rattle.dspec_c.specs.{Homes.Stay, Homes.handed_out, Words.Outside.Shared, Words.Outside.words_of, Words.Outside.Consuming, Words.Outside.IsConsumerOf, Words.Outside.IsSameConsumer}
 
 -- a consumer, and what it shares
@@ -15,25 +15,12 @@ pub record IsSameTheirs (old new : Theirs) : Type 0 where
   pub shared : new.shared ≡ old.shared
   pub consumer : IsSameConsumer old.consumer new.consumer
 
-abbrev pub AreSameTheirs : List Theirs → Theirs → Type 0
-AreSameTheirs [] x = ⊤
-AreSameTheirs (y ∷ ys) x = IsSameTheirs y x × AreSameTheirs ys x
-
-pub record IsOutTheirs (sent : List Theirs) (side : Theirs) : Type 0 where
-  pub first : Theirs
-  pub was : sent ≡ first ∷ []
-  pub same : IsSameTheirs first side
-
-pub record HasGoneTheirs (side : Theirs) (sent : List Theirs) : Type 0 where
-  pub first : Theirs
-  pub went : sent ≡ first ∷ side ∷ []
-
 abbrev pub TheirStay : Type 0
 TheirStay = Stay Theirs Consuming
 
-pub record IsDeskTheirs (first : Theirs) (received : List Theirs) (inside : Option Consuming) : Type 0 where
-  pub out : IfNone inside (received ≡ first ∷ [])
-  pub same : IfSome inside (λ (x : Consuming). IsSameConsumer first.consumer x × IsConsumerOf (words_of first.shared) x)
+-- the consumer that is inside is the same as this
+abbrev pub AreHomeOf : Theirs → Consuming → Type 0
+AreHomeOf first x = IsSameConsumer first.consumer x × IsConsumerOf (words_of first.shared) x
 
 -- the consumer leaves its place with what it shares
 pub record LeaveTheirs (shared : Shared) (old : TheirStay) (side : Theirs) (new : TheirStay) : Type 0 where

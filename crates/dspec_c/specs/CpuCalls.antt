@@ -128,6 +128,9 @@ abbrev pub CommitIfRoomTold : ℕ → ℕ → ℕ → ℕ → CpuSide → CpuSid
 CommitIfRoomTold number status before count old new =
     (id : Speculation) × IsNumberOf number id × AnsweredWith committed_status committed_number (λ a. OnSide false (CommittedIfRoom id a) old new) status before count
 
+abbrev pub served_so : Bool → ℕ → Served
+served_so sealed settled = record { sealed = sealed; settled = settled }
+
 abbrev pub ServiceTold : ℕ → Served → CpuSide → CpuSide → Type 0
 ServiceTold status told old new = (status ≡ 0) × OnSide false (ServicedSo told) old new
 
@@ -139,42 +142,3 @@ DroppedInTold number status count old new = (status ≡ 0) × (new ≡ old) × (
 
 abbrev pub OpenAtTold : ℕ → ℕ → ℕ → CpuSide → CpuSide → Type 0
 OpenAtTold slot status id old new = (status ≡ 0) × (new ≡ old) × ((a : Option Speculation) × OpensAt slot old.cpu a × (id ≡ id_or_zero a))
-
-abbrev pub TraceAnswers : ℕ → ℕ → List ℕ → HandleValue → ℕ → HandleValue → Type 0
-TraceAnswers epid stamp values was status now = OnCpu (TraceTold epid stamp values status) ⊤ was status now
-
-abbrev pub PutAnswers : ℕ → ℕ → List ℕ → HandleValue → ℕ → HandleValue → Type 0
-PutAnswers claim stamp ws was status now = OnCpu (PutTold claim stamp ws status) ⊤ was status now
-
-abbrev pub SpeculationAnswers : HandleValue → ℕ → ℕ → ℕ → HandleValue → Type 0
-SpeculationAnswers was status before id now = OnCpu (OpeningTold status before id) (id ≡ before) was status now
-
-abbrev pub SpeculateAnswers : ℕ → ℕ → ℕ → List ℕ → HandleValue → ℕ → HandleValue → Type 0
-SpeculateAnswers number epid stamp values was status now = OnCpu (SpeculateTold number epid stamp values status) ⊤ was status now
-
-abbrev pub PutInAnswers : ℕ → ℕ → ℕ → List ℕ → HandleValue → ℕ → HandleValue → Type 0
-PutInAnswers number claim stamp ws was status now = OnCpu (PutInTold number claim stamp ws status) ⊤ was status now
-
-abbrev pub DecideAnswers : By → ℕ → HandleValue → ℕ → ℕ → ℕ → HandleValue → Type 0
-DecideAnswers b number was status before count now = OnCpu (DecideTold b number status before count) (count ≡ before) was status now
-
-abbrev pub CommitAnswers : ℕ → HandleValue → ℕ → ℕ → ℕ → HandleValue → Type 0
-CommitAnswers = DecideAnswers commit
-
-abbrev pub DiscardAnswers : ℕ → HandleValue → ℕ → ℕ → ℕ → HandleValue → Type 0
-DiscardAnswers = DecideAnswers discard
-
-abbrev pub CommitIfRoomAnswers : ℕ → HandleValue → ℕ → ℕ → ℕ → HandleValue → Type 0
-CommitIfRoomAnswers number was status before count now = OnCpu (CommitIfRoomTold number status before count) (count ≡ before) was status now
-
-abbrev pub ServiceAnswers : HandleValue → ℕ → Served → Served → HandleValue → Type 0
-ServiceAnswers was status before told now = OnCpu (ServiceTold status told) (told ≡ before) was status now
-
-abbrev pub ReportAnswers : HandleValue → ℕ → CReport → CReport → HandleValue → Type 0
-ReportAnswers was status before told now = OnCpu (ReportTold status told) (told ≡ before) was status now
-
-abbrev pub DroppedInAnswers : ℕ → HandleValue → ℕ → ℕ → ℕ → HandleValue → Type 0
-DroppedInAnswers number was status before count now = OnCpu (DroppedInTold number status count) (count ≡ before) was status now
-
-abbrev pub OpenAtAnswers : ℕ → HandleValue → ℕ → ℕ → ℕ → HandleValue → Type 0
-OpenAtAnswers slot was status before id now = OnCpu (OpenAtTold slot status id) (id ≡ before) was status now

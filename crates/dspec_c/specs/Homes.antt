@@ -25,20 +25,21 @@ pub record IsSameSide (old new : CpuSide) : Type 0 where
   pub shared : new.shared ≡ old.shared
   pub cpu : identity new.cpu ≡ identity old.cpu
 
--- it is the same as each that went through the ring before
-abbrev pub IsSameAsAll : List CpuSide → CpuSide → Type 0
-IsSameAsAll [] x = ⊤
-IsSameAsAll (y ∷ ys) x = IsSameSide y x × IsSameAsAll ys x
+module _ {A : Type 0} (Same : A → A → Type 0) where
+  -- it is the same as each that went through the ring before
+  abbrev pub IsSameAsAll : List A → A → Type 0
+  IsSameAsAll [] x = ⊤
+  IsSameAsAll (y ∷ ys) x = Same y x × IsSameAsAll ys x
 
--- The CPU is out: what went through its ring when it was made is the same CPU of the same session.
-pub record IsOut (sent : List CpuSide) (side : CpuSide) : Type 0 where
-  pub first : CpuSide
-  pub was : sent ≡ first ∷ []
-  pub same : IsSameSide first side
+  -- It is out: what went through its ring when it was made is the same.
+  pub record IsOut (sent : List A) (side : A) : Type 0 where
+    pub first : A
+    pub was : sent ≡ first ∷ []
+    pub same : Same first side
 
--- The CPU has gone home: it went through its ring as it was held, behind what went through when it was made.
-pub record HasGone (side : CpuSide) (sent : List CpuSide) : Type 0 where
-  pub first : CpuSide
+-- It has gone home: it went through its ring as it was held, behind what went through when it was made.
+pub record HasGone {A : Type 0} (side : A) (sent : List A) : Type 0 where
+  pub first : A
   pub went : sent ≡ first ∷ side ∷ []
 
 -- What contracts see of a place where a CPU, or the consumer, is at home: whose place it is, what is inside, and whether that was never
@@ -68,10 +69,14 @@ pub record IsUnused {A B : Type 0} (first : A) (received sent : List A) (free : 
   pub room : 0 < free
   pub is : IsSome inside
 
--- The CPU that is inside is the same as the first; while none is, the ring has given that one alone.
-pub record IsDesk (first : CpuSide) (received : List CpuSide) (inside : Option AtHome) : Type 0 where
+-- What is inside is the same as the first; while nothing is, the ring has given that one alone.
+pub record IsDesk {A B : Type 0} (Home : A → B → Type 0) (first : A) (received : List A) (inside : Option B) : Type 0 where
   pub out : IfNone inside (received ≡ first ∷ [])
-  pub same : IfSome inside (λ (x : AtHome). identity x.cpu ≡ identity first.cpu)
+  pub same : IfSome inside (Home first)
+
+-- the CPU that is inside is the same as this
+abbrev pub IsAtHomeOf : CpuSide → AtHome → Type 0
+IsAtHomeOf first x = identity x.cpu ≡ identity first.cpu
 
 -- A CPU leaves its place, where it was inside, with what it shares. The place stays that CPU's, and nothing is inside.
 pub record LeavesPlace (shared : Shared) (old : CpuStay) (side : CpuSide) (new : CpuStay) : Type 0 where

@@ -5,7 +5,6 @@ pub mod Configs
 pub mod ConsumerCalls
 pub mod ConsumerHomes
 pub mod CpuCalls
-pub mod Puts
 pub mod CtfCalls
 pub mod CtfStatuses
 pub mod Handles

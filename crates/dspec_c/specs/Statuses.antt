@@ -1,14 +1,11 @@
 -- Cited by calls. The numbers of the statuses, by what the library answered, and what goes out beside them.
 use Rattle.std.specs.Prelude.{ℕ, Bool, true, false, Option, Some, None}
 use Rattle.dspec_c.specs.Words.Outside.{Decided, Opening, Spoken, Traced, StartFault, Speculation, id_number}
-use Rattle.dspec_c.specs.declared.consumer_side.{GiveBackOutcome.GiveBackOutcome, TakeOutcome.TakeOutcome}
 use Rattle.dspec_deeds.specs.declared.calls.Decided.TheVariants as decided
 use Rattle.dspec_deeds.specs.declared.calls.Opening.TheVariants as opening
 use Rattle.dspec_deeds.specs.declared.calls.Spoken.TheVariants as spoken
 use Rattle.dspec_deeds.specs.declared.calls.Traced.TheVariants as traced
 use Rattle.dspec_deeds.specs.declared.config.StartFault.TheVariants as start
-use Rattle.dspec_c.specs.declared.consumer_side.TakeOutcome.TheVariants as found
-use Rattle.dspec_c.specs.declared.consumer_side.GiveBackOutcome.TheVariants as returned
 
 -- the numbers that aren't a library's answer's: memory was refused; there is no such policy; the handle is empty, or holds another
 -- kind; it is full; there is no such CPU; a part isn't home; there is no batch; it was
@@ -104,15 +101,3 @@ id_or_zero (Some id) = id_number id
 abbrev pub asked_status : Bool → ℕ
 asked_status true = 0
 asked_status false = 19
-
-abbrev pub found_status : TakeOutcome → ℕ
-found_status found.Taken = 0
-found_status found.NoCpu = 19
-found_status found.NoBatch = 21
-found_status found.IsOut = 22
-
-abbrev pub returned_status : GiveBackOutcome → ℕ
-returned_status returned.Back = 0
-returned_status returned.NoCpu = 19
-returned_status returned.NoneOut = 21
-returned_status returned.NoRoom = 37

@@ -1,6 +1,7 @@
 -- Cited by calls. What a session between its start and its end keeps of its parts.
-use Rattle.std.specs.Option.{option_map, option_map_or}
-use Rattle.std.specs.Prelude.{ℕ, ◌≡◌, ◌⊎◌, Bool, true, false, List, [], ◌∷◌, Option, Some, None, IsSome, IsSomeAnd, MatchBool, ⊤, suc, is_some, length, map, nat_lt, slice_get, slice_set}
+use Rattle.std.specs.{Option.option_map, Option.option_map_or, Prelude.ℕ, Prelude.◌≡◌, Prelude.◌≤◌, Prelude.◌+◌, Prelude.◌⊎◌, Prelude.Bool, Prelude.true, Prelude.false, Prelude.List, Prelude.[]}
+use Rattle.std.specs.{Prelude.◌∷◌, Prelude.Option, Prelude.Some, Prelude.None, Prelude.IsSome, Prelude.IsSomeAnd, Prelude.MatchBool, Prelude.⊤, Prelude.suc, Prelude.is_some, Prelude.length}
+use Rattle.std.specs.{Prelude.map, Prelude.nat_lt, Prelude.slice_get, Prelude.slice_set, Prelude.vec_capacity, Prelude.vec_len, declared.vec.Vec.Vec}
 use Rattle.dspec_c.specs.ConsumerHomes.{LeaveTheirs, TheirStay, Theirs}
 use Rattle.dspec_c.specs.Homes.{AtHome, Came, CpuStay, LeavesPlace, CpuSide, at_home, handed_out}
 use Rattle.dspec_c.specs.Words.Outside.{Config, start_fault, EnabledRows, enabled, table_accepts, table_shape, table_text, Pair, last_seat, set_up, number_in, schema_of, words_of, IsCallable}
@@ -42,6 +43,13 @@ pub record IsWhole (shared : Shared) (cpus : ℕ) (places : List (Option CpuSide
   pub shares : first.shared ≡ shared
   pub count : cpus ≡ (set_up (words_of shared)).cpus
   pub ending : IsEnding shared schema places first.consumer
+
+-- two vectors are empty, with room for so many
+pub record HasRooms {A B Z : Type 0} (n : ℕ) (room : Vec A Z) (counts : Vec B Z) : Type 0 where
+  pub empty : room.items ≡ []
+  pub fits : n + vec_len room ≤ vec_capacity room
+  pub none : counts.items ≡ []
+  pub counts_fit : n + vec_len counts ≤ vec_capacity counts
 
 -- how a CPU, and the consumer, begin: at their places, to be handed out; no record was refused
 abbrev pub new_side : Shared → Cpu EnabledRows → CpuSide

@@ -6,7 +6,7 @@ ghost use Rattle.dspec_c.specs.{Handles.is_full, SessionCalls.is_consumer_in, Se
 
 use crate::handle::Handle;
 use crate::held::HandleValue;
-use crate::home_calls::{dspec_consumer_home, dspec_cpu_home, is_consumer, is_cpu};
+use crate::home_calls::{dspec_consumer_home, dspec_cpu_home};
 use crate::session_calls::dspec_finish;
 use crate::statuses::{BAD_HANDLE, FULL_HANDLE};
 use std::alloc::Global;
@@ -15,6 +15,18 @@ fn is_session(held: &HandleValue) -> bool
     ensures { result ≡ is_session_in held.now }
 {
     matches!(held, HandleValue::Session(_))
+}
+
+fn is_consumer(held: &HandleValue) -> bool
+    ensures { result ≡ is_consumer_in held.now }
+{
+    matches!(held, HandleValue::Consumer(_))
+}
+
+fn is_cpu(held: &HandleValue) -> bool
+    ensures { result ≡ is_cpu_in held.now }
+{
+    matches!(held, HandleValue::Cpu(_))
 }
 
 fn has_session(session: &mut Handle) -> bool

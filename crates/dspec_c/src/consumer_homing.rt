@@ -30,9 +30,9 @@ impl Model for ConsumerHoming {
 pub struct ConsumerRule;
 
 impl Protocol<ConsumerHoming> for ConsumerRule {
-    ghost use Rattle.dspec_c.specs.ConsumerHomes.{AreSameTheirs};
+    ghost use Rattle.dspec_c.specs.{ConsumerHomes.IsSameTheirs, Homes.IsSameAsAll};
 
-    ghost allows = { AreSameTheirs };
+    ghost allows = { IsSameAsAll IsSameTheirs };
 }
 
 impl ConsumerHoming {

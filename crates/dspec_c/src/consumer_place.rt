@@ -1,5 +1,5 @@
-use crate::consumer_desk::open;
 use crate::consumer_homing::{ConsumerHoming, ConsumerRule};
+use crate::desk::open;
 use crate::out_consumer::OutConsumer;
 use dspec_cpu::Shared;
 use rtrb::Producer;
@@ -19,13 +19,13 @@ pub struct ConsumerPlace {
 impl Model for ConsumerPlace {
     ghost use Rattle.std.specs.Prelude.{◌≡◌, is_some, slice_get, IfSome, Some};
     ghost use Rattle.rtrb.specs.Ring.{known_free, received, sent};
-    ghost use Rattle.dspec_c.specs.{ConsumerHomes.IsDeskTheirs, ConsumerHomes.TheirStay, ConsumerHomes.Theirs, Homes.IsUnused};
+    ghost use Rattle.dspec_c.specs.{ConsumerHomes.AreHomeOf, ConsumerHomes.TheirStay, ConsumerHomes.Theirs, Homes.IsDesk, Homes.IsUnused};
 
     ghost Value = { TheirStay };
 
     ghost view = { λ d. record { first = slice_get (received d.desk) 0; inside = d.back; waits = is_some d.way } };
 
-    ghost invariant = { λ d. (first : Theirs) × (slice_get (received d.desk) 0 ≡ Some first) × IsDeskTheirs first (received d.desk) d.back × IfSome d.way (λ w. IsUnused first (received d.desk) (sent w) (known_free w) d.back) };
+    ghost invariant = { λ d. (first : Theirs) × (slice_get (received d.desk) 0 ≡ Some first) × IsDesk AreHomeOf first (received d.desk) d.back × IfSome d.way (λ w. IsUnused first (received d.desk) (sent w) (known_free w) d.back) };
 }
 
 impl ConsumerPlace {

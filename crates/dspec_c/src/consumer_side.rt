@@ -4,35 +4,10 @@ ghost use Rattle.dspec_session_core.specs.Consumers.{set_up_of};
 use crate::batches::CBatch;
 use crate::consumer_homing::{ConsumerHoming, ConsumerRule};
 use crate::out_consumer::OutConsumer;
+use crate::statuses::{BUSY, NO_BATCH, NO_SUCH_CPU, OK, OUT};
 use dspec_ring::Batch;
 use rtrb::Producer;
 use std::alloc::{AllocError, Global};
-
-/// What a take found.
-#[derive(Clone, Copy)]
-pub enum TakeOutcome {
-    /// There is no such CPU.
-    NoCpu,
-    /// The batch before wasn't given back.
-    IsOut,
-    /// No batch has come.
-    NoBatch,
-    /// A batch, which is out now.
-    Taken,
-}
-
-/// What became of a batch that was to go back.
-#[derive(Clone, Copy)]
-pub enum GiveBackOutcome {
-    /// There is no such CPU.
-    NoCpu,
-    /// None of the CPU is out.
-    NoneOut,
-    /// There is no room on the way back, and the batch stays out.
-    NoRoom,
-    /// It went back.
-    Back,
-}
 
 /// The consumer that was handed out, and the batch of each CPU that it took and has not given back.
 pub struct ConsumerSide {
@@ -45,7 +20,7 @@ impl ConsumerSide {
     ghost use Rattle.std.specs.Prelude.{◌≡◌, length};
     ghost use Rattle.dspec_session_core.specs.Consumers.{set_up_of};
     ghost use Rattle.rtrb.specs.Ring.{sent};
-    ghost use Rattle.dspec_c.specs.{ConsumerCalls.Finds, ConsumerCalls.Returns, ConsumerHomes.HasGoneTheirs};
+    ghost use Rattle.dspec_c.specs.{ConsumerCalls.Finds, ConsumerCalls.Returns, Homes.HasGone};
 
     pub fn new(out: OutConsumer, taken: Vec<Option<Batch>>) -> ConsumerSide
         requires { length taken.items ≡ (set_up_of out.consumer).cpus }
@@ -56,47 +31,47 @@ impl ConsumerSide {
     }
 
     /// Takes the next batch of a CPU, one at a time, and tells of it. Its bytes stay where they are until it goes back.
-    pub fn take(&mut self, cpu: u32, told: &mut CBatch) -> TakeOutcome
+    pub fn take(&mut self, cpu: u32, told: &mut CBatch) -> u32
         ensures { Finds cpu result told.old told.new self.old self.new }
     {
         let place = cpu as usize;
         if place >= self.taken.len() {
-            return TakeOutcome::NoCpu;
+            return NO_SUCH_CPU;
         }
         if self.taken[place].is_some() {
-            return TakeOutcome::IsOut;
+            return OUT;
         }
         let Some(batch) = self.out.take(cpu) else {
-            return TakeOutcome::NoBatch;
+            return NO_BATCH;
         };
         *told = CBatch::of(&batch, batch.buffer.bytes());
         self.taken[place] = Some(batch);
-        TakeOutcome::Taken
+        OK
     }
 
     /// Gives the batch that is out back.
-    pub fn give_back(&mut self, cpu: u32) -> GiveBackOutcome
+    pub fn give_back(&mut self, cpu: u32) -> u32
         ensures { Returns cpu result self.old self.new }
     {
         let place = cpu as usize;
         if place >= self.taken.len() {
-            return GiveBackOutcome::NoCpu;
+            return NO_SUCH_CPU;
         }
         let Some(batch) = self.taken[place].take() else {
-            return GiveBackOutcome::NoneOut;
+            return NO_BATCH;
         };
         match self.out.give_back(batch) {
-            Ok(()) => GiveBackOutcome::Back,
+            Ok(()) => OK,
             Err(batch) => {
                 self.taken[place] = Some(batch);
-                GiveBackOutcome::NoRoom
+                BUSY
             }
         }
     }
 
     /// Sends the consumer home, by the way that it gives back; the batches that are out are let go.
     pub fn go_home(self) -> Producer<ConsumerHoming, Global, ConsumerRule>
-        ensures { HasGoneTheirs self.out (sent result) }
+        ensures { HasGone self.out (sent result) }
     {
         let ConsumerSide { out, taken: _ } = self;
         out.go_home()

@@ -1,4 +1,4 @@
-use crate::cpu_desk::{open, pass, ring};
+use crate::desk::{open, pass, ring};
 use crate::home_cpu::HomeCpu;
 use crate::homing::{Homing, HomingProtocol};
 use crate::out_cpu::OutCpu;
@@ -21,13 +21,13 @@ pub struct CpuPlace {
 impl Model for CpuPlace {
     ghost use Rattle.std.specs.Prelude.{◌≡◌, is_some, slice_get, IfSome, Some};
     ghost use Rattle.rtrb.specs.Ring.{known_free, received, sent};
-    ghost use Rattle.dspec_c.specs.Homes.{CpuStay, IsDesk, IsUnused, CpuSide};
+    ghost use Rattle.dspec_c.specs.Homes.{CpuStay, IsDesk, IsAtHomeOf, IsUnused, CpuSide};
 
     ghost Value = { CpuStay };
 
     ghost view = { λ d. record { first = slice_get (received d.desk) 0; inside = d.inside; waits = is_some d.way } };
 
-    ghost invariant = { λ d. (first : CpuSide) × (slice_get (received d.desk) 0 ≡ Some first) × IsDesk first (received d.desk) d.inside × IfSome d.way (λ w. IsUnused first (received d.desk) (sent w) (known_free w) d.inside) };
+    ghost invariant = { λ d. (first : CpuSide) × (slice_get (received d.desk) 0 ≡ Some first) × IsDesk IsAtHomeOf first (received d.desk) d.inside × IfSome d.way (λ w. IsUnused first (received d.desk) (sent w) (known_free w) d.inside) };
 }
 
 impl CpuPlace {
@@ -140,7 +140,7 @@ impl CpuPlace {
         ensures { result ≡ refused_inside self.now }
     {
         match &self.inside {
-            Some(cpu) => cpu.refused(),
+            Some(cpu) => cpu.refused,
             None => 0,
         }
     }

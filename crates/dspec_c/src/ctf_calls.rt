@@ -7,7 +7,7 @@ ghost use Rattle.dspec_c.specs.Handles.{held_in, is_full};
 
 use crate::boxed::Boxed;
 use crate::ctf_statuses::{NO_PACKET, NO_STAMP, needed_of, of_packet, of_put, of_text, text_size};
-use crate::handle::{Handle, HandleBox};
+use crate::handle::{Handle, HandleBox, lent};
 use crate::held::HandleValue;
 use crate::schema_calls::schema_in;
 use crate::statuses::{BAD_HANDLE, FULL_HANDLE, NO_MEMORY, NO_SUCH_CPU, OK};
@@ -108,13 +108,7 @@ pub extern "C" fn dspec_ctf_reserve(files: &mut Handle, size: usize) -> u32
     ensures answers { CtfReserveAnswers size (held_in files.old) result (held_in files.new) }
     ensures stays { is_full files.new ≡ is_full files.old }
 {
-    if !files.is_held() {
-        return BAD_HANDLE;
-    }
-    let Some(files) = files.lend().files() else {
-        return BAD_HANDLE;
-    };
-    reserve(files, size)
+    lent!(files as Files(boxed), BAD_HANDLE => reserve(boxed.lend(), size))
 }
 
 fn open(files: &mut CpuPackets, cpu: u32, drops: u64, bytes: &[u8]) -> u32
@@ -135,13 +129,7 @@ pub extern "C" fn dspec_ctf_open(files: &mut Handle, cpu: u32, drops: u64, bytes
     ensures answers { CtfOpenAnswers cpu drops bytes.now (held_in files.old) result (held_in files.new) }
     ensures stays { is_full files.new ≡ is_full files.old }
 {
-    if !files.is_held() {
-        return BAD_HANDLE;
-    }
-    let Some(files) = files.lend().files() else {
-        return BAD_HANDLE;
-    };
-    open(files, cpu, drops, bytes)
+    lent!(files as Files(boxed), BAD_HANDLE => open(boxed.lend(), cpu, drops, bytes))
 }
 
 fn put(files: &mut CpuPackets, room: &mut [u8], packet: &mut Packet) -> u32
@@ -168,13 +156,7 @@ pub extern "C" fn dspec_ctf_put(files: &mut Handle, room: &mut [u8], packet: &mu
         (packet_room room.old packet.old) (packet_room room.new packet.new) (held_in files.new) }
     ensures stays { is_full files.new ≡ is_full files.old }
 {
-    if !files.is_held() {
-        return BAD_HANDLE;
-    }
-    let Some(files) = files.lend().files() else {
-        return BAD_HANDLE;
-    };
-    put(files, room, packet)
+    lent!(files as Files(boxed), BAD_HANDLE => put(boxed.lend(), room, packet))
 }
 
 /// Says that the packet that was handed out last wasn't written, and that the rest of the batch won't be.
@@ -183,14 +165,10 @@ pub extern "C" fn dspec_ctf_lose(files: &mut Handle, records: &mut u64) -> u32
     ensures answers { CtfLoseAnswers (held_in files.old) result records.old records.new (held_in files.new) }
     ensures stays { is_full files.new ≡ is_full files.old }
 {
-    if !files.is_held() {
-        return BAD_HANDLE;
-    }
-    let Some(files) = files.lend().files() else {
-        return BAD_HANDLE;
-    };
-    *records = files.lose();
-    OK
+    lent!(files as Files(boxed), BAD_HANDLE => {
+        *records = boxed.lend().lose();
+        OK
+    })
 }
 
 /// Counts events that the CPU missed for another reason.
@@ -199,12 +177,8 @@ pub extern "C" fn dspec_ctf_miss(files: &mut Handle, count: u64) -> u32
     ensures answers { CtfMissAnswers count (held_in files.old) result (held_in files.new) }
     ensures stays { is_full files.new ≡ is_full files.old }
 {
-    if !files.is_held() {
-        return BAD_HANDLE;
-    }
-    let Some(files) = files.lend().files() else {
-        return BAD_HANDLE;
-    };
-    files.miss(count);
-    OK
+    lent!(files as Files(boxed), BAD_HANDLE => {
+        boxed.lend().miss(count);
+        OK
+    })
 }

@@ -1,13 +1,14 @@
 ghost use Rattle.std.specs.Arc.{arc_value};
-ghost use Rattle.std.specs.Prelude.{◌≡◌, ◌≤◌, ◌<◌, ◌+◌, ◌∷◌, [], ℕ, List, MatchBool, length, map, slice_get, vec_capacity, vec_len, IfOk, IsSome, OnErr, Some, true};
+ghost use Rattle.std.specs.Prelude.{◌≡◌, ◌<◌, ℕ, List, MatchBool, length, map, slice_get, IfOk, IsSome, OnErr, Some, true};
 ghost use Rattle.dspec_cpu.specs.declared.shared.Shared.{Shared};
 ghost use Rattle.dspec_record.specs.EnablingRows.{EnabledRows};
 ghost use Rattle.dspec_ring.specs.Known.{Pair};
 ghost use Rattle.dspec_c.specs.Homes.{CpuStay, IsPlaceWith};
-ghost use Rattle.dspec_c.specs.Whole.{AllInside, AreCame, EachFrom, IsCpuAt, IsPlaceOf, LeavesOne, LooksAt, OneOutside, cpu_inside, firsts, inside_at, insides, refusals};
+ghost use Rattle.dspec_c.specs.Whole.{AllInside, AreCame, EachFrom, HasRooms, IsCpuAt, IsPlaceOf, LeavesOne, LooksAt, OneOutside, cpu_inside, firsts, inside_at, insides, refusals};
 
 use crate::cpu_place::CpuPlace;
 use crate::out_cpu::OutCpu;
+use crate::places::take_first;
 use dspec_cpu::{Cpu, Shared};
 use dspec_record::Enablings;
 use std::alloc::{AllocError, Global};
@@ -50,13 +51,6 @@ pub fn all_home(places: &mut Vec<CpuPlace>) -> bool
     true
 }
 
-fn next_place(places: &mut Vec<CpuPlace>) -> CpuPlace
-    requires { 0 < length places.old.items }
-    ensures cons { places.old.items ≡ result ∷ places.new.items }
-{
-    places.remove(0)
-}
-
 fn cpu_of(place: CpuPlace) -> Cpu<Enablings>
     requires { IsSome place.inside }
     ensures is { cpu_inside place ≡ Some result }
@@ -65,32 +59,24 @@ fn cpu_of(place: CpuPlace) -> Cpu<Enablings>
     place.into_home().into_cpu()
 }
 
-/// How many records each CPU refused, which are at their places, in order.
-pub fn count_refusals(places: &[CpuPlace], room: Vec<u64>) -> Vec<u64>
-    requires empty { room.items ≡ [] }
-    requires room { length places.now + vec_len room ≤ vec_capacity room }
-    ensures { result.items ≡ refusals places.now }
-{
-    let mut counts = room;
-    for at in 0..places.len() {
-        counts.push_reserved(places[at].refused());
-    }
-    counts
-}
-
-/// All CPUs, in order, which are at their places.
+/// All CPUs, in order, which are at their places, and how many records each of them refused.
 #[inline(never)]
-pub fn gather(places: Vec<CpuPlace>, room: Vec<Cpu<Enablings>>) -> Vec<Cpu<Enablings>>
+pub fn gather(
+    places: Vec<CpuPlace>,
+    room: Vec<Cpu<Enablings>>,
+    counts: Vec<u64>,
+) -> (Vec<Cpu<Enablings>>, Vec<u64>)
     requires inside { AllInside places.items }
-    requires empty { room.items ≡ [] }
-    requires room { length places.items + vec_len room ≤ vec_capacity room }
-    ensures home { (shared : Shared) (schema : EnabledRows) (pairs : List Pair) → EachFrom (IsPlaceOf shared schema pairs) 0 (firsts places.items) → EachFrom (IsCpuAt shared schema pairs) 0 result.items }
-    ensures all { map Some result.items ≡ insides places.items }
+    requires rooms { HasRooms (length places.items) room counts }
+    ensures home { (m : Shared) (e : EnabledRows) (ps : List Pair) → EachFrom (IsPlaceOf m e ps) 0 (firsts places.items) → EachFrom (IsCpuAt m e ps) 0 result.0.items }
+    ensures all { map Some result.0.items ≡ insides places.items }
+    ensures counted { result.1.items ≡ refusals places.items }
 {
-    let (mut places, mut cpus) = (places, room);
+    let (mut places, mut cpus, mut counts) = (places, room, counts);
     while !places.is_empty() {
-        let place = next_place(&mut places);
+        let place = take_first(&mut places);
+        counts.push_reserved(place.refused());
         cpus.push_reserved(cpu_of(place));
     }
-    cpus
+    (cpus, counts)
 }

@@ -5,6 +5,21 @@ use crate::seal::Seal;
 use std::alloc::{AllocError, Global};
 use std::mem;
 
+/// A call on what a handle has, where that is of this kind; else the export answers so.
+macro_rules! lent {
+    ($handle:ident as $kind:ident($held:ident), $none:expr => $call:expr) => {{
+        if !$handle.is_held() {
+            return $none;
+        }
+        match $handle.lend() {
+            HandleValue::$kind($held) => $call,
+            _ => $none,
+        }
+    }};
+}
+
+pub(crate) use lent;
+
 /// What is in a handle's box. Where that is let go, what was handed out goes home.
 pub struct HandleContents {
     held: HandleValue,

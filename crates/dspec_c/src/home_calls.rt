@@ -3,39 +3,28 @@
 ghost use Rattle.std.specs.Prelude.{◌≡◌, false};
 ghost use Rattle.dspec_c.specs.{Handles.held_in, Handles.is_full, SessionCalls.HomeAnswers, SessionCalls.is_consumer_in, SessionCalls.is_cpu_in};
 
-use crate::consumer_side::ConsumerSide;
 use crate::handle::Handle;
 use crate::held::HandleValue;
-use crate::out_cpu::OutCpu;
 use crate::statuses::{BAD_HANDLE, OK};
 use std::alloc::Global;
 
-pub fn is_cpu(held: &HandleValue) -> bool
-    ensures { result ≡ is_cpu_in held.now }
-{
-    matches!(held, HandleValue::Cpu(_))
-}
-
-pub fn is_consumer(held: &HandleValue) -> bool
-    ensures { result ≡ is_consumer_in held.now }
-{
-    matches!(held, HandleValue::Consumer(_))
-}
-
-// Sends the CPU home, and makes no other call of it.
-fn cpu_home(out: OutCpu) -> u32
-    ensures { result ≡ 0 }
-{
-    let _way = out.go_home();
-    OK
-}
-
-// Sends the consumer home, and makes no other call of it.
-fn consumer_home(side: ConsumerSide) -> u32
-    ensures { result ≡ 0 }
-{
-    let _way = side.go_home();
-    OK
+/// Sends home what a handle holds, where that is of this kind, and makes no other call of it; else the handle has what it had.
+macro_rules! home {
+    ($alloc:ident, $handle:ident as $kind:ident) => {{
+        let Some((held, room)) = $handle.take($alloc) else {
+            return BAD_HANDLE;
+        };
+        match held {
+            HandleValue::$kind(out) => {
+                drop(out.go_home());
+                OK
+            }
+            other => {
+                $handle.put(room, other);
+                BAD_HANDLE
+            }
+        }
+    }};
 }
 
 /// Gives a CPU back to its session.
@@ -43,16 +32,7 @@ fn consumer_home(side: ConsumerSide) -> u32
 pub extern "C" fn dspec_cpu_home(alloc: Global, cpu: &mut Handle) -> u32
     ensures { HomeAnswers (is_cpu_in (held_in cpu.old)) cpu.old result cpu.new }
 {
-    let Some((held, room)) = cpu.take(alloc) else {
-        return BAD_HANDLE;
-    };
-    match held {
-        HandleValue::Cpu(out) => cpu_home(out),
-        other => {
-            cpu.put(room, other);
-            BAD_HANDLE
-        }
-    }
+    home!(alloc, cpu as Cpu)
 }
 
 /// Gives the consumer back to its session.
@@ -60,16 +40,7 @@ pub extern "C" fn dspec_cpu_home(alloc: Global, cpu: &mut Handle) -> u32
 pub extern "C" fn dspec_consumer_home(alloc: Global, consumer: &mut Handle) -> u32
     ensures { HomeAnswers (is_consumer_in (held_in consumer.old)) consumer.old result consumer.new }
 {
-    let Some((held, room)) = consumer.take(alloc) else {
-        return BAD_HANDLE;
-    };
-    match held {
-        HandleValue::Consumer(side) => consumer_home(side),
-        other => {
-            consumer.put(room, other);
-            BAD_HANDLE
-        }
-    }
+    home!(alloc, consumer as Consumer)
 }
 
 /// Lets go what the handle holds, of which a CPU or the consumer goes home; an empty one stays empty.

@@ -5,8 +5,8 @@ use std::marker::Model;
 /// A CPU at home, and how many records it refused. It stays where it is in memory, and shares nothing with anybody.
 #[derive(Drop)]
 pub struct HomeCpu {
-    cpu: Box<Cpu<Enablings>>,
-    refused: u64,
+    pub(crate) cpu: Box<Cpu<Enablings>>,
+    pub(crate) refused: u64,
 }
 
 impl Model for HomeCpu {
@@ -22,19 +22,6 @@ impl HomeCpu {
     ghost use Rattle.dspec_cpu.specs.Standing.{IsCallable};
     ghost use Rattle.dspec_c.specs.Tending.{ServedAtHome};
 
-    pub fn of(cpu: Box<Cpu<Enablings>>, refused: u64) -> HomeCpu
-        ensures { result ≡ record { cpu = cpu.value; refused = refused } }
-    {
-        HomeCpu { cpu, refused }
-    }
-
-    /// How many records it refused.
-    pub fn refused(&self) -> u64
-        ensures { result ≡ self.now.refused }
-    {
-        self.refused
-    }
-
     /// Makes a service of it; how many speculations that settled.
     pub fn serve(&mut self, shared: &Shared) -> u32
         requires { IsCallable shared.now self.old.cpu }
@@ -43,16 +30,10 @@ impl HomeCpu {
         self.cpu.service(shared).settled
     }
 
-    pub fn into_box(self) -> Box<Cpu<Enablings>>
-        ensures { result.value ≡ self.cpu }
-    {
-        let HomeCpu { cpu, refused: _ } = self;
-        cpu
-    }
-
     pub fn into_cpu(self) -> Cpu<Enablings>
         ensures { result ≡ self.cpu }
     {
-        Box::into_inner(self.into_box())
+        let HomeCpu { cpu, refused: _ } = self;
+        Box::into_inner(cpu)
     }
 }

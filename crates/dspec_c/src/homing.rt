@@ -32,9 +32,9 @@ impl Model for Homing {
 pub struct HomingProtocol;
 
 impl Protocol<Homing> for HomingProtocol {
-    ghost use Rattle.dspec_c.specs.Homes.{IsSameAsAll};
+    ghost use Rattle.dspec_c.specs.Homes.{IsSameAsAll, IsSameSide};
 
-    ghost allows = { IsSameAsAll };
+    ghost allows = { IsSameAsAll IsSameSide };
 }
 
 impl Homing {
@@ -46,10 +46,10 @@ impl Homing {
         requires { IsCallable (arc_value shared) home.cpu }
         ensures { result ≡ cpu_side_of (arc_value shared) home.cpu home.refused }
     {
-        let refused = home.refused();
+        let HomeCpu { cpu, refused } = home;
         Homing {
             shared,
-            cpu: home.into_box(),
+            cpu,
             refused,
         }
     }
@@ -62,6 +62,6 @@ impl Homing {
             cpu,
             refused,
         } = self;
-        HomeCpu::of(cpu, refused)
+        HomeCpu { cpu, refused }
     }
 }

@@ -4,14 +4,14 @@
 //! | File | What is in it |
 //! |---|---|
 //! | `handle.rt`, `seal.rt`, `parts.rt`, `held.rt`, `boxed.rt` | a box in C's memory, which is lent for a call (the walks over raw pointers in `proofs/seal` and `proofs/parts`); room for what a handle can hold, which can't be let go but by going home where it was handed out; a schema, or the files of a CPU, in a box of its own |
-//! | `out_cpu.rt`, `homing.rt`, `cpu_desk.rt`, `cpu_place.rt` | a CPU that is out, with its calls and their statuses; how it goes out and comes home, again and again, each time by a ring of its own; `out_consumer.rt`, `consumer_homing.rt`, `consumer_desk.rt`, `consumer_place.rt`, `consumer_side.rt` the same of the consumer, with the batches that are out |
+//! | `out_cpu.rt`, `homing.rt`, `desk.rt`, `cpu_place.rt` | a CPU that is out, with its calls and their statuses; how it goes out and comes home, again and again, each time by a ring of its own; `out_consumer.rt`, `consumer_homing.rt`, `consumer_place.rt`, `consumer_side.rt` the same of the consumer, with the batches that are out |
 //! | `under_way.rt`, `places.rt`, `gather.rt`, `close.rt`, `ended.rt` | a session from its start to its end |
 //! | `tending.rt` | the services of CPUs that are at their places (`specs/Tending`) |
 //! | `closing.rt` | the end in one call (`specs/Closing`, `proofs/AllHome`) |
 //! | `statuses.rt`, `configs.rt`, `reports.rt`, `batches.rt` | what crosses |
 //! | `schema_calls.rt`, `session_calls.rt`, `cpu_calls.rt`, `put_calls.rt`, `consumer_calls.rt`, `home_calls.rt`, `rest_calls.rt` | the exports |
 //! | `ctf_calls.rt`, `ctf_statuses.rt` | the exports of a trace that C writes, and what they answer (`specs/CtfCalls`, `specs/CtfStatuses`) |
-//! | `recording.rt`, `word_counts.rt` | a record by a claim and the words of its text (`specs/Puts`: by a header that is known); how many words an export takes, as a type |
+//! | `recording.rt`, `word_counts.rt` | a record by a claim and the words of its text; how many words an export takes, as a type |
 //! | `specs/`: Homes, Statuses, Shows, Handles, Lending | that a call leaves the same CPU of the same session; which number an answer is, and what goes out; what C reads, field by field; which handles are full, and of what; what lending keeps |
 //! | `specs/`: Answered, CpuCalls, ConsumerCalls | what a status and an out parameter tell of an answer; what each call of a CPU and of the consumer did, by what its handle held before and after |
 //! | `specs/`: SessionCalls, Widths, Configs, ClosedCalls | the same of schemas, sessions and what is left; fields by their widths; a configuration in C's memory |
@@ -25,15 +25,14 @@ mod close;
 mod closing;
 mod configs;
 mod consumer_calls;
-mod consumer_desk;
 mod consumer_homing;
 mod consumer_place;
 mod consumer_side;
 mod cpu_calls;
-mod cpu_desk;
 mod cpu_place;
 mod ctf_calls;
 mod ctf_statuses;
+mod desk;
 mod ended;
 mod gather;
 mod handle;

@@ -20,27 +20,26 @@ impl Model for OutConsumer {
     ghost use Rattle.rtrb.specs.Ring.{known_free, sent};
     ghost use Rattle.dspec_cpu.specs.Lists.{words_of};
     ghost use Rattle.dspec_session_core.specs.Consumers.{IsConsumerOf};
-    ghost use Rattle.dspec_c.specs.ConsumerHomes.{IsOutTheirs, Theirs, theirs_of};
+    ghost use Rattle.dspec_c.specs.{ConsumerHomes.IsSameTheirs, ConsumerHomes.Theirs, ConsumerHomes.theirs_of, Homes.IsOut};
 
     ghost Value = { Theirs };
 
     ghost view = { λ s. theirs_of (arc_value s.shared) s.consumer };
 
-    ghost invariant = { λ s. IsConsumerOf (words_of (arc_value s.shared)) s.consumer × IsOutTheirs (sent s.way) (theirs_of (arc_value s.shared) s.consumer) × (0 < known_free s.way) };
+    ghost invariant = { λ s. IsConsumerOf (words_of (arc_value s.shared)) s.consumer × IsOut IsSameTheirs (sent s.way) (theirs_of (arc_value s.shared) s.consumer) × (0 < known_free s.way) };
 }
 
 impl OutConsumer {
     ghost use Rattle.std.specs.Prelude.{◌≡◌, ◌<◌, MatchOption, MatchResult};
     ghost use Rattle.rtrb.specs.Ring.{known_free, sent};
-    ghost use Rattle.dspec_c.specs.ConsumerCalls.{Asks, CleansSo, OnTheirs, WaitsSo};
-    ghost use Rattle.dspec_c.specs.ConsumerHomes.{HasGoneTheirs, IsOutTheirs, IsSameTheirs};
+    ghost use Rattle.dspec_c.specs.{ConsumerCalls.Asks, ConsumerCalls.CleansSo, ConsumerCalls.OnTheirs, ConsumerCalls.WaitsSo, ConsumerHomes.IsSameTheirs, Homes.HasGone, Homes.IsOut};
     ghost use Rattle.dspec_session_core.specs.{Batches.FoundNone, Batches.GaveBack, Batches.IsNotTakenBack, Batches.Took, Stopping.Stopped};
 
     pub fn of(
         way: Producer<ConsumerHoming, Global, ConsumerRule>,
         homing: ConsumerHoming,
     ) -> OutConsumer
-        requires out { IsOutTheirs (sent way) homing }
+        requires out { IsOut IsSameTheirs (sent way) homing }
         requires room { 0 < known_free way }
         ensures { result ≡ homing }
     {
@@ -96,7 +95,7 @@ impl OutConsumer {
 
     /// Sends the consumer home, by the way that it gives back.
     pub fn go_home(self) -> Producer<ConsumerHoming, Global, ConsumerRule>
-        ensures { HasGoneTheirs self (sent result) }
+        ensures { HasGone self (sent result) }
     {
         let OutConsumer {
             way,

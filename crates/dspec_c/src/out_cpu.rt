@@ -26,13 +26,13 @@ impl Model for OutCpu {
     ghost use Rattle.std.specs.{Arc.arc_value, Prelude.◌<◌};
     ghost use Rattle.rtrb.specs.Ring.{known_free, sent};
     ghost use Rattle.dspec_cpu.specs.Standing.{IsCallable};
-    ghost use Rattle.dspec_c.specs.Homes.{CpuSide, IsOut, cpu_side_of};
+    ghost use Rattle.dspec_c.specs.Homes.{CpuSide, IsOut, IsSameSide, cpu_side_of};
 
     ghost Value = { CpuSide };
 
     ghost view = { λ s. cpu_side_of (arc_value s.shared) s.cpu.value s.refused };
 
-    ghost invariant = { λ s. IsCallable (arc_value s.shared) s.cpu.value × IsOut (sent s.way) (cpu_side_of (arc_value s.shared) s.cpu.value s.refused) × (0 < known_free s.way) };
+    ghost invariant = { λ s. IsCallable (arc_value s.shared) s.cpu.value × IsOut IsSameSide (sent s.way) (cpu_side_of (arc_value s.shared) s.cpu.value s.refused) × (0 < known_free s.way) };
 }
 
 impl OutCpu {
@@ -40,10 +40,11 @@ impl OutCpu {
     ghost use Rattle.rtrb.specs.Ring.{known_free, sent};
     ghost use Rattle.dspec_promise.specs.Promise.{commit, discard};
     ghost use Rattle.dspec_c.specs.CpuCalls.{CommitIfRoomTold, DecideTold, DroppedInTold, OpenAtTold, OpeningTold, PutInTold, PutTold, ReportTold, ServiceTold, SpeculateTold, TraceTold, one_refused};
-    ghost use Rattle.dspec_c.specs.Homes.{HasGone, IsOut};
+    ghost use Rattle.dspec_c.specs.CpuCalls.{served_so};
+    ghost use Rattle.dspec_c.specs.Homes.{HasGone, IsOut, IsSameSide};
 
     pub fn of(way: Producer<Homing, Global, HomingProtocol>, homing: Homing) -> OutCpu
-        requires out { IsOut (sent way) homing }
+        requires out { IsOut IsSameSide (sent way) homing }
         requires room { 0 < known_free way }
         ensures { result ≡ homing }
     {
@@ -177,7 +178,7 @@ impl OutCpu {
 
     /// Does what the CPU owes the consumer and the other CPUs.
     pub fn service(&mut self, sealed: &mut bool, settled: &mut u32) -> u32
-        ensures { ServiceTold result (record { sealed = sealed.new; settled = settled.new }) self.old self.new }
+        ensures { ServiceTold result (served_so sealed.new settled.new) self.old self.new }
     {
         let served = self.cpu.service(&self.shared);
         *sealed = served.sealed;

@@ -10,6 +10,14 @@ use dspec_record::Enablings;
 use std::alloc::{AllocError, Global};
 use std::sync::Arc;
 
+/// Takes the first.
+pub fn take_first<T>(xs: &mut Vec<T>) -> T
+    requires { 0 < length xs.old.items }
+    ensures cons { xs.old.items ≡ result ∷ xs.new.items }
+{
+    xs.remove(0)
+}
+
 // The first CPU, in a box.
 #[inline(never)]
 fn next_cpu(
@@ -19,7 +27,7 @@ fn next_cpu(
     requires { 0 < length cpus.old.items }
     ensures cons { IfOk result (λ cpu. cpus.old.items ≡ cpu.value ∷ cpus.new.items) }
 {
-    let Ok(cpu) = Box::new(alloc, cpus.remove(0)) else {
+    let Ok(cpu) = Box::new(alloc, take_first(cpus)) else {
         return Err(AllocError);
     };
     Ok(cpu)
@@ -34,7 +42,7 @@ fn place(
     ensures { IfOk result (λ r. r ≡ waiting_so (arc_value shared.now) cpu.value) }
 {
     let shared = Arc::try_clone(shared)?;
-    CpuPlace::make(alloc, Homing::of(shared, HomeCpu::of(cpu, 0)))
+    CpuPlace::make(alloc, Homing::of(shared, HomeCpu { cpu, refused: 0 }))
 }
 
 /// The places of all CPUs, in order, with the CPUs in them, which wait.

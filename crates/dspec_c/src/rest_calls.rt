@@ -5,7 +5,7 @@ ghost use Rattle.dspec_c.specs.{ClosedCalls.ClosedReportAnswers, ClosedCalls.Res
 
 use crate::batches::CBatch;
 use crate::ended::EndedSession;
-use crate::handle::Handle;
+use crate::handle::{Handle, lent};
 use crate::held::HandleValue;
 use crate::reports::CReport;
 use crate::statuses::{BAD_HANDLE, NO_BATCH, NO_SUCH_CPU, OK};
@@ -23,25 +23,13 @@ fn rest(ended: &EndedSession, cpu: u32, last: bool, batch: &mut CBatch) -> u32
     OK
 }
 
-fn held_rest(held: &mut HandleValue, cpu: u32, last: bool, batch: &mut CBatch) -> u32
-    ensures { RestAnswers cpu last held.old result batch.old batch.new held.new }
-{
-    match held {
-        HandleValue::Closed(ended) => rest(ended, cpu, last, batch),
-        _ => BAD_HANDLE,
-    }
-}
-
 /// What is left of a CPU.
 #[unsafe(no_mangle)]
 pub extern "C" fn dspec_rest(closed: &mut Handle, cpu: u32, last: bool, batch: &mut CBatch) -> u32
     ensures answers { RestAnswers cpu last (held_in closed.old) result batch.old batch.new (held_in closed.new) }
     ensures stays { is_full closed.new ≡ is_full closed.old }
 {
-    if !closed.is_held() {
-        return BAD_HANDLE;
-    }
-    held_rest(closed.lend(), cpu, last, batch)
+    lent!(closed as Closed(ended), BAD_HANDLE => rest(ended, cpu, last, batch))
 }
 
 fn report_to(ended: &EndedSession, cpu: u32, report: &mut CReport) -> u32
@@ -54,23 +42,11 @@ fn report_to(ended: &EndedSession, cpu: u32, report: &mut CReport) -> u32
     OK
 }
 
-fn held_closed_report(held: &mut HandleValue, cpu: u32, report: &mut CReport) -> u32
-    ensures { ClosedReportAnswers cpu held.old result report.old report.new held.new }
-{
-    match held {
-        HandleValue::Closed(ended) => report_to(ended, cpu, report),
-        _ => BAD_HANDLE,
-    }
-}
-
 /// The counts of a CPU, to its end.
 #[unsafe(no_mangle)]
 pub extern "C" fn dspec_closed_report(closed: &mut Handle, cpu: u32, report: &mut CReport) -> u32
     ensures answers { ClosedReportAnswers cpu (held_in closed.old) result report.old report.new (held_in closed.new) }
     ensures stays { is_full closed.new ≡ is_full closed.old }
 {
-    if !closed.is_held() {
-        return BAD_HANDLE;
-    }
-    held_closed_report(closed.lend(), cpu, report)
+    lent!(closed as Closed(ended), BAD_HANDLE => report_to(ended, cpu, report))
 }

@@ -6,7 +6,7 @@ ghost use Rattle.dspec_c.specs.{Widths.EnablesSo, Widths.enable_fault, Widths.fi
 ghost use Rattle.dspec_c.specs.declared.held.HandleValue.TheVariants as held_as;
 
 use crate::boxed::Boxed;
-use crate::handle::{Handle, HandleBox};
+use crate::handle::{Handle, HandleBox, lent};
 use crate::held::HandleValue;
 use crate::statuses::{
     BAD_HANDLE, BAD_WIDTH, FULL_HANDLE, NO_MEMORY, OK, TOO_MANY_ENABLINGS, TOO_MANY_FIELDS,
@@ -108,13 +108,7 @@ pub fn schema_in(schema: &mut Handle) -> Option<Enablings>
     ensures looks { LooksAtSchema (held_in schema.old) result (held_in schema.new) }
     ensures stays { is_full schema.new ≡ is_full schema.old }
 {
-    if !schema.is_held() {
-        return None;
-    }
-    let Some(schema) = schema.lend().schema() else {
-        return None;
-    };
-    Some(*schema)
+    lent!(schema as Schema(boxed), None => Some(*boxed.lend()))
 }
 
 /// Enables records with fields of these widths.
@@ -123,13 +117,7 @@ pub extern "C" fn dspec_schema_enable(schema: &mut Handle, widths: &[u8], epid: 
     ensures answers { EnableAnswers widths.now (held_in schema.old) result epid.old epid.new (held_in schema.new) }
     ensures stays { is_full schema.new ≡ is_full schema.old }
 {
-    if !schema.is_held() {
-        return BAD_HANDLE;
-    }
-    let Some(schema) = schema.lend().schema() else {
-        return BAD_HANDLE;
-    };
-    enable_told(schema, widths, epid)
+    lent!(schema as Schema(boxed), BAD_HANDLE => enable_told(boxed.lend(), widths, epid))
 }
 
 /// Records have a stamp from now on.
@@ -138,12 +126,9 @@ pub extern "C" fn dspec_schema_stamp(schema: &mut Handle) -> u32
     ensures answers { StampAnswers (held_in schema.old) result (held_in schema.new) }
     ensures stays { is_full schema.new ≡ is_full schema.old }
 {
-    if !schema.is_held() {
-        return BAD_HANDLE;
-    }
-    let Some(schema) = schema.lend().schema() else {
-        return BAD_HANDLE;
-    };
-    *schema = schema.stamped();
-    OK
+    lent!(schema as Schema(boxed), BAD_HANDLE => {
+        let schema = boxed.lend();
+        *schema = schema.stamped();
+        OK
+    })
 }

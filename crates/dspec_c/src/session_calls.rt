@@ -9,7 +9,7 @@ ghost use Rattle.dspec_c.specs.declared.held.HandleValue.TheVariants as held_as;
 use crate::configs::CConfig;
 use crate::consumer_side::{ConsumerSide, places_for_batches};
 use crate::ended::EndedSession;
-use crate::handle::{Handle, HandleBox};
+use crate::handle::{Handle, HandleBox, lent};
 use crate::held::HandleValue;
 use crate::schema_calls::schema_in;
 use crate::statuses::{
@@ -99,16 +99,6 @@ fn hand_out_cpu(alloc: Global, session: &mut UnderWay, number: u32, cpu: &mut Ha
     give_cpu(alloc, session, number, cpu)
 }
 
-fn held_cpu_of(alloc: Global, session: &mut HandleValue, number: u32, cpu: &mut Handle) -> u32
-    requires { is_full cpu.old ≡ false }
-    ensures { CpuOfAnswers number session.old result session.new cpu.old cpu.new }
-{
-    match session {
-        HandleValue::Session(whole) => hand_out_cpu(alloc, whole, number, cpu),
-        _ => BAD_HANDLE,
-    }
-}
-
 /// Hands out a CPU that is at its place: it was never handed out, or came home.
 #[unsafe(no_mangle)]
 pub extern "C" fn dspec_cpu_of(
@@ -124,10 +114,7 @@ pub extern "C" fn dspec_cpu_of(
     if cpu.is_held() {
         return FULL_HANDLE;
     }
-    if !session.is_held() {
-        return BAD_HANDLE;
-    }
-    held_cpu_of(alloc, session.lend(), number, cpu)
+    lent!(session as Session(whole), BAD_HANDLE => hand_out_cpu(alloc, whole, number, cpu))
 }
 
 fn hand_out_consumer(alloc: Global, session: &mut UnderWay, consumer: &mut Handle) -> u32
@@ -153,16 +140,6 @@ fn hand_out_consumer(alloc: Global, session: &mut UnderWay, consumer: &mut Handl
     OK
 }
 
-fn held_consumer_of(alloc: Global, session: &mut HandleValue, consumer: &mut Handle) -> u32
-    requires { is_full consumer.old ≡ false }
-    ensures { ConsumerOfAnswers session.old result session.new consumer.old consumer.new }
-{
-    match session {
-        HandleValue::Session(whole) => hand_out_consumer(alloc, whole, consumer),
-        _ => BAD_HANDLE,
-    }
-}
-
 /// Hands out the consumer.
 #[unsafe(no_mangle)]
 pub extern "C" fn dspec_consumer_of(
@@ -177,22 +154,7 @@ pub extern "C" fn dspec_consumer_of(
     if consumer.is_held() {
         return FULL_HANDLE;
     }
-    if !session.is_held() {
-        return BAD_HANDLE;
-    }
-    held_consumer_of(alloc, session.lend(), consumer)
-}
-
-fn held_tend(session: &mut HandleValue, settled: &mut u64) -> u32
-    ensures { TendAnswers session.old result settled.old settled.new session.new }
-{
-    match session {
-        HandleValue::Session(whole) => {
-            *settled = whole.tend();
-            OK
-        }
-        _ => BAD_HANDLE,
-    }
+    lent!(session as Session(whole), BAD_HANDLE => hand_out_consumer(alloc, whole, consumer))
 }
 
 /// Makes a service of each CPU that is home or was never handed out.
@@ -201,10 +163,10 @@ pub extern "C" fn dspec_tend(session: &mut Handle, settled: &mut u64) -> u32
     ensures answers { TendAnswers (held_in session.old) result settled.old settled.new (held_in session.new) }
     ensures stays { is_full session.new ≡ is_full session.old }
 {
-    if !session.is_held() {
-        return BAD_HANDLE;
-    }
-    held_tend(session.lend(), settled)
+    lent!(session as Session(whole), BAD_HANDLE => {
+        *settled = whole.tend();
+        OK
+    })
 }
 
 fn is_home(held: &mut HandleValue) -> Result<(), u32>

@@ -1,10 +1,9 @@
 //! What every call answers, as a number; `dspec.h` has their names.
 
 ghost use Rattle.std.specs.Prelude.{◌≡◌};
-ghost use Rattle.dspec_c.specs.Statuses.{asked_status, bad_handle, committed_number, committed_status, decided_number, decided_status, found_status, id_or_zero, opened_number, opening_status};
-ghost use Rattle.dspec_c.specs.Statuses.{returned_status, spoken_status, start_status, traced_status};
+ghost use Rattle.dspec_c.specs.Statuses.{asked_status, bad_handle, committed_number, committed_status, decided_number, decided_status, id_or_zero, opened_number, opening_status, spoken_status};
+ghost use Rattle.dspec_c.specs.Statuses.{start_status, traced_status};
 
-use crate::consumer_side::{GiveBackOutcome, TakeOutcome};
 use dspec_deeds::{Decided, Opening, Spoken, StartFault, Traced};
 use dspec_word::SpecId;
 
@@ -168,28 +167,4 @@ pub fn of_asked(found: bool) -> u32
     ensures { result ≡ asked_status found }
 {
     if found { OK } else { NO_SUCH_CPU }
-}
-
-/// What a take found.
-pub fn of_found(found: TakeOutcome) -> u32
-    ensures { result ≡ found_status found }
-{
-    match found {
-        TakeOutcome::NoCpu => NO_SUCH_CPU,
-        TakeOutcome::IsOut => OUT,
-        TakeOutcome::NoBatch => NO_BATCH,
-        TakeOutcome::Taken => OK,
-    }
-}
-
-/// What became of a batch that was to go back.
-pub fn of_returned(returned: GiveBackOutcome) -> u32
-    ensures { result ≡ returned_status returned }
-{
-    match returned {
-        GiveBackOutcome::NoCpu => NO_SUCH_CPU,
-        GiveBackOutcome::NoneOut => NO_BATCH,
-        GiveBackOutcome::NoRoom => BUSY,
-        GiveBackOutcome::Back => OK,
-    }
 }

@@ -3,7 +3,7 @@ use crate::consumer_homing::ConsumerHoming;
 use crate::consumer_place::ConsumerPlace;
 use crate::cpu_place::CpuPlace;
 use crate::ended::EndedSession;
-use crate::gather::{all_home, count_refusals, hand_out, is_in};
+use crate::gather::{all_home, hand_out, is_in};
 use crate::out_consumer::OutConsumer;
 use crate::out_cpu::OutCpu;
 use crate::places::places;
@@ -31,14 +31,14 @@ pub struct UnderWay {
 }
 
 impl Model for UnderWay {
-    ghost use Rattle.std.specs.{Arc.arc_value, Prelude.◌≡◌, Prelude.◌≤◌, Prelude.◌+◌, Prelude.[], Prelude.length, Prelude.vec_capacity, Prelude.vec_len};
-    ghost use Rattle.dspec_c.specs.Whole.{Going, IsWhole, firsts};
+    ghost use Rattle.std.specs.Arc.{arc_value};
+    ghost use Rattle.dspec_c.specs.Whole.{Going, HasRooms, IsWhole, firsts};
 
     ghost Value = { Going };
 
     ghost view = { λ s. record { shared = arc_value s.common; cpus = s.cpus; places = s.places.items; consumer = s.place } };
 
-    ghost invariant = { λ s. IsWhole (arc_value s.common) s.cpus (firsts s.places.items) s.place.first × (s.room.items ≡ []) × (length s.places.items + vec_len s.room ≤ vec_capacity s.room) × (s.counts.items ≡ []) × (length s.places.items + vec_len s.counts ≤ vec_capacity s.counts) };
+    ghost invariant = { λ s. IsWhole (arc_value s.common) s.cpus (firsts s.places.items) s.place.first × HasRooms s.cpus s.room s.counts };
 }
 
 impl UnderWay {
@@ -224,8 +224,7 @@ impl UnderWay {
         } = self;
         match Arc::try_unwrap(common) {
             Ok(shared) => {
-                let refused = count_refusals(&places, counts);
-                let closed = close(shared, places, room, place.into_home());
+                let (closed, refused) = close(shared, places, room, counts, place.into_home());
                 Ok(EndedSession {
                     closed,
                     cpus,

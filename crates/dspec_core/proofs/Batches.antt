@@ -1,7 +1,12 @@
 -- The batches of a CPU: how many were sealed, and the records of the one that grows.
-use Rattle.std.proofs.Common.{◌≡◌, ℕ, ◌+◌, Bool, true, false, if◌then◌else◌, List, [], ◌∷◌, ◌++◌, length, reverse, refl, sym, ap, ◌∙◌, arith, append-nil}
+use Rattle.std.proofs.Common.{◌≡◌, ℕ, Bool, true, false, if◌then◌else◌, List, [], ◌∷◌, ◌++◌, length, map, reverse, refl, sym, ap, ◌∙◌, arith, append-nil}
 use Rattle.std.proofs.lemmas.{Bool.Decides.nat_tests, List.reverse-append}
-use Rattle.dspec_core.specs.Words.{records, Offer, offers, accepted, active, contents, growing, batches, seals, stream, Deed}
+use Rattle.dspec_core.specs.Words.{Record, one, records, Offer, accepted, active, contents, growing, batches, seals, stream, Deed}
+
+-- the records of pieces that are records
+pub records_of_ones : (rs : List Record) → records (map one rs) ≡ rs
+records_of_ones [] = refl
+records_of_ones (r ∷ rs) = ap (λ xs. r ∷ xs) (records_of_ones rs)
 
 -- the records of offers put together
 contents_append : (os more : List Offer) → contents (os ++ more) ≡ contents os ++ contents more

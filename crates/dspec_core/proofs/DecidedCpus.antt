@@ -1,12 +1,12 @@
 -- What a commit or a discard leaves of a CPU, said of both as one.
 use Rattle.std.proofs.Common.{arith, ◌≡◌, ℕ, ◌-◌, Bool, true, false, ◌||◌, List, ◌∷◌, ◌++◌, [], reverse, set, if◌then◌else◌, Option, refl}
 use Rattle.std.proofs.lemmas.Bool.Decides.{nat_tests}
-use Rattle.dspec_core.specs.Words.{Shape, Speculation, SlotState, author, halted, is_commit, is_copied, is_discard, is_open, word_at, IsSound, CpuLegal, contents, held, seals_now, stream, IsSlot}
-use Rattle.dspec_core.specs.Words.{decides, deed_of, ShowsWords, Cpu, Config, DecideFate, Deed}
+use Rattle.dspec_core.specs.Words.{Shape, Speculation, SlotState, is_commit, is_copied, is_discard, is_open, word_at, IsSound, CpuLegal, contents, held, stream, IsSlot, decides, deed_of, ShowsWords}
+use Rattle.dspec_core.specs.Words.{Config, DecideFate, Deed}
 use Rattle.dspec_core.specs.declared.machine.decision.Decision.{Decision, TheVariants.Commit, TheVariants.Discard}
 use Rattle.dspec_deeds.specs.declared.deed.Deed.TheVariants as deed
 use Rattle.dspec_deeds.proofs.WordChanges.{commit_open, discard_open}
-use Rattle.dspec_core.proofs.{OwnSlots.stream_commits, OwnSlots.stream_discards, WordsShown.words_set, WordsShown.words_stay}
+use Rattle.dspec_core.proofs.{OwnDeeds.IsOwnDeed, OwnSlots.stream_commits, OwnSlots.stream_discards, WordsShown.words_set, WordsShown.words_stay}
 
 module _ (k : Config) (c : ℕ) (id : Speculation) (f : DecideFate) (h : List Deed) where
   -- what is decided was open
@@ -24,11 +24,6 @@ module _ (k : Config) (c : ℕ) (id : Speculation) (f : DecideFate) (h : List De
   pub decided_stream : (x : Decision) → decides x f ≡ true → stream c h ++ (if is_copied f then reverse (contents (held c id h)) else []) ≡ stream c (deed_of x c id f ∷ h)
   decided_stream Commit e = stream_commits c id f h
   decided_stream Discard e = stream_discards c id f h e
-
-  -- it is no Seal
-  pub decided_unsealed : (x : Decision) → seals_now c (deed_of x c id f) ≡ false
-  decided_unsealed Commit = refl
-  decided_unsealed Discard = refl
 
   -- what is said of either deed, where it decides
   pub decided_either : (shape : ℕ → Option Shape) (P : Deed → Type 0) (x : Decision) → decides x f ≡ true → CpuLegal shape k h (deed_of x c id f)
@@ -53,15 +48,10 @@ module _ (k : Config) (c : ℕ) (id : Speculation) (f : DecideFate) (h : List De
   nothing_decided Commit e sound = undecided_is (is_commit f) (is_discard f) e sound.1.1.1
   nothing_decided Discard e sound = undecided_is (is_commit f) (is_discard f) sound.1.1.1 e
 
--- the deed is of its CPU
-pub by_its_cpu : (d : Decision) (c : ℕ) (id : Speculation) (f : DecideFate) (h : List Deed) → author (deed_of d c id f) h ≡ Cpu c
-by_its_cpu Commit c id f h = refl
-by_its_cpu Discard c id f h = refl
-
--- and it isn't a halt
-pub halted_still : (d : Decision) (c : ℕ) (id : Speculation) (f : DecideFate) (h : List Deed) → halted (deed_of d c id f ∷ h) ≡ halted h
-halted_still Commit c id f h = refl
-halted_still Discard c id f h = refl
+-- the deed is the CPU's own
+pub decided_own : (d : Decision) (c : ℕ) (id : Speculation) (f : DecideFate) (h : List Deed) → IsOwnDeed c (deed_of d c id f) h
+decided_own Commit c id f h = (refl, refl, refl)
+decided_own Discard c id f h = (refl, refl, refl)
 
 -- the words after a call that decided nothing
 pub undecided_words : (d : Decision) (k : Config) (c : ℕ) (id : Speculation) (f : DecideFate) (h : List Deed) (words : List SlotState) → decides d f ≡ false

@@ -2,8 +2,8 @@
 use Rattle.std.proofs.Common.{◌≡◌, ℕ, ◌≤◌, Bool, true, List, [], ◌∷◌, Option, None, refl, sym, ap, ◌∙◌, subst, arith}
 use Rattle.std.proofs.lemmas.Bool.Decides.{nat_tests}
 use Rattle.dspec_core.specs.Words.{Shape, Act, Void, Granted, Attempt, Idle, Record, Piece, Speculation, SlotState, author, callers, calls, commit_at, in_range, is_among, is_commit, is_open}
-use Rattle.dspec_core.specs.Words.{IsSound, present, progress_of, seals, speculate_at, spoken_granted, start_fault, word_at, OnItsWay, history, MayEnterOn, state_of, MayCome, MayEnter, deed_passes}
-use Rattle.dspec_core.specs.Words.{decided_left, decides, deed_of, word_left, entry_deeds, Cpu, Config, DecideFate, Deed, Commit, Opened, Release, Speculate, SpeculateFate}
+use Rattle.dspec_core.specs.Words.{IsSound, IsSlot, present, progress_of, seals, speculate_at, spoken_granted, start_fault, word_at, OnItsWay, history, MayEnterOn, state_of, MayCome, MayEnter}
+use Rattle.dspec_core.specs.Words.{deed_passes, decided_left, decides, deed_of, word_left, entry_deeds, Cpu, Config, DecideFate, Deed, Commit, Opened, Release, Speculate, SpeculateFate}
 use Rattle.dspec_core.specs.declared.machine.{Machine.Machine, decision.Decision.Decision, seen.Entry.Entry, seen.Entry.TheVariants.One}
 use Rattle.dspec_deeds.specs.declared.deed.SpeculateFate.TheVariants as spoken
 use Rattle.dspec_deeds.proofs.{PresentIds.decided_given, SetUp.set_up, SoundLists.opened_in_range, SoundLists.scan_bound, TestLemmas.off, WordActs.commit_attempt, WordActs.commit_void}
@@ -44,8 +44,8 @@ module _ (k : Config) (h : List Deed) (fine : start_fault k ≡ None) where
   pub opened_slot : (c : ℕ) (id : Speculation) → IsSound k (Opened c id ∷ h) → id.slot ≤ k.nspec
   opened_slot c id sound = subst (λ n. n ≤ k.nspec) sound.1.1.0 (scan_bound k h c (set_up k fine).1)
 
-  pub released_slot : (s : ℕ) → IsSound k (Release s ∷ h) → s ≤ k.nspec
-  released_slot s sound = (opened_in_range k h (present s h) (set_up k fine).1 sound.0 (decided_given k h (present s h) sound.0 sound.1.1.0.0)).1
+  pub released_slot : (s : ℕ) → IsSound k (Release s ∷ h) → IsSlot k s
+  released_slot s sound = opened_in_range k h (present s h) (set_up k fine).1 sound.0 (decided_given k h (present s h) sound.0 sound.1.1.0.0)
 
   -- and that what is open is of one of the session
   pub granted_in_range : (c : ℕ) (id : Speculation) (r : Record) (f : SpeculateFate) → spoken_granted f ≡ true → IsSound k (Speculate c id r f ∷ h) → in_range k id ≡ true

@@ -56,14 +56,6 @@ module _ {S B : Type 0} (has : B → S → List Piece → Type 0) (capacity : B 
       → side.counts.worn ≡ own.side.counts.worn → rs ≡ stream c (d ∷ h) → ShowsCpu has capacity schema k c (d ∷ h) (record own { side = side; accepted = rs })
   own_deed d side rs unsealed shows worn accepts = grind (arith, nat_tests)
 
-  -- the same where the stream came first
-  pub put_side : (mid : Cpu B) (rs : List Record) → mid ≡ record own { accepted = rs } → ShowsList (λ b. has b schema) capacity k c h mid.side
-  put_side mid rs is = subst (λ (x : CpuState B). ShowsList (λ b. has b schema) capacity k c h x) (sym (ap (λ (x : Cpu B). x.side) is)) was.side
-
-  pub put_deed : (d : Deed) (mid : Cpu B) (rs : List Record) (side : CpuState B) → mid ≡ record own { accepted = rs } → seals_now c d ≡ false → ShowsList (λ b. has b schema) capacity k c (d ∷ h) side
-      → side.counts.worn ≡ mid.side.counts.worn → rs ≡ stream c (d ∷ h) → ShowsCpu has capacity schema k c (d ∷ h) (record mid { side = side })
-  put_deed d mid rs side is unsealed shows worn accepts = grind (arith, nat_tests, own_deed)
-
   -- another's deed
   pub other_deed : (d : Deed) → same_actor (CpuActor c) (author d h) ≡ false → ShowsCpu has capacity schema k c (d ∷ h) own
   other_deed d other = record {

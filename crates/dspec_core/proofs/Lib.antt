@@ -6,10 +6,12 @@ pub mod OneMore
 pub mod SlotReads
 pub mod Makings
 pub mod CleanMakings
+pub mod AckReads
 pub mod TakenBatches
 pub mod OwnSlots
 pub mod DecidedCpus
 pub mod OwnBlocks
+pub mod OwnDeeds
 pub mod SoloDiscards
 pub mod Seeing
 pub mod StepRecords

@@ -41,3 +41,8 @@ module _ {S B : Type 0} (has : B → S → List Piece → Type 0) (capacity : B 
       let shows = (cpu_read c own lt is).side.parts in
       number_there own.side.acks.items m.config.nspec (s - 1) a (ack c s (history m)) shows.ack_count (place_within s s m.config.nspec m.config.nspec refl slot.0 slot.1 refl) e
       (shows.acks s slot.0 slot.1)
+
+  -- where it stands
+  pub acks_place : (c s : ℕ) (own : Cpu B) → c < m.config.cpus → IsSlot m.config s → own ≡ get_or m.cpus.items c own → s - 1 < own.side.acks.len
+  acks_place c s own lt slot is =
+      place_within s s m.config.nspec own.side.acks.len refl slot.0 slot.1 (own.side.acks.ok.0 ∙ (cpu_read c own lt is).side.parts.ack_count)

@@ -1,22 +1,16 @@
 -- How an atomic step is put together: what its deeds enter, and then what becomes of its CPU's progress.
-use Rattle.std.proofs.Common.{arith, ◌≡◌, ℕ, ◌==◌, true, false, List, set, Option, Some, sym, ap, ◌∙◌, subst, ⊎_elim}
+use Rattle.std.proofs.Common.{arith, ◌≡◌, ℕ, ◌<◌, ◌==◌, true, false, List, set, get_or, Option, Some, sym, ap, ◌∙◌, subst, ⊎_elim}
 use Rattle.std.proofs.lemmas.{Bool.Decides.nat_tests, List.length-set, List.map-set, Option.slice_get_within}
 use Rattle.std.specs.{Prelude.slice_get, Vec.with_item}
 use Rattle.dspec_core.specs.Words.{Piece, CpuStep, progress_of, ShowsCpu, IsShownMachine, Adds, Makes, history, state_of, Answer, Deed, CpuProgress}
 use Rattle.dspec_core.specs.declared.machine.{Machine.Machine, cpu.Cpu.Cpu}
 use Rattle.dspec_deeds.proofs.{Places.got_set, Places.got_other, TestLemmas.either_way, TestLemmas.same_number, TestLemmas.numbers_differ}
-use Rattle.dspec_core.proofs.{KeptCpus.calling, OneMore.progress_there}
+use Rattle.dspec_core.proofs.{KeptCpus.calling, MachineReads.cpu_got, OneMore.progress_there}
 
 -- what a play knows of a machine where what is kept of one CPU is another
 pub state_puts : {S B : Type 0} (m : Machine S B) (c : ℕ) (new : Cpu B)
     → state_of (record m { cpus = with_item m.cpus c new }) ≡ record (state_of m) { progresses = set (state_of m).progresses c new.progress }
 state_puts {B = B} m c new = ap (λ x. record (state_of m) { progresses = x }) (map-set (λ (own : Cpu B). own.progress) m.cpus.items c new)
-
--- where a CPU's progress is changed
-pub state_moves : {S B : Type 0} (m : Machine S B) (c : ℕ) (own new : Cpu B) (change : CpuProgress → CpuProgress) → slice_get m.cpus.items c ≡ Some own → new.progress ≡ change own.progress
-    → state_of (record m { cpus = with_item m.cpus c new }) ≡ record (state_of m) { progresses = set (state_of m).progresses c (change (progress_of (state_of m).progresses c)) }
-state_moves m c own new change got is =
-    state_puts m c new ∙ ap (λ (x : CpuProgress). record (state_of m) { progresses = set (state_of m).progresses c x }) (is ∙ ap change (sym (progress_there m.cpus.items c own got)))
 
 module _ {S B : Type 0} (has : B → S → List Piece → Type 0) (capacity : B → ℕ) where
   -- a machine shows its list with what shows it kept of one CPU
@@ -37,14 +31,32 @@ module _ {S B : Type 0} (has : B → S → List Piece → Type 0) (capacity : B 
         (either_way (a == c));
   }
 
-  -- a machine shows its list whatever a CPU's progress is next
-  pub progress_moves : (m : Machine S B) (c : ℕ) (own : Cpu B) (me : CpuProgress) → IsShownMachine has capacity m → slice_get m.cpus.items c ≡ Some own → me.takes ≡ own.progress.takes
-      → me.worn ≡ own.progress.worn → IsShownMachine has capacity (record m { cpus = with_item m.cpus c (record own { progress = me }) })
-  progress_moves m c own me was got takes worn =
-      cpu_puts m c own _ was got (calling has capacity m.schema m.config c (history m) own (was.cpus c own got) me takes worn)
-
   -- a step that entered its deeds and then moved its CPU's progress
   pub step_made : (m n left : Machine S B) (c : ℕ) (ds : List Deed) (change : CpuProgress → CpuProgress) (moved : CpuStep) (answer : Option Answer) → Adds ds m n → IsShownMachine has capacity left
       → state_of left ≡ record (state_of n) { progresses = set (state_of n).progresses c (change (progress_of (state_of n).progresses c)) } → left.schema ≡ n.schema
       → record { progress = change (progress_of (state_of m).progresses c); deeds = ds; answer = answer } ≡ moved → Makes has capacity m left c moved answer
   step_made m n left c ds change moved answer adds shown state schema is = grind (arith, nat_tests)
+
+module _ {S B : Type 0} {has : B → S → List Piece → Type 0} {capacity : B → ℕ} {m : Machine S B} (shown : IsShownMachine has capacity m) {c : ℕ} (lt : c < m.config.cpus) {own : Cpu B}
+    (is : own ≡ get_or m.cpus.items c own) where
+  there : slice_get m.cpus.items c ≡ Some own
+  there = cpu_got has capacity m shown c own lt is
+
+  -- the CPU's progress in the play is the one that is kept
+  pub progress_is : progress_of (state_of m).progresses c ≡ own.progress
+  progress_is = progress_there m.cpus.items c own there
+
+  -- with another kept of the CPU that shows the list, the machine shows it
+  pub puts_shown : {new : Cpu B} → ShowsCpu has capacity m.schema m.config c (history m) new → IsShownMachine has capacity (record m { cpus = with_item m.cpus c new })
+  puts_shown shows = cpu_puts has capacity m c own _ shown there shows
+
+  -- so it does whatever the CPU's progress is next
+  pub moves_shown : (me : CpuProgress) → me.takes ≡ own.progress.takes → me.worn ≡ own.progress.worn
+      → IsShownMachine has capacity (record m { cpus = with_item m.cpus c (record own { progress = me }) })
+  moves_shown me takes worn = puts_shown (calling has capacity m.schema m.config c (history m) own (shown.cpus c own there) me takes worn)
+
+  -- and what a play knows of it is that progress
+  pub moves_state : (new : Cpu B) (change : CpuProgress → CpuProgress) → new.progress ≡ change own.progress
+      → state_of (record m { cpus = with_item m.cpus c new }) ≡ record (state_of m) { progresses = set (state_of m).progresses c (change (progress_of (state_of m).progresses c)) }
+  moves_state new change same =
+      state_puts m c new ∙ ap (λ (x : CpuProgress). record (state_of m) { progresses = set (state_of m).progresses c x }) (same ∙ ap change (sym progress_is))

@@ -93,6 +93,13 @@ module _ {S B : Type 0} (has : B → S → List Piece → Type 0) (capacity : B 
         cpus = cpus_set m.schema m.config (history m) m.cpus.items was.cpus d c new by (omega arith) shows;
       }
 
+-- a machine with a deed more, and such words, for which what is kept of every CPU shows it
+pub all_enter : {S B : Type 0} {has : B → S → List Piece → Type 0} {capacity : B → ℕ} {m : Machine S B} → IsShownMachine has capacity m → {ds : List Deed} {d : Deed} → ds ≡ m.deeds ++ d ∷ []
+    → (ws : Vec SlotState) → halted (d ∷ history m) ≡ halted (history m) → ShowsWords m.config (d ∷ history m) ws.items → AllShow has capacity m.schema m.config (d ∷ history m) m.cpus.items
+    → IsShownMachine has capacity (record m { deeds = ds; words = ws })
+all_enter {has = has} {capacity = capacity} {m = m} was {ds = ds} {d = d} pushed ws runs words cpus =
+    shown_as has capacity _ (d ∷ history m) (latest_first m.deeds ds d pushed) record { words = words; active = was.active ∙ sym runs; cpu_count = was.cpu_count; cpus = cpus }
+
 -- what a play knows of it
 pub adds_own : {S B : Type 0} (m : Machine S B) (ds : List Deed) (ws : Vec SlotState) (d : Deed) (c : ℕ) (own new : Cpu B) → reverse ds ≡ d ∷ history m → slice_get m.cpus.items c ≡ Some own
     → new.progress ≡ own.progress → Adds (d ∷ []) m (record m { deeds = ds; words = ws; cpus = with_item m.cpus c new })

@@ -1,8 +1,8 @@
 -- What a CPU's side tells of a slot's present speculation: whether the CPU is a caller, and its records.
-use Rattle.std.proofs.Common.{◌≡◌, ℕ, zero, suc, ◌+◌, ◌-◌, ◌<◌, ◌≤◌, ◌==◌, Bool, true, false, ◌&&◌, ◌||◌, List, [], ◌∷◌, ◌++◌, length, map, reverse, if◌then◌else◌, Option, Some, None, refl, sym, ap}
-use Rattle.std.proofs.Common.{◌∙◌, subst, arith, append-nil, true≢false}
+use Rattle.std.proofs.Common.{◌≡◌, ℕ, ◌+◌, ◌-◌, ◌<◌, ◌≤◌, ◌==◌, Bool, true, false, ◌&&◌, ◌||◌, List, [], ◌∷◌, ◌++◌, length, map, reverse, if◌then◌else◌, Option, Some, None, refl, sym, ap, ◌∙◌}
+use Rattle.std.proofs.Common.{subst, arith, append-nil, true≢false}
 use Rattle.std.proofs.lemmas.{Bool.Decides.nat_tests, List.reverse-append}
-use Rattle.std.specs.Prelude.{Result, Ok, Err, OnOk, OnErr, slice_get}
+use Rattle.std.specs.Prelude.{Result, Ok, Err, OnErr, slice_get}
 use Rattle.dspec_core.specs.Words.{Record, Piece, one, Speculation, decided_stopped, is_commit, is_copied, is_discard, spoken_granted, trace_kept, Ruling, undecided, committed, discarded, verdict}
 use Rattle.dspec_core.specs.Words.{is_undecided, is_open, issue, IsSound, CpuLegal, SettlesAs, fits_principal, fits_speculative, mark, accepted, contents, held, stream, last_called, start_fault}
 use Rattle.dspec_core.specs.Words.{IsCaller, ShowsList, IsSlot, callers, is_among, Shape, Config, DecideFate, SpeculateFate, TraceFate, Deed, Trace, Speculate, Commit, Discard, Settle, CpuState}
@@ -13,21 +13,10 @@ use Rattle.dspec_deeds.proofs.{Marks.mark_tells, OwnStates.tells_present, Presen
 use Rattle.dspec_deeds.proofs.{TestLemmas.number_is_itself}
 use Rattle.dspec_core.proofs.Batches.{stream_more}
 
--- what follows on success
-pub on_ok : {T E P Q : Type 0} (r : Result T E) → (P → Q) → OnOk r P → OnOk r Q
-on_ok (Ok x) f p = f p
-on_ok (Err x) f p = p
-
 -- what holds on a failure holds of each result
 pub on_err : {T E P : Type 0} (r : Result T E) → P → OnErr r P
 on_err (Ok x) p = cc
 on_err (Err x) p = p
-
--- what stands at a place of a list
-pub stands : {A : Type 0} (xs : List A) (i : ℕ) → i < length xs → (x : A) × (slice_get xs i ≡ Some x)
-stands [] i lt = absurd (omega arith)
-stands (x ∷ xs) zero lt = (x, refl)
-stands (x ∷ xs) (suc i) lt = stands xs i (omega arith)
 
 -- an open speculation is of a slot of the session
 pub open_slot : (k : Config) (h : List Deed) (id : Speculation) → start_fault k ≡ None → IsSound k h → is_open id h ≡ true → IsSlot k id.slot
@@ -122,13 +111,3 @@ module _ {B : Type 0} (keeps : B → List Piece → Type 0) (capacity : B → �
   block_there b got =
       let holds : held c (last_called c id.slot h) h ≡ held c id h = (tells_present k c id.slot h lt sound).holds ∙ ap (λ j. held c j h) (present_is id h now) in
       subst (λ os. keeps b (map one (contents os))) holds (was.parts.speculative id.slot b slot.0 slot.1 got).has
-
-  -- so what is said of the records of the buffer at the slot's place is said of those
-  pub blocks_there : (place : ℕ) (P : List Record → Type 0) → place ≡ id.slot - 1 → ((rs : List Record) (b : B) → slice_get side.speculative.items place ≡ Some b → keeps b (map one rs) → P rs)
-      → P (contents (held c id h))
-  blocks_there place P at told =
-      let count = was.parts.buffer_count in
-      let low = slot.0 in
-      let high = slot.1 in
-      let there = stands side.speculative.items place (omega arith) in
-      told (contents (held c id h)) there.0 there.1 (block_there there.0 (subst (λ n. slice_get side.speculative.items n ≡ Some there.0) at there.1))

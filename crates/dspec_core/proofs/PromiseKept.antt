@@ -1,17 +1,18 @@
 -- What is promised of every state of a play holds where the state is coherent.
-use Rattle.std.proofs.Common.{◌≡◌, ℕ, Option, sym, subst}
+use Rattle.std.proofs.Common.{◌≡◌, ℕ, Bool, List, Option, sym, subst}
 use Rattle.std.specs.Prelude.{Result, Ok, Err, IfOk, OnErr}
-use Rattle.dspec_core.specs.{Words.Shape, Words.IsCoherent, Words.state_of, Words.HasHeadline, Words.WorldView, Words.world_view, declared.machine.Machine.Machine}
+use Rattle.dspec_core.specs.{Words.Shape, Words.Piece, Words.Record, Words.WorldInvariant, Words.state_of, Words.HasHeadline, declared.machine.Machine.Machine}
 use Rattle.dspec_deeds.proofs.Headlines.{headline}
 
--- a coherent machine's session has the headline
-pub promise_kept : {S B : Type 0} (shape_of : S → ℕ → Option Shape) (m : Machine S B) (w : WorldView S) → world_view m ≡ w → IsCoherent (shape_of m.schema) (state_of m)
-    → HasHeadline (shape_of w.schema) w.state
-promise_kept {S} {B} shape_of m w is ok =
-    subst (λ (v : WorldView S). HasHeadline (shape_of v.schema) v.state) is
-    record { coherent = ok; headline = λ c. headline (shape_of m.schema) m.config c (state_of m).deeds ok.legal }
+-- the session of a machine that is kept has the headline
+pub promise_kept : {S B : Type 0} {has : B → S → List Piece → Type 0} {capacity : B → ℕ} {shape_of : S → ℕ → Option Shape} {accepted : S → Record → Bool} {m : Machine S B}
+    → WorldInvariant has capacity shape_of accepted m → HasHeadline (shape_of m.schema) (state_of m)
+promise_kept {shape_of = shape_of} {m = m} was = record { coherent = was.coherent; headline = λ c. headline (shape_of m.schema) m.config c (state_of m).deeds was.coherent.legal }
 
--- what holds of a value holds behind a change that keeps it, or is refused and leaves the value
-pub holds_behind : {T E A : Type 0} (P : A → Type 0) (r : Result T E) (old new : A) → P old → IfOk r (λ _. P new) → OnErr r (new ≡ old) → P new
-holds_behind P (Ok x) old new was kept left = kept
-holds_behind P (Err x) old new was kept left = subst P (sym left) was
+-- so it has behind a step that keeps the machine, or is refused and leaves it
+pub promise_behind : {T E S B : Type 0} {has : B → S → List Piece → Type 0} {capacity : B → ℕ} {shape_of : S → ℕ → Option Shape} {accepted : S → Record → Bool}
+    {m : Machine S B} (n : Machine S B) (r : Result T E)
+    → WorldInvariant has capacity shape_of accepted m → IfOk r (λ _. WorldInvariant has capacity shape_of accepted n) → OnErr r (n ≡ m) → HasHeadline (shape_of n.schema) (state_of n)
+promise_behind n (Ok x) was kept left = promise_kept kept
+promise_behind {has = has} {capacity = capacity} {shape_of = shape_of} {accepted = accepted} n (Err x) was kept left =
+    promise_kept (subst (WorldInvariant has capacity shape_of accepted) (sym left) was)

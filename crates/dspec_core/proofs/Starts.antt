@@ -1,35 +1,14 @@
 -- What a machine shows before its first deed, and how its parts are made one by one.
-use Rattle.std.proofs.Common.{◌≡◌, ℕ, zero, suc, ◌+◌, ◌-◌, ◌<◌, Bool, false, List, [], ◌∷◌, ◌++◌, length, map, reverse, get_or, Option, Some, None, refl, sym, ap, subst, arith}
+use Rattle.std.proofs.Common.{◌≡◌, ℕ, zero, suc, ◌-◌, ◌<◌, Bool, false, List, [], ◌∷◌, length, map, reverse, get_or, Option, Some, None, refl, sym, ap, subst, arith}
 use Rattle.std.proofs.lemmas.{Bool.Decides.nat_tests, Option.slice_get-get_or}
 use Rattle.std.specs.Prelude.{slice_get}
 use Rattle.dspec_core.specs.Words.{Shape, Record, Piece, SlotState, progress_of, idle_progress, start_fault, idle_cpus, at_start, ShowsCpu, IsShownMachine, state_of, IsWithin, Inactive, Config}
 use Rattle.dspec_core.specs.declared.machine.{Machine.Machine, cpu.Cpu.Cpu}
+use Rattle.dspec_cpu_state.proofs.Starts.{Made}
 use Rattle.dspec_interleaving.proofs.Coherence.{start_coherent}
 use Rattle.dspec_core.proofs.{Keepings.KeepsState, OneMore.shown_as}
 
--- so many elements, of each of which P holds
-pub record Made {A : Type 0} (P : A → Type 0) (n : ℕ) (xs : List A) : Type 0 where
-  pub count : length xs ≡ n
-  pub each : (i : ℕ) (x : A) → slice_get xs i ≡ Some x → P x
-
 module _ {A : Type 0} (P : A → Type 0) where
-  pub none_made : (xs : List A) → xs ≡ [] → Made P 0 xs
-  none_made xs none = subst (Made P 0) (sym none) record { count = refl; each = λ i x e. absurd (cc (e)) }
-
-  each_more : (xs : List A) (y : A) → ((i : ℕ) (x : A) → slice_get xs i ≡ Some x → P x) → P y → (i : ℕ) (x : A) → slice_get (xs ++ y ∷ []) i ≡ Some x → P x
-  each_more [] y was own zero x e = let is : y ≡ x = cc (e) in subst P is own
-  each_more [] y was own (suc i) x e = absurd (cc (e))
-  each_more (z ∷ xs) y was own zero x e = was 0 x e
-  each_more (z ∷ xs) y was own (suc i) x e = each_more xs y (λ j. was (suc j)) own i x e
-
-  count_more : (xs : List A) (y : A) → length (xs ++ y ∷ []) ≡ suc (length xs)
-  count_more [] y = refl
-  count_more (z ∷ xs) y = ap suc (count_more xs y)
-
-  -- one element more
-  pub one_made : (n : ℕ) (xs new : List A) (y : A) → new ≡ xs ++ y ∷ [] → Made P n xs → P y → Made P (n + 1) new
-  one_made n xs new y e was own = subst (Made P (n + 1)) (sym e) record { count = let c = count_more xs y in let w = was.count in omega arith; each = each_more xs y was.each own }
-
   -- an element that stands there
   pub made_at : (n i : ℕ) (xs : List A) (d : A) → Made P n xs → i < n → (x : A) × (slice_get xs i ≡ Some x) × P x
   made_at n i xs d made lt =

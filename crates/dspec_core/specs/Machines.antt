@@ -1,7 +1,7 @@
 -- Cited by calls. A machine shows its list of deeds.
-use Rattle.std.specs.Prelude.{ℕ, ◌≡◌, ◌<◌, ◌++◌, List, [], length, map, reverse, slice_get, Option, Some, None, if◌then◌else◌}
+use Rattle.std.specs.Prelude.{ℕ, ◌≡◌, ◌<◌, ◌++◌, List, length, map, reverse, slice_get, Option, None, Some}
 use Rattle.dspec_core.specs.Shown.{ShowsWords, ShowsCpu}
-use Rattle.dspec_core.specs.Words.Outside.{Shape, Record, Piece, one, is_copied, halted, IsAllowed, start_fault, CpuStep, ConsumerStep, PlayState, moved_to, cleaned_to, Answer, DecideFate, Deed}
+use Rattle.dspec_core.specs.Words.Outside.{Shape, Piece, halted, IsAllowed, start_fault, CpuStep, ConsumerStep, PlayState, moved_to, cleaned_to, Answer, Deed}
 use Rattle.dspec_core.specs.declared.machine.{Machine.Machine, cpu.Cpu.Cpu}
 
 -- the deeds of a machine, the latest first
@@ -18,13 +18,6 @@ module _ {S B : Type 0} (has : B → S → List Piece → Type 0) (capacity : B 
     pub active : m.halted ≡ halted (history m)
     pub cpu_count : length m.cpus.items ≡ m.config.cpus
     pub cpus : (c : ℕ) (own : Cpu B) → slice_get m.cpus.items c ≡ Some own → ShowsCpu has capacity m.schema m.config c (history m) own
-
-module _ {S B : Type 0} (has : B → S → List Piece → Type 0) (schema : S) where
-  -- the records of the slot's speculative buffer go to the CPU's stream where the fate copies them, and nothing else of the CPU moves
-  abbrev pub StreamsBlock : ℕ → DecideFate → Cpu B → Cpu B → Type 0
-  StreamsBlock place fate old new =
-      (rs : List Record) (b : B) → slice_get old.side.speculative.items place ≡ Some b → has b schema (map one rs)
-      → new ≡ record old { accepted = old.accepted ++ (if is_copied fate then reverse rs else []) }
 
 module _ {S B : Type 0} (has : B → S → List Piece → Type 0) (capacity : B → ℕ) (shape_of : S → ℕ → Option Shape) (m : Machine S B) where
   -- deeds may be entered: the machine shows its list, its configuration is in range, and the list with them in front is legal

@@ -1,7 +1,7 @@
 -- Serves proofs. What each atomic step of a call in flight makes of a machine: the play's step, by what the machine shows.
 use Rattle.std.specs.Prelude.{ℕ, List, slice_set, Option}
-use Rattle.dspec_core.specs.Machines.{Makes, ConsumerMakes, history, state_of}
-use Rattle.dspec_core.specs.Words.Outside.{Shape, Piece, CpuStep, ConsumerStep, cpu_step, consumer_step, takes_at, PlayState, progress_of, Answer, CpuProgress, ConsumerFlight, CallPlace, Spare}
+use Rattle.dspec_core.specs.Machines.{ConsumerMakes, history, state_of}
+use Rattle.dspec_core.specs.Words.Outside.{Piece, ConsumerStep, consumer_step, takes_at, PlayState, progress_of, Answer, CpuProgress, ConsumerFlight, Spare}
 use Rattle.dspec_core.specs.declared.machine.Machine.{Machine}
 
 module _ {S B : Type 0} (m : Machine S B) where

@@ -36,17 +36,6 @@ fn step_refused(fault: StepFault, number: usize) -> PlayFault
     }
 }
 
-// The most steps of a call of the actor.
-fn most_steps(config: &Config, actor: Actor) -> u32
-    requires { start_fault config.now ≡ None }
-    ensures { result ≡ most_steps config.now actor }
-{
-    match actor {
-        Actor::Cpu(_) => 3 + 2 * config.nspec,
-        Actor::Consumer => config.nspec * (config.cpus + 2),
-    }
-}
-
 // One atomic step of an actor, and whether it was its call's last; a call that ends is put down.
 #[tactic(auto, using(crate::proofs::PlayerSteps::step_config))]
 fn step_actor<S: Schema, B: TraceBuffer<S>, O: Onlooker<S, B>>(
@@ -104,7 +93,11 @@ fn run_actor<S: Schema, B: TraceBuffer<S>, O: Onlooker<S, B>>(
     ensures config { world.new.state.config ≡ world.old.state.config }
     ensures promised { HasHeadline (S.shape_of world.new.schema) world.new.state }
 {
-    for _ in 0..most_steps(config, actor) {
+    let most = match actor {
+        Actor::Cpu(_) => 3 + 2 * config.nspec,
+        Actor::Consumer => config.nspec * (config.cpus + 2),
+    };
+    for _ in 0..most {
         match step_actor(world, answers, onlooker, turn, actor) {
             Ok(ended) => {
                 if ended {

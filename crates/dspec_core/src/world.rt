@@ -80,7 +80,7 @@ impl<S: Schema, B: TraceBuffer<S>> World<S, B> {
         if cpu >= self.machine.config.cpus {
             return Err(BeginFault::NoSuchActor);
         }
-        if !self.is_idle(Actor::Cpu(cpu)) {
+        if self.machine.cpus[cpu as usize].progress.flight.is_some() {
             return Err(BeginFault::Busy);
         }
         if !self.is_accepted(&op) {

@@ -39,6 +39,11 @@ module _ (shape : ℕ → Option Shape) (accepted : Record → Bool) (text : Rec
   reached_here ready {id} {fit} {mine} {n} is {r} {w} got =
       subst (λ (x : Config × ℕ × CpuOp). Reached x.0 x.1 record { op = x.2; fits = fit; count = n; mine = mine } id (known cpu.seat) r w) (λ i. (ready.config i, ready.steady.seat i, is i)) got
 
+  -- the same of a call whose marker says so
+  pub reached_as : IsReady shape accepted text words cpu → {id : Speculation} {d e : Doing} → d ≡ e → {r : Reach} {w : View}
+      → Reached (set_up words) (cpu_of cpu.seat) d id (known cpu.seat) r w → Reached cpu.config cpu.cpu e id (known cpu.seat) r w
+  reached_as ready {id} is {r} {w} got = subst (λ (x : Config × ℕ × Doing). Reached x.0 x.1 x.2 id (known cpu.seat) r w) (λ i. (ready.config i, ready.steady.seat i, is i)) got
+
   -- these deeds are those of its answer
   pub ended : {of by : DecideFate → Deed} → of ≡ by → (id : Speculation) (a : Decided) (alone : Bool) (new : Cpu S)
       → (is_decision a ≡ true → alone ≡ false → solo id (known new.seat).seen ≡ None) → Behind shape accepted text words cpu (decided_deeds of id.slot alone a) new → Ended by id a new

@@ -1,8 +1,8 @@
 -- A CPU can be called again.
 use Rattle.std.proofs.Common.{◌≡◌, ℕ, ◌+◌, ◌<◌, ◌≤◌, ◌-◌, ◌^◌, Bool, List, ◌++◌, length, Option, Some, None, sym, ◌∙◌, ap, subst, arith}
 use Rattle.std.proofs.lemmas.Bool.Decides.{nat_tests}
-use Rattle.dspec_cpu.specs.Words.{Record, Stored, scan, offers, report, records_of_report, of_cpu, number_of, calling, flight_after, Entered, known, IsAt, cpu_of, counts_of, with_fate, IsRoomy}
-use Rattle.dspec_cpu.specs.Words.{Stands, HasList, IsReady, IsSteady, batches_of, spare_count, Belongs, identity, Shape, Config, CpuOp, Deed, Report, View, Counts}
+use Rattle.dspec_cpu.specs.Words.{report_of, Record, Stored, scan, offers, report, records_of_report, of_cpu, number_of, calling, flight_after, Entered, known, IsAt, cpu_of, counts_of, with_fate}
+use Rattle.dspec_cpu.specs.Words.{IsRoomy, Stands, HasList, IsReady, IsSteady, batches_of, spare_count, Belongs, identity, Shape, Config, CpuOp, Deed, Report, View, Counts}
 use Rattle.dspec_cpu.specs.declared.parts.CpuParts.{CpuParts as Cpu}
 use Rattle.dspec_deeds.proofs.OwnAccounts.{own_report}
 use Rattle.dspec_table.specs.declared.seats.Words.{Words}
@@ -17,30 +17,12 @@ stands_behind k c v w log ds config who entered = grind (arith, nat_tests)
 pub stands_called : (k : Config) (c : ℕ) (o : CpuOp) (v w : View) (ds : List Deed) → Stands k c (calling o v) ds w → flight_after k (Some o) ds ≡ flight_after k v.flight ds → Stands k c v ds w
 stands_called k c o v w ds s same = record { sound = s.sound; part_is = s.part_is; own = s.own; config = s.config; who = s.who; rests = s.rests; flight = s.flight ∙ same }
 
--- the report that is told of counts
-abbrev pub told_of : Counts → Report
-told_of m = record {
-  offered = m.offered;
-  accepted = m.accepted;
-  dropped = m.dropped;
-  specdropped = m.specdropped;
-  lost = m.lost;
-  discarded = m.discarded;
-  void = m.void;
-  held = m.offered - with_fate m;
-  drops = m.drops;
-  unavailable = m.unavailable;
-  busy = m.busy;
-  stopped = m.stopped;
-  worn = m.worn;
-}
-
 -- it is the report of the list whose counts they are, where that balances
 module _ (k : Config) (c : ℕ) (counts : Counts) (p : List Deed) (counted : counts ≡ counts_of k c counts.worn p) (sum : offers c p ≡ records_of_report (report k c 0 p)) where
   pub fated_by : with_fate counts ≤ counts.offered
   fated_by = rw counted (omega arith)
 
-  pub told_by : (answer : Report) → answer ≡ told_of counts → answer ≡ report k c counts.worn p
+  pub told_by : (answer : Report) → answer ≡ report_of counts → answer ≡ report k c counts.worn p
   told_by answer is = grind (arith, nat_tests)
 
 -- a CPU that stands can be called by those whose words it belongs to
@@ -102,7 +84,7 @@ module _ (shape : ℕ → Option Shape) (accepted : Record → Bool) (text : Rec
   pub fated_within : with_fate cpu.side.counts ≤ cpu.side.counts.offered
   fated_within = fated_by cpu.config cpu.cpu cpu.side.counts was.steady.list was.steady.listed.shown.counted (balanced was.steady.list was.steady.listed)
 
-  pub told : (p : List Deed) → HasList shape accepted text cpu p → (answer : Report) → answer ≡ told_of cpu.side.counts → answer ≡ report cpu.config cpu.cpu cpu.side.counts.worn p
+  pub told : (p : List Deed) → HasList shape accepted text cpu p → (answer : Report) → answer ≡ report_of cpu.side.counts → answer ≡ report cpu.config cpu.cpu cpu.side.counts.worn p
   told p had answer is = told_by cpu.config cpu.cpu cpu.side.counts p had.shown.counted (balanced p had) answer is
 
   pub few : cpu.cpu < cpu.config.cpus

@@ -1,7 +1,7 @@
 -- A call of speculate.
-use Rattle.std.proofs.Common.{◌≡◌, ◌⊎◌, ℕ, ◌+◌, ◌==◌, ◌<◌, Bool, true, false, List, [], ◌∷◌, Option, if◌then◌else◌, refl, sym, ap, ◌∙◌, subst, ⊎_elim}
+use Rattle.std.proofs.Common.{◌≡◌, ◌⊎◌, ℕ, ◌+◌, ◌==◌, ◌<◌, Bool, true, false, List, [], ◌∷◌, map, Option, if◌then◌else◌, refl, sym, ap, ◌∙◌, subst, ⊎_elim}
 use Rattle.dspec_cpu.specs.Words.{Record, Stored, Speculation, SlotState, fits_speculative, mark, CpuRow, bare, IsCaller, ShowsList, parts_of_side, AreShown, IsPresentAt, is_reached, reached_deeds}
-use Rattle.dspec_cpu.specs.Words.{Shape, Batch, Config, Deed, Speculate, Doing, CpuState}
+use Rattle.dspec_cpu.specs.Words.{one, piece_fits, contents, held, Offer, Shape, Batch, Config, Deed, Speculate, Doing, CpuState}
 use Rattle.dspec_cpu.specs.declared.reaching.Reach.{Reach}
 use Rattle.dspec_deeds.specs.declared.calls.CpuOp.TheVariants as op
 use Rattle.dspec_deeds.specs.declared.deed.SpeculateFate.TheVariants as spoken
@@ -32,6 +32,11 @@ caller_of k c id own mine few at p is marked = record { marked = marked; empty =
 -- the mark as the seat's own list has it
 pub own_mark : (c s : ℕ) (own p : List Deed) (k : Config) → bare p ≡ own → mark c s p ≡ mark c s own
 own_mark c s own p k is = (apart_bare k c p).marking s ∙ ap (mark c s) is
+
+-- whether a record fits, as the seat's own list has it
+pub own_fits : (shape : ℕ → Option Shape) (k : Config) (c : ℕ) (id : Speculation) (r : Record) (own p : List Deed) → bare p ≡ own
+    → fits_speculative shape k c id r p ≡ fits_speculative shape k c id r own
+own_fits shape k c id r own p is = ap (λ (os : List Offer). piece_fits shape (map one (contents os)) (one r) k.specsize) ((apart_bare k c p).buffers id ∙ ap (held c id) is)
 
 module _ (shape : ℕ → Option Shape) (accepted : Record → Bool) (text : Record → List ℕ) {k : Config} {c : ℕ} {batches : List Batch} (side : CpuState Stored) (p : List Deed)
     (was : AreShown shape accepted text k c (parts_of_side side) batches side.counts p) where

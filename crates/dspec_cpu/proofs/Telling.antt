@@ -1,12 +1,11 @@
 -- What a call tells by its answer comes in front of what its CPU's calls told before.
 use Rattle.std.proofs.Common.{◌≡◌, ◌+◌, ◌*◌, ℕ, zero, suc, Bool, true, false, List, [], ◌∷◌, ◌++◌, length, refl, sym, ap, ◌∙◌, ⊎_elim, append_assoc, arith}
 use Rattle.std.proofs.lemmas.Bool.Decides.{nat_tests}
-use Rattle.dspec_cpu.specs.Words.{Record, Speculation, SlotState, settled_fate, did, By, Did, is_stopped_opening, calling, known, Entered, EnteredIn, called, WithService, Decides, Goes, rests}
-use Rattle.dspec_cpu.specs.Words.{steps, spoken_deeds, traced_deeds, is_worn_decided, is_worn_spoken, is_worn_trace, CallLeaves, config_of, number_in, seat_of, worn_of, decision_deed, TracesOne}
-use Rattle.dspec_cpu.specs.Words.{SpeculatesOne, OpensOne, DecidesOne, Opens, is_worn_opening, Serves, SettledBehind, SettledSlots, shown_at, is_stopped_decided, is_stopped_spoken, is_stopped_trace}
-use Rattle.dspec_cpu.specs.Words.{Buffers, Switches, never, looked, last_looked, of_activity, of_slot, of_slots, Decided, Opening, Served, Spoken, Traced, Config, DecideFate, Deed, Settle, View}
+use Rattle.dspec_cpu.specs.Words.{Speculation, SlotState, settled_fate, did, Did, is_stopped_opening, calling, known, Entered, EnteredIn, called, WithService, Goes, rests, steps, CallLeaves}
+use Rattle.dspec_cpu.specs.Words.{config_of, number_in, seat_of, worn_of, OpensOne, Opens, is_worn_opening, Serves, SettledBehind, SettledSlots, shown_at, Buffers, Switches, never, looked}
+use Rattle.dspec_cpu.specs.Words.{last_looked, of_slots, Opening, Served, Config, DecideFate, Deed, Settle, View}
 use Rattle.dspec_cpu.specs.declared.parts.CpuParts.{CpuParts as Cpu}
-use Rattle.dspec_cpu.proofs.Told.{trace_told, speculate_told, decision_told, opening_told, settles, settles_told}
+use Rattle.dspec_cpu.proofs.Told.{opening_told, settles, settles_told}
 
 -- steps of a seat put their deeds in front of its list
 entered_own : {place : ℕ} (v w : View) (log ds : List Deed) → Entered place v log ds w → w.own ≡ ds ++ v.own
@@ -26,23 +25,9 @@ module _ {S : Type 0} (has : Cpu S → List Deed → Type 0) (old new : Cpu S) (
       → ((p : List Deed) → did (number_in old) (ds ++ p) ≡ new_done ++ did (number_in old) p) → called new ≡ record { done = new_done ++ (called old).done; worn = worn }
   tells new_done worn ds own w is = grind (arith, nat_tests)
 
-  pub traces_one : (r : Record) (a : Traced) → CallLeaves (is_worn_trace a) (is_stopped_trace a) 1 of_activity old new
-      → Goes (known (seat_of old)) (traced_deeds (number_in old) r a) (known (seat_of new)) → ((p : List Deed) → has old p → has new (traced_deeds (number_in old) r a ++ p))
-      → TracesOne has r a old new
-  traces_one r a k g l = record { tells = tells _ _ _ (goes_own g) k.wears (trace_told (number_in old) r a); leaves = k; does = record { did = g; list = l } }
-
-  pub speculates_one : (id : Speculation) (r : Record) (a : Spoken) → CallLeaves (is_worn_spoken a) (is_stopped_spoken a) 4 (of_slot (config_of old) id) old new
-      → Goes (known (seat_of old)) (spoken_deeds (number_in old) id r a) (known (seat_of new)) → ((p : List Deed) → has old p → has new (spoken_deeds (number_in old) id r a ++ p))
-      → SpeculatesOne has id r a old new
-  speculates_one id r a k g l = record { tells = tells _ _ _ (goes_own g) k.wears (speculate_told (number_in old) id r a); leaves = k; does = record { did = g; list = l } }
-
   pub opens_one : (a : Opening) → CallLeaves (is_worn_opening a) (is_stopped_opening a) (1 + 2 * (config_of old).nspec) (of_slots (last_looked (config_of old).nspec a)) old new
       → Opens (config_of old) (number_in old) a (has old) (known (seat_of old)) (has new) (known (seat_of new)) → OpensOne has a old new
   opens_one a k o = record { tells = tells [] _ _ (goes_own o.did) k.wears (opening_told (number_in old) o.missed a); leaves = k; opens = o }
-
-  pub decides_one : (w : By) (id : Speculation) (a : Decided) → CallLeaves (is_worn_decided a) (is_stopped_decided a) 5 (of_slot (config_of old) id) old new
-      → Decides (decision_deed w (number_in old) id) id a (has old) (known (seat_of old)) (has new) (known (seat_of new)) → DecidesOne has w id a old new
-  decides_one w id a k d = record { tells = tells _ _ _ (goes_own d.did) k.wears (decision_told w (number_in old) id d.alone a); leaves = k; decides = d }
 
 -- settlements, one behind the other
 settles_append : (c : ℕ) (ss ts : List (Speculation × DecideFate)) → settles c (ss ++ ts) ≡ settles c ss ++ settles c ts

@@ -1,13 +1,15 @@
 -- Serves proofs. How far a call on an identifier comes: the steps on its slot's word, and the deeds by where it ended.
-use Rattle.std.specs.Prelude.{ℕ, ◌≡◌, ◌≤◌, ◌+◌, Bool, true, false, List, [], ◌∷◌, if◌then◌else◌}
+use Rattle.std.specs.Prelude.{ℕ, ◌≡◌, ◌≤◌, ◌+◌, Bool, true, false, List, [], ◌∷◌, Option, if◌then◌else◌}
 use Rattle.dspec_cpu.specs.Calls.{Goes}
 use Rattle.dspec_cpu.specs.Touching.{Touches, at_slot}
 use Rattle.dspec_cpu.specs.Words.Outside.{Speculation, SlotState, is_inactive, speculate_at, commit_at, discard_at, issue, part, word_at, IsSound, committed_fate, IsInFlight, IfCommitting}
-use Rattle.dspec_cpu.specs.Words.Outside.{OwnCommit, TriedWord, Code, Committing, Act, Void, Granted, Attempt, Idle, Config, CpuActor, CpuOp, Deed, Speculate, Commit, Discard, Release, View, Doing}
-use Rattle.dspec_cpu.specs.declared.reaching.Reach.{Reach}
+use Rattle.dspec_cpu.specs.Words.Outside.{OwnCommit, TriedWord, fits_speculative, Record, Code, Committing, Act, Void, Granted, Attempt, Idle, Shape, Config, CpuActor, CpuOp, Deed, Speculate}
+use Rattle.dspec_cpu.specs.Words.Outside.{Commit, Discard, Release, View, Doing}
+use Rattle.dspec_cpu.specs.declared.reaching.{Reach.Reach, SlotTurn.SlotTurn}
 use Rattle.dspec_deeds.specs.declared.calls.CpuOp.TheVariants as op
 use Rattle.dspec_deeds.specs.declared.deed.SpeculateFate.TheVariants as spoken
 use Rattle.dspec_deeds.specs.declared.deed.DecideFate.TheVariants as decided
+use Rattle.dspec_cpu.specs.declared.reaching.SlotTurn.TheVariants as turn
 use Rattle.dspec_cpu.specs.declared.reaching.Reach.TheVariants as reach
 
 -- what the call does at the word of its slot
@@ -16,6 +18,19 @@ act_of (op.Speculate id r) w mine = speculate_at w id mine
 act_of (op.Commit id) w mine = commit_at w id mine
 act_of (op.Discard id) w mine = discard_at w id mine
 act_of o w mine = Idle
+
+abbrev pub act_by : SlotTurn → Speculation → SlotState → Bool → Act
+act_by turn.Speculate id w mine = speculate_at w id mine
+act_by turn.Commit id w mine = commit_at w id mine
+act_by turn.Discard id w mine = discard_at w id mine
+
+-- the call in flight is such a call on the speculation
+abbrev pub TakesTurn : SlotTurn → Speculation → Bool → Doing → Type 0
+TakesTurn turn id mine doing = (w : SlotState) → act_of doing.op w doing.mine ≡ act_by turn id w mine
+
+-- a call of speculate in flight, by the deeds of the CPU
+abbrev pub speculating : (ℕ → Option Shape) → Config → ℕ → Speculation → Record → Bool → List Deed → Doing
+speculating shape k c id r mine own = record { op = op.Speculate id r; fits = fits_speculative shape k c id r own; count = 0; mine = mine }
 
 -- how many steps on the word there are at most, a release of its own among them
 abbrev pub turns : CpuOp → ℕ

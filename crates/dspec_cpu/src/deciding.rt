@@ -9,13 +9,14 @@ use crate::callable::Callable;
 use crate::cpu::Cpu;
 use crate::listed::Listed;
 use crate::parts::CpuParts;
-use crate::reaching::{Reach, go_on};
+use crate::reaching::{Reach, SlotTurn, go_on_as};
 use crate::shared::Shared;
 use dspec_cpu_state::committed_as;
 use dspec_deeds::{CpuOp, DecideFate, Decided};
 use dspec_record::Schema;
 use dspec_table::Doing;
 use dspec_word::{Code, SpecId};
+use std::marker::Brand;
 
 // The answer that tells what becomes of a block.
 fn answer_of(fits: bool, count: u32) -> Decided
@@ -37,6 +38,17 @@ fn op_of(commits: bool, id: SpecId) -> CpuOp
         CpuOp::Commit(id)
     } else {
         CpuOp::Discard(id)
+    }
+}
+
+#[inline(always)]
+fn turn_of(commits: bool) -> SlotTurn
+    ensures { result ≡ (if commits then SlotTurn.Commit else SlotTurn.Discard) }
+{
+    if commits {
+        SlotTurn::Commit
+    } else {
+        SlotTurn::Discard
     }
 }
 
@@ -64,7 +76,9 @@ impl<S: Schema> CpuParts<S> {
             count,
             mine,
         };
-        let reached = go_on(&mut self.seat, &shared.words, id, inside, &doing);
+        let words = &shared.words;
+        let turn = turn_of(commits);
+        let reached = go_on_as::<Brand>(&mut self.seat, words, id, inside, turn, &doing);
         match reached {
             Reach::Stopped => {
                 self.side.leave_undecided::<S>(DecideFate::Stopped);

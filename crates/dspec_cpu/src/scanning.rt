@@ -6,6 +6,7 @@ ghost use Rattle.dspec_cpu.specs.Scans.{LookedAtSlot, Scanned};
 use dspec_deeds::{Config, CpuOp, Opening};
 use dspec_table::{CpuSeat, Doing, Words};
 use dspec_word::{Act, SpecId, open_at};
+use std::marker::Brand;
 
 /// What became of one slot: its speculation was given out, or it was missed, decided or not.
 pub(crate) enum Look {
@@ -35,12 +36,11 @@ fn look_at(seat: &mut CpuSeat, words: &Words, slot: u32, max_issues: u64) -> Loo
     ensures seat { IsAt words.now seat.new × (cpu_of seat.new ≡ cpu_of seat.old) }
     ensures looked { LookedAtSlot (set_up words.now) (cpu_of seat.old) slot (known seat.old) result (known seat.new) }
 {
-    let doing = opening_doing();
-    let word = seat.load_word(words, slot, &doing);
+    let word = seat.load_word::<Brand>(words, slot);
     let Act::Attempt(_) = open_at(word, max_issues) else {
         return Look::Missed(word.is_decided());
     };
-    match seat.open_word(words, slot, word, &doing) {
+    match seat.open_word(words, slot, word, &opening_doing()) {
         Ok(()) => Look::Given(SpecId::of(word.issue(), slot)),
         Err(shown) => Look::Missed(shown.is_decided()),
     }
@@ -66,7 +66,7 @@ pub(crate) fn scan_slots(seat: &mut CpuSeat, words: &Words, config: &Config) -> 
     ensures seat { IsAt words.now seat.new × (cpu_of seat.new ≡ cpu_of seat.old) }
     ensures scanned { Scanned (set_up words.now) (cpu_of seat.old) (known seat.old) result.0 result.1 (known seat.new) }
 {
-    if !seat.load_activity(words, &opening_doing()) {
+    if !seat.load_activity::<Brand>(words) {
         return (Opening::Stopped, false);
     }
     let mut busy = false;

@@ -18,6 +18,7 @@ use dspec_deeds::{Config, CpuOp};
 use dspec_record::Schema;
 use dspec_table::{Doing, LastWords, Words};
 use dspec_word::{Act, SpecId, Word, settle_at};
+use std::marker::Brand;
 
 /// A call of service in flight, with a block of so many records.
 pub(crate) fn serve(fits: bool, count: u32, mine: bool) -> Doing
@@ -83,7 +84,7 @@ impl<S: Schema> CpuParts<S> {
         ensures leaves { KeepsBatches self.old self.new }
         ensures settled { SlotDone (number_in self.old) slot result (⟦<Cpu<S> as Listed>⟧.has_list self.old) (known (seat_of self.old)) (⟦<Cpu<S> as Listed>⟧.has_list self.new) (known (seat_of self.new)) }
     {
-        let word = self.seat.load_word(words, slot, &serve(false, 0, false));
+        let word = self.seat.load_word::<Brand>(words, slot);
         // asked first by itself: where nobody waits, which is most often, the acknowledgement isn't looked at
         if !word.is_decided() {
             return false;

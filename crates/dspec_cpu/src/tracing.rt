@@ -1,7 +1,7 @@
-ghost use Rattle.std.specs.Prelude.{◌++◌, List, IsTrue};
+ghost use Rattle.std.specs.Prelude.{◌≡◌, ◌++◌, not, List, IsTrue};
 ghost use Rattle.dspec_record.specs.LaidOut.{IsLaidBy};
-ghost use Rattle.dspec_deeds.specs.declared.deed.Deed.{Deed};
-ghost use Rattle.dspec_table.specs.Seats.{known};
+ghost use Rattle.dspec_deeds.specs.{History.scan, declared.deed.Deed.Deed};
+ghost use Rattle.dspec_table.specs.{Seats.known, Seats.IsAt, Seats.set_up, Seats.cpu_of, Steps.LoadedActivity};
 ghost use Rattle.dspec_cpu.specs.{Calls.Goes, Calls.traced_deeds, Calls.is_worn_trace, Keeping.CallLeaves, Lists.IsSameCpu, Lists.number_in, Lists.schema_of, Lists.seat_of, Lists.words_of};
 ghost use Rattle.dspec_cpu.specs.{Stops.is_stopped_trace, Touching.of_activity};
 
@@ -10,9 +10,26 @@ use crate::cpu::Cpu;
 use crate::listed::Listed;
 use crate::parts::CpuParts;
 use crate::shared::Shared;
-use dspec_deeds::{CpuOp, Traced};
+use dspec_deeds::Traced;
 use dspec_record::{Recorded, Schema};
-use dspec_table::Doing;
+use dspec_table::{CpuSeat, HasDoing, Words};
+use std::marker::Brand;
+
+// The load of activity in a trace of a record that fits or doesn't.
+#[inline(always)]
+fn load_for<J: HasDoing, R: Recorded>(
+    seat: &mut CpuSeat,
+    words: &Words,
+    _rec: R,
+    _fits: bool,
+) -> bool
+    requires seat { IsAt words.now seat.old }
+    requires idle { scan (set_up words.now) (cpu_of seat.old) (known seat.old).own ≡ 0 }
+    ensures seat { IsAt words.now seat.new × (cpu_of seat.new ≡ cpu_of seat.old) }
+    ensures step { LoadedActivity J.doing (known seat.old) (not result) (known seat.new) }
+{
+    seat.load_activity::<J>(words)
+}
 
 impl<S: Schema> CpuParts<S> {
     // As `Cpu::trace`, of what can be traced as a record; it stands where it is called.
@@ -33,14 +50,7 @@ impl<S: Schema> CpuParts<S> {
             return Traced::Worn;
         }
         let fits = self.side.fits(&self.config, &self.schema, rec);
-        let copied = rec.to_rec();
-        let doing = Doing {
-            op: CpuOp::Trace(copied),
-            fits,
-            count: 0,
-            mine: false,
-        };
-        let runs = self.seat.load_activity(&shared.words, &doing);
+        let runs = load_for::<Brand, R>(&mut self.seat, &shared.words, rec, fits);
         if !runs {
             self.side.trace_stopped::<S>();
             return Traced::Stopped;

@@ -12,7 +12,7 @@ pub zeros_of : (n : ℕ) → n ≤ filled_size → take n (replicate {A = ℕ} f
 zeros_of n few = take-replicate n filled_size 0 few
 
 -- both ways of a choice have something
-either : {A : Type 0} (P : A → Type 0) (b : Bool) (x y : A) → (b ≡ true → P x) → P y → P (cond b x y)
+pub either : {A : Type 0} (P : A → Type 0) (b : Bool) (x y : A) → (b ≡ true → P x) → P y → P (cond b x y)
 either P true x y of_x of_y = of_x refl
 either P false x y of_x of_y = of_y
 
@@ -57,7 +57,7 @@ module _ (timed : Bool) (e : EnabledRows) where
       ) of_more)
       (All-cons Fits held (portions_from timed e (r ∷ []) rs) fits (portions-fit (r ∷ []) rs (one-fits r of_r) of_more))
 
-  front-is : (rs : List Record) → front_size (span_by timed rs) ≡ front_by timed
+  pub front-is : (rs : List Record) → front_size (span_by timed rs) ≡ front_by timed
   front-is rs = grind (arith, nat_tests)
 
 -- what stands before the events has as many bytes as are said

@@ -3,10 +3,10 @@ mod Ranges
 mod Sizes
 mod Collecting
 mod OneList
-mod OneStream
+pub mod OneStream
 mod Spreading
 mod Rising
 mod Texts
-mod Filling
+pub mod Filling
 mod Sample
 mod InMemory

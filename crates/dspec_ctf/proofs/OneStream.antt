@@ -28,7 +28,7 @@ accepted-small e r of_r =
     let parts : IsAccepted e.header r (enabled e.rows r.epid) = accepted-parts e.header (enabled e.rows) r of_r in
     event_small e r (values-few (enabling_of e.rows r.epid) r.values parts.values)
 
-events-small : (e : EnabledRows) (rs : List Record) → All (Accepts e) rs → length (events e rs) ≤ 76 * length rs
+pub events-small : (e : EnabledRows) (rs : List Record) → All (Accepts e) rs → length (events e rs) ≤ 76 * length rs
 events-small e [] of_r = omega arith
 events-small e (r ∷ rs) of_r =
     omega (arith, length-append (event e r) (events e rs), accepted-small e r (All-head (Accepts e) r rs of_r), events-small e rs (All-tail (Accepts e) r rs of_r))
@@ -112,7 +112,7 @@ module _ (f g : ℕ → List ℕ) (rs qs : List Record) where
       rejoin (4096 * a) 4096 (4096 * (a + 1)) rs (omega arith) ∙ ap (λ front. front ++ drop (4096 * (a + 1)) rs) parts.0
       ∙ ap (λ back. take 4096 (drop (4096 * a) qs) ++ back) behind ∙ sym (rejoin (4096 * a) 4096 (4096 * (a + 1)) qs (omega arith))
 
-few : (ps : List Record) → length (take 4096 ps) ≤ 4096
+pub few : (ps : List Record) → length (take 4096 ps) ≤ 4096
 few ps = omega (arith, length-take 4096 ps)
 
 packets-known : (e : EnabledRows) (uuid : List ℕ) (missed cpu missed' cpu' : ℕ) (rs qs : List Record) (n m : ℕ) → All (Accepts e) rs → All (Accepts e) qs
@@ -134,7 +134,7 @@ covers-test : (missed n : ℕ) (none : Bool) → (n == 0) ≡ none → n ≤ 409
 covers-test missed n true is = grind (arith, nat_tests, eqb-true)
 covers-test missed n false is = omega arith
 
-covers : (missed n : ℕ) → n ≤ 4096 * (0 + packet_count missed n)
+pub covers : (missed n : ℕ) → n ≤ 4096 * (0 + packet_count missed n)
 covers missed n = covers-test missed n (n == 0) refl
 
 pub stream-same : (e : EnabledRows) (uuid : List ℕ) (missed cpu missed' cpu' : ℕ) (rs qs : List Record) → All (Accepts e) rs → All (Accepts e) qs

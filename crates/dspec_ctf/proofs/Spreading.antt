@@ -1,20 +1,9 @@
 -- Records that go to files one after another.
-use Rattle.std.proofs.Common.{◌≡◌, ◌<◌, ◌≤◌, ◌+◌, ◌-◌, inl, inr, ℕ, suc, List, [], ◌∷◌, ◌++◌, Option, Some, None, length, get_or, take, drop, replicate, refl, ap, sym, subst, ◌∙◌, arith}
+use Rattle.std.proofs.Common.{◌≡◌, ◌<◌, ◌≤◌, ◌+◌, ◌-◌, ℕ, suc, List, [], ◌∷◌, ◌++◌, Some, length, get_or, take, drop, replicate, refl, ap, sym, subst, ◌∙◌, arith}
 use Rattle.std.proofs.Math.Seq.{take-add}
 use Rattle.std.proofs.lemmas.{Bool.Decides.nat_tests, List.length-drop, List.get_or-drop, List.take_more, List.drop_more, List.drop-drop, List.replicate_more, Option.slice_get-get_or}
 use Rattle.std.specs.Prelude.{slice_get, slice_range}
-use Rattle.dspec_ctf.specs.{Words.Record, Words.IsLatestOf, Words.IsFoundOf, Words.GoesToFile, Words.Spreads, Words.AreRuns, Words.run_records, Words.run_files, declared.rows.Run.Run}
-
--- one file alone is the latest
-latest-one : (lasts : List ℕ) (n stamp f g : ℕ) → IsLatestOf lasts n stamp f → IsLatestOf lasts n stamp g → f ≡ g
-latest-one lasts n stamp f g p q = grind (arith, nat_tests)
-
--- a record doesn't go to a file that is there, and isn't the one that was found
-pub goes-elsewhere : (lasts : List ℕ) (stamp file : ℕ) (found : Option ℕ) (after : List ℕ) → file < length lasts → IsFoundOf lasts (length lasts) stamp found
-    → (found ≡ Some file → ⊥) → GoesToFile lasts stamp file after → ⊥
-goes-elsewhere lasts stamp file None after there above other (inl goes) = omega (arith, above file there, goes.0.not_above)
-goes-elsewhere lasts stamp file (Some f) after there is other (inl goes) = other (ap Some (latest-one lasts (length lasts) stamp f file is goes.0))
-goes-elsewhere lasts stamp file found after there is other (inr goes) = omega (arith, there, goes.2)
+use Rattle.dspec_ctf.specs.{Words.Record, Words.GoesToFile, Words.Spreads, Words.AreRuns, Words.run_records, Words.run_files, declared.rows.Run.Run}
 
 -- one record more
 pub Spreads-push : (lasts mid new : List ℕ) (rs : List Record) (files : List ℕ) (r : Record) (file : ℕ) → Spreads lasts rs files mid → GoesToFile mid r.stamp file new

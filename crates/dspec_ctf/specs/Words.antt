@@ -21,6 +21,5 @@ unfoldable pub use Rattle.dspec_ctf.specs.Names.{is_letter, is_word_byte, label_
 unfoldable pub use Rattle.dspec_ctf.specs.Names.{text_fault_at, texts_fault, unfit}
 pub use Rattle.dspec_ctf.specs.Packets.{event, event_fields, events, front_size, packet, packet as packet_of, packet_around, span_bytes, stamp_bytes, values_bytes}
 unfoldable pub use Rattle.dspec_ctf.specs.Packets.{context_bytes, front_bytes, header_bytes}
-pub use Rattle.dspec_ctf.specs.Rows.{AreRuns, GoesToFile, HasNoRun, IsFileRun, IsFoundOf, IsLatestOf, missed_packets, most_records, of_file, run_files, run_packet, run_packets, run_records, Spreads}
-pub use Rattle.dspec_ctf.specs.Rows.{told_by}
+pub use Rattle.dspec_ctf.specs.Rows.{AreRuns, GoesToFile, HasNoRun, IsFileRun, IsFoundOf, missed_packets, most_records, of_file, run_files, run_packet, run_packets, run_records, Spreads, told_by}
 pub use Rattle.dspec_ctf.specs.Streams.{Accepts, HasNoPacket, HasNoRecordPacket, HasNoRecords, IsText, IsTooLong}

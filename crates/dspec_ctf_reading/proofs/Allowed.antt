@@ -1,19 +1,19 @@
 -- Names that the metadata may have can be read.
 use Rattle.std.proofs.Common.{◌≡◌, ◌≤◌, ◌<◌, ◌+◌, ◌-◌, ◌^◌, ◌==◌, ◌++◌, ◌∷◌, ℕ, Bool, true, false, inl, List, [], length, drop, map, Option, Some, None, option_map, refl, ap, sym, subst, ◌∙◌, arith}
 use Rattle.std.proofs.Common.{All}
-use Rattle.std.proofs.lemmas.Bool.{eqb-true, Decides.nat_tests}
+use Rattle.std.proofs.lemmas.{Bool.eqb-true, Bool.Decides.nat_tests, List.length-map, List.Concat.flat_map_single, List.Folds.flat_map-map}
 use Rattle.std.specs.{List.range_with_len, List.enumerate_from, Option.option_map_or, Prelude.option_and_then, Prelude.slice_get, Prelude.slice_index_or, Prelude.codes, Prelude.decimal}
 use Rattle.dspec_ctf_reading.specs.Words.{width, EnabledRows, is_next, next_words, name_place, event_fields, type_name, labelled_type, typed_line, words_at, next_in_front, kind_line, field_line}
 use Rattle.dspec_ctf_reading.specs.Words.{given_line, given_lines, event_name, field_lines, earlier, first_found, first_bad, has_stamp, labels_at, first_bad_label, label_fault_at, labels_fault}
 use Rattle.dspec_ctf_reading.specs.Words.{fields_fault, is_text_before, can_mean, text_fault_at, texts_fault, fault_at, events_fault, names_fault, form_fault, metadata_fault, process_fault}
 use Rattle.dspec_ctf_reading.specs.Words.{origin_fault, FieldLayout, is_digit, is_word, names_by, given_name, given_for, HasNumbers, Field, One, Kind, Unsigned, Signed, Float, Text, TextNext}
 use Rattle.dspec_ctf_reading.specs.Words.{ProbeNames, Origin, Names, Numbered, Given, NameKind, NameFault, FieldCount, FieldName, Label, Word, Event, EventCount, Name, Form}
-use Rattle.dspec_ctf_reading.proofs.{AllowedWords.earlier-none, AllowedWords.get-some, AllowedWords.index-map, AllowedWords.labels-fit, AllowedWords.map-long, AllowedWords.map-none}
-use Rattle.dspec_ctf_reading.proofs.{AllowedWords.names-fit, AllowedWords.none-found, AllowedWords.then-none, AllowedWords.wordy-quotable, AllowedWords.shown, AllowedWords.numbered-wordy}
-use Rattle.dspec_ctf_reading.proofs.{FieldTypes.IsQuotable, FieldTypes.type-back, FieldTypes.kind-back, FieldTypes.no-text-type, FieldTypes.no-text-name, Headings.IsShown, Lines.IsWordy}
-use Rattle.dspec_ctf_reading.proofs.{Lines.IsPiece, Lines.joined-map, Lines.AreLines-map, Lines.typed-line, Lines.text-line, NextWords.kind_of, NextWords.name-same, NextWords.name-within}
-use Rattle.dspec_ctf_reading.proofs.{TextWords.next-text, TextWords.CanMean, TextWords.text-within, TextWords.first-none, TextWords.flat, TextWords.flat-ones, TextWords.shape_at, TextWords.piece_by}
-use Rattle.dspec_ctf_reading.proofs.{TextWords.piece_at, TextWords.AreFit, TextWords.run-none, TextWords.flat-pieces, TextWords.are-fit, TextWords.words-few, Texts.IsTold}
+use Rattle.dspec_ctf_reading.proofs.{AllowedWords.earlier-none, AllowedWords.get-some, AllowedWords.index-map, AllowedWords.labels-fit, AllowedWords.map-none, AllowedWords.names-fit}
+use Rattle.dspec_ctf_reading.proofs.{AllowedWords.none-found, AllowedWords.then-none, AllowedWords.wordy-quotable, AllowedWords.shown, AllowedWords.numbered-wordy, FieldTypes.IsQuotable}
+use Rattle.dspec_ctf_reading.proofs.{FieldTypes.type-back, FieldTypes.kind-back, FieldTypes.no-text-type, FieldTypes.no-text-name, Headings.IsShown, Lines.IsWordy, Lines.IsPiece, Lines.AreLines-map}
+use Rattle.dspec_ctf_reading.proofs.{Lines.typed-line, Lines.text-line, NextWords.kind_of, NextWords.name-same, NextWords.name-within, TextWords.next-text, TextWords.CanMean, TextWords.text-within}
+use Rattle.dspec_ctf_reading.proofs.{TextWords.first-none, TextWords.flat, TextWords.shape_at, TextWords.piece_by, TextWords.piece_at, TextWords.AreFit, TextWords.run-none, TextWords.flat-pieces}
+use Rattle.dspec_ctf_reading.proofs.{TextWords.are-fit, TextWords.words-few, Texts.IsTold}
 
 -- numbered names
 numbered-told : (e : EnabledRows) (place : ℕ) → place + 1 < 2 ^ 64 → length (event_fields e (place + 1)) ≤ 8 → IsTold e Numbered place
@@ -28,8 +28,8 @@ numbered-told e place low few =
       fields = record {
         lines = map line (enumerate_from 0 fs);
         pieces = map (λ p. shape p ∷ []) (enumerate_from 0 fs);
-        text_is = joined-map line (enumerate_from 0 fs);
-        shapes_are = sym (flat-ones shape (enumerate_from 0 fs));
+        text_is = sym (flat_map-map (λ line. line) line (enumerate_from 0 fs));
+        shapes_are = flat_map-map (λ piece. piece) (λ p. shape p ∷ []) (enumerate_from 0 fs) ∙ flat_map_single shape (enumerate_from 0 fs);
         are = AreLines-map line (λ p. shape p ∷ []) (length fs)
             (λ k f within. typed-line (type_name f) (codes "arg_" ++ decimal k) (width f) (kind-back Unsigned f) (no-text-name f)
             (numbered-wordy (codes "arg_") k refl (omega (arith, few, within)))) 0 fs (omega arith);
@@ -74,12 +74,21 @@ fit-at stamped e given place n here event is =
     record {
       here = here;
       event = event;
-      many = ap (λ k. k + next_words n.kinds) (sym (map-long (λ name. name.now) n.fields.now)) ∙ eqb-true (length names + next_words n.kinds) (length fs) counted.0;
+      many = ap (λ k. k + next_words n.kinds) (sym (length-map n.fields.now (λ name. name.now))) ∙ eqb-true (length names + next_words n.kinds) (length fs) counted.0;
       can = can;
       fields = λ k within.
-          subst IsWordy (index-map (λ name. name.now) n.fields.now k) (names-fit stamped names fields_fit k (omega (arith, within, map-long (λ name. name.now) n.fields.now)));
+          subst IsWordy (index-map (λ name. name.now) n.fields.now k) (names-fit stamped names fields_fit k (omega (arith, within, length-map n.fields.now (λ name. name.now))));
       labels = λ k within. labels-fit (labels_at n k) (labels_none k within);
     }
+
+-- a number's line
+number-piece : (n : ProbeNames) (k : ℕ) (f : Field) (kind : Kind) (name : List ℕ)
+    → IsWordy name × (All IsQuotable (labels_at n (name_place n.kinds k)) × (length (labels_at n (name_place n.kinds k)) ≤ 2 ^ 64)) → given_name n k ≡ name
+    → IsPiece (typed_line (labelled_type kind (labels_at n (name_place n.kinds k)) f) name) (shape_at n.kinds (given_name n) (k, f) ∷ [])
+number-piece n k f kind name fit is =
+    let labels : List (List ℕ) = labels_at n (name_place n.kinds k) in
+    subst (λ called. IsPiece (typed_line (labelled_type kind labels f) name) (record { name = called; width = width f } ∷ [])) (sym is)
+    (typed-line (labelled_type kind labels f) name (width f) (λ more. type-back kind labels f more fit.1.1 fit.1.0) (no-text-type kind labels f) fit.0)
 
 -- a field's line, by what the field means
 kind-piece : (n : ProbeNames) (k : ℕ) (f : Field) (kind : Kind) (name : List ℕ)
@@ -87,18 +96,9 @@ kind-piece : (n : ProbeNames) (k : ℕ) (f : Field) (kind : Kind) (name : List �
     → words_at n k ≤ 8 → given_name n k ≡ name → IsPiece (kind_line n k f kind name) (piece_by n.kinds (given_name n) kind (k, f))
 kind-piece n k f TextNext name fit few is = inl (refl, refl)
 kind-piece n k f Text name fit few is = grind (arith, nat_tests, IsPiece, text-line)
-kind-piece n k f Unsigned name fit few is =
-    let labels : List (List ℕ) = labels_at n (name_place n.kinds k) in
-    subst (λ called. IsPiece (typed_line (labelled_type Unsigned labels f) name) (record { name = called; width = width f } ∷ [])) (sym is)
-    (typed-line (labelled_type Unsigned labels f) name (width f) (λ more. type-back Unsigned labels f more (fit refl).1.1 (fit refl).1.0) (no-text-type Unsigned labels f) (fit refl).0)
-kind-piece n k f Signed name fit few is =
-    let labels : List (List ℕ) = labels_at n (name_place n.kinds k) in
-    subst (λ called. IsPiece (typed_line (labelled_type Signed labels f) name) (record { name = called; width = width f } ∷ [])) (sym is)
-    (typed-line (labelled_type Signed labels f) name (width f) (λ more. type-back Signed labels f more (fit refl).1.1 (fit refl).1.0) (no-text-type Signed labels f) (fit refl).0)
-kind-piece n k f Float name fit few is =
-    let labels : List (List ℕ) = labels_at n (name_place n.kinds k) in
-    subst (λ called. IsPiece (typed_line (labelled_type Float labels f) name) (record { name = called; width = width f } ∷ [])) (sym is)
-    (typed-line (labelled_type Float labels f) name (width f) (λ more. type-back Float labels f more (fit refl).1.1 (fit refl).1.0) (no-text-type Float labels f) (fit refl).0)
+kind-piece n k f Unsigned name fit few is = number-piece n k f Unsigned name (fit refl) is
+kind-piece n k f Signed name fit few is = number-piece n k f Signed name (fit refl) is
+kind-piece n k f Float name fit few is = number-piece n k f Float name (fit refl) is
 
 -- the next words of a text have no line
 no-line : {A : Type 0} (o : Option A) (none : List ℕ) → option_map_or (λ a. none) o none ≡ none
@@ -158,7 +158,7 @@ given-told e names given place n low most few here name_is lines_are called fit 
       fields = record {
         lines = map line (enumerate_from 0 fs);
         pieces = map piece (enumerate_from 0 fs);
-        text_is = lines_are ∙ joined-map line (enumerate_from 0 fs);
+        text_is = lines_are ∙ sym (flat_map-map (λ line. line) line (enumerate_from 0 fs));
         shapes_are = all ∙ shapes-same (given_name n) ((names_by names).field (place + 1)) (λ k. sym (called k)) 0 fs;
         are = AreLines-map line piece (length fs) (λ k f within. given-line e given place n fit few k f within (words-few n fs fit.can most k within)) 0 fs (omega arith);
       };
@@ -192,7 +192,7 @@ all-told origin form e (Given given) numbers is place within =
     let events : first_bad false names ≡ None = map-none told (first_bad false names) both.0 in
     let event : IsWordy n.event.now =
     subst (λ o. IsWordy (option_map_or (λ m. m.event.now) o [])) found.1
-    (subst IsWordy (index-map (λ m. m.event.now) given.now place) (names-fit false names events place (omega (arith, within, many, map-long (λ m. m.event.now) given.now)))) in
+    (subst IsWordy (index-map (λ m. m.event.now) given.now place) (names-fit false names events place (omega (arith, within, many, length-map given.now (λ m. m.event.now))))) in
     let few : (k : ℕ) → length (labels_at n k) ≤ 2 ^ 64 =
     λ k. subst (λ o. option_map_or (λ m. length (labels_at m k)) o 0 ≤ 2 ^ 64) here (numbers.labels (place + 1) k) in
     given-told e (Given given) given.now place n (omega (arith, within, numbers.events)) (numbers.fields (place + 1)) few here

@@ -1,8 +1,8 @@
 -- Words, identifiers and labels that the metadata may have can be read.
 use Rattle.std.proofs.Common.{◌≡◌, ◌≢◌, ◌≤◌, ◌<◌, ◌+◌, ◌&&◌, ◌||◌, ◌==◌, ◌⊎◌, inl, inr, ℕ, zero, suc, Bool, true, false, cond, leb, not, List, [], ◌∷◌, length, map, take, Option, Some, None}
-use Rattle.std.proofs.Common.{option_map, refl, ap, subst, arith, All, ◌-◌, ◌^◌, ◌++◌, ◌∙◌, length-append}
+use Rattle.std.proofs.Common.{option_map, refl, subst, arith, All, ◌-◌, ◌^◌, ◌++◌, ◌∙◌, length-append}
 use Rattle.std.proofs.lemmas.{Bool.eqb-true, Bool.eqb-false, Bool.leb-true, Bool.le-leb, Bool.ne_eqb, Bool.and_parts, Bool.and_from, Bool.or_cases, Bool.or_from, Bool.or_right, Bool.not_from_false}
-use Rattle.std.proofs.lemmas.{Bool.Decides.nat_tests, Fmt.decimal_nonempty, List.Elements.All-nil, List.Elements.All-cons, List.Folds.list_all-append}
+use Rattle.std.proofs.lemmas.{Bool.not-false, Bool.Decides.nat_tests, Fmt.decimal_nonempty, List.Elements.All-from_get_or, List.Folds.list_all-append}
 use Rattle.std.specs.{List.list_all, List.range_with_len, Option.option_map_or, Prelude.slice_get, Prelude.slice_index_or, Prelude.option_and_then, Prelude.decimal}
 use Rattle.dspec_ctf_reading.specs.Words.{is_letter, is_word_byte, begins_well, is_identifier, unfit, earlier, first_found, bad_name, bad_at, first_bad, is_label_byte, is_label, bad_label_at}
 use Rattle.dspec_ctf_reading.specs.Words.{first_bad_label, process_fault, is_digit, is_word, is_quoted, Process}
@@ -25,9 +25,6 @@ pub then-none : {A : Type 0} (b : Bool) (x : A) (o : Option A) → cond b o (Som
 then-none true x o is = (refl, is)
 then-none false x o is = absurd (cc)
 
-eqb-false' : (m n : ℕ) → (m == n) ≡ false → m ≢ n
-eqb-false' m n is = eqb-false m n is
-
 pub none-found : {A : Type 0} (f : ℕ → Option A) (k a place : ℕ) → first_found f (range_with_len a k) ≡ None → a ≤ place → place < a + k → f place ≡ None
 none-found f zero a place is low high = absurd (omega (arith, low, high))
 none-found f (suc k) a place is low high =
@@ -36,7 +33,7 @@ none-found f (suc k) a place is low high =
   where
     go : (b : Bool) → (a == place) ≡ b → f a ≡ None → (a + 1 ≤ place → f place ≡ None) → f place ≡ None
     go true same first later = subst (λ n. f n ≡ None) (eqb-true a place same) first
-    go false other first later = later (omega (arith, low, eqb-false' a place other))
+    go false other first later = later (omega (arith, low, eqb-false a place other))
 
 -- a part of a list by its place
 pub index-map : {A : Type 0} (f : A → List ℕ) (xs : List A) (k : ℕ) → slice_index_or (map f xs) k [] ≡ option_map_or f (slice_get xs k) []
@@ -49,10 +46,6 @@ pub get-some : {A : Type 0} (xs : List A) (k : ℕ) → k < length xs → (x : A
 get-some [] k within = absurd (omega (arith, within))
 get-some (x ∷ xs) zero within = (x, refl)
 get-some (x ∷ xs) (suc k) within = get-some xs k (omega (arith, within))
-
-pub map-long : {A B : Type 0} (f : A → B) (xs : List A) → length (map f xs) ≡ length xs
-map-long f [] = refl
-map-long f (x ∷ xs) = ap suc (map-long f xs)
 
 -- what is a word can stand in quotes
 quoted-of : (b : ℕ) → 48 ≤ b → b ≤ 122 → b ≢ 92 → is_quoted b ≡ true
@@ -111,11 +104,7 @@ unfolding unfit
 fit-name name is =
     let first = else-none _ _ _ is in
     let second = else-none (not (is_identifier name)) _ _ first.1 in
-    wordy name (not-not (is_identifier name) second.0)
-  where
-    not-not : (b : Bool) → not b ≡ false → b ≡ true
-    not-not true is = refl
-    not-not false is = absurd (cc)
+    wordy name (not-false (is_identifier name) second.0)
 
 pub names-fit : (stamped : Bool) (names : List (List ℕ)) → first_bad stamped names ≡ None → (place : ℕ) → place < length names → IsWordy (slice_index_or names place [])
 unfolding first_bad bad_at bad_name
@@ -131,19 +120,11 @@ label-fits label is =
     let parts = and_parts (leb 1 (length label) && leb (length label) 255) (list_all is_label_byte label) is in
     (parts.1, leb-true 1 (length label) (and_parts (leb 1 (length label)) (leb (length label) 255) parts.0).0)
 
-each-label : (labels : List (List ℕ)) → ((k : ℕ) → k < length labels → IsQuotable (slice_index_or labels k [])) → All IsQuotable labels
-each-label [] each = All-nil IsQuotable
-each-label (label ∷ labels) each = All-cons IsQuotable label labels (each 0 (omega arith)) (each-label labels (λ k within. each (suc k) (omega (arith, within))))
-
 pub labels-fit : (labels : List (List ℕ)) → first_bad_label labels ≡ None → All IsQuotable labels
 unfolding first_bad_label bad_label_at
 labels-fit labels is =
-    each-label labels (λ k within. label-fits (slice_index_or labels k [])
-    (good (is_label (slice_index_or labels k [])) k (none-found (bad_label_at labels) (length labels) 0 k is (omega arith) (omega (arith, within)))))
-  where
-    good : (b : Bool) (k : ℕ) → cond b None (Some k) ≡ None → b ≡ true
-    good true k is = refl
-    good false k is = absurd (cc)
+    All-from_get_or IsQuotable labels [] (λ k within. label-fits (slice_index_or labels k [])
+    (then-none (is_label (slice_index_or labels k [])) k None (none-found (bad_label_at labels) (length labels) 0 k is (omega arith) (omega (arith, within)))).0)
 
 -- the process
 pub shown : (process : Option Process) → option_and_then process_fault process ≡ None → option_map_or (λ p. p.pid) process 0 < 2 ^ 64 → IsShown process
@@ -152,11 +133,7 @@ shown None is low = tt
 shown (Some p) is low =
     let first = else-none (not (is_label p.host.now)) _ _ is in
     let second = else-none (not (is_label p.name.now)) _ _ first.1 in
-    (label-fits p.host.now (not-not (is_label p.host.now) first.0), (label-fits p.name.now (not-not (is_label p.name.now) second.0), low))
-  where
-    not-not : (b : Bool) → not b ≡ false → b ≡ true
-    not-not true is = refl
-    not-not false is = absurd (cc)
+    (label-fits p.host.now (not-false (is_label p.host.now) first.0), (label-fits p.name.now (not-false (is_label p.name.now) second.0), low))
 
 -- numbered names
 pub numbered-wordy : (text : List ℕ) (n : ℕ) → list_all is_word text ≡ true → n < 2 ^ 64 → IsWordy (text ++ decimal n)

@@ -1,197 +1,233 @@
--- Each event and each packet takes some bytes: so the number that shows that reading ends changes nothing, from the number of bytes on.
-use Rattle.std.proofs.Common.{◌≡◌, ◌≤◌, ◌<◌, ◌+◌, ◌-◌, ◌*◌, ◌/◌, ◌==◌, ℕ, zero, suc, Bool, true, false, cond, leb, List, [], ◌∷◌, length, take, drop, Option, Some, None, option_map, refl, ap, arith}
-use Rattle.std.proofs.Common.{length-drop}
+-- Each event and each packet takes some bytes: so the number that shows that reading ends changes nothing, from the number of bytes on. Nor is a packet
+-- changed by what stands behind it.
+use Rattle.std.proofs.Common.{◌≡◌, ◌≤◌, ◌<◌, ◌+◌, ◌-◌, ◌*◌, ◌/◌, ◌==◌, ◌++◌, ℕ, zero, suc, Bool, true, false, cond, leb, List, [], ◌∷◌, length, take, drop, Option, Some, None, option_map, refl, ap}
+use Rattle.std.proofs.Common.{sym, subst, ◌∙◌, arith, length-drop, length-append}
+use Rattle.std.proofs.lemmas.{Bool.leb-true, Bool.le-leb, Bool.cond-true, List.take-append-le, List.drop-append-le}
 use Rattle.std.specs.Prelude.{option_and_then}
 use Rattle.dspec_ctf_reading.specs.Words.{FieldLayout, EventLayout, Layout, PacketRead, FrontRead, PartRead, then_read, read_number, read_bytes, read_stamp, read_span, find_event, read_payload}
 use Rattle.dspec_ctf_reading.specs.Words.{read_event_body, read_event, read_events_within, read_events, read_this, read_header, read_counts, read_front, sizes_agree, with_events, read_body}
 use Rattle.dspec_ctf_reading.specs.Words.{read_packet, read_packets_within, read_file}
-use Rattle.dspec_ctf_reading.proofs.Agreeing.{Agrees, agrees}
+use Rattle.dspec_ctf_reading.proofs.Agreeing.{Agrees, agree, agrees}
 
--- behind the part, if there is one, there are so many bytes at most
-unfoldable pub Leaves : {A : Type 0} → ℕ → PartRead A → Type 0
-Leaves n None = Unit
-Leaves n (Some p) = length p.1 ≤ n
+-- behind the part, if there is one, there are so many bytes at most; and where more bytes stand behind all, the other part is the same, and leaves them too
+unfoldable pub Goes : {A : Type 0} → List ℕ → ℕ → PartRead A → PartRead A → Type 0
+Goes more m None other = Unit
+Goes more m (Some p) other = (length p.1 ≤ m) × (other ≡ Some (p.0, p.1 ++ more))
 
-Leaves-then : {A B : Type 0} (m n : ℕ) (part : PartRead A) (f : A → List ℕ → PartRead B) → Leaves m part
-    → ((x : A) (rest : List ℕ) → length rest ≤ m → Leaves n (f x rest)) → Leaves n (then_read part f)
-unfolding Leaves
-Leaves-then m n None f few next = tt
-Leaves-then m n (Some p) f few next = next p.0 p.1 few
+Goes-then : {A B : Type 0} (more : List ℕ) (m : ℕ) (part other : PartRead A) (f g : A → List ℕ → PartRead B) → Goes more m part other
+    → ((x : A) (rest : List ℕ) → length rest ≤ m → Goes more m (f x rest) (g x (rest ++ more))) → Goes more m (then_read part f) (then_read other g)
+unfolding Goes
+Goes-then more m None other f g goes next = tt
+Goes-then more m (Some p) other f g goes next = subst (λ q. Goes more m (f p.0 p.1) (then_read q g)) (sym goes.1) (next p.0 p.1 goes.0)
 
-Leaves-map : {A B : Type 0} (n : ℕ) (part : PartRead A) (g : A → B) → Leaves n part → Leaves n (option_map (λ p. (g p.0, p.1)) part)
-unfolding Leaves
-Leaves-map n None g few = tt
-Leaves-map n (Some p) g few = few
+Goes-map : {A B : Type 0} (more : List ℕ) (m : ℕ) (part other : PartRead A) (g : A → B) → Goes more m part other
+    → Goes more m (option_map (λ p. (g p.0, p.1)) part) (option_map (λ p. (g p.0, p.1)) other)
+unfolding Goes
+Goes-map more m None other g goes = tt
+Goes-map more m (Some p) other g goes = (goes.0, ap (option_map (λ p. (g p.0, p.1))) goes.1)
 
-Leaves-choice : {A B : Type 0} (n : ℕ) (o : Option A) (f : A → PartRead B) → ((x : A) → Leaves n (f x)) → Leaves n (option_and_then f o)
-unfolding Leaves
-Leaves-choice n None f each = tt
-Leaves-choice n (Some x) f each = each x
+Goes-choice : {A B : Type 0} (more : List ℕ) (m : ℕ) (o : Option A) (f g : A → PartRead B) → ((x : A) → Goes more m (f x) (g x)) → Goes more m (option_and_then f o) (option_and_then g o)
+unfolding Goes
+Goes-choice more m None f g each = tt
+Goes-choice more m (Some x) f g each = each x
 
-Leaves-more : {A : Type 0} (m n : ℕ) (part : PartRead A) → m ≤ n → Leaves m part → Leaves n part
-unfolding Leaves
-Leaves-more m n None up few = tt
-Leaves-more m n (Some p) up few = omega (arith, up, few)
+Goes-test : (more : List ℕ) (m : ℕ) (b : Bool) (rest : List ℕ) → length rest ≤ m → Goes {A = Unit} more m (cond b (Some (tt, rest)) None) (cond b (Some (tt, rest ++ more)) None)
+unfolding Goes
+Goes-test more m true rest few = (few, refl)
+Goes-test more m false rest few = tt
 
-number-leaves : (n : ℕ) (bytes : List ℕ) → Leaves (length bytes - n) (read_number n bytes)
-unfolding Leaves
-number-leaves zero bytes = omega arith
-number-leaves (suc n) [] = tt
-number-leaves (suc n) (b ∷ bytes) =
-    Leaves-map (length (b ∷ bytes) - suc n) (read_number n bytes) (λ x. b + 256 * x)
-    (Leaves-more (length bytes - n) (length (b ∷ bytes) - suc n) (read_number n bytes) (omega arith) (number-leaves n bytes))
+number-goes : (n m : ℕ) (more bytes : List ℕ) → length bytes ≤ m + n → Goes more m (read_number n bytes) (read_number n (bytes ++ more))
+unfolding Goes
+number-goes zero m more bytes few = (omega (arith, few), refl)
+number-goes (suc n) m more [] few = tt
+number-goes (suc n) m more (b ∷ bytes) few =
+    Goes-map more m (read_number n bytes) (read_number n (bytes ++ more)) (λ x. b + 256 * x) (number-goes n m more bytes (omega (arith, few)))
 
-number-within : (n m : ℕ) (bytes : List ℕ) → length bytes ≤ m → Leaves m (read_number n bytes)
-number-within n m bytes few = Leaves-more (length bytes - n) m (read_number n bytes) (omega (arith, few)) (number-leaves n bytes)
+number-within : (n m : ℕ) (more bytes : List ℕ) → length bytes ≤ m → Goes more m (read_number n bytes) (read_number n (bytes ++ more))
+number-within n m more bytes few = number-goes n m more bytes (omega (arith, few))
 
-stamp-within : (timed : Bool) (m : ℕ) (bytes : List ℕ) → length bytes ≤ m → Leaves m (read_stamp timed bytes)
-unfolding Leaves
-stamp-within false m bytes few = few
-stamp-within true m bytes few = Leaves-map m (read_number 8 bytes) Some (number-within 8 m bytes few)
+stamp-goes : (timed : Bool) (m : ℕ) (more bytes : List ℕ) → length bytes ≤ m → Goes more m (read_stamp timed bytes) (read_stamp timed (bytes ++ more))
+unfolding Goes
+stamp-goes false m more bytes few = (few, refl)
+stamp-goes true m more bytes few = Goes-map more m (read_number 8 bytes) (read_number 8 (bytes ++ more)) Some (number-within 8 m more bytes few)
 
-span-within : (timed : Bool) (m : ℕ) (bytes : List ℕ) → length bytes ≤ m → Leaves m (read_span timed bytes)
-unfolding Leaves
-span-within false m bytes few = few
-span-within true m bytes few =
-    Leaves-then m m (read_number 8 bytes) (λ begin rest. option_map (λ p. (Some (begin, p.0), p.1)) (read_number 8 rest)) (number-within 8 m bytes few)
-    (λ begin rest few'. Leaves-map m (read_number 8 rest) (λ end. Some (begin, end)) (number-within 8 m rest few'))
+span-goes : (timed : Bool) (m : ℕ) (more bytes : List ℕ) → length bytes ≤ m → Goes more m (read_span timed bytes) (read_span timed (bytes ++ more))
+unfolding Goes
+span-goes false m more bytes few = (few, refl)
+span-goes true m more bytes few =
+    Goes-then more m (read_number 8 bytes) (read_number 8 (bytes ++ more)) _ _ (number-within 8 m more bytes few) (λ begin rest few.
+    Goes-map more m (read_number 8 rest) (read_number 8 (rest ++ more)) (λ end. Some (begin, end)) (number-within 8 m more rest few))
 
-values-within : (fields : List FieldLayout) (m : ℕ) (bytes : List ℕ) → length bytes ≤ m → Leaves m (read_payload fields bytes)
-unfolding Leaves
-values-within [] m bytes few = few
-values-within (field ∷ fields) m bytes few =
-    Leaves-then m m (read_number field.width bytes) (λ value rest. option_map (λ p. ((field.name, value) ∷ p.0, p.1)) (read_payload fields rest)) (number-within field.width m bytes few)
-    (λ value rest few'. Leaves-map m (read_payload fields rest) (λ more. (field.name, value) ∷ more) (values-within fields m rest few'))
+values-goes : (fields : List FieldLayout) (m : ℕ) (more bytes : List ℕ) → length bytes ≤ m → Goes more m (read_payload fields bytes) (read_payload fields (bytes ++ more))
+unfolding Goes
+values-goes [] m more bytes few = (few, refl)
+values-goes (field ∷ fields) m more bytes few =
+    Goes-then more m (read_number field.width bytes) (read_number field.width (bytes ++ more)) _ _ (number-within field.width m more bytes few) (λ value rest few.
+    Goes-map more m (read_payload fields rest) (read_payload fields (rest ++ more)) (λ others. (field.name, value) ∷ others) (values-goes fields m more rest few))
 
-event_body-within : (timed : Bool) (event : EventLayout) (m : ℕ) (bytes : List ℕ) → length bytes ≤ m → Leaves m (read_event_body timed event bytes)
-event_body-within timed event m bytes few =
-    Leaves-then m m (read_stamp timed bytes)
-    (λ stamp rest. option_map (λ p. (record { id = event.id; name = event.name; stamp = stamp; values = p.0 }, p.1)) (read_payload event.fields rest))
-    (stamp-within timed m bytes few)
-    (λ stamp rest few'. Leaves-map m (read_payload event.fields rest) (λ values. record { id = event.id; name = event.name; stamp = stamp; values = values }) (values-within event.fields m rest few'))
+event_body-goes : (timed : Bool) (event : EventLayout) (m : ℕ) (more bytes : List ℕ) → length bytes ≤ m → Goes more m (read_event_body timed event bytes) (read_event_body timed event (bytes ++ more))
+event_body-goes timed event m more bytes few =
+    Goes-then more m (read_stamp timed bytes) (read_stamp timed (bytes ++ more)) _ _ (stamp-goes timed m more bytes few) (λ stamp rest few.
+    Goes-map more m (read_payload event.fields rest) (read_payload event.fields (rest ++ more)) (λ values. record { id = event.id; name = event.name; stamp = stamp; values = values })
+    (values-goes event.fields m more rest few))
 
 -- an event takes its number's bytes
-event-leaves : (layout : Layout) (bytes : List ℕ) → Leaves (length bytes - 4) (read_event layout bytes)
-event-leaves layout bytes =
+event-goes : (layout : Layout) (bytes : List ℕ) → Goes [] (length bytes - 4) (read_event layout bytes) (read_event layout (bytes ++ []))
+event-goes layout bytes =
     let m : ℕ = length bytes - 4 in
-    Leaves-then m m (read_number 4 bytes) (λ id rest. option_and_then (λ event. read_event_body layout.timed event rest) (find_event id layout.events)) (number-leaves 4 bytes)
-    (λ id rest few. Leaves-choice m (find_event id layout.events) (λ event. read_event_body layout.timed event rest) (λ event. event_body-within layout.timed event m rest few))
+    Goes-then [] m (read_number 4 bytes) (read_number 4 (bytes ++ [])) _ _ (number-goes 4 m [] bytes (omega arith)) (λ id rest few.
+    Goes-choice [] m (find_event id layout.events) _ _ (λ event. event_body-goes layout.timed event m [] rest few))
 
--- two ways of going on that are the same wherever fewer bytes are left give the same
-rest-same : {A : Type 0} (n : ℕ) (part : PartRead A) (f g : List ℕ → Option (List A)) → Leaves n part → ((rest : List ℕ) → length rest ≤ n → f rest ≡ g rest)
-    → option_and_then (λ p. option_map (λ more. p.0 ∷ more) (f p.1)) part ≡ option_and_then (λ p. option_map (λ more. p.0 ∷ more) (g p.1)) part
-unfolding Leaves
-rest-same n None f g few same = refl
-rest-same n (Some p) f g few same = ap (option_map (λ more. p.0 ∷ more)) (same p.1 few)
+this-goes : (n x m : ℕ) (more bytes : List ℕ) → length bytes ≤ m + n → Goes more m (read_this n x bytes) (read_this n x (bytes ++ more))
+this-goes n x m more bytes few =
+    Goes-then more m (read_number n bytes) (read_number n (bytes ++ more)) (λ v rest. cond (v == x) (Some (tt, rest)) None) (λ v rest. cond (v == x) (Some (tt, rest)) None)
+    (number-goes n m more bytes few) (λ v rest few. Goes-test more m (v == x) rest few)
 
-pub events-bound : (layout : Layout) (most more : ℕ) (bytes : List ℕ) → length bytes ≤ most → length bytes ≤ more → read_events_within most layout bytes ≡ read_events_within more layout bytes
-events-bound layout zero zero [] few few' = refl
-events-bound layout zero (suc more) [] few few' = refl
-events-bound layout (suc most) zero [] few few' = refl
-events-bound layout (suc most) (suc more) [] few few' = refl
-events-bound layout zero more (b ∷ bytes) few few' = absurd (omega (arith, few))
-events-bound layout (suc most) zero (b ∷ bytes) few few' = absurd (omega (arith, few'))
-events-bound layout (suc most) (suc more) (b ∷ bytes) few few' =
-    rest-same (length (b ∷ bytes) - 4) (read_event layout (b ∷ bytes)) (read_events_within most layout) (read_events_within more layout) (event-leaves layout (b ∷ bytes))
-    (λ rest short. events-bound layout most more rest (omega (arith, few, short)) (omega (arith, few', short)))
-
--- likewise of packets
-this-leaves : (n x : ℕ) (bytes : List ℕ) → Leaves (length bytes - n) (read_this n x bytes)
-unfolding Leaves
-this-leaves n x bytes = go (read_number n bytes) (number-leaves n bytes)
+bytes-goes : (n m : ℕ) (more bytes : List ℕ) → length bytes ≤ m → Goes more m (read_bytes n bytes) (read_bytes n (bytes ++ more))
+unfolding Goes
+bytes-goes n m more bytes few = go (leb n (length bytes)) refl
   where
-    go-test : (b : Bool) (rest : List ℕ) → length rest ≤ length bytes - n → Leaves {A = Unit} (length bytes - n) (cond b (Some (tt, rest)) None)
-    go-test true rest few = few
-    go-test false rest few = tt
-
-    go : (part : PartRead ℕ) → Leaves (length bytes - n) part → Leaves {A = Unit} (length bytes - n) (option_and_then (λ p. cond (p.0 == x) (Some (tt, p.1)) None) part)
-    go None few = tt
-    go (Some p) few = go-test (p.0 == x) p.1 few
-
-bytes-within : (n m : ℕ) (bytes : List ℕ) → length bytes ≤ m → Leaves m (read_bytes n bytes)
-unfolding Leaves
-bytes-within n m bytes few = go (leb n (length bytes))
-  where
-    go : (b : Bool) → Leaves {A = List ℕ} m (cond b (Some (take n bytes, drop n bytes)) None)
-    go true = omega (arith, few, length-drop n bytes)
-    go false = tt
-
-header-leaves : (bytes : List ℕ) → Leaves (length bytes - 4) (read_header bytes)
-header-leaves bytes =
-    let m : ℕ = length bytes - 4 in
-    Leaves-then m m (read_this 4 3254525889 bytes) (λ _ rest. then_read (read_bytes 16 rest) (λ uuid rest. option_map (λ p. (uuid, p.1)) (read_this 4 0 rest))) (this-leaves 4 3254525889 bytes)
-    (λ _ rest few. Leaves-then m m (read_bytes 16 rest) (λ uuid rest. option_map (λ p. (uuid, p.1)) (read_this 4 0 rest)) (bytes-within 16 m rest few)
-    (λ uuid rest few. Leaves-map m (read_this 4 0 rest) (λ _. uuid) (Leaves-more (length rest - 4) m (read_this 4 0 rest) (omega (arith, few)) (this-leaves 4 0 rest))))
-
-counts-within : (uuid : List ℕ) (span : Option (ℕ × ℕ)) (m : ℕ) (bytes : List ℕ) → length bytes ≤ m → Leaves m (read_counts uuid span bytes)
-counts-within uuid span m bytes few =
-    Leaves-then m m (read_number 8 bytes) _ (number-within 8 m bytes few) (λ content_size rest few.
-    Leaves-then m m (read_number 8 rest) _ (number-within 8 m rest few) (λ packet_size rest few.
-    Leaves-then m m (read_number 8 rest) _ (number-within 8 m rest few) (λ discarded rest few.
-    Leaves-map m (read_number 4 rest) (λ cpu. record { uuid = uuid; span = span; content_size = content_size; packet_size = packet_size; discarded = discarded; cpu = cpu })
-    (number-within 4 m rest few))))
-
-body-leaves : (layout : Layout) (bytes : List ℕ) (front : FrontRead) (rest : List ℕ) → length rest ≤ length bytes - 4 → Leaves (length bytes - 4) (read_body layout bytes front rest)
-unfolding Leaves
-body-leaves layout bytes front rest few = go (sizes_agree front (length bytes - length rest) (length bytes)) refl
-  where
-    ends : sizes_agree front (length bytes - length rest) (length bytes) ≡ true → length bytes - length rest ≤ front.packet_size / 8
-    ends h =
-        let are : Agrees front (length bytes - length rest) (length bytes) = agrees front (length bytes - length rest) (length bytes) h in
-        omega (arith, are.low, are.within)
-
-    there : (o : Option PacketRead) → length bytes - length rest ≤ front.packet_size / 8 → Leaves (length bytes - 4) (option_map (λ packet. (packet, drop (front.packet_size / 8) bytes)) o)
-    there None far = tt
-    there (Some packet) far = omega (arith, far, few, length-drop (front.packet_size / 8) bytes)
-
-    go : (b : Bool) → sizes_agree front (length bytes - length rest) (length bytes) ≡ b
-        → Leaves {A = PacketRead} (length bytes - 4) (cond b (option_map (λ packet. (packet, drop (front.packet_size / 8) bytes))
-        (with_events layout front (take (front.content_size / 8 - (length bytes - length rest)) rest))) None)
-    go true is = there (with_events layout front (take (front.content_size / 8 - (length bytes - length rest)) rest)) (ends is)
+    go : (b : Bool) → leb n (length bytes) ≡ b → Goes {A = List ℕ} more m (cond b (Some (take n bytes, drop n bytes)) None) (read_bytes n (bytes ++ more))
+    go true is =
+        let within : n ≤ length bytes = leb-true n (length bytes) is in (
+          omega (arith, few, length-drop n bytes),
+          cond-true (leb n (length (bytes ++ more))) (Some (take n (bytes ++ more), drop n (bytes ++ more))) None (le-leb n (length (bytes ++ more)) (omega (arith, within, length-append bytes more)))
+              ∙ (λ i. Some (take-append-le n bytes more within i, drop-append-le n bytes more within i)),
+        )
     go false is = tt
 
-pub front-leaves : (timed : Bool) (bytes : List ℕ) → Leaves (length bytes - 4) (read_front timed bytes)
-front-leaves timed bytes =
+header-goes : (m : ℕ) (more bytes : List ℕ) → length bytes ≤ m + 4 → Goes more m (read_header bytes) (read_header (bytes ++ more))
+header-goes m more bytes few =
+    Goes-then more m (read_this 4 3254525889 bytes) (read_this 4 3254525889 (bytes ++ more)) _ _ (this-goes 4 3254525889 m more bytes few) (λ _ rest few.
+    Goes-then more m (read_bytes 16 rest) (read_bytes 16 (rest ++ more)) _ _ (bytes-goes 16 m more rest few) (λ uuid rest few.
+    Goes-map more m (read_this 4 0 rest) (read_this 4 0 (rest ++ more)) (λ _. uuid) (this-goes 4 0 m more rest (omega (arith, few)))))
+
+counts-goes : (uuid : List ℕ) (span : Option (ℕ × ℕ)) (m : ℕ) (more bytes : List ℕ) → length bytes ≤ m → Goes more m (read_counts uuid span bytes) (read_counts uuid span (bytes ++ more))
+counts-goes uuid span m more bytes few =
+    Goes-then more m (read_number 8 bytes) (read_number 8 (bytes ++ more)) _ _ (number-within 8 m more bytes few) (λ content_size rest few.
+    Goes-then more m (read_number 8 rest) (read_number 8 (rest ++ more)) _ _ (number-within 8 m more rest few) (λ packet_size rest few.
+    Goes-then more m (read_number 8 rest) (read_number 8 (rest ++ more)) _ _ (number-within 8 m more rest few) (λ discarded rest few.
+    Goes-map more m (read_number 4 rest) (read_number 4 (rest ++ more))
+    (λ cpu. record { uuid = uuid; span = span; content_size = content_size; packet_size = packet_size; discarded = discarded; cpu = cpu }) (number-within 4 m more rest few))))
+
+pub front-goes : (timed : Bool) (more bytes : List ℕ) → Goes more (length bytes - 4) (read_front timed bytes) (read_front timed (bytes ++ more))
+front-goes timed more bytes =
     let m : ℕ = length bytes - 4 in
-    Leaves-then m m (read_header bytes) (λ uuid rest. then_read (read_span timed rest) (λ span rest. read_counts uuid span rest)) (header-leaves bytes) (λ uuid rest few.
-    Leaves-then m m (read_span timed rest) (λ span rest. read_counts uuid span rest) (span-within timed m rest few) (λ span rest few. counts-within uuid span m rest few))
+    Goes-then more m (read_header bytes) (read_header (bytes ++ more)) _ _ (header-goes m more bytes (omega arith)) (λ uuid rest few.
+    Goes-then more m (read_span timed rest) (read_span timed (rest ++ more)) _ _ (span-goes timed m more rest few) (λ span rest few. counts-goes uuid span m more rest few))
 
-pub packet-leaves : (layout : Layout) (bytes : List ℕ) → Leaves (length bytes - 4) (read_packet layout bytes)
-packet-leaves layout bytes =
-    Leaves-then (length bytes - 4) (length bytes - 4) (read_front layout.timed bytes) (λ front rest. read_body layout bytes front rest) (front-leaves layout.timed bytes)
-    (λ front rest few. body-leaves layout bytes front rest few)
+-- sizes that agree with a file agree with a longer one
+body-goes : (layout : Layout) (more bytes : List ℕ) (front : FrontRead) (rest : List ℕ) → length rest ≤ length bytes - 4
+    → Goes more (length bytes - 4) (read_body layout bytes front rest) (read_body layout (bytes ++ more) front (rest ++ more))
+unfolding Goes
+body-goes layout more bytes front rest short = go (sizes_agree front read (length bytes)) refl
+  where
+    read : ℕ
+    read = length bytes - length rest
 
-pub packets-bound : (layout : Layout) (most more : ℕ) (bytes : List ℕ) → length bytes ≤ most → length bytes ≤ more → read_packets_within most layout bytes ≡ read_packets_within more layout bytes
-packets-bound layout zero zero [] few few' = refl
-packets-bound layout zero (suc more) [] few few' = refl
-packets-bound layout (suc most) zero [] few few' = refl
-packets-bound layout (suc most) (suc more) [] few few' = refl
-packets-bound layout zero more (b ∷ bytes) few few' = absurd (omega (arith, few))
-packets-bound layout (suc most) zero (b ∷ bytes) few few' = absurd (omega (arith, few'))
-packets-bound layout (suc most) (suc more) (b ∷ bytes) few few' =
-    rest-same (length (b ∷ bytes) - 4) (read_packet layout (b ∷ bytes)) (read_packets_within most layout) (read_packets_within more layout) (packet-leaves layout (b ∷ bytes))
-    (λ rest short. packets-bound layout most more rest (omega (arith, few, short)) (omega (arith, few', short)))
+    end : ℕ
+    end = front.packet_size / 8
 
--- so one event or packet is read, and then the others
-pub events-on : (layout : Layout) (b : ℕ) (bytes : List ℕ)
-    → read_events layout (b ∷ bytes) ≡ option_and_then (λ p. option_map (λ events. p.0 ∷ events) (read_events layout p.1)) (read_event layout (b ∷ bytes))
-events-on layout b bytes =
-    rest-same (length (b ∷ bytes) - 4) (read_event layout (b ∷ bytes)) (read_events_within (length bytes) layout) (read_events layout) (event-leaves layout (b ∷ bytes))
-    (λ rest short. events-bound layout (length bytes) (length rest) rest (omega (arith, short)) (omega arith))
+    content : ℕ
+    content = front.content_size / 8
 
-pub packets-on : (layout : Layout) (b : ℕ) (bytes : List ℕ)
-    → read_file layout (b ∷ bytes) ≡ option_and_then (λ p. option_map (λ packets. p.0 ∷ packets) (read_file layout p.1)) (read_packet layout (b ∷ bytes))
-packets-on layout b bytes =
-    rest-same (length (b ∷ bytes) - 4) (read_packet layout (b ∷ bytes)) (read_packets_within (length bytes) layout) (read_file layout) (packet-leaves layout (b ∷ bytes))
-    (λ rest short. packets-bound layout (length bytes) (length rest) rest (omega (arith, short)) (omega arith))
+    read' : ℕ
+    read' = length (bytes ++ more) - length (rest ++ more)
 
--- the same of bytes of which it is known only that there are some
-pub events-on-bytes : (layout : Layout) (bytes : List ℕ) → 0 < length bytes
-    → read_events layout bytes ≡ option_and_then (λ p. option_map (λ events. p.0 ∷ events) (read_events layout p.1)) (read_event layout bytes)
-events-on-bytes layout [] some = absurd (omega (arith, some))
-events-on-bytes layout (b ∷ bytes) some = events-on layout b bytes
+    same : read' ≡ read
+    same = omega (arith, short, length-append bytes more, length-append rest more)
 
-pub packets-on-bytes : (layout : Layout) (bytes : List ℕ) → 0 < length bytes
-    → read_file layout bytes ≡ option_and_then (λ p. option_map (λ packets. p.0 ∷ packets) (read_file layout p.1)) (read_packet layout bytes)
-packets-on-bytes layout [] some = absurd (omega (arith, some))
-packets-on-bytes layout (b ∷ bytes) some = packets-on layout b bytes
+    there : (o : Option PacketRead) → read ≤ end → end ≤ length bytes
+        → Goes more (length bytes - 4) (option_map (λ packet. (packet, drop end bytes)) o) (option_map (λ packet. (packet, drop end (bytes ++ more))) o)
+    there None far high = tt
+    there (Some packet) far high = (omega (arith, far, short, length-drop end bytes), ap (λ past. Some (packet, past)) (drop-append-le end bytes more high))
+
+    go : (b : Bool) → sizes_agree front read (length bytes) ≡ b
+        → Goes more (length bytes - 4) (cond b (option_map (λ packet. (packet, drop end bytes)) (with_events layout front (take (content - read) rest))) None)
+        (read_body layout (bytes ++ more) front (rest ++ more))
+    go true is =
+        let are : Agrees front read (length bytes) = agrees front read (length bytes) is in
+        let few : content - read ≤ length rest = omega (arith, are.within, are.high, short) in
+        let body : take (content - read') (rest ++ more) ≡ take (content - read) rest =
+        ap (λ n. take (content - n) (rest ++ more)) same ∙ take-append-le (content - read) rest more few in
+        let holds : sizes_agree front read' (length (bytes ++ more)) ≡ true =
+        agree front read' (length (bytes ++ more)) (record {
+          content_whole = are.content_whole;
+          packet_whole = are.packet_whole;
+          low = omega (arith, same, are.low);
+          within = are.within;
+          high = omega (arith, are.high, length-append bytes more);
+        }) in
+        let known : read_body layout (bytes ++ more) front (rest ++ more) ≡ option_map (λ packet. (packet, drop end (bytes ++ more))) (with_events layout front (take (content - read) rest)) =
+        cond-true (sizes_agree front read' (length (bytes ++ more)))
+        (option_map (λ packet. (packet, drop end (bytes ++ more))) (with_events layout front (take (content - read') (rest ++ more)))) None holds
+        ∙ ap (λ part. option_map (λ packet. (packet, drop end (bytes ++ more))) (with_events layout front part)) body in
+        subst (Goes more (length bytes - 4) (option_map (λ packet. (packet, drop end bytes)) (with_events layout front (take (content - read) rest)))) (sym known)
+        (there (with_events layout front (take (content - read) rest)) (omega (arith, are.low, are.within)) are.high)
+    go false is = tt
+
+pub packet-goes : (layout : Layout) (more bytes : List ℕ) → Goes more (length bytes - 4) (read_packet layout bytes) (read_packet layout (bytes ++ more))
+packet-goes layout more bytes =
+    Goes-then more (length bytes - 4) (read_front layout.timed bytes) (read_front layout.timed (bytes ++ more)) (λ front rest. read_body layout bytes front rest)
+    (λ front rest. read_body layout (bytes ++ more) front rest) (front-goes layout.timed more bytes) (λ front rest few. body-goes layout more bytes front rest few)
+
+-- two ways of going on that are the same wherever fewer bytes are left give the same
+rest-same : {A : Type 0} (n : ℕ) (part other : PartRead A) (f g : List ℕ → Option (List A)) → Goes [] n part other → ((rest : List ℕ) → length rest ≤ n → f rest ≡ g rest)
+    → option_and_then (λ p. option_map (λ more. p.0 ∷ more) (f p.1)) part ≡ option_and_then (λ p. option_map (λ more. p.0 ∷ more) (g p.1)) part
+unfolding Goes
+rest-same n None other f g goes same = refl
+rest-same n (Some p) other f g goes same = ap (option_map (λ more. p.0 ∷ more)) (same p.1 goes.0)
+
+-- parts that each take some bytes, one behind another, of so many at most
+module _ {A : Type 0} (one : List ℕ → PartRead A) (within : ℕ → List ℕ → Option (List A)) (goes : (bytes : List ℕ) → Goes [] (length bytes - 4) (one bytes) (one (bytes ++ [])))
+    (none : (most : ℕ) → within most [] ≡ Some [])
+    (some : (most b : ℕ) (bytes : List ℕ) → within (suc most) (b ∷ bytes) ≡ option_and_then (λ p. option_map (λ more. p.0 ∷ more) (within most p.1)) (one (b ∷ bytes))) where
+  bound : (most more : ℕ) (bytes : List ℕ) → length bytes ≤ most → length bytes ≤ more → within most bytes ≡ within more bytes
+  bound most more [] few few' = none most ∙ sym (none more)
+  bound zero more (b ∷ bytes) few few' = absurd (omega (arith, few))
+  bound (suc most) zero (b ∷ bytes) few few' = absurd (omega (arith, few'))
+  bound (suc most) (suc more) (b ∷ bytes) few few' =
+      some most b bytes ∙ rest-same (length (b ∷ bytes) - 4) (one (b ∷ bytes)) (one ((b ∷ bytes) ++ [])) (within most) (within more) (goes (b ∷ bytes))
+      (λ rest short. bound most more rest (omega (arith, few, short)) (omega (arith, few', short))) ∙ sym (some more b bytes)
+
+  -- so one is read, and then the others
+  on : (b : ℕ) (bytes : List ℕ) → within (length (b ∷ bytes)) (b ∷ bytes) ≡ option_and_then (λ p. option_map (λ more. p.0 ∷ more) (within (length p.1) p.1)) (one (b ∷ bytes))
+  on b bytes =
+      some (length bytes) b bytes ∙ rest-same (length (b ∷ bytes) - 4) (one (b ∷ bytes)) (one ((b ∷ bytes) ++ [])) (within (length bytes)) (λ rest. within (length rest) rest) (goes (b ∷ bytes))
+      (λ rest short. bound (length bytes) (length rest) rest (omega (arith, short)) (omega arith))
+
+  -- the same of bytes of which it is known only that there are some
+  on-bytes : (bytes : List ℕ) → 0 < length bytes → within (length bytes) bytes ≡ option_and_then (λ p. option_map (λ more. p.0 ∷ more) (within (length p.1) p.1)) (one bytes)
+  on-bytes [] some = absurd (omega (arith, some))
+  on-bytes (b ∷ bytes) some = on b bytes
+
+none-within : (layout : Layout) (most : ℕ) → read_events_within most layout [] ≡ Some []
+none-within layout zero = refl
+none-within layout (suc most) = refl
+
+no-packets-within : (layout : Layout) (most : ℕ) → read_packets_within most layout [] ≡ Some []
+no-packets-within layout zero = refl
+no-packets-within layout (suc most) = refl
+
+module _ (layout : Layout) where
+  pub events-bound : (most more : ℕ) (bytes : List ℕ) → length bytes ≤ most → length bytes ≤ more → read_events_within most layout bytes ≡ read_events_within more layout bytes
+  events-bound = bound (read_event layout) (λ most. read_events_within most layout) (event-goes layout) (none-within layout) (λ most b bytes. refl)
+
+  pub events-on : (b : ℕ) (bytes : List ℕ)
+      → read_events layout (b ∷ bytes) ≡ option_and_then (λ p. option_map (λ events. p.0 ∷ events) (read_events layout p.1)) (read_event layout (b ∷ bytes))
+  events-on = on (read_event layout) (λ most. read_events_within most layout) (event-goes layout) (none-within layout) (λ most b bytes. refl)
+
+  pub events-on-bytes : (bytes : List ℕ) → 0 < length bytes
+      → read_events layout bytes ≡ option_and_then (λ p. option_map (λ events. p.0 ∷ events) (read_events layout p.1)) (read_event layout bytes)
+  events-on-bytes = on-bytes (read_event layout) (λ most. read_events_within most layout) (event-goes layout) (none-within layout) (λ most b bytes. refl)
+
+  pub packets-bound : (most more : ℕ) (bytes : List ℕ) → length bytes ≤ most → length bytes ≤ more → read_packets_within most layout bytes ≡ read_packets_within more layout bytes
+  packets-bound = bound (read_packet layout) (λ most. read_packets_within most layout) (packet-goes layout []) (no-packets-within layout) (λ most b bytes. refl)
+
+  pub packets-on : (b : ℕ) (bytes : List ℕ)
+      → read_file layout (b ∷ bytes) ≡ option_and_then (λ p. option_map (λ packets. p.0 ∷ packets) (read_file layout p.1)) (read_packet layout (b ∷ bytes))
+  packets-on = on (read_packet layout) (λ most. read_packets_within most layout) (packet-goes layout []) (no-packets-within layout) (λ most b bytes. refl)
+
+  pub packets-on-bytes : (bytes : List ℕ) → 0 < length bytes
+      → read_file layout bytes ≡ option_and_then (λ p. option_map (λ packets. p.0 ∷ packets) (read_file layout p.1)) (read_packet layout bytes)
+  packets-on-bytes = on-bytes (read_packet layout) (λ most. read_packets_within most layout) (packet-goes layout []) (no-packets-within layout) (λ most b bytes. refl)

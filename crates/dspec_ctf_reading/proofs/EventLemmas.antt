@@ -1,12 +1,12 @@
 -- Events and their values, one behind another, as loops read them.
 use Rattle.std.proofs.Common.{◌≡◌, ◌<◌, ◌+◌, ◌==◌, ℕ, zero, suc, true, false, cond, List, [], ◌∷◌, ◌++◌, map, length, drop, get_or, Option, Some, None, option_map, refl, ap, sym, ◌∙◌, arith}
-use Rattle.std.proofs.Common.{append_assoc, add-one}
-use Rattle.std.proofs.lemmas.{Bool.Decides.nat_tests, List.map-append, List.append-nil, List.get_or-map, List.length-map}
+use Rattle.std.proofs.Common.{add-one}
+use Rattle.std.proofs.lemmas.{Bool.Decides.nat_tests, List.append-nil, List.drop_all, List.get_or-map, List.length-map}
 use Rattle.std.specs.{List.zip, Prelude.option_and_then}
 use Rattle.dspec_ctf_reading.specs.Words.{width, PartRead, then_read, read_number, find_event, read_payload, read_event, read_events, Layout, EventRead, told_field, told_event, names_of, text_at}
 use Rattle.dspec_ctf_reading.specs.Words.{behind_events}
 use Rattle.dspec_ctf_reading.specs.declared.told.{EventText.EventText, FieldText.FieldText}
-use Rattle.dspec_ctf_reading.proofs.Bounds.{events-on-bytes}
+use Rattle.dspec_ctf_reading.proofs.{Bounds.events-on-bytes, LoopLemmas.found_before, LoopLemmas.none-before, LoopLemmas.one-after, LoopLemmas.one-more}
 
 -- the first event of a number
 find-open : (id i : ℕ) (events : List EventText) (e : EventText) → i < length events → find_event id (map told_event (drop i events))
@@ -55,27 +55,16 @@ zip-push (n ∷ names) (w ∷ values) v d below = ap (λ more. (n, w) ∷ more) 
 abbrev pub under_names : List FieldText → List ℕ → PartRead (List (List ℕ × ℕ)) → PartRead (List (List ℕ × ℕ))
 under_names fields values part = option_map (λ p. (zip (names_of (map told_field fields)) values ++ p.0, p.1)) part
 
-abbrev put_before : List (List ℕ × ℕ) → PartRead (List (List ℕ × ℕ)) → PartRead (List (List ℕ × ℕ))
-put_before before part = option_map (λ p. (before ++ p.0, p.1)) part
-
 abbrev put_first : List ℕ × ℕ → PartRead (List (List ℕ × ℕ)) → PartRead (List (List ℕ × ℕ))
 put_first x part = option_map (λ p. (x ∷ p.0, p.1)) part
-
-one-value : (before : List (List ℕ × ℕ)) (x : List ℕ × ℕ) (part : PartRead (List (List ℕ × ℕ))) → put_before before (put_first x part) ≡ put_before (before ++ x ∷ []) part
-one-value before x None = refl
-one-value before x (Some p) = ap (λ xs. Some (xs, p.1)) (sym (append_assoc before (x ∷ []) p.0))
 
 name-at : (i : ℕ) (fields : List FieldText) (f : FieldText) → i < length fields → f ≡ get_or fields i f → get_or (names_of (map told_field fields)) i [] ≡ f.name.now
 name-at i [] f below is = absurd (omega (arith, below))
 name-at zero (x ∷ fields) f below is = ap (λ x. x.name.now) (sym is)
 name-at (suc i) (x ∷ fields) f below is = name-at i fields f (omega (arith, below)) is
 
-put-none : (part : PartRead (List (List ℕ × ℕ))) → part ≡ put_before [] part
-put-none None = refl
-put-none (Some p) = refl
-
 pub payload-begin : (fields : List FieldText) (values : List ℕ) (part : PartRead (List (List ℕ × ℕ))) → values ≡ [] → part ≡ under_names fields values part
-payload-begin fields values part none = put-none part ∙ ap (λ before. put_before before part) (sym (zip-none (names_of (map told_field fields)) values none))
+payload-begin fields values part none = none-before part ∙ ap (λ before. found_before before part) (sym (zip-none (names_of (map told_field fields)) values none))
 
 pub payload-on : (i : ℕ) (fields : List FieldText) (f : FieldText) (values grown : List ℕ) (v : ℕ) (whole : PartRead (List (List ℕ × ℕ))) (rest next : List ℕ)
     → i < length fields → f ≡ get_or fields i f → length values ≡ i → whole ≡ under_names fields values (read_payload (map told_field (drop i fields)) rest)
@@ -86,8 +75,8 @@ payload-on i fields f values grown v whole rest next below is count so_far read 
     let name : get_or (names_of (map told_field fields)) (length values) [] ≡ f.name.now = ap (λ n. get_or (names_of (map told_field fields)) n []) count ∙ name-at i fields f below is in
     so_far ∙ ap (under_names fields values) (payload-here i fields f rest below is
     ∙ ap (λ part. then_read part (λ value rest. option_map (λ p. ((f.name.now, value) ∷ p.0, p.1)) (read_payload (map told_field (drop (i + 1) fields)) rest))) read)
-    ∙ one-value (zip (names_of (map told_field fields)) values) (f.name.now, v) (read_payload (map told_field (drop (i + 1) fields)) next)
-    ∙ ap (λ before. put_before before (read_payload (map told_field (drop (i + 1) fields)) next))
+    ∙ one-more (zip (names_of (map told_field fields)) values) (f.name.now, v) (read_payload (map told_field (drop (i + 1) fields)) next)
+    ∙ ap (λ before. found_before before (read_payload (map told_field (drop (i + 1) fields)) next))
     (ap (λ name. zip (names_of (map told_field fields)) values ++ (name, v) ∷ []) (sym name)
     ∙ sym (zip-push (names_of (map told_field fields)) values v [] few) ∙ ap (zip (names_of (map told_field fields))) (sym longer))
 
@@ -96,14 +85,10 @@ pub payload-stop : (i : ℕ) (fields : List FieldText) (f : FieldText) (values :
     → read_number (width f.width) rest ≡ None → whole ≡ None
 payload-stop i fields f values whole rest below is so_far read = grind (arith, nat_tests, payload-here i fields f rest below is)
 
-drop-all : {A : Type 0} (xs : List A) → drop (length xs) xs ≡ []
-drop-all [] = refl
-drop-all (x ∷ xs) = drop-all xs
-
 pub payload-end : (i : ℕ) (fields : List FieldText) (values : List ℕ) (whole : PartRead (List (List ℕ × ℕ))) (rest : List ℕ)
     → i ≡ length fields → whole ≡ under_names fields values (read_payload (map told_field (drop i fields)) rest)
     → whole ≡ Some (zip (names_of (map told_field fields)) values, rest)
-payload-end i fields values whole rest all so_far = grind (arith, nat_tests, drop-all, append-nil)
+payload-end i fields values whole rest all so_far = grind (arith, nat_tests, drop_all, append-nil)
 
 -- the same where no value is kept
 abbrev rest_of : PartRead (List (List ℕ × ℕ)) → Option (List ℕ)
@@ -127,7 +112,7 @@ rest-stop i fields f whole rest below is so_far read = grind (arith, nat_tests, 
 pub rest-end : (i : ℕ) (fields : List FieldText) (whole : Option (List ℕ)) (rest : List ℕ) → i ≡ length fields
     → whole ≡ option_map (λ p. p.1) (read_payload (map told_field (drop i fields)) rest) → whole ≡ Some rest
 rest-end i fields whole rest all so_far =
-    so_far ∙ ap (λ more. option_map (λ p. p.1) (read_payload (map told_field more) rest)) (ap (λ n. drop n fields) all ∙ drop-all fields)
+    so_far ∙ ap (λ more. option_map (λ p. p.1) (read_payload (map told_field more) rest)) (ap (λ n. drop n fields) all ∙ drop_all (length fields) fields (omega arith))
 
 -- events
 module _ (layout : Layout) where
@@ -151,19 +136,13 @@ module _ (layout : Layout) where
   behind-one-more n body rest next is read = rw add-one (behind-more n body rest next is read)
 
   module _ {X : Type 0} (f : X → EventRead) where
-    one-found : (found : List X) (x : X) (part : Option (List EventRead)) → option_map (λ events. map f found ++ events) (option_map (λ events. f x ∷ events) part)
-        ≡ option_map (λ events. map f (found ++ x ∷ []) ++ events) part
-    one-found found x None = refl
-    one-found found x (Some events) =
-        ap Some (sym (append_assoc (map f found) (f x ∷ []) events) ∙ ap (λ xs. xs ++ events) (sym (map-append f found (x ∷ []))))
-
     pub events-more : (found grown : List X) (x : X) (whole : Option (List EventRead)) (rest next : List ℕ) → 0 < length rest
         → whole ≡ option_map (λ events. map f found ++ events) (read_events layout rest) → read_event layout rest ≡ Some (f x, next) → grown ≡ found ++ x ∷ []
         → whole ≡ option_map (λ events. map f grown ++ events) (read_events layout next)
     events-more found grown x whole rest next some so_far read longer =
         so_far ∙ ap (option_map (λ events. map f found ++ events)) (events-on-bytes layout rest some
         ∙ ap (option_and_then (λ p. option_map (λ events. p.0 ∷ events) (read_events layout p.1))) read)
-        ∙ one-found found x (read_events layout next) ∙ ap (λ xs. option_map (λ events. map f xs ++ events) (read_events layout next)) (sym longer)
+        ∙ one-after f found x (read_events layout next) ∙ ap (λ xs. option_map (λ events. map f xs ++ events) (read_events layout next)) (sym longer)
 
     pub events-stop : (found : List X) (whole : Option (List EventRead)) (rest : List ℕ) → 0 < length rest
         → whole ≡ option_map (λ events. map f found ++ events) (read_events layout rest) → read_event layout rest ≡ None → whole ≡ None

@@ -6,93 +6,7 @@ use Rattle.dspec_ctf_reading.specs.Words.{width, type_name, kind_type, label_ite
 use Rattle.dspec_ctf_reading.specs.Words.{float_types, read_type_of, read_label, read_labels, read_type, text_front, Field, One, Two, Four, Eight, Kind, Unsigned, Signed, Float, Text, TextNext}
 use Rattle.dspec_ctf_reading.proofs.Scanning.{read-run-back, decimal-back}
 
--- a number's type
-plain-back : (kind : Kind) (f : Field) (rest : List ℕ) → read_type_of (whole_types ++ float_types) (kind_type kind f ++ rest) ≡ Some (width f, rest)
-plain-back Unsigned One rest = refl
-plain-back Unsigned Two rest = refl
-plain-back Unsigned Four rest = refl
-plain-back Unsigned Eight rest = refl
-plain-back Signed One rest = refl
-plain-back Signed Two rest = refl
-plain-back Signed Four rest = refl
-plain-back Signed Eight rest = refl
-plain-back Float One rest = refl
-plain-back Float Two rest = refl
-plain-back Float Four rest = refl
-plain-back Float Eight rest = refl
-plain-back Text One rest = refl
-plain-back Text Two rest = refl
-plain-back Text Four rest = refl
-plain-back Text Eight rest = refl
-plain-back TextNext One rest = refl
-plain-back TextNext Two rest = refl
-plain-back TextNext Four rest = refl
-plain-back TextNext Eight rest = refl
-
-no-enum : (kind : Kind) (f : Field) (rest : List ℕ) → rest_past (codes "enum : ") (kind_type kind f ++ rest) ≡ None
-no-enum Unsigned One rest = refl
-no-enum Unsigned Two rest = refl
-no-enum Unsigned Four rest = refl
-no-enum Unsigned Eight rest = refl
-no-enum Signed One rest = refl
-no-enum Signed Two rest = refl
-no-enum Signed Four rest = refl
-no-enum Signed Eight rest = refl
-no-enum Float One rest = refl
-no-enum Float Two rest = refl
-no-enum Float Four rest = refl
-no-enum Float Eight rest = refl
-no-enum Text One rest = refl
-no-enum Text Two rest = refl
-no-enum Text Four rest = refl
-no-enum Text Eight rest = refl
-no-enum TextNext One rest = refl
-no-enum TextNext Two rest = refl
-no-enum TextNext Four rest = refl
-no-enum TextNext Eight rest = refl
-
--- nor a text's
-no-text : (kind : Kind) (f : Field) (rest : List ℕ) → rest_past text_front (kind_type kind f ++ rest) ≡ None
-no-text Unsigned One rest = refl
-no-text Unsigned Two rest = refl
-no-text Unsigned Four rest = refl
-no-text Unsigned Eight rest = refl
-no-text Signed One rest = refl
-no-text Signed Two rest = refl
-no-text Signed Four rest = refl
-no-text Signed Eight rest = refl
-no-text Float One rest = refl
-no-text Float Two rest = refl
-no-text Float Four rest = refl
-no-text Float Eight rest = refl
-no-text Text One rest = refl
-no-text Text Two rest = refl
-no-text Text Four rest = refl
-no-text Text Eight rest = refl
-no-text TextNext One rest = refl
-no-text TextNext Two rest = refl
-no-text TextNext Four rest = refl
-no-text TextNext Eight rest = refl
-
-pub no-text-type : (kind : Kind) (labels : List (List ℕ)) (f : Field) (rest : List ℕ) → rest_past text_front (labelled_type kind labels f ++ rest) ≡ None
-unfolding labelled_type
-no-text-type Float labels f rest = no-text Float f rest
-no-text-type Unsigned [] f rest = no-text Unsigned f rest
-no-text-type Signed [] f rest = no-text Signed f rest
-no-text-type Text [] f rest = no-text Text f rest
-no-text-type TextNext [] f rest = no-text TextNext f rest
-no-text-type Unsigned (label ∷ labels) f rest = refl
-no-text-type Signed (label ∷ labels) f rest = refl
-no-text-type Text (label ∷ labels) f rest = refl
-no-text-type TextNext (label ∷ labels) f rest = refl
-
-pub no-text-name : (f : Field) (rest : List ℕ) → rest_past text_front (type_name f ++ rest) ≡ None
-no-text-name f rest = no-text Unsigned f rest
-
-pub kind-back : (kind : Kind) (f : Field) (rest : List ℕ) → read_type (kind_type kind f ++ rest) ≡ Some (width f, rest)
-kind-back kind f rest = grind (arith, nat_tests, no-enum, plain-back)
-
--- a whole number's
+-- whole numbers
 IsWhole : Kind → Type 0
 IsWhole Unsigned = Unit
 IsWhole Signed = Unit
@@ -100,25 +14,57 @@ IsWhole Float = ⊥
 IsWhole Text = Unit
 IsWhole TextNext = Unit
 
-whole-back : (kind : Kind) (f : Field) (rest : List ℕ) → IsWhole kind → read_type_of whole_types (kind_type kind f ++ rest) ≡ Some (width f, rest)
+-- a number's type is no enumeration's, nor a text's; it is read as its width, a whole number's among these alone
+abbrev IsBack : Kind → Field → List ℕ → List ℕ → Type 0
+IsBack kind f rest bytes =
+    (rest_past (codes "enum : ") bytes ≡ None) × (rest_past text_front bytes ≡ None)
+    × (read_type_of (whole_types ++ float_types) bytes ≡ Some (width f, rest)) × (IsWhole kind → read_type_of whole_types bytes ≡ Some (width f, rest))
+
+name-back : (kind : Kind) (f : Field) (rest : List ℕ) → IsBack kind f rest (type_name f ++ rest)
+name-back kind One rest = (refl, refl, refl, λ _. refl)
+name-back kind Two rest = (refl, refl, refl, λ _. refl)
+name-back kind Four rest = (refl, refl, refl, λ _. refl)
+name-back kind Eight rest = (refl, refl, refl, λ _. refl)
+
+plain-back : (kind : Kind) (f : Field) (rest : List ℕ) → IsBack kind f rest (kind_type kind f ++ rest)
 unfolding IsWhole
-whole-back Unsigned One rest whole = refl
-whole-back Unsigned Two rest whole = refl
-whole-back Unsigned Four rest whole = refl
-whole-back Unsigned Eight rest whole = refl
-whole-back Signed One rest whole = refl
-whole-back Signed Two rest whole = refl
-whole-back Signed Four rest whole = refl
-whole-back Signed Eight rest whole = refl
-whole-back Float f rest whole = absurd whole
-whole-back Text One rest whole = refl
-whole-back Text Two rest whole = refl
-whole-back Text Four rest whole = refl
-whole-back Text Eight rest whole = refl
-whole-back TextNext One rest whole = refl
-whole-back TextNext Two rest whole = refl
-whole-back TextNext Four rest whole = refl
-whole-back TextNext Eight rest whole = refl
+plain-back Unsigned f rest = name-back Unsigned f rest
+plain-back Text f rest = name-back Text f rest
+plain-back TextNext f rest = name-back TextNext f rest
+plain-back Signed One rest = (refl, refl, refl, λ _. refl)
+plain-back Signed Two rest = (refl, refl, refl, λ _. refl)
+plain-back Signed Four rest = (refl, refl, refl, λ _. refl)
+plain-back Signed Eight rest = (refl, refl, refl, λ _. refl)
+plain-back Float One rest = name-back Float One rest
+plain-back Float Two rest = name-back Float Two rest
+plain-back Float Four rest = (refl, refl, refl, λ no. absurd no)
+plain-back Float Eight rest = (refl, refl, refl, λ no. absurd no)
+
+no-text : (kind : Kind) (f : Field) (rest : List ℕ) → rest_past text_front (kind_type kind f ++ rest) ≡ None
+no-text kind f rest = (plain-back kind f rest).1
+
+-- a type is a number's, or an enumeration of labels over a whole number's
+by-labels : (P : List ℕ → Type 0) (kind : Kind) (labels : List (List ℕ)) (f : Field) → P (kind_type kind f)
+    → (IsWhole kind → P (codes "enum : " ++ kind_type kind f ++ codes " { " ++ flat_map label_item (enumerate_from 0 labels) ++ codes "}")) → P (labelled_type kind labels f)
+unfolding labelled_type label_items IsWhole
+by-labels P Float labels f plain whole = plain
+by-labels P Unsigned [] f plain whole = plain
+by-labels P Signed [] f plain whole = plain
+by-labels P Text [] f plain whole = plain
+by-labels P TextNext [] f plain whole = plain
+by-labels P Unsigned (label ∷ labels) f plain whole = whole tt
+by-labels P Signed (label ∷ labels) f plain whole = whole tt
+by-labels P Text (label ∷ labels) f plain whole = whole tt
+by-labels P TextNext (label ∷ labels) f plain whole = whole tt
+
+pub no-text-type : (kind : Kind) (labels : List (List ℕ)) (f : Field) (rest : List ℕ) → rest_past text_front (labelled_type kind labels f ++ rest) ≡ None
+no-text-type kind labels f rest = by-labels (λ type. rest_past text_front (type ++ rest) ≡ None) kind labels f (no-text kind f rest) (λ _. refl)
+
+pub no-text-name : (f : Field) (rest : List ℕ) → rest_past text_front (type_name f ++ rest) ≡ None
+no-text-name f rest = no-text Unsigned f rest
+
+pub kind-back : (kind : Kind) (f : Field) (rest : List ℕ) → read_type (kind_type kind f ++ rest) ≡ Some (width f, rest)
+kind-back kind f rest = grind (arith, nat_tests, (plain-back kind f rest).0, (plain-back kind f rest).2)
 
 -- a text that can stand in quotes
 unfoldable pub IsQuotable : List ℕ → Type 0
@@ -162,20 +108,12 @@ enum-back kind labels f rest whole low fit =
     let tail : List ℕ = items ++ (codes "}" ++ rest) in
     let next : ℕ → List ℕ → PartRead ℕ = λ w more. past (codes " { ") more (λ more. option_map (λ p. (w, p.1)) (read_labels (length more) more)) in
     ap read_type (five (codes "enum : ") (kind_type kind f) (codes " { ") items (codes "}") rest)
-    ∙ ap (λ part. then_read part next) (whole-back kind f (codes " { " ++ tail) whole)
+    ∙ ap (λ part. then_read part next) ((plain-back kind f (codes " { " ++ tail)).3 whole)
     ∙ ap (option_map (λ p. (width f, p.1)))
     (labels-back (length tail) 0 labels rest (omega (arith, labels-long 0 labels, length-append items (codes "}" ++ rest))) (omega (arith, low)) fit)
 
 -- any type
 pub type-back : (kind : Kind) (labels : List (List ℕ)) (f : Field) (rest : List ℕ) → length labels ≤ 2 ^ 64 → All IsQuotable labels
     → read_type (labelled_type kind labels f ++ rest) ≡ Some (width f, rest)
-unfolding labelled_type label_items IsWhole
-type-back Float labels f rest low fit = kind-back Float f rest
-type-back Unsigned [] f rest low fit = kind-back Unsigned f rest
-type-back Signed [] f rest low fit = kind-back Signed f rest
-type-back Text [] f rest low fit = kind-back Text f rest
-type-back TextNext [] f rest low fit = kind-back TextNext f rest
-type-back Unsigned (label ∷ labels) f rest low fit = enum-back Unsigned (label ∷ labels) f rest tt low fit
-type-back Signed (label ∷ labels) f rest low fit = enum-back Signed (label ∷ labels) f rest tt low fit
-type-back Text (label ∷ labels) f rest low fit = enum-back Text (label ∷ labels) f rest tt low fit
-type-back TextNext (label ∷ labels) f rest low fit = enum-back TextNext (label ∷ labels) f rest tt low fit
+type-back kind labels f rest low fit =
+    by-labels (λ type. read_type (type ++ rest) ≡ Some (width f, rest)) kind labels f (kind-back kind f rest) (λ whole. enum-back kind labels f rest whole low fit)

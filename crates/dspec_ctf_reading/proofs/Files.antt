@@ -1,5 +1,6 @@
 -- Files of packets that were written one behind another.
-use Rattle.std.proofs.Common.{◌≡◌, ◌≤◌, ◌<◌, ◌+◌, ◌-◌, ◌^◌, ◌++◌, ℕ, zero, suc, Bool, true, IsTrue, List, [], ◌∷◌, length, map, replicate, Option, Some, option_map, refl, ap, sym, ◌∙◌, arith, All}
+use Rattle.std.proofs.Common.{◌≡◌, ◌≤◌, ◌<◌, ◌+◌, ◌-◌, ◌^◌, ◌++◌, ℕ, zero, suc, Bool, true, false, cond, IsTrue, List, [], ◌∷◌, length, map, replicate, Option, Some, option_map, refl, ap, sym, ◌∙◌}
+use Rattle.std.proofs.Common.{arith, All}
 use Rattle.std.proofs.lemmas.Bool.{ltb-true, eqb-true, Decides.nat_tests}
 use Rattle.std.proofs.lemmas.List.{append-nil, map-append, Elements.All-head, Elements.All-tail, Elements.All-nil, Elements.All-cons}
 use Rattle.std.specs.{List.flat_map, Option.option_map_or, Prelude.slice_get, Prelude.option_and_then}
@@ -60,8 +61,13 @@ module _ (called : Naming) (timed : Bool) (e : EnabledRows) (has : HasStamps tim
       (front-some uuid span content filled_size missed cpu (events e rs ++ replicate (filled_size - content) 0))
       (ap (read_packet (layout_by called timed e)) (sym (append-nil bytes)) ∙ filled-back called timed e has uuid span missed cpu rs [] long ends few small fits of_rs)
 
+-- what is told in one file, or else nothing
+pub told-low : (b : Bool) (missed : ℕ) → missed < 2 ^ 64 → cond b missed 0 < 2 ^ 64
+told-low true missed low = low
+told-low false missed low = omega arith
+
 -- stamps of accepted records have 64 bits
-stamp-low : (h : Header) (stamp : ℕ) → IsTrue (stamp_fits h stamp) → stamp < 2 ^ 64
+pub stamp-low : (h : Header) (stamp : ℕ) → IsTrue (stamp_fits h stamp) → stamp < 2 ^ 64
 stamp-low header.One stamp fit = omega (arith, eqb-true stamp 0 fit)
 stamp-low header.Two stamp fit = ltb-true stamp (2 ^ 64) fit
 

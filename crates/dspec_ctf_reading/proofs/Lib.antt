@@ -4,7 +4,7 @@ pub mod Joining
 pub mod NumbersRead
 pub mod EventsRead
 pub mod PacketsRead
-pub mod Sizes
+pub mod Batches
 pub mod Files
 pub mod FilledRead
 pub mod Timed
@@ -20,7 +20,6 @@ pub mod Texts
 pub mod Headings
 pub mod AllowedWords
 pub mod Allowed
-pub mod Numbered
 pub mod Shorter
 pub mod ScanLemmas
 pub mod LoopLemmas

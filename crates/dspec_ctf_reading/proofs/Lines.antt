@@ -80,14 +80,6 @@ AreLines _ _ = ⊥
 abbrev pub joined : List (List ℕ) → List ℕ
 joined lines = flat_map (λ line. line) lines
 
-pub joined-append : (lines others : List (List ℕ)) → joined (lines ++ others) ≡ joined lines ++ joined others
-joined-append [] others = refl
-joined-append (line ∷ lines) others = ap (λ more. line ++ more) (joined-append lines others) ∙ sym (append_assoc line (joined lines) (joined others))
-
-pub joined-map : {A : Type 0} (line : A → List ℕ) (xs : List A) → flat_map line xs ≡ joined (map line xs)
-joined-map line [] = refl
-joined-map line (x ∷ xs) = ap (λ more. line x ++ more) (joined-map line xs)
-
 pub AreLines-append : (lines others : List (List ℕ)) (pieces more : List (List FieldLayout)) → AreLines lines pieces → AreLines others more → AreLines (lines ++ others) (pieces ++ more)
 unfolding AreLines
 AreLines-append [] others [] more are then = then

@@ -1,33 +1,26 @@
 -- A CPU's file while it runs: the packets of the runs that go to it.
 use Rattle.std.proofs.Common.{◌≡◌, ◌≤◌, ◌<◌, ◌-◌, ◌^◌, ◌++◌, ◌==◌, ℕ, zero, suc, Bool, true, false, cond, List, [], ◌∷◌, length, map, drop, replicate, Option, Some, refl, ap, sym, subst, ◌∙◌, arith}
 use Rattle.std.proofs.Common.{All}
-use Rattle.std.proofs.lemmas.{Bool.eqb-true, Grind.flat_map-append, List.map-append, List.length-take-le, List.length-drop, List.Elements.All-append, List.Elements.All-take, List.Elements.All-drop}
-use Rattle.std.proofs.lemmas.{List.Elements.All-nil, List.Elements.All-cons}
+use Rattle.std.proofs.lemmas.Bool.{eqb-true}
+use Rattle.std.proofs.lemmas.List.{map-append, length-take-le, length-drop, Elements.All-append, Elements.All-take, Elements.All-drop, Elements.All-nil, Elements.All-cons}
 use Rattle.std.specs.{List.flat_map, Prelude.filter, Prelude.zip, Prelude.slice_index, Prelude.slice_range}
 use Rattle.dspec_ctf_reading.specs.Words.{Record, EnabledRows, filled_around, Accepts, AreRuns, of_file, run_records, run_files, told_by, run_packet, run_packets, missed_packets, Layout, PacketRead}
-use Rattle.dspec_ctf_reading.specs.Words.{events_of, read_file, Naming, event_read, layout_by, packet_read, FileTells, PartTells, file_bytes, Run}
-use Rattle.dspec_ctf_reading.proofs.{EventsRead.HasStamps, Files.filled-read, FilledRead.filled-tells, Joining.join, PacketsRead.HasSpan}
+use Rattle.dspec_ctf_reading.specs.Words.{read_file, Naming, event_read, layout_by, packet_read, FileTells, PartTells, file_bytes, Run}
+use Rattle.dspec_ctf_reading.proofs.{Batches.both-read, EventsRead.HasStamps, Files.filled-read, Files.told-low, FilledRead.filled-tells, Joining.join, PacketsRead.HasSpan}
 
--- records of a run that goes to this file, before others; and of one that doesn't
-of-same : (file f k : ℕ) (xs : List Record) (fs : List ℕ) (ys : List Record) → length xs ≡ k → (f == file) ≡ true → of_file file (replicate k f ++ fs) (xs ++ ys) ≡ xs ++ of_file file fs ys
-of-same file f zero [] fs ys long same = refl
-of-same file f zero (x ∷ xs) fs ys long same = absurd (omega (arith, long))
-of-same file f (suc k) [] fs ys long same = absurd (omega (arith, long))
-of-same file f (suc k) (x ∷ xs) fs ys long same =
+-- records of a run before others: they are there in the run's file
+of-run : (file f k : ℕ) (xs : List Record) (fs : List ℕ) (ys : List Record) (b : Bool) → length xs ≡ k → (f == file) ≡ b
+    → of_file file (replicate k f ++ fs) (xs ++ ys) ≡ cond b xs [] ++ of_file file fs ys
+of-run file f zero [] fs ys true long is = refl
+of-run file f zero [] fs ys false long is = refl
+of-run file f zero (x ∷ xs) fs ys b long is = absurd (omega (arith, long))
+of-run file f (suc k) [] fs ys b long is = absurd (omega (arith, long))
+of-run file f (suc k) (x ∷ xs) fs ys true long is =
     let rest : List (ℕ × Record) = filter (λ p. p.0 == file) (zip (replicate k f ++ fs) (xs ++ ys)) in
-    ap (λ b. map (λ p. p.1) (cond b ((f, x) ∷ rest) rest)) same ∙ ap (λ more. x ∷ more) (of-same file f k xs fs ys (omega (arith, long)) same)
-
-of-other : (file f k : ℕ) (xs : List Record) (fs : List ℕ) (ys : List Record) → length xs ≡ k → (f == file) ≡ false → of_file file (replicate k f ++ fs) (xs ++ ys) ≡ of_file file fs ys
-of-other file f zero [] fs ys long other = refl
-of-other file f zero (x ∷ xs) fs ys long other = absurd (omega (arith, long))
-of-other file f (suc k) [] fs ys long other = absurd (omega (arith, long))
-of-other file f (suc k) (x ∷ xs) fs ys long other =
+    ap (λ b. map (λ p. p.1) (cond b ((f, x) ∷ rest) rest)) is ∙ ap (λ more. x ∷ more) (of-run file f k xs fs ys true (omega (arith, long)) is)
+of-run file f (suc k) (x ∷ xs) fs ys false long is =
     let rest : List (ℕ × Record) = filter (λ p. p.0 == file) (zip (replicate k f ++ fs) (xs ++ ys)) in
-    ap (λ b. map (λ p. p.1) (cond b ((f, x) ∷ rest) rest)) other ∙ of-other file f k xs fs ys (omega (arith, long)) other
-
-told-low : (b : Bool) (missed : ℕ) → missed < 2 ^ 64 → cond b missed 0 < 2 ^ 64
-told-low true missed low = low
-told-low false missed low = omega arith
+    ap (λ b. map (λ p. p.1) (cond b ((f, x) ∷ rest) rest)) is ∙ of-run file f k xs fs ys false (omega (arith, long)) is
 
 module _ (called : Naming) (e : EnabledRows) (has : HasStamps true e.header) (uuid : List ℕ) (missed cpu : ℕ)
     (long : length uuid ≡ 16) (low : missed < 2 ^ 64) (small : cpu < 2 ^ 32) where
@@ -75,15 +68,12 @@ module _ (called : Naming) (e : EnabledRows) (has : HasStamps true e.header) (uu
             let bytes : file_bytes file (mine ∷ others) ≡ mine.1 ++ file_bytes file others = ap (λ b. flat_map (λ p. p.1) (cond b (mine ∷ kept) kept)) is in
             let first : PartTells (layout_by called true e) uuid cpu mine.1 (map (event_read called true e) part) (told_by run.file missed) =
             run-back run.file part (slice-of from run.end) in
+            let both = both-read (layout_by called true e) mine.1 (file_bytes file others) first.packets rest.packets _ _ first.read rest.read first.has rest.has in
             record {
               packets = first.packets ++ rest.packets;
-              read = ap (read_file (layout_by called true e)) bytes
-                  ∙ join (layout_by called true e) (length mine.1) mine.1 (file_bytes file others) first.packets rest.packets (omega arith) first.read rest.read;
-              has = flat_map-append (λ p. p.events) first.packets rest.packets
-                  ∙ ap (λ front. front ++ events_of rest.packets) first.has
-                  ∙ ap (λ more. map (event_read called true e) part ++ more) rest.has
-                  ∙ sym (map-append (event_read called true e) part (of_file file later_files later))
-                  ∙ ap (map (event_read called true e)) (sym (of-same file run.file (run.end - from) part later_files later (slice-long from run.end some within) is));
+              read = ap (read_file (layout_by called true e)) bytes ∙ both.0;
+              has = both.1 ∙ sym (map-append (event_read called true e) part (of_file file later_files later))
+                  ∙ ap (map (event_read called true e)) (sym (of-run file run.file (run.end - from) part later_files later true (slice-long from run.end some within) is));
               whose = All-append (λ p. (p.uuid ≡ uuid) × (p.cpu ≡ cpu) × (p.discarded ≡ told_by file missed)) first.packets rest.packets
                   (subst (λ f. All (λ p. (p.uuid ≡ uuid) × (p.cpu ≡ cpu) × (p.discarded ≡ told_by f missed)) first.packets) same first.whose) rest.whose;
             }
@@ -93,7 +83,7 @@ module _ (called : Naming) (e : EnabledRows) (has : HasStamps true e.header) (uu
               packets = rest.packets;
               read = ap (read_file (layout_by called true e)) bytes ∙ rest.read;
               has = rest.has
-                  ∙ ap (map (event_read called true e)) (sym (of-other file run.file (run.end - from) part later_files later (slice-long from run.end some within) is));
+                  ∙ ap (map (event_read called true e)) (sym (of-run file run.file (run.end - from) part later_files later false (slice-long from run.end some within) is));
               whose = rest.whose;
             }
 

@@ -1,6 +1,6 @@
 -- Loops that read one part behind another.
 use Rattle.std.proofs.Common.{◌≡◌, ◌<◌, ◌+◌, ◌-◌, ◌==◌, ℕ, zero, suc, false, List, [], ◌∷◌, ◌++◌, map, length, Option, Some, None, option_map, refl, ap, sym, ◌∙◌, arith, append_assoc}
-use Rattle.std.proofs.lemmas.{Bool.Decides.nat_tests, List.map-append}
+use Rattle.std.proofs.lemmas.{Bool.Decides.nat_tests, List.map-append, List.append-nil}
 use Rattle.std.specs.Prelude.{option_and_then}
 use Rattle.dspec_ctf_reading.specs.Words.{PartRead, then_read, EventLayout, rest_past, past_or, read_event_text, read_event_texts}
 
@@ -12,13 +12,15 @@ pub none-before : {A : Type 0} (part : PartRead (List A)) → part ≡ found_bef
 none-before None = refl
 none-before (Some p) = refl
 
-one-more : {A : Type 0} (before : List A) (x : A) (part : PartRead (List A)) → found_before before (option_map (λ p. (x ∷ p.0, p.1)) part) ≡ found_before (before ++ x ∷ []) part
+pub one-more : {A : Type 0} (before : List A) (x : A) (part : PartRead (List A)) → found_before before (option_map (λ p. (x ∷ p.0, p.1)) part) ≡ found_before (before ++ x ∷ []) part
 one-more before x None = refl
 one-more before x (Some p) = ap (λ xs. Some (xs, p.1)) (sym (append_assoc before (x ∷ []) p.0))
 
-append_nil : {A : Type 0} (xs : List A) → xs ++ [] ≡ xs
-append_nil [] = refl
-append_nil (x ∷ xs) = ap (λ ys. x ∷ ys) (append_nil xs)
+-- all that is read in one go, behind what was found before
+pub one-after : {X A : Type 0} (f : X → A) (found : List X) (x : X) (part : Option (List A)) → option_map (λ more. map f found ++ more) (option_map (λ more. f x ∷ more) part)
+    ≡ option_map (λ more. map f (found ++ x ∷ []) ++ more) part
+one-after f found x None = refl
+one-after f found x (Some more) = ap Some (sym (append_assoc (map f found) (f x ∷ []) more) ∙ ap (λ xs. xs ++ more) (sym (map-append f found (x ∷ []))))
 
 -- parts up to a text that ends them, of so many at most
 module _ {X A : Type 0} (f : X → A) (end : List ℕ) (one : List ℕ → PartRead A) (many : ℕ → List ℕ → PartRead (List A))
@@ -37,7 +39,7 @@ module _ {X A : Type 0} (f : X → A) (end : List ℕ) (one : List ℕ → PartR
 
   pub many-end : (n i : ℕ) (found : List X) (whole : PartRead (List A)) (rest behind : List ℕ) → i < n → whole ≡ found_before (map f found) (many (n - i) rest)
       → rest_past end rest ≡ Some behind → whole ≡ Some (map f found, behind)
-  many-end n i found whole rest behind below is ends = grind (arith, nat_tests, opened, append_nil)
+  many-end n i found whole rest behind below is ends = grind (arith, nat_tests, opened, append-nil)
 
   pub many-stop : (n i : ℕ) (found : List X) (whole : PartRead (List A)) (rest : List ℕ) → i < n → whole ≡ found_before (map f found) (many (n - i) rest)
       → rest_past end rest ≡ None → one rest ≡ None → whole ≡ None
@@ -61,7 +63,7 @@ module _ {X A : Type 0} (f : X → A) (end : List ℕ) (one : List ℕ → PartR
 
   pub lines-end : (n i : ℕ) (found : List X) (whole : PartRead (List A)) (rest behind : List ℕ) → i < n → whole ≡ found_before (map f found) (many (n - i) rest)
       → rest_past end rest ≡ Some behind → whole ≡ Some (map f found, behind)
-  lines-end n i found whole rest behind below is ends = grind (arith, nat_tests, begun, append_nil)
+  lines-end n i found whole rest behind below is ends = grind (arith, nat_tests, begun, append-nil)
 
   pub lines-stop : (n i : ℕ) (found : List X) (whole : PartRead (List A)) (rest : List ℕ) → i < n → whole ≡ found_before (map f found) (many (n - i) rest)
       → rest_past end rest ≡ None → one rest ≡ None → whole ≡ None
@@ -69,12 +71,6 @@ module _ {X A : Type 0} (f : X → A) (end : List ℕ) (one : List ℕ → PartR
 
 -- events up to the end of the text
 module _ {X : Type 0} (f : X → EventLayout) where
-  one-after : (found : List X) (x : X) (part : Option (List EventLayout)) → option_map (λ events. map f found ++ events) (option_map (λ events. f x ∷ events) part)
-      ≡ option_map (λ events. map f (found ++ x ∷ []) ++ events) part
-  one-after found x None = refl
-  one-after found x (Some events) =
-      ap Some (sym (append_assoc (map f found) (f x ∷ []) events) ∙ ap (λ xs. xs ++ events) (sym (map-append f found (x ∷ []))))
-
   texts-open : (n i : ℕ) (rest : List ℕ) → i < n → 0 < length rest
       → read_event_texts (n - i) rest ≡ option_and_then (λ p. option_map (λ events. p.0 ∷ events) (read_event_texts (n - (i + 1)) p.1)) (read_event_text rest)
   texts-open n i [] below some = absurd (omega (arith, some))
@@ -83,11 +79,11 @@ module _ {X : Type 0} (f : X → EventLayout) where
   pub texts-on : (n i : ℕ) (found grown : List X) (x : X) (whole : Option (List EventLayout)) (rest next : List ℕ) → i < n → 0 < length rest
       → whole ≡ option_map (λ events. map f found ++ events) (read_event_texts (n - i) rest) → read_event_text rest ≡ Some (f x, next) → grown ≡ found ++ x ∷ []
       → whole ≡ option_map (λ events. map f grown ++ events) (read_event_texts (n - (i + 1)) next)
-  texts-on n i found grown x whole rest next below some is is_one longer = grind (arith, nat_tests, texts-open n i rest below some, one-after found x (read_event_texts (n - (i + 1)) next))
+  texts-on n i found grown x whole rest next below some is is_one longer = grind (arith, nat_tests, texts-open n i rest below some, one-after f found x (read_event_texts (n - (i + 1)) next))
 
   pub texts-end : (n : ℕ) (found : List X) (whole : Option (List EventLayout)) (rest : List ℕ) → length rest ≡ 0
       → whole ≡ option_map (λ events. map f found ++ events) (read_event_texts n rest) → whole ≡ Some (map f found)
-  texts-end = grind (arith, nat_tests, append_nil)
+  texts-end = grind (arith, nat_tests, append-nil)
 
   pub texts-stop : (n i : ℕ) (found : List X) (whole : Option (List EventLayout)) (rest : List ℕ) → i < n → 0 < length rest
       → whole ≡ option_map (λ events. map f found ++ events) (read_event_texts (n - i) rest) → read_event_text rest ≡ None → whole ≡ None

@@ -5,6 +5,7 @@ use Rattle.std.proofs.lemmas.{Bool.le-leb, Bool.cond-true, List.take_at, List.dr
 use Rattle.dspec_ctf_reading.specs.Words.{Record, little_endian, EnabledRows, events, header_bytes, span_bytes, front_size, context_bytes, front_bytes, packet_around, filled_around, filled_size}
 use Rattle.dspec_ctf_reading.specs.Words.{Accepts, Layout, EventRead, PacketRead, FrontRead, PartRead, then_read, read_number, read_bytes, read_this, read_span, read_header, read_counts, read_front}
 use Rattle.dspec_ctf_reading.specs.Words.{sizes_agree, read_events, with_events, read_body, read_packet, Naming, event_read, layout_by, packet_read, Four, Eight}
+use Rattle.dspec_ctf.proofs.Filling.{front-sized}
 use Rattle.dspec_ctf_reading.proofs.{Agreeing.Agrees, Agreeing.agree, EventsRead.HasStamps, EventsRead.events-back, NumbersRead.number-back}
 
 bytes-back : (n : ℕ) (xs rest : List ℕ) → length xs ≡ n → read_bytes n (xs ++ rest) ≡ Some (xs, rest)
@@ -77,31 +78,9 @@ front-back timed uuid span content size missed cpu rest long has less low few sm
     ∙ ap (λ part. then_read part (second uuid)) (span-back timed span (c ++ rest) has)
     ∙ counts-back uuid span (8 * content) (8 * size) missed cpu rest less low few small
 
-length-span : (span : Option (ℕ × ℕ)) → 52 + length (span_bytes span) ≡ front_size span
-length-span None = refl
-length-span (Some span) = refl
-
-span-few : (span : Option (ℕ × ℕ)) → length (span_bytes span) ≤ 16
-span-few None = omega arith
-span-few (Some span) = omega arith
-
-length-front : (uuid : List ℕ) (span : Option (ℕ × ℕ)) (content size missed cpu : ℕ) → length uuid ≡ 16 → length (front_bytes uuid span content size missed cpu) ≡ front_size span
-unfolding front_bytes header_bytes context_bytes
-length-front uuid span content size missed cpu long =
-    let h : List ℕ = little_endian 4 3254525889 in
-    let s : List ℕ = little_endian 4 0 in
-    let c : List ℕ = context_bytes (8 * content) (8 * size) missed cpu in
-    let known : length c ≡ 28 = refl in
-    omega (
-      arith,
-      long,
-      known,
-      length-append (h ++ (uuid ++ s)) (span_bytes span ++ c),
-      length-append h (uuid ++ s),
-      length-append uuid s,
-      length-append (span_bytes span) c,
-      length-span span,
-    )
+front-few : (span : Option (ℕ × ℕ)) → front_size span ≤ 68
+front-few None = omega arith
+front-few (Some span) = omega arith
 
 -- the events behind the front, and what fills the packet up
 body-back : (layout : Layout) (head body fill rest : List ℕ) (front : FrontRead) (n : ℕ) (es : List EventRead) → n ≡ length head + length body → front.content_size ≡ 8 * n
@@ -149,7 +128,7 @@ module _ (called : Naming) (timed : Bool) (e : EnabledRows) (has : HasStamps tim
       let layout : Layout = layout_by called timed e in
       ap (λ part. then_read part (λ told more. read_body layout (head ++ (body ++ (fill ++ rest))) told more))
       (front-back timed uuid span content size missed cpu (body ++ (fill ++ rest)) long ends (omega (arith, sized, low)) (omega (arith, low)) few small)
-      ∙ body-back layout head body fill rest front content (map (event_read called timed e) rs) (omega (arith, length-front uuid span content size missed cpu long)) refl (omega (arith, sized))
+      ∙ body-back layout head body fill rest front content (map (event_read called timed e) rs) (omega (arith, front-sized uuid span content size missed cpu long)) refl (omega (arith, sized))
       (events-back called timed e has rs of_rs)
 
   -- one of its own size
@@ -159,7 +138,7 @@ module _ (called : Naming) (timed : Bool) (e : EnabledRows) (has : HasStamps tim
   packet-back uuid span missed cpu rs rest long ends few small low of_rs =
       let size : ℕ = front_size span + length (events e rs) in
       ap (read_packet (layout_by called timed e)) (append_assoc (front_bytes uuid span size size missed cpu) (events e rs) rest)
-      ∙ around-back uuid span size missed cpu rs [] rest long ends few small (omega arith) (omega (arith, low, length-span span, span-few span)) of_rs
+      ∙ around-back uuid span size missed cpu rs [] rest long ends few small (omega arith) (omega (arith, low, front-few span)) of_rs
 
   -- one of 1,024 bytes
   pub filled-back : (uuid : List ℕ) (span : Option (ℕ × ℕ)) (missed cpu : ℕ) (rs : List Record) (rest : List ℕ) → length uuid ≡ 16 → HasSpan timed span → missed < 2 ^ 64 → cpu < 2 ^ 32

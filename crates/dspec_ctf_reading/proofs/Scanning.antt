@@ -1,16 +1,9 @@
 -- What stands in a text is found there.
-use Rattle.std.proofs.Common.{◌≡◌, ◌<◌, ◌^◌, ◌++◌, ℕ, Bool, true, cond, List, [], ◌∷◌, length, Option, Some, None, refl, ap, ◌∙◌, arith, rules}
-use Rattle.std.proofs.lemmas.{Bool.eq-eqb, Bool.ne_eqb, Bool.and_parts, Bool.and_from, Bool.cond-false, Bool.Decides.nat_tests, Fmt.digits_decimal, Fmt.digits_value-decimal, Fmt.decimal_nonempty}
+use Rattle.std.proofs.Common.{◌≡◌, ◌<◌, ◌^◌, ◌++◌, ℕ, Bool, true, cond, List, [], ◌∷◌, length, Some, refl, ap, ◌∙◌, arith, rules}
+use Rattle.std.proofs.lemmas.{Bool.ne_eqb, Bool.and_parts, Bool.and_from, Bool.cond-false, Bool.Decides.nat_tests, Fmt.digits_decimal, Fmt.digits_value-decimal, Fmt.decimal_nonempty}
 use Rattle.std.proofs.lemmas.{Str.Parse.IsNumeralModel, Str.Parse.numerals_by_fold}
-use Rattle.std.specs.{List.list_all, Prelude.option_and_then, Prelude.decimal}
-use Rattle.dspec_ctf_reading.specs.Words.{rest_past, past, run_of, read_run, is_digit, digits_number, read_decimal}
-
-pub rest_past-back : (text rest : List ℕ) → rest_past text (text ++ rest) ≡ Some rest
-rest_past-back [] rest = refl
-rest_past-back (c ∷ text) rest = ap (λ b. cond b (rest_past text (text ++ rest)) None) (eq-eqb c c refl) ∙ rest_past-back text rest
-
-pub past-back : {A : Type 0} (text rest : List ℕ) (f : List ℕ → Option A) → past text (text ++ rest) f ≡ f rest
-past-back text rest f = ap (option_and_then f) (rest_past-back text rest)
+use Rattle.std.specs.{List.list_all, Prelude.decimal}
+use Rattle.dspec_ctf_reading.specs.Words.{run_of, read_run, is_digit, digits_number, read_decimal}
 
 -- a run ends where what follows it doesn't begin with another byte of it
 pub Ends : (ℕ → Bool) → List ℕ → Type 0

@@ -1,13 +1,13 @@
 -- Behind a front there are no more bytes than there were; and a packet that is read is one that is split.
-use Rattle.std.proofs.Common.{◌≡◌, ◌≤◌, ◌-◌, ◌/◌, ℕ, Bool, true, false, cond, List, length, take, drop, Option, Some, None, option_map, refl, sym, subst, arith}
+use Rattle.std.proofs.Common.{◌≡◌, ◌≤◌, ◌-◌, ◌/◌, ℕ, Bool, true, false, cond, List, [], ◌++◌, length, take, drop, Option, Some, None, option_map, refl, sym, subst, arith}
 use Rattle.std.specs.Prelude.{option_and_then}
 use Rattle.dspec_ctf_reading.specs.Words.{Layout, PacketRead, FrontRead, PartRead, read_front, sizes_agree, with_events, read_body, read_packet, PacketSplit, split_behind, split_packet}
-use Rattle.dspec_ctf_reading.proofs.Bounds.{Leaves, front-leaves}
+use Rattle.dspec_ctf_reading.proofs.Bounds.{Goes, front-goes}
 
 pub front-within : (timed : Bool) (bytes : List ℕ) (front : FrontRead) (rest : List ℕ) → Some (front, rest) ≡ read_front timed bytes → length rest ≤ length bytes
-unfolding Leaves
+unfolding Goes
 front-within timed bytes front rest is =
-    let few : length rest ≤ length bytes - 4 = subst (Leaves (length bytes - 4)) (sym is) (front-leaves timed bytes) in
+    let few : length rest ≤ length bytes - 4 = (subst (λ part. Goes [] (length bytes - 4) part (read_front timed (bytes ++ []))) (sym is) (front-goes timed [] bytes)).0 in
     omega (arith, few)
 
 module _ (layout : Layout) (bytes : List ℕ) where

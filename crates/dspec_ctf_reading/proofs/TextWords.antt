@@ -1,6 +1,6 @@
 -- The words of texts among an event's fields: their names, and the fields that a text's line tells.
-use Rattle.std.proofs.Common.{append_assoc, ◌≡◌, ◌≤◌, ◌<◌, ◌+◌, ◌-◌, ◌==◌, ◌++◌, ℕ, suc, Bool, true, false, List, [], ◌∷◌, length, map, take, drop, replicate, refl, ap, sym, ◌∙◌, arith}
-use Rattle.std.proofs.lemmas.{Bool.eqb-true, Bool.and_parts, Bool.Decides.nat_tests, List.length-drop, List.take-append-drop, List.get_or-drop, List.get_or_past}
+use Rattle.std.proofs.Common.{◌≡◌, ◌≤◌, ◌<◌, ◌+◌, ◌-◌, ◌==◌, ◌++◌, ℕ, suc, Bool, true, false, List, [], ◌∷◌, length, map, take, drop, replicate, refl, ap, sym, ◌∙◌, arith}
+use Rattle.std.proofs.lemmas.{Bool.eqb-true, Bool.and_parts, Bool.false_from_ne_true, Bool.Decides.nat_tests, List.length-drop, List.take-append-drop, List.get_or-drop, List.get_or_past}
 use Rattle.std.specs.{List.flat_map, List.enumerate_from, Prelude.slice_index_or, Prelude.if◌then◌else◌}
 use Rattle.dspec_ctf_reading.specs.Words.{width, is_next, next_in_front, words_at, is_text, is_text_before, can_mean, FieldLayout, Field, One, Kind, Unsigned, Signed, Float, Text, TextNext}
 use Rattle.dspec_ctf_reading.specs.Words.{ProbeNames}
@@ -8,19 +8,12 @@ use Rattle.dspec_ctf_reading.proofs.NextWords.{kind_of, one-more, one-before, ne
 
 -- ---- what the check says of each field
 
-fact-eight : (k : Kind) (e b : Bool) → can_mean k e b ≡ true → is_text k ≡ true → e ≡ true
-fact-eight Unsigned e b can is = absurd (cc)
-fact-eight Signed e b can is = absurd (cc)
-fact-eight Float e b can is = absurd (cc)
-fact-eight Text e b can is = can
-fact-eight TextNext e b can is = (and_parts e b can).0
-
-fact-before : (k : Kind) (e b : Bool) → can_mean k e b ≡ true → is_next k ≡ true → b ≡ true
-fact-before Unsigned e b can is = absurd (cc)
-fact-before Signed e b can is = absurd (cc)
-fact-before Float e b can is = absurd (cc)
-fact-before Text e b can is = absurd (cc)
-fact-before TextNext e b can is = (and_parts e b can).1
+means : (k : Kind) (e b : Bool) → can_mean k e b ≡ true → (is_text k ≡ true → e ≡ true) × (is_next k ≡ true → b ≡ true)
+means Unsigned e b can = (λ is. absurd (cc), λ is. absurd (cc))
+means Signed e b can = (λ is. absurd (cc), λ is. absurd (cc))
+means Float e b can = (λ is. absurd (cc), λ is. absurd (cc))
+means Text e b can = (λ _. can, λ is. absurd (cc))
+means TextNext e b can = (λ _. (and_parts e b can).0, λ _. (and_parts e b can).1)
 
 pub next-text : (k : Kind) → is_next k ≡ true → is_text k ≡ true
 next-text Unsigned is = absurd (cc)
@@ -29,9 +22,8 @@ next-text Float is = absurd (cc)
 next-text Text is = absurd (cc)
 next-text TextNext is = refl
 
-not-true : (b : Bool) → (b ≡ true → ⊥) → b ≡ false
-not-true true is = absurd (is refl)
-not-true false is = refl
+no : false ≡ true → ⊥
+no is = absurd (cc)
 
 -- each field can mean what it means
 abbrev pub CanMean : List Kind → List Field → Type 0
@@ -42,29 +34,21 @@ module _ (ks : List Kind) (fs : List Field) (can : CanMean ks fs) where
   can-all p = grind (arith, nat_tests, kind_of, get_or_past)
 
   pub text-eight : (p : ℕ) → is_text (kind_of ks p) ≡ true → width (slice_index_or fs p One) ≡ 8
-  text-eight p is = eqb-true (width (slice_index_or fs p One)) 8 (fact-eight (kind_of ks p) (width (slice_index_or fs p One) == 8) (is_text_before ks p) (can-all p) is)
+  text-eight p is = eqb-true (width (slice_index_or fs p One)) 8 ((means (kind_of ks p) (width (slice_index_or fs p One) == 8) (is_text_before ks p) (can-all p)).0 is)
 
   pub text-within : (p : ℕ) → is_text (kind_of ks p) ≡ true → p < length fs
   text-within p is = grind (arith, nat_tests, get_or_past, text-eight)
 
   pub next-before : (q : ℕ) → is_next (kind_of ks (q + 1)) ≡ true → is_text (kind_of ks q) ≡ true
-  next-before q is = ap (is_text_before ks) (one-more q) ∙ fact-before (kind_of ks (q + 1)) (width (slice_index_or fs (q + 1) One) == 8) (is_text_before ks (q + 1)) (can-all (q + 1)) is
+  next-before q is = ap (is_text_before ks) (one-more q) ∙ (means (kind_of ks (q + 1)) (width (slice_index_or fs (q + 1) One) == 8) (is_text_before ks (q + 1)) (can-all (q + 1))).1 is
 
   pub first-none : is_next (kind_of ks 0) ≡ false
-  first-none = grind (arith, nat_tests, not-true, kind_of, fact-before, can-all)
+  first-none = false_from_ne_true (is_next (kind_of ks 0)) (λ is. no ((means (kind_of ks 0) (width (slice_index_or fs 0 One) == 8) (is_text_before ks 0) (can-all 0)).1 is))
 
 -- ---- the fields of lines
 
 abbrev pub flat : List (List FieldLayout) → List FieldLayout
 flat pieces = flat_map (λ piece. piece) pieces
-
-pub flat-append : (pieces others : List (List FieldLayout)) → flat (pieces ++ others) ≡ flat pieces ++ flat others
-flat-append [] others = refl
-flat-append (piece ∷ pieces) others = ap (λ more. piece ++ more) (flat-append pieces others) ∙ sym (append_assoc piece (flat pieces) (flat others))
-
-pub flat-ones : {A : Type 0} (shape : A → FieldLayout) (xs : List A) → map shape xs ≡ flat (map (λ x. shape x ∷ []) xs)
-flat-ones shape [] = refl
-flat-ones shape (x ∷ xs) = ap (λ more. shape x ∷ more) (flat-ones shape xs)
 
 module _ (ks : List Kind) (name : ℕ → List ℕ) where
   abbrev pub run : ℕ → ℕ
@@ -126,13 +110,10 @@ module _ (ks : List Kind) (name : ℕ → List ℕ) where
         ss : List FieldLayout
         ss = map shape_at (enumerate_from (k + 1) fs)
 
-        no : false ≡ true → ⊥
-        no is = absurd (cc)
-
         plain : flat (map piece_at (enumerate_from (k + 1) fs)) ≡ drop (run (k + 1)) ss → is_text (kind_of ks k) ≡ false → is_next (kind_of ks k) ≡ false
             → (shape_at (k, f) ∷ []) ++ flat (map piece_at (enumerate_from (k + 1) fs)) ≡ drop (run k) (shape_at (k, f) ∷ ss)
         plain others other none =
-            let last : is_next (kind_of ks (k + 1)) ≡ false = not-true (is_next (kind_of ks (k + 1))) (λ is. no (sym other ∙ fit.0.1 is)) in
+            let last : is_next (kind_of ks (k + 1)) ≡ false = false_from_ne_true (is_next (kind_of ks (k + 1))) (λ is. no (sym other ∙ fit.0.1 is)) in
             ap (λ more. shape_at (k, f) ∷ more) (others ∙ ap (λ r. drop r ss) (run-none (k + 1) last)) ∙ sym (ap (λ r. drop r (shape_at (k, f) ∷ ss)) (run-none k none))
 
         go : flat (map piece_at (enumerate_from (k + 1) fs)) ≡ drop (run (k + 1)) ss → (kind : Kind) → kind_of ks k ≡ kind
@@ -155,7 +136,7 @@ pub are-fit : (ks : List Kind) (fs : List Field) (name : ℕ → List ℕ) → C
     → ((i : ℕ) → slice_index_or fs (k + i) One ≡ slice_index_or gs i One) → AreFit ks name k gs
 unfolding AreFit
 are-fit ks fs name can k [] all each =
-    not-true (is_next (kind_of ks k)) (λ is. absurd (omega (arith, all, text-within ks fs can k (next-text (kind_of ks k) is))))
+    false_from_ne_true (is_next (kind_of ks k)) (λ is. absurd (omega (arith, all, text-within ks fs can k (next-text (kind_of ks k) is))))
 are-fit ks fs name can k (g ∷ gs) all each =
     let here : slice_index_or fs k One ≡ g = ap (λ n. slice_index_or fs n One) (omega arith) ∙ each 0 in (
       (λ is. ap width (sym here) ∙ text-eight ks fs can k is, next-before ks fs can k),

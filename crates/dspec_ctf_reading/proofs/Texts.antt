@@ -1,13 +1,13 @@
 -- The texts of events are read as their layouts.
 use Rattle.std.proofs.Common.{◌≡◌, ◌≤◌, ◌<◌, ◌+◌, ◌-◌, ◌^◌, ◌++◌, ℕ, zero, suc, false, List, [], ◌∷◌, length, map, Option, Some, option_map, refl, ap, sym, ◌∙◌, arith, append_assoc, length-append}
-use Rattle.std.proofs.lemmas.List.{append-nil}
+use Rattle.std.proofs.lemmas.{Grind.flat_map-append, List.append-nil}
 use Rattle.std.specs.{List.flat_map, List.range_with_len, Prelude.option_and_then, Prelude.codes, Prelude.decimal}
 use Rattle.dspec_ctf_reading.specs.Words.{EnabledRows, event_fields, stamp_line, event_name, field_lines, event_number, event_front, event_text, typed_line, FieldLayout, EventLayout, PartRead}
 use Rattle.dspec_ctf_reading.specs.Words.{then_read, past, is_digit, is_word, is_quoted, read_quoted, read_fields, read_event_text, read_event_texts, stamp_field, field_layouts, event_layout}
 use Rattle.dspec_ctf_reading.specs.Words.{is_timed, names_by, Eight, Header, Unsigned, Form, AsTaken, ByTime, Names}
 use Rattle.dspec_record.specs.declared.header.Header.TheVariants as header
-use Rattle.dspec_ctf_reading.proofs.{FieldTypes.IsQuotable, FieldTypes.kind-back, FieldTypes.no-text-name, Lines.IsWordy, Lines.AreLines, Lines.joined, Lines.joined-append, Lines.AreLines-append}
-use Rattle.dspec_ctf_reading.proofs.{Lines.typed-line, Lines.lines-back, Scanning.read-run-back, Scanning.decimal-back, TextWords.flat, TextWords.flat-append}
+use Rattle.dspec_ctf_reading.proofs.{FieldTypes.IsQuotable, FieldTypes.kind-back, FieldTypes.no-text-name, Lines.IsWordy, Lines.AreLines, Lines.joined, Lines.AreLines-append, Lines.typed-line}
+use Rattle.dspec_ctf_reading.proofs.{Lines.lines-back, Scanning.read-run-back, Scanning.decimal-back, TextWords.flat}
 
 -- the stamp as a field
 pub record HasLines (text : List ℕ) (shapes : List FieldLayout) : Type 0 where
@@ -56,7 +56,7 @@ event-text-back form e names place rest told =
     let tail : List ℕ = joined all ++ end in
     let tail_is : stamp_line form e.header ++ (others ++ end) ≡ tail =
     (λ i. stamp.text_is i ++ (told.fields.text_is i ++ end)) ∙ sym (append_assoc (joined stamp.lines) (joined told.fields.lines) end)
-    ∙ ap (λ bytes. bytes ++ end) (sym (joined-append stamp.lines told.fields.lines)) in
+    ∙ ap (λ bytes. bytes ++ end) (sym (flat_map-append (λ line. line) stamp.lines told.fields.lines)) in
     let c : ℕ → List ℕ → List ℕ → PartRead EventLayout =
     λ id word more. past (codes "\";\n\tstream_id = 0;\n\tfields := struct {\n")
     more (λ more. option_map (λ p. (record { id = id; name = word; fields = p.0 }, p.1)) (read_fields (length more) more)) in
@@ -71,7 +71,7 @@ event-text-back form e names place rest told =
     ∙ ap (λ part. then_read part (λ word more. c (place + 1) word more)) (read-run-back is_quoted name (codes "\";\n\tstream_id = 0;\n\tfields := struct {\n" ++ tail) told.called.0 told.called.1 refl)
     ∙ ap (option_map (λ p. (record { id = place + 1; name = name; fields = p.0 }, p.1)))
     (lines-back all (stamp.pieces ++ told.fields.pieces) rest (AreLines-append stamp.lines told.fields.lines stamp.pieces told.fields.pieces stamp.are told.fields.are)
-    ∙ ap (λ s. Some (s, rest)) (flat-append stamp.pieces told.fields.pieces ∙ (λ i. stamp.shapes_are i ++ told.fields.shapes_are i)))
+    ∙ ap (λ s. Some (s, rest)) (flat_map-append (λ piece. piece) stamp.pieces told.fields.pieces ∙ (λ i. stamp.shapes_are i ++ told.fields.shapes_are i)))
     ∙ ap (λ at. Some (record { id = place + 1; name = event_name names at; fields = shapes }, rest)) (sym back)
 
 -- a text isn't empty

@@ -2,25 +2,15 @@
 use Rattle.std.proofs.Common.{◌≡◌, ◌≤◌, ◌<◌, ◌+◌, ◌*◌, ◌/◌, ◌^◌, ◌++◌, ◌==◌, ℕ, zero, suc, Bool, true, false, cond, List, [], ◌∷◌, length, map, take, drop, Some, None, refl, ap, sym, ◌∙◌, arith}
 use Rattle.std.proofs.Common.{All}
 use Rattle.std.proofs.lemmas.Bool.{eqb-true, eqb-false, eq-eqb, Decides.nat_tests}
-use Rattle.std.proofs.lemmas.List.{take-append-drop, drop_all, drop-drop, length-take, Elements.All-take, Elements.All-drop}
+use Rattle.std.proofs.lemmas.List.{take-append-drop, drop_all, drop-drop, append-nil, Elements.All-take, Elements.All-drop, Elements.All-cons, Elements.All-nil}
 use Rattle.std.specs.List.{flat_map, range_with_len}
-use Rattle.dspec_ctf_reading.specs.Words.{Record, EnabledRows, events, packet, Accepts, span_of, packet_count, part_at, packet_at, timed_packets, PacketRead, read_file, events_of, loss_of, Naming}
-use Rattle.dspec_ctf_reading.specs.Words.{event_read, layout_by, packet_read, FileTells, last_missed}
-use Rattle.dspec_ctf_reading.proofs.{EventsRead.HasStamps, Files.flat-read, Files.flat-events, Files.All-each, Files.All-of, Files.packet-read, Files.span-low, PacketsRead.HasSpan}
-use Rattle.dspec_ctf_reading.proofs.{Sizes.events-small}
+use Rattle.dspec_ctf_reading.specs.Words.{Record, EnabledRows, events, packet, Accepts, span_of, packet_count, part_at, packet_at, timed_packets, PacketRead, read_file, loss_of, Naming, event_read}
+use Rattle.dspec_ctf_reading.specs.Words.{layout_by, packet_read, FileTells, last_missed}
+use Rattle.dspec_ctf.proofs.OneStream.{covers, events-small, few}
+use Rattle.dspec_ctf_reading.proofs.{Batches.batches-tell, EventsRead.HasStamps, Files.told-low, Files.flat-read, Files.flat-events, Files.All-each, Files.All-of, Files.packet-read, Files.span-low}
+use Rattle.dspec_ctf_reading.proofs.{PacketsRead.HasSpan}
 
-few : (ps : List Record) → length (take 4096 ps) ≤ 4096
-few ps = omega (arith, length-take 4096 ps)
-
--- there are packets for all records
-covers-test : (missed n : ℕ) (none : Bool) → (n == 0) ≡ none → n ≤ 4096 * (0 + cond none (cond (missed == 0) 0 1) ((n + 4095) / 4096))
-covers-test missed n true is = grind (arith, nat_tests, eqb-true)
-covers-test missed n false is = omega arith
-
-covers : (missed n : ℕ) → n ≤ 4096 * (0 + packet_count missed n)
-covers missed n = covers-test missed n (n == 0) refl
-
--- and there is none only where nothing was missed
+-- there is no packet only where nothing was missed
 none-test : (missed n : ℕ) (none gone : Bool) → (n == 0) ≡ none → (missed == 0) ≡ gone → cond none (cond gone 0 1) ((n + 4095) / 4096) ≡ 0 → missed ≡ 0
 none-test = grind (arith, nat_tests, eqb-true, eqb-false)
 
@@ -38,10 +28,6 @@ parts-all rs (suc k) a short =
 loss-last : (g : ℕ → PacketRead) (k a : ℕ) → loss_of (map g (range_with_len a (suc k))) ≡ (g (a + k)).discarded
 loss-last g zero a = ap (λ n. (g n).discarded) (omega arith)
 loss-last g (suc k) a = loss-last g k (a + 1) ∙ ap (λ n. (g n).discarded) (omega arith)
-
-told-low : (b : Bool) (missed : ℕ) → missed < 2 ^ 64 → cond b missed 0 < 2 ^ 64
-told-low true missed low = low
-told-low false missed low = omega arith
 
 module _ (called : Naming) (e : EnabledRows) (has : HasStamps true e.header) (uuid : List ℕ) (missed cpu : ℕ) (rs : List Record)
     (long : length uuid ≡ 16) (low : missed < 2 ^ 64) (small : cpu < 2 ^ 32) (of_rs : All (Accepts e) rs) where
@@ -86,33 +72,17 @@ module _ (called : Naming) (e : EnabledRows) (has : HasStamps true e.header) (uu
 
 -- the batches of a CPU as they were taken: what was missed so far, and the records
 module _ (called : Naming) (e : EnabledRows) (uuid : List ℕ) (cpu : ℕ) (long : length uuid ≡ 16) (small : cpu < 2 ^ 32) where
-  Taken : ℕ × List Record → Type 0
-  Taken batch = (batch.0 < 2 ^ 64) × (length (events e batch.1) < 2 ^ 60) × All (Accepts e) batch.1
-
-  taken_read : ℕ × List Record → PacketRead
-  taken_read batch = packet_read called false e uuid None batch.0 cpu batch.1
-
-  batch-read : (batch : ℕ × List Record) → Taken batch → read_file (layout_by called false e) (packet uuid e batch.0 cpu batch.1) ≡ Some (taken_read batch ∷ [])
-  unfolding Taken taken_read HasStamps HasSpan
-  batch-read batch of_batch = packet-read called false e tt uuid None batch.0 cpu batch.1 long tt of_batch.0 small of_batch.1 of_batch.2
-
-  taken-events : (batches : List (ℕ × List Record)) → events_of (map taken_read batches) ≡ map (event_read called false e) (flat_map (λ b. b.1) batches)
-  unfolding taken_read
-  taken-events batches = flat-events taken_read (event_read called false e) (λ b. b.1) (λ b. refl) batches
-
-  taken-loss : (batches : List (ℕ × List Record)) → loss_of (map taken_read batches) ≡ last_missed batches
-  unfolding taken_read
-  taken-loss [] = refl
-  taken-loss (batch ∷ []) = refl
-  taken-loss (batch ∷ other ∷ batches) = taken-loss (other ∷ batches)
-
   pub taken-back : (batches : List (ℕ × List Record)) → All (λ b. (b.0 < 2 ^ 64) × (length (events e b.1) < 2 ^ 60) × All (Accepts e) b.1) batches
       → FileTells (layout_by called false e) uuid cpu (flat_map (λ b. packet uuid e b.0 cpu b.1) batches) (map (event_read called false e) (flat_map (λ b. b.1) batches)) (last_missed batches)
-  unfolding Taken taken_read
-  taken-back batches of_batches = record {
-    packets = map taken_read batches;
-    read = flat-read (layout_by called false e) Taken (λ b. packet uuid e b.0 cpu b.1) taken_read batch-read batches of_batches;
-    has = taken-events batches;
-    misses = taken-loss batches;
-    whose = All-each (λ p. (p.uuid ≡ uuid) × (p.cpu ≡ cpu)) taken_read (λ b. (refl, refl)) batches;
-  }
+  unfolding HasStamps HasSpan
+  taken-back = batches-tell called false e uuid cpu (λ b. (b.0 < 2 ^ 64) × (length (events e b.1) < 2 ^ 60) × All (Accepts e) b.1) (λ b. packet uuid e b.0 cpu b.1)
+      (λ b of_b. (
+        record {
+          packets = packet_read called false e uuid None b.0 cpu b.1 ∷ [];
+          read = packet-read called false e tt uuid None b.0 cpu b.1 long tt of_b.0 small of_b.1 of_b.2;
+          has = append-nil (map (event_read called false e) b.1);
+          whose = All-cons (λ p. (p.uuid ≡ uuid) × (p.cpu ≡ cpu) × (p.discarded ≡ b.0)) (packet_read called false e uuid None b.0 cpu b.1) [] (refl, refl, refl)
+              (All-nil (λ p. (p.uuid ≡ uuid) × (p.cpu ≡ cpu) × (p.discarded ≡ b.0)));
+        },
+        omega arith,
+      ))

@@ -106,6 +106,7 @@ pub fn live_file_reads_back()
 {}
 
 /// Two texts of metadata by hand tell their layouts.
+#[tactic(auto, unfolding(crate::specs::ReadingMetadata::is_digit, crate::specs::ReadingMetadata::is_word, crate::specs::ReadingMetadata::is_quoted))]
 pub fn worked_metadata()
     ensures timed { read_metadata timed_text ≡ Some timed_text_layout }
     ensures taken { read_metadata taken_text ≡ Some taken_text_layout }
@@ -113,6 +114,7 @@ pub fn worked_metadata()
 
 /// What isn't known in a text of metadata is refused: a text that is cut or goes on, another byte order, another type, an enumeration of
 /// floats, a label without its number.
+#[tactic(auto, unfolding(crate::specs::ReadingMetadata::is_digit, crate::specs::ReadingMetadata::is_word, crate::specs::ReadingMetadata::is_quoted))]
 pub fn worked_metadata_refusals()
     ensures cut { read_metadata (take (length taken_text - 1) taken_text) ≡ None }
     ensures goes_on { read_metadata (taken_text ++ codes "\n") ≡ None }

@@ -16,7 +16,7 @@
 //! | `specs/`: Layouts, Files, ToldNumbers | the layout that a trace of some enablings, names and a form has, and a record as it is read; what a file tells; the numbers that the metadata tells, as they are in memory |
 //! | `specs/`: Parts, Told, Faults, Packets | of the code that reads: what a part of the text gives; what was read, in the words of the definition; which fault is due, of events and of packets |
 //! | `specs/Folders/` | Checks (when nothing is wrong with a file), Whole (bytes that are whole packets), Counts (what a file adds to them), Clocks, Values (times of stamps, what numbers stand for), Marks, Tracks (what happened, by time and by rows) |
-//! | `proofs/`, of packets | Agreeing (what sizes that agree say), Bounds (each part takes some bytes), Joining (what follows a file changes nothing in it), NumbersRead, EventsRead, PacketsRead, Sizes, Files, Timed, Live, Named; Numbered and Shorter (what `fronts.rt` needs) |
+//! | `proofs/`, of packets | Agreeing (what sizes that agree say), Bounds (each part takes some bytes, and what follows changes nothing in it), Joining (nor in a file), NumbersRead, EventsRead, PacketsRead, Files, Batches (of batches one file), FilledRead, Timed, Live, Named; Shorter (what `fronts.rt` needs) |
 //! | `proofs/`, of the metadata | Scanning (what stands in a text is found there), NextWords, TextWords, TextFields (words of texts), FieldTypes, Lines (of fields), Texts (of events), Headings (what stands before them), AllowedWords, Allowed (names in which nothing is wrong) |
 //! | `proofs/`, of the code that reads | ScanLemmas (a text in parts), LoopLemmas (fields, events and labels one after another), EventLemmas (an event's number, stamp and values) |
 #![tactic(auto)]

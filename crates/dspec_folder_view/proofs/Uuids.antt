@@ -1,5 +1,5 @@
 -- Places of a list that don't have a value.
-use Rattle.std.proofs.{Common.◌≡◌, Common.ℕ, Common.◌<◌, Common.◌≤◌, Common.List, Common.Some, Common.None, Common.length, Common.⊎_elim, Common.arith, lemmas.Option.slice_get_cases}
+use Rattle.std.proofs.{Common.◌≡◌, Common.ℕ, Common.◌<◌, Common.◌≤◌, Common.List, Common.Some, Common.length, Common.⊎_elim, Common.arith, lemmas.Option.slice_get_cases}
 use Rattle.std.specs.List.{slice_get}
 
 -- a value that none of all places has stands nowhere

@@ -2,9 +2,8 @@
 use Prim.Native.Nat.{zero, suc}
 use Rattle.std.proofs.Common.{◌≡◌, ◌≤◌, ◌<◌, ◌+◌, inl, inr, ℕ, Bool, true, false, ◌&&◌, ◌==◌, List, ◌∷◌, ◌++◌, Option, Some, None, is_none, if◌then◌else◌, refl, sym, ap, ◌∙◌, subst, ⊎_elim, arith}
 use Rattle.std.proofs.lemmas.Bool.Decides.{nat_tests}
-use Rattle.dspec_interleaving.specs.Words.{Shape, Speculation, awaits, present, verdict, is_undecided, solo, settled, is_busy, owed, releaser, word_at, IsSound, PlayState, ConsumerStep}
+use Rattle.dspec_interleaving.specs.Words.{Shape, Speculation, awaits, present, verdict, is_undecided, solo, settled, is_busy, owed, releaser, word_at, IsSound, PlayState, ConsumerStep, Release}
 use Rattle.dspec_interleaving.specs.Words.{consumer_step, keeps_on, stops, Stepped, step, on_to_end, WholeConsumer, all_settled, is_reapable, cleaned_at, cleaned_up, Config, Actor, Answer, Deed}
-use Rattle.dspec_interleaving.specs.Words.{Release}
 use Rattle.dspec_interleaving.specs.declared.flight.{ConsumerFlight.ConsumerFlight, ConsumerProgress.ConsumerProgress, CpuProgress.CpuProgress}
 use Rattle.dspec_deeds.specs.declared.calls.Actor.TheVariants as actor
 use Rattle.dspec_deeds.proofs.{Awaiting.awaits_is, TestLemmas.either_way, TestLemmas.and_tells, TestLemmas.and_false, TestLemmas.off}

@@ -6,11 +6,8 @@ pub mod WholeAsks
 pub mod Counts
 pub mod CleanReads
 pub mod StepReads
-pub mod TableReads
 pub mod DecideMoves
-pub mod ServiceMoves
 pub mod SpeculateMoves
-pub mod ScanMoves
 pub mod Bounded
 pub mod Closing
 pub mod Coherence

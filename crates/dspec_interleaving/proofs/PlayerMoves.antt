@@ -1,19 +1,14 @@
 -- What a player's steps make of the play that it follows.
 use Rattle.std.proofs.Common.{◌≡◌, ℕ, zero, suc, ◌+◌, ◌-◌, ◌<◌, true, false, List, [], ◌∷◌, ◌++◌, map, reverse, Option, Some, None, is_none, refl, sym, ap, ◌∙◌, subst, arith, true≢false}
 use Rattle.std.proofs.lemmas.List.{reverse-append, map-append}
-use Rattle.dspec_interleaving.specs.Words.{Shape, Actor, Answer, Op, cpu_call_of, consumer_call_of, call_of, is_idle, told_step, PlayState, progress_of, EndedCall, IsPlayingAt, Noted, Playing}
-use Rattle.dspec_interleaving.specs.Words.{cpu_stepped, consumer_stepped, ended, with_note, stepped, to_end, step}
-use Rattle.dspec_interleaving.specs.declared.{flight.CallPlace.CallPlace, flight.ConsumerFlight.ConsumerFlight, refusal.Stepped.TheVariants.Done}
+use Rattle.dspec_interleaving.specs.Words.{Shape, Actor, Answer, Op, cpu_call_of, consumer_call_of, call_of, is_idle, PlayState, progress_of, EndedCall, IsPlayingAt, Noted, Playing, cpu_stepped}
+use Rattle.dspec_interleaving.specs.Words.{consumer_stepped, ended, with_note, stepped, to_end, step}
+use Rattle.dspec_interleaving.specs.declared.flight.{CallPlace.CallPlace, ConsumerFlight.ConsumerFlight}
 use Rattle.dspec_deeds.specs.declared.calls.Actor.TheVariants as actor
 
 -- the latest call to end is put down last
 put_last : (n : Noted) (ns : List Noted) → map ended (reverse (n ∷ ns)) ≡ map ended (reverse ns) ++ ended n ∷ []
 put_last n ns = ap (λ (l : List Noted). map ended l) (reverse-append (n ∷ []) ns) ∙ map-append ended (reverse ns) (n ∷ [])
-
--- a step that is told as a call's last has its answer
-pub told_done : (r : Option Answer) (x : Answer) → Done x ≡ told_step r → r ≡ Some x
-told_done None x e = absurd (cc (e))
-told_done (Some y) x e = cc (e)
 
 -- the answers once a call has ended
 abbrev pub with_answer : Actor → Op → Option Answer → List EndedCall → List EndedCall

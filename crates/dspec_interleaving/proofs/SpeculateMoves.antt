@@ -1,30 +1,9 @@
 -- What a step of a call of speculate makes, by the table's act, and the word that it leaves.
-use Rattle.std.proofs.Common.{◌≡◌, ◌≢◌, ℕ, true, List, [], ◌∷◌, Option, Some, if◌then◌else◌, refl, sym, ap, ◌∙◌, false, None, ◌+◌}
-use Rattle.dspec_interleaving.specs.Words.{Shape, Record, Speculation, SlotState, speculate_at, undecided, standing, joined, is_among, callers, verdict, present, issue, is_open, owed, code_at}
-use Rattle.dspec_interleaving.specs.Words.{word_at, IsSound, cpu_step, same_word, ends, shown_speculate, OnItsWay, measured, Act, Void, Granted, Attempt, Idle, Code, Inactive, Config, Deed}
-use Rattle.dspec_interleaving.specs.Words.{Speculate, Answer}
-use Rattle.dspec_interleaving.specs.declared.flight.CpuProgress.{CpuProgress}
-use Rattle.dspec_deeds.specs.declared.calls.Answer.TheVariants as answer
-use Rattle.dspec_deeds.specs.declared.calls.Spoken.TheVariants as spoken_answer
+use Rattle.std.proofs.Common.{◌≡◌, ℕ, true, List, ◌∷◌, Some, if◌then◌else◌, refl, sym, ap, ◌∙◌}
+use Rattle.dspec_interleaving.specs.Words.{Record, Speculation, SlotState, speculate_at, undecided, standing, joined, is_among, callers, verdict, present, issue, is_open, owed, code_at, Speculate}
+use Rattle.dspec_interleaving.specs.Words.{word_at, IsSound, OnItsWay, Granted, Attempt, Code, Inactive, Config, Deed}
 use Rattle.dspec_deeds.specs.declared.deed.SpeculateFate.TheVariants as spoken
-use Rattle.dspec_interleaving.specs.declared.flight.CallPlace.TheVariants as cpu
 use Rattle.dspec_deeds.proofs.{PresentIds.open_present, WordActs.speculate_granted, WordActs.speculate_attempt, WordChanges.granted_word}
-
--- the table grants nothing and attempts nothing
-pub shown_voids : (shape : ℕ → Option Shape) (k : Config) (c : ℕ) (h : List Deed) (me : CpuProgress) (id : Speculation) (r : Record) (w : SlotState) (act : Act) → act ≢ Granted
-    → ((to : SlotState) → act ≢ Attempt to)
-    → shown_speculate k c (measured shape k c h) me id r w act ≡ ends me (Speculate c id r spoken.Void ∷ []) (answer.Spoken spoken_answer.Void)
-shown_voids shape k c h me id r w Void bare none = refl
-shown_voids shape k c h me id r w Granted bare none = absurd (bare refl)
-shown_voids shape k c h me id r w (Attempt to) bare none = absurd (none to refl)
-shown_voids shape k c h me id r w Idle bare none = refl
-
--- the table attempts an exchange, which is next, behind a word that wasn't expected
-pub speculate_tried : (shape : ℕ → Option Shape) (k : Config) (c : ℕ) (h : List Deed) (me : CpuProgress) (id : Speculation) (r : Record) (from w to : SlotState)
-    (a : Option Answer) → same_word (word_at id.slot h) from ≡ false
-    → speculate_at (word_at id.slot h) id (is_among c (callers id h)) ≡ Attempt to → w ≡ word_at id.slot h → a ≡ None
-    → record { progress = record me { flight = Some (cpu.SpeculateTry id r w); steps = me.steps + 1 }; deeds = []; answer = a } ≡ cpu_step shape k c h me (cpu.SpeculateTry id r from)
-speculate_tried shape k c h me id r from w to a other act is none = rw (is, none) (rw other (rw act refl))
 
 module _ (k : Config) (c : ℕ) (h : List Deed) (id : Speculation) (r : Record) (sound : IsSound k h) (rests : owed h ≡ 0) (way : OnItsWay k c h id) where
   -- a record of an open speculation may come

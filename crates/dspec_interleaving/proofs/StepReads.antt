@@ -1,10 +1,10 @@
 -- What a coherent state tells an atomic step before it is made.
-use Rattle.std.proofs.Common.{◌≡◌, ℕ, ◌^◌, ◌<◌, ◌≤◌, true, false, not, List, ◌++◌, Option, Some, None, refl, ap, ◌∙◌, subst, ⊎_elim, inl, inr, arith}
-use Rattle.dspec_interleaving.specs.Words.{Shape, Code, Inactive, is_inactive, CanBeReleased, start_fault, opened, present, word_at, issue, IsSound, IsAllowed, CpuStep, cpu_step, PlayState}
-use Rattle.dspec_interleaving.specs.Words.{IsCoherent, StandsCpu, StandsProgress, progress_of, Config, Deed}
+use Rattle.std.proofs.Common.{◌≡◌, ℕ, ◌^◌, ◌<◌, ◌≤◌, true, false, not, List, Option, Some, None, refl, ap, ◌∙◌, subst, ⊎_elim, inl, inr, arith}
+use Rattle.dspec_interleaving.specs.Words.{Shape, Code, Inactive, is_inactive, CanBeReleased, start_fault, opened, present, word_at, issue, IsSound, PlayState, IsCoherent, StandsCpu, StandsProgress}
+use Rattle.dspec_interleaving.specs.Words.{progress_of, Config, Deed}
 use Rattle.dspec_interleaving.specs.declared.flight.CallPlace.{CallPlace}
 use Rattle.dspec_deeds.proofs.{SetUp.set_up, TestLemmas.either_way, WordCodes.word_inactive}
-use Rattle.dspec_interleaving.proofs.{Bounded.cpu_below, Bounded.cpu_within, Counts.issue_below, Counts.issues_fit, CpuSteps.cpu_step_stands, Tests.all_fit}
+use Rattle.dspec_interleaving.proofs.{Bounded.cpu_below, Bounded.cpu_within, Counts.issue_below, Counts.issues_fit, Tests.all_fit}
 
 -- the code of an inactive word
 inactive_code : (code : Code) → is_inactive code ≡ true → code ≡ Inactive
@@ -39,8 +39,3 @@ module _ (shape : ℕ → Option Shape) (st : PlayState) (coherent : IsCoherent 
       let within = cpu_within st.config some (Some f) in
       let most = slots_fit st.config coherent.ranges in
       omega arith
-
-  -- the deeds of its step are legal
-  pub step_legal : (moved : CpuStep) → cpu_step shape st.config c st.deeds (progress_of st.progresses c) f ≡ moved → IsAllowed shape st.config (moved.deeds ++ st.deeds)
-  step_legal moved e = subst (λ (m : CpuStep). IsAllowed shape st.config (m.deeds ++ st.deeds)) e
-      (cpu_step_stands shape st.config c st.deeds (progress_of st.progresses c) coherent.ranges coherent.legal coherent.rests (coherent.stands c lt) f is).goes.legal

@@ -3,7 +3,7 @@ pub mod Outside
 unfoldable pub use Outside.*
 pub use Rattle.dspec_interleaving.specs.Bounds.{clean_bound, consumer_bound, consumer_limit, cpu_limit, flight_bound, most_steps, op_bound, steps_limit}
 pub use Rattle.dspec_interleaving.specs.Calls.{begin_consumer_fault, begin_cpu_fault, call_of, consumer_call_of, consumer_op_of, cpu_call_of, is_about, is_actor, is_idle, op_of, record_passes}
-pub use Rattle.dspec_interleaving.specs.Calls.{steps_of, told_step}
+pub use Rattle.dspec_interleaving.specs.Calls.{steps_of}
 pub use Rattle.dspec_interleaving.specs.Coherent.{Expects, idle_progress, IsCoherent, IsSlot, OnItsWay, PlayState, progress_of, ProgressStands, PushesNext, SettledBelow, SpareCounts, StandsConsumer}
 pub use Rattle.dspec_interleaving.specs.Coherent.{StandsCpu, StandsProgress, StandsState, TriedBy}
 pub use Rattle.dspec_interleaving.specs.CpuClose.{IsCloseOf, own_closed, own_closed_slot}

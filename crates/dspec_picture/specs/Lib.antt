@@ -1,3 +1,2 @@
-pub mod Bands
 pub mod Tellable
 pub mod Words

@@ -1,5 +1,4 @@
 -- Serves proofs. The words of this crate for its proofs and for the crates above, in one place. Declares nothing.
 pub mod Outside
 unfoldable pub use Outside.*
-pub use Rattle.dspec_picture.specs.Bands.{IsSmall}
 pub use Rattle.dspec_picture.specs.Tellable.{CanBeTold, ConsumerCanBeTold, IsNamedSlot}

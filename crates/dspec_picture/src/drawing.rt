@@ -1,20 +1,19 @@
 //! The picture of a play.
-ghost use Rattle.std.specs.Prelude.{◌≡◌, ◌+◌, ◌*◌, ◌^◌, ◌<◌, ◌≤◌, ◌↔◌, All, Err, IfOk, length};
-ghost use Rattle.dspec_picture.specs.{Bands.IsSmall, declared.drawing.PictureFault.TheVariants.Memory};
+ghost use Rattle.std.specs.Prelude.{◌≡◌, ◌<◌, ◌↔◌, Err, length};
+ghost use Rattle.dspec_picture.specs.declared.drawing.PictureFault.TheVariants.{Memory};
 
-use crate::band::Band;
 use crate::bars::push_bars;
 use crate::fates::deepest;
 use crate::grid::{
-    COLUMNS, SLOTS, bar_top, bars_above, has_lane, lanes_above, middle_x, picture_width, row_count,
+    COLUMNS, SLOTS, bar_top, bars_above, has_lane, lane_top, middle_x, picture_width, row_count,
     row_end, row_top,
 };
-use crate::marks::{label_above, push_band};
-use crate::shape::{Caption, DrawnShape, RecordStyle};
-use crate::sheet::draw;
-use crate::svg::svg_text;
+use crate::marks::{ABOVE, push_band};
+use crate::svg::{
+    RecordStyle, print_down, print_ground, print_head, print_key, print_level, print_numbered,
+    print_words,
+};
 use dspec_deeds::{Config, Deed};
-use dspec_interleaving::Series;
 use dspec_record::Header;
 use std::alloc::{AllocError, Global};
 
@@ -40,342 +39,182 @@ impl From<AllocError> for PictureFault {
     }
 }
 
-fn stream_top(cpu: u32, deeds: &[Deed]) -> u64
-    ensures small { result ≤ 2066 }
-{
-    18 + 32 * lanes_above(cpu, SLOTS, deeds)
+/// What a picture rests on: its deeds, the header of their records, how many slots the session has, and the height of a row.
+#[derive(Clone, Copy)]
+pub(crate) struct Sheet<'a> {
+    pub(crate) alloc: Global,
+    pub(crate) deeds: &'a [Deed],
+    pub(crate) header: Header,
+    pub(crate) slots: u32,
+    pub(crate) stride: u64,
 }
 
-fn band_height(cpu: u32, deeds: &[Deed]) -> u64
-    requires few { length deeds.now ≤ 2000 }
-    ensures small { result + 8 ≤ 65536 }
-{
-    stream_top(cpu, deeds) + 22 * deepest(cpu, deeds) + 6
+/// A CPU's band: how many of its batches the consumer took, where it begins in a row and how high it is, and where its stream's boxes begin in it.
+#[derive(Clone, Copy)]
+pub(crate) struct Band {
+    pub(crate) cpu: u32,
+    pub(crate) taken: u64,
+    pub(crate) top: u64,
+    pub(crate) height: u64,
+    pub(crate) stream: u64,
 }
 
-fn bands_top(deeds: &[Deed]) -> u64
-    ensures small { result ≤ 2200 }
-{
-    24 + 34 * bars_above(SLOTS, deeds)
+/// Where the bands of a row begin.
+fn bands_top(deeds: &[Deed]) -> u64 {
+    bars_above(SLOTS, deeds)
+        .saturating_mul(34)
+        .saturating_add(24)
 }
 
-/// The heights of all bands, each with the gap below it.
-fn bands_height(cpus: u32, deeds: &[Deed]) -> u64
-    requires few { length deeds.now ≤ 2000 }
-    ensures small { result ≤ 65536 * cpus }
-{
-    let mut height = 0;
-    for cpu in 0..cpus {
-        height += band_height(cpu, deeds) + 8;
-    }
-    height
-}
-
-fn row_height(cpus: u32, deeds: &[Deed]) -> u64
-    requires few { length deeds.now ≤ 2000 }
-    ensures small { result < 2 ^ 50 }
-{
-    bands_top(deeds) + bands_height(cpus, deeds) + 8
-}
-
-/// How many of the CPU's batches the consumer took.
-fn taken_of(batches: &[u64], cpu: u32) -> u64 {
-    match batches.get(cpu as usize) {
-        Some(taken) => *taken,
-        None => 0,
-    }
-}
-
-/// The bands of all CPUs.
-fn bands(
+/// The bands of all CPUs, below one another, and how high a row with them is.
+fn bands_of(
     alloc: Global,
-    config: &Config,
-    header: Header,
+    cpus: u32,
     batches: &[u64],
     deeds: &[Deed],
-) -> Result<Series<Band>, AllocError>
-    requires few { length deeds.now ≤ 2000 }
-    ensures small { IfOk result (λ bands. All IsSmall bands) }
-{
-    let stride = row_height(config.cpus, deeds);
-    let mut bands = Series::new(alloc);
+) -> Result<(Vec<Band>, u64), AllocError> {
+    let mut bands = Vec::new(alloc);
     let mut top = bands_top(deeds);
-    for cpu in 0..config.cpus {
-        let height = band_height(cpu, deeds);
+    for cpu in 0..cpus {
+        let stream = lane_top(cpu, SLOTS, deeds);
+        let deep = deepest(alloc, cpu, deeds)?.saturating_mul(22);
+        let height = stream.saturating_add(deep).saturating_add(6);
+        let taken = batches.get(cpu as usize).copied().unwrap_or(0);
         bands.push(Band {
             cpu,
-            header,
-            slots: config.nspec,
-            taken: taken_of(batches, cpu),
-            stride,
+            taken,
             top,
             height,
-            stream: stream_top(cpu, deeds),
+            stream,
         })?;
-        top += height + 8;
+        top = top.saturating_add(height).saturating_add(8);
     }
-    Ok(bands)
+    Ok((bands, top.saturating_add(8)))
 }
 
-/// The name and the line of a slot's lane in one row, if the CPU spoke to the slot; so many lanes stand above it.
-fn push_lane(
-    shapes: &mut Series<DrawnShape>,
-    y: u64,
-    end: u64,
-    slot: u32,
-    spoke: bool,
-    above: u64,
-) -> Result<(), AllocError>
-    requires above { above ≤ 64 }
-    requires place { y < 2 ^ 60 }
-{
-    if !spoke {
-        return Ok(());
-    }
-    let top = y + (18 + 32 * above);
-    draw(shapes, DrawnShape::Name(55, top + 14, Caption::Slot(slot)))?;
-    draw(shapes, DrawnShape::LaneLine(top + 10, end))
-}
-
-/// The name and the line of each lane, in one row.
+/// The name and the line of the lane of each slot that the CPU spoke to, in a row whose columns end at a place.
 fn push_lanes(
-    shapes: &mut Series<DrawnShape>,
-    band: &Band,
+    text: &mut String,
+    deeds: &[Deed],
+    cpu: u32,
     y: u64,
     end: u64,
-    deeds: &[Deed],
-) -> Result<(), AllocError>
-    requires place { y < 2 ^ 60 }
-{
-    let mut above = 0;
+) -> Result<(), AllocError> {
     for slot in 0..SLOTS {
-        let spoke = has_lane(band.cpu, slot, deeds);
-        push_lane(shapes, y, end, slot, spoke, above)?;
-        above += u64::from(spoke);
+        if has_lane(cpu, slot, deeds) {
+            let top = y.saturating_add(lane_top(cpu, slot, deeds));
+            print_numbered(
+                text,
+                "name",
+                55,
+                top.saturating_add(14),
+                "slot",
+                u64::from(slot),
+            )?;
+            print_level(text, "lane", top.saturating_add(10), end)?;
+        }
     }
     Ok(())
-}
-
-/// The name and the line of a stream, in one row.
-fn push_stream(shapes: &mut Series<DrawnShape>, y: u64, end: u64) -> Result<(), AllocError>
-    requires place { y < 2 ^ 60 }
-{
-    draw(shapes, DrawnShape::Name(55, y + 14, Caption::Stream))?;
-    draw(shapes, DrawnShape::StreamLine(y + 10, end))
-}
-
-/// The ground and the name of a band, in one row.
-fn push_ground(
-    shapes: &mut Series<DrawnShape>,
-    band: &Band,
-    y: u64,
-    width: u64,
-) -> Result<(), AllocError>
-    requires place { y < 2 ^ 60 }
-{
-    draw(shapes, DrawnShape::Ground(y, width, band.height))?;
-    draw(shapes, DrawnShape::Name(8, y + 32, Caption::Cpu(band.cpu)))
 }
 
 /// What stands behind the marks of a CPU, in one row.
 fn push_frame(
-    shapes: &mut Series<DrawnShape>,
+    text: &mut String,
+    page: &Sheet<'_>,
     band: &Band,
     row: u64,
-    deeds: &[Deed],
-) -> Result<(), AllocError>
-    requires band { IsSmall band.now }
-    requires row { row ≤ 50 }
-{
-    let count = deeds.len() as u64;
-    let y = row_top(band.stride, row) + band.top;
-    let end = row_end(row, count);
-    push_ground(shapes, band, y, picture_width(count))?;
-    push_lanes(shapes, band, y, end, deeds)?;
-    push_stream(shapes, y + band.stream, end)
-}
-
-fn push_frames(
-    shapes: &mut Series<DrawnShape>,
-    bands: &[Band],
-    row: u64,
-    deeds: &[Deed],
-) -> Result<(), AllocError>
-    requires small { All IsSmall bands.now }
-    requires row { row ≤ 50 }
-{
-    for band in bands {
-        push_frame(shapes, band, row, deeds)?;
-    }
-    Ok(())
-}
-
-/// The bars of a row, and its bands.
-fn push_row(
-    alloc: Global,
-    shapes: &mut Series<DrawnShape>,
-    stride: u64,
-    bands: &[Band],
-    deeds: &[Deed],
-    row: u64,
-) -> Result<(), AllocError>
-    requires few { length deeds.now ≤ 2000 }
-    requires small { All IsSmall bands.now }
-    requires stride { stride < 2 ^ 50 }
-    requires within { 40 * row ≤ length deeds.now }
-{
-    push_bars(alloc, shapes, stride, row, deeds)?;
-    push_frames(shapes, bands, row, deeds)
-}
-
-fn push_rows(
-    alloc: Global,
-    shapes: &mut Series<DrawnShape>,
-    stride: u64,
-    bands: &[Band],
-    deeds: &[Deed],
-) -> Result<(), AllocError>
-    requires few { length deeds.now ≤ 2000 }
-    requires small { All IsSmall bands.now }
-    requires stride { stride < 2 ^ 50 }
-{
-    for row in 0..row_count(deeds.len() as u64) {
-        push_row(alloc, shapes, stride, bands, deeds, row)?;
-    }
-    Ok(())
-}
-
-fn push_bands(
-    alloc: Global,
-    shapes: &mut Series<DrawnShape>,
-    bands: &[Band],
-    deeds: &[Deed],
-) -> Result<(), AllocError>
-    requires few { length deeds.now ≤ 2000 }
-    requires small { All IsSmall bands.now }
-{
-    for band in bands {
-        push_band(alloc, shapes, band, deeds)?;
-    }
-    Ok(())
+) -> Result<(), AllocError> {
+    let count = page.deeds.len() as u64;
+    let y = row_top(page.stride, row).saturating_add(band.top);
+    let (end, stream) = (row_end(row, count), y.saturating_add(band.stream));
+    print_ground(text, y, picture_width(count), band.height)?;
+    print_numbered(
+        text,
+        "name bold",
+        8,
+        y.saturating_add(32),
+        "cpu",
+        u64::from(band.cpu),
+    )?;
+    push_lanes(text, page.deeds, band.cpu, y, end)?;
+    print_words(text, "name", 55, stream.saturating_add(14), "stream")?;
+    print_level(text, "stream", stream.saturating_add(10), end)
 }
 
 /// A release above its slot's bar, or a stop through all bands.
 fn push_shared(
-    shapes: &mut Series<DrawnShape>,
-    stride: u64,
-    deeds: &[Deed],
+    text: &mut String,
+    page: &Sheet<'_>,
     column: u64,
     deed: &Deed,
-) -> Result<(), AllocError>
-    requires stride { stride < 2 ^ 50 }
-    requires column { column ≤ 2000 }
-{
-    let row = row_top(stride, column / COLUMNS);
+) -> Result<(), AllocError> {
+    let (x, row) = (middle_x(column), row_top(page.stride, column / COLUMNS));
     match *deed {
-        Deed::Release(slot) => push_release(shapes, row, deeds, column, slot),
-        Deed::Halt => push_stop(shapes, stride, row, deeds, column),
+        Deed::Release(slot) => {
+            let y = row.saturating_add(bar_top(slot, page.deeds));
+            print_words(text, "label", x, y.saturating_sub(ABOVE), "free")
+        }
+        Deed::Halt => {
+            let top = bands_top(page.deeds);
+            let y = row.saturating_add(top);
+            print_down(text, "stop", x, y, page.stride.saturating_sub(top))?;
+            print_words(text, "label red", x, y.saturating_sub(ABOVE), "stop")
+        }
         _ => Ok(()),
     }
 }
 
-fn push_release(
-    shapes: &mut Series<DrawnShape>,
-    row: u64,
-    deeds: &[Deed],
-    column: u64,
-    slot: u32,
-) -> Result<(), AllocError>
-    requires row { row < 2 ^ 60 }
-{
-    let y = row + bar_top(slot, deeds);
-    draw(shapes, label_above(column, y, Caption::Free))
-}
-
-fn push_stop(
-    shapes: &mut Series<DrawnShape>,
-    stride: u64,
-    row: u64,
-    deeds: &[Deed],
-    column: u64,
-) -> Result<(), AllocError>
-    requires row { row < 2 ^ 60 }
-{
-    let top = bands_top(deeds);
-    draw(
-        shapes,
-        DrawnShape::StopStroke(middle_x(column), row + top, stride.saturating_sub(top)),
-    )?;
-    draw(shapes, label_above(column, row + top, Caption::Stop))
-}
-
-fn push_all_shared(
-    shapes: &mut Series<DrawnShape>,
-    stride: u64,
-    deeds: &[Deed],
-) -> Result<(), AllocError>
-    requires few { length deeds.now ≤ 2000 }
-    requires stride { stride < 2 ^ 50 }
-{
+/// The bars of each row and its bands; what the deeds of each CPU show; what those show that aren't of a CPU.
+fn push_deeds(text: &mut String, page: &Sheet<'_>, bands: &[Band]) -> Result<(), AllocError> {
+    let deeds = page.deeds;
+    for row in 0..row_count(deeds.len() as u64) {
+        push_bars(text, page.stride, row, deeds)?;
+        for band in bands {
+            push_frame(text, page, band, row)?;
+        }
+    }
+    for band in bands {
+        push_band(text, page, band)?;
+    }
     for at in 0..deeds.len() {
-        push_shared(shapes, stride, deeds, at as u64, &deeds[at])?;
+        push_shared(text, page, at as u64, &deeds[at])?;
     }
     Ok(())
 }
 
 /// The five fates, each with its name.
-fn push_legend(shapes: &mut Series<DrawnShape>, y: u64) -> Result<(), AllocError> {
-    draw(shapes, DrawnShape::Key(100, y, RecordStyle::Taken))?;
-    draw(shapes, DrawnShape::Key(220, y, RecordStyle::Dropped))?;
-    draw(shapes, DrawnShape::Key(370, y, RecordStyle::Discarded))?;
-    draw(shapes, DrawnShape::Key(490, y, RecordStyle::Void))?;
-    draw(shapes, DrawnShape::Key(610, y, RecordStyle::Abandoned))
+fn push_legend(text: &mut String, y: u64) -> Result<(), AllocError> {
+    print_key(text, 100, y, RecordStyle::Taken)?;
+    print_key(text, 220, y, RecordStyle::Dropped)?;
+    print_key(text, 370, y, RecordStyle::Discarded)?;
+    print_key(text, 490, y, RecordStyle::Void)?;
+    print_key(text, 610, y, RecordStyle::Abandoned)
 }
 
-/// All that the deeds show.
-fn push_deeds(
-    alloc: Global,
-    shapes: &mut Series<DrawnShape>,
-    stride: u64,
-    bands: &[Band],
-    deeds: &[Deed],
-) -> Result<(), AllocError>
-    requires few { length deeds.now ≤ 2000 }
-    requires small { All IsSmall bands.now }
-    requires stride { stride < 2 ^ 50 }
-{
-    push_rows(alloc, shapes, stride, bands, deeds)?;
-    push_bands(alloc, shapes, bands, deeds)?;
-    push_all_shared(shapes, stride, deeds)
-}
-
-/// Where the legend stands.
-fn legend_top(stride: u64, count: u64) -> u64
-    requires stride { stride < 2 ^ 50 }
-    requires few { count ≤ 2000 }
-    ensures small { result < 2 ^ 60 }
-{
-    row_top(stride, row_count(count)) + 6
-}
-
-/// The text of the picture of so many deeds as a picture shows.
+/// The text of the picture.
 fn drawn(
     alloc: Global,
     config: &Config,
     header: Header,
     batches: &[u64],
     deeds: &[Deed],
-) -> Result<String, AllocError>
-    requires few { length deeds.now ≤ 2000 }
-{
-    let stride = row_height(config.cpus, deeds);
-    let bands = bands(alloc, config, header, batches, deeds)?;
-    let mut shapes = Series::new(alloc);
-    push_deeds(alloc, &mut shapes, stride, bands.as_slice(), deeds)?;
+) -> Result<String, AllocError> {
+    let (bands, stride) = bands_of(alloc, config.cpus, batches, deeds)?;
+    let page = Sheet {
+        alloc,
+        deeds,
+        header,
+        slots: config.nspec,
+        stride,
+    };
     let count = deeds.len() as u64;
-    let foot = legend_top(stride, count);
-    push_legend(&mut shapes, foot)?;
-    svg_text(alloc, picture_width(count), foot + 34, shapes.as_slice())
+    let foot = row_top(stride, row_count(count)).saturating_add(6);
+    let mut text = String::new(alloc);
+    print_head(&mut text, picture_width(count), foot.saturating_add(34))?;
+    push_deeds(&mut text, &page, bands.as_slice())?;
+    push_legend(&mut text, foot)?;
+    text.push_str("</svg>\n")?;
+    Ok(text)
 }
 
 /// The SVG text of a play: its deeds in order of time, and how many batches of each CPU the consumer took.

@@ -13,37 +13,25 @@
 //!
 //! | File | What is in it |
 //! |---|---|
-//! | `shape.rt`, `style.rt` | `DrawnShape` and what is in one (`RecordStyle`, `Caption`, `Offered`); the style sheet |
-//! | `svg.rt`, `boxes.rt`, `segments.rt`, `group.rt` | the text of shapes: head, words, lines and strokes; records and the legend; states of slots; what groups have in common |
+//! | `svg.rt` | the text of what a picture is made of: its head and style sheet, words, lines and strokes; records and the legend; states of slots |
 //! | `grid.rt`, `fates.rt`, `marks.rt` | where things stand; what became of each offer; what a deed shows in its CPU's band |
-//! | `bars.rt`, `band.rt`, `drawing.rt`, `sheet.rt` | the segments of a slot; a band; the whole; one shape more |
+//! | `bars.rt`, `drawing.rt` | the segments of a slot; the whole |
 //! | `walking.rt` | `steps_of`: who looks on at the player of dspec_core; a line a step |
 //! | `showing.rt`, `telling.rt`, `room.rt`, `words.rt` | what the world shows of slots, and the word attempted; what a step does, in words; how many bytes a refused record or block needed; deeds and words as text |
-//! | `specs/` | Bands (where a band may stand), Tellable (what a call in flight keeps so that its step can be told) |
-//! | `proofs/` | Rows (no row begins too low), Tellable |
+//! | `specs/`, `proofs/` | Tellable (what a call in flight keeps so that its step can be told) |
 #![tactic(auto)]
 
-pub mod band;
 mod bars;
-mod boxes;
 mod drawing;
 mod fates;
 mod grid;
-mod group;
 mod marks;
 mod room;
-mod segments;
-pub mod shape;
-mod sheet;
 mod showing;
-mod style;
 mod svg;
 mod telling;
 mod walking;
 mod words;
 
-pub use band::Band;
 pub use drawing::{MOST_DEEDS, PictureFault, picture};
-pub use shape::{Caption, DrawnShape, Offered, RecordStyle};
-pub use svg::svg_text;
 pub use walking::steps_of;

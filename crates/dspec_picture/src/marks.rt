@@ -1,413 +1,187 @@
 //! What the deeds of one CPU show in its band, each in its column.
-ghost use Rattle.std.specs.Prelude.{◌≤◌, ◌<◌, ◌^◌, length};
-ghost use Rattle.dspec_picture.specs.Bands.{IsSmall};
 
-use crate::band::Band;
+use crate::drawing::{Band, Sheet};
 use crate::fates::{held, seals, spoken_look, traced_look};
 use crate::grid::{COLUMNS, box_x, lane_top, middle_x, row_top};
-use crate::shape::{Caption, DrawnShape, Offered, RecordStyle};
-use crate::sheet::draw;
-use dspec_deeds::{DecideFate, Deed, SpeculateFate, TraceFate};
-use dspec_interleaving::Series;
+use crate::svg::{
+    Offered, RecordStyle, print_box, print_cross, print_down, print_numbered, print_seal,
+    print_words,
+};
+use dspec_deeds::{DecideFate, Deed, TraceFate};
 use dspec_record::Rec;
 use dspec_word::SpecId;
-use std::alloc::{AllocError, Global};
+use std::alloc::AllocError;
 
 /// The distance of two records of one block.
 const STACK: u64 = 22;
 
-/// Where the band begins in the row of a column.
-fn band_y(band: &Band, column: u64) -> u64
-    requires band { IsSmall band.now }
-    requires column { column ≤ 2000 }
-    ensures small { result < 2 ^ 57 }
-{
-    row_top(band.stride, column / COLUMNS) + band.top
-}
+/// How far the foot of a small text stands above what it names.
+pub(crate) const ABOVE: u64 = 3;
 
-fn stream_y(band: &Band, column: u64) -> u64
-    requires band { IsSmall band.now }
-    requires column { column ≤ 2000 }
-    ensures small { result < 2 ^ 58 }
-{
-    band_y(band, column) + band.stream
-}
-
-fn lane_y(band: &Band, id: SpecId, deeds: &[Deed], column: u64) -> u64
-    requires band { IsSmall band.now }
-    requires column { column ≤ 2000 }
-    ensures small { result < 2 ^ 58 }
-{
-    band_y(band, column) + lane_top(band.cpu, id.slot(), deeds)
-}
-
-/// A small text above what stands at a height.
-pub(crate) fn label_above(column: u64, y: u64, text: Caption) -> DrawnShape {
-    DrawnShape::Label(middle_x(column), y.saturating_sub(3), text)
-}
-
-fn offered_here(band: &Band, target: Option<SpecId>, content: Rec) -> Offered {
-    Offered {
-        cpu: band.cpu,
-        header: band.header,
-        target,
-        content,
-    }
-}
-
-/// The box of a traced record, on the stream.
-fn traced(band: &Band, column: u64, rec: Rec, fate: TraceFate) -> DrawnShape
-    requires band { IsSmall band.now }
-    requires column { column ≤ 2000 }
-{
-    let offered = offered_here(band, None, rec);
-    let look = traced_look(fate);
-    let filled = matches!(fate, TraceFate::Kept);
-    DrawnShape::RecordBox(box_x(column), stream_y(band, column), filled, look, offered)
-}
-
-/// The box of the record that the deed at this place offered to a speculation, in its lane.
-fn spoken(
-    band: &Band,
-    deeds: &[Deed],
-    at: usize,
-    id: SpecId,
-    rec: Rec,
-    fate: SpeculateFate,
-) -> DrawnShape
-    requires band { IsSmall band.now }
-    requires few { length deeds.now ≤ 2000 }
-    requires within { at < length deeds.now }
-{
-    let column = at as u64;
-    let offered = offered_here(band, Some(id), rec);
-    let look = spoken_look(band.cpu, id, fate, at, deeds);
-    DrawnShape::RecordBox(
-        box_x(column),
-        lane_y(band, id, deeds, column),
-        false,
-        look,
-        offered,
-    )
-}
-
-/// The records of a block on the stream, below one another.
-fn push_stacked(
-    shapes: &mut Series<DrawnShape>,
-    band: &Band,
-    id: SpecId,
-    x: u64,
-    top: u64,
-    recs: &[Rec],
-) -> Result<(), AllocError>
-    requires top { top < 2 ^ 60 }
-    requires few { length recs.now ≤ 2000 }
-{
-    let mut y = top;
-    for rec in recs {
-        let offered = offered_here(band, Some(id), *rec);
-        draw(
-            shapes,
-            DrawnShape::RecordBox(x, y, true, RecordStyle::Taken, offered),
-        )?;
-        y += STACK;
-    }
-    Ok(())
-}
-
-/// What a copied buffer shows: an arrow down to its records, or a stroke where it was empty.
-fn push_copied(
-    shapes: &mut Series<DrawnShape>,
-    band: &Band,
-    id: SpecId,
-    deeds: &[Deed],
+/// A column of a CPU's band, with the deeds before its own and behind that.
+#[derive(Clone, Copy)]
+struct ColumnMark<'a> {
+    page: Sheet<'a>,
+    band: Band,
     column: u64,
-    recs: &[Rec],
-) -> Result<(), AllocError>
-    requires band { IsSmall band.now }
-    requires column { column ≤ 2000 }
-    requires few { length recs.now ≤ 2000 }
-{
-    let x = middle_x(column);
-    let y = lane_y(band, id, deeds, column);
-    if recs.is_empty() {
-        return draw(shapes, DrawnShape::Tick(x, y));
+    before: &'a [Deed],
+    behind: &'a [Deed],
+}
+
+impl ColumnMark<'_> {
+    /// Where the band begins in the column's row.
+    fn top(&self) -> u64 {
+        row_top(self.page.stride, self.column / COLUMNS).saturating_add(self.band.top)
     }
-    let stream = stream_y(band, column);
-    draw(shapes, DrawnShape::Arrow(x, y, stream.saturating_sub(y)))?;
-    push_stacked(shapes, band, id, box_x(column), stream, recs)
-}
 
-/// What a discarded buffer shows: a cross, or a stroke where it was empty.
-fn thrown(x: u64, y: u64, count: u32) -> DrawnShape {
-    if count == 0 {
-        return DrawnShape::Tick(x, y);
+    /// Where its stream does.
+    fn stream(&self) -> u64 {
+        self.top().saturating_add(self.band.stream)
     }
-    DrawnShape::Cross(x, y, RecordStyle::Discarded)
-}
 
-/// What became of a buffer, in its speculation's lane.
-fn push_outcome(
-    shapes: &mut Series<DrawnShape>,
-    band: &Band,
-    id: SpecId,
-    deeds: &[Deed],
-    column: u64,
-    recs: &[Rec],
-    fate: DecideFate,
-) -> Result<(), AllocError>
-    requires band { IsSmall band.now }
-    requires column { column ≤ 2000 }
-    requires few { length recs.now ≤ 2000 }
-{
-    let x = middle_x(column);
-    let y = lane_y(band, id, deeds, column);
-    match fate {
-        DecideFate::Copied(_) => push_copied(shapes, band, id, deeds, column, recs),
-        DecideFate::Lost(_) => draw(shapes, DrawnShape::Cross(x, y, RecordStyle::Dropped)),
-        DecideFate::Thrown(count) => draw(shapes, thrown(x, y, count)),
-        DecideFate::Void => draw(shapes, DrawnShape::Label(x, y + 14, Caption::Void)),
-        DecideFate::Stopped => draw(shapes, DrawnShape::Label(x, y + 14, Caption::Stopped)),
+    /// Where the lane of a speculation does.
+    fn lane(&self, id: SpecId) -> u64 {
+        self.top()
+            .saturating_add(lane_top(self.band.cpu, id.slot(), self.page.deeds))
     }
-}
 
-/// A decision or a settlement, by its name, and what became of the buffer.
-fn push_decision(
-    shapes: &mut Series<DrawnShape>,
-    band: &Band,
-    verb: Caption,
-    id: SpecId,
-    deeds: &[Deed],
-    column: u64,
-    recs: &[Rec],
-    fate: DecideFate,
-) -> Result<(), AllocError>
-    requires band { IsSmall band.now }
-    requires column { column ≤ 2000 }
-    requires few { length recs.now ≤ 2000 }
-{
-    let y = lane_y(band, id, deeds, column);
-    draw(shapes, label_above(column, y, verb))?;
-    push_outcome(shapes, band, id, deeds, column, recs, fate)
-}
-
-/// A decision or a settlement, with the records that the buffer had before it.
-fn push_moved(
-    alloc: Global,
-    shapes: &mut Series<DrawnShape>,
-    band: &Band,
-    verb: Caption,
-    id: SpecId,
-    deeds: &[Deed],
-    at: usize,
-    fate: DecideFate,
-) -> Result<(), AllocError>
-    requires band { IsSmall band.now }
-    requires few { length deeds.now ≤ 2000 }
-    requires within { at < length deeds.now }
-{
-    let recs = held(alloc, band.cpu, id, &deeds[..at])?;
-    push_decision(
-        shapes,
-        band,
-        verb,
-        id,
-        deeds,
-        at as u64,
-        recs.as_slice(),
-        fate,
-    )
-}
-
-/// A discard, which copies no record.
-fn push_discard(
-    shapes: &mut Series<DrawnShape>,
-    band: &Band,
-    id: SpecId,
-    deeds: &[Deed],
-    column: u64,
-    fate: DecideFate,
-) -> Result<(), AllocError>
-    requires band { IsSmall band.now }
-    requires column { column ≤ 2000 }
-{
-    push_decision(shapes, band, Caption::Discard, id, deeds, column, &[], fate)
-}
-
-/// The end of a batch.
-fn push_seal(
-    shapes: &mut Series<DrawnShape>,
-    band: &Band,
-    column: u64,
-    number: u64,
-) -> Result<(), AllocError>
-    requires band { IsSmall band.now }
-    requires column { column ≤ 2000 }
-{
-    let x = middle_x(column);
-    let y = stream_y(band, column);
-    draw(
-        shapes,
-        DrawnShape::SealStroke(x, y, band.cpu, number, number <= band.taken),
-    )?;
-    draw(shapes, label_above(column, y, Caption::Batch(number)))
-}
-
-/// A small text above the stream.
-fn push_on_stream(
-    shapes: &mut Series<DrawnShape>,
-    band: &Band,
-    column: u64,
-    text: Caption,
-) -> Result<(), AllocError>
-    requires band { IsSmall band.now }
-    requires column { column ≤ 2000 }
-{
-    let y = stream_y(band, column);
-    draw(shapes, label_above(column, y, text))
-}
-
-/// Whether the deed names the CPU, or is a Release.
-fn is_of(cpu: u32, deed: &Deed) -> bool {
-    match *deed {
-        Deed::Trace(by, _, _) => cpu == by,
-        Deed::Scan(by, _) => cpu == by,
-        Deed::Opened(by, _) => cpu == by,
-        Deed::Miss(by, _, _) => cpu == by,
-        Deed::Speculate(by, _, _, _) => cpu == by,
-        Deed::Commit(by, _, _) => cpu == by,
-        Deed::Discard(by, _, _) => cpu == by,
-        Deed::Settle(by, _, _) => cpu == by,
-        Deed::Seal(by) => cpu == by,
-        Deed::Release(_) => true,
-        Deed::Halt => false,
+    /// A small text above what stands at a height.
+    fn label(&self, text: &mut String, y: u64, words: &str) -> Result<(), AllocError> {
+        print_words(
+            text,
+            "label",
+            middle_x(self.column),
+            y.saturating_sub(ABOVE),
+            words,
+        )
     }
-}
 
-/// What the deed at this place shows, if it is the CPU's.
-fn push_deed(
-    alloc: Global,
-    shapes: &mut Series<DrawnShape>,
-    band: &Band,
-    deeds: &[Deed],
-    at: usize,
-    deed: &Deed,
-) -> Result<(), AllocError>
-    requires band { IsSmall band.now }
-    requires few { length deeds.now ≤ 2000 }
-    requires within { at < length deeds.now }
-{
-    if !is_of(band.cpu, deed) {
-        return Ok(());
+    /// The same with a number, above the stream.
+    fn numbered(&self, text: &mut String, words: &str, number: u64) -> Result<(), AllocError> {
+        let y = self.stream().saturating_sub(ABOVE);
+        print_numbered(text, "label", middle_x(self.column), y, words, number)
     }
-    push_own(alloc, shapes, band, deeds, at, deed)
-}
 
-fn push_own(
-    alloc: Global,
-    shapes: &mut Series<DrawnShape>,
-    band: &Band,
-    deeds: &[Deed],
-    at: usize,
-    deed: &Deed,
-) -> Result<(), AllocError>
-    requires band { IsSmall band.now }
-    requires few { length deeds.now ≤ 2000 }
-    requires within { at < length deeds.now }
-{
-    let column = at as u64;
-    match *deed {
-        Deed::Trace(_, rec, fate) => draw(shapes, traced(band, column, rec, fate)),
-        Deed::Scan(_, running) => push_scan(shapes, band, column, running),
-        Deed::Opened(_, id) => push_on_stream(shapes, band, column, Caption::Opens(id.slot())),
-        Deed::Miss(_, slot, _) => push_miss(shapes, band, column, slot),
-        Deed::Speculate(_, id, rec, fate) => {
-            draw(shapes, spoken(band, deeds, at, id, rec, fate))
+    /// The box of a record at a height.
+    fn record(
+        &self,
+        text: &mut String,
+        y: u64,
+        filled: bool,
+        look: RecordStyle,
+        target: Option<SpecId>,
+        content: &Rec,
+    ) -> Result<(), AllocError> {
+        let offered = Offered {
+            cpu: self.band.cpu,
+            header: self.page.header,
+            target,
+            content,
+        };
+        print_box(
+            self.page.alloc,
+            text,
+            box_x(self.column),
+            y,
+            filled,
+            look,
+            &offered,
+        )
+    }
+
+    /// What a copied buffer shows: an arrow down to its records on the stream, below one another, or a stroke where it was empty.
+    fn copied(&self, text: &mut String, id: SpecId, x: u64, y: u64) -> Result<(), AllocError> {
+        let recs = held(self.page.alloc, self.band.cpu, id, self.before)?;
+        if recs.is_empty() {
+            return print_down(text, "tick", x, y, 20);
         }
-        Deed::Commit(_, id, fate) => push_moved(
-            alloc,
-            shapes,
-            band,
-            Caption::Commit,
-            id,
-            deeds,
-            at,
-            fate,
-        ),
-        Deed::Discard(_, id, fate) => push_discard(shapes, band, id, deeds, column, fate),
-        Deed::Settle(_, id, fate) => push_moved(
-            alloc,
-            shapes,
-            band,
-            Caption::Settle,
-            id,
-            deeds,
-            at,
-            fate,
-        ),
-        Deed::Seal(_) => push_sealed(shapes, band, deeds, at),
-        Deed::Release(_) | Deed::Halt => Ok(()),
+        let mut place = self.stream();
+        print_down(text, "arrow", x, y, place.saturating_sub(y))?;
+        for rec in &recs {
+            self.record(text, place, true, RecordStyle::Taken, Some(id), rec)?;
+            place = place.saturating_add(STACK);
+        }
+        Ok(())
     }
-}
 
-/// The end of the CPU's batch that the deed at this place sealed.
-fn push_sealed(
-    shapes: &mut Series<DrawnShape>,
-    band: &Band,
-    deeds: &[Deed],
-    at: usize,
-) -> Result<(), AllocError>
-    requires band { IsSmall band.now }
-    requires few { length deeds.now ≤ 2000 }
-    requires within { at < length deeds.now }
-{
-    let number = seals(band.cpu, &deeds[..at]) + 1;
-    push_seal(shapes, band, at as u64, number)
-}
-
-fn push_scan(
-    shapes: &mut Series<DrawnShape>,
-    band: &Band,
-    column: u64,
-    running: bool,
-) -> Result<(), AllocError>
-    requires band { IsSmall band.now }
-    requires column { column ≤ 2000 }
-{
-    if running {
-        return Ok(());
+    /// A decision or a settlement in its speculation's lane, by its name, and what became of the buffer.
+    fn decision(
+        &self,
+        text: &mut String,
+        verb: &str,
+        id: SpecId,
+        fate: DecideFate,
+    ) -> Result<(), AllocError> {
+        let (x, y) = (middle_x(self.column), self.lane(id));
+        self.label(text, y, verb)?;
+        match fate {
+            DecideFate::Copied(_) => self.copied(text, id, x, y),
+            DecideFate::Lost(_) => print_cross(text, x, y, RecordStyle::Dropped),
+            DecideFate::Thrown(0) => print_down(text, "tick", x, y, 20),
+            DecideFate::Thrown(_) => print_cross(text, x, y, RecordStyle::Discarded),
+            DecideFate::Void => print_words(text, "label", x, y.saturating_add(14), "void"),
+            DecideFate::Stopped => print_words(text, "label", x, y.saturating_add(14), "stopped"),
+        }
     }
-    push_on_stream(shapes, band, column, Caption::Stopped)
-}
 
-/// A walk over the slots that found none free shows so at its last slot.
-fn push_miss(
-    shapes: &mut Series<DrawnShape>,
-    band: &Band,
-    column: u64,
-    slot: u32,
-) -> Result<(), AllocError>
-    requires band { IsSmall band.now }
-    requires column { column ≤ 2000 }
-{
-    if slot != band.slots {
-        return Ok(());
+    /// The end of a batch.
+    fn seal(&self, text: &mut String) -> Result<(), AllocError> {
+        let band = self.band;
+        let number = seals(band.cpu, self.before).saturating_add(1);
+        let (x, y) = (middle_x(self.column), self.stream());
+        print_seal(text, x, y, band.cpu, number, number <= band.taken)?;
+        self.numbered(text, "batch", number)
     }
-    push_on_stream(shapes, band, column, Caption::NoSlot)
+
+    /// What a walk over the slots shows at a slot: where it found none free, so much at the last one.
+    fn miss(&self, text: &mut String, slot: u32) -> Result<(), AllocError> {
+        if slot != self.page.slots {
+            return Ok(());
+        }
+        let y = self.stream().saturating_sub(ABOVE);
+        print_words(text, "label red", middle_x(self.column), y, "no slot")
+    }
+
+    /// What the deed shows, if it is the CPU's.
+    fn deed(&self, text: &mut String, deed: &Deed) -> Result<(), AllocError> {
+        let cpu = self.band.cpu;
+        match *deed {
+            Deed::Trace(by, rec, fate) if by == cpu => {
+                let filled = matches!(fate, TraceFate::Kept);
+                self.record(text, self.stream(), filled, traced_look(fate), None, &rec)
+            }
+            Deed::Scan(by, false) if by == cpu => self.label(text, self.stream(), "stopped"),
+            Deed::Opened(by, id) if by == cpu => self.numbered(text, "opens", u64::from(id.slot())),
+            Deed::Miss(by, slot, _) if by == cpu => self.miss(text, slot),
+            Deed::Speculate(by, id, rec, fate) if by == cpu => {
+                let look = spoken_look(cpu, id, fate, self.behind);
+                self.record(text, self.lane(id), false, look, Some(id), &rec)
+            }
+            Deed::Commit(by, id, fate) if by == cpu => self.decision(text, "commit", id, fate),
+            Deed::Discard(by, id, fate) if by == cpu => self.decision(text, "discard", id, fate),
+            Deed::Settle(by, id, fate) if by == cpu => self.decision(text, "settle", id, fate),
+            Deed::Seal(by) if by == cpu => self.seal(text),
+            _ => Ok(()),
+        }
+    }
 }
 
 /// What all deeds of the CPU show.
 pub(crate) fn push_band(
-    alloc: Global,
-    shapes: &mut Series<DrawnShape>,
+    text: &mut String,
+    page: &Sheet<'_>,
     band: &Band,
-    deeds: &[Deed],
-) -> Result<(), AllocError>
-    requires band { IsSmall band.now }
-    requires few { length deeds.now ≤ 2000 }
-{
+) -> Result<(), AllocError> {
+    let deeds = page.deeds;
     for at in 0..deeds.len() {
-        push_deed(alloc, shapes, band, deeds, at, &deeds[at])?;
+        let mark = ColumnMark {
+            page: *page,
+            band: *band,
+            column: at as u64,
+            before: &deeds[..at],
+            behind: &deeds[at + 1..],
+        };
+        mark.deed(text, &deeds[at])?;
     }
     Ok(())
 }

@@ -1,5 +1,8 @@
 use crate::checking::check;
-use crate::damage_kinds::Damage;
+use crate::damaging::Change::{
+    Commits, CpuTold, Decides, Discards, DropsTold, Fill, Last, MaxCalls, Missing, Opens, Pop,
+    Push, Refused, Settles, Speaks, Torn, Traces, Unavailable, Uncounted, Unreadable,
+};
 use crate::flaws::{CheckFault, Flaw};
 use crate::logging::Log;
 use crate::made::healthy;
@@ -12,30 +15,91 @@ use dspec_record::ReadKind;
 use dspec_word::SpecId;
 use std::alloc::{AllocError, Global};
 
-/// Puts the record of a call of CPU 0 behind the others of a batch of it.
-fn push(story: &mut Story, number: usize, call: usize) -> Result<(), AllocError> {
-    if let Some(stream) = story.streams.get_mut(0) {
-        if let Some(part) = stream.parts.get_mut(number) {
-            part.records.push(record_of(0, call, 0))?;
-        }
-    }
-    Ok(())
+/// A change of the made-up session. Batches are those of CPU 0, and identifiers go by their numbers.
+#[derive(Clone, Copy)]
+pub enum Change {
+    /// Behind a batch's other records stands the record of a call.
+    Push(usize, usize),
+    /// The record at a place of the last batch isn't there.
+    Missing(usize),
+    /// It stands at the batch's end.
+    Last(usize),
+    /// The last batch isn't there.
+    Pop,
+    /// The first batch tells so many drops.
+    DropsTold(u64),
+    /// The first batch is of that CPU.
+    CpuTold(u32),
+    /// The first batch can't be read.
+    Unreadable,
+    /// A CPU's report has so many fewer: offered, accepted, dropped, void.
+    Uncounted(usize, [u64; 4]),
+    /// The log of CPU 1 is torn.
+    Torn,
+    /// So many batches were refused.
+    Refused(u64),
+    /// A CPU has so many calls.
+    MaxCalls(u64),
+    /// The policy is Fill.
+    Fill,
+    /// A call of CPU 0 answers this.
+    Decides(usize, Decided),
+    Speaks(usize, Spoken),
+    Traces(usize, Traced),
+    /// A service of CPU 0 settles so many, and seals nothing.
+    Settles(usize, u32),
+    /// A call of CPU 0 is given no identifier.
+    Unavailable(usize),
+    /// A call of CPU 0 is given this identifier.
+    Opens(usize, u64),
+    /// The call of CPU 1 that discards is a commit, or a discard, of this identifier and answers this.
+    Commits(u64, Decided),
+    Discards(u64, Decided),
 }
 
-/// Takes a record out of the last batch of CPU 0, and puts it back at its end, where it is to.
-fn take(story: &mut Story, place: usize, to_the_end: bool) -> Result<(), AllocError> {
-    if let Some(stream) = story.streams.get_mut(0) {
-        if let Some(part) = stream.parts.get_mut(1) {
-            if place < part.records.len() {
-                let rec = part.records.remove(place);
-                if to_the_end {
-                    part.records.push(rec)?;
-                }
-            }
-        }
-    }
-    Ok(())
-}
+/// What a broken library could have done to the made-up session, by its name.
+pub const DAMAGES: [(&str, &[Change]); 32] = [
+    ("Nothing", &[]),
+    ("BlockTwice", &[Push(1, 2), Push(1, 3)]),
+    ("TraceMissing", &[Missing(2)]),
+    ("TracesExchanged", &[Last(0)]),
+    ("DiscardedThere", &[Push(1, 10)]),
+    ("BlockTorn", &[Missing(1)]),
+    ("BlockLate", &[Last(0), Last(0)]),
+    ("BlockUncounted", &[Uncounted(1, [1, 1, 0, 0])]),
+    ("BatchMissing", &[Pop]),
+    ("DropUncounted", &[Uncounted(0, [0, 0, 1, 0])]),
+    ("DropsOfBatch", &[DropsTold(0)]),
+    ("VoidUncounted", &[Uncounted(0, [1, 0, 0, 1])]),
+    ("DecidedTwice", &[Commits(1, Decided::Copied(1))]),
+    ("GivenTwice", &[Opens(9, 1)]),
+    ("OpenBehindItsEnd", &[Speaks(7, Spoken::Kept)]),
+    ("VoidUndecided", &[Discards(2, Decided::Void)]),
+    ("LogTorn", &[Torn]),
+    ("GiveBackRefused", &[Refused(1)]),
+    ("BatchUnreadable", &[Unreadable]),
+    ("BatchOfAnotherCpu", &[CpuTold(1)]),
+    ("RecordOfNoCall", &[Push(1, 20)]),
+    ("DroppedThere", &[Push(1, 4)]),
+    ("LostThere", &[Decides(6, Decided::Lost(2))]),
+    (
+        "BlockOfOneMissing",
+        &[
+            Missing(0),
+            Missing(0),
+            Speaks(3, Spoken::Dropped),
+            Decides(6, Decided::Copied(1)),
+        ],
+    ),
+    ("DropsTooMany", &[DropsTold(2)]),
+    ("SlotTooHigh", &[Opens(9, 3)]),
+    ("NeverGiven", &[Unavailable(9)]),
+    ("GoesOnStopped", &[Traces(4, Traced::Stopped)]),
+    ("NotWorn", &[MaxCalls(5)]),
+    ("KeptBehindFull", &[Fill]),
+    ("BlockMiscounted", &[Decides(6, Decided::Copied(3))]),
+    ("SettledTooMany", &[Settles(11, 3)]),
+];
 
 /// Another answer, and another call where there is one, at a place of a log.
 fn say(
@@ -58,198 +122,118 @@ fn say(
     }
 }
 
-/// Another report of a CPU.
-fn report(story: &mut Story, cpu: usize, change: Report) {
-    if let Some(report) = story.reports.get_mut(cpu) {
-        *report = Report {
-            offered: report.offered.saturating_sub(change.offered),
-            accepted: report.accepted.saturating_sub(change.accepted),
-            dropped: report.dropped.saturating_sub(change.dropped),
-            void: report.void.saturating_sub(change.void),
-            drops: report.drops.saturating_sub(change.drops),
-            ..*report
-        };
-    }
-}
-
-/// What is wrong with the records of CPU 0.
-fn damage_records(story: &mut Story, damage: Damage) -> Result<(), AllocError> {
-    match damage {
-        Damage::BlockTwice => {
-            push(story, 1, 2)?;
-            push(story, 1, 3)
-        }
-        Damage::TraceMissing => take(story, 2, false),
-        Damage::TracesExchanged => take(story, 0, true),
-        Damage::DiscardedThere => push(story, 1, 10),
-        Damage::BlockTorn => take(story, 1, false),
-        Damage::BlockLate => {
-            take(story, 0, true)?;
-            take(story, 0, true)
-        }
-        Damage::RecordOfNoCall => push(story, 1, 20),
-        Damage::DroppedThere => push(story, 1, 4),
-        Damage::BlockOfOneMissing => {
-            take(story, 0, false)?;
-            take(story, 0, false)
-        }
-        _ => Ok(()),
-    }
-}
-
-/// What is wrong with the batches of CPU 0.
-fn damage_batches(story: &mut Story, damage: Damage) {
+/// A change of the batches of CPU 0.
+fn change_batches(story: &mut Story, change: Change) -> Result<(), AllocError> {
     let Some(stream) = story.streams.get_mut(0) else {
-        return;
+        return Ok(());
     };
-    if damage == Damage::BatchMissing {
+    if let Pop = change {
         let _ = stream.parts.pop();
-        return;
+        return Ok(());
     }
-    let Some(part) = stream.parts.get_mut(0) else {
-        return;
+    let number = match change {
+        Push(number, _) => number,
+        Missing(_) | Last(_) => 1,
+        _ => 0,
     };
-    match damage {
-        Damage::DropsOfBatch => part.drops = 0,
-        Damage::DropsTooMany => part.drops = 2,
-        Damage::BatchUnreadable => {
+    let Some(part) = stream.parts.get_mut(number) else {
+        return Ok(());
+    };
+    match change {
+        Push(_, call) => part.records.push(record_of(0, call, 0))?,
+        Missing(place) | Last(place) if place < part.records.len() => {
+            let rec = part.records.remove(place);
+            if let Last(_) = change {
+                part.records.push(rec)?;
+            }
+        }
+        DropsTold(drops) => part.drops = drops,
+        CpuTold(cpu) => part.cpu = cpu,
+        Unreadable => {
             part.fault = Some(ReadFault {
                 kind: ReadKind::Truncated,
                 at: 0,
             });
         }
-        Damage::BatchOfAnotherCpu => part.cpu = 1,
         _ => {}
     }
+    Ok(())
 }
 
-/// What is wrong with the reports.
-fn damage_reports(story: &mut Story, damage: Damage) {
-    let none = Report::default();
-    match damage {
-        Damage::BlockUncounted => report(
-            story,
-            1,
-            Report {
-                accepted: 1,
-                offered: 1,
-                ..none
-            },
-        ),
-        Damage::DropUncounted => report(story, 0, Report { dropped: 1, ..none }),
-        Damage::VoidUncounted => report(
-            story,
-            0,
-            Report {
-                void: 1,
-                offered: 1,
-                ..none
-            },
-        ),
-        _ => {}
-    }
-}
-
-/// What is wrong with the configuration, the logs as a whole and what went back.
-fn damage_session(story: &mut Story, damage: Damage) {
-    match damage {
-        Damage::LogTorn => {
+/// A change of the reports, the configuration, the logs as a whole and what went back.
+fn change_session(story: &mut Story, change: Change) {
+    match change {
+        Uncounted(cpu, fewer) => {
+            let [offered, accepted, dropped, void] = fewer;
+            if let Some(report) = story.reports.get_mut(cpu) {
+                *report = Report {
+                    offered: report.offered.saturating_sub(offered),
+                    accepted: report.accepted.saturating_sub(accepted),
+                    dropped: report.dropped.saturating_sub(dropped),
+                    void: report.void.saturating_sub(void),
+                    ..*report
+                };
+            }
+        }
+        Torn => {
             if let Some(log) = story.logs.get_mut(1) {
                 log.torn = true;
             }
         }
-        Damage::GiveBackRefused => story.refused = 1,
-        Damage::NotWorn => story.config.max_calls = 5,
-        Damage::KeptBehindFull => story.config.policy = Policy::Fill,
+        Refused(count) => story.refused = count,
+        MaxCalls(calls) => story.config.max_calls = calls,
+        Fill => story.config.policy = Policy::Fill,
         _ => {}
     }
 }
 
-/// What is wrong with what a call of the speculations answered.
-fn damage_speculations(alloc: Global, story: &mut Story, damage: Damage) {
-    let (kept, thrown) = (SpecId::of(0, 1), SpecId::of(0, 2));
-    match damage {
-        Damage::DecidedTwice => {
-            let answer = Answer::Decided(Decided::Copied(1));
-            say(alloc, story, 1, 3, Some(CpuOp::Commit(kept)), answer);
+/// A change of what a call answered.
+fn change_answers(alloc: Global, story: &mut Story, change: Change) {
+    match change {
+        Decides(place, decided) => say(alloc, story, 0, place, None, Answer::Decided(decided)),
+        Speaks(place, spoken) => say(alloc, story, 0, place, None, Answer::Spoken(spoken)),
+        Traces(place, traced) => say(alloc, story, 0, place, None, Answer::Traced(traced)),
+        Settles(place, settled) => {
+            let served = Served {
+                sealed: false,
+                settled,
+            };
+            say(alloc, story, 0, place, None, Answer::Served(served));
         }
-        Damage::VoidUndecided => {
-            let answer = Answer::Decided(Decided::Void);
-            say(alloc, story, 1, 3, Some(CpuOp::Discard(thrown)), answer);
-        }
-        Damage::GivenTwice => say(alloc, story, 0, 9, None, Answer::Opening(Opening::Id(kept))),
-        Damage::SlotTooHigh => {
-            let beyond = SpecId::of(0, 3);
+        Unavailable(place) => {
             say(
                 alloc,
                 story,
                 0,
-                9,
-                None,
-                Answer::Opening(Opening::Id(beyond)),
-            );
-        }
-        Damage::NeverGiven => {
-            say(
-                alloc,
-                story,
-                0,
-                9,
+                place,
                 None,
                 Answer::Opening(Opening::Unavailable),
             );
         }
-        Damage::OpenBehindItsEnd => say(alloc, story, 0, 7, None, Answer::Spoken(Spoken::Kept)),
-        _ => {}
-    }
-}
-
-/// What is wrong with other answers.
-fn damage_answers(alloc: Global, story: &mut Story, damage: Damage) {
-    match damage {
-        Damage::LostThere => say(alloc, story, 0, 6, None, Answer::Decided(Decided::Lost(2))),
-        Damage::BlockMiscounted => {
-            say(
-                alloc,
-                story,
-                0,
-                6,
-                None,
-                Answer::Decided(Decided::Copied(3)),
-            );
+        Opens(place, id) => {
+            let opening = Opening::Id(SpecId::from_raw(id));
+            say(alloc, story, 0, place, None, Answer::Opening(opening));
         }
-        Damage::BlockOfOneMissing => {
-            say(alloc, story, 0, 3, None, Answer::Spoken(Spoken::Dropped));
-            say(
-                alloc,
-                story,
-                0,
-                6,
-                None,
-                Answer::Decided(Decided::Copied(1)),
-            );
+        Commits(id, decided) => {
+            let op = CpuOp::Commit(SpecId::from_raw(id));
+            say(alloc, story, 1, 3, Some(op), Answer::Decided(decided));
         }
-        Damage::GoesOnStopped => say(alloc, story, 0, 4, None, Answer::Traced(Traced::Stopped)),
-        Damage::SettledTooMany => {
-            let served = Served {
-                sealed: false,
-                settled: 3,
-            };
-            say(alloc, story, 0, 11, None, Answer::Served(served));
+        Discards(id, decided) => {
+            let op = CpuOp::Discard(SpecId::from_raw(id));
+            say(alloc, story, 1, 3, Some(op), Answer::Decided(decided));
         }
         _ => {}
     }
 }
 
-/// What is found in the made-up session with a damage: the first contradiction, if there is one.
-pub fn found(alloc: Global, damage: Damage) -> Result<Option<Flaw>, AllocError> {
+/// What is found in the made-up session with these changes: the first contradiction, if there is one.
+pub fn found(alloc: Global, changes: &[Change]) -> Result<Option<Flaw>, AllocError> {
     let mut story = healthy(alloc)?;
-    damage_records(&mut story, damage)?;
-    damage_batches(&mut story, damage);
-    damage_reports(&mut story, damage);
-    damage_session(&mut story, damage);
-    damage_speculations(alloc, &mut story, damage);
-    damage_answers(alloc, &mut story, damage);
+    for change in changes {
+        change_batches(&mut story, *change)?;
+        change_session(&mut story, *change);
+        change_answers(alloc, &mut story, *change);
+    }
     match check(alloc, &story, &mut Sums::default()) {
         Ok(()) => Ok(None),
         Err(CheckFault::Found(flaw)) => Ok(Some(flaw)),

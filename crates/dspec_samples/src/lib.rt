@@ -9,14 +9,13 @@
 //! | `dice.rt` | `Dice`: random numbers of a seed |
 //! | `logging.rt`, `stories.rt`, `answers.rt`, `records.rt` | `LoggedCall`, `Log`; `Story`, all that is known of a session that has ended; what an answer says; records with a value of their own |
 //! | `identifiers.rt`, `blocks.rt`, `calls.rt`, `order.rt`, `due.rt`, `checking.rt`, `flaws.rt`, `sums.rt` | the comparisons, `check`, which calls them in turn, contradictions and their texts |
-//! | `made.rt`, `damage_kinds.rt`, `damaging.rt` | a session made up by hand, and its damages, one for each kind of contradiction at the least |
+//! | `made.rt`, `damaging.rt` | a session made up by hand, and its damages, one for each kind of contradiction at the least |
 #![tactic(auto)]
 
 mod answers;
 mod blocks;
 mod calls;
 mod checking;
-mod damage_kinds;
 mod damaging;
 mod dice;
 mod due;
@@ -34,8 +33,7 @@ mod texts;
 
 pub use answers::identifier_in;
 pub use checking::check;
-pub use damage_kinds::{DAMAGES, Damage};
-pub use damaging::found;
+pub use damaging::{Change, DAMAGES, found};
 pub use dice::Dice;
 pub use flaws::{CheckFault, Checked, Flaw, FlawKind, Number};
 pub use logging::{Log, LoggedCall};

@@ -1,6 +1,5 @@
 mod EndLemmas
 mod Growing
-mod HeaderLemmas
 mod LineLemmas
 mod NumberLemmas
 mod PrintableLemmas

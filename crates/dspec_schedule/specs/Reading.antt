@@ -2,9 +2,10 @@
 use Rattle.std.specs.List.{slice_split, list_all}
 use Rattle.std.specs.Prelude.{◌≡◌, ℕ, ◌+◌, ◌==◌, ◌&&◌, Bool, true, false, not, List, [], ◌∷◌, ◌++◌, length, if◌then◌else◌, bytes_eq, codes, Option, Some, None, unwrap_or, is_none, IfSome, Result}
 use Rattle.std.specs.Prelude.{Ok, Err}
-use Rattle.dspec_schedule.specs.{Calls.turn_read, LineWords.is_printable, LineWords.words_of_line, SetUp.config_read, SetUp.enabling_read, SetUp.header_of_words, SetUp.policy_of_words, Steps.◌>>=◌}
+use Rattle.dspec_schedule.specs.{Calls.turn_read, LineWords.is_printable, LineWords.words_of_line, SetUp.config_read, SetUp.enabling_read, SetUp.header_of_words, SetUp.policy_of_words}
 use Rattle.dspec_schedule.specs.{Steps.at_line, Words.Outside.EnabledRows, Words.Outside.Header, Words.Outside.Config, Words.Outside.Policy, Words.Outside.Turn, declared.fault.LineKind.LineKind}
 use Rattle.dspec_schedule.specs.{declared.fault.LineKind.TheVariants.NotPrintable, declared.fault.LineKind.TheVariants.NoConfig}
+use Rattle.dspec_schedule.specs.Steps.{◌>>=◌}
 use Rattle.dspec_record.specs.declared.header.Header.TheVariants.{One}
 
 -- a schedule: its configuration with its line, the header that a line names, whether a line names the policy, its

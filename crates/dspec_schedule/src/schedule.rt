@@ -1,4 +1,4 @@
-ghost use Rattle.std.specs.Prelude.{◌≡◌, [], ◌∷◌, ◌++◌, false, None, map, option_map, IfOk, IfErr, Ok, slice_index_or};
+ghost use Rattle.std.specs.Prelude.{◌≡◌, [], ◌∷◌, ◌++◌, false, None, map, option_map, IfOk, IfErr, IfSome, Ok, slice_index_or};
 ghost use Rattle.dspec_schedule.specs.{Reading.HasOneHeader, Reading.no_rows, Reading.enabled_by, Reading.first_line_of, Reading.header_of, Reading.headed_by, Reading.later_line_of};
 ghost use Rattle.dspec_schedule.specs.{Reading.line_read, Reading.policed_by, Reading.schedule_of, Reading.turned_by, Reading.words_read, Schedules.IsReadingFault, Schedules.plan_of, Steps.at_line};
 
@@ -117,8 +117,10 @@ fn after_line(
     line: u64,
     bytes: &[u8],
 ) -> Result<Option<Schedule>, ScheduleFault>
+    requires one_header { IfSome schedule (λ before. HasOneHeader (plan_of before)) }
     ensures read { IfOk result (λ after. line_read (option_map plan_of schedule) line bytes.now ≡ Ok (option_map plan_of after)) }
     ensures refused { IfErr result (IsReadingFault (at_line line (line_read (option_map plan_of schedule) line bytes.now))) }
+    ensures one_header { IfOk result (λ after. IfSome after (λ s. HasOneHeader (plan_of s))) }
 {
     let Some(text) = printable_text(bytes) else {
         let kind = LineKind::NotPrintable;
@@ -136,8 +138,10 @@ fn after_words(
     line: u64,
     words: &[&str],
 ) -> Result<Option<Schedule>, ScheduleFault>
+    requires one_header { IfSome schedule (λ before. HasOneHeader (plan_of before)) }
     ensures read { IfOk result (λ after. words_read (option_map plan_of schedule) line (map (λ word. word.now) words.now) ≡ Ok (option_map plan_of after)) }
     ensures refused { IfErr result (IsReadingFault (at_line line (words_read (option_map plan_of schedule) line (map (λ word. word.now) words.now)))) }
+    ensures one_header { IfOk result (λ after. IfSome after (λ s. HasOneHeader (plan_of s))) }
 {
     let Some((first, rest)) = words.split_first() else {
         return Ok(schedule);
@@ -158,6 +162,7 @@ fn first_line(
 ) -> Result<Schedule, ScheduleFault>
     ensures read { IfOk result (λ schedule. first_line_of line first.now (map (λ word. word.now) words.now) ≡ Ok (plan_of schedule)) }
     ensures refused { IfErr result (IsReadingFault (at_line line (first_line_of line first.now (map (λ word. word.now) words.now)))) }
+    ensures one_header { IfOk result (λ schedule. HasOneHeader (plan_of schedule)) }
 {
     if first != "config" {
         let kind = LineKind::NoConfig;
@@ -175,8 +180,10 @@ fn later_line(
     first: &str,
     words: &[&str],
 ) -> Result<Schedule, ScheduleFault>
+    requires one_header { HasOneHeader (plan_of schedule) }
     ensures read { IfOk result (λ after. later_line_of (plan_of schedule) line first.now (map (λ word. word.now) words.now) ≡ Ok (plan_of after)) }
     ensures refused { IfErr result (IsReadingFault (at_line line (later_line_of (plan_of schedule) line first.now (map (λ word. word.now) words.now)))) }
+    ensures one_header { IfOk result (λ after. HasOneHeader (plan_of after)) }
 {
     match first {
         "enable" => with_enabling(schedule, line, words),
@@ -193,8 +200,10 @@ fn with_enabling(
     line: u64,
     words: &[&str],
 ) -> Result<Schedule, ScheduleFault>
+    requires one_header { HasOneHeader (plan_of schedule) }
     ensures read { IfOk result (λ after. enabled_by (plan_of schedule) (map (λ word. word.now) words.now) ≡ Ok (plan_of after)) }
     ensures refused { IfErr result (IsReadingFault (at_line line (enabled_by (plan_of schedule) (map (λ word. word.now) words.now)))) }
+    ensures one_header { IfOk result (λ after. HasOneHeader (plan_of after)) }
 {
     let enablings = match schedule.enablings {
         Some(enablings) => enablings,
@@ -223,6 +232,7 @@ fn no_enablings(header: Header) -> Enablings
 fn with_header(mut schedule: Schedule, line: u64, words: &[&str]) -> Result<Schedule, ScheduleFault>
     ensures read { IfOk result (λ after. headed_by (plan_of schedule) (map (λ word. word.now) words.now) ≡ Ok (plan_of after)) }
     ensures refused { IfErr result (IsReadingFault (at_line line (headed_by (plan_of schedule) (map (λ word. word.now) words.now)))) }
+    ensures one_header { IfOk result (λ after. HasOneHeader (plan_of after)) }
 {
     let may_be_named = schedule.named_header.is_none()
         && schedule.enablings.is_none()
@@ -235,8 +245,10 @@ fn with_header(mut schedule: Schedule, line: u64, words: &[&str]) -> Result<Sche
 /// A schedule with the policy of a later line, which is named once, before turns.
 #[tactic(auto, unfolding(crate::specs::Reading::policed_by))]
 fn with_policy(mut schedule: Schedule, line: u64, words: &[&str]) -> Result<Schedule, ScheduleFault>
+    requires one_header { HasOneHeader (plan_of schedule) }
     ensures read { IfOk result (λ after. policed_by (plan_of schedule) (map (λ word. word.now) words.now) ≡ Ok (plan_of after)) }
     ensures refused { IfErr result (IsReadingFault (at_line line (policed_by (plan_of schedule) (map (λ word. word.now) words.now)))) }
+    ensures one_header { IfOk result (λ after. HasOneHeader (plan_of after)) }
 {
     let may_be_named = !schedule.is_policy_named && schedule.turns.is_empty();
     let policy = policy(may_be_named, words).map_err(|kind| ScheduleFault::Line { line, kind })?;
@@ -253,8 +265,10 @@ fn with_turn(
     first: &str,
     words: &[&str],
 ) -> Result<Schedule, ScheduleFault>
+    requires one_header { HasOneHeader (plan_of schedule) }
     ensures read { IfOk result (λ after. turned_by (plan_of schedule) line first.now (map (λ word. word.now) words.now) ≡ Ok (plan_of after)) }
     ensures refused { IfErr result (IsReadingFault (at_line line (turned_by (plan_of schedule) line first.now (map (λ word. word.now) words.now)))) }
+    ensures one_header { IfOk result (λ after. HasOneHeader (plan_of after)) }
 {
     // The check knows a turn's parts by the types that are named in this function.
     let _named: Option<CpuOp> = None;

@@ -1,4 +1,4 @@
-ghost use Rattle.std.specs.Prelude.{◌≡◌, map};
+ghost use Rattle.std.specs.Prelude.{◌≡◌, IfOk, IsTrue, map};
 ghost use Rattle.dspec_schedule.specs.SetUp.{config_read, configuration_of, enabling_read, field_of, field_of_word, header_of_words, numbered, policy_of_word, policy_of_words, version_of};
 
 use crate::fault::LineKind;
@@ -59,7 +59,8 @@ fn from_numbers(
 /// The header of the words behind `header`, where one may be named.
 #[tactic(auto, unfolding(crate::specs::SetUp::header_of_words))]
 pub fn header(may_be_named: bool, words: &[&str]) -> Result<Header, LineKind>
-    ensures { result ≡ header_of_words may_be_named (map (λ word. word.now) words.now) }
+    ensures read { result ≡ header_of_words may_be_named (map (λ word. word.now) words.now) }
+    ensures named { IfOk result (λ _. IsTrue may_be_named) }
 {
     let version = number(only(words)?)?;
     if may_be_named {
@@ -114,7 +115,8 @@ pub fn enabling(
     mut enablings: Enablings,
     words: &[&str],
 ) -> Result<Enablings, LineKind>
-    ensures { result ≡ enabling_read before_turns enablings (map (λ word. word.now) words.now) }
+    ensures read { result ≡ enabling_read before_turns enablings (map (λ word. word.now) words.now) }
+    ensures header { IfOk result (λ after. after.header ≡ enablings.header) }
 {
     if !are_numbers(words) {
         return Err(LineKind::BadNumber);

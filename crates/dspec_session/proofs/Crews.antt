@@ -6,9 +6,6 @@ use Rattle.dspec_session.specs.Words.{Worked, HaveMade, HaveOffered, HaveRoom, I
 use Rattle.dspec_session.specs.declared.demonstration.four.Four.{Four}
 use Rattle.dspec_session.proofs.Fours.{at_each}
 
-listed : Four (Cpu EnabledRows) → List (Cpu EnabledRows)
-listed f = f.first ∷ f.second ∷ f.third ∷ f.fourth ∷ []
-
 can_work : (session : Session EnabledRows) → IsDemonstrated session → HaveRoom session.cpus.items → (c : ℕ) (x : Cpu EnabledRows) → slice_get session.cpus.items c ≡ Some x
     → CanWork session.shared 400 x
 can_work session is room c x at = record { ready = (is.each c x at).belongs; schema = (is.each c x at).one; unworn = room c x at }

@@ -1,5 +1,5 @@
 -- A run of the demonstration in which every worker finished.
-use Rattle.std.proofs.Common.{◌≡◌, ℕ, Bool, true, false, not, length, refl, sym, ap, ◌∙◌, subst}
+use Rattle.std.proofs.Common.{◌≡◌, Bool, true, false, not, length, refl, sym, ap, ◌∙◌, subst}
 use Rattle.std.specs.Prelude.{slice_get}
 use Rattle.dspec_session.specs.Words.{EnabledRows, demonstrated, AreFresh, HaveMade, HaveOffered, IsDemonstrated, IsDone, Stopped, ConsumerRounds, none_taken, Session}
 use Rattle.dspec_session.specs.declared.demonstration.showing.Demonstration.{Demonstration}

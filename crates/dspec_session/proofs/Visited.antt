@@ -1,5 +1,5 @@
 -- What a visit of the demonstration's consumer came to.
-use Rattle.std.proofs.Common.{◌≡◌, ℕ, ◌<◌, ◌≤◌, inl, inr, Bool, true, false, Result, Ok, Err, OnErr, OnOk, MatchBool, arith}
+use Rattle.std.proofs.Common.{ℕ, ◌<◌, ◌≤◌, inl, inr, Bool, true, false, Result, Ok, Err, OnErr, OnOk, MatchBool, arith}
 use Rattle.dspec_session.specs.Words.{Batch, GaveBack, IsNotTakenBack, Consuming, IsBackOrRefused}
 
 -- a CPU that is there was asked

@@ -10,7 +10,7 @@
 //! | File | What is in it |
 //! |---|---|
 //! | `rule.rt`, `seats.rt`, `doing.rt` | `View`, what a seat knows, as plain data, and the rule `OneList`; `Words`, `CpuSeat`, `ConsumerSeat`; `Doing`, the call in flight |
-//! | `layout.rt`, `laws.rt`, `word_steps.rt` | where the words lie, each slot's on a line of its own; the laws; what each kind of step tells `atomic_table` |
+//! | `layout.rt`, `laws.rt`, `word_steps.rt` | where the words lie, each slot's on a line of its own; the laws; what each kind of step tells `atomic_table`, and `HasDoing`, the marker that says which call a step is of |
 //! | `starting.rt`, `gathering.rt`, `last.rt`, `ending.rt` | the two ends, and `LastWords` |
 //! | `loading.rt`, `opening.rt`, `trying.rt`, `releasing.rt`, `settling.rt` | a CPU's steps: activity and word loaded, `open_word`, `try_word`, `release_word`, `store_ack` |
 //! | `cleaning.rt`, `stopping.rt`, `asking.rt`, `meeting.rt` | the consumer's steps, and the meeting |
@@ -53,3 +53,4 @@ pub use layout::words_lie_apart;
 pub use refinement::{same_steps, words_show_one_list};
 pub use rule::{OneList, Past, View};
 pub use seats::{ConsumerSeat, CpuSeat, Words};
+pub use word_steps::HasDoing;

@@ -1,56 +1,29 @@
 ghost use Rattle.std.specs.Prelude.{◌≡◌, ◌≤◌, ◌==◌, IfOk};
-ghost use Rattle.dspec_table.specs.{Conditions.MayTry, Conditions.OwnCommit, Conditions.IfCommitting, Seats.known, Seats.IsAt, Seats.set_up, Seats.cpu_of, Steps.TriedExchange, Steps.TriedNumber};
-ghost use Rattle.dspec_word.specs.Word.{word_number};
+ghost use Rattle.dspec_table.specs.{Conditions.MayTry, Conditions.OwnCommit, Conditions.IfCommitting, Seats.known, Seats.IsAt, Seats.set_up, Seats.cpu_of, Steps.TriedExchange};
 
-use crate::doing::Doing;
 use crate::layout::slot_place;
 use crate::seats::{CpuSeat, Words};
 use crate::word_steps::{HasDoing, TriesWord};
 use dspec_word::Word;
-use std::marker::Brand;
 
 impl CpuSeat {
     /// The exchange that `speculate_at`, `commit_at` or `discard_at` attempts: the CPU is one more caller of the speculation, or
     /// that is committed or discarded. It fails where the word is another by now, and shows it. After an exchange to Committing
     /// the seat releases the slot next.
-    pub fn try_word(
+    pub fn try_word<J: HasDoing>(
         &mut self,
         words: &Words,
         slot: u32,
         from: Word,
         to: Word,
-        doing: &Doing,
     ) -> Result<(), Word>
         requires seat { IsAt words.now self.old }
         requires slot { (1 ≤ slot) × (slot ≤ (set_up words.now).nspec) }
-        requires call { MayTry (set_up words.now) (known self.old) (cpu_of self.old) doing.now slot from to }
-        ensures tried { TriedExchange words.now doing.now slot from to self.old self.new result }
+        requires call { MayTry (set_up words.now) (known self.old) (cpu_of self.old) J.doing slot from to }
+        ensures tried { TriedExchange words.now J.doing slot from to self.old self.new result }
         ensures release { IfOk result (λ _. IfCommitting to.code (OwnCommit (set_up words.now) (known self.new) (cpu_of self.new) record { issue = to.issue; slot = slot })) }
     {
-        let found = self.try_word_as::<Brand>(words, slot, from, to, doing);
-        if found == from.raw() {
-            Ok(())
-        } else {
-            Err(Word::of_number(found))
-        }
-    }
-
-    fn try_word_as<J: HasDoing>(
-        &mut self,
-        words: &Words,
-        slot: u32,
-        from: Word,
-        to: Word,
-        doing: &Doing,
-    ) -> u64
-        requires doing { doing.now ≡ J.doing }
-        requires seat { IsAt words.now self.old }
-        requires slot { (1 ≤ slot) × (slot ≤ (set_up words.now).nspec) }
-        requires call { MayTry (set_up words.now) (known self.old) (cpu_of self.old) J.doing slot from to }
-        ensures seat { IsAt words.now self.new × (cpu_of self.new ≡ cpu_of self.old) }
-        ensures step { TriedNumber J.doing slot (known self.old) (word_number to) result (result == word_number from) (known self.new) }
-    {
-        words
+        let found = words
             .board
             .shared
             .compare_exchange::<TriesWord<J>>(
@@ -58,6 +31,10 @@ impl CpuSeat {
                 slot_place(slot),
                 from.raw(),
                 to.raw(),
-            )
+            );
+        if found == from.raw() {
+            return Ok(());
+        }
+        Err(Word::of_number(found))
     }
 }

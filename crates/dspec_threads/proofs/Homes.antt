@@ -1,14 +1,8 @@
 -- How CPUs go out, and come home.
-use Rattle.std.proofs.Common.{◌≡◌, ℕ, ◌<◌, List, [], ◌∷◌, ◌++◌, length, sym, ap, ◌∙◌, subst, arith}
-use Rattle.std.proofs.lemmas.Bool.Decides.{nat_tests}
-use Rattle.std.specs.Prelude.{remove, slice_get, slice_index_or}
-use Rattle.dspec_threads.specs.Words.{EnabledRows, CallsMade, called, number_in, words_of, Belongs, CpuIdentity, IsCallable, identity, IsCpuOf, ComesHome, HasDone, WentHome, IsOfRank, IsHomeOf}
-use Rattle.dspec_threads.specs.Words.{IsLentOut, Rank, Cpu, Shared}
-
--- the first element, and what is left when it is removed
-pub first_and_rest : {A : Type 0} (xs : List A) (x : A) → 0 < length xs → x ≡ slice_index_or xs 0 x → x ∷ remove xs 0 ≡ xs
-first_and_rest [] x some is = absurd (omega arith)
-first_and_rest (y ∷ ys) x some is = ap (λ z. z ∷ ys) is
+use Rattle.std.proofs.{Common.◌≡◌, Common.ℕ, Common.List, Common.[], Common.◌∷◌, Common.◌++◌, Common.sym, Common.ap, Common.◌∙◌, Common.subst, Common.arith, lemmas.Bool.Decides.nat_tests}
+use Rattle.std.specs.Prelude.{slice_get}
+use Rattle.dspec_threads.specs.Words.{EnabledRows, CallsMade, called, number_in, words_of, CpuIdentity, IsCallable, identity, IsCpuOf, ComesHome, WentHome, IsOfRank, IsHomeOf, IsLentOut, Rank, Cpu}
+use Rattle.dspec_threads.specs.Words.{Shared, HasDone, Belongs}
 
 -- the same CPU can be called by the same
 pub still_callable : (shared : Shared) (old new : Cpu EnabledRows) → identity new ≡ identity old → IsCallable shared old → IsCallable shared new

@@ -3,5 +3,4 @@ mod MoreVerdicts
 mod MoreWaits
 mod Pairs
 mod Runs
-mod Standing
 mod Whereabouts

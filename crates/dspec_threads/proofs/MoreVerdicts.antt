@@ -1,7 +1,7 @@
 -- A verdict more is said to one lane, and done behind others.
 use Rattle.std.proofs.Common.{◌≡◌, ℕ, ◌+◌, ◌<◌, ◌≤◌, Bool, true, false, List, [], ◌∷◌, ◌++◌, length, refl, sym, ap, ◌∙◌, subst, arith, append_assoc, get_or}
 use Rattle.std.proofs.Math.Seq.{map-set_same}
-use Rattle.std.proofs.lemmas.{Bool.Decides.nat_tests, List.append-nil, List.map-set, List.length-append, List.length-map, Option.slice_get-map, Option.slice_get_read, Option.slice_get_within}
+use Rattle.std.proofs.lemmas.{Bool.Decides.nat_tests, List.map-set, List.length-append, Option.slice_get-map, Option.slice_get_read}
 use Rattle.std.specs.Prelude.{MatchBool, slice_set}
 use mathlib.Core.List.{IsPrefix}
 use Rattle.dspec_threads.specs.Words.{Ghosts, Speculation, SaysTo, SaysWithin, room_of_lane, rooms_of_lanes, said_by, DoesVerdict, DoesVerdicts, SettlesNext, Deed, Cpu, Lane}
@@ -22,20 +22,10 @@ module _ {S : Type 0} {g : Ghosts S} (has : Cpu S → List Deed → Type 0) (may
     does = does_snoc so.these v old between new so.does said one;
   }
 
--- what was seen in a ring comes first of what comes out of it
-pub seen_first : (done : List Verdict) (seen more now : List Verdict) (was : List Verdict) → was ≡ done → IsPrefix seen more → now ≡ more → IsPrefix (done ++ seen) (was ++ now)
-seen_first done seen more now was same (rest, e) is =
-    (rest, append_assoc done seen rest ∙ (ap (λ xs. done ++ xs) (e ∙ sym is) ∙ ap (λ xs. xs ++ now) (sym same)))
-
 -- and so it is behind one of them
 pub still_seen : (all done left now rest : List Verdict) {v : Verdict} → now ≡ done ++ v ∷ [] → left ≡ v ∷ rest → IsPrefix all (done ++ left) → IsPrefix all (now ++ rest)
 still_seen all done left now rest {v} came is (more, e) =
     (more, e ∙ (ap (λ xs. done ++ xs) is ∙ (sym (append_assoc done (v ∷ []) rest) ∙ ap (λ xs. xs ++ rest) (sym came))))
-
--- when none is left
-pub all_seen : (all done left : List Verdict) → length left ≡ 0 → IsPrefix all (done ++ left) → IsPrefix all done
-all_seen all done [] none (more, e) = (more, e ∙ append-nil done)
-all_seen all done (v ∷ vs) none is = absurd (omega (arith, none))
 
 module _ {J : Type 0} where
   -- what was said to one of the lanes
@@ -57,7 +47,3 @@ module _ {J : Type 0} where
   pub said_within : (ss : List (Sayer J)) (i : ℕ) (s t : Sayer J) (a : Bool) → i < length ss → s ≡ get_or ss i s
       → MatchBool a (room_of_lane s ≤ room_of_lane t + 1) (room_of_lane s ≡ 0) → SaysWithin i a ss (slice_set ss i t)
   said_within ss i s t a lt is room = grind (arith, nat_tests, slice_get-map, slice_get_read, within)
-
-  -- there is no such lane
-  pub no_lane : (ss : List (Sayer J)) (i : ℕ) → length ss ≤ i → SaysWithin i false ss ss
-  no_lane ss i over = grind (arith, nat_tests, within, slice_get_within, length-map)

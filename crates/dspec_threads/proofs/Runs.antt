@@ -2,10 +2,11 @@
 use Rattle.std.proofs.Common.{◌≡◌, ◌≤◌, ℕ, zero, suc, List, [], ◌∷◌, length, map, Some, refl, sym, ap, ◌∙◌, subst}
 use Rattle.std.proofs.lemmas.{List.length-map, Option.slice_get_past}
 use Rattle.std.specs.{Option.option_map_or, Prelude.All, Prelude.Bool, Prelude.IfOk, Prelude.IfSome, Prelude.None, Prelude.Ok, Prelude.Err, Prelude.Option, Prelude.Result, Prelude.slice_get}
-use Rattle.dspec_threads.specs.Words.{EnabledRows, IsUnusedConsumer, Pair, last_seat, set_up, CallsMade, called, no_calls, number_in, schema_of, words_of, Consuming, view_of, IsSession, PassesOn}
-use Rattle.dspec_threads.specs.Words.{IsOfRank, AreCpusOf, AreAtPlaces, AtOne, EachPair, IsAtPlace, IsAtPlaceSo, KeepsPlace, LooksAndSends, Rests, StaysIn, Whereabouts, waits_inside, who_is_in}
-use Rattle.dspec_threads.specs.Words.{AreNew, HandsLane, IsLaneOf, IsRun, rank_of, RunningSession, Config, Batch, Cpu, Shared, Session}
-use Rattle.dspec.proofs.Passing.{passes_both, passes_nothing}
+use Rattle.dspec_threads.specs.Words.{enabled, table_accepts, table_shape, table_text, Has, AreNew, HandsLane, IsLaneOf, IsRun, rank_of, RunningSession, EnabledRows, IsUnusedConsumer, Pair}
+use Rattle.dspec_threads.specs.Words.{last_seat, set_up, CallsMade, called, no_calls, number_in, schema_of, words_of, Consuming, view_of, IsSession, PassesOn, IsOfRank, AreCpusOf, AreAtPlaces}
+use Rattle.dspec_threads.specs.Words.{AtOne, EachPair, IsAtPlace, IsAtPlaceSo, KeepsPlace, LooksAndSends, Rests, StaysIn, Whereabouts, waits_inside, who_is_in, IsFresh, Config, Deed, Batch, Cpu}
+use Rattle.dspec_threads.specs.Words.{Shared, Session}
+use Rattle.dspec.proofs.{Passing.passes_both, Passing.passes_nothing, Tracing.fresh_none}
 use Rattle.dspec_threads.proofs.Pairs.{each_itself, pair_count, set_past}
 use Rattle.dspec_threads.proofs.Whereabouts.{begins, each_placed, inside_there, sent_from, stays_itself}
 
@@ -37,6 +38,15 @@ all_new count schema cpus all each = record {
   all = seen_all cpus ∙ all;
   each = λ c o at. let (cpu, there, e) = was_seen cpus c o at in let told = each c cpu there in (cpu, e, told.0, told.1, told.2);
 }
+
+abbrev HasEnabled : Cpu EnabledRows → List Deed → Type 0
+HasEnabled = Has (λ (e : EnabledRows). table_shape e.header (enabled e.rows)) (λ (e : EnabledRows). table_accepts e.header (enabled e.rows)) (λ (e : EnabledRows). table_text e.header (enabled e.rows))
+
+-- those of a session that was started with this
+pub all_started : (k : Config) (schema : EnabledRows) (s : Session EnabledRows) → IsSession schema s → set_up (words_of s.shared) ≡ k
+    → ((c : ℕ) (cpu : Cpu EnabledRows) → slice_get s.cpus.items c ≡ Some cpu → IsFresh HasEnabled cpu) → AreNew k.cpus schema (who_is_in (map waits_inside s.cpus.items))
+all_started k schema s is config fresh = all_new k.cpus schema s.cpus.items (is.all ∙ ap (λ (x : Config). x.cpus) config)
+    (λ n cpu at. ((is.each n cpu at).number, (is.each n cpu at).one, fresh_none _ _ _ cpu (fresh n cpu at)))
 
 module _ {K : Type 0} (gets : K → Batch → K → Type 0) (done : ℕ → CallsMade → Type 0) where
   -- all CPUs of a session are at home

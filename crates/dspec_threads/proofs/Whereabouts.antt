@@ -164,10 +164,6 @@ module _ (done : ℕ → CallsMade → Type 0) where
   served_rests : (c : ℕ) (x y : CallsMade) → Rests done c x → ServedOnce x y → Rests done c y
   served_rests c x y rests once = record { returned = rests.returned; worked = rests.worked; served = served_again rests.returned x y rests.served once }
 
-  pub not_tended : (x y : Whereabouts) → x.inside ≡ None → y ≡ x → TendsPlace done x y
-  not_tended x y none e = subst (λ (w : Whereabouts). TendsPlace done x w) (sym e)
-      (record { keeps = λ r c is. is; serves = subst (λ o. ServesInside o o) (sym none) tt })
-
   pub tended : (x y : Whereabouts) (old new : Cpu EnabledRows) → x.inside ≡ Some old → y.inside ≡ Some new → identity new ≡ identity old → ServedOnce (called old) (called new) → TendsPlace done x y
   tended x y old new was is same once = record {
     keeps = λ r c there.

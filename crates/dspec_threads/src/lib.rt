@@ -36,7 +36,7 @@
 //! | `specs/`: Belts, Waits, Attends | what went over a belt, by its ends; the calls that a lane made while it waited, and what it settled meanwhile |
 //! | `specs/`: Said, Settled | what was said, by the ends of rings; what was settled on a lane |
 //! | `specs/`: Homes, Places, Runs | who may come home (`ComesHome`); where each CPU is, and which it is (`IsAtPlace`); what a running session keeps (`IsRun`) |
-//! | `proofs/` | MoreWaits (a lane serves once more, asks once more in vain, attends once more), MoreVerdicts (a verdict more is said, and done), Homes, Pairs (what holds of each with the one at its place), Standing (what holds of each, one by one), Whereabouts (one place after another), Runs |
+//! | `proofs/` | MoreWaits (a lane serves once more, asks once more in vain, attends once more), MoreVerdicts (a verdict more is said, and done), Homes, Pairs (what holds of each with the one at its place), Whereabouts (one place after another), Runs |
 #![tactic(auto)]
 
 mod attending;

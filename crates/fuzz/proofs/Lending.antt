@@ -1,5 +1,5 @@
 -- What was lent of a session is given back.
-use Rattle.std.proofs.{Common.◌≡◌, Common.ℕ, Common.◌<◌, Common.◌++◌, Common.List, Common.length, Common.take, Common.drop, Common.Some, Common.refl, Common.sym, Common.ap, Common.◌∙◌, Common.subst}
+use Rattle.std.proofs.{Common.◌≡◌, Common.ℕ, Common.◌<◌, Common.◌++◌, Common.List, Common.length, Common.take, Common.drop, Common.refl, Common.sym, Common.ap, Common.◌∙◌, Common.subst}
 use Rattle.std.proofs.{Common.get_or, Math.Seq.take-append_seam, lemmas.Option.slice_get_read}
 use Rattle.std.specs.Prelude.{slice_get}
 use Rattle.fuzz.specs.Words.{EnabledRows, words_of, identity, Stays, pairs_of, IsCpuOf, IsSession, AllCanBeCalled, AllWereCalled, CanBeCalled, Cpu, Shared, Session}

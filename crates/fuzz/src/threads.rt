@@ -67,10 +67,10 @@ fn try_seeds<'a, R: Threads + Print + Eprint + Sync>(
 
 /// Compares the made-up session, whole and with each damage.
 fn try_made<'a, R: Print>(rt: &R, alloc: Global) -> Result<(), ThreadFuzzFault<'a>> {
-    for damage in DAMAGES {
-        match found(alloc, damage)? {
-            Some(flaw) => println!(rt; "{damage:?}: {flaw}")?,
-            None => println!(rt; "{damage:?}: agrees")?,
+    for (name, changes) in DAMAGES {
+        match found(alloc, changes)? {
+            Some(flaw) => println!(rt; "{name}: {flaw}")?,
+            None => println!(rt; "{name}: agrees")?,
         }
     }
     Ok(())

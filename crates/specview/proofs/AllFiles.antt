@@ -1,11 +1,10 @@
 -- The file of each CPU stands at its place.
-use Rattle.std.proofs.Common.{◌≡◌, ℕ, ◌+◌, ◌<◌, List, [], ◌∷◌, ◌++◌, Option, Bool, true, false, if◌then◌else◌, Some, length, None, ◌==◌, slice_get, reverse, get_or, refl, sym, ap, ◌∙◌, subst}
-use Rattle.std.proofs.Common.{below_more, ⊎_elim, ◌⊎◌, zero, suc, add-one, arith}
+use Rattle.std.proofs.Common.{◌≡◌, ℕ, ◌<◌, List, [], ◌∷◌, Option, Bool, true, false, if◌then◌else◌, Some, length, None, ◌==◌, slice_get, reverse, get_or, refl, sym, ap, ◌∙◌, subst, below_more}
+use Rattle.std.proofs.Common.{⊎_elim, ◌⊎◌, zero, suc, add-one, arith}
 use Rattle.std.proofs.lemmas.{Bool.Decides.nat_tests, List.length-append, List.length-map, List.get_or_append_left, List.get_or_at, List.get_or_default, List.get_or-map}
 use Rattle.std.proofs.lemmas.{Option.get_or_from_slice_get, Option.slice_get_within}
-use Rattle.specview.specs.Words.{Record, EnabledRows, numbers_below, reports, stream, Offer, accepts, accepts_now, report, IsLegal, TellsCounts, IsClockFault, AreFiles, AreStreams, IsFile}
-use Rattle.specview.specs.Words.{HasUnknown, IsFileFault, IsFormFault, IsOfNumbered, IsPlayTraceFault, fault_of_metadata, earlier, form_fault, names_fault, Header, Deed, Report, Form, Shape, Config}
-use Rattle.specview.specs.Words.{AsTaken, ByTime, Numbered, MetadataFault}
+use Rattle.specview.specs.Words.{Record, EnabledRows, numbers_below, reports, stream, Offer, accepts, accepts_now, report, IsLegal, TellsCounts, AreStreams, AsTaken, ByTime, Numbered, MetadataFault}
+use Rattle.specview.specs.Words.{HasUnknown, IsFileFault, IsOfNumbered, IsPlayTraceFault, fault_of_metadata, earlier, form_fault, names_fault, Header, Deed, Report, Form, Shape, Config}
 use Rattle.specview.specs.declared.fault.ViewFault.{ViewFault}
 use Rattle.specview.specs.declared.fault.ViewFault.TheVariants.{Line, NoStamp, LateStamp, NoFrequency, GreatestFrequency, NoEvent, Memory, Read, Write, TooLong, NotEmpty}
 use Rattle.dspec_record.specs.declared.header.Header.TheVariants as header
@@ -33,12 +32,6 @@ stream_at cpus c deeds rss rs streams lt is =
 
 pub streams_long : (cpus : ℕ) (deeds : List Deed) (rss : List (List Record)) → AreStreams cpus deeds rss → length rss ≡ cpus
 streams_long cpus deeds rss streams = ap length streams ∙ (length-map (numbers_below cpus) (λ a. stream a (reverse deeds)) ∙ below_long cpus)
-
--- one more CPU's file
-pub file_next : (uuid : List ℕ) (e : EnabledRows) (form : Form) (h : List Deed) (reps : List Report) (old new : List (List ℕ)) (file : List ℕ) (n : ℕ) (r : Report)
-    → length old ≡ n → AreFiles uuid e form h reps old n → n < length reps → r ≡ get_or reps n r → IsFile uuid e n form h r file → new ≡ old ++ file ∷ []
-    → AreFiles uuid e form h reps new (n + 1)
-file_next uuid e form h reps old new file n r long before lt is here more = grind (arith, nat_tests, get_or_append_left, get_or_default, get_or_at)
 
 -- why there is no file is why there is no trace
 pub no_trace : (form : Form) (e : EnabledRows) (rss : List (List Record)) (rs : List Record) (c : ℕ) (fault : ViewFault) → c < length rss → rs ≡ get_or rss c rs
@@ -84,21 +77,6 @@ report_at k worn h reps c p are at =
     let inside : c < length (numbers_below k.cpus) = omega arith in
     sym (get_or_from_slice_get reps c p p at) ∙ (ap (λ xs. get_or xs c p) are ∙ (get_or-map f (numbers_below k.cpus) c 0 p inside ∙ ap f (below_at k.cpus c 0 lt)))
 
--- a clock that readers don't take
-pub clock_told : (form : Form) (e : EnabledRows) (rss : List (List Record)) (told : ViewFault) → IsClockFault form rss told → IsPlayTraceFault form e rss told
-clock_told AsTaken e rss told why = absurd why
-clock_told (ByTime hertz) e rss (Line line kind) why = absurd why
-clock_told (ByTime hertz) e rss NoStamp why = absurd why
-clock_told (ByTime hertz) e rss LateStamp why = why
-clock_told (ByTime hertz) e rss NoFrequency why = absurd why
-clock_told (ByTime hertz) e rss GreatestFrequency why = why
-clock_told (ByTime hertz) e rss (NoEvent epid) why = absurd why
-clock_told (ByTime hertz) e rss Memory why = absurd why
-clock_told (ByTime hertz) e rss Read why = absurd why
-clock_told (ByTime hertz) e rss Write why = absurd why
-clock_told (ByTime hertz) e rss TooLong why = absurd why
-clock_told (ByTime hertz) e rss NotEmpty why = absurd why
-
 of_clock : (form : Form) (e : EnabledRows) (f : MetadataFault) → fault_of_metadata form e Numbered ≡ Some f → IsOfNumbered f
 unfolding fault_of_metadata form_fault names_fault
 of_clock AsTaken e f is = absurd (cc (is))
@@ -115,8 +93,3 @@ of_clock (ByTime hertz) e f is = by_header e.header is
 -- where names are numbered, and no process is told, there are few faults of the metadata
 pub of_numbered : (form : Form) (e : EnabledRows) (f : MetadataFault) → (f ≡ metadata_fault.Memory) ⊎ (fault_of_metadata form e Numbered ≡ Some f) → IsOfNumbered f
 of_numbered form e f why = ⊎_elim (λ memory. subst IsOfNumbered (sym memory) tt) (λ is. of_clock form e f is) why
-
--- a fault of the metadata as it is told
-pub form_told : (form : Form) (e : EnabledRows) (rss : List (List Record)) (f : MetadataFault) (told : ViewFault) → (f ≡ metadata_fault.Memory) ⊎ (fault_of_metadata form e Numbered ≡ Some f)
-    → IsFormFault f told → IsPlayTraceFault form e rss told
-form_told = grind (arith, nat_tests)

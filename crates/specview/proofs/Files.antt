@@ -1,6 +1,6 @@
 -- Files that come behind others in a folder.
 use Rattle.std.proofs.Common.{◌≡◌, ℕ, ◌+◌, ◌<◌, ◌≤◌, List, [], ◌∷◌, ◌++◌, Option, Some, None, length, map, take, get_or, sym, ap, ◌∙◌, subst, append_assoc, arith}
-use Rattle.std.proofs.lemmas.{Bool.Decides.nat_tests, List.append-nil, List.take_more, List.take_all, List.map-append, List.length-map, List.length-take-le}
+use Rattle.std.proofs.lemmas.{Bool.Decides.nat_tests, List.append-nil, List.take_more, List.map-append, List.length-map, List.length-take-le}
 use Rattle.specview.specs.Words.{NamedFile, AddsFiles, written_files, cpu_files}
 
 pub adds_more : (a b c : Option (List NamedFile)) (xs ys : List NamedFile) → AddsFiles a b xs → AddsFiles b c ys → AddsFiles a c (xs ++ ys)
@@ -8,10 +8,6 @@ adds_more None b c xs ys one two = tt
 adds_more (Some olds) None c xs ys one two = absurd one
 adds_more (Some olds) (Some bs) None xs ys one two = absurd two
 adds_more (Some olds) (Some bs) (Some cs) xs ys one two = two ∙ (ap (λ l. l ++ ys) one ∙ append_assoc olds xs ys)
-
-pub adds_none : (a : Option (List NamedFile)) → AddsFiles a a []
-adds_none None = tt
-adds_none (Some olds) = sym (append-nil olds)
 
 files_more : (n : ℕ) (fs : List (List ℕ)) (f : List ℕ) → cpu_files n (fs ++ f ∷ []) ≡ cpu_files n fs ++ written_files (n + length fs) f
 files_more n [] f = grind (arith, nat_tests, append-nil)
@@ -32,7 +28,3 @@ module _ {V : Type 0} (items : V → List ℕ) where
       ∙ (ap (λ m. cpu_files 0 (map items (take i fs)) ++ written_files m (items f)) (let z : 0 + length (map items (take i fs)) ≡ i = omega arith in z)
       ∙ ap (λ bs. cpu_files 0 (map items (take i fs)) ++ written_files i bs) (sym same)))) in
       subst (AddsFiles a c) (sym whole) (adds_more a b c (cpu_files 0 (map items (take i fs))) (written_files i bytes) before new)
-
-  -- all of them
-  pub all_files : (a b : Option (List NamedFile)) (fs : List V) (i : ℕ) → AddsFiles a b (cpu_files 0 (map items (take i fs))) → length fs ≤ i → AddsFiles a b (cpu_files 0 (map items fs))
-  all_files a b fs i before le = subst (λ xs. AddsFiles a b (cpu_files 0 (map items xs))) (take_all i fs le) before

@@ -2,10 +2,9 @@
 pub mod Outside
 unfoldable pub use Outside.*
 pub use Rattle.specview.specs.Batches.{last_share, share_of, ShareOf, shares, shown_share, TellsCounts}
-pub use Rattle.specview.specs.Clocks.{IsClockFault}
 pub use Rattle.specview.specs.Faults.{view_of_schedule}
 pub use Rattle.specview.specs.Folders.{AddsFiles, cpu_files, NamedFile, written_files}
 pub use Rattle.specview.specs.Pictures.{IsPictureFault, IsPlayPictureFault}
 pub use Rattle.specview.specs.Stepping.{IsStepsFault}
-pub use Rattle.specview.specs.Traces.{AreFiles, AreStreams, event_rows, greatest_epid, greatest_of, HasUnknown, HaveShortEvents, IsFile, IsFileFault, IsFormFault, IsOfNumbered, IsPlayTraceFault}
-pub use Rattle.specview.specs.Traces.{missed_by, packets_behind, refused_in, TellsSmall, written_shares}
+pub use Rattle.specview.specs.Traces.{AreFiles, AreStreams, event_rows, greatest_epid, greatest_of, HasUnknown, HaveShortEvents, IsFileFault, IsOfNumbered, IsPlayTraceFault, missed_by}
+pub use Rattle.specview.specs.Traces.{packets_behind, refused_in, TellsSmall, written_shares}

@@ -1,39 +1,11 @@
 //! A trace folder in memory: what a session writes, and what is told where a write is refused.
+use crate::timed_folders::{Sizes, Summed};
 use dspec::{Config, Enablings, Field, Lane, Work, trace};
-use dspec_ctf_sink::{Folder, FolderFault, Loss, Names, TraceFolder};
+use dspec_ctf_sink::{FolderFault, Loss, Names, TraceFolder};
 use std::alloc::Global;
-use std::sync::atomic::{AtomicU64, Ordering};
+use std::sync::atomic::Ordering;
 use std::test::Fail;
 use std::thread::Threads;
-
-/// How many writes were asked for, and how many bytes were taken.
-#[derive(Drop)]
-struct Counts {
-    writes: AtomicU64,
-    bytes: AtomicU64,
-}
-
-/// A folder that counts writes and their bytes, and refuses those from one on.
-#[derive(Drop)]
-struct Counted<'a> {
-    counts: &'a Counts,
-    most: u64,
-}
-
-impl<'a> Folder for Counted<'a> {
-    ghost use Rattle.std.specs.Prelude.{None};
-
-    ghost written = { λ _. None };
-
-    fn add(&mut self, _alloc: Global, _name: &str, bytes: &[u8]) -> Result<(), FolderFault> {
-        if self.counts.writes.fetch_add(1, Ordering::SeqCst) >= self.most {
-            return Err(FolderFault::Write(5));
-        }
-        let size = bytes.len() as u64;
-        self.counts.bytes.fetch_add(size, Ordering::SeqCst);
-        Ok(())
-    }
-}
 
 /// One record.
 #[derive(Drop)]
@@ -45,30 +17,19 @@ impl Work<Enablings> for One {
     }
 }
 
-/// Begins a trace in a folder that takes so many writes.
-fn begin<'a>(
-    alloc: Global,
-    counts: &'a Counts,
-    most: u64,
-    schema: &Enablings,
-) -> Result<TraceFolder<Counted<'a>>, FolderFault> {
-    let folder = Counted { counts, most };
-    let sink = TraceFolder::new(alloc, folder, [0; 16], schema, &Names::Numbered)?;
-    counts.bytes.store(0, Ordering::SeqCst);
-    Ok(sink)
-}
-
 /// How a session of so many lanes ends, each of which records once. None where the metadata was refused, or there is no session.
 fn ended<R: Threads + Sync>(
     rt: &R,
     alloc: Global,
     cpus: u32,
-    counts: &Counts,
+    sizes: &Sizes,
     most: u64,
 ) -> Option<Result<(), Loss>> {
     let mut schema = Enablings::new();
     let _ = schema.enable(&[Field::One]);
-    let Ok(mut sink) = begin(alloc, counts, most, &schema) else {
+    let folder = Summed { sizes, most };
+    let begun = TraceFolder::new(alloc, folder, [0; 16], &schema, &Names::Numbered);
+    let Ok(mut sink) = begun else {
         return None;
     };
     let config = Config::of(cpus, 4, 64, 64);
@@ -85,16 +46,9 @@ fn written<R: Threads + Sync>(
     cpus: u32,
     most: u64,
 ) -> (Option<Result<(), Loss>>, u64, u64) {
-    let counts = Counts {
-        writes: AtomicU64::new(0),
-        bytes: AtomicU64::new(0),
-    };
-    let ended = ended(rt, alloc, cpus, &counts, most);
-    (
-        ended,
-        counts.writes.load(Ordering::SeqCst),
-        counts.bytes.load(Ordering::SeqCst),
-    )
+    let sizes = Sizes::new();
+    let ended = ended(rt, alloc, cpus, &sizes, most);
+    (ended, sizes.writes.load(Ordering::SeqCst), sizes.of(3))
 }
 
 /// The first fault, and how many records were lost.

@@ -8,14 +8,14 @@ use std::thread::Threads;
 
 /// How many bytes were taken of the metadata, of the first file, of the second, and of any other.
 #[derive(Drop)]
-struct Sizes {
+pub(crate) struct Sizes {
     sizes: [AtomicU64; 4],
-    writes: AtomicU64,
+    pub writes: AtomicU64,
 }
 
 impl Sizes {
     /// No bytes yet.
-    fn new() -> Sizes {
+    pub(crate) fn new() -> Sizes {
         Sizes {
             sizes: [0u8; 4].map(|_| AtomicU64::new(0)),
             writes: AtomicU64::new(0),
@@ -23,7 +23,7 @@ impl Sizes {
     }
 
     /// How many bytes were taken of a file.
-    fn of(&self, place: usize) -> u64 {
+    pub(crate) fn of(&self, place: usize) -> u64 {
         match self.sizes.get(place) {
             Some(size) => size.load(Ordering::SeqCst),
             None => 0,
@@ -33,9 +33,9 @@ impl Sizes {
 
 /// A folder that sums the bytes of its files, and refuses the writes from one on.
 #[derive(Drop)]
-struct Summed<'a> {
-    sizes: &'a Sizes,
-    most: u64,
+pub(crate) struct Summed<'a> {
+    pub sizes: &'a Sizes,
+    pub most: u64,
 }
 
 /// Where a file's bytes are summed.

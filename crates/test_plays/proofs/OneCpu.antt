@@ -1,5 +1,5 @@
 -- A session of one CPU has two actors.
-use Rattle.std.proofs.{Common.◌≡◌, Common.◌<◌, Common.ℕ, Common.true, Common.arith, Common.subst, lemmas.Bool.ltb-true}
+use Rattle.std.proofs.{Common.◌≡◌, Common.◌<◌, Common.true, Common.arith, Common.subst, lemmas.Bool.ltb-true}
 use Rattle.test_plays.specs.Words.{Config, Actor, Cpu, Consumer, is_actor, is_idle, PlayState}
 
 -- where both are idle, all are

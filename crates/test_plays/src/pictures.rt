@@ -1,27 +1,20 @@
-//! Pictures of small lists of deeds: what their titles say, how many boxes there are, and where they stand.
-use dspec_deeds::{Config, DecideFate, Deed, Policy, SpeculateFate, TraceFate};
-use dspec_picture::{PictureFault, picture};
+//! Pictures of small lists of deeds that no tutorial schedule has: what their titles say, and where boxes stand.
+use dspec_deeds::{Config, DecideFate, Deed, SpeculateFate, TraceFate};
+use dspec_picture::picture;
 use dspec_record::{Header, Rec};
 use dspec_word::SpecId;
 use std::alloc::Global;
 use std::process::Abort;
 use std::test::Fail;
 
-fn config(cpus: u32) -> Config {
-    Config {
-        cpus,
-        nspec: 2,
-        bufsize: 64,
-        specsize: 32,
+/// The picture of these deeds on one CPU, of which the consumer took so many batches.
+fn drawn(alloc: Global, taken: u64, deeds: &[Deed]) -> Result<String, Fail> {
+    let config = Config {
         max_issues: 8,
         max_calls: 8,
-        policy: Policy::Switch,
-    }
-}
-
-/// The picture of these deeds on one CPU, of which the consumer took one batch.
-fn drawn(alloc: Global, deeds: &[Deed]) -> Result<String, Fail> {
-    match picture(alloc, &config(1), Header::One, &[1], deeds) {
+        ..Config::of(1, 2, 64, 32)
+    };
+    match picture(alloc, &config, Header::One, &[taken], deeds) {
         Ok(text) => Ok(text),
         Err(_) => Err("no picture".into()),
     }
@@ -42,51 +35,6 @@ fn has_each(text: &str, parts: &[&str]) -> bool {
     true
 }
 
-#[test]
-fn one_trace(rt: HostRuntime) -> Result<(), Fail> {
-    let rec = Rec::new(7, &[]).ok_or("no value")?;
-    let deeds = [Deed::Trace(0, rec, TraceFate::Kept), Deed::Seal(0)];
-    let text = drawn(rt.alloc(), &deeds)?;
-    let parts = [
-        "<title>cpu 0, record 7, offered to the principal buffer, taken</title>",
-        "<title>cpu 0, batch 1, taken by the consumer</title>",
-    ];
-    assert!(rt; has_each(text.as_str(), &parts) && text.as_str().ends_with("</svg>\n"));
-    Ok(())
-}
-
-/// A speculation of two records is committed, one of another is discarded: three outlines, and two filled boxes on the stream; the
-/// legend has a filled box too.
-#[test]
-fn two_speculations(rt: HostRuntime) -> Result<(), Fail> {
-    let kept = SpecId::of(0, 1);
-    let thrown = SpecId::of(0, 2);
-    let one = Rec::new(1, &[]).ok_or("no value")?;
-    let two = Rec::new(2, &[]).ok_or("no value")?;
-    let three = Rec::new(3, &[]).ok_or("no value")?;
-    let deeds = [
-        Deed::Opened(0, kept),
-        Deed::Opened(0, thrown),
-        Deed::Speculate(0, kept, one, SpeculateFate::Kept),
-        Deed::Speculate(0, thrown, three, SpeculateFate::Kept),
-        Deed::Speculate(0, kept, two, SpeculateFate::Kept),
-        Deed::Commit(0, kept, DecideFate::Copied(2)),
-        Deed::Release(1),
-        Deed::Discard(0, thrown, DecideFate::Thrown(1)),
-        Deed::Release(2),
-    ];
-    let text = drawn(rt.alloc(), &deeds)?;
-    let parts = [
-        "<title>cpu 0, record 3, offered to speculation 2, discarded</title>",
-        "<title>slot 1, speculation 1, committing</title>",
-        "<title>slot 2, speculation 2, discarding</title>",
-    ];
-    let boxes = times(text.as_str(), "<title>cpu 0, record ");
-    let filled = times(text.as_str(), "<g class='taken on' transform");
-    assert!(rt; has_each(text.as_str(), &parts) && boxes == 5 && filled == 3);
-    Ok(())
-}
-
 /// A discard of an empty buffer is a stroke, and no cross.
 #[test]
 fn nothing_to_discard(rt: HostRuntime) -> Result<(), Fail> {
@@ -95,7 +43,7 @@ fn nothing_to_discard(rt: HostRuntime) -> Result<(), Fail> {
         Deed::Opened(0, id),
         Deed::Discard(0, id, DecideFate::Thrown(0)),
     ];
-    let text = drawn(rt.alloc(), &deeds)?;
+    let text = drawn(rt.alloc(), 1, &deeds)?;
     let crosses = times(text.as_str(), "<title>records discarded</title>");
     assert!(rt; crosses == 0 && times(text.as_str(), "<path class='tick'") == 1);
     Ok(())
@@ -126,25 +74,7 @@ fn losses_and_rows(rt: HostRuntime) -> Result<(), Fail> {
 <rect width='44' height='20' rx='4'/><text x='22' y='14'>12345&#8230;</text></g>",
         "<g class='seal left' transform='translate(175,260)'><title>cpu 0, batch 1, not taken</title><path d='M0 -1V21'/></g>",
     ];
-    match picture(rt.alloc(), &config(1), Header::One, &[0], deeds.as_slice()) {
-        Ok(text) => {
-            assert!(rt;
-                has_each(text.as_str(), &parts) && times(text.as_str(), ">slot 1, inactive<") == 3
-            );
-            Ok(())
-        }
-        Err(_) => Err("no picture".into()),
-    }
-}
-
-/// A picture shows at most 2,000 deeds.
-#[test]
-fn too_many(rt: HostRuntime) -> Result<(), Fail> {
-    let mut deeds = Vec::new(rt.alloc());
-    for _ in 0..2_001 {
-        deeds.push(Deed::Seal(0))?;
-    }
-    let answer = picture(rt.alloc(), &config(1), Header::One, &[], deeds.as_slice());
-    assert!(rt; matches!(&answer, Err(PictureFault::TooManyDeeds)));
+    let text = drawn(rt.alloc(), 0, deeds.as_slice())?;
+    assert!(rt; has_each(text.as_str(), &parts) && times(text.as_str(), ">slot 1, inactive<") == 3);
     Ok(())
 }

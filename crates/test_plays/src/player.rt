@@ -12,9 +12,6 @@ use dspec_word::SpecId;
 use std::process::Abort;
 use std::test::Fail;
 
-mod blocks;
-mod filled;
-mod large;
 mod looks;
 mod plays;
 mod texts;

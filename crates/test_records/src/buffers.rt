@@ -133,22 +133,12 @@ fn align_block<B: TraceBuffer<DefaultAction>>(
 fn aligned_block(rt: HostRuntime) -> Result<(), Fail> {
     let mut bytes: ByteBuffer = buffer(&rt, &DefaultAction, 16)?;
     let mut speculative: ByteBuffer = buffer(&rt, &DefaultAction, 8)?;
-    same(
-        &rt,
-        keep(&rt, &DefaultAction, &mut bytes, 1, &[]),
-        (true, 4),
-    );
-    same(
-        &rt,
-        keep(&rt, &DefaultAction, &mut speculative, 1, &[]),
-        (true, 4),
-    );
+    let first = keep(&rt, &DefaultAction, &mut bytes, 1, &[]);
+    let second = keep(&rt, &DefaultAction, &mut speculative, 1, &[]);
+    same(&rt, [first, second], [(true, 4); 2]);
     assert!(rt; TraceBuffer::<DefaultAction>::push_block(&mut bytes, &speculative));
-    same(
-        &rt,
-        bytes.bytes(),
-        [1, 0, 0, 0, 0, 0, 0, 0, 1, 0, 0, 0].as_slice(),
-    );
+    let text = [1, 0, 0, 0, 0, 0, 0, 0, 1, 0, 0, 0];
+    same(&rt, bytes.bytes(), text.as_slice());
     for size in [8, 16] {
         let _bytes: ByteBuffer = align_block(&rt, size)?;
         let _list: ListBuffer = align_block(&rt, size)?;
@@ -175,11 +165,8 @@ fn commit_two<B: TraceBuffer<Enablings>>(
 fn commit(rt: HostRuntime) -> Result<(), Fail> {
     let schema = four_enablings()?;
     let bytes: ByteBuffer = commit_two(&rt, &schema)?;
-    same(
-        &rt,
-        bytes.bytes(),
-        [1, 0, 0, 0, 4, 0, 0, 0, 5, 0, 0, 0].as_slice(),
-    );
+    let text = [1, 0, 0, 0, 4, 0, 0, 0, 5, 0, 0, 0];
+    same(&rt, bytes.bytes(), text.as_slice());
     let _list: ListBuffer = commit_two(&rt, &schema)?;
     Ok(())
 }
@@ -193,11 +180,8 @@ fn lose_block<B: TraceBuffer<Enablings>>(
     let mut speculative: B = buffer(rt, schema, 16)?;
     same(rt, keep(rt, schema, &mut active, 4, &[9]), (true, 8));
     for place in [4, 8, 12] {
-        same(
-            rt,
-            keep(rt, schema, &mut speculative, 1, &[]),
-            (true, place),
-        );
+        let kept = keep(rt, schema, &mut speculative, 1, &[]);
+        same(rt, kept, (true, place));
     }
     assert!(rt; !active.push_block(&speculative));
     same(rt, (active.offset(), active.count()), (8, 1));
@@ -240,43 +224,20 @@ fn byte_buffer(rt: HostRuntime) -> Result<(), Fail> {
 fn reader_faults(rt: HostRuntime) -> Result<(), Fail> {
     let schema = four_enablings()?;
     assert!(rt; is_read(&schema, &[], &[]));
-    same(
-        &rt,
-        fault_of(&schema, &[0, 0, 0, 0, 1, 0, 0, 0]),
-        fault(ReadKind::Padding, 0),
-    );
-    same(
-        &rt,
-        fault_of(&schema, &[1, 0, 0]),
-        fault(ReadKind::Truncated, 0),
-    );
-    same(
-        &rt,
-        fault_of(&schema, &[9, 0, 0, 0]),
-        fault(ReadKind::UnknownEpid, 0),
-    );
-    same(
-        &rt,
-        fault_of(&schema, &[1, 0, 0, 0, 2, 0, 0, 0]),
-        fault(ReadKind::Misaligned, 4),
-    );
-    same(
-        &rt,
-        fault_of(&schema, &[3, 0, 0, 0, 0xAB, 1, 0x34, 0x12]),
-        fault(ReadKind::GapNotZero, 0),
-    );
-    same(
-        &rt,
-        fault_of(&schema, &[1, 0, 0, 0, 0, 0, 0, 0]),
-        fault(ReadKind::Padding, 4),
-    );
     let twice = [1, 0, 0, 0, 0, 0, 0, 0, 0, 0, 0, 0];
-    same(&rt, fault_of(&schema, &twice), fault(ReadKind::Padding, 8));
-    same(
-        &rt,
-        fault_of(&DefaultAction, &twice),
-        fault(ReadKind::Padding, 8),
-    );
+    for (text, kind, at) in [
+        ([0, 0, 0, 0, 1, 0, 0, 0].as_slice(), ReadKind::Padding, 0),
+        (&[1, 0, 0], ReadKind::Truncated, 0),
+        (&[9, 0, 0, 0], ReadKind::UnknownEpid, 0),
+        (&[1, 0, 0, 0, 2, 0, 0, 0], ReadKind::Misaligned, 4),
+        (&[3, 0, 0, 0, 0xAB, 1, 0x34, 0x12], ReadKind::GapNotZero, 0),
+        (&[1, 0, 0, 0, 0, 0, 0, 0], ReadKind::Padding, 4),
+        (&twice, ReadKind::Padding, 8),
+    ] {
+        same(&rt, fault_of(&schema, text), fault(kind, at));
+    }
+    let found = fault_of(&DefaultAction, &twice);
+    same(&rt, found, fault(ReadKind::Padding, 8));
     assert!(rt; is_read(&DefaultAction, &[9, 0, 0, 0], &[rec(&rt, 9, &[])]));
     Ok(())
 }
@@ -315,26 +276,6 @@ fn is_read_up_to<S: Schema>(
     records.next().is_none() && fault == stop
 }
 
-#[test]
-fn records_before_a_fault(rt: HostRuntime) -> Result<(), Fail> {
-    let schema = four_enablings()?;
-    let kept = [rec(&rt, 1, &[]), rec(&rt, 2, &[7]), rec(&rt, 4, &[9])];
-    for length in 0..=PADDED_TEXT.len() {
-        let count = match length {
-            0..=3 => 0,
-            4..=23 => 1,
-            24..=31 => 2,
-            _ => 3,
-        };
-        let (text, stop) = (&PADDED_TEXT[..length], cut_fault(length));
-        assert!(rt;
-            is_read_up_to(&schema, text, &kept[..count], stop),
-            "at {length}"
-        );
-    }
-    Ok(())
-}
-
 /// Whether a reader in one pass gives the records of `read_prefix`, and then its fault, or none, at each later call.
 fn reads_in_one_pass<S: Schema>(schema: &S, text: &[u8]) -> bool {
     let (records, stop) = read_prefix(schema, text);
@@ -351,14 +292,21 @@ fn reads_in_one_pass<S: Schema>(schema: &S, text: &[u8]) -> bool {
     reading.next() == end && reading.next() == end && reading.next() == end
 }
 
+/// Of each length of the padded text: the records before the fault, and in one pass.
 #[test]
-fn records_in_one_pass(rt: HostRuntime) -> Result<(), Fail> {
+fn records_before_a_fault(rt: HostRuntime) -> Result<(), Fail> {
     let schema = four_enablings()?;
+    let kept = [rec(&rt, 1, &[]), rec(&rt, 2, &[7]), rec(&rt, 4, &[9])];
     for length in 0..=PADDED_TEXT.len() {
-        assert!(rt;
-            reads_in_one_pass(&schema, &PADDED_TEXT[..length]),
-            "at {length}"
-        );
+        let count = match length {
+            0..=3 => 0,
+            4..=23 => 1,
+            24..=31 => 2,
+            _ => 3,
+        };
+        let (text, stop) = (&PADDED_TEXT[..length], cut_fault(length));
+        let is_due = is_read_up_to(&schema, text, &kept[..count], stop);
+        assert!(rt; is_due && reads_in_one_pass(&schema, text), "at {length}");
     }
     Ok(())
 }
@@ -401,11 +349,8 @@ fn refused_growth(rt: HostRuntime) -> Result<(), Fail> {
     same(&rt, keep(&rt, &schema, &mut list, 4, &[9]), (true, 8));
     assert!(rt; walks(&schema, &list, &[rec(&rt, 4, &[9])]));
     let mut bytes: ByteBuffer = asked_again(&rt, &DefaultAction, 16)?;
-    same(
-        &rt,
-        keep(&rt, &DefaultAction, &mut bytes, 7, &[]),
-        (true, 4),
-    );
+    let kept = keep(&rt, &DefaultAction, &mut bytes, 7, &[]);
+    same(&rt, kept, (true, 4));
     same(&rt, bytes.bytes(), [7, 0, 0, 0].as_slice());
     let mut list: ListBuffer = asked_again(&rt, &DefaultAction, 16)?;
     same(&rt, keep(&rt, &DefaultAction, &mut list, 7, &[]), (true, 4));

@@ -8,7 +8,7 @@
 //! | `words` | dspec_word: the rows of its tables, identifiers |
 //! | `texts` | what values of these print |
 //! | `probes` | dspec_probe: `declaring`, `numbers`, `reading` |
-//! | `dice`, `logs` | dspec_samples |
+//! | `dice` | dspec_samples; what it finds in damaged sessions is `tests/made-sessions.txt` |
 //! | `commands` | dspec_command: `asking`, `telling` |
 //! | `same` | the one comparison of all |
 #![tactic(auto)]
@@ -21,8 +21,6 @@ mod commands;
 mod dice;
 #[cfg(test)]
 mod laying;
-#[cfg(test)]
-mod logs;
 #[cfg(test)]
 mod packed;
 #[cfg(test)]

@@ -74,12 +74,13 @@ fn gaps(rt: HostRuntime) -> Result<(), Fail> {
         1, 0, 0, 0, 0xAB, 0, 0, 0, 4, 3, 2, 1, 0, 0, 0, 0, 0x88, 0x77, 0x66, 0x55, 0x44, 0x33,
         0x22, 0x11,
     ];
-    let (rec, buffer) = put::<Unstamped>(rt.alloc(), &schema, claim, 0, &clean)?.ok_or("a record")?;
-    same(&rt, rec, due);
-    same(&rt, buffer.bytes(), text.as_slice());
-    let (rec, buffer) = put::<Unstamped>(rt.alloc(), &schema, claim, 0, &full)?.ok_or("a record")?;
-    same(&rt, rec, due);
-    same(&rt, buffer.bytes(), text.as_slice());
+    for words in [&clean, &full] {
+        let (rec, buffer) = put::<Unstamped>(rt.alloc(), &schema, claim, 0, words)?.ok_or(
+            "a record",
+        )?;
+        same(&rt, rec, due);
+        same(&rt, buffer.bytes(), text.as_slice());
+    }
     Ok(())
 }
 
@@ -89,11 +90,8 @@ fn nine_words(rt: HostRuntime) -> Result<(), Fail> {
     let words = [0, 1, 2, 3, 4, 5, 6, 7, u64::MAX];
     let claim = 0x8888_8888 << 32 | 1;
     let (rec, buffer) = put::<Unstamped>(rt.alloc(), &schema, claim, 0, &words)?.ok_or("a record")?;
-    same(
-        &rt,
-        rec.values(),
-        [1, 2, 3, 4, 5, 6, 7, u64::MAX].as_slice(),
-    );
+    let values = [1, 2, 3, 4, 5, 6, 7, u64::MAX];
+    same(&rt, rec.values(), values.as_slice());
     same(&rt, buffer.bytes().len(), 72);
     same(&rt, buffer.bytes().last(), Some(&0xFF));
     Ok(())

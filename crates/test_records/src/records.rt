@@ -51,29 +51,19 @@ fn shape_of_fields(fields: &[Field]) -> Result<Option<Shape>, SchemaFault> {
 
 #[test]
 fn shapes(rt: HostRuntime) -> Result<(), Fail> {
-    let four_and_four = Some(Shape { size: 4, align: 4 });
-    same(&rt, shape_of_fields(&[])?, four_and_four);
-    let eight_and_four = Some(Shape { size: 8, align: 4 });
-    same(&rt, shape_of_fields(&[Field::One])?, eight_and_four);
-    same(
-        &rt,
-        shape_of_fields(&[Field::Two, Field::One])?,
-        eight_and_four,
-    );
-    let twenty = Some(Shape { size: 20, align: 8 });
-    same(&rt, shape_of_fields(&[Field::Eight, Field::One])?, twenty);
     let all = [Field::One, Field::Two, Field::Four, Field::Eight];
-    same(
-        &rt,
-        shape_of_fields(&all)?,
-        Some(Shape { size: 24, align: 8 }),
-    );
-    same(
-        &rt,
-        shape_of_fields(&[Field::Eight; 8])?,
-        Some(Shape { size: 72, align: 8 }),
-    );
-    same(&rt, DefaultAction.shape(7), four_and_four);
+    for (fields, size, align) in [
+        ([].as_slice(), 4, 4),
+        (&[Field::One], 8, 4),
+        (&[Field::Two, Field::One], 8, 4),
+        (&[Field::Eight, Field::One], 20, 8),
+        (&all, 24, 8),
+        (&[Field::Eight; 8], 72, 8),
+    ] {
+        same(&rt, shape_of_fields(fields)?, Some(Shape { size, align }));
+    }
+    let four = Shape { size: 4, align: 4 };
+    same(&rt, DefaultAction.shape(7), Some(four));
     same(&rt, DefaultAction.shape(0), None);
     Ok(())
 }
@@ -82,24 +72,13 @@ fn shapes(rt: HostRuntime) -> Result<(), Fail> {
 fn enabling_limits(rt: HostRuntime) -> Result<(), Fail> {
     let nine = [Field::One; 9];
     let mut enablings = Enablings::new();
-    same(
-        &rt,
-        enablings.enable(&nine),
-        Err(SchemaFault::TooManyFields),
-    );
+    let (fields, more) = (SchemaFault::TooManyFields, SchemaFault::TooManyEnablings);
+    same(&rt, enablings.enable(&nine), Err(fields));
     for epid in 1..65 {
         same(&rt, enablings.enable(&[Field::One]), Ok(epid));
     }
-    same(
-        &rt,
-        enablings.enable(&nine),
-        Err(SchemaFault::TooManyFields),
-    );
-    same(
-        &rt,
-        enablings.enable(&[Field::One]),
-        Err(SchemaFault::TooManyEnablings),
-    );
+    same(&rt, enablings.enable(&nine), Err(fields));
+    same(&rt, enablings.enable(&[Field::One]), Err(more));
     same(&rt, enablings.shape(64), Some(Shape { size: 8, align: 4 }));
     same(&rt, enablings.shape(65), None);
     same(&rt, Rec::new(1, &[0; 9]), None);
@@ -114,11 +93,8 @@ fn fields_of_enablings(rt: HostRuntime) -> Result<(), Fail> {
     same(&rt, Enablings::new().count(), 0);
     same(&rt, enablings.fields(0), None);
     same(&rt, enablings.fields(1), Some([].as_slice()));
-    same(
-        &rt,
-        enablings.fields(3),
-        Some([Field::One, Field::Two].as_slice()),
-    );
+    let third = [Field::One, Field::Two];
+    same(&rt, enablings.fields(3), Some(third.as_slice()));
     same(&rt, enablings.fields(5), None);
     let all = [Field::One, Field::Two, Field::Four, Field::Eight];
     same(&rt, all.map(Field::width), [1, 2, 4, 8]);
@@ -136,23 +112,14 @@ fn get_faults(rt: HostRuntime) -> Result<(), Fail> {
     let rec = Rec::new(3, &[171, 4660]).ok_or("two values")?;
     let followed = [3, 0, 0, 0, 0xAB, 0, 0x34, 0x12, 0xFF];
     same(&rt, read(&enablings, &followed), Ok((rec, 8)));
-    same(
-        &rt,
-        read(&enablings, &[3, 0, 0, 0, 0xAB]),
-        Err(ReadKind::Truncated),
-    );
-    same(
-        &rt,
-        read(&enablings, &[0, 0, 0, 0, 1, 0, 0, 0]),
-        Err(ReadKind::Padding),
-    );
-    same(
-        &rt,
-        read(&enablings, &[9, 0, 0, 0]),
-        Err(ReadKind::UnknownEpid),
-    );
-    let gap = [3, 0, 0, 0, 0xAB, 1, 0x34, 0x12];
-    same(&rt, read(&enablings, &gap), Err(ReadKind::GapNotZero));
+    for (bytes, kind) in [
+        ([3, 0, 0, 0, 0xAB].as_slice(), ReadKind::Truncated),
+        (&[0, 0, 0, 0, 1, 0, 0, 0], ReadKind::Padding),
+        (&[9, 0, 0, 0], ReadKind::UnknownEpid),
+        (&[3, 0, 0, 0, 0xAB, 1, 0x34, 0x12], ReadKind::GapNotZero),
+    ] {
+        same(&rt, read(&enablings, bytes), Err(kind));
+    }
     let bare = Rec::new(7, &[]).ok_or("no value")?;
     same(&rt, read(&DefaultAction, &[7, 0, 0, 0, 1]), Ok((bare, 4)));
     same(&rt, read(&DefaultAction, &[7, 0]), Err(ReadKind::Truncated));

@@ -7,7 +7,7 @@ use dspec_record::{
     BorrowedRec, DefaultAction, Enablings, Field, Header, ReadKind, Rec, Recorded, Schema, Shape,
     StampedAction, laws,
 };
-use dspec_samples::{PADDED_TEXT, fault_of, four_enablings, is_read};
+use dspec_samples::{PADDED_TEXT, fault, fault_of, four_enablings, is_read};
 use std::process::Abort;
 use std::test::Fail;
 
@@ -37,24 +37,20 @@ fn stamped_shapes(rt: HostRuntime) -> Result<(), Fail> {
 
 const LONG: u64 = 0x0102_0304_0506_0708;
 
+/// The text of 3(171, 4660) with that stamp.
+const LONG_TEXT: [u8; 16] = [3, 0, 0, 0, 8, 7, 6, 5, 4, 3, 2, 1, 0xAB, 0, 0x34, 0x12];
+
 #[test]
 fn stamped_bytes(rt: HostRuntime) -> Result<(), Fail> {
     let plain = four_enablings()?;
     let enablings = plain.stamped();
-    same(
-        &rt,
-        (plain.header(), enablings.header()),
-        (Header::One, Header::Two),
-    );
+    let headers = (plain.header(), enablings.header());
+    same(&rt, headers, (Header::One, Header::Two));
     let rec = stamped(&rt, 3, LONG, &[171, 4660]);
     same(&rt, (rec.epid(), rec.stamp()), (3, LONG));
     let mut out = [0xFF; 16];
     assert!(rt; put_whole(&enablings, &rec, &mut out));
-    same(
-        &rt,
-        out,
-        [3, 0, 0, 0, 8, 7, 6, 5, 4, 3, 2, 1, 0xAB, 0, 0x34, 0x12],
-    );
+    same(&rt, out, LONG_TEXT);
     same(&rt, read(&enablings, &out), Ok((rec, 16)));
     let bare = stamped(&rt, 0x0D0C_0B0A, LONG, &[]);
     let mut out = [0xFF; 12];
@@ -75,11 +71,7 @@ fn borrowed_bytes(rt: HostRuntime) -> Result<(), Fail> {
     same(&rt, rec.to_rec(), stamped(&rt, 3, LONG, &[171, 4660]));
     let mut out = [0xFF; 16];
     assert!(rt; put_whole(&enablings, rec, &mut out));
-    same(
-        &rt,
-        out,
-        [3, 0, 0, 0, 8, 7, 6, 5, 4, 3, 2, 1, 0xAB, 0, 0x34, 0x12],
-    );
+    same(&rt, out, LONG_TEXT);
     // a schema that says nothing of such records has them copied
     let bare = BorrowedRec::of(3, LONG, &[]).ok_or("no value")?;
     let mut short = [0xFF; 12];
@@ -136,14 +128,8 @@ fn stamped_get_faults(rt: HostRuntime) -> Result<(), Fail> {
     let padding = [0, 0, 0, 0, 1, 0, 0, 0];
     same(&rt, read(&enablings, &padding), Err(ReadKind::Padding));
     same(&rt, read(&StampedAction, &padding), Err(ReadKind::Padding));
-    same(
-        &rt,
-        fault_of(&StampedAction, &[9, 0, 0, 0, 1, 0, 0, 0]),
-        Some(ReadFault {
-            kind: ReadKind::Truncated,
-            at: 0,
-        }),
-    );
+    let found = fault_of(&StampedAction, &[9, 0, 0, 0, 1, 0, 0, 0]);
+    same(&rt, found, fault(ReadKind::Truncated, 0));
     Ok(())
 }
 
@@ -157,23 +143,17 @@ fn trace_stamped<B: TraceBuffer<StampedAction>>(
 ) -> Result<B, Fail> {
     let schema = StampedAction;
     let mut buffer: B = buffer(rt, &schema, 24)?;
-    let records = [
-        (stamped(rt, 1, 7, &[]), true),
-        (stamped(rt, 2, 8, &[]), true),
+    let kept = [stamped(rt, 1, 7, &[]), stamped(rt, 2, 8, &[])];
+    for (rec, is_kept) in [
+        (kept[0], true),
+        (kept[1], true),
         (stamped(rt, 3, 0, &[]), false),
-    ];
-    for (rec, kept) in records {
+    ] {
         assert!(rt; schema.accepts(&rec));
-        same(rt, buffer.push(&schema, &rec), kept);
+        same(rt, buffer.push(&schema, &rec), is_kept);
     }
     same(rt, (buffer.offset(), buffer.count()), (24, 2));
-    assert!(rt;
-        walks(
-            &schema,
-            &buffer,
-            &[stamped(rt, 1, 7, &[]), stamped(rt, 2, 8, &[])]
-        )
-    );
+    assert!(rt; walks(&schema, &buffer, &kept));
     Ok(buffer)
 }
 

@@ -50,12 +50,9 @@ fn printed_report(rt: HostRuntime) -> Result<(), Fail> {
         stopped: 12,
         worn: 13,
     };
-    let text = format!(in rt.alloc(); "{report}")?;
-    same(
-        &rt,
-        text.as_str(),
-        "offered 1 accepted 2 dropped 3 specdropped 4 lost 5 discarded 6 void 7 held 8 drops 9 unavailable 10 busy 11 stopped 12 worn 13",
-    );
+    let wanted =
+        "offered 1 accepted 2 dropped 3 specdropped 4 lost 5 discarded 6 void 7 held 8 drops 9 unavailable 10 busy 11 stopped 12 worn 13";
+    assert!(rt; prints(&rt, report, wanted)?);
     Ok(())
 }
 
@@ -88,18 +85,12 @@ fn shown_buffers(rt: HostRuntime) -> Result<(), Fail> {
     let mut bytes: ByteBuffer = buffer(&rt, &StampedAction, 24)?;
     assert!(rt; bytes.push(&StampedAction, &Rec::stamped(7, 1, &[]).ok_or("no value")?));
     let text = format!(in rt.alloc(); "{bytes:?}")?;
-    same(
-        &rt,
-        text.as_str(),
-        "ByteBuffer { count: 1, offset: 12, size: 24 }",
-    );
+    let wanted = "ByteBuffer { count: 1, offset: 12, size: 24 }";
+    same(&rt, text.as_str(), wanted);
     let list: ListBuffer = buffer(&rt, &StampedAction, 24)?;
     let text = format!(in rt.alloc(); "{list:?}")?;
-    same(
-        &rt,
-        text.as_str(),
-        "ListBuffer { count: 0, offset: 0, size: 24 }",
-    );
+    let wanted = "ListBuffer { count: 0, offset: 0, size: 24 }";
+    same(&rt, text.as_str(), wanted);
     let Ok(records) = read_all(&StampedAction, bytes.bytes()) else {
         return Err("a text".into());
     };

@@ -1,3 +1,6 @@
+ghost use Rattle.std.specs.Prelude.{◌≡◌};
+
+use dspec_ctf::Stream;
 use dspec_record::{Enablings, Field, SchemaFault};
 use std::fmt::Debug;
 use std::process::Abort;
@@ -12,6 +15,18 @@ pub fn same<T: PartialEq + Debug + Drop>(rt: &impl Abort, found: T, wanted: T) {
 pub const UUID: [u8; 16] = [
     0, 17, 34, 51, 68, 85, 102, 119, 136, 153, 170, 187, 204, 221, 238, 255,
 ];
+
+/// The stream of CPU 1 that missed so many.
+pub fn stream_of(enablings: &Enablings, missed: u64) -> Stream<'_>
+    ensures { result.enablings.now ≡ enablings.now }
+{
+    Stream {
+        uuid: UUID,
+        enablings,
+        cpu: 1,
+        missed,
+    }
+}
 
 /// The enablings 1 none, 2 [8], 3 [1, 2].
 pub fn three_enablings() -> Result<Enablings, SchemaFault> {

@@ -1,5 +1,3 @@
 pub mod Pairs
-pub mod OneAuthor
-pub mod OneOpener
 pub mod Openers
 pub mod Turns

@@ -1,10 +1,9 @@
 -- What a CPU may do next on the first slot, and what its own list tells then.
-use Rattle.std.proofs.Common.{◌≡◌, ℕ, zero, suc, ◌<◌, ◌&&◌, ◌≤◌, Bool, true, false, if◌then◌else◌, List, [], ◌∷◌, ◌++◌, sym, ap, ◌∙◌, subst, arith, refl}
+use Rattle.std.proofs.Common.{◌≡◌, ℕ, zero, suc, ◌<◌, ◌&&◌, ◌≤◌, Bool, true, false, if◌then◌else◌, List, [], ◌++◌, sym, ap, ◌∙◌, subst, arith, refl}
 use Rattle.std.proofs.lemmas.Bool.Decides.{nat_tests}
-use Rattle.test_words.specs.Words.{Record, Speculation, SlotState, released, awaits, speculate_at, commit_at, discard_at, reap_at, in_range, is_among, callers, ack, number_of, at_activity, IsOn}
+use Rattle.test_words.specs.Words.{Record, Speculation, SlotState, released, awaits, commit_at, discard_at, reap_at, in_range, is_among, callers, ack, number_of, at_activity, IsOn, View, Doing}
 use Rattle.test_words.specs.Words.{IsInFlight, MayLoad, MayTry, Attempts, IsDeciding, calling, activity_place, acted, LoadedActivity, TriedWord, LoadedAck, Unused, Next, at_exchange, shown}
 use Rattle.test_words.specs.Words.{idle_progress, shown_commit, shown_discard, is_alone, is_release, at_word, Entered, LoadedWord, slot_place, Act, Void, Granted, Attempt, Idle, Config, CpuOp, Deed}
-use Rattle.test_words.specs.Words.{View, Doing}
 use Rattle.dspec_deeds.specs.declared.calls.CpuOp.TheVariants as op
 use Rattle.dspec_table.proofs.{Flights.quiet_activity, Flights.loads_next, Flights.in_flight, Reaping.acked_since}
 use Rattle.dspec_interleaving.proofs.StepDeeds.{by_test}

@@ -2,4 +2,3 @@
 pub mod Outside
 unfoldable pub use Outside.*
 pub use Rattle.test_words.specs.Calls.{Next, Unused}
-pub use Rattle.test_words.specs.Opener.{first_slot, given_out, Once, Shut}

@@ -4,6 +4,7 @@ ghost use Rattle.dspec_deeds.specs.declared.calls.CpuOp.TheVariants as op;
 ghost use Rattle.dspec_table.specs.{Conditions.IsOn, Conditions.MayLoad, Seats.known, Seats.IsAt, Seats.set_up, Seats.cpu_of};
 ghost use Rattle.test_words.specs.Calls.{Unused};
 
+use crate::steps::{load_activity, load_word, try_word};
 use dspec_deeds::CpuOp;
 use dspec_table::{CpuSeat, Doing, Words};
 use dspec_word::{Act, Code, SpecId, commit_at};
@@ -31,7 +32,7 @@ pub fn begun(words: &Words, seat: &mut CpuSeat, id: SpecId, call: &Doing) -> boo
     ensures seat { IsAt words.now seat.new × (cpu_of seat.new ≡ cpu_of seat.old) }
     ensures may { result ≡ true → MayLoad (set_up words.now) (known seat.new) (cpu_of seat.old) call.now 1 call.now.op × Unused (set_up words.now) (cpu_of seat.old) (known seat.new).own }
 {
-    seat.load_activity(words, call)
+    load_activity(seat, words, call)
 }
 
 /// The other steps of a commit, up to the release: whether it went by Committing, and was released.
@@ -44,11 +45,11 @@ pub fn committed(words: &Words, seat: &mut CpuSeat, id: SpecId, call: &Doing) ->
     ensures seat { IsAt words.now seat.new × (cpu_of seat.new ≡ cpu_of seat.old) }
     ensures unused { result ≡ true → Unused (set_up words.now) (cpu_of seat.old) (known seat.new).own }
 {
-    let from = seat.load_word(words, 1, call);
+    let from = load_word(seat, words, call);
     let Act::Attempt(to) = commit_at(from, id, call.mine) else {
         return false;
     };
-    let Ok(()) = seat.try_word(words, 1, from, to, call) else {
+    let Ok(()) = try_word(seat, words, from, to, call) else {
         return false;
     };
     if to.code() != Code::Committing {

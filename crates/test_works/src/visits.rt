@@ -2,7 +2,8 @@
 //! that goes on for as long as the work does. Each work here ends only once it got what it is owed.
 mod pauses;
 
-use dspec::{Batch, Config, Enablings, Field, Lane, Opening, Sink, Work, trace};
+use crate::handing::schema;
+use dspec::{Batch, Config, Enablings, Lane, Opening, Sink, Work, trace};
 use std::alloc::Global;
 use std::sync::atomic::{AtomicU64, Ordering};
 use std::test::Fail;
@@ -116,17 +117,13 @@ fn session<R: Threads + Sync, W: Work<Enablings>>(
     count: &AtomicU64,
     pauses: &AtomicU64,
 ) -> Result<(), Fail> {
-    let mut schema = Enablings::new();
-    if schema.enable(&[Field::One]).is_err() {
-        return Err("no enabling".into());
-    }
     let mut sink = Seen {
         cpus: [false; 64],
         count,
         pauses,
     };
     let config = Config::of(cpus, 1, 64, 64);
-    if trace(rt, alloc, &config, schema, work, &mut sink).is_err() {
+    if trace(rt, alloc, &config, schema()?, work, &mut sink).is_err() {
         return Err("no session".into());
     }
     Ok(())

@@ -6,6 +6,7 @@ ghost use Rattle.dspec_table.specs.Seats.{known, IsAt, set_up, cpu_of};
 use dspec_deeds::CpuOp;
 use dspec_record::Rec;
 use dspec_table::{CpuSeat, Doing, Words};
+use test_words::steps::load_activity;
 
 /// So many loads of activity, each of a trace of the record: how many showed that the session runs.
 pub fn load_all(words: &Words, seat: &mut CpuSeat, rec: Rec, number: u32) -> u32
@@ -22,7 +23,7 @@ pub fn load_all(words: &Words, seat: &mut CpuSeat, rec: Rec, number: u32) -> u32
     };
     let mut running: u32 = 0;
     for _ in 0..number {
-        if seat.load_activity(words, &call) {
+        if load_activity(seat, words, &call) {
             running = running.wrapping_add(1);
         }
     }

@@ -8,6 +8,7 @@ use dspec_deeds::CpuOp;
 use dspec_table::{CpuSeat, Doing, Words};
 use dspec_word::{Code, SpecId, Word};
 use test_words::calls::{begun, committed};
+use test_words::steps::{load_activity, load_word};
 
 /// The most rounds that one thread makes.
 const MOST_ROUNDS: u32 = 1_000_000_000;
@@ -23,10 +24,10 @@ fn given(words: &Words, seat: &mut CpuSeat, call: &Doing) -> Option<Word>
     ensures unused { IfSome result (λ _. Unused (set_up words.now) (cpu_of seat.old) (known seat.new).own) }
     ensures issue { IfSome result (λ word. word.issue < 2 ^ 57) }
 {
-    if !seat.load_activity(words, call) {
+    if !load_activity(seat, words, call) {
         return None;
     }
-    let word = seat.load_word(words, 1, call);
+    let word = load_word(seat, words, call);
     if word.code() != Code::Inactive || word.issue() >= 1 << 57 {
         return None;
     }

@@ -24,13 +24,13 @@ pub use Rattle.dspec_table.specs.declared.seats.ConsumerSeat.{ConsumerSeat}
 pub use Rattle.dspec_ring.specs.Words.{ConsumerKnows, IsUnusedConsumer}
 pub use Rattle.dspec_ring.specs.declared.batch.Batch.{Batch}
 pub use Rattle.dspec_cpu.specs.Words.{called, CallsMade, CommitsIfRoom, config_of, cpu_block_fits, CpuIdentity, DecidesOne, drops_told, identity, IsCallable, IsOpenAt, IsSteady, no_calls, number_in}
-pub use Rattle.dspec_cpu.specs.Words.{OffersValues, OpensOne, RecordsValues, schema_of, seat_of, ServesOnce, settled_did, SpeculatesOne, takes_values, TracesOne, waiting, with_speculate, with_trace}
-pub use Rattle.dspec_cpu.specs.Words.{with_values, WithService, words_of, worn_of}
+pub use Rattle.dspec_cpu.specs.Words.{OffersValues, OpensOne, RecordsValues, schema_of, seat_of, ServesOnce, settled_did, SpeculatesOne, takes_values, TracesOne, waiting, with_values, WithService}
+pub use Rattle.dspec_cpu.specs.Words.{words_of, worn_of}
 pub use Rattle.dspec_cpu.specs.declared.cpu.Cpu.{Cpu}
 pub use Rattle.dspec_cpu.specs.declared.shared.Shared.{Shared}
 pub use Rattle.dspec_session_core.specs.Leaving.{Has}
-pub use Rattle.dspec_session_core.specs.Words.{AllSteady, Asked, called_at, Cleaned, ClosesAs, Consuming, entered_at, FoundNone, GaveBack, HasAt, HoldInOrder, HoldRecords, IsClosedBy, IsConsumerOf}
-pub use Rattle.dspec_session_core.specs.Words.{IsFresh, IsNotTakenBack, IsPromised, IsPromisedBy, IsSession, KeepsPage, set_up_of, Stays, taken_at, Took, view_of, worn_at}
+pub use Rattle.dspec_session_core.specs.Words.{AllSteady, Asked, called_at, Cleaned, ClosesAs, Consuming, entered_at, FoundNone, GaveBack, HasAt, HoldInOrder, HoldRecords, IsConsumerOf, IsFresh}
+pub use Rattle.dspec_session_core.specs.Words.{IsNotTakenBack, IsPromised, IsPromisedBy, IsSession, KeepsPage, set_up_of, Stays, taken_at, Took, view_of, worn_at}
 pub use Rattle.dspec_session_core.specs.declared.left.Left.{Left}
 pub use Rattle.dspec_session_core.specs.declared.session.Session.{Session}
 pub use Rattle.dspec_probe.specs.Words.{Declared, probed_record, told_record, told_text}

@@ -10,10 +10,9 @@ pub use Rattle.dspec_word.specs.declared.code.Code.TheVariants.{Active, Discardi
 pub use Rattle.dspec_deeds.specs.Own.{taken}
 pub use Rattle.dspec_deeds.specs.Words.{accepted, ack, active, author, batch_records, batches, callers, calls, CanClose, closed_cpus, closed_slot, closed_slots, closing, committed, contents}
 pub use Rattle.dspec_deeds.specs.Words.{CpuLegal, decided_stopped, discarded, empty_batch, fits_held, fits_principal, fits_speculative, growing, halted, HasAuthors, Headline, held, in_range}
-pub use Rattle.dspec_deeds.specs.Words.{is_among, is_commit, is_copied, is_discard, is_drop, is_granted, is_lost, is_open, is_undecided, IsAllowed, IsLegal, IsSound, issue, last_called, mark}
-pub use Rattle.dspec_deeds.specs.Words.{missed_busy, numbers_below, Offer, offers, one_if, own_side, OwnState, part, present, ReadsApart, report, reports, Ruling, same_actor, Sealing, seals}
-pub use Rattle.dspec_deeds.specs.Words.{seals_now, settle_fate, settled_fate, SettlesAs, ShowsOwnState, speculative, spoken_granted, start_fault, stream, streams, total, trace_kept, undecided}
-pub use Rattle.dspec_deeds.specs.Words.{verdict, word_at}
+pub use Rattle.dspec_deeds.specs.Words.{is_among, is_commit, is_copied, is_discard, is_granted, is_lost, is_open, is_undecided, IsAllowed, IsLegal, IsSound, issue, last_called, mark, missed_busy}
+pub use Rattle.dspec_deeds.specs.Words.{numbers_below, Offer, own_side, OwnState, part, present, ReadsApart, report, reports, Ruling, same_actor, Sealing, seals, seals_now, settle_fate}
+pub use Rattle.dspec_deeds.specs.Words.{settled_fate, SettlesAs, ShowsOwnState, speculative, spoken_granted, start_fault, stream, streams, trace_kept, undecided, verdict, word_at}
 pub use Rattle.dspec_deeds.specs.declared.calls.Actor.{Actor}
 pub use Rattle.dspec_deeds.specs.declared.calls.Actor.TheVariants.{Cpu, Cpu as CpuActor}
 pub use Rattle.dspec_deeds.specs.declared.calls.Answer.{Answer}
@@ -30,7 +29,7 @@ pub use Rattle.dspec_deeds.specs.declared.deed.Deed.TheVariants.{Commit, Discard
 pub use Rattle.dspec_deeds.specs.declared.deed.SpeculateFate.{SpeculateFate}
 pub use Rattle.dspec_deeds.specs.declared.deed.TraceFate.{TraceFate}
 pub use Rattle.dspec_deeds.specs.declared.report.Report.{Report}
-pub use Rattle.dspec_cpu_state.specs.Words.{counts_of, HasRoom, IsCaller, IsFilledWith, IsRoomy, parts_of_side, ShowsList, with_decided, with_fate}
+pub use Rattle.dspec_cpu_state.specs.Words.{counts_of, HasRoom, IsCaller, IsFilledWith, IsRoomy, parts_of_side, report_of, ShowsList, with_decided, with_fate}
 pub use Rattle.dspec_cpu_state.specs.declared.counts.Counts.{Counts}
 pub use Rattle.dspec_cpu_state.specs.declared.cpu_state.CpuState.{CpuState}
 pub use Rattle.dspec_interleaving.specs.Words.{all_ran, all_turned, asked, at_start, batch_at, begin_consumer, begin_cpu, begun_consumer, call_step, changes, cleaned_to, committed_by}

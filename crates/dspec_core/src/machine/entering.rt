@@ -1,5 +1,8 @@
 //! What each deed makes of a machine. Room is taken first, so that a refused growth changes nothing.
-ghost use Rattle.std.specs.Prelude.{◌≡◌, ◌<◌, OnOk, OnErr};
+ghost use Rattle.std.specs.Prelude.{◌≡◌, ◌<◌, ◌++◌, ◌^◌, List, [], ◌∷◌, length, map, reverse, OnOk, OnErr, if◌then◌else◌};
+ghost use Rattle.dspec_record.specs.Record.{Record};
+ghost use Rattle.dspec_buffer.specs.Extent.{one};
+ghost use Rattle.dspec_deeds.specs.FateKinds.{is_copied};
 ghost use Rattle.dspec_core.specs.{Machines.Adds, Machines.IsShownMachine, Table.entry_deeds, Worlds.MayCome};
 
 mod deciding;
@@ -11,9 +14,11 @@ mod tracing;
 use crate::machine::Machine;
 use crate::machine::decision::Decision;
 use crate::machine::seen::Entry;
+use crate::machine::walking::append_records;
 use dspec_buffer::TraceBuffer;
 use dspec_deeds::{DecideFate, Deed};
-use dspec_record::Schema;
+use dspec_interleaving::Series;
+use dspec_record::{Rec, Schema};
 use std::alloc::AllocError;
 
 impl<S: Schema, B: TraceBuffer<S>> Machine<S, B> {
@@ -48,6 +53,37 @@ impl<S: Schema, B: TraceBuffer<S>> Machine<S, B> {
             Entry::Alone(id, count) => {
                 self.enter_solo_discard(cpu, id, DecideFate::Thrown(count))
             }
+        }
+    }
+}
+
+// Enters a deed that ends the block of a speculative buffer: its records go to the stream where the fate copies them. A refused
+// growth changes nothing.
+#[tactic(auto, using(crate::proofs::Batches::records_of_ones))]
+fn enter_block<S: Schema, B: TraceBuffer<S>>(
+    deeds: &mut Series<Deed>,
+    deed: Deed,
+    accepted: &mut Series<Rec>,
+    schema: &S,
+    block: &B,
+    fate: DecideFate,
+) -> Result<(), AllocError>
+    ensures deeds { OnOk result (deeds.new ≡ deeds.old ++ deed ∷ []) }
+    ensures countable { OnOk result (length deeds.new < 2 ^ 64) }
+    ensures streamed { OnOk result ((rs : List Record) → B.has block.now schema.now (map one rs) → accepted.new ≡ accepted.old ++ (if is_copied fate then reverse rs else [])) }
+    ensures no_deed { OnErr result (deeds.new ≡ deeds.old) }
+    ensures no_record { OnErr result (accepted.new ≡ accepted.old) }
+{
+    let before = deeds.len();
+    deeds.push(deed)?;
+    let DecideFate::Copied(_) = fate else {
+        return Ok(());
+    };
+    match append_records(accepted, schema, block) {
+        Ok(()) => Ok(()),
+        Err(refused) => {
+            deeds.truncate(before);
+            Err(refused)
         }
     }
 }

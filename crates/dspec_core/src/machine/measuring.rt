@@ -1,5 +1,5 @@
 ghost use Rattle.std.specs.Prelude.{◌≡◌, ◌<◌, None, Some, true};
-ghost use Rattle.dspec_deeds.specs.{History.in_range, History.present, Legal.IsSound, Ranges.start_fault};
+ghost use Rattle.dspec_deeds.specs.{History.in_range, Legal.IsSound, Ranges.start_fault};
 ghost use Rattle.dspec_interleaving.specs.{Calls.op_of, Calls.record_passes, Coherent.IsSlot, Coherent.progress_of};
 ghost use Rattle.dspec_core.specs.{Machines.IsShownMachine, Machines.history, Machines.state_of, Table.TellsAt, Table.TellsFit, Table.aimed, Worlds.WorldInvariant};
 
@@ -53,31 +53,22 @@ impl<S: Schema, B: TraceBuffer<S>> Machine<S, B> {
         requires slot { IsSlot self.now.config (aimed (history self.now) place.now).slot }
         ensures { result ≡ aimed (history self.now) place.now }
     {
-        match *place {
+        let slot = match *place {
             CallPlace::SpeculateLoad(id, _)
             | CallPlace::SpeculateTry(id, _, _)
             | CallPlace::CommitLoad(id)
             | CallPlace::CommitTry(id, _)
             | CallPlace::DiscardLoad(id)
-            | CallPlace::DiscardTry(id, _) => id,
+            | CallPlace::DiscardTry(id, _) => return id,
             CallPlace::ScanLoad(slot)
             | CallPlace::ScanTry(slot, _)
             | CallPlace::ServiceLoad(slot, _)
-            | CallPlace::ServiceStore(slot, _, _) => self.present(slot),
+            | CallPlace::ServiceStore(slot, _, _) => slot,
             CallPlace::Begun(_)
             | CallPlace::CommitRelease(_, _)
             | CallPlace::ServicePop
-            | CallPlace::ServicePush => self.present(1),
-        }
-    }
-
-    // The slot's present speculation.
-    fn present(&self, slot: u32) -> SpecId
-        requires shown { IsShownMachine B.has B.capacity self.now }
-        requires ranges { start_fault self.now.config ≡ None }
-        requires slot { IsSlot self.now.config slot }
-        ensures { result ≡ present slot (history self.now) }
-    {
+            | CallPlace::ServicePush => 1,
+        };
         SpecId::of(self.words[(slot - 1) as usize].issue(), slot)
     }
 

@@ -14,31 +14,7 @@ use dspec_word::{Code, Word};
 use std::alloc::{AllocError, Global};
 
 impl<S: Schema, B: TraceBuffer<S>> Machine<S, B> {
-    /// One CPU before its first call: all buffers empty, a spare in hand.
-    fn make_cpu(alloc: Global, config: &Config) -> Result<Cpu<B>, AllocError>
-        requires fine { start_fault config.now ≡ None }
-        ensures shown { IfOk result (λ cpu. (schema : S) (c : ℕ) → ShowsCpu B.has B.capacity schema config.now c [] cpu) }
-        ensures idle { IfOk result (λ cpu. cpu.progress ≡ idle_progress) }
-    {
-        let side = CpuState::<B>::make::<S>(alloc, config)?;
-        Ok(Cpu {
-            progress: CpuProgress {
-                flight: None,
-                steps: 0,
-                spare: Spare::InHand,
-                want: 0,
-                takes: 0,
-                worn: 0,
-            },
-            side,
-            second: B::make(alloc, config.bufsize)?,
-            sealed_drops: 0,
-            accepted: Series::new(alloc),
-            taken: Series::new(alloc),
-        })
-    }
-
-    /// A session before its first call.
+    /// A session before its first call: of each CPU all buffers are empty, and a spare is in hand.
     pub fn new(alloc: Global, config: Config, schema: S) -> Result<Self, AllocError>
         requires fine { start_fault config ≡ None }
         ensures kept { IfOk result (λ machine. WorldInvariant B.has B.capacity S.shape_of S.accepted machine) }
@@ -49,9 +25,24 @@ impl<S: Schema, B: TraceBuffer<S>> Machine<S, B> {
         for _ in 0..config.nspec {
             words.push(Word::of(0, Code::Inactive))?;
         }
+        let progress = CpuProgress {
+            flight: None,
+            steps: 0,
+            spare: Spare::InHand,
+            want: 0,
+            takes: 0,
+            worn: 0,
+        };
         let mut cpus = Vec::new(alloc);
         for _ in 0..config.cpus {
-            cpus.push(Self::make_cpu(alloc, &config)?)?;
+            cpus.push(Cpu {
+                progress,
+                side: CpuState::<B>::make::<S>(alloc, &config)?,
+                second: B::make(alloc, config.bufsize)?,
+                sealed_drops: 0,
+                accepted: Series::new(alloc),
+                taken: Series::new(alloc),
+            })?;
         }
         Ok(Machine {
             config,

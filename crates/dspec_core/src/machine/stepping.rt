@@ -1,13 +1,13 @@
 ghost use Rattle.std.specs.Prelude.{◌≡◌, ◌<◌, ◌^◌, Some, IfOk, OnErr};
 ghost use Rattle.dspec_deeds.specs.declared.calls.Actor.TheVariants as actor;
 ghost use Rattle.dspec_interleaving.specs.{Coherent.progress_of, Turns.step};
-ghost use Rattle.dspec_core.specs.{Machines.IsShownMachine, Machines.state_of, Steps.ConsumerStepsAs, Steps.state_with, Table.moved_by, Table.steps_behind, Worlds.WorldInvariant};
+ghost use Rattle.dspec_core.specs.{Machines.IsShownMachine, Machines.state_of, Steps.ConsumerStepsAs, Steps.state_with, Table.moved_by, Worlds.WorldInvariant};
 
 use crate::machine::Machine;
 use crate::machine::seen::Move;
 use dspec_buffer::TraceBuffer;
 use dspec_deeds::{Answer, ConsumerOp};
-use dspec_interleaving::{CallPlace, ConsumerFlight};
+use dspec_interleaving::ConsumerFlight;
 use dspec_record::Schema;
 use std::alloc::AllocError;
 
@@ -22,7 +22,10 @@ impl<S: Schema, B: TraceBuffer<S>> Machine<S, B> {
         ensures schema { self.new.schema ≡ self.old.schema }
     {
         let own = &mut self.cpus[cpu as usize];
-        own.progress.steps = count_steps(own.progress.steps, step.flight);
+        own.progress.steps = match step.flight {
+            Some(_) => own.progress.steps + 1,
+            None => 0,
+        };
         own.progress.flight = step.flight;
         own.progress.spare = step.spare;
         own.progress.worn = step.worn;
@@ -90,16 +93,5 @@ impl<S: Schema, B: TraceBuffer<S>> Machine<S, B> {
             None => Ok(None),
             Some(flight) => self.step_consumer_flight(flight),
         }
-    }
-}
-
-// How many steps the call in flight has made behind one more.
-fn count_steps(steps: u32, flight: Option<CallPlace>) -> u32
-    requires { steps < 2 ^ 31 }
-    ensures { result ≡ steps_behind steps flight }
-{
-    match flight {
-        Some(_) => steps + 1,
-        None => 0,
     }
 }

@@ -48,7 +48,10 @@ impl Seen {
             CallPlace::CommitLoad(id) => self.loads_commit(id),
             CallPlace::CommitTry(id, from) => self.tries_commit(id, from),
             CallPlace::CommitRelease(id, fate) => {
-                self.ends_with(Deed::Release(id.slot()), Answer::Decided(fate.answer()))
+                self.ends(
+                    Entry::One(Deed::Release(id.slot())),
+                    Answer::Decided(fate.answer()),
+                )
             }
             CallPlace::DiscardLoad(id) => self.loads_discard(id),
             CallPlace::DiscardTry(id, from) => self.tries_discard(id, from),
@@ -72,7 +75,10 @@ impl Seen {
         } else {
             (TraceFate::Dropped, Traced::Dropped)
         };
-        self.ends_with(Deed::Trace(self.cpu, rec, fate), Answer::Traced(answer))
+        self.ends(
+            Entry::One(Deed::Trace(self.cpu, rec, fate)),
+            Answer::Traced(answer),
+        )
     }
 
     fn begins_scan(&self) -> Move
@@ -83,7 +89,7 @@ impl Seen {
         }
         let deed = Deed::Scan(self.cpu, !self.stopped);
         if self.stopped {
-            return self.ends_with(deed, Answer::Opening(Opening::Stopped));
+            return self.ends(Entry::One(deed), Answer::Opening(Opening::Stopped));
         }
         self.goes_on(Entry::One(deed), CallPlace::ScanLoad(1))
     }
@@ -96,13 +102,13 @@ impl Seen {
         }
         if self.stopped {
             let deed = Deed::Speculate(self.cpu, id, rec, SpeculateFate::Stopped);
-            return self.ends_with(deed, Answer::Spoken(Spoken::Stopped));
+            return self.ends(Entry::One(deed), Answer::Spoken(Spoken::Stopped));
         }
         if self.has_slot(id) {
             return self.goes_on(Entry::Nothing, CallPlace::SpeculateLoad(id, rec));
         }
         let deed = Deed::Speculate(self.cpu, id, rec, SpeculateFate::Void);
-        self.ends_with(deed, Answer::Spoken(Spoken::Void))
+        self.ends(Entry::One(deed), Answer::Spoken(Spoken::Void))
     }
 
     fn begins_commit(&self, id: SpecId) -> Move
@@ -113,13 +119,13 @@ impl Seen {
         }
         if self.stopped {
             let deed = Deed::Commit(self.cpu, id, DecideFate::Stopped);
-            return self.ends_with(deed, Answer::Decided(Decided::Stopped));
+            return self.ends(Entry::One(deed), Answer::Decided(Decided::Stopped));
         }
         if self.has_slot(id) {
             return self.goes_on(Entry::Nothing, CallPlace::CommitLoad(id));
         }
         let deed = Deed::Commit(self.cpu, id, DecideFate::Void);
-        self.ends_with(deed, Answer::Decided(Decided::Void))
+        self.ends(Entry::One(deed), Answer::Decided(Decided::Void))
     }
 
     fn begins_discard(&self, id: SpecId) -> Move
@@ -130,13 +136,13 @@ impl Seen {
         }
         if self.stopped {
             let deed = Deed::Discard(self.cpu, id, DecideFate::Stopped);
-            return self.ends_with(deed, Answer::Decided(Decided::Stopped));
+            return self.ends(Entry::One(deed), Answer::Decided(Decided::Stopped));
         }
         if self.has_slot(id) {
             return self.goes_on(Entry::Nothing, CallPlace::DiscardLoad(id));
         }
         let deed = Deed::Discard(self.cpu, id, DecideFate::Void);
-        self.ends_with(deed, Answer::Decided(Decided::Void))
+        self.ends(Entry::One(deed), Answer::Decided(Decided::Void))
     }
 
     // The load of the ask, which seals where the CPU is asked and has a spare in hand; where a full buffer closes, that of the first
@@ -249,7 +255,10 @@ impl Seen {
             return self.misses(slot);
         }
         let id = SpecId::of(from.issue(), slot);
-        self.ends_with(Deed::Opened(self.cpu, id), Answer::Opening(Opening::Id(id)))
+        self.ends(
+            Entry::One(Deed::Opened(self.cpu, id)),
+            Answer::Opening(Opening::Id(id)),
+        )
     }
 
     // Behind the miss of a slot: the next one, or the call has failed.
@@ -265,7 +274,7 @@ impl Seen {
             } else {
                 Opening::Unavailable
             };
-            return self.ends_with(deed, Answer::Opening(opening));
+            return self.ends(Entry::One(deed), Answer::Opening(opening));
         }
         self.goes_on(Entry::One(deed), CallPlace::ScanLoad(slot + 1))
     }
@@ -282,7 +291,7 @@ impl Seen {
             }
             _ => {
                 let deed = Deed::Speculate(self.cpu, id, rec, SpeculateFate::Void);
-                self.ends_with(deed, Answer::Spoken(Spoken::Void))
+                self.ends(Entry::One(deed), Answer::Spoken(Spoken::Void))
             }
         }
     }
@@ -306,10 +315,8 @@ impl Seen {
         } else {
             (SpeculateFate::Dropped, Spoken::Dropped)
         };
-        self.ends_with(
-            Deed::Speculate(self.cpu, id, rec, fate),
-            Answer::Spoken(answer),
-        )
+        let deed = Deed::Speculate(self.cpu, id, rec, fate);
+        self.ends(Entry::One(deed), Answer::Spoken(answer))
     }
 
     fn loads_commit(&self, id: SpecId) -> Move
@@ -320,7 +327,7 @@ impl Seen {
             Act::Attempt(_) => self.goes_on(Entry::Nothing, CallPlace::CommitTry(id, self.word)),
             _ => {
                 let deed = Deed::Commit(self.cpu, id, DecideFate::Void);
-                self.ends_with(deed, Answer::Decided(Decided::Void))
+                self.ends(Entry::One(deed), Answer::Decided(Decided::Void))
             }
         }
     }
@@ -348,7 +355,7 @@ impl Seen {
                 return self.goes_on(Entry::One(deed), CallPlace::CommitRelease(id, fate));
             }
         }
-        self.ends_with(deed, Answer::Decided(fate.answer()))
+        self.ends(Entry::One(deed), Answer::Decided(fate.answer()))
     }
 
     fn loads_discard(&self, id: SpecId) -> Move
@@ -359,7 +366,7 @@ impl Seen {
             Act::Attempt(_) => self.goes_on(Entry::Nothing, CallPlace::DiscardTry(id, self.word)),
             _ => {
                 let deed = Deed::Discard(self.cpu, id, DecideFate::Void);
-                self.ends_with(deed, Answer::Decided(Decided::Void))
+                self.ends(Entry::One(deed), Answer::Decided(Decided::Void))
             }
         }
     }
@@ -379,7 +386,7 @@ impl Seen {
             }
         }
         let deed = Deed::Discard(self.cpu, id, DecideFate::Thrown(self.count));
-        self.ends_with(deed, answer)
+        self.ends(Entry::One(deed), answer)
     }
 
     // Whether the identifier names a slot of the session.
@@ -425,13 +432,6 @@ impl Seen {
             entry,
             answer: Some(answer),
         }
-    }
-
-    // The call ends with one deed.
-    fn ends_with(&self, deed: Deed, answer: Answer) -> Move
-        ensures { step_of self.now result ≡ ends self.now.me (deed ∷ []) answer }
-    {
-        self.ends(Entry::One(deed), answer)
     }
 
     // The call was worn: it is counted, and enters nothing.

@@ -1,7 +1,7 @@
 -- Serves proofs. Words from the crates below, in one place. Declares nothing.
 pub use Rattle.dspec_record.specs.Words.{Record}
 pub use Rattle.dspec_record.specs.declared.field.Shape.{Shape}
-pub use Rattle.dspec_buffer.specs.Words.{block, HasPieces, Piece, Stored}
+pub use Rattle.dspec_buffer.specs.Words.{block, HasPieces, one, Piece, piece_fits, Stored}
 pub use Rattle.dspec_word.specs.Words.{awaits, CanBeReleased, code_number, commit_act, commit_at, discard_act, discard_at, is_decided, is_inactive, open_at, settle_at, SlotState, speculate_act}
 pub use Rattle.dspec_word.specs.Words.{speculate_at, Speculation, word_number}
 pub use Rattle.dspec_word.specs.declared.act.Act.{Act}
@@ -29,7 +29,7 @@ pub use Rattle.dspec_deeds.specs.declared.deed.Deed.TheVariants.{Commit, Discard
 pub use Rattle.dspec_deeds.specs.declared.deed.TraceFate.{TraceFate}
 pub use Rattle.dspec_deeds.specs.declared.report.Report.{Report}
 pub use Rattle.dspec_promise.specs.Words.{By, commit, Did, did, discard, emptied, service, speculated, traced}
-pub use Rattle.dspec_cpu_state.specs.Words.{counts_of, HasRoom, is_stopped_opening, IsCaller, IsRoomy, one_more_worn, parts_of_side, ShowsList, with_decided, with_fate, with_opening}
+pub use Rattle.dspec_cpu_state.specs.Words.{counts_of, HasRoom, is_stopped_opening, IsCaller, IsRoomy, one_more_worn, parts_of_side, report_of, ShowsList, with_decided, with_fate, with_opening}
 pub use Rattle.dspec_cpu_state.specs.declared.counts.Counts.{Counts}
 pub use Rattle.dspec_cpu_state.specs.declared.cpu_state.CpuState.{CpuState}
 pub use Rattle.dspec_interleaving.specs.Words.{idle_progress, own_closed, own_closed_slot}

@@ -4,7 +4,7 @@ use Rattle.std.proofs.lemmas.{Bool.Decides.nat_tests, List.Elements.All-head, Li
 use Rattle.std.specs.{List.flat_map, Prelude.All, Prelude.option_and_then, Prelude.unwrap_or}
 use Rattle.dspec_ctf_reading.specs.Words.{Layout, PacketRead, PartRead, read_packet, read_file, as_read, RisesFrom, last_of, stamps_of, times_of, packet_as_read, IsSoundFrom}
 use Rattle.dspec_ctf_reading.specs.declared.{events.Event.Event, folder.packet.ReadPacket.ReadPacket}
-use Rattle.dspec_ctf_reading.proofs.Bounds.{packets-on-bytes}
+use Rattle.dspec_ctf_reading.proofs.{Bounds.packets-on-bytes, Joining.some-parts}
 
 -- a list that rises, in two parts
 pub rises-append : (before : ℕ) (xs ys : List ℕ) → RisesFrom before xs → RisesFrom (last_of before xs) ys → RisesFrom before (xs ++ ys)
@@ -47,16 +47,6 @@ module _ (layout : Layout) (p : ReadPacket) (events : List Event) (begin end las
 abbrev file_by : Layout → PartRead PacketRead → Option (List PacketRead)
 file_by layout part = option_and_then (λ p. option_map (λ packets. p.0 ∷ packets) (read_file layout p.1)) part
 
--- the parts of what was read in two
-record Parts (p : PacketRead) (o : Option (List PacketRead)) (ps : List PacketRead) : Type 0 where
-  rest : List PacketRead
-  is : o ≡ Some rest
-  all : ps ≡ p ∷ rest
-
-parts : (p : PacketRead) (o : Option (List PacketRead)) (ps : List PacketRead) → option_map (λ packets. p ∷ packets) o ≡ Some ps → Parts p o ps
-parts p None ps is = absurd (cc)
-parts p (Some rest) ps is = let same : p ∷ rest ≡ ps = cc in record { rest = rest; is = refl; all = sym same }
-
 module _ (layout : Layout) (uuid : List ℕ) (cpu : ℕ) where
   pub sound-nil : (last : ℕ) (rest : List ℕ) → length rest ≡ 0 → IsSoundFrom layout uuid cpu last rest
   sound-nil last [] none = record { packets = []; read = refl; whose = All-nil (λ p. (p.uuid ≡ uuid) × (p.cpu ≡ cpu)); rises = tt }
@@ -75,20 +65,19 @@ module _ (layout : Layout) (uuid : List ℕ) (cpu : ℕ) where
 
   pub sound-back : (last : ℕ) (rest behind : List ℕ) (p : PacketRead) → 0 < length rest → read_packet layout rest ≡ Some (p, behind) → IsSoundFrom layout uuid cpu last rest → Back last behind p
   sound-back last rest behind p some is sound =
-      let two : Parts p (read_file layout behind) sound.packets =
-      parts p (read_file layout behind) sound.packets (sym (ap (file_by layout) is) ∙ sym (packets-on-bytes layout rest some) ∙ sound.read) in
-      let whose : All (λ q. (q.uuid ≡ uuid) × (q.cpu ≡ cpu)) (p ∷ two.rest) = subst (All (λ q. (q.uuid ≡ uuid) × (q.cpu ≡ cpu))) two.all sound.whose in
-      let rises : RisesFrom last (times_of p ++ flat_map times_of two.rest) = subst (λ ps. RisesFrom last (flat_map times_of ps)) two.all sound.rises in
-      let first = All-head (λ q. (q.uuid ≡ uuid) × (q.cpu ≡ cpu)) p two.rest whose in
+      let two = some-parts p (read_file layout behind) sound.packets (sym (ap (file_by layout) is) ∙ sym (packets-on-bytes layout rest some) ∙ sound.read) in
+      let whose : All (λ q. (q.uuid ≡ uuid) × (q.cpu ≡ cpu)) (p ∷ two.0) = subst (All (λ q. (q.uuid ≡ uuid) × (q.cpu ≡ cpu))) (sym two.1.1) sound.whose in
+      let rises : RisesFrom last (times_of p ++ flat_map times_of two.0) = subst (λ ps. RisesFrom last (flat_map times_of ps)) (sym two.1.1) sound.rises in
+      let first = All-head (λ q. (q.uuid ≡ uuid) × (q.cpu ≡ cpu)) p two.0 whose in
       record {
         of_uuid = first.0;
         of_cpu = first.1;
-        rises = rises-first last (times_of p) (flat_map times_of two.rest) rises;
+        rises = rises-first last (times_of p) (flat_map times_of two.0) rises;
         sound = record {
-          packets = two.rest;
-          read = two.is;
-          whose = All-tail (λ q. (q.uuid ≡ uuid) × (q.cpu ≡ cpu)) p two.rest whose;
-          rises = rises-second last (times_of p) (flat_map times_of two.rest) rises;
+          packets = two.0;
+          read = two.1.0;
+          whose = All-tail (λ q. (q.uuid ≡ uuid) × (q.cpu ≡ cpu)) p two.0 whose;
+          rises = rises-second last (times_of p) (flat_map times_of two.0) rises;
         };
       }
 

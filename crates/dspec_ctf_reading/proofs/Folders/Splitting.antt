@@ -3,7 +3,7 @@ use Rattle.std.proofs.Common.{◌≡◌, ◌≤◌, ◌<◌, ◌+◌, ◌-◌, �
 use Rattle.std.proofs.lemmas.{Bool.Decides.nat_tests, List.drop-drop}
 use Rattle.std.specs.Prelude.{option_and_then}
 use Rattle.dspec_ctf_reading.specs.Words.{FrontRead, PartRead, read_front, PacketSplit, split_behind, split_packet, SplitsInto, AreWholeBefore}
-use Rattle.dspec_ctf_reading.proofs.{Agreeing.Agrees, Agreeing.agrees, Bounds.Leaves, Bounds.front-leaves}
+use Rattle.dspec_ctf_reading.proofs.{Agreeing.Agrees, Agreeing.agrees, Bounds.Goes, Bounds.front-goes}
 
 -- what a packet leaves
 pub record Left (bytes behind : List ℕ) : Type 0 where
@@ -16,13 +16,14 @@ go-split : (bytes : List ℕ) (front : FrontRead) (rest : List ℕ) (s : PacketS
 go-split bytes front rest s few some is = grind (arith, nat_tests, Agrees, agrees)
 
 pub left : (timed : Bool) (bytes : List ℕ) (s : PacketSplit) → split_packet timed bytes ≡ Some s → Left bytes s.behind
-unfolding Leaves
+unfolding Goes
 left timed [] s is = absurd (cc)
-left timed (b ∷ bytes) s is = go (read_front timed (b ∷ bytes)) (front-leaves timed (b ∷ bytes)) is
+left timed (b ∷ bytes) s is = go (read_front timed (b ∷ bytes)) (front-goes timed [] (b ∷ bytes)) is
   where
-    go : (part : PartRead FrontRead) → Leaves (length (b ∷ bytes) - 4) part → option_and_then (λ p. split_behind (b ∷ bytes) p.0 p.1) part ≡ Some s → Left (b ∷ bytes) s.behind
-    go None few same = absurd (cc)
-    go (Some p) few same = go-split (b ∷ bytes) p.0 p.1 s few (omega arith) same
+    go : (part : PartRead FrontRead) → Goes [] (length (b ∷ bytes) - 4) part (read_front timed ((b ∷ bytes) ++ []))
+        → option_and_then (λ p. split_behind (b ∷ bytes) p.0 p.1) part ≡ Some s → Left (b ∷ bytes) s.behind
+    go None goes same = absurd (cc)
+    go (Some p) goes same = go-split (b ∷ bytes) p.0 p.1 s goes.0 (omega arith) same
 
 -- these bytes are the others from some place on
 pub record IsTail (bytes rest : List ℕ) : Type 0 where

@@ -17,9 +17,9 @@ pub use Rattle.dspec_cpu.specs.Words.{Belongs, called, CallsMade, CpuIdentity, H
 pub use Rattle.dspec_cpu.specs.declared.cpu.Cpu.{Cpu}
 pub use Rattle.dspec_cpu.specs.declared.shared.Shared.{Shared}
 pub use Rattle.dspec_session_core.specs.Leaving.{Has}
-pub use Rattle.dspec_session_core.specs.Words.{called_at, ClosesAs, Consuming, entered_at, HasAt, IsCpuOf, IsPromisedBy, IsSession, pairs_of, taken_at, view_of, worn_at}
+pub use Rattle.dspec_session_core.specs.Words.{called_at, ClosesAs, Consuming, entered_at, HasAt, IsCpuOf, IsFresh, IsPromisedBy, IsSession, pairs_of, taken_at, view_of, worn_at}
 pub use Rattle.dspec_session_core.specs.declared.session.Session.{Session}
-pub use Rattle.dspec.specs.Words.{DecisionOn, IsOneList, IsOneListWith, IsTraced, MakesRound, OpeningOn, PassesOn, place_of, ServedOnce, ServiceOn, ThenServed}
+pub use Rattle.dspec.specs.Words.{DecisionOn, IsOneList, IsOneListWith, MakesRound, OpeningOn, PassesOn, place_of, ServedOnce, ServiceOn, ThenServed}
 pub use Rattle.dspec.specs.declared.handing.Handed.{Handed}
 pub use Rattle.dspec.specs.declared.lane.Lane.{Lane}
 pub use Rattle.dspec.specs.declared.path.Path.{Path}

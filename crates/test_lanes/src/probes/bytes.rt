@@ -64,16 +64,8 @@ impl Work<Enablings> for ByNumbers {
         let _ = lane.record(1, self.stamp(1), &[255]);
         let _ = lane.record(3, self.stamp(2), &[1, 0xfffe, 3, HALF]);
         let _ = lane.record(2, self.stamp(3), &[0xffff_ffff]);
-        let numbers = [
-            u64::MAX,
-            1,
-            0xffff_ffff,
-            65535,
-            0x80,
-            0xbf00_0000,
-            1 << 63,
-            7,
-        ];
+        let most = u64::MAX;
+        let numbers = [most, 1, 0xffff_ffff, 65535, 0x80, 0xbf00_0000, 1 << 63, 7];
         let _ = lane.record(4, self.stamp(u64::MAX), &numbers);
         let path = lane.path();
         let _ = path.record(lane, 1, self.stamp(5), &[9]);
@@ -134,28 +126,26 @@ fn declared(probes: &mut Probes<'static>) -> Result<ByProbes, Fail> {
     })
 }
 
-#[test]
-fn bytes_with_stamps(rt: HostRuntime) -> Result<(), Fail> {
-    let mut probes = Probes::new(rt.alloc());
+/// Both works leave the same bytes and the same report.
+fn agree<R: Threads + Sync>(
+    rt: &R,
+    alloc: Global,
+    probes: Probes<'static>,
+    stamps: bool,
+) -> Result<bool, Fail> {
+    let mut probes = probes;
     let by_probes = declared(&mut probes)?;
-    let (bytes, report) = came(&rt, rt.alloc(), probes.enablings(), &by_probes)?;
-    let by_numbers = ByNumbers { stamps: true };
-    let (wanted, due) = came(&rt, rt.alloc(), probes.enablings(), &by_numbers)?;
-    assert!(rt; bytes.bytes.as_slice() == wanted.bytes.as_slice());
-    assert!(rt; bytes.count == 9 && !bytes.lost && !wanted.lost);
-    assert!(rt; report == due && report.accepted == 9);
-    Ok(())
+    let (bytes, report) = came(rt, alloc, probes.enablings(), &by_probes)?;
+    let by_numbers = ByNumbers { stamps };
+    let (wanted, due) = came(rt, alloc, probes.enablings(), &by_numbers)?;
+    let same = bytes.bytes.as_slice() == wanted.bytes.as_slice() && report == due;
+    let all = bytes.count == 9 && report.accepted == 9;
+    Ok(same && all && !bytes.lost && !wanted.lost)
 }
 
 #[test]
-fn bytes_without_stamps(rt: HostRuntime) -> Result<(), Fail> {
-    let mut probes = Probes::unstamped(rt.alloc());
-    let by_probes = declared(&mut probes)?;
-    let (bytes, report) = came(&rt, rt.alloc(), probes.enablings(), &by_probes)?;
-    let by_numbers = ByNumbers { stamps: false };
-    let (wanted, due) = came(&rt, rt.alloc(), probes.enablings(), &by_numbers)?;
-    assert!(rt; bytes.bytes.as_slice() == wanted.bytes.as_slice());
-    assert!(rt; bytes.count == 9 && !bytes.lost && !wanted.lost);
-    assert!(rt; report == due && report.accepted == 9);
+fn bytes_by_probes(rt: HostRuntime) -> Result<(), Fail> {
+    assert!(rt; agree(&rt, rt.alloc(), Probes::new(rt.alloc()), true)?);
+    assert!(rt; agree(&rt, rt.alloc(), Probes::unstamped(rt.alloc()), false)?);
     Ok(())
 }

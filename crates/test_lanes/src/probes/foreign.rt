@@ -4,6 +4,7 @@ use dspec::{
     Clock, Config, Enablings, ForeignProbe, Lane, Probe, Probes, Rec, RecordSink, Recording,
     Spoken, Steps, Work, trace,
 };
+use std::alloc::Global;
 use std::test::Fail;
 
 /// A clock that stands.
@@ -52,20 +53,24 @@ impl Work<Enablings> for Tries {
     }
 }
 
+/// The schema of this program, with both probes.
+fn both_probes(alloc: Global) -> Result<(Enablings, Mixed), Fail> {
+    let (mut probes, mut others) = (Probes::new(alloc), Probes::new(alloc));
+    let own = probes.probe("own", &["a", "b"])?;
+    let foreign = others.probe("foreign", &["a", "b"])?;
+    Ok((probes.enablings(), Mixed { own, foreign }))
+}
+
 #[test]
 fn foreign_probes(rt: HostRuntime) -> Result<(), Fail> {
-    let mut probes = Probes::new(rt.alloc());
-    let own: Probe<(u64, u32)> = probes.probe("own", &["a", "b"])?;
-    let mut others = Probes::new(rt.alloc());
-    let foreign: Probe<(u64, u16)> = others.probe("foreign", &["a", "b"])?;
-    let work = Mixed { own, foreign };
-    let (config, schema) = (Config::of(1, 2, 256, 128), probes.enablings());
+    let (schema, work) = both_probes(rt.alloc())?;
+    let config = Config::of(1, 2, 256, 128);
     let mut kept = RecordSink::new(rt.alloc());
     trace(&rt, rt.alloc(), &config, schema, &work, &mut kept)?;
     let records = kept.records()?;
     same(&rt, records.len(), 1);
     for rec in &records {
-        assert!(rt; own.read(rec) == Some((2, 2)));
+        assert!(rt; work.own.read(rec) == Some((2, 2)));
     }
     let text = format!(in rt.alloc(); "{ForeignProbe}")?;
     same(&rt, text.as_str(), "the schema doesn't have the probe");
@@ -74,12 +79,8 @@ fn foreign_probes(rt: HostRuntime) -> Result<(), Fail> {
 
 #[test]
 fn foreign_probes_in_paths(rt: HostRuntime) -> Result<(), Fail> {
-    let mut probes = Probes::new(rt.alloc());
-    let own: Probe<(u64, u32)> = probes.probe("own", &["a", "b"])?;
-    let mut others = Probes::new(rt.alloc());
-    let foreign: Probe<(u64, u16)> = others.probe("foreign", &["a", "b"])?;
-    let mixed = Mixed { own, foreign };
-    let (config, schema) = (Config::of(1, 2, 256, 128), probes.enablings());
+    let (schema, mixed) = both_probes(rt.alloc())?;
+    let config = Config::of(1, 2, 256, 128);
     let (mut kept, work) = (RecordSink::new(rt.alloc()), Tries { mixed });
     trace(&rt, rt.alloc(), &config, schema, &work, &mut kept)?;
     let records = kept.records()?;

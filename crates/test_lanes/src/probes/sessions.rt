@@ -51,23 +51,14 @@ fn records_are_told(rt: HostRuntime) -> Result<(), Fail> {
     trace(&rt, rt.alloc(), &config, schema, &work, &mut told)?;
     let text = told.finish()?;
     let mut lines = text.as_str().lines();
-    same(
-        &rt,
-        lines.next(),
-        Some("cpu 0 at 10: query request=1 micros=500"),
-    );
-    same(
-        &rt,
-        lines.next(),
-        Some("cpu 0 at 11: query request=2 micros=600"),
-    );
-    same(
-        &rt,
-        lines.next(),
-        Some("cpu 0 at 12: failed code=-5 late=true load=-0.5"),
-    );
-    let last = "cpu 0 at 14: query request=18446744073709551615 micros=4294967295";
-    same(&rt, lines.next(), Some(last));
+    for line in [
+        "cpu 0 at 10: query request=1 micros=500",
+        "cpu 0 at 11: query request=2 micros=600",
+        "cpu 0 at 12: failed code=-5 late=true load=-0.5",
+        "cpu 0 at 14: query request=18446744073709551615 micros=4294967295",
+    ] {
+        same(&rt, lines.next(), Some(line));
+    }
     same(&rt, lines.next(), None);
     Ok(())
 }
@@ -94,10 +85,7 @@ fn records_of_probes(rt: HostRuntime) -> Result<(), Fail> {
     let bits = [0xffff_fffb, 1, 0xbfe0_0000_0000_0000];
     same(&rt, Some(*third), Rec::stamped(2, 12, &bits));
     let report = closed_cpu(&closed, 0).report;
-    same(
-        &rt,
-        (report.offered, report.accepted, report.discarded),
-        (5, 4, 1),
-    );
+    let counts = (report.offered, report.accepted, report.discarded);
+    same(&rt, counts, (5, 4, 1));
     Ok(())
 }

@@ -71,22 +71,7 @@ fn printed_fates(rt: HostRuntime) -> Result<(), Fail> {
     told(&rt, &DecideFate::Stopped, "stopped")
 }
 
-#[test]
-fn printed_start_faults(rt: HostRuntime) -> Result<(), Fail> {
-    for (fault, wanted) in [
-        (StartFault::Cpus, "config refused: cpus"),
-        (StartFault::Specs, "config refused: nspec"),
-        (StartFault::BufSize, "config refused: bufsize"),
-        (StartFault::SpecSize, "config refused: specsize"),
-        (StartFault::Issues, "config refused: issues"),
-        (StartFault::Calls, "config refused: calls"),
-        (StartFault::Memory, "out of memory"),
-    ] {
-        told(&rt, &fault, wanted)?;
-    }
-    Ok(())
-}
-
+/// What is refused of configurations prints what the faults `refused-..` of `examples/` have.
 #[test]
 fn printed_play_faults(rt: HostRuntime) -> Result<(), Fail> {
     for (fault, wanted) in [
@@ -99,6 +84,7 @@ fn printed_play_faults(rt: HostRuntime) -> Result<(), Fail> {
     ] {
         told(&rt, &fault, wanted)?;
     }
+    told(&rt, &StartFault::Memory, "out of memory")?;
     told(&rt, &BeginFault::NoSuchActor, "no such actor")?;
     told(&rt, &BeginFault::Busy, "actor busy")?;
     told(&rt, &BeginFault::BadRecord, "bad record")?;

@@ -1,67 +1,27 @@
 //! Configurations, series, small values and the laws.
 use super::*;
 use dspec_core::{
-    DecideFate, Series, StartFault, acceptance_law, bare_shows, bounded_steps, close_is_legal,
-    closed_for_good, empty_fits, fate_law, full_drops, never_sealed, own_parts, own_reads,
-    own_report, placed_seals, prefix_law, refused_closes, schedule_answers, schedule_legality,
-    solo_rule, weaving, whole_calls, whole_plays, whole_release, woven_close, woven_headline,
+    DecideFate, Series, acceptance_law, bare_shows, bounded_steps, close_is_legal, closed_for_good,
+    empty_fits, fate_law, full_drops, never_sealed, own_parts, own_reads, own_report, placed_seals,
+    prefix_law, refused_closes, schedule_answers, schedule_legality, solo_rule, weaving,
+    whole_calls, whole_plays, whole_release, woven_close, woven_headline,
 };
 
-/// The largest configuration.
-const LARGEST: Config = Config {
-    cpus: 64,
-    nspec: 63,
-    bufsize: 1_048_576,
-    specsize: 1_048_576,
-    max_issues: 1 << 57,
-    max_calls: 1 << 62,
-    policy: Policy::Fill,
-};
-
+/// What a configuration of sizes has beside them, and that those at their limits are allowed.
 #[test]
 fn configurations(rt: HostRuntime) {
-    let not_of_eight = Config {
-        bufsize: 12,
-        ..SMALL
-    };
-    let none = Config {
-        cpus: 0,
-        nspec: 0,
-        bufsize: 0,
-        specsize: 0,
-        max_issues: 0,
-        max_calls: 0,
-        policy: Policy::Switch,
-    };
-    let many_cpus = Config {
-        cpus: 65,
-        nspec: 64,
-        ..LARGEST
-    };
-    let many_slots = Config {
-        nspec: 64,
-        ..LARGEST
-    };
-    let worn = Config {
-        max_issues: (1 << 57) + 1,
-        max_calls: 0,
-        ..LARGEST
-    };
     let largest = Config {
+        cpus: 64,
+        nspec: 63,
+        bufsize: 1_048_576,
+        specsize: 1_048_576,
+        max_issues: 1 << 57,
+        max_calls: 1 << 62,
         policy: Policy::Switch,
-        ..LARGEST
     };
     assert_eq!(rt; Config::of(64, 63, 1_048_576, 1_048_576), largest);
-    for (config, fault) in [
-        (SMALL, None),
-        (LARGEST, None),
-        (none, Some(StartFault::Cpus)),
-        (many_cpus, Some(StartFault::Cpus)),
-        (many_slots, Some(StartFault::Specs)),
-        (not_of_eight, Some(StartFault::BufSize)),
-        (worn, Some(StartFault::Issues)),
-    ] {
-        assert_eq!(rt; config.check().err(), fault, "{config:?}");
+    for config in [SMALL, largest] {
+        assert_eq!(rt; config.check(), Ok(()), "{config:?}");
     }
 }
 

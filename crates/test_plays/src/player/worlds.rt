@@ -136,113 +136,156 @@ pub fn finish<S: Schema, B: TraceBuffer<S>>(
     Ok(true)
 }
 
-/// Records that need padding, and two that don't fit.
-fn pad_records<B: TraceBuffer<Enablings>>(rt: &(impl Abort + AllocGlobal)) -> Result<bool, Fail> {
+/// A whole play of one CPU over principal and speculative buffers of these sizes: its calls, each with the number of its steps, all that
+/// is accepted, how many records of that were taken, and its counts.
+#[derive(Drop)]
+struct Row<'a> {
+    sizes: [u32; 2],
+    policy: Policy,
+    lines: &'a [(Line, u32)],
+    stream: &'a [Rec],
+    taken: usize,
+    report: Report,
+}
+
+/// Plays a row. False where a growth was refused, which gives the world up.
+fn plays<B: TraceBuffer<Enablings>>(
+    rt: &(impl Abort + AllocGlobal),
+    row: &Row<'_>,
+) -> Result<bool, Fail> {
+    let [bufsize, specsize] = row.sizes;
     let config = Config {
-        bufsize: 32,
-        specsize: 32,
+        bufsize,
+        specsize,
+        policy: row.policy,
         ..SMALL
     };
     let mut world: World<Enablings, B> = made(rt, config, four_enablings()?)?;
-    let lines = [
-        (traces(bare(1), Traced::Kept), 1),
-        (traces(valued(2, 7), Traced::Kept), 1),
-        (traces(valued(2, 8), Traced::Dropped), 1),
-        (traces(valued(4, 9), Traced::Kept), 1),
-        (traces(bare(1), Traced::Dropped), 1),
-    ];
-    runs(rt, &mut world, &lines)?;
-    let mut report = counts(5, 3);
-    report.dropped = 2;
-    report.drops = 2;
-    finish(rt, world, &[bare(1), valued(2, 7), valued(4, 9)], report)
+    runs(rt, &mut world, row.lines)?;
+    assert!(rt; Some(world.taken(0)) == row.stream.get(..row.taken));
+    finish(rt, world, row.stream, row.report)
 }
 
-#[test]
-fn padded_records(rt: HostRuntime) -> Result<(), Fail> {
-    assert!(rt; pad_records::<ByteBuffer>(&rt)? || pad_records::<ByteBuffer>(&rt)?);
-    assert!(rt; pad_records::<ListBuffer>(&rt)? || pad_records::<ListBuffer>(&rt)?);
+/// Plays a row over both kinds of buffer.
+fn plays_both(rt: &(impl Abort + AllocGlobal), row: &Row<'_>) -> Result<(), Fail> {
+    assert!(rt; plays::<ByteBuffer>(rt, row)? || plays::<ByteBuffer>(rt, row)?);
+    assert!(rt; plays::<ListBuffer>(rt, row)? || plays::<ListBuffer>(rt, row)?);
     Ok(())
 }
 
-/// A record, then a block of one record, which has to be aligned to eight.
-fn align_block<B: TraceBuffer<DefaultAction>>(
-    rt: &(impl Abort + AllocGlobal),
-    bufsize: u32,
-    decided: Decided,
-) -> Result<World<DefaultAction, B>, Fail>
-    ensures { IfOk result (λ world. world.state.config.cpus ≡ 1) }
-{
-    let config = Config { bufsize, ..SMALL };
-    let mut world: World<DefaultAction, B> = made(rt, config, DefaultAction)?;
-    let id = SpecId::from_raw(1);
-    let lines = [
-        (traces(bare(1), Traced::Kept), 1),
-        (opens(0, Opening::Id(id)), 3),
-        (speculates(0, id, bare(1)), 3),
-        (commits(id, decided), 4),
-    ];
-    runs(rt, &mut world, &lines)?;
-    Ok(world)
+fn serves(sealed: bool) -> Line {
+    let answer = Answer::Served(Served { sealed, settled: 0 });
+    whole(0, CpuOp::Service, answer)
 }
 
-/// The block that doesn't fit, though its one record would, and the one that does.
-fn align_blocks<B: TraceBuffer<DefaultAction>>(
-    rt: &(impl Abort + AllocGlobal),
-) -> Result<bool, Fail> {
-    let mut world: World<DefaultAction, B> = align_block(rt, 8, Decided::Lost(1))?;
-    run(rt, &mut world, traces(bare(2), Traced::Kept), 1)?;
-    let mut report = counts(3, 2);
-    report.lost = 1;
-    report.drops = 1;
-    if !finish(rt, world, &[bare(1), bare(2)], report)? {
-        return Ok(false);
-    }
-    let world: World<DefaultAction, B> = align_block(rt, 16, Decided::Copied(1))?;
-    finish(rt, world, &[bare(1), bare(1)], counts(2, 2))
+/// A record for this identifier that isn't kept.
+fn wastes(id: SpecId, answer: Spoken) -> Line {
+    whole(0, CpuOp::Speculate(id, bare(1)), Answer::Spoken(answer))
 }
 
+/// Records behind a padding word fill a buffer, which is sealed and taken; two don't fit. Then a block of three enablings is lost though
+/// less would fit, and one that fits is copied. The CPU is the one caller, so the slot is given out again at once, and the old identifier is
+/// void. The buffer that was given back is a step more of the service that seals another batch; behind that a block stands at a multiple of
+/// eight.
 #[test]
-fn aligned_block(rt: HostRuntime) -> Result<(), Fail> {
-    assert!(rt; align_blocks::<ByteBuffer>(&rt)? || align_blocks::<ByteBuffer>(&rt)?);
-    assert!(rt; align_blocks::<ListBuffer>(&rt)? || align_blocks::<ListBuffer>(&rt)?);
-    Ok(())
-}
-
-/// A batch that is asked for, sealed and taken.
-fn take_batch(rt: &(impl Abort + AllocGlobal)) -> Result<bool, Fail> {
-    let mut world: World<DefaultAction, ByteBuffer> = made(rt, SMALL, DefaultAction)?;
-    let served = Served {
-        sealed: true,
-        settled: 0,
-    };
+fn switched(rt: HostRuntime) -> Result<(), Fail> {
+    let [first, second, third] = [1, 65, 129].map(SpecId::from_raw);
+    let (one, two, four) = (bare(1), valued(2, 7), valued(4, 9));
+    let three = Rec::new(3, &[171, 4660]).ok_or("two values")?;
     let took = Answer::Took {
-        drops: 0,
+        drops: 2,
         from: 0,
-        count: 1,
+        count: 3,
     };
-    let lines = [
-        (traces(bare(1), Traced::Kept), 1),
-        (consumes(ConsumerOp::Ask(0), Answer::AskDone), 1),
-        (whole(0, CpuOp::Service, Answer::Served(served)), 3),
-        (traces(bare(2), Traced::Kept), 1),
-    ];
-    runs(rt, &mut world, &lines)?;
-    assert!(rt; world.taken(0).is_empty());
-    run(rt, &mut world, consumes(ConsumerOp::Take(0), took), 1)?;
-    assert!(rt; world.taken(0) == [bare(1)].as_slice());
-    finish(rt, world, &[bare(1), bare(2)], counts(2, 2))
+    let row = Row {
+        sizes: [32, 32],
+        policy: Policy::Switch,
+        lines: &[
+            (traces(one, Traced::Kept), 1),
+            (traces(two, Traced::Kept), 1),
+            (traces(valued(2, 8), Traced::Dropped), 1),
+            (traces(four, Traced::Kept), 1),
+            (traces(one, Traced::Dropped), 1),
+            (consumes(ConsumerOp::Ask(0), Answer::AskDone), 1),
+            (serves(true), 3),
+            (consumes(ConsumerOp::Take(0), took), 1),
+            (traces(one, Traced::Kept), 1),
+            (opens(0, Opening::Id(first)), 3),
+            (speculates(0, first, one), 3),
+            (speculates(0, first, two), 2),
+            (speculates(0, first, three), 2),
+            (wastes(first, Spoken::Dropped), 2),
+            (commits(first, Decided::Lost(3)), 4),
+            (traces(one, Traced::Kept), 1),
+            (opens(0, Opening::Id(second)), 3),
+            (speculates(0, second, one), 3),
+            (speculates(0, second, two), 2),
+            (commits(second, Decided::Copied(2)), 4),
+            (wastes(first, Spoken::Void), 2),
+            (consumes(ConsumerOp::GiveBack(0), Answer::GaveBack(true)), 1),
+            (consumes(ConsumerOp::Ask(0), Answer::AskDone), 1),
+            (serves(true), 4),
+            (traces(one, Traced::Kept), 1),
+            (opens(0, Opening::Id(third)), 3),
+            (speculates(0, third, three), 3),
+            (commits(third, Decided::Copied(1)), 4),
+        ],
+        stream: &[one, two, four, one, one, one, two, one, three],
+        taken: 3,
+        report: Report {
+            dropped: 2,
+            specdropped: 1,
+            lost: 3,
+            void: 1,
+            drops: 3,
+            ..counts(16, 9)
+        },
+    };
+    plays_both(&rt, &row)
 }
 
+/// A record dropped in a speculative buffer closes nothing. One that doesn't fit closes the buffer to records that would, and to blocks
+/// that have a record. A service is the load of the one word.
 #[test]
-fn taken(rt: HostRuntime) -> Result<(), Fail> {
-    assert!(rt; take_batch(&rt)? || take_batch(&rt)?);
-    Ok(())
+fn filled(rt: HostRuntime) -> Result<(), Fail> {
+    let [first, second, third] = [1, 65, 129].map(SpecId::from_raw);
+    let row = Row {
+        sizes: [32, 16],
+        policy: Policy::Fill,
+        lines: &[
+            (opens(0, Opening::Id(first)), 3),
+            (speculates(0, first, valued(4, 5)), 3),
+            (speculates(0, first, valued(4, 6)), 2),
+            (wastes(first, Spoken::Dropped), 2),
+            (commits(first, Decided::Copied(2)), 4),
+            (traces(bare(1), Traced::Kept), 1),
+            (traces(valued(2, 7), Traced::Dropped), 1),
+            (traces(bare(1), Traced::Dropped), 1),
+            (opens(0, Opening::Id(second)), 3),
+            (speculates(0, second, bare(1)), 3),
+            (commits(second, Decided::Lost(1)), 4),
+            (opens(0, Opening::Id(third)), 3),
+            (commits(third, Decided::Copied(0)), 4),
+            (consumes(ConsumerOp::Ask(0), Answer::AskDone), 1),
+            (serves(false), 1),
+            (consumes(ConsumerOp::Take(0), Answer::TookNone), 1),
+        ],
+        stream: &[valued(4, 5), valued(4, 6), bare(1)],
+        taken: 0,
+        report: Report {
+            dropped: 2,
+            specdropped: 1,
+            lost: 1,
+            drops: 3,
+            ..counts(7, 3)
+        },
+    };
+    plays_both(&rt, &row)
 }
 
 type Small = World<DefaultAction, ListBuffer>;
 
-/// Begins a call of a CPU, and compares what that is told.
+/// Begins a call of an actor, and compares what that is told.
 fn begins(rt: &impl Abort, world: &mut Small, cpu: u32, op: CpuOp, told: Result<(), BeginFault>)
     ensures { world.new.state.config ≡ world.old.state.config }
 {
@@ -279,7 +322,7 @@ fn no_record() -> CpuOp {
     CpuOp::Trace(bare(0))
 }
 
-/// Begins and steps that are refused, while both actors are idle and then while both are busy.
+/// Begins and steps that are refused, while both actors are idle and then while both are busy. No schema has the record.
 #[test]
 fn refused_calls(rt: HostRuntime) -> Result<(), Fail> {
     let mut world: Small = made(&rt, SMALL, DefaultAction)?;
@@ -310,10 +353,26 @@ fn refused_calls(rt: HostRuntime) -> Result<(), Fail> {
     Ok(())
 }
 
-/// A world isn't made of a configuration with a fault.
+/// Of a configuration with a fault neither a world is made nor a play; the first of two is told.
 #[test]
-fn refused_world(rt: HostRuntime) {
-    let config = Config { cpus: 65, ..SMALL };
-    let refused = World::<DefaultAction, ListBuffer>::new(rt.alloc(), config, DefaultAction).err();
-    assert_eq!(rt; refused, Some(StartFault::Cpus));
+fn refused_configurations(rt: HostRuntime) {
+    for ([cpus, nspec, bufsize, specsize], max_issues, max_calls, fault) in [
+        ([65, 64, 8, 8], 8, 8, StartFault::Cpus),
+        ([1, 64, 12, 8], 8, 8, StartFault::Specs),
+        ([1, 1, 12, 0], 8, 8, StartFault::BufSize),
+        ([1, 1, 8, 0], 0, 8, StartFault::SpecSize),
+        ([1, 1, 8, 8], (1 << 57) + 1, 0, StartFault::Issues),
+        ([1, 1, 8, 8], 8, 0, StartFault::Calls),
+    ] {
+        let config = Config {
+            max_issues,
+            max_calls,
+            ..Config::of(cpus, nspec, bufsize, specsize)
+        };
+        assert_eq!(rt; config.check().err(), Some(fault));
+        let made = World::<DefaultAction, ByteBuffer>::new(rt.alloc(), config, DefaultAction);
+        assert_eq!(rt; made.err(), Some(fault));
+        let told = played(&rt, &config, &[]).err();
+        assert_eq!(rt; told, Some(PlayFault::Setup(fault)));
+    }
 }

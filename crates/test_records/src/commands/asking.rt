@@ -36,33 +36,15 @@ fn told(alloc: Global, texts: &[&str]) -> Result<String, AllocError> {
 }
 
 #[test]
-fn words_that_are_taken(rt: HostRuntime) -> Result<(), Fail> {
-    same(&rt, told(rt.alloc(), &["greet"])?.as_str(), "found nobody");
-    same(
-        &rt,
-        told(rt.alloc(), &["greet", "you"])?.as_str(),
-        "found you",
-    );
-    same(
-        &rt,
-        told(rt.alloc(), &["greet", "--help"])?.as_str(),
-        "text",
-    );
-    Ok(())
-}
-
-#[test]
-fn words_that_are_refused(rt: HostRuntime) -> Result<(), Fail> {
-    let usage = "4 usage: greet [NAME]";
-    same(
-        &rt,
-        told(rt.alloc(), &["greet", "you", "too"])?.as_str(),
-        usage,
-    );
-    same(
-        &rt,
-        told(rt.alloc(), &["greet", "--loudly"])?.as_str(),
-        usage,
-    );
+fn words_that_are_taken_or_refused(rt: HostRuntime) -> Result<(), Fail> {
+    for (words, wanted) in [
+        (["greet"].as_slice(), "found nobody"),
+        (&["greet", "you"], "found you"),
+        (&["greet", "--help"], "text"),
+        (&["greet", "you", "too"], "4 usage: greet [NAME]"),
+        (&["greet", "--loudly"], "4 usage: greet [NAME]"),
+    ] {
+        same(&rt, told(rt.alloc(), words)?.as_str(), wanted);
+    }
     Ok(())
 }

@@ -35,22 +35,14 @@ fn probes_without_stamps(rt: HostRuntime) -> Result<(), Fail> {
 /// The fields of each number of types, in their order.
 #[test]
 fn fields_of_tuples(rt: HostRuntime) {
-    let one = <(i8,)>::fields();
-    same(&rt, one.as_slice(), [Field::One].as_slice());
+    let lone = <(i8,)>::fields();
+    same(&rt, lone.as_slice(), [Field::One].as_slice());
     let three = <(u8, u16, f64)>::fields();
     let wanted = [Field::One, Field::Two, Field::Eight];
     same(&rt, three.as_slice(), wanted.as_slice());
     let eight = <(u8, i16, u32, i64, bool, f32, f64, u16)>::fields();
-    let wanted = [
-        Field::One,
-        Field::Two,
-        Field::Four,
-        Field::Eight,
-        Field::One,
-        Field::Four,
-        Field::Eight,
-        Field::Two,
-    ];
+    let [one, two, four, wide] = [Field::One, Field::Two, Field::Four, Field::Eight];
+    let wanted = [one, two, four, wide, one, four, wide, two];
     same(&rt, eight.as_slice(), wanted.as_slice());
 }
 
@@ -67,11 +59,8 @@ fn declarations_refused(rt: HostRuntime) -> Result<(), Fail> {
     }
     let one_more = probes.probe::<(u8,)>("one more", &["one"]).err();
     same(&rt, one_more, Some(ProbeFault::TooMany));
-    same(
-        &rt,
-        (probes.names().len(), probes.enablings().count()),
-        (64, 64),
-    );
+    let counts = (probes.names().len(), probes.enablings().count());
+    same(&rt, counts, (64, 64));
     Ok(())
 }
 
@@ -102,11 +91,8 @@ fn kinds_of_tuples(rt: HostRuntime) -> Result<(), Fail> {
         return Err(Fail::from("one name"));
     };
     let [a, b, c, behind, ..] = names.kinds;
-    same(
-        &rt,
-        (a, b, c, behind),
-        (Kind::Signed, Kind::Unsigned, Kind::Float, Kind::Unsigned),
-    );
+    let wanted = [Kind::Signed, Kind::Unsigned, Kind::Float, Kind::Unsigned];
+    same(&rt, [a, b, c, behind], wanted);
     assert!(rt; names.labels.is_none());
     Ok(())
 }

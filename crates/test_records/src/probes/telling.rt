@@ -24,11 +24,8 @@ fn record_is_told(rt: HostRuntime) -> Result<(), Fail> {
     let Some(told) = probes.tell(&begin.rec(1500, (7, 1))) else {
         return Err("a record of no probe".into());
     };
-    same(
-        &rt,
-        told.to_string(alloc)?.as_str(),
-        "begin request=7 number=1",
-    );
+    let text = told.to_string(alloc)?;
+    same(&rt, text.as_str(), "begin request=7 number=1");
     Ok(())
 }
 
@@ -50,22 +47,15 @@ fn values_are_told_by_their_kinds(rt: HostRuntime) -> Result<(), Fail> {
     };
     let wanted = "all small=-1 signed=-300 wide=-9223372036854775808 is=true short=0.5 long=-2";
     same(&rt, told.to_string(alloc)?.as_str(), wanted);
-    let Some(told) = probes.tell(&named.rec(0, (1, -3, true))) else {
-        return Err("a record of no probe".into());
-    };
-    same(
-        &rt,
-        told.to_string(alloc)?.as_str(),
-        "named operation=put by=-3 is=yes",
-    );
-    let Some(told) = probes.tell(&named.rec(0, (2, 3, false))) else {
-        return Err("a record of no probe".into());
-    };
-    same(
-        &rt,
-        told.to_string(alloc)?.as_str(),
-        "named operation=2 by=3 is=no",
-    );
+    for (values, line) in [
+        ((1, -3, true), "named operation=put by=-3 is=yes"),
+        ((2, 3, false), "named operation=2 by=3 is=no"),
+    ] {
+        let Some(told) = probes.tell(&named.rec(0, values)) else {
+            return Err("a record of no probe".into());
+        };
+        same(&rt, told.to_string(alloc)?.as_str(), line);
+    }
     Ok(())
 }
 
@@ -74,31 +64,21 @@ fn texts_are_told_between_quotes(rt: HostRuntime) -> Result<(), Fail> {
     let alloc = rt.alloc();
     let mut probes = Probes::unstamped(alloc);
     let query: Probe<(u64, Text<4>, u8)> = probes.probe("query", &["request", "sql", "by"])?;
-    let wanted: [(&str, &str); 5] = [
-        ("select 1", "query request=7 sql=\"select 1\" by=3"),
-        ("", "query request=7 sql=\"\" by=3"),
-        (
-            "a \"b\" \\",
-            "query request=7 sql=\"a \\\"b\\\" \\\\\" by=3",
-        ),
-        ("a\nb", "query request=7 sql=\"a\\x0ab\" by=3"),
-        (
-            "gr\u{fc}n \u{20ac}",
-            "query request=7 sql=\"gr\u{fc}n \u{20ac}\" by=3",
-        ),
+    let texts: [(Text<4>, &str); 6] = [
+        (Text::of("select 1"), "select 1"),
+        (Text::of(""), ""),
+        (Text::of("a \"b\" \\"), "a \\\"b\\\" \\\\"),
+        (Text::of("a\nb"), "a\\x0ab"),
+        (Text::of("gr\u{fc}n \u{20ac}"), "gr\u{fc}n \u{20ac}"),
+        (Text::of_bytes(&[b'a', 0xff, 0xc3]), "a\\xff\\xc3"),
     ];
-    for (text, line) in wanted {
-        let Some(told) = probes.tell(&query.rec(0, (7, Text::of(text), 3))) else {
+    for (text, shown) in texts {
+        let Some(told) = probes.tell(&query.rec(0, (7, text, 3))) else {
             return Err("a record of no probe".into());
         };
-        same(&rt, told.to_string(alloc)?.as_str(), line);
+        let line = format!(in alloc; "query request=7 sql=\"{shown}\" by=3")?;
+        same(&rt, told.to_string(alloc)?.as_str(), line.as_str());
     }
-    let broken = Text::of_bytes(&[b'a', 0xff, 0xc3]);
-    let Some(told) = probes.tell(&query.rec(0, (7, broken, 3))) else {
-        return Err("a record of no probe".into());
-    };
-    let line = "query request=7 sql=\"a\\xff\\xc3\" by=3";
-    same(&rt, told.to_string(alloc)?.as_str(), line);
     Ok(())
 }
 

@@ -27,17 +27,15 @@ fn keeps(
 
 #[test]
 fn texts_that_have_room(rt: HostRuntime) -> Result<(), Fail> {
-    let alloc = rt.alloc();
-    keeps(&rt, alloc, b"", (b"", true))?;
-    keeps(&rt, alloc, b"select \"a\"\n", (b"select \"a\"\n", true))?;
-    keeps(&rt, alloc, b"fifteen bytes..", (b"fifteen bytes..", true))?;
-    keeps(
-        &rt,
-        alloc,
-        b"sixteen bytes...",
-        (b"sixteen bytes...", false),
-    )?;
-    keeps(&rt, alloc, b"up to\0the zero", (b"up to", true))?;
+    for (bytes, wanted, is_whole) in [
+        (b"".as_slice(), b"".as_slice(), true),
+        (b"select \"a\"\n", b"select \"a\"\n", true),
+        (b"fifteen bytes..", b"fifteen bytes..", true),
+        (b"sixteen bytes...", b"sixteen bytes...", false),
+        (b"up to\0the zero", b"up to", true),
+    ] {
+        keeps(&rt, rt.alloc(), bytes, (wanted, is_whole))?;
+    }
     Ok(())
 }
 
@@ -45,12 +43,8 @@ fn texts_that_have_room(rt: HostRuntime) -> Result<(), Fail> {
 #[test]
 fn texts_that_are_cut(rt: HostRuntime) -> Result<(), Fail> {
     let alloc = rt.alloc();
-    keeps(
-        &rt,
-        alloc,
-        b"seventeen bytes..",
-        (b"seventeen bytes.", false),
-    )?;
+    let wanted = (b"seventeen bytes.".as_slice(), false);
+    keeps(&rt, alloc, b"seventeen bytes..", wanted)?;
     let euros = "1234567\u{20ac}\u{20ac}\u{20ac}\u{20ac}";
     let wanted = "1234567\u{20ac}\u{20ac}\u{20ac}";
     keeps(&rt, alloc, euros.as_bytes(), (wanted.as_bytes(), false))?;
@@ -58,11 +52,7 @@ fn texts_that_are_cut(rt: HostRuntime) -> Result<(), Fail> {
     let wanted = "12345678\u{20ac}\u{20ac}..";
     keeps(&rt, alloc, later.as_bytes(), (wanted.as_bytes(), false))?;
     keeps(&rt, alloc, &[0x80; 20], (&[0x80; 16], false))?;
-    same(
-        &rt,
-        Text::<2>::of(later) == Text::of_bytes(later.as_bytes()),
-        true,
-    );
+    assert!(rt; Text::<2>::of(later) == Text::of_bytes(later.as_bytes()));
     Ok(())
 }
 

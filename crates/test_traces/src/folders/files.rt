@@ -21,11 +21,8 @@ fn endings(rt: HostRuntime) -> Result<(), Fail> {
     let mut longer = FILE;
     longer[42] = 1;
     longer[50] = 1;
-    same(
-        &rt,
-        ending_of(true, &UUID, &longer),
-        Ending::Broken(0, PacketReadFault::BehindFile(66_200)),
-    );
+    let broken = Ending::Broken(0, PacketReadFault::BehindFile(66_200));
+    same(&rt, ending_of(true, &UUID, &longer), broken);
     longer[83] = 0;
     same(&rt, ending_of(true, &UUID, &longer), Ending::Cut(0));
     Ok(())
@@ -49,11 +46,8 @@ fn endings_of_filled_packets(rt: HostRuntime) {
     same(&rt, whole_len(true, &bytes), 224);
     same(&rt, ending_of(true, &UUID, &bytes), Ending::Whole);
     for length in 97..224 {
-        same(
-            &rt,
-            ending_of(true, &UUID, &bytes[..length]),
-            Ending::Cut(96),
-        );
+        let found = ending_of(true, &UUID, &bytes[..length]);
+        same(&rt, found, Ending::Cut(96));
     }
 }
 
@@ -83,17 +77,14 @@ fn checks_of_filled_packets(rt: HostRuntime) -> Result<(), Fail> {
     let mut bytes = filled();
     same(&rt, wrong_in(rt.alloc(), &bytes)?, None);
     bytes[168] = 10;
-    let falls = Some(FileFault {
-        at: 179,
-        wrong: Wrong::Falls { from: 10, to: 9 },
-    });
-    same(&rt, wrong_in(rt.alloc(), &bytes)?, falls);
+    let at = 179;
+    let wrong = Wrong::Falls { from: 10, to: 9 };
+    let found = wrong_in(rt.alloc(), &bytes)?;
+    same(&rt, found, Some(FileFault { at, wrong }));
     bytes[179] = 4;
-    let unknown = Some(FileFault {
-        at: 179,
-        wrong: Wrong::Event(EventFault::Unknown(4)),
-    });
-    same(&rt, wrong_in(rt.alloc(), &bytes)?, unknown);
+    let wrong = Wrong::Event(EventFault::Unknown(4));
+    let found = wrong_in(rt.alloc(), &bytes)?;
+    same(&rt, found, Some(FileFault { at, wrong }));
     Ok(())
 }
 
@@ -101,70 +92,46 @@ fn checks_of_filled_packets(rt: HostRuntime) -> Result<(), Fail> {
 fn checks(rt: HostRuntime) -> Result<(), Fail> {
     let alloc = rt.alloc();
     same(&rt, wrong_by(&rt, alloc, 0, 193)?, None);
-    let falls = |at, from, to| {
-        Some(FileFault {
-            at,
-            wrong: Wrong::Falls { from, to },
-        })
-    };
-    same(&rt, wrong_by(&rt, alloc, 24, 6)?, falls(68, 6, 5));
-    same(&rt, wrong_by(&rt, alloc, 32, 4)?, falls(0, 5, 4));
-    same(&rt, wrong_by(&rt, alloc, 32, 6)?, falls(83, 6, 5));
-    same(&rt, wrong_by(&rt, alloc, 155, 10)?, falls(166, 10, 9));
-    let fault = wrong_by(&rt, alloc, 19, 254)?;
-    same(
-        &rt,
-        fault,
-        Some(FileFault {
-            at: 0,
-            wrong: Wrong::Uuid,
-        }),
-    );
-    let fault = wrong_by(&rt, alloc, 64, 2)?;
-    same(
-        &rt,
-        fault,
-        Some(FileFault {
-            at: 0,
-            wrong: Wrong::Cpu(2),
-        }),
-    );
+    for (place, byte, at, wrong) in [
+        (24, 6, 68, Wrong::Falls { from: 6, to: 5 }),
+        (32, 4, 0, Wrong::Falls { from: 5, to: 4 }),
+        (32, 6, 83, Wrong::Falls { from: 6, to: 5 }),
+        (155, 10, 166, Wrong::Falls { from: 10, to: 9 }),
+        (19, 254, 0, Wrong::Uuid),
+        (64, 2, 0, Wrong::Cpu(2)),
+    ] {
+        let found = wrong_by(&rt, alloc, place, byte)?;
+        same(&rt, found, Some(FileFault { at, wrong }));
+    }
     Ok(())
 }
 
+/// Compares what is counted of files: events, missed events, packets and files, and the first and last stamp.
+fn counts_as(
+    rt: &(impl Abort + AllocGlobal),
+    files: &[&[u8]],
+    wanted: (u64, u64, u64, u64),
+    span: (u64, u64),
+) -> Result<(), Fail> {
+    let mut counts = CpuCounts::new(rt.alloc(), 1, 1)?;
+    for bytes in files {
+        let counted = count_file(rt.alloc(), &metadata(rt.alloc())?, bytes, &mut counts);
+        same(rt, counted.is_ok(), true);
+    }
+    same(rt, counts.events.as_slice() == [wanted.0].as_slice(), true);
+    let found = (counts.total(), counts.missed, counts.packets, counts.files);
+    same(rt, found, wanted);
+    same(rt, counts.span, Some(span));
+    Ok(())
+}
+
+/// The second file is of filled packets, its first event is at 2, and before its second packet three were missed.
 #[test]
 fn counts(rt: HostRuntime) -> Result<(), Fail> {
-    let mut counts = CpuCounts::new(rt.alloc(), 1, 1)?;
-    let counted = count_file(rt.alloc(), &metadata(rt.alloc())?, &FILE, &mut counts);
-    same(&rt, counted.is_ok(), true);
-    same(&rt, counts.events.as_slice() == [3].as_slice(), true);
-    same(
-        &rt,
-        (counts.total(), counts.missed, counts.packets, counts.files),
-        (3, 4, 2, 1),
-    );
-    same(&rt, counts.span, Some((5, 9)));
-    Ok(())
-}
-
-/// A second file of filled packets, whose first event is at 2, and before whose second packet three were missed.
-#[test]
-fn counts_of_two_files(rt: HostRuntime) -> Result<(), Fail> {
+    counts_as(&rt, &[&FILE], (3, 4, 2, 1), (5, 9))?;
     let mut other = filled();
     other[24] = 2;
     other[72] = 2;
     other[152] = 3;
-    let mut counts = CpuCounts::new(rt.alloc(), 1, 1)?;
-    for bytes in [FILE.as_slice(), other.as_slice()] {
-        let counted = count_file(rt.alloc(), &metadata(rt.alloc())?, bytes, &mut counts);
-        same(&rt, counted.is_ok(), true);
-    }
-    same(&rt, counts.events.as_slice() == [6].as_slice(), true);
-    same(
-        &rt,
-        (counts.total(), counts.missed, counts.packets, counts.files),
-        (6, 7, 4, 2),
-    );
-    same(&rt, counts.span, Some((2, 9)));
-    Ok(())
+    counts_as(&rt, &[&FILE, &other], (6, 7, 4, 2), (2, 9))
 }

@@ -21,11 +21,8 @@ fn merged(rt: HostRuntime) -> Result<(), Fail> {
     let mut marks = Vec::new(alloc);
     let first = marks_of(alloc, &metadata, Base::Clock, 0, &FILE[83..], &mut marks)?;
     let second = marks_of(alloc, &metadata, Base::Clock, 1, &FILE[..84], &mut marks)?;
-    same(
-        &rt,
-        (first.is_none(), second.map(|fault| fault.at)),
-        (true, Some(83)),
-    );
+    let faults = (first.is_none(), second.map(|fault| fault.at));
+    same(&rt, faults, (true, Some(83)));
     sort_by_time(&mut marks)?;
     let mut told = Vec::new(alloc);
     for mark in &marks {
@@ -46,16 +43,12 @@ fn lines(rt: HostRuntime) -> Result<(), Fail> {
     let alloc = rt.alloc();
     let metadata = metadata(alloc)?;
     let event = metadata.events.first().expect(&rt, "the event");
-    same(
-        &rt,
-        event_text(alloc, event, &[1, 65_534])?.as_str(),
-        "step status=\"not found\"(1) delta=-2",
-    );
-    same(
-        &rt,
-        event_text(alloc, event, &[2, 7])?.as_str(),
-        "step status=2 delta=7",
-    );
+    for (values, wanted) in [
+        ([1, 65_534], "step status=\"not found\"(1) delta=-2"),
+        ([2, 7], "step status=2 delta=7"),
+    ] {
+        same(&rt, event_text(alloc, event, &values)?.as_str(), wanted);
+    }
     same(&rt, missed_text(alloc, 4)?.as_str(), "(4 missed)");
     Ok(())
 }
@@ -81,17 +74,12 @@ fn texts(rt: HostRuntime) -> Result<(), Fail> {
     let low = u64::from_le_bytes(*b"say \"a\"\n");
     let high = u64::from_le_bytes(*b"\xc3\xa9\xff\\\0\0\0\0");
     let values = [7, low, high, 3];
-    same(
-        &rt,
-        event_text(alloc, &step, &values)?.as_str(),
-        "step request=7 sql=\"say \\\"a\\\"\\x0a\u{e9}\\xff\\\\\" code=3",
-    );
+    let wanted = "step request=7 sql=\"say \\\"a\\\"\\x0a\u{e9}\\xff\\\\\" code=3";
+    same(&rt, event_text(alloc, &step, &values)?.as_str(), wanted);
     let event = chrome_event(alloc, TRACK, &step, 7, &values)?;
-    same(
-        &rt,
-        event.as_str(),
-        "{\"ph\":\"i\",\"s\":\"t\",\"pid\":1,\"tid\":2,\"ts\":0.007,\"name\":\"step\",\"args\":{\"request\":7,\"sql\":\"say \\\"a\\\"\\n\u{e9}\\\\xff\\\\\",\"code\":3}}",
-    );
+    let wanted =
+        "{\"ph\":\"i\",\"s\":\"t\",\"pid\":1,\"tid\":2,\"ts\":0.007,\"name\":\"step\",\"args\":{\"request\":7,\"sql\":\"say \\\"a\\\"\\n\u{e9}\\\\xff\\\\\",\"code\":3}}";
+    same(&rt, event.as_str(), wanted);
     Ok(())
 }
 
@@ -101,21 +89,17 @@ fn chrome(rt: HostRuntime) -> Result<(), Fail> {
     let metadata = metadata(alloc)?;
     let step = metadata.events.first().expect(&rt, "the event");
     let event = chrome_event(alloc, TRACK, step, 1_002_003, &[1, 65_534])?;
-    same(
-        &rt,
-        event.as_str(),
-        "{\"ph\":\"i\",\"s\":\"t\",\"pid\":1,\"tid\":2,\"ts\":1002.003,\"name\":\"step\",\"args\":{\"status\":\"not found\",\"delta\":-2}}",
-    );
-    same(
-        &rt,
-        chrome_missed(alloc, TRACK, 7, 1 << 53)?.as_str(),
-        "{\"ph\":\"i\",\"s\":\"t\",\"pid\":1,\"tid\":2,\"ts\":0.007,\"name\":\"events missed\",\"args\":{\"missed\":\"9007199254740992\"}}",
-    );
-    same(
-        &rt,
-        chrome_name(alloc, TRACK, "process_name", "a\"b\\c\n")?.as_str(),
-        "{\"ph\":\"M\",\"pid\":1,\"tid\":2,\"name\":\"process_name\",\"args\":{\"name\":\"a\\\"b\\\\c\\n\"}}",
-    );
+    let wanted =
+        "{\"ph\":\"i\",\"s\":\"t\",\"pid\":1,\"tid\":2,\"ts\":1002.003,\"name\":\"step\",\"args\":{\"status\":\"not found\",\"delta\":-2}}";
+    same(&rt, event.as_str(), wanted);
+    let wanted =
+        "{\"ph\":\"i\",\"s\":\"t\",\"pid\":1,\"tid\":2,\"ts\":0.007,\"name\":\"events missed\",\"args\":{\"missed\":\"9007199254740992\"}}";
+    let text = chrome_missed(alloc, TRACK, 7, 1 << 53)?;
+    same(&rt, text.as_str(), wanted);
+    let wanted =
+        "{\"ph\":\"M\",\"pid\":1,\"tid\":2,\"name\":\"process_name\",\"args\":{\"name\":\"a\\\"b\\\\c\\n\"}}";
+    let text = chrome_name(alloc, TRACK, "process_name", "a\"b\\c\n")?;
+    same(&rt, text.as_str(), wanted);
     Ok(())
 }
 
@@ -144,10 +128,8 @@ fn chrome_infinities(rt: HostRuntime) -> Result<(), Fail> {
         0x7F80_0000,
     ];
     let event = chrome_event(alloc, TRACK, &step, 7, &values)?;
-    same(
-        &rt,
-        event.as_str(),
-        "{\"ph\":\"i\",\"s\":\"t\",\"pid\":1,\"tid\":2,\"ts\":0.007,\"name\":\"step\",\"args\":{\"a\":\"-inf\",\"b\":\"inf\",\"c\":\"-inf\",\"d\":\"inf\"}}",
-    );
+    let wanted =
+        "{\"ph\":\"i\",\"s\":\"t\",\"pid\":1,\"tid\":2,\"ts\":0.007,\"name\":\"step\",\"args\":{\"a\":\"-inf\",\"b\":\"inf\",\"c\":\"-inf\",\"d\":\"inf\"}}";
+    same(&rt, event.as_str(), wanted);
     Ok(())
 }

@@ -16,11 +16,8 @@ fn dates(rt: HostRuntime) -> Result<(), Fail> {
         (4_102_444_799, 2099, 12, 31),
     ] {
         let at = Moment::of(seconds * 1_000_000_000 + 7);
-        same(
-            &rt,
-            (at.year, at.month, at.day, at.nanosecond),
-            (year, month, day, 7),
-        );
+        let found = (at.year, at.month, at.day, at.nanosecond);
+        same(&rt, found, (year, month, day, 7));
     }
     let at = Moment::of(1_700_000_000_000_000_000);
     same(&rt, (at.hour, at.minute, at.second), (22, 13, 20));
@@ -39,11 +36,8 @@ fn times_of_stamps(rt: HostRuntime) -> Result<(), Fail> {
         uuid: None,
         start: None,
     };
-    same(
-        &rt,
-        nanoseconds(&CLOCK, Base::Epoch, 10),
-        Some(1_700_000_000_000_000_035),
-    );
+    let found = nanoseconds(&CLOCK, Base::Epoch, 10);
+    same(&rt, found, Some(1_700_000_000_000_000_035));
     same(&rt, nanoseconds(&CLOCK, Base::Clock, 10), Some(10));
     same(&rt, nanoseconds(&thirds, Base::Epoch, 1), Some(333_333_333));
     same(&rt, nanoseconds(&none, Base::Clock, 1), None);
@@ -62,31 +56,30 @@ fn times_of_stamps(rt: HostRuntime) -> Result<(), Fail> {
 
 #[test]
 fn values(rt: HostRuntime) -> Result<(), Fail> {
-    same(
-        &rt,
-        ShownValue::of(Field::One, Kind::Unsigned, 255),
-        Some(ShownValue::Unsigned(255)),
-    );
-    same(
-        &rt,
-        ShownValue::of(Field::One, Kind::Signed, 255),
-        Some(ShownValue::Signed(-1)),
-    );
-    same(
-        &rt,
-        ShownValue::of(Field::Two, Kind::Signed, 32_768),
-        Some(ShownValue::Signed(-32_768)),
-    );
-    same(
-        &rt,
-        ShownValue::of(Field::Four, Kind::Float, 0xBFC0_0000),
-        Some(ShownValue::Single(-1.5)),
-    );
-    same(
-        &rt,
-        ShownValue::of(Field::Eight, Kind::Float, 0x3FD0_0000_0000_0000),
-        Some(ShownValue::Double(0.25)),
-    );
+    for (field, kind, number, wanted) in [
+        (Field::One, Kind::Unsigned, 255, ShownValue::Unsigned(255)),
+        (Field::One, Kind::Signed, 255, ShownValue::Signed(-1)),
+        (
+            Field::Two,
+            Kind::Signed,
+            32_768,
+            ShownValue::Signed(-32_768),
+        ),
+        (
+            Field::Four,
+            Kind::Float,
+            0xBFC0_0000,
+            ShownValue::Single(-1.5),
+        ),
+        (
+            Field::Eight,
+            Kind::Float,
+            0x3FD0_0000_0000_0000,
+            ShownValue::Double(0.25),
+        ),
+    ] {
+        same(&rt, ShownValue::of(field, kind, number), Some(wanted));
+    }
     same(&rt, ShownValue::of(Field::One, Kind::Float, 1), None);
     Ok(())
 }

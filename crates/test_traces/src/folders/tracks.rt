@@ -56,14 +56,8 @@ fn values(rt: HostRuntime) -> Result<(), Fail> {
 fn rows(rt: HostRuntime) -> Result<(), Fail> {
     let alloc = rt.alloc();
     let found = row_parts_of(alloc, &[4, 7, 7, 7, 4, 4, 9, 4])?;
-    let wanted = [
-        RowPart::Mark,
-        RowPart::Slice,
-        RowPart::Mark,
-        RowPart::Slice,
-        RowPart::Mark,
-        RowPart::Mark,
-    ];
+    let (mark, slice) = (RowPart::Mark, RowPart::Slice);
+    let wanted = [mark, slice, mark, slice, mark, mark];
     same(&rt, found.as_slice() == wanted.as_slice(), true);
     same(&rt, row_parts_of(alloc, &[])?.is_empty(), true);
     Ok(())
@@ -74,15 +68,13 @@ fn records(rt: HostRuntime) -> Result<(), Fail> {
     let alloc = rt.alloc();
     let metadata = metadata(alloc)?;
     let step = metadata.events.first().expect(&rt, "the event");
-    same(
-        &rt,
-        chrome_record(alloc, TRACK, step, FIRST)?.as_str(),
-        "{\"ph\":\"i\",\"s\":\"t\",\"pid\":1,\"tid\":70,\"ts\":1002.003,\"name\":\"step\",\"args\":{\"on cpu\":2,\"status\":\"not found\",\"delta\":-2}}",
-    );
-    same(
-        &rt,
-        chrome_slice(alloc, TRACK, step, FIRST, SECOND)?.as_str(),
-        "{\"ph\":\"X\",\"dur\":9.997,\"pid\":1,\"tid\":70,\"ts\":1002.003,\"name\":\"step\",\"args\":{\"on cpu\":2,\"status\":\"not found\",\"delta\":-2,\"on cpu at the end\":0,\"status at the end\":2,\"delta at the end\":7}}",
-    );
+    let wanted =
+        "{\"ph\":\"i\",\"s\":\"t\",\"pid\":1,\"tid\":70,\"ts\":1002.003,\"name\":\"step\",\"args\":{\"on cpu\":2,\"status\":\"not found\",\"delta\":-2}}";
+    let text = chrome_record(alloc, TRACK, step, FIRST)?;
+    same(&rt, text.as_str(), wanted);
+    let wanted =
+        "{\"ph\":\"X\",\"dur\":9.997,\"pid\":1,\"tid\":70,\"ts\":1002.003,\"name\":\"step\",\"args\":{\"on cpu\":2,\"status\":\"not found\",\"delta\":-2,\"on cpu at the end\":0,\"status at the end\":2,\"delta at the end\":7}}";
+    let text = chrome_slice(alloc, TRACK, step, FIRST, SECOND)?;
+    same(&rt, text.as_str(), wanted);
     Ok(())
 }

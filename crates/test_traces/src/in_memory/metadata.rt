@@ -61,28 +61,17 @@ fn text_of_an_identity(rt: HostRuntime) -> Result<(), Fail> {
         labels: None,
     };
     let names = [event];
-    let Ok(wanted) = metadata_from(
-        alloc,
-        &origin,
-        Form::ByTime(1000),
-        &enablings,
-        &Names::Given(&names),
-    ) else {
+    let (form, given) = (Form::ByTime(1000), Names::Given(&names));
+    let Ok(wanted) = metadata_from(alloc, &origin, form, &enablings, &given) else {
         return Err(Fail::from(std::alloc::AllocError));
     };
     let wanted = wanted.as_str().as_bytes();
     let mut room = Vec::from_elem(alloc, 0u8, wanted.len())?;
-    let put = put_metadata(
-        alloc,
-        &identity(),
-        &enablings,
-        &[b"step", b"number"],
-        &[1],
-        &mut room,
-    );
+    let names: &[&[u8]] = &[b"step", b"number"];
+    let put = put_metadata(alloc, &identity(), &enablings, names, &[1], &mut room);
     same(&rt, put, Ok(wanted.len()));
     same(&rt, room.as_slice() == wanted, true);
-    let fault = fault_of(alloc, &identity(), &enablings, &[b"step", b"number"], &[1]);
+    let fault = fault_of(alloc, &identity(), &enablings, names, &[1]);
     same(&rt, fault, Some(TextFault::TooSmall(wanted.len())));
     Ok(())
 }
@@ -91,52 +80,26 @@ fn text_of_an_identity(rt: HostRuntime) -> Result<(), Fail> {
 fn names_that_arent_allowed(rt: HostRuntime) -> Result<(), Fail> {
     let alloc = rt.alloc();
     let enablings = one_enabling()?;
-    let fault = |names: &[&[u8]], kinds: &[u8]| fault_of(
-        alloc,
-        &identity(),
-        &enablings,
-        names,
-        kinds,
-    );
-    same(&rt, fault(&[b"step"], &[0]), Some(TextFault::Count));
-    same(
-        &rt,
-        fault(&[b"step", b"number"], &[]),
-        Some(TextFault::Count),
-    );
-    same(
-        &rt,
-        fault(&[b"step", b"number", b"more"], &[0]),
-        Some(TextFault::Count),
-    );
-    same(
-        &rt,
-        fault(&[b"step", b"number"], &[5]),
-        Some(TextFault::BadKind),
-    );
     let no_text = MetadataFault::Name(NameFault::Word { epid: 1, place: 0 });
-    same(
-        &rt,
-        fault(&[b"step", b"number"], &[3]),
-        Some(TextFault::Metadata(no_text)),
-    );
-    same(
-        &rt,
-        fault(&[b"step"], &[4]),
-        Some(TextFault::Metadata(no_text)),
-    );
-    same(
-        &rt,
-        fault(&[b"step", b"num\xFF"], &[0]),
-        Some(TextFault::NotText),
-    );
     let kind = NameKind::Reserved;
     let wrong = MetadataFault::Name(NameFault::Event { epid: 1, kind });
-    same(
-        &rt,
-        fault(&[b"event", b"number"], &[0]),
-        Some(TextFault::Metadata(wrong)),
-    );
+    for (names, kinds, wanted) in [
+        (
+            [b"step".as_slice()].as_slice(),
+            [0].as_slice(),
+            TextFault::Count,
+        ),
+        (&[b"step", b"number"], &[], TextFault::Count),
+        (&[b"step", b"number", b"more"], &[0], TextFault::Count),
+        (&[b"step", b"number"], &[5], TextFault::BadKind),
+        (&[b"step", b"number"], &[3], TextFault::Metadata(no_text)),
+        (&[b"step"], &[4], TextFault::Metadata(no_text)),
+        (&[b"step", b"num\xFF"], &[0], TextFault::NotText),
+        (&[b"event", b"number"], &[0], TextFault::Metadata(wrong)),
+    ] {
+        let found = fault_of(alloc, &identity(), &enablings, names, kinds);
+        same(&rt, found, Some(wanted));
+    }
     Ok(())
 }
 
@@ -149,28 +112,18 @@ fn identities_that_arent_allowed(rt: HostRuntime) -> Result<(), Fail> {
         name: b"a\"b",
         ..identity()
     };
-    let fault = fault_of(alloc, &with_name, &enablings, &[], &[]);
-    same(
-        &rt,
-        fault,
-        Some(TextFault::Metadata(MetadataFault::ProcessName)),
-    );
     let with_hertz = TraceIdentity {
         hertz: 0,
         ..identity()
     };
-    let fault = fault_of(alloc, &with_hertz, &enablings, &[], &[]);
-    same(
-        &rt,
-        fault,
-        Some(TextFault::Metadata(MetadataFault::NoFrequency)),
-    );
-    let fault = fault_of(alloc, &identity(), &bare, &[], &[]);
-    same(
-        &rt,
-        fault,
-        Some(TextFault::Metadata(MetadataFault::NoStamp)),
-    );
+    for (identity, schema, wanted) in [
+        (with_name, &enablings, MetadataFault::ProcessName),
+        (with_hertz, &enablings, MetadataFault::NoFrequency),
+        (identity(), &bare, MetadataFault::NoStamp),
+    ] {
+        let found = fault_of(alloc, &identity, schema, &[], &[]);
+        same(&rt, found, Some(TextFault::Metadata(wanted)));
+    }
     same(&rt, CpuPackets::of(alloc, UUID, &bare, 0).is_none(), true);
     Ok(())
 }

@@ -196,13 +196,8 @@ fn what_is_lost_is_told(rt: HostRuntime) -> Result<(), Fail> {
     has_records(&rt, alloc, &mut files, 0, 0, &[10, 20])?;
     has_records(&rt, alloc, &mut files, 1, 0, &[5])?;
     same(&rt, files.lose(), 2);
-    same(
-        &rt,
-        next_of(alloc, &mut files)?
-            .0
-            .map_or(9, |packet| packet.file),
-        0,
-    );
+    let packet = next_of(alloc, &mut files)?.0;
+    same(&rt, packet.map_or(9, |packet| packet.file), 0);
     same(&rt, files.lose(), 0);
     same(&rt, files.open(1, &text_of(alloc, &[40])?), Ok(()));
     has_told(&rt, alloc, &mut files, 20, 0..3)?;

@@ -88,12 +88,8 @@ fn taken_text(rt: HostRuntime) -> Result<(), Fail> {
     same(&rt, metadata.process, None);
     same(&rt, metadata.clock, None);
     same(&rt, metadata.events.len(), 1);
-    same_field(
-        &rt,
-        &metadata,
-        0,
-        ("stamp", Field::Eight, Kind::Unsigned, 0),
-    )?;
+    let stamp = ("stamp", Field::Eight, Kind::Unsigned, 0);
+    same_field(&rt, &metadata, 0, stamp)?;
     same_field(&rt, &metadata, 1, ("arg_0", Field::One, Kind::Unsigned, 0))?;
     same_field(&rt, &metadata, 2, ("arg_1", Field::Two, Kind::Unsigned, 0))
 }
@@ -131,94 +127,94 @@ fn misread(
     refused(rt, old, new, MetadataReadFault::Line { line, expected })
 }
 
+/// The same of each row.
+fn all_misread(
+    rt: &(impl Abort + AllocGlobal),
+    rows: &[(&str, &str, u64, Expected)],
+) -> Result<(), Fail> {
+    for (old, new, line, expected) in rows {
+        misread(rt, *old, *new, *line, *expected)?;
+    }
+    Ok(())
+}
+
 #[test]
 fn other_headings(rt: HostRuntime) -> Result<(), Fail> {
-    misread(
-        &rt,
-        "size = 16; align = 8",
-        "size = 17; align = 8",
-        4,
-        Expected::Types,
-    )?;
-    let trace = "\ntrace {\n\tmajor = 1;\n\tminor = 8;\n\tuuid = \"";
-    misread(&rt, "major = 1", "major = 2", 9, Expected::Text(trace))?;
-    misread(
-        &rt,
-        "00112233-4455-6677-8899-aabbccddeeff",
-        "",
-        11,
-        Expected::Quoted,
-    )?;
-    misread(
-        &rt,
-        "byte_order = le",
-        "byte_order = be",
-        12,
-        Expected::Header,
-    )?;
-    let name = "\";\n\tprocname = \"";
-    misread(&rt, "procname", "program", 22, Expected::Text(name))?;
-    misread(&rt, "vpid = 4711", "vpid = none", 23, Expected::Number)
+    let trace = Expected::Text("\ntrace {\n\tmajor = 1;\n\tminor = 8;\n\tuuid = \"");
+    let name = Expected::Text("\";\n\tprocname = \"");
+    let rows = [
+        ("size = 16;", "size = 17;", 4, Expected::Types),
+        ("major = 1", "major = 2", 9, trace),
+        (
+            "00112233-4455-6677-8899-aabbccddeeff",
+            "",
+            11,
+            Expected::Quoted,
+        ),
+        ("byte_order = le", "byte_order = be", 12, Expected::Header),
+        ("procname", "program", 22, name),
+        ("vpid = 4711", "vpid = none", 23, Expected::Number),
+    ];
+    all_misread(&rt, &rows)
 }
 
 #[test]
 fn other_clocks(rt: HostRuntime) -> Result<(), Fail> {
-    let tracer = "\ttracer_name = \"sidingyarrow\";\n};\n";
-    misread(&rt, "sidingyarrow", "another", 24, Expected::Text(tracer))?;
-    misread(&rt, "freq = 1000000000", "freq = ", 29, Expected::Number)?;
-    misread(&rt, "offset = 25", "offset = ", 32, Expected::Number)?;
-    misread(
-        &rt,
-        "stamp_t timestamp_begin",
-        "uint64_t timestamp_begin",
-        41,
-        Expected::Stream,
-    )
+    let tracer = Expected::Text("\ttracer_name = \"sidingyarrow\";\n};\n");
+    let rows = [
+        ("sidingyarrow", "another", 24, tracer),
+        ("freq = 1000000000", "freq = ", 29, Expected::Number),
+        ("offset = 25", "offset = ", 32, Expected::Number),
+        (
+            "stamp_t timestamp_b",
+            "uint64_t timestamp_b",
+            41,
+            Expected::Stream,
+        ),
+    ];
+    all_misread(&rt, &rows)
 }
 
 #[test]
 fn other_types(rt: HostRuntime) -> Result<(), Fail> {
-    misread(&rt, "\"ok\" = 0", "\"\" = 0", 59, Expected::Quoted)?;
-    misread(&rt, "\"ok\" = 0", "\"ok\" = no", 59, Expected::Number)?;
-    misread(
-        &rt,
-        "size = 32; align = 8; signed = true",
-        "size = 24; align = 8; signed = true",
-        60,
-        Expected::Type,
-    )?;
-    misread(&rt, "enum : uint8_t", "enum : float", 59, Expected::Type)
+    let rows = [
+        ("\"ok\" = 0", "\"\" = 0", 59, Expected::Quoted),
+        ("\"ok\" = 0", "\"ok\" = no", 59, Expected::Number),
+        (
+            "32; align = 8; signed = true",
+            "24; align = 8; signed = true",
+            60,
+            Expected::Type,
+        ),
+        ("enum : uint8_t", "enum : float", 59, Expected::Type),
+    ];
+    all_misread(&rt, &rows)
 }
 
 #[test]
 fn other_names(rt: HostRuntime) -> Result<(), Fail> {
-    misread(&rt, " delta", " -delta", 60, Expected::Name)?;
-    misread(&rt, " delta", " del-ta", 60, Expected::Text(";\n"))?;
-    misread(&rt, "\tid = 2", "\tid = two", 66, Expected::Number)?;
-    let behind_name = "\";\n\tstream_id = 0;\n\tfields := struct {\n";
-    misread(&rt, "epid_2", "epid\\2", 67, Expected::Text(behind_name))?;
-    misread(&rt, "epid_2", "", 67, Expected::Quoted)
+    let behind_name = Expected::Text("\";\n\tstream_id = 0;\n\tfields := struct {\n");
+    let rows = [
+        (" delta", " -delta", 60, Expected::Name),
+        (" delta", " del-ta", 60, Expected::Text(";\n")),
+        ("\tid = 2", "\tid = two", 66, Expected::Number),
+        ("epid_2", "epid\\2", 67, behind_name),
+        ("epid_2", "", 67, Expected::Quoted),
+    ];
+    all_misread(&rt, &rows)
 }
 
 #[test]
 fn ends_of_texts(rt: HostRuntime) -> Result<(), Fail> {
     let end = "\tname = \"epid_2\";\n\tstream_id = 0;\n\tfields := struct {\n\t};\n};\n";
     let behind_end = format!(in rt.alloc(); "{end}x")?;
-    misread(
-        &rt,
-        end,
-        behind_end.as_str(),
-        72,
-        Expected::Text("\nevent {\n\tid = "),
-    )?;
+    let event = Expected::Text("\nevent {\n\tid = ");
+    misread(&rt, end, behind_end.as_str(), 72, event)?;
     let cut = "\tname = \"epid_2\";\n\tstream_id = 0;\n\tfields := struct {\n\t};\n};";
     misread(&rt, end, cut, 70, Expected::Text("\t\t"))?;
     let found = read_metadata(rt.alloc(), b"").err();
-    let wanted = MetadataReadFault::Line {
-        line: 1,
-        expected: Expected::Types,
-    };
-    same(&rt, found, Some(wanted));
+    let (line, expected) = (1, Expected::Types);
+    same(&rt, found, Some(MetadataReadFault::Line { line, expected }));
     Ok(())
 }
 
@@ -235,20 +231,14 @@ fn numbers_of_64_bits(rt: HostRuntime) -> Result<(), Fail> {
     let wanted = MetadataReadFault::TooLarge { line: 23 };
     refused(&rt, "vpid = 4711", "vpid = 18446744073709551616", wanted)?;
     let wanted = MetadataReadFault::TooLarge { line: 59 };
-    refused(
-        &rt,
-        "\"failed\" = 1",
-        "\"failed\" = 99999999999999999999",
-        wanted,
-    )
+    let large = "\"failed\" = 99999999999999999999";
+    refused(&rt, "\"failed\" = 1", large, wanted)
 }
 
 #[test]
 fn faults_as_text(rt: HostRuntime) -> Result<(), Fail> {
-    let fault = MetadataReadFault::Line {
-        line: 60,
-        expected: Expected::Text(";\n"),
-    };
+    let (line, expected) = (60, Expected::Text(";\n"));
+    let fault = MetadataReadFault::Line { line, expected };
     let text = format!(in rt.alloc(); "{fault}")?;
     same(&rt, text.as_str(), "line 60: expected \";\\n\"");
     let text = format!(in rt.alloc(); "{}", MetadataReadFault::TooLarge { line: 59 })?;

@@ -1,8 +1,8 @@
 //! Packets and events, byte by byte, by the format's description.
 use super::metadata::TIMED;
-use crate::same::{UUID, same, three_enablings};
+use crate::same::{UUID, same, stream_of, three_enablings};
 use crate::writing::packets::{PACKET, TEXT};
-use dspec_ctf::{Form, Names, Stream, metadata};
+use dspec_ctf::{Form, Names, metadata};
 use dspec_ctf_reading::{
     Event, EventFault, EventsFault, PacketReadFault, WholePacketFault, check_events, check_packet,
     next_packet, read_event, read_events, read_metadata,
@@ -38,13 +38,7 @@ fn same_event(
 #[test]
 fn written_and_read(rt: HostRuntime) -> Result<(), Fail> {
     let enablings = three_enablings()?;
-    let mut stream = Stream {
-        cpu: 1,
-        missed: 0,
-        uuid: UUID,
-        enablings: &enablings,
-    };
-    let bytes = stream.packet(rt.alloc(), 5, &TEXT)?;
+    let bytes = stream_of(&enablings, 0).packet(rt.alloc(), 5, &TEXT)?;
     let text = three_texts(&rt)?;
     let metadata = read_metadata(rt.alloc(), text.as_bytes())?;
     same(&rt, metadata.events.len(), 3);
@@ -95,13 +89,10 @@ fn sized(low: u8, high: u8) -> [u8; 75] {
 
 #[test]
 fn refused_fronts(rt: HostRuntime) -> Result<(), Fail> {
-    let found = next_packet(false, &PACKET[..51]).err();
-    same(&rt, found, Some(PacketReadFault::Cut));
-    same(
-        &rt,
-        next_packet(false, &[]).err(),
-        Some(PacketReadFault::Cut),
-    );
+    for bytes in [&PACKET[..51], &[]] {
+        let found = next_packet(false, bytes).err();
+        same(&rt, found, Some(PacketReadFault::Cut));
+    }
     refused(&rt, 0, 192, PacketReadFault::Magic(0xC1FC_1FC0));
     refused(&rt, 20, 1, PacketReadFault::Stream(1));
     let text = format!(in rt.alloc(); "{}", PacketReadFault::Magic(0x10))?;
@@ -135,11 +126,9 @@ fn told_sizes(rt: HostRuntime) -> Result<(), Fail> {
     write!(text, "{}\n", PacketReadFault::PacketWithinByte(601))?;
     write!(text, "{}\n", PacketReadFault::BeforeEvents(408))?;
     write!(text, "{}\n", PacketReadFault::BehindFile(608))?;
-    same(
-        &rt,
-        text.as_str(),
-        "content of 608 bits ends behind its packet of 600\ncontent of 599 bits ends within a byte\na packet of 601 bits ends within a byte\ncontent of 408 bits ends before the events\na packet of 608 bits ends behind the file\n",
-    );
+    let wanted =
+        "content of 608 bits ends behind its packet of 600\ncontent of 599 bits ends within a byte\na packet of 601 bits ends within a byte\ncontent of 408 bits ends before the events\na packet of 608 bits ends behind the file\n";
+    same(&rt, text.as_str(), wanted);
     Ok(())
 }
 
@@ -206,10 +195,7 @@ fn refused_events(rt: HostRuntime) -> Result<(), Fail> {
     let found = read_event(rt.alloc(), &metadata, &[1, 0, 0]).err();
     same(&rt, found, Some(EventFault::Cut));
     let text = format!(in rt.alloc(); "{cut}")?;
-    same(
-        &rt,
-        text.as_str(),
-        "event 2, at byte 16: the bytes end within an event",
-    );
+    let wanted = "event 2, at byte 16: the bytes end within an event";
+    same(&rt, text.as_str(), wanted);
     Ok(())
 }

@@ -1,10 +1,8 @@
 //! Packets by time.
-ghost use Rattle.std.specs.Prelude.{◌≡◌};
-
-use crate::same::{UUID, same, three_enablings};
+use crate::same::{same, stream_of, three_enablings};
 use dspec_buffer::{ReadFault, read_all};
-use dspec_ctf::{Stream, TimeFault, first_refused};
-use dspec_record::{Enablings, ReadKind};
+use dspec_ctf::{TimeFault, first_refused};
+use dspec_record::ReadKind;
 use std::alloc::{AllocError, Global};
 use std::test::Fail;
 
@@ -33,18 +31,6 @@ const EMPTY: [u8; 68] = [
     0, 0, 0, 0, 0, 0, 0, 0, 0, 0, 0, 0, 0, 0, 0, 0, 0, 0, 0, 32, 2, 0, 0, 0, 0, 0, 0, 32, 2, 0, 0,
     0, 0, 0, 0, 7, 0, 0, 0, 0, 0, 0, 0, 1, 0, 0, 0,
 ];
-
-/// The stream of CPU 1 that missed so many.
-fn stream_of(enablings: &Enablings, missed: u64) -> Stream<'_>
-    ensures { result.enablings.now ≡ enablings.now }
-{
-    Stream {
-        uuid: UUID,
-        enablings,
-        cpu: 1,
-        missed,
-    }
-}
 
 #[test]
 fn sorted_packets(rt: HostRuntime) -> Result<(), Fail> {
@@ -102,34 +88,35 @@ fn two_packets(rt: HostRuntime) -> Result<(), Fail> {
     let text = falling(rt.alloc(), 4097)?;
     let packets = stream_of(&enablings, 7).packets_by_time(rt.alloc(), &[&text])?;
     same(&rt, packets.len(), 68 + 4096 * 12 + 68 + 12);
-    same(&rt, has_at(&packets, 24, 1), true);
-    same(&rt, has_at(&packets, 32, 4096), true);
-    same(&rt, has_at(&packets, 56, 0), true);
-    same(&rt, has_at(&packets, 49_244, 4097), true);
-    same(&rt, has_at(&packets, 49_252, 4097), true);
-    same(&rt, has_at(&packets, 49_276, 7), true);
+    for (place, number) in [
+        (24, 1),
+        (32, 4096),
+        (56, 0),
+        (49_244, 4097),
+        (49_252, 4097),
+        (49_276, 7),
+    ] {
+        same(&rt, has_at(&packets, place, number), true);
+    }
     Ok(())
 }
 
 #[test]
 fn refused_texts(rt: HostRuntime) -> Result<(), Fail> {
     let enablings = three_enablings()?;
-    let found = stream_of(&enablings, 0)
-        .packets_by_time(rt.alloc(), &[])
-        .err();
-    same(&rt, found, Some(TimeFault::NoStamp));
-    let found = stream_of(&enablings, 0)
-        .packets_by_time(rt.alloc(), &[&SECOND[..23]])
-        .err();
-    same(&rt, found, Some(TimeFault::NoStamp));
-    let stamped = enablings.stamped();
-    let found = stream_of(&stamped, 0)
-        .packets_by_time(rt.alloc(), &[&FIRST, &SECOND[..23]])
-        .err();
-    let fault = ReadFault {
-        kind: ReadKind::Truncated,
-        at: 12,
-    };
-    same(&rt, found, Some(TimeFault::Text { number: 1, fault }));
+    let (stamped, kind) = (enablings.stamped(), ReadKind::Truncated);
+    let fault = ReadFault { kind, at: 12 };
+    for (schema, texts, wanted) in [
+        (&enablings, [].as_slice(), TimeFault::NoStamp),
+        (&enablings, &[&SECOND[..23]], TimeFault::NoStamp),
+        (
+            &stamped,
+            &[&FIRST, &SECOND[..23]],
+            TimeFault::Text { number: 1, fault },
+        ),
+    ] {
+        let found = stream_of(schema, 0).packets_by_time(rt.alloc(), texts);
+        same(&rt, found.err(), Some(wanted));
+    }
     Ok(())
 }

@@ -1,21 +1,10 @@
 //! Packets of 1,024 bytes, as taken.
 use super::packets::{PACKET, TEXT};
 use super::rows::filled;
-use crate::same::{UUID, same, three_enablings};
-use dspec_ctf::{PacketFault, Stream};
-use dspec_record::Enablings;
+use crate::same::{same, stream_of, three_enablings};
+use dspec_ctf::PacketFault;
 use std::alloc::{AllocError, Global};
 use std::test::Fail;
-
-/// The stream of CPU 1.
-fn stream_of(enablings: &Enablings) -> Stream<'_> {
-    Stream {
-        uuid: UUID,
-        enablings,
-        cpu: 1,
-        missed: 0,
-    }
-}
 
 /// A packet as taken around so many records 1, behind so many events that were missed.
 fn packet_of(alloc: Global, missed: u8, records: u64) -> Result<Vec<u8>, AllocError> {
@@ -43,7 +32,7 @@ fn text_of(alloc: Global, records: u64) -> Result<Vec<u8>, AllocError> {
 #[test]
 fn packets_of_batches(rt: HostRuntime) -> Result<(), Fail> {
     let enablings = three_enablings()?;
-    let mut stream = stream_of(&enablings);
+    let mut stream = stream_of(&enablings, 0);
     let packets = stream.batch_packets(rt.alloc(), 5, &TEXT)?;
     let wanted = filled(rt.alloc(), 32, &PACKET)?;
     same(&rt, packets.as_slice() == wanted.as_slice(), true);
@@ -60,10 +49,10 @@ fn full_packets(rt: HostRuntime) -> Result<(), Fail> {
     let enablings = three_enablings()?;
     let text = text_of(rt.alloc(), 244)?;
     let full = text.get(..972).unwrap_or(&[]);
-    let packets = stream_of(&enablings).batch_packets(rt.alloc(), 9, full)?;
+    let packets = stream_of(&enablings, 0).batch_packets(rt.alloc(), 9, full)?;
     let mut wanted = packet_of(rt.alloc(), 9, 243)?;
     same(&rt, packets.as_slice() == wanted.as_slice(), true);
-    let packets = stream_of(&enablings).batch_packets(rt.alloc(), 9, &text)?;
+    let packets = stream_of(&enablings, 0).batch_packets(rt.alloc(), 9, &text)?;
     wanted.extend_from_slice(&packet_of(rt.alloc(), 9, 1)?)?;
     same(&rt, packets.as_slice() == wanted.as_slice(), true);
     Ok(())
@@ -72,8 +61,7 @@ fn full_packets(rt: HostRuntime) -> Result<(), Fail> {
 #[test]
 fn refused_batches(rt: HostRuntime) -> Result<(), Fail> {
     let enablings = three_enablings()?;
-    let mut stream = stream_of(&enablings);
-    stream.missed = u64::MAX;
+    let mut stream = stream_of(&enablings, u64::MAX);
     let found = stream.batch_packets(rt.alloc(), 1, &TEXT[..31]).err();
     same(&rt, found, Some(PacketFault::Missed));
     let found = stream.batch_packets(rt.alloc(), 0, &TEXT[..31]).err();

@@ -29,21 +29,10 @@ fn fronts_of_packets(rt: HostRuntime) -> Result<(), Fail> {
 
 #[test]
 fn refused_packets(rt: HostRuntime) -> Result<(), Fail> {
-    same(
-        &rt,
-        split_packet(false, &packets::PACKET[..74]).is_none(),
-        true,
-    );
-    same(&rt, split_packet(true, &packets::PACKET).is_none(), true);
-    same(
-        &rt,
-        read_front(false, &packets::PACKET[..51]).is_none(),
-        true,
-    );
-    same(
-        &rt,
-        read_front(false, &packets::PACKET[1..]).is_none(),
-        true,
-    );
+    let packet = packets::PACKET.as_slice();
+    same(&rt, split_packet(false, &packet[..74]).is_none(), true);
+    same(&rt, split_packet(true, packet).is_none(), true);
+    same(&rt, read_front(false, &packet[..51]).is_none(), true);
+    same(&rt, read_front(false, &packet[1..]).is_none(), true);
     Ok(())
 }

@@ -14,6 +14,16 @@ const NUMBERED: &str =
 const NAMED: &str =
     "\nevent {\n\tid = 3;\n\tname = \"two\";\n\tstream_id = 0;\n\tfields := struct {\n\t\tuint64_t stamp;\n\t\tuint8_t small;\n\t\tuint16_t _large;\n\t};\n};\n";
 
+/// The metadata of these enablings in this form, by these names.
+fn text_of(
+    rt: &impl AllocGlobal,
+    form: Form,
+    enablings: &Enablings,
+    names: &Names<'_>,
+) -> Result<String, MetadataFault> {
+    metadata(rt.alloc(), &UUID, form, enablings, names)
+}
+
 /// Names of the three.
 fn named<'a>(first: &'a str, fields: &'a [&'a str]) -> [ProbeNames<'a>; 3] {
     [
@@ -26,34 +36,15 @@ fn named<'a>(first: &'a str, fields: &'a [&'a str]) -> [ProbeNames<'a>; 3] {
 #[test]
 fn whole_texts(rt: HostRuntime) -> Result<(), Fail> {
     let enablings = three_enablings()?;
-    let text = metadata(
-        rt.alloc(),
-        &UUID,
-        Form::AsTaken,
-        &enablings,
-        &Names::Numbered,
-    )?;
-    same(
-        &rt,
-        text.as_str()
-            .starts_with("/* CTF 1.8 */\n\ntypealias integer { size = 8;"),
-        true,
-    );
-    same(
-        &rt,
-        text.as_str()
-            .contains("\tuuid = \"00112233-4455-6677-8899-aabbccddeeff\";\n"),
-        true,
-    );
+    let text = text_of(&rt, Form::AsTaken, &enablings, &Names::Numbered)?;
+    let first = "/* CTF 1.8 */\n\ntypealias integer { size = 8;";
+    same(&rt, text.as_str().starts_with(first), true);
+    let uuid = "\tuuid = \"00112233-4455-6677-8899-aabbccddeeff\";\n";
+    same(&rt, text.as_str().contains(uuid), true);
     same(&rt, text.as_str().ends_with(NUMBERED), true);
     let given = named("none", &["small", "_large"]);
-    let text = metadata(
-        rt.alloc(),
-        &UUID,
-        Form::AsTaken,
-        &enablings.stamped(),
-        &Names::Given(&given),
-    )?;
+    let names = Names::Given(&given);
+    let text = text_of(&rt, Form::AsTaken, &enablings.stamped(), &names)?;
     same(&rt, text.as_str().ends_with(NAMED), true);
     Ok(())
 }
@@ -65,15 +56,8 @@ fn refused(
     wanted: NameFault,
 ) -> Result<(), Fail> {
     let enablings = three_enablings()?.stamped();
-    let found = metadata(
-        rt.alloc(),
-        &UUID,
-        Form::AsTaken,
-        &enablings,
-        &Names::Given(given),
-    )
-    .err();
-    same(rt, found, Some(MetadataFault::Name(wanted)));
+    let found = text_of(rt, Form::AsTaken, &enablings, &Names::Given(given));
+    same(rt, found.err(), Some(MetadataFault::Name(wanted)));
     Ok(())
 }
 
@@ -84,25 +68,23 @@ fn refused_first(
     epid: u32,
     kind: NameKind,
 ) -> Result<(), Fail> {
-    refused(
-        rt,
-        &named(name, &["a", "b"]),
-        NameFault::Event { epid, kind },
-    )
+    let fault = NameFault::Event { epid, kind };
+    refused(rt, &named(name, &["a", "b"]), fault)
 }
 
 #[test]
 fn refused_names(rt: HostRuntime) -> Result<(), Fail> {
-    refused_first(&rt, "", 1, NameKind::NotAnIdentifier)?;
-    refused_first(&rt, "9a", 1, NameKind::NotAnIdentifier)?;
-    refused_first(&rt, "a-b", 1, NameKind::NotAnIdentifier)?;
-    refused_first(&rt, "_Imaginary", 1, NameKind::Reserved)?;
-    refused_first(&rt, "two", 3, NameKind::Repeated)?;
-    refused(
-        &rt,
-        &named("none", &["a"]),
-        NameFault::FieldCount { epid: 3 },
-    )?;
+    for (name, epid, kind) in [
+        ("", 1, NameKind::NotAnIdentifier),
+        ("9a", 1, NameKind::NotAnIdentifier),
+        ("a-b", 1, NameKind::NotAnIdentifier),
+        ("_Imaginary", 1, NameKind::Reserved),
+        ("two", 3, NameKind::Repeated),
+    ] {
+        refused_first(&rt, name, epid, kind)?;
+    }
+    let count = NameFault::FieldCount { epid: 3 };
+    refused(&rt, &named("none", &["a"]), count)?;
     let stamp = NameFault::Field {
         epid: 3,
         place: 1,
@@ -120,13 +102,7 @@ fn names_at_their_limits(rt: HostRuntime) -> Result<(), Fail> {
     }
     let enablings = three_enablings()?;
     let given = named(longest.as_str(), &["A_9", "_"]);
-    let text = metadata(
-        rt.alloc(),
-        &UUID,
-        Form::AsTaken,
-        &enablings,
-        &Names::Given(&given),
-    )?;
+    let text = text_of(&rt, Form::AsTaken, &enablings, &Names::Given(&given))?;
     same(&rt, text.as_str().contains(longest.as_str()), true);
     longest.push('z')?;
     refused_first(&rt, longest.as_str(), 1, NameKind::TooLong)
@@ -135,51 +111,23 @@ fn names_at_their_limits(rt: HostRuntime) -> Result<(), Fail> {
 #[test]
 fn refused_forms(rt: HostRuntime) -> Result<(), Fail> {
     let enablings = three_enablings()?;
-    let found = metadata(
-        rt.alloc(),
-        &UUID,
-        Form::ByTime(1),
-        &enablings,
-        &Names::Numbered,
-    )
-    .err();
-    same(&rt, found, Some(MetadataFault::NoStamp));
+    let found = text_of(&rt, Form::ByTime(1), &enablings, &Names::Numbered);
+    same(&rt, found.err(), Some(MetadataFault::NoStamp));
     let stamped = enablings.stamped();
-    let found = metadata(
-        rt.alloc(),
-        &UUID,
-        Form::ByTime(0),
-        &stamped,
-        &Names::Numbered,
-    )
-    .err();
-    same(&rt, found, Some(MetadataFault::NoFrequency));
-    let text = metadata(
-        rt.alloc(),
-        &UUID,
-        Form::ByTime(1000),
-        &stamped,
-        &Names::Numbered,
-    )?;
+    let found = text_of(&rt, Form::ByTime(0), &stamped, &Names::Numbered);
+    same(&rt, found.err(), Some(MetadataFault::NoFrequency));
+    let text = text_of(&rt, Form::ByTime(1000), &stamped, &Names::Numbered)?;
     same(&rt, text.as_str().contains("\tfreq = 1000;\n"), true);
     Ok(())
 }
 
 /// One event of five fields, of which the first two have labels.
 fn of_each_kind(labels: &'static [&'static [&'static str]]) -> [ProbeNames<'static>; 1] {
+    let (plain, signed, float) = (Kind::Unsigned, Kind::Signed, Kind::Float);
     [ProbeNames {
         event: "each",
         fields: &["status", "level", "delta", "load", "ratio"],
-        kinds: [
-            Kind::Unsigned,
-            Kind::Signed,
-            Kind::Signed,
-            Kind::Float,
-            Kind::Float,
-            Kind::Unsigned,
-            Kind::Unsigned,
-            Kind::Unsigned,
-        ],
+        kinds: [plain, signed, signed, float, float, plain, plain, plain],
         labels: Some(labels),
     }]
 }
@@ -194,35 +142,29 @@ fn metadata_of_each_kind(
     labels: &'static [&'static [&'static str]],
 ) -> Result<String, MetadataFault> {
     let mut enablings = Enablings::new();
-    let fields = [
+    let all = [
         Field::One,
         Field::One,
         Field::Two,
         Field::Four,
         Field::Eight,
     ];
-    if enablings.enable(&fields).is_err() {
+    if enablings.enable(&all).is_err() {
         return Err(MetadataFault::Memory);
     }
     let names = of_each_kind(labels);
-    metadata(
-        rt.alloc(),
-        &UUID,
-        Form::AsTaken,
-        &enablings,
-        &Names::Given(&names),
-    )
+    text_of(rt, Form::AsTaken, &enablings, &Names::Given(&names))
 }
 
 #[test]
 fn kinds_and_labels(rt: HostRuntime) -> Result<(), Fail> {
     let labels: &[&[&str]] = &[&["ok", "it failed"], &["low"]];
-    let text = metadata_of_each_kind(&rt, labels)?;
-    same(&rt, text.as_str().ends_with(OF_EACH_KIND), true);
     // a float has none
-    let labels: &[&[&str]] = &[&["ok", "it failed"], &["low"], &[], &["none"]];
-    let text = metadata_of_each_kind(&rt, labels)?;
-    same(&rt, text.as_str().ends_with(OF_EACH_KIND), true);
+    let more: &[&[&str]] = &[&["ok", "it failed"], &["low"], &[], &["none"]];
+    for labels in [labels, more] {
+        let text = metadata_of_each_kind(&rt, labels)?;
+        same(&rt, text.as_str().ends_with(OF_EACH_KIND), true);
+    }
     Ok(())
 }
 
@@ -234,11 +176,8 @@ fn refused_label(
     value: usize,
 ) {
     let found = metadata_of_each_kind(rt, labels).err();
-    let wanted = NameFault::Label {
-        epid: 1,
-        place,
-        value,
-    };
+    let epid = 1;
+    let wanted = NameFault::Label { epid, place, value };
     same(rt, found, Some(MetadataFault::Name(wanted)));
 }
 
@@ -274,13 +213,7 @@ fn metadata_of_a_text(
         kinds,
         labels: None,
     }];
-    metadata(
-        rt.alloc(),
-        &UUID,
-        Form::AsTaken,
-        &enablings,
-        &Names::Given(&names),
-    )
+    text_of(rt, Form::AsTaken, &enablings, &Names::Given(&names))
 }
 
 /// A text has one line, and is read as its words.

@@ -1,7 +1,7 @@
 //! Packets of batches as taken.
-use crate::same::{UUID, same, three_enablings};
+use crate::same::{same, stream_of, three_enablings};
 use dspec_buffer::{ReadFault, read_all};
-use dspec_ctf::{PacketFault, Stream, first_refused};
+use dspec_ctf::{PacketFault, first_refused};
 use dspec_record::ReadKind;
 use std::alloc::AllocError;
 use std::test::Fail;
@@ -29,12 +29,7 @@ const EMPTY: [u8; 52] = [
 #[test]
 fn unstamped_packets(rt: HostRuntime) -> Result<(), Fail> {
     let enablings = three_enablings()?;
-    let mut stream = Stream {
-        uuid: UUID,
-        enablings: &enablings,
-        cpu: 1,
-        missed: 0,
-    };
+    let mut stream = stream_of(&enablings, 0);
     let packet = stream.packet(rt.alloc(), 5, &TEXT)?;
     same(&rt, packet.as_slice() == PACKET.as_slice(), true);
     let packet = stream.packet(rt.alloc(), 3, &[])?;
@@ -53,12 +48,7 @@ fn packets_of_records(rt: HostRuntime) -> Result<(), Fail> {
     let None = first_refused(&enablings, &records) else {
         return Err(Fail::from(AllocError));
     };
-    let mut stream = Stream {
-        uuid: UUID,
-        enablings: &enablings,
-        cpu: 1,
-        missed: 0,
-    };
+    let mut stream = stream_of(&enablings, 0);
     let packet = stream.packet_of(rt.alloc(), 5, &records)?;
     same(&rt, packet.as_slice() == PACKET.as_slice(), true);
     let packet = stream.packet_of(rt.alloc(), 3, &[])?;
@@ -75,13 +65,7 @@ const STAMPED_EVENT: [u8; 15] = [3, 0, 0, 0, 8, 7, 6, 5, 4, 3, 2, 1, 171, 52, 18
 #[test]
 fn stamped_packets(rt: HostRuntime) -> Result<(), Fail> {
     let enablings = three_enablings()?.stamped();
-    let mut stream = Stream {
-        uuid: UUID,
-        enablings: &enablings,
-        cpu: 0,
-        missed: 0,
-    };
-    let packet = stream.packet(rt.alloc(), 0, &STAMPED_TEXT)?;
+    let packet = stream_of(&enablings, 0).packet(rt.alloc(), 0, &STAMPED_TEXT)?;
     same(&rt, packet.len(), 67);
     same(&rt, packet.as_slice().ends_with(&STAMPED_EVENT), true);
     Ok(())
@@ -90,31 +74,17 @@ fn stamped_packets(rt: HostRuntime) -> Result<(), Fail> {
 #[test]
 fn refused_packets(rt: HostRuntime) -> Result<(), Fail> {
     let enablings = three_enablings()?;
-    let mut stream = Stream {
-        uuid: UUID,
-        enablings: &enablings,
-        cpu: 1,
-        missed: u64::MAX,
-    };
-    same(
-        &rt,
-        stream.packet(rt.alloc(), 1, &TEXT).err(),
-        Some(PacketFault::Missed),
-    );
-    same(
-        &rt,
-        stream.packet(rt.alloc(), 1, &TEXT[..31]).err(),
-        Some(PacketFault::Missed),
-    );
-    let fault = ReadFault {
-        kind: ReadKind::Truncated,
-        at: 24,
-    };
-    same(
-        &rt,
-        stream.packet(rt.alloc(), 0, &TEXT[..31]).err(),
-        Some(PacketFault::Text(fault)),
-    );
+    let mut stream = stream_of(&enablings, u64::MAX);
+    let kind = ReadKind::Truncated;
+    let cut = PacketFault::Text(ReadFault { kind, at: 24 });
+    for (missed, text, wanted) in [
+        (1, TEXT.as_slice(), PacketFault::Missed),
+        (1, &TEXT[..31], PacketFault::Missed),
+        (0, &TEXT[..31], cut),
+    ] {
+        let found = stream.packet(rt.alloc(), missed, text).err();
+        same(&rt, found, Some(wanted));
+    }
     same(&rt, stream.missed, u64::MAX);
     Ok(())
 }

@@ -1,9 +1,9 @@
 //! A CPU's files in a trace by time that is written while it runs.
 use super::by_time::{FIRST, PACKET, SECOND};
-use crate::same::{UUID, same, three_enablings};
+use crate::same::{same, stream_of, three_enablings};
 use dspec_buffer::ReadFault;
 use dspec_ctf::rows::records_of;
-use dspec_ctf::{PacketFault, Rows, Run, Stream};
+use dspec_ctf::{PacketFault, Rows, Run};
 use dspec_record::{ReadKind, Rec};
 use std::alloc::{AllocError, Global};
 use std::test::Fail;
@@ -114,16 +114,10 @@ fn packet_of_a_run(rt: HostRuntime) -> Result<(), Fail> {
     };
     records.extend_from_slice(&second)?;
     records.sort_by_key(|record| record.stamp())?;
-    let stream = Stream {
-        uuid: UUID,
-        enablings: &enablings,
-        cpu: 1,
-        missed: 7,
-    };
     if dspec_ctf::first_refused(&enablings, &records).is_some() {
         return Err(Fail::from(AllocError));
     }
-    let Ok(packet) = stream.run_packet(rt.alloc(), 0, &records) else {
+    let Ok(packet) = stream_of(&enablings, 7).run_packet(rt.alloc(), 0, &records) else {
         return Err(Fail::from(AllocError));
     };
     let wanted = filled(rt.alloc(), 48, &PACKET)?;
@@ -135,11 +129,9 @@ fn packet_of_a_run(rt: HostRuntime) -> Result<(), Fail> {
 fn text_that_is_none(rt: HostRuntime) -> Result<(), Fail> {
     let enablings = three_enablings()?.stamped();
     let found = records_of(rt.alloc(), &enablings, &SECOND[..23]).err();
-    let fault = ReadFault {
-        kind: ReadKind::Truncated,
-        at: 12,
-    };
-    same(&rt, found, Some(PacketFault::Text(fault)));
+    let kind = ReadKind::Truncated;
+    let fault = PacketFault::Text(ReadFault { kind, at: 12 });
+    same(&rt, found, Some(fault));
     Ok(())
 }
 

@@ -6,6 +6,7 @@ ghost use Rattle.dspec_word.specs.Word.{CanBeReleased};
 
 use super::*;
 use crate::calls::{begun, committed};
+use crate::steps::{load_word, try_word};
 use dspec_word::{Act, SpecId, commit_at, discard_at};
 
 /// A call's load of the slot's word.
@@ -17,7 +18,7 @@ pub(super) fn shown(words: &Words, seat: &mut CpuSeat, call: &Doing) -> Word
     ensures next { Next (set_up words.now) (known seat.old) (known seat.new) (cpu_of seat.old) call.now result }
     ensures limit { CanBeReleased result }
 {
-    seat.load_word(words, 1, call)
+    load_word(seat, words, call)
 }
 
 /// A commit and a discard by two CPUs that are no callers, both shown the word before either decides. The discard is first, so the
@@ -47,10 +48,10 @@ pub(super) fn both_decided(
     let Act::Attempt(thrown) = discard_at(theirs, id, discard.mine) else {
         return None;
     };
-    let Ok(()) = second.try_word(words, 1, theirs, thrown, discard) else {
+    let Ok(()) = try_word(second, words, theirs, thrown, discard) else {
         return None;
     };
-    let Err(word) = first.try_word(words, 1, ours, to, commit) else {
+    let Err(word) = try_word(first, words, ours, to, commit) else {
         return None;
     };
     Some(word)

@@ -7,6 +7,7 @@ ghost use Rattle.dspec_table.specs.{Conditions.MayLoad, Seats.known, Seats.IsAt,
 use super::deciding::shown;
 use super::*;
 use crate::calls::begun;
+use crate::steps::try_word;
 use dspec_record::Rec;
 use dspec_word::{Act, SpecId, speculate_at};
 
@@ -35,16 +36,16 @@ fn both_joined(
     let Act::Attempt(second_to) = speculate_at(theirs, id, call.mine) else {
         return None;
     };
-    let Ok(()) = first.try_word(words, 1, ours, first_to, call) else {
+    let Ok(()) = try_word(first, words, ours, first_to, call) else {
         return None;
     };
-    let Err(word) = second.try_word(words, 1, theirs, second_to, call) else {
+    let Err(word) = try_word(second, words, theirs, second_to, call) else {
         return None;
     };
     let Act::Attempt(again) = speculate_at(word, id, call.mine) else {
         return None;
     };
-    let Ok(()) = second.try_word(words, 1, word, again, call) else {
+    let Ok(()) = try_word(second, words, word, again, call) else {
         return None;
     };
     Some(word)
@@ -62,7 +63,7 @@ fn two_callers(rt: HostRuntime) -> Result<(), Fail> {
     };
     let call = doing(CpuOp::Speculate(id, rec));
     let mut missed = None;
-    if begun(&words, &mut first, id, &call) && begun(&words, &mut second, id, &call) {
+    if given && begun(&words, &mut first, id, &call) && begun(&words, &mut second, id, &call) {
         missed = both_joined(&words, &mut first, &mut second, id, rec, &call);
     }
     assert!(rt; given && missed == Some(Word::of(0, Code::ActiveOne)));

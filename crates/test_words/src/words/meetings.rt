@@ -1,5 +1,6 @@
 //! What a CPU is shown once it has met the consumer.
 use super::*;
+use crate::steps::load_activity;
 
 #[test]
 fn a_stop_and_an_ask(rt: HostRuntime) -> Result<(), Fail> {
@@ -11,7 +12,7 @@ fn a_stop_and_an_ask(rt: HostRuntime) -> Result<(), Fail> {
     let asked = first.load_ask(&words, &doing(CpuOp::Service));
     consumer.store_activity(&words);
     first.meet(&words, &mut consumer);
-    let running = first.load_activity(&words, &doing(CpuOp::Speculation));
+    let running = load_activity(&mut first, &words, &doing(CpuOp::Speculation));
     assert!(rt; asked == 3 && !running);
     let last = ended(rt.alloc(), words, first, second, consumer)?;
     assert!(rt; last.word(1) == Word::of(0, Code::Inactive));

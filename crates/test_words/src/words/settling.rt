@@ -7,6 +7,7 @@ ghost use Rattle.test_words.specs.Calls.{Unused};
 use super::deciding::both_decided;
 use super::*;
 use crate::calls::begun;
+use crate::steps::load_word;
 use dspec_word::{Act, SpecId, reap_at, settle_at};
 
 /// A service's visit of the first slot, by a CPU that has settled nothing of it: whether there was something to settle.
@@ -17,7 +18,7 @@ fn settled(words: &Words, seat: &mut CpuSeat, call: &Doing) -> bool
     requires unused { Unused (set_up words.now) (cpu_of seat.old) (known seat.old).own }
     ensures seat { IsAt words.now seat.new × (cpu_of seat.new ≡ cpu_of seat.old) }
 {
-    let word = seat.load_word(words, 1, call);
+    let word = load_word(seat, words, call);
     let Act::Granted = settle_at(word, 0) else {
         return false;
     };
@@ -59,7 +60,7 @@ fn a_decision_is_settled(rt: HostRuntime) -> Result<(), Fail> {
     let mut early = true;
     let mut done = (false, false, false);
     let mut met = Word::of(0, Code::Inactive);
-    if begun(&words, &mut first, id, &commit) && begun(&words, &mut second, id, &discard) {
+    if given && begun(&words, &mut first, id, &commit) && begun(&words, &mut second, id, &discard) {
         missed = both_decided(&words, &mut first, &mut second, id, &commit, &discard);
     }
     if missed.is_some() {

@@ -1,14 +1,14 @@
 //! Two threads, each with a CPU's seat that it takes, and gives back under a promise.
-ghost use Rattle.std.specs.Prelude.{◌≡◌, ◌≤◌, not, true, IfOk, []};
+ghost use Rattle.std.specs.Prelude.{◌≡◌, ◌≤◌, true, IfOk, []};
 ghost use Rattle.dspec_table.specs.Seats.{known, IsAt, set_up, cpu_of};
-ghost use Rattle.test_words.specs.{Calls.Unused, Opener.Once, Opener.given_out};
+ghost use Rattle.test_words.specs.Calls.{Unused};
 
 use super::*;
 use std::sync::Wait;
 use std::thread;
 use std::thread::{Promise, Threads};
 
-/// The seat that comes back is the same CPU's, at these words, and the CPU called speculation once.
+/// The seat that comes back is the same CPU's, at these words.
 #[derive(Clone, Copy)]
 struct SameCpu<'a> {
     words: &'a Words,
@@ -17,10 +17,9 @@ struct SameCpu<'a> {
 
 impl<'a> Promise<(CpuSeat, bool)> for SameCpu<'a> {
     ghost use Rattle.std.specs.Prelude.{◌≡◌};
-    ghost use Rattle.dspec_table.specs.Seats.{known, IsAt, cpu_of};
-    ghost use Rattle.test_words.specs.Opener.{Once};
+    ghost use Rattle.dspec_table.specs.Seats.{IsAt, cpu_of};
 
-    ghost kept_by = { λ p r. IsAt p.words.now r.0 × (cpu_of r.0 ≡ p.cpu) × Once p.cpu (known r.0).own r.1 };
+    ghost kept_by = { λ p r. IsAt p.words.now r.0 × (cpu_of r.0 ≡ p.cpu) };
 }
 
 /// A call of speculation on the first slot: whether it was given.
@@ -30,7 +29,7 @@ pub(super) fn tried(words: &Words, mut seat: CpuSeat) -> (CpuSeat, bool)
     requires slot { 1 ≤ (set_up words.now).nspec }
     requires issues { (set_up words.now).max_issues ≡ 8 }
     ensures seat { IsAt words.now result.0 × (cpu_of result.0 ≡ cpu_of seat) }
-    ensures once { Once (cpu_of seat) (known result.0).own result.1 }
+    ensures unused { result.1 ≡ true → Unused (set_up words.now) (cpu_of seat) (known result.0).own }
 {
     let call = doing(CpuOp::Speculation);
     let given = match shown_free(words, &mut seat, &call) {
@@ -51,8 +50,8 @@ fn both_tried<R: Threads + Wait>(
     requires second { IsAt words.now second × (cpu_of second ≡ 1) × ((known second).own ≡ []) }
     requires slot { 1 ≤ (set_up words.now).nspec }
     requires issues { (set_up words.now).max_issues ≡ 8 }
-    ensures first { IfOk result (λ r. IsAt words.now r.0.0 × (cpu_of r.0.0 ≡ 0) × Once 0 (known r.0.0).own r.0.1) }
-    ensures second { IfOk result (λ r. IsAt words.now r.1.0 × (cpu_of r.1.0 ≡ 1) × Once 1 (known r.1.0).own r.1.1) }
+    ensures first { IfOk result (λ r. IsAt words.now r.0.0 × (cpu_of r.0.0 ≡ 0)) }
+    ensures second { IfOk result (λ r. IsAt words.now r.1.0 × (cpu_of r.1.0 ≡ 1)) }
 {
     thread::scope(
         thread::scope_env(),
@@ -62,8 +61,8 @@ fn both_tried<R: Threads + Wait>(
             requires second { IsAt words.now second × (cpu_of second ≡ 1) × ((known second).own ≡ []) }
             requires slot { 1 ≤ (set_up words.now).nspec }
             requires issues { (set_up words.now).max_issues ≡ 8 }
-            ensures first { IfOk result (λ r. IsAt words.entry.now r.0.0 × (cpu_of r.0.0 ≡ 0) × Once 0 (known r.0.0).own r.0.1) }
-            ensures second { IfOk result (λ r. IsAt words.entry.now r.1.0 × (cpu_of r.1.0 ≡ 1) × Once 1 (known r.1.0).own r.1.1) }
+            ensures first { IfOk result (λ r. IsAt words.entry.now r.0.0 × (cpu_of r.0.0 ≡ 0)) }
+            ensures second { IfOk result (λ r. IsAt words.entry.now r.1.0 × (cpu_of r.1.0 ≡ 1)) }
         {
             let one = scope.spawn_with(
                 SameCpu { words, cpu: 0 },
@@ -71,7 +70,7 @@ fn both_tried<R: Threads + Wait>(
                     requires first { IsAt words.now first × (cpu_of first ≡ 0) × ((known first).own ≡ []) }
                     requires slot { 1 ≤ (set_up words.now).nspec }
                     requires issues { (set_up words.now).max_issues ≡ 8 }
-                    ensures { IsAt words.entry.now result.0 × (cpu_of result.0 ≡ 0) × Once 0 (known result.0).own result.1 }
+                    ensures { IsAt words.entry.now result.0 × (cpu_of result.0 ≡ 0) }
                 { tried(words, first) },
             )?;
             let two = scope.spawn_with(
@@ -80,7 +79,7 @@ fn both_tried<R: Threads + Wait>(
                     requires second { IsAt words.now second × (cpu_of second ≡ 1) × ((known second).own ≡ []) }
                     requires slot { 1 ≤ (set_up words.now).nspec }
                     requires issues { (set_up words.now).max_issues ≡ 8 }
-                    ensures { IsAt words.entry.now result.0 × (cpu_of result.0 ≡ 1) × Once 1 (known result.0).own result.1 }
+                    ensures { IsAt words.entry.now result.0 × (cpu_of result.0 ≡ 1) }
                 { tried(words, second) },
             )?;
             Ok((one.join(rt), two.join(rt)))
@@ -90,21 +89,14 @@ fn both_tried<R: Threads + Wait>(
 
 /// Two threads call speculation at the same time on a session of two CPUs and one slot. Exactly one of them is given it, and the
 /// slot's word then is of issue 0, and active.
-fn raced<R: Threads + Wait>(rt: &R, alloc: Global) -> Result<(bool, bool, Word), AllocError>
-    ensures one { IfOk result (λ r. r.0 ≡ not r.1) }
-    ensures word { IfOk result (λ r. r.2 ≡ given_out) }
-{
-    let Ok((words, first, second, consumer)) = started(alloc) else {
-        return Err(AllocError);
-    };
-    let ((first, ours), (second, theirs)) = both_tried(rt, &words, first, second)?;
-    let last = ended(alloc, words, first, second, consumer)?;
-    Ok((ours, theirs, last.word(1)))
-}
-
 #[test]
 fn one_of_two_threads_is_given_it(rt: HostRuntime) -> Result<(), Fail> {
-    let (ours, theirs, word) = raced(&rt, rt.alloc())?;
-    assert!(rt; ours != theirs && word == Word::of(0, Code::Active));
+    let alloc = rt.alloc();
+    let Ok((words, first, second, consumer)) = started(alloc) else {
+        return Err(AllocError.into());
+    };
+    let ((first, ours), (second, theirs)) = both_tried(&rt, &words, first, second)?;
+    let last = ended(alloc, words, first, second, consumer)?;
+    assert!(rt; ours != theirs && last.word(1) == Word::of(0, Code::Active));
     Ok(())
 }

@@ -1,6 +1,7 @@
 //! The consumer pauses between its rounds as the sink says, and lets another thread run where the sink says nothing. Whether it does no
 //! test can see by itself: `tests/running-threads` counts the calls of the system by which a thread lets others run.
-use dspec::{Batch, Both, Config, Enablings, Field, Lane, Sink, Work, trace};
+use crate::handing::schema;
+use dspec::{Batch, Both, Config, Enablings, Lane, Sink, Work, trace};
 use std::alloc::Global;
 use std::sync::atomic::{AtomicU64, Ordering};
 use std::test::Fail;
@@ -48,8 +49,6 @@ impl<'a> Work<Enablings> for Waits<'a> {
 /// A session whose work ends once the sink has paused; of two sinks the first says how.
 #[test]
 fn the_sink_says_how_to_pause(rt: HostRuntime) -> Result<(), Fail> {
-    let mut schema = Enablings::new();
-    assert!(rt; schema.enable(&[Field::One]).is_ok());
     let pauses = AtomicU64::new(0);
     let others = AtomicU64::new(0);
     let mut sink = Both {
@@ -58,7 +57,7 @@ fn the_sink_says_how_to_pause(rt: HostRuntime) -> Result<(), Fail> {
     };
     let work = Waits { pauses: &pauses };
     let config = Config::of(1, 4, 64, 64);
-    let ended = trace(&rt, rt.alloc(), &config, schema, &work, &mut sink).is_ok();
+    let ended = trace(&rt, rt.alloc(), &config, schema()?, &work, &mut sink).is_ok();
     assert!(rt; ended);
     assert!(rt; pauses.load(Ordering::SeqCst) > 0);
     assert!(rt; others.load(Ordering::SeqCst) == 0);
@@ -101,14 +100,10 @@ fn spun<R: Threads + Sync, K: Sink<Enablings>>(
     alloc: Global,
     mut sink: K,
 ) -> Result<bool, Fail> {
-    let mut schema = Enablings::new();
-    if schema.enable(&[Field::One]).is_err() {
-        return Err("no enabling".into());
-    }
     let done = AtomicU64::new(0);
     let work = Spins { done: &done };
     let config = Config::of(1, 1, 64, 64);
-    if trace(rt, alloc, &config, schema, &work, &mut sink).is_err() {
+    if trace(rt, alloc, &config, schema()?, &work, &mut sink).is_err() {
         return Err("no session".into());
     }
     Ok(done.load(Ordering::SeqCst) == 1)

@@ -1,5 +1,5 @@
 use Rattle.std.proofs.Common.{◌∷◌, sym, ap, ◌∙◌}
-use Rattle.dspec.proofs.Working.{first_and_rest}
+use Rattle.dspec_session_core.proofs.Ends.{first_and_rest}
 use Rattle.dspec.proofs.workers.first.Goals as goal
 
 pub returns-clause-cons : goal.returns-clause-cons

@@ -9,7 +9,7 @@ finish-requires c =
     record {
       session = (
         schema,
-        session_is c.args.shared schema _ c.args.consumer (record { shared = c.args.shared; cpus = c.gather-cpus.result; consumer = c.args.consumer }) c.requires.ending.1
+        session_is c.args.shared schema _ c.args.consumer (record { shared = c.args.shared; cpus = c.gather-cpus.result.0; consumer = c.args.consumer }) c.requires.ending.1
             refl refl (c.gather-cpus.ensures.home c.args.shared schema (pairs_of c.args.consumer) c.requires.ending.1.each) (as_many _ _ c.gather-cpus.ensures.all),
       );
     }
@@ -17,7 +17,7 @@ finish-requires c =
 pub returns-clause-closed : goal.returns-clause-closed
 returns-clause-closed c =
     let schema = c.requires.ending.0 in
-    let session : Session EnabledRows = record { shared = c.args.shared; cpus = c.gather-cpus.result; consumer = c.args.consumer } in
+    let session : Session EnabledRows = record { shared = c.args.shared; cpus = c.gather-cpus.result.0; consumer = c.args.consumer } in
     let is : IsSession schema session = session_is c.args.shared schema _ c.args.consumer session c.requires.ending.1
     refl refl (c.gather-cpus.ensures.home c.args.shared schema (pairs_of c.args.consumer) c.requires.ending.1.each) (as_many _ _ c.gather-cpus.ensures.all) in
     record {

@@ -1,5 +1,5 @@
 use Rattle.dspec_c.proofs.Calls.{on_lent}
 use Rattle.dspec_c.proofs.put_calls.dspec_put_in_3.Goals as goal
 
-pub returns-clause-answers : goal.returns-clause-answers
-returns-clause-answers c = on_lent _ _ c.args.cpu.now _ _ _ _ c.lend.ensures.value c.in-Some.ensures.found c.put_in.ensures
+pub returns-in-Cpu-clause-answers : goal.returns-in-Cpu-clause-answers
+returns-in-Cpu-clause-answers c = on_lent _ _ c.args.cpu.now _ _ _ _ c.lend.ensures.value c.in-Cpu.is c.put_in.ensures

@@ -5,6 +5,7 @@ ghost use Rattle.dspec_core.specs.{Decisions.deed_of, Machines.Adds, Machines.Is
 
 use crate::machine::Machine;
 use crate::machine::decision::Decision;
+use crate::machine::entering::enter_block;
 use dspec_buffer::TraceBuffer;
 use dspec_deeds::{DecideFate, Deed};
 use dspec_record::Schema;
@@ -36,7 +37,15 @@ impl<S: Schema, B: TraceBuffer<S>> Machine<S, B> {
         }
         let own = &mut self.cpus[cpu as usize];
         let place = (id.slot() - 1) as usize;
-        own.enter_block(&mut self.deeds, deed, &self.schema, place, fate)?;
+        let block = &own.side.speculative[place];
+        enter_block(
+            &mut self.deeds,
+            deed,
+            &mut own.accepted,
+            &self.schema,
+            block,
+            fate,
+        )?;
         let mine = own.side.is_mine(id);
         own.side.decide::<S>(id, mine, fate);
         let word = self.words[place];

@@ -1,6 +1,7 @@
 ghost use Rattle.std.specs.Prelude.{◌≡◌, ◌≤◌, ◌∷◌, [], OnOk, OnErr};
 ghost use Rattle.dspec_deeds.specs.declared.deed.Deed.TheVariants as deed;
 ghost use Rattle.dspec_deeds.specs.Own.{calls};
+ghost use Rattle.dspec_interleaving.specs.Coherent.{IsSlot};
 ghost use Rattle.dspec_core.specs.Machines.{Adds, IsShownMachine, MayEnterOn, history};
 
 use crate::machine::Machine;
@@ -28,7 +29,7 @@ impl<S: Schema, B: TraceBuffer<S>> Machine<S, B> {
     /// Enters that a slot's present speculation is given out.
     pub fn enter_opened(&mut self, cpu: u32, id: SpecId) -> Result<(), AllocError>
         requires may { MayEnterOn B.has B.capacity S.shape_of self.old cpu (deed.Opened cpu id ∷ []) }
-        requires slot { id.slot ≤ self.old.config.nspec }
+        requires slot { IsSlot self.old.config id.slot }
         ensures shown { OnOk result (IsShownMachine B.has B.capacity self.new) }
         ensures entered { OnOk result (Adds (deed.Opened cpu id ∷ []) self.old self.new) }
         ensures refused { OnErr result (self.new ≡ self.old) }

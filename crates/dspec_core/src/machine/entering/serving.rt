@@ -1,10 +1,11 @@
 ghost use Rattle.std.specs.Prelude.{◌≡◌, ◌≤◌, ◌+◌, ◌∷◌, [], OnOk, OnErr};
 ghost use Rattle.dspec_deeds.specs.declared.deed.Deed.TheVariants as deed;
 ghost use Rattle.dspec_core.specs.Machines.{Adds, IsShownMachine, MayEnter, MayEnterOn, history, state_of};
-ghost use Rattle.dspec_interleaving.specs.Coherent.{progress_of};
+ghost use Rattle.dspec_interleaving.specs.Coherent.{IsSlot, progress_of};
 ghost use Rattle.dspec_deeds.specs.Own.{seals};
 
 use crate::machine::Machine;
+use crate::machine::entering::enter_block;
 use dspec_buffer::TraceBuffer;
 use dspec_deeds::{DecideFate, Deed};
 use dspec_record::Schema;
@@ -15,7 +16,7 @@ impl<S: Schema, B: TraceBuffer<S>> Machine<S, B> {
     /// Enters a settlement: the CPU's buffer of the speculation is copied, lost or thrown away, and acknowledged.
     pub fn enter_settle(&mut self, cpu: u32, id: SpecId, fate: DecideFate) -> Result<(), AllocError>
         requires may { MayEnterOn B.has B.capacity S.shape_of self.old cpu (deed.Settle cpu id fate ∷ []) }
-        requires slot { id.slot ≤ self.old.config.nspec }
+        requires slot { IsSlot self.old.config id.slot }
         ensures shown { OnOk result (IsShownMachine B.has B.capacity self.new) }
         ensures entered { OnOk result (Adds (deed.Settle cpu id fate ∷ []) self.old self.new) }
         ensures refused { OnErr result (self.new ≡ self.old) }
@@ -23,7 +24,15 @@ impl<S: Schema, B: TraceBuffer<S>> Machine<S, B> {
         let own = &mut self.cpus[cpu as usize];
         let deed = Deed::Settle(cpu, id, fate);
         let place = (id.slot() - 1) as usize;
-        own.enter_block(&mut self.deeds, deed, &self.schema, place, fate)?;
+        let held = &own.side.speculative[place];
+        enter_block(
+            &mut self.deeds,
+            deed,
+            &mut own.accepted,
+            &self.schema,
+            held,
+            fate,
+        )?;
         let mine = own.side.is_mine(id);
         own.side.settle::<S>(id, mine, fate);
         Ok(())
@@ -47,7 +56,7 @@ impl<S: Schema, B: TraceBuffer<S>> Machine<S, B> {
     /// Enters that a slot is released.
     pub fn enter_release(&mut self, slot: u32) -> Result<(), AllocError>
         requires may { MayEnter B.has B.capacity S.shape_of self.old (deed.Release slot ∷ []) }
-        requires slot { slot ≤ self.old.config.nspec }
+        requires slot { IsSlot self.old.config slot }
         ensures shown { OnOk result (IsShownMachine B.has B.capacity self.new) }
         ensures entered { OnOk result (Adds (deed.Release slot ∷ []) self.old self.new) }
         ensures refused { OnErr result (self.new ≡ self.old) }

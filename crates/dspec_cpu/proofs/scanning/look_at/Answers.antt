@@ -1,5 +1,5 @@
-use Rattle.std.proofs.Common.{◌≡◌, ◌∙◌, ◌∷◌, [], true, false, sym, ap, subst}
-use Rattle.dspec_cpu.specs.Words.{Opened, Miss, known, set_up, cpu_of, LoadedWord, Speculation, open_at, nothing, shown, idle_progress}
+use Rattle.std.proofs.Common.{◌≡◌, ◌∙◌, ◌∷◌, [], true, false, sym, ap}
+use Rattle.dspec_cpu.specs.Words.{Opened, Miss, known, set_up, cpu_of, Speculation, open_at, nothing, shown, idle_progress}
 use Rattle.dspec_cpu.specs.declared.scanning.Look.TheVariants as look
 use Rattle.dspec_interleaving.proofs.StepDeeds.{missed_deeds}
 use Rattle.dspec_cpu.proofs.Slots.{passes, passed, tried}
@@ -11,7 +11,7 @@ returns-in_default c =
     let seat = c.args.seat.now in
     let word = c.load_word-word.result in
     let w = known c.load_word-word.new.self in
-    let step = subst (λ d. LoadedWord d c.args.slot (known seat) word w) c.opening_doing-doing.ensures c.load_word-word.ensures.step in
+    let step = c.load_word-word.ensures.step in
     let most = c.requires.most.0 in
     let void = passes word k.max_issues (λ to e. c.in_default.not-Attempt to (c.open_at.ensures ∙ (ap (open_at word) most ∙ e))) in
     record {
@@ -26,7 +26,7 @@ returns-in-Ok-clause-looked c =
     let seat = c.args.seat.now in
     let word = c.load_word-word.result in
     let u = known c.load_word-word.new.self in
-    let step = subst (λ d. LoadedWord d c.args.slot (known seat) word u) c.opening_doing-doing.ensures c.load_word-word.ensures.step in
+    let step = c.load_word-word.ensures.step in
     let most = c.requires.most.0 in
     let free = sym (c.open_at.ensures ∙ ap (open_at word) most) ∙ c.in-Attempt.is in
     let id : c.of.result ≡ record { issue = word.issue; slot = c.args.slot } = c.of.ensures ∙ ap (λ n. record { issue = n; slot = c.args.slot }) c.issue.ensures.value in
@@ -40,7 +40,7 @@ returns-in-Err-clause-looked c =
     let seat = c.args.seat.now in
     let word = c.load_word-word.result in
     let u = known c.load_word-word.new.self in
-    let step = subst (λ d. LoadedWord d c.args.slot (known seat) word u) c.opening_doing-doing.ensures c.load_word-word.ensures.step in
+    let step = c.load_word-word.ensures.step in
     let most = c.requires.most.0 in
     let free = sym (c.open_at.ensures ∙ ap (open_at word) most) ∙ c.in-Attempt.is in
     tried k (cpu_of seat) c.args.slot (known seat) c.requires.seat.1 seat.who_is word c.in-Attempt.field-0 c.in-Err.shown false u (known c.open_word.new.self) step free

@@ -10,16 +10,14 @@ pub returns-then-not-load_activity-clause-scanned :
 returns-then-not-load_activity-clause-scanned c =
     let seat = c.args.seat.now in
     let w = known c.load_activity.new.self in
-    let at = subst (λ d. LoadedActivity d (known seat) (not c.load_activity.result) w) c.opening_doing.ensures c.load_activity.ensures.step in
-    let step = subst (λ b. LoadedActivity Rattle.dspec_cpu.proofs.Slots.asked (known seat) (not b) w) c.if-not-load_activity.true at in
+    let step = subst (λ b. LoadedActivity Rattle.dspec_cpu.proofs.Slots.asked (known seat) (not b) w) c.if-not-load_activity.true c.load_activity.ensures.step in
     stops (set_up c.args.words.now) (cpu_of seat) (known seat) w c.requires.seat.1 seat.who_is step
 
 pub loop-place-init : goal.loop-place-init
 loop-place-init c =
     let seat = c.args.seat.now in
     let w = known c.load_activity.new.self in
-    let at = subst (λ d. LoadedActivity d (known seat) (not c.load_activity.result) w) c.opening_doing.ensures c.load_activity.ensures.step in
-    let step = subst (λ b. LoadedActivity Rattle.dspec_cpu.proofs.Slots.asked (known seat) (not b) w) c.if-not-load_activity.false at in
+    let step = subst (λ b. LoadedActivity Rattle.dspec_cpu.proofs.Slots.asked (known seat) (not b) w) c.if-not-load_activity.false c.load_activity.ensures.step in
     record { seat = c.load_activity.ensures.seat; came = runs (set_up c.args.words.now) (cpu_of seat) (known seat) w c.requires.seat.1 seat.who_is step }
 
 pub look_at-requires-clause-seat : goal.look_at-requires-clause-seat

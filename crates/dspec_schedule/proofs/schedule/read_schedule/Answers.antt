@@ -3,7 +3,7 @@ use Rattle.std.proofs.lemmas.{Iterator.Consumers.YieldsList-at, Iterator.Consume
 use Rattle.std.proofs.lemmas.{Iterator.Splits.YieldsList-from_slice_split, List.map-append, List.length-map, Result.err_from_is_err_and}
 use Rattle.std.specs.List.{slice_split}
 use Rattle.dspec_schedule.specs.Words.{plan_of}
-use Rattle.dspec_schedule.proofs.{EndLemmas.behind-more, EndLemmas.cut_at, HeaderLemmas.read-one_header, LineLemmas.lines_read-more, LineLemmas.schedule_of-fault, LineLemmas.schedule_of-end}
+use Rattle.dspec_schedule.proofs.{EndLemmas.behind-more, EndLemmas.cut_at, LineLemmas.lines_read-more, LineLemmas.schedule_of-fault, LineLemmas.schedule_of-end}
 use Rattle.dspec_schedule.proofs.schedule.read_schedule.Goals as goal
 
 pub loop-bytes-preserved : goal.loop-bytes-preserved
@@ -16,6 +16,7 @@ loop-bytes-preserved c =
       rw map-append (lines_read-more so_far c.in-Some.bytes.now None (option_map plan_of c.loop-bytes.schedule) (option_map plan_of c.in_ok-schedule.schedule)
           1 (c.loop-bytes.line + 1) (omega arith) c.loop-bytes.invariant.3 c.in_ok-schedule.ensures.read),
       rw map-append (behind-more so_far c.in-Some.bytes.now c.is_empty-is_open.result (c.loop-bytes.line + 1) (search rules) (search rules) (omega arith)),
+      c.in_ok-schedule.ensures.one_header,
     )
 
 pub returns-in_err-schedule-clause-refused : goal.returns-in_err-schedule-clause-refused
@@ -38,14 +39,6 @@ returns-clause-read c =
     c.split-bytes-items.ensures.rest c.split-bytes-items.ensures.done c.split-bytes-items.ensures.closure (λ x b q k. grind (arith, k))) in
     let whole = YieldsList-end road c.loop-bytes.yielded c.loop-bytes.bytes-iterator c.loop-bytes.yielded_by c.next.result c.next.new.self c.in-None.is c.next.ensures.steps in
     (schedule_of-end c.args.text.now so_far c.loop-bytes.schedule _ c.ok_or.result c.ok_or.ensures.value whole.0 c.loop-bytes.invariant.3 (search rules)).0
-
-pub returns-clause-one_header : goal.returns-clause-one_header
-returns-clause-one_header c =
-    let so_far = map (λ bytes. bytes.now) c.loop-bytes.yielded in
-    let road = YieldsList-at c.into_iter-bytes-iterator.ensures.into_iter_gives (YieldsList-from_slice_split _ (λ byte. byte == 10) c.args.text.now
-    c.split-bytes-items.ensures.rest c.split-bytes-items.ensures.done c.split-bytes-items.ensures.closure (λ x b q k. grind (arith, k))) in
-    let whole = YieldsList-end road c.loop-bytes.yielded c.loop-bytes.bytes-iterator c.loop-bytes.yielded_by c.next.result c.next.new.self c.in-None.is c.next.ensures.steps in
-    read-one_header c.args.text.now _ (schedule_of-end c.args.text.now so_far c.loop-bytes.schedule _ c.ok_or.result c.ok_or.ensures.value whole.0 c.loop-bytes.invariant.3 (search rules)).0
 
 pub returns-clause-refused : goal.returns-clause-refused
 returns-clause-refused c =

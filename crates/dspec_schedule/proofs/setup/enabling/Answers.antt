@@ -11,8 +11,8 @@ loop-index-preserved c = (
       (record { ref_ptr = (0, 0); now = [] }) c.in_ok-fields.field-0 (omega arith) (omega arith) c.loop-index.invariant.1 (sym c.in_ok-fields.ensures),
 )
 
-pub returns-in_err-fields : goal.returns-in_err-fields
-returns-in_err-fields c =
+pub returns-in_err-fields-clause-read : goal.returns-in_err-fields-clause-read
+returns-in_err-fields-clause-read c =
     let fault = each-fault (λ word. word.now) field_of_word c.args.words.now _ c.loop-index.index
     (record { ref_ptr = (0, 0); now = [] }) c.in_err-fields.field-0.0 (omega arith) c.loop-index.invariant.1 (sym c.in_err-fields.ensures) in
     let before : c.args.before_turns ≡ true = search rules in

@@ -1,5 +1,5 @@
 use Rattle.std.proofs.Common.{◌∷◌, sym, ap, ◌∙◌}
-use Rattle.dspec_threads.proofs.Homes.{first_and_rest}
+use Rattle.dspec_session_core.proofs.Ends.{first_and_rest}
 use Rattle.dspec_threads.proofs.places.first.Goals as goal
 
 pub returns : goal.returns

@@ -1,7 +1,7 @@
 use Rattle.std.proofs.{Common.◌≡◌, Common.List, Common.Some, Common.sym, Common.subst, Common.arith, lemmas.Option.slice_get_within}
 use Rattle.std.specs.Prelude.{slice_get}
 use Rattle.dspec_threads.specs.Words.{Cpu, IsSteady}
-use Rattle.dspec_threads.proofs.Standing.{one_more_stands}
+use Rattle.dspec.proofs.Standing.{one_more_stands}
 use Rattle.dspec_threads.proofs.running.tell_all.Goals as goal
 
 pub loop-one-preserved : goal.loop-one-preserved

@@ -1,6 +1,6 @@
 use Rattle.std.proofs.Common.{ap, ◌∙◌, subst}
 use Rattle.dspec_c.specs.Words.{words_of, IsConsumerOf, IsSameConsumer, TheirStay, Theirs}
-use Rattle.dspec_c.proofs.ConsumerHomes.{one_first, same_there}
+use Rattle.dspec_c.proofs.{ConsumerHomes.same_there, Homes.one_first}
 use Rattle.dspec_c.proofs.consumer_place.ConsumerPlace.into_home.Goals as goal
 
 pub returns-clause-same : goal.returns-clause-same

@@ -1,7 +1,7 @@
 use Rattle.std.proofs.Common.{Option, sym, ap, ◌∙◌, subst}
 use Rattle.std.specs.{Arc.arc_value, Prelude.IsSome, Prelude.slice_get}
-use Rattle.dspec_c.specs.Words.{identity, AtHome, CpuStay, CpuSide}
-use Rattle.dspec_c.proofs.Homes.{callable_so, free_on, goes_out, leaves_so, left_again, same_there, went_by}
+use Rattle.dspec_c.specs.Words.{identity, AtHome, CpuStay, CpuSide, IsAtHomeOf, IsSameSide}
+use Rattle.dspec_c.proofs.Homes.{callable_so, goes_out, leaves_so, left_again, same_there}
 use Rattle.dspec_c.proofs.cpu_place.CpuPlace.hand_out_again.Goals as goal
 
 pub unwrap-home-requires : goal.unwrap-home-requires
@@ -18,7 +18,8 @@ of-requires-2-clause-out c = goes_out _ c.of.result _ c.pass-way.ensures.same.0 
     (ap (λ (s : CpuSide). identity s.cpu) c.pass-way.ensures.same.2)
 
 pub invariant_of-self : goal.invariant_of-self
-invariant_of-self c = left_again went_by free_on _ c.self.inside.way c.take.new.self c.of.result c.pass-way.ensures.same.1 (ap (λ (s : CpuStay). s.waits) c.self.view_is ∙ c.requires.again)
+invariant_of-self c = left_again IsSameSide IsAtHomeOf _ c.self.inside.way c.take.new.self c.of.result c.pass-way.ensures.same.1
+    (ap (λ (s : CpuStay). s.waits) c.self.view_is ∙ c.requires.again)
     c.take.ensures.after
 
 pub returns-clause-leaves : goal.returns-clause-leaves

@@ -1,7 +1,7 @@
 use Rattle.std.proofs.Common.{Option, refl, sym, ap, ◌∙◌, subst}
 use Rattle.std.specs.Prelude.{IsSome}
 use Rattle.dspec_c.specs.Words.{AtHome, CpuStay}
-use Rattle.dspec_c.proofs.{Homes.callable_so, Homes.free_on, Homes.same_there, Homes.went_by, Tends.served_in, Tends.served_there}
+use Rattle.dspec_c.proofs.{Homes.callable_so, Homes.same_there, Tends.served_in, Tends.served_there}
 use Rattle.dspec_c.proofs.cpu_place.CpuPlace.serve.Goals as goal
 
 pub unwrap-home-requires : goal.unwrap-home-requires
@@ -14,7 +14,7 @@ serve-settled-requires c =
     (same_there c.self.invariant.0 _ _ c.unwrap-home.result c.self.invariant.2 (sym c.take.ensures.value ∙ c.unwrap-home.ensures))
 
 pub invariant_of-self : goal.invariant_of-self
-invariant_of-self c = served_in went_by free_on _ c.self.inside.way c.self.inside.inside _ c.unwrap-home.result c.serve-settled.new.self c.self.invariant
+invariant_of-self c = served_in _ c.self.inside.way c.self.inside.inside _ c.unwrap-home.result c.serve-settled.new.self c.self.invariant
     (sym c.take.ensures.value ∙ c.unwrap-home.ensures) c.serve-settled.ensures.cpu.same refl
 
 pub returns : goal.returns

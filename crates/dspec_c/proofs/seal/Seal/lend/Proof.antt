@@ -12,11 +12,11 @@ use base.Logic.{SProp, ent, sep, id⊢}
 use base.Fml.{GName, Fml, ftrue, fsep, flft}
 use prog.Memory.{Memory}
 use prog.Routine.{Routine}
-use prog.Wp.{Env, WpFn, Tables}
+use prog.Model.{Model}
+use prog.Wp.{Env, WpFn}
 use types.Logic.{Logic, sem}
 use contract.Monad.{Fun, fact}
-use contract.Running.{tables, tables_of}
-use sound.WpLaws.{WpFn-mono}
+use contract.Running.{MachineTables, tables}
 use types.Kit.{‵, raw, ◌⊛◌, some, later, at_ret, ◌$◌, ◌∵◌, !, qed, move, keep, drop, use1, join, split, split3, group, pick, rewrite, fsplit, fsplit3, fjoin, fpack, frame, suffices, await, done}
 use types.Part.{whole, sub, look_in}
 use types.Run.{stop, fld, addr, load, of_opd, first, blocks, exec, returns, enter}
@@ -29,9 +29,8 @@ use denote.Ref.{MutRef, mut_vals, mut_Tells}
 use denote.Signature.{plain, mut_ref_to}
 use denote.Steps.{nothing, heard, opens}
 use denote.Triple.Clauses.{Clauses}
-use denote.Triple.Spec.{triple_of}
-use denote.Triple.Table.{entered}
-use denote.Triple.Walked.{says, Stays, stay_dropped, walk_of, ends_at, walked, walk_Meets, Goes-spent_ref}
+use denote.Triple.Walked.{says, Stays, stay_dropped, walk_of, ends_at, Goes-spent_ref}
+use Rattle.std.proofs.raw_atomic.Walks.{proved}
 use denote.Follow.{follows, Part, lends_Part}
 use Rattle.core.proofs.alloc.{Calls.token, Shapes.after}
 use Rattle.std_alloc.proofs.BoxSteps.{Form.D, Form.R, Form.τ, Form.handle, Form.word, Steps.box_out, Steps.box_in}
@@ -59,7 +58,7 @@ boxed d x = record { ptr = d.at; alloc = d.alloc; value = x }
 as_param : (x : T.Denot) (b o : ℕ) → part_at T full_share x b o ≡ part_at (R E) full_share x b o
 as_param x b o j = part_of (raw_all (home.the_row_laws.one j)) T.own_val full_share x b o
 
-module _ {M : Type 1} {𝓤 : Ura M} (𝓛 : Logic 𝓤) (at_mem : Memory → SProp 𝓤) (run : Routine → Fun 𝓤) (𝓣 : Tables 𝓤 𝓛.H) where
+module _ {M : Type 1} {𝓤 : Ura M} (𝓛 : Logic 𝓤) (at_mem : Memory → SProp 𝓤) (run : Routine → Fun 𝓤) {𝓜 : Model 𝓤 𝓛.H} (𝓣 : MachineTables 𝓤 𝓛.H 𝓜) where
   open 𝓛 use {H}
 
   abbrev held : Clauses 𝓤 F.ended
@@ -109,11 +108,7 @@ module _ {M : Type 1} {𝓤 : Ura M} (𝓛 : Logic 𝓤) (at_mem : Memory → SP
       nothing ! $ nothing ! $ fjoin ! $ join ! $ nothing ! $ move ! (2 ∷ 0 ∷ []) $ join ! $ join ! $ frame ! $ says ! refl $ done !)))))
 
 pub lend_spec : {M : Type 1} → stated.statement M
-unfolding tables_of
 lend_spec 𝓤 𝓛 𝓜 𝓡 wired =
-    let 𝓣 : Tables 𝓤 𝓛.H = tables_of 𝓤 𝓛.H 𝓜 (tables 𝓤 𝓛.H 𝓜 𝓡 𝓡.env) in
-    let held' = held 𝓛 𝓜.mem 𝓡.returns 𝓣 in
-    entered 𝓤 𝓛.H (triple_of 𝓛 F.signature (F.spec 𝓛 𝓜.mem 𝓡.returns)) 𝓣.C 𝓣.Λ #self code.function (code.unfolded 𝓤 𝓛.H 𝓜 𝓡 wired)
-    (walk_Meets 𝓛 F.ended stayed (Goes-spent_ref 𝓛 1 (0 ∷ []) tt (plain (λ _. S)), tt) held' (WpFn 𝓤 𝓛.H 𝓣.C 𝓣.Λ code.function) (WpFn-mono 𝓤 𝓛.H 𝓛.laws 𝓣 code.function)
-    (walked 𝓛 F.ended stayed held' (WpFn 𝓤 𝓛.H 𝓣.C 𝓣.Λ code.function) (λ κs. (mut_vals, tt)) (λ κs. (mut_Tells (named 0) κs.0 S, tt))
-    (λ κs qs bounds a g are. walk 𝓛 𝓜.mem 𝓡.returns 𝓣 ((κs, qs, bounds, a, (mut_vals a.0, tt)), g))))
+    proved 𝓛 F.ended stayed (F.clauses 𝓛 𝓜.mem 𝓡.returns) 𝓜 𝓡 (Goes-spent_ref 𝓛 1 (0 ∷ []) tt (plain (λ _. S)), tt) #self code.function (code.unfolded 𝓤 𝓛.H 𝓜 𝓡 wired)
+    (λ κs. (mut_vals, tt)) (λ κs. (mut_Tells (named 0) κs.0 S, tt))
+    (λ κs qs bounds a g are. walk 𝓛 𝓜.mem 𝓡.returns (tables 𝓤 𝓛.H 𝓜 𝓡 𝓡.env) ((κs, qs, bounds, a, (mut_vals a.0, tt)), g))

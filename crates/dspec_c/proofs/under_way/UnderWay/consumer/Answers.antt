@@ -11,9 +11,6 @@ pub invariant_of-self : goal.invariant_of-self
 invariant_of-self c = (
   they_stay (arc_value c.self.inside.common) (arc_value c.args.shared) _ _ _ _ c.hand_out.result c.self.invariant.0 c.hand_out.ensures.leave c.hand_out.ensures.none,
   c.self.invariant.1,
-  c.self.invariant.2,
-  c.self.invariant.3,
-  c.self.invariant.4,
 )
 
 pub returns-clause-go : goal.returns-clause-go

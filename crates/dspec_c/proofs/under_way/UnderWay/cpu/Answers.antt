@@ -1,7 +1,7 @@
-use Rattle.std.proofs.Common.{◌≤◌, ◌+◌, sym, ap, ◌∙◌, subst}
-use Rattle.std.specs.{Arc.arc_value, Prelude.vec_capacity, Prelude.vec_len}
+use Rattle.std.proofs.Common.{◌≤◌, ◌+◌, sym, ap, ◌∙◌}
+use Rattle.std.specs.Arc.{arc_value}
 use Rattle.dspec_c.specs.Words.{Going, inside_at}
-use Rattle.dspec_c.proofs.{Ending.asked_count, Ending.asked_for_one, Ending.goes_from, Ending.stays_from, EndingPlaces.place_with}
+use Rattle.dspec_c.proofs.{Ending.asked_for_one, Ending.goes_from, Ending.stays_from, EndingPlaces.place_with}
 use Rattle.dspec_c.proofs.under_way.UnderWay.cpu.Goals as goal
 
 pub hand_out-requires-clause-place : goal.hand_out-requires-clause-place
@@ -12,15 +12,11 @@ pub hand_out-requires-clause-inside : goal.hand_out-requires-clause-inside
 hand_out-requires-clause-inside c = ap (λ (g : Going). inside_at c.args.cpu g.places) c.self.view_is ∙ c.requires.inside
 
 pub invariant_of-self : goal.invariant_of-self
-invariant_of-self c =
-    let count = sym (asked_count (arc_value c.args.shared) c.args.cpu _ _ c.hand_out.result c.hand_out.ensures.leaves c.hand_out.ensures.stays) in (
-      asked_for_one (arc_value c.self.inside.common) (arc_value c.args.shared) _ c.args.cpu _ _ _ c.hand_out.result (c.requires.shares ∙ ap (λ (g : Going). g.shared) (sym c.self.view_is))
-          c.self.invariant.0 c.hand_out.ensures.leaves c.hand_out.ensures.stays,
-      c.self.invariant.1,
-      subst (λ n. n + vec_len c.self.inside.room ≤ vec_capacity c.self.inside.room) count c.self.invariant.2,
-      c.self.invariant.3,
-      subst (λ n. n + vec_len c.self.inside.counts ≤ vec_capacity c.self.inside.counts) count c.self.invariant.4,
-    )
+invariant_of-self c = (
+  asked_for_one (arc_value c.self.inside.common) (arc_value c.args.shared) _ c.args.cpu _ _ _ c.hand_out.result (c.requires.shares ∙ ap (λ (g : Going). g.shared) (sym c.self.view_is))
+      c.self.invariant.0 c.hand_out.ensures.leaves c.hand_out.ensures.stays,
+  c.self.invariant.1,
+)
 
 pub returns-clause-goes : goal.returns-clause-goes
 returns-clause-goes c =

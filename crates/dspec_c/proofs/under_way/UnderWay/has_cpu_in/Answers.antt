@@ -1,7 +1,7 @@
-use Rattle.std.proofs.{Common.◌≤◌, Common.◌+◌, Common.refl, Common.sym, Common.ap, Common.◌∙◌, Common.subst, Common.arith, lemmas.Bool.ltb-true}
-use Rattle.std.specs.Prelude.{nat_lt, vec_capacity, vec_len}
+use Rattle.std.proofs.{Common.◌≤◌, Common.◌+◌, Common.refl, Common.ap, Common.◌∙◌, Common.arith, lemmas.Bool.ltb-true}
+use Rattle.std.specs.Prelude.{nat_lt}
 use Rattle.dspec_c.specs.Words.{Going}
-use Rattle.dspec_c.proofs.{Ending.looks_from, Looking.looked_came, Looking.same_firsts, Looking.same_length, Tends.places_counted, Tends.whole_on}
+use Rattle.dspec_c.proofs.{Ending.looks_from, Looking.looked_came, Looking.same_firsts, Tends.places_counted, Tends.whole_on}
 use Rattle.dspec_c.proofs.under_way.UnderWay.has_cpu_in.Goals as goal
 
 pub is_in-requires : goal.is_in-requires
@@ -10,14 +10,7 @@ is_in-requires c =
     omega (arith, small, places_counted _ _ _ _ c.self.invariant.0)
 
 pub invariant_of-self : goal.invariant_of-self
-invariant_of-self c =
-    let came = looked_came _ _ _ c.is_in.ensures.looked in (
-      whole_on _ _ _ _ _ c.self.invariant.0 (same_firsts _ _ came),
-      c.self.invariant.1,
-      subst (λ n. n + vec_len c.self.inside.room ≤ vec_capacity c.self.inside.room) (sym (same_length _ _ came)) c.self.invariant.2,
-      c.self.invariant.3,
-      subst (λ n. n + vec_len c.self.inside.counts ≤ vec_capacity c.self.inside.counts) (sym (same_length _ _ came)) c.self.invariant.4,
-    )
+invariant_of-self c = (whole_on _ _ _ _ _ c.self.invariant.0 (same_firsts _ _ (looked_came _ _ _ c.is_in.ensures.looked)), c.self.invariant.1)
 
 pub returns-clause-looked : goal.returns-clause-looked
 returns-clause-looked c = looks_from c.args.cpu _ _ _ c.self.view_is refl refl refl c.is_in.ensures.looked

@@ -1,6 +1,6 @@
-use Rattle.std.proofs.Common.{◌≤◌, ◌+◌, refl, sym, subst}
-use Rattle.std.specs.{Arc.arc_value, Prelude.vec_capacity, Prelude.vec_len}
-use Rattle.dspec_c.proofs.{EndingPlaces.place_first, Tends.places_counted, Tends.tended_firsts, Tends.tended_length, Tends.tended_so, Tends.whole_on}
+use Rattle.std.proofs.Common.{◌≤◌, ◌+◌, refl}
+use Rattle.std.specs.Arc.{arc_value}
+use Rattle.dspec_c.proofs.{EndingPlaces.place_first, Tends.places_counted, Tends.tended_firsts, Tends.tended_so, Tends.whole_on}
 use Rattle.dspec_c.proofs.under_way.UnderWay.tend.Goals as goal
 
 pub tend_all-requires-clause-count : goal.tend_all-requires-clause-count
@@ -10,13 +10,7 @@ pub tend_all-requires-clause-place : goal.tend_all-requires-clause-place
 tend_all-requires-clause-place c = λ k first at. place_first (arc_value c.self.inside.common) c.deref.result.now _ _ _ k first c.self.invariant.0 c.deref.ensures at
 
 pub invariant_of-self : goal.invariant_of-self
-invariant_of-self c = (
-  whole_on _ _ _ _ _ c.self.invariant.0 (tended_firsts _ _ _ _ c.tend_all.ensures),
-  c.self.invariant.1,
-  subst (λ n. n + vec_len c.self.inside.room ≤ vec_capacity c.self.inside.room) (sym (tended_length _ _ _ _ c.tend_all.ensures)) c.self.invariant.2,
-  c.self.invariant.3,
-  subst (λ n. n + vec_len c.self.inside.counts ≤ vec_capacity c.self.inside.counts) (sym (tended_length _ _ _ _ c.tend_all.ensures)) c.self.invariant.4,
-)
+invariant_of-self c = (whole_on _ _ _ _ _ c.self.invariant.0 (tended_firsts _ _ _ _ c.tend_all.ensures), c.self.invariant.1)
 
 pub returns : goal.returns
 returns c = tended_so _ _ _ _ _ c.self.view_is refl refl refl (places_counted _ _ _ _ c.self.invariant.0) c.tend_all.ensures

@@ -21,7 +21,7 @@ pub enter_opened-requires : goal.enter_opened-requires
 enter_opened-requires g c =
     let m = c.args.self.now in
     let may = may_next_on (one_comes c.args.cpu c.args.entry c.in-One.deed c.in-One.is c.requires.next) c.in-Opened.is c.in-Opened.cpu refl in
-    record { may = may; slot = opened_slot m.config (history m) may.ranges c.in-Opened.cpu c.in-Opened.id may.legal.0 }
+    record { may = may; slot = (may.legal.0.1.1.1, opened_slot m.config (history m) may.ranges c.in-Opened.cpu c.in-Opened.id may.legal.0) }
 
 pub enter_miss-requires : goal.enter_miss-requires
 enter_miss-requires g c =
@@ -45,7 +45,7 @@ pub enter_settle-requires : goal.enter_settle-requires
 enter_settle-requires g c =
     let m = c.args.self.now in
     let may = may_next_on (one_comes c.args.cpu c.args.entry c.in-One.deed c.in-One.is c.requires.next) c.in-Settle.is c.in-Settle.cpu refl in
-    record { may = may; slot = (settled_slot m.config c.in-Settle.cpu c.in-Settle.id c.in-Settle.fate (history m) may.ranges may.legal.0).1 }
+    record { may = may; slot = settled_slot m.config c.in-Settle.cpu c.in-Settle.id c.in-Settle.fate (history m) may.ranges may.legal.0 }
 
 pub enter_seal-requires : goal.enter_seal-requires
 enter_seal-requires g c =

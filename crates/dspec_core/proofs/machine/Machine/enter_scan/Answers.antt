@@ -1,43 +1,16 @@
 -- A scan is on its CPU's side, and leaves the words.
-use Rattle.std.proofs.Common.{refl, ap, rules}
-use Rattle.dspec_core.specs.Words.{CpuState, history}
-use Rattle.dspec_deeds.specs.declared.deed.Deed.TheVariants as deed
-use Rattle.dspec_core.proofs.{KeptCpus.own_deed, MachineReads.cpu_got, OneMore.adds_own, OneMore.enters, OneMore.latest_first, Rooms.call_fits, Rooms.counts_fit, WordsShown.words_stay}
+use Rattle.std.proofs.Common.{refl, rules}
+use Rattle.dspec_core.proofs.OwnDeeds.{deed_room, own_shows, quiet_entered, same_worn}
 use Rattle.dspec_core.proofs.machine.Machine.enter_scan.Goals as goal
 
 pub scan-requires : goal.scan-requires
 scan-requires g c =
-    let may = c.requires.may in
-    let m = c.args.self.now in
-    let a = c.args.cpu in
-    let h = history m in
-    let d = deed.Scan c.args.cpu c.args.running in
-    let was = may.shown in
-    let own = c.index_mut-own.result.now in
-    let shows = was.cpus a own (cpu_got _ _ m was a own may.cpu c.index_mut-own.ensures.value) in
-    let legal = may.legal in
-    record {
-      calls = call_fits (g.S.Schema.shape_of m.schema) m.config a _ _ h own.side shows.side may.ranges d legal c.requires.few;
-      counts = counts_fit (g.S.Schema.shape_of m.schema) m.config a _ _ h own.side shows.side may.ranges d legal c.requires.few;
-    }
+    let room = deed_room c.requires.may c.index_mut-own.ensures.value c.in_ok-push.ensures.ok c.in_ok-push.ensures.countable in
+    record { calls = room.call; counts = room.counts c.requires.few }
 
 pub returns : goal.returns
 returns g c =
-    let may = c.requires.may in
-    let m = c.args.self.now in
-    let a = c.args.cpu in
-    let h = history m in
-    let d = deed.Scan c.args.cpu c.args.running in
-    let was = may.shown in
-    let own = c.index_mut-own.result.now in
-    let got = cpu_got _ _ m was a own may.cpu c.index_mut-own.ensures.value in
-    let shows = was.cpus a own got in
-    record {
-      shown =
-          let now = own_deed _ _ m.schema m.config a h own shows d c.scan.new.self own.accepted refl (c.scan.ensures.shows m.schema m.config a h shows.side)
-          (ap (λ (x : CpuState g.row.B.Denot). x.counts.worn) c.scan.ensures.rest) shows.accepted in
-          enters _ _ m c.push.new.self m.words d a _ was may.cpu (latest_first m.deeds c.push.new.self d c.in_ok-push.ensures.ok) refl refl
-          (words_stay m.config d h m.words.items (λ t. refl) was.words) now;
-      entered = adds_own m c.push.new.self m.words d a own _ (latest_first m.deeds c.push.new.self d c.in_ok-push.ensures.ok) got refl;
-      refused = search rules;
-    }
+    let was = own_shows c.requires.may c.index_mut-own.ensures.value in
+    let e = quiet_entered c.requires.may c.index_mut-own.ensures.value c.in_ok-push.ensures.ok (refl, refl, refl) was.accepted
+    (c.scan.ensures.shows _ _ _ _ was.side) (same_worn c.scan.ensures.rest) (λ t. refl) in
+    record { shown = e.shown; entered = e.entered; refused = search rules }

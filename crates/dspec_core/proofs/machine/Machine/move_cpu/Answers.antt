@@ -1,28 +1,24 @@
 -- The CPU's progress, and its count of worn calls in both places.
-use Rattle.std.proofs.Common.{◌<◌, ◌^◌, refl, ap, subst, arith}
-use Rattle.dspec_core.specs.Words.{CpuProgress, history, moved_by}
-use Rattle.dspec_core.proofs.{KeptCpus.moving, MachineReads.cpu_got, Makings.cpu_puts, Makings.state_moves, OneMore.progress_there}
+use Rattle.std.proofs.Common.{◌≡◌, ◌<◌, ◌^◌, refl, sym, ap, ◌∙◌, arith}
+use Rattle.dspec_core.specs.Words.{history, moved_by, steps_behind}
+use Rattle.dspec_core.proofs.{KeptCpus.moving, MachineReads.cpu_read, Makings.moves_state, Makings.puts_shown, machine.Machine.move_cpu.Goals.in-Some, machine.Machine.move_cpu.Goals.in-None}
 use Rattle.dspec_core.proofs.machine.Machine.move_cpu.Goals as goal
-
-pub count_steps-own-requires : goal.count_steps-own-requires
-count_steps-own-requires g c =
-    let m = c.args.self.now in
-    let own = c.index_mut-own.result.now in
-    let got = cpu_got g.B.TraceBuffer.has g.B.TraceBuffer.capacity m c.requires.shown c.args.cpu own c.requires.cpu c.index_mut-own.ensures.value in
-    subst (λ (me : CpuProgress). me.steps < 2 ^ 31) (progress_there m.cpus.items c.args.cpu own got) c.requires.steps
 
 pub returns : goal.returns
 returns g c =
-    let has = g.B.TraceBuffer.has in
-    let capacity = g.B.TraceBuffer.capacity in
     let m = c.args.self.now in
     let own = c.index_mut-own.result.now in
-    let got = cpu_got has capacity m c.requires.shown c.args.cpu own c.requires.cpu c.index_mut-own.ensures.value in
+    let is = c.index_mut-own.ensures.value in
     let few : c.args.step.worn < 2 ^ 64 = omega arith in
-    let moved = moving has capacity m.schema m.config c.args.cpu (history m) own (c.requires.shown.cpus c.args.cpu own got) _ _ refl refl few in
+    let behind = steps_behind own.progress.steps in
+    let counted : c.match-step.own ≡ behind c.args.step.flight = elim c.match-step.branch [
+      | in-Some w ↦ w.own-is ∙ ap behind (sym w.in-Some.is)
+      | in-None w ↦ w.own-is ∙ ap behind (sym w.in-None.is)
+    ] in
     record {
-      shown = cpu_puts has capacity m c.args.cpu own _ c.requires.shown got moved;
-      state = state_moves m c.args.cpu own _ (moved_by c.args.step) got
-          (ap (λ n. record own.progress { flight = c.args.step.flight; steps = n; spare = c.args.step.spare; worn = c.args.step.worn }) c.count_steps-own.ensures);
+      shown = puts_shown c.requires.shown c.requires.cpu is
+          (moving _ _ m.schema m.config c.args.cpu (history m) own (cpu_read _ _ m c.requires.shown c.args.cpu own c.requires.cpu is) _ _ refl refl few);
+      state = moves_state c.requires.shown c.requires.cpu is _ (moved_by c.args.step)
+          (ap (λ n. record own.progress { flight = c.args.step.flight; steps = n; spare = c.args.step.spare; worn = c.args.step.worn }) counted);
       schema = refl;
     }

@@ -1,5 +1,6 @@
 -- The words made so far are free, and the cpus show the empty list.
-use Rattle.dspec_core.proofs.Starts.{Made, IsFree, HasBegun}
+use Rattle.dspec_cpu_state.proofs.Starts.{Made}
+use Rattle.dspec_core.proofs.Starts.{IsFree, HasBegun}
 use Rattle.dspec_core.proofs.machine.Machine.new.Given as goal
 
 abbrev pub invariant-loop : goal.invariant-loop

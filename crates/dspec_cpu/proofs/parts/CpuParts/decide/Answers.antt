@@ -1,10 +1,12 @@
-use Rattle.std.proofs.Common.{◌≢◌, ◌+◌, ◌==◌, ◌<◌, ◌^◌, ◌∙◌, true, false, if◌then◌else◌, arith, refl, sym, ap, subst, true≢false}
-use Rattle.dspec_cpu.specs.Words.{Committing, Config, CpuOp, count_of, in_range, mark, CommitsNow, known, set_up, cpu_of, rests, words_of, act_of}
+use Rattle.std.proofs.Common.{ℕ, Bool, ◌≢◌, ◌+◌, ◌==◌, ◌<◌, ◌^◌, ◌∙◌, true, false, if◌then◌else◌, arith, refl, sym, ap, subst, true≢false}
+use Rattle.dspec_cpu.specs.Words.{Committing, Config, CpuOp, count_of, in_range, mark, CommitsNow, known, set_up, cpu_of, rests, words_of, act_of, TakesTurn, Speculation}
+use Rattle.dspec_cpu.specs.declared.reaching.SlotTurn.{SlotTurn}
 use Rattle.dspec_deeds.specs.declared.calls.CpuOp.TheVariants as op
 use Rattle.dspec_cpu.specs.declared.reaching.Reach.TheVariants as reach
-use Rattle.dspec_cpu.proofs.{Commits.left, Commits.left_open, Commits.released, Decided.five_steps, Decided.reached_here, Decided.undecided, Decisions.commits_now, Decisions.fate_tells}
-use Rattle.dspec_cpu.proofs.{Decisions.worn_shown, Discards.thrown, Leaves.worn_leaves, Leaves.reached_leaves, Leaves.released_leaves, Leaves.copied_leaves, Limits.has_room, Limits.limits}
-use Rattle.dspec_cpu.proofs.{Marked.marked_is, ReachDeeds.decision_grants_none, Reaches.slot_inside, Ready.roomy, Ready.few_drops, Speculates.own_mark}
+use Rattle.dspec_cpu.specs.declared.reaching.SlotTurn.TheVariants as turn
+use Rattle.dspec_cpu.proofs.{Commits.left, Commits.left_open, Commits.released, Decided.deciding, Decided.five_steps, Decided.reached_here, Decided.undecided, Decisions.commits_now}
+use Rattle.dspec_cpu.proofs.{Decisions.fate_tells, Decisions.worn_shown, Discards.thrown, Leaves.worn_leaves, Leaves.reached_leaves, Leaves.released_leaves, Leaves.copied_leaves, Limits.has_room}
+use Rattle.dspec_cpu.proofs.{Limits.limits, Marked.marked_is, ReachDeeds.decision_grants_none, Reaches.slot_inside, Ready.roomy, Ready.few_drops, Speculates.own_mark}
 use Rattle.dspec_cpu.proofs.parts.CpuParts.decide.Goals as goal
 
 pub returns-then-self-clause-decides : goal.returns-then-self-clause-decides
@@ -19,8 +21,19 @@ returns-then-self-clause-decides g c = record {
 pub returns-then-self-clause-leaves : goal.returns-then-self-clause-leaves
 returns-then-self-clause-leaves g c = worn_leaves c.args.self.now 5 c.wear.new.self c.if-self.true c.wear.ensures
 
-pub go_on-reached-requires-clause-mine : goal.go_on-reached-requires-clause-mine
-go_on-reached-requires-clause-mine g c = λ within.
+-- it is such a call at every word
+takes : (commits : Bool) (id : Speculation) (fit mine : Bool) (n : ℕ) → TakesTurn (if commits then turn.Commit else turn.Discard) id mine (deciding commits id fit n mine)
+takes true id fit mine n = λ w. refl
+takes false id fit mine n = λ w. refl
+
+pub go_on_as-reached-requires-clause-turn : goal.go_on_as-reached-requires-clause-turn
+go_on_as-reached-requires-clause-turn g c =
+    subst (λ (x : SlotTurn × CpuOp). TakesTurn x.0 c.args.id c.has-mine.result
+    record { op = x.1; fits = c.measure_slot-fits.result.0; count = c.measure_slot-fits.result.1; mine = c.has-mine.result }) (λ i. (sym c.turn_of-turn.ensures i, sym c.op_of-op.ensures i))
+    (takes c.args.commits c.args.id c.measure_slot-fits.result.0 c.has-mine.result c.measure_slot-fits.result.1)
+
+pub go_on_as-reached-requires-clause-mine : goal.go_on_as-reached-requires-clause-mine
+go_on_as-reached-requires-clause-mine g c = λ within.
     let cpu = c.args.self.now in
     let ready = c.requires.ready in
     marked_is cpu.config c.args.id _ _ c.has-mine.ensures.tells (sym c.is_inside-inside.ensures ∙ within) cpu.cpu ready.steady.list ready.steady.listed.shown.side.marks
@@ -45,10 +58,10 @@ returns-in-Stopped g c =
     let cpu = c.args.self.now in
     let ready = c.requires.ready in
     let id = c.args.id in
-    let seat = c.go_on-reached.new.seat in
+    let seat = c.go_on_as-reached.new.seat in
     let side = c.leave_undecided in
     let got = reached_here _ _ _ words cpu ready c.op_of-op.ensures c.in-Stopped.ensures.reached in
-    let ended = undecided _ _ _ words cpu ready seat side.new.self c.go_on-reached.ensures.seat c.args.commits true got
+    let ended = undecided _ _ _ words cpu ready seat side.new.self c.go_on_as-reached.ensures.seat c.args.commits true got
     (λ p. side.ensures.commits cpu.schema cpu.config cpu.cpu p id) (λ p. side.ensures.discards cpu.schema cpu.config cpu.cpu p id) in
     record {
       ready = ended.ready;
@@ -63,10 +76,10 @@ returns-in-Void g c =
     let cpu = c.args.self.now in
     let ready = c.requires.ready in
     let id = c.args.id in
-    let seat = c.go_on-reached.new.seat in
+    let seat = c.go_on_as-reached.new.seat in
     let side = c.leave_undecided-in-Void in
     let got = reached_here _ _ _ words cpu ready c.op_of-op.ensures c.in-Void.ensures.reached in
-    let ended = undecided _ _ _ words cpu ready seat side.new.self c.go_on-reached.ensures.seat c.args.commits false got
+    let ended = undecided _ _ _ words cpu ready seat side.new.self c.go_on_as-reached.ensures.seat c.args.commits false got
     (λ p. side.ensures.commits cpu.schema cpu.config cpu.cpu p id) (λ p. side.ensures.discards cpu.schema cpu.config cpu.cpu p id) in
     record {
       ready = ended.ready;
@@ -108,11 +121,11 @@ returns-then-not-commits g c =
     let words = words_of c.args.shared.now in
     let cpu = c.args.self.now in
     let ready = c.requires.ready in
-    let seat = c.go_on-reached.new.seat in
+    let seat = c.go_on_as-reached.new.seat in
     let side = c.decide in
     let got = reached_here _ _ _ words cpu ready (c.op_of-op.ensures ∙ ap (λ b. if b then op.Commit c.args.id else op.Discard c.args.id) c.if-not-commits.true) c.in-Done.ensures.reached in
     let within = c.is_inside-inside.ensures ∙ (got.present refl).1 in
-    let ended = thrown _ _ _ words cpu ready seat got c.go_on-reached.ensures.seat c.in-Done.ensures.release
+    let ended = thrown _ _ _ words cpu ready seat got c.go_on_as-reached.ensures.seat c.in-Done.ensures.release
     (λ p shown. marked_is cpu.config c.args.id _ _ c.has-mine.ensures.tells (got.present refl).1 cpu.cpu p shown.side.marks)
     (c.measure_slot-fits.ensures.count within) side.new.self (side.ensures.discards cpu.schema cpu.config cpu.cpu) c.args.commits c.if-not-commits.true in
     record {
@@ -128,7 +141,7 @@ release_word-requires-clause-call g c =
     let cpu = c.args.self.now in
     let ready = c.requires.ready in
     let id = c.args.id in
-    let seat = c.go_on-reached.new.seat in
+    let seat = c.go_on_as-reached.new.seat in
     let to = c.in-Done.to in
     let op_is = c.op_of-op.ensures ∙ ap (λ b. if b then op.Commit id else op.Discard id) c.if-not-commits.false in
     let got = reached_here _ _ _ words cpu ready op_is c.in-Done.ensures.reached in
@@ -141,14 +154,14 @@ returns-in_default g c =
     let words = words_of c.args.shared.now in
     let cpu = c.args.self.now in
     let ready = c.requires.ready in
-    let seat = c.go_on-reached.new.seat in
+    let seat = c.go_on_as-reached.new.seat in
     let to = c.in-Done.to in
     let side = c.decide-in-Done in
     let answer = c.answer_of-answer in
     let got = reached_here _ _ _ words cpu ready (c.op_of-op.ensures ∙ ap (λ b. if b then op.Commit c.args.id else op.Discard c.args.id) c.if-not-commits.false) c.in-Done.ensures.reached in
     let within = c.is_inside-inside.ensures ∙ (got.present refl).1 in
     let several : to.code ≢ Committing = λ e. absurd (c.in_default.not-Committing (c.code.ensures ∙ e)) in
-    let ended = left_open _ _ _ words cpu ready seat c.args.commits c.if-not-commits.false got c.go_on-reached.ensures.seat side.new.self
+    let ended = left_open _ _ _ words cpu ready seat c.args.commits c.if-not-commits.false got c.go_on_as-reached.ensures.seat side.new.self
     answer.result answer.ensures (λ p shown. marked_is cpu.config c.args.id _ _ c.has-mine.ensures.tells (got.present refl).1 cpu.cpu p shown.side.marks)
     (c.measure_slot-fits.ensures.fits within) (c.measure_slot-fits.ensures.count within)
     c.committed_as.result c.committed_as.ensures (side.ensures.commits cpu.schema cpu.config cpu.cpu) c.in-Done.ensures.release several in
@@ -165,12 +178,12 @@ returns-in-Committing g c =
     let words = words_of c.args.shared.now in
     let cpu = c.args.self.now in
     let ready = c.requires.ready in
-    let seat = c.go_on-reached.new.seat in
+    let seat = c.go_on_as-reached.new.seat in
     let side = c.decide-in-Done in
     let answer = c.answer_of-answer in
     let got = reached_here _ _ _ words cpu ready (c.op_of-op.ensures ∙ ap (λ b. if b then op.Commit c.args.id else op.Discard c.args.id) c.if-not-commits.false) c.in-Done.ensures.reached in
     let within = c.is_inside-inside.ensures ∙ (got.present refl).1 in
-    let ended = released _ _ _ words cpu ready seat c.args.commits c.if-not-commits.false got c.go_on-reached.ensures.seat side.new.self
+    let ended = released _ _ _ words cpu ready seat c.args.commits c.if-not-commits.false got c.go_on_as-reached.ensures.seat side.new.self
     answer.result answer.ensures (λ p shown. marked_is cpu.config c.args.id _ _ c.has-mine.ensures.tells (got.present refl).1 cpu.cpu p shown.side.marks)
     (c.measure_slot-fits.ensures.fits within) (c.measure_slot-fits.ensures.count within)
     c.committed_as.result c.committed_as.ensures (side.ensures.commits cpu.schema cpu.config cpu.cpu) c.release_word.new.self c.slot.result c.slot.ensures.value

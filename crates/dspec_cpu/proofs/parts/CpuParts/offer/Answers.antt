@@ -1,22 +1,28 @@
-use Rattle.std.proofs.Common.{◌≡◌, ◌+◌, ◌==◌, ◌≤◌, ◌∙◌, ℕ, Bool, if◌then◌else◌, true, false, true≢false, [], ◌∷◌, arith, refl, sym, ap, subst}
-use Rattle.dspec_cpu.specs.Words.{Record, fits_speculative, mark, known, Goes, Stands, Reached, words_of, CallLeaves, of_slot, Speculate, Config, Counts}
-use Rattle.dspec_deeds.specs.declared.calls.CpuOp.TheVariants as op
+use Rattle.std.proofs.Common.{◌≡◌, ◌+◌, ◌==◌, ◌≤◌, ◌∙◌, ℕ, Bool, if◌then◌else◌, true, false, [], ◌∷◌, arith, refl, sym, ap, subst}
+use Rattle.dspec_cpu.specs.Words.{fits_speculative, mark, known, Goes, Stands, Reached, words_of, CallLeaves, of_slot, TakesTurn, IsOn, Speculate, Config, Doing, Counts}
 use Rattle.dspec_deeds.specs.declared.deed.SpeculateFate.TheVariants as spoken
 use Rattle.dspec_cpu.specs.declared.reaching.Reach.TheVariants as reach
-use Rattle.dspec_cpu.proofs.{Behind.Behind, Behind.behind, Behind.one_behind, Decided.reached_here, Leaves.reached_leaves, Limits.limits, ReachDeeds.unstopped, Reaches.slot_inside}
-use Rattle.dspec_cpu.proofs.{Reaches.is_running, Ready.roomy, Ready.few, Shown.shows, Speculates.asked, Speculates.grants, Speculates.grant_deeds, Speculates.caller_of, Speculates.own_mark}
-use Rattle.dspec_cpu.proofs.{Speculates.granted_shown, parts.CpuParts.offer.Given.Over, parts.CpuParts.offer.Goals.After-grant-kept, parts.CpuParts.offer.Goals.then-inside}
-use Rattle.dspec_cpu.proofs.{parts.CpuParts.offer.Goals.else-inside}
+use Rattle.dspec_cpu.specs.declared.reaching.SlotTurn.TheVariants as turn
+use Rattle.dspec_cpu.proofs.{Behind.Behind, Behind.behind, Behind.one_behind, Decided.reached_as, Leaves.reached_leaves, Limits.limits, ReachDeeds.unstopped, Reaches.slot_inside, Reaches.is_running}
+use Rattle.dspec_cpu.proofs.{Ready.roomy, Ready.few, Shown.shows, Speculates.asked, Speculates.grants, Speculates.grant_deeds, Speculates.caller_of, Speculates.own_fits, Speculates.own_mark}
+use Rattle.dspec_cpu.proofs.{Speculates.granted_shown, parts.CpuParts.offer.Given.Over, parts.CpuParts.offer.Goals.After-grant-kept}
 use Rattle.dspec_deeds.proofs.TestLemmas.{number_is_itself}
 use Rattle.dspec_cpu.proofs.parts.CpuParts.offer.Goals as goal
+
+pub go_on-reached-requires-clause-on : goal.go_on-reached-requires-clause-on
+go_on-reached-requires-clause-on g c = subst (λ (d : Doing). IsOn c.args.id d.op) (sym c.requires.doing) refl
+
+pub go_on-reached-requires-clause-turn : goal.go_on-reached-requires-clause-turn
+go_on-reached-requires-clause-turn g c = subst (λ (d : Doing). TakesTurn turn.Speculate c.args.id c.args.mine d) (sym c.requires.doing) (λ w. refl)
 
 pub go_on-reached-requires-clause-mine : goal.go_on-reached-requires-clause-mine
 go_on-reached-requires-clause-mine g c = λ within.
     let cpu = c.args.self.now in
     let ready = c.requires.ready in
-    c.requires.mine within ready.steady.list ready.steady.listed.shown
+    ap (λ (d : Doing). d.mine) c.requires.doing
+    ∙ (c.requires.mine within ready.steady.list ready.steady.listed.shown
     ∙ (ap (λ m. m == c.args.id.issue + 1) (own_mark cpu.cpu c.args.id.slot (known cpu.seat).own ready.steady.list cpu.config ready.steady.listed.own)
-    ∙ ap (λ n. mark n c.args.id.slot (known cpu.seat).own == c.args.id.issue + 1) (sym ready.steady.seat))
+    ∙ ap (λ n. mark n c.args.id.slot (known cpu.seat).own == c.args.id.issue + 1) (sym ready.steady.seat)))
 
 pub speculate_nowhere-requires : goal.speculate_nowhere-requires
 speculate_nowhere-requires g c =
@@ -35,8 +41,8 @@ grant-kept-requires-clause-slot g c =
     let cpu = c.args.self.now in
     let ready = c.requires.ready in
     let w = known c.go_on-reached.new.seat in
-    let got = subst (λ (x : Config × ℕ × Record). Reached x.0 x.1 (asked c.args.id x.2 c.if-inside.fits c.args.mine) c.args.id (known cpu.seat) c.go_on-reached.result w)
-    (λ i. (ready.config i, ready.steady.seat i, c.to_rec-copied.ensures i)) c.go_on-reached.ensures.reached in
+    let got = subst (λ (x : Config × ℕ × Doing). Reached x.0 x.1 x.2 c.args.id (known cpu.seat) c.go_on-reached.result w)
+    (λ i. (ready.config i, ready.steady.seat i, c.requires.doing i)) c.go_on-reached.ensures.reached in
     let slot = slot_inside cpu.config c.args.id (got.present (grants c.go_on-reached.result c.in-Granted.is)).1 in
     let side = ready.steady.listed.shown.side in
     (slot.0, within slot.1 (sym side.buffer_count), within slot.1 (sym side.mark_count), within slot.1 (sym side.specdrop_count))
@@ -63,7 +69,7 @@ returns-in-Stopped g c =
     let r = g.R.Recorded.as_record c.args.rec in
     let seat = c.go_on-reached.new.seat in
     let side = c.speculate_nowhere in
-    let got = reached_here _ _ _ (words_of c.args.shared.now) cpu ready (ap (op.Speculate id) c.to_rec-copied.ensures) c.in-Stopped.ensures.reached in
+    let got = reached_as _ _ _ (words_of c.args.shared.now) cpu ready c.requires.doing c.in-Stopped.ensures.reached in
     let ended = one_behind _ _ _ (words_of c.args.shared.now) cpu ready seat c.go_on-reached.ensures.seat side.new.self (Speculate cpu.cpu id r spoken.Stopped) got.goes got.stands refl
     (number_is_itself cpu.cpu) ready.steady.idle refl (λ p had was. (tt, side.ensures.shows cpu.schema cpu.config cpu.cpu p id r was)) in
     record {
@@ -82,7 +88,7 @@ returns-in-Void g c =
     let r = g.R.Recorded.as_record c.args.rec in
     let seat = c.go_on-reached.new.seat in
     let side = c.speculate_nowhere-in-Void in
-    let got = reached_here _ _ _ (words_of c.args.shared.now) cpu ready (ap (op.Speculate id) c.to_rec-copied.ensures) c.in-Void.ensures.reached in
+    let got = reached_as _ _ _ (words_of c.args.shared.now) cpu ready c.requires.doing c.in-Void.ensures.reached in
     let ended = one_behind _ _ _ (words_of c.args.shared.now) cpu ready seat c.go_on-reached.ensures.seat side.new.self (Speculate cpu.cpu id r spoken.Void) got.goes got.stands refl
     (number_is_itself cpu.cpu) ready.steady.idle refl (λ p had was. (tt, side.ensures.shows cpu.schema cpu.config cpu.cpu p id r was)) in
     record {
@@ -105,21 +111,18 @@ granted g c b is =
     let ready = c.requires.ready in
     let id = c.args.id in
     let r = g.R.Recorded.as_record c.args.rec in
-    let fit = c.if-inside.fits in
+    let shape = g.S.Schema.shape_of cpu.schema in
+    let fit = fits_speculative shape cpu.config cpu.cpu id r (known cpu.seat).own in
     let mine = c.args.mine in
     let seat = c.go_on-reached.new.seat in
     let reached = c.go_on-reached.result in
     let side = c.grant-kept in
-    let got = reached_here _ _ _ words cpu ready (ap (op.Speculate id) c.to_rec-copied.ensures) c.go_on-reached.ensures.reached in
+    let got = reached_as _ _ _ words cpu ready c.requires.doing c.go_on-reached.ensures.reached in
     let present = got.present (grants reached c.in-Granted.is) in
     let inside = c.requires.inside ∙ present.1 in
     let caller = caller_of cpu.config cpu.cpu id (known cpu.seat).own mine (few _ _ _ words cpu ready) present.0 in
     let caller_now = caller ready.steady.list ready.steady.listed.own (c.requires.mine inside ready.steady.list ready.steady.listed.shown) in
-    let answered : fit ≡ fits_speculative (g.S.Schema.shape_of cpu.schema) cpu.config cpu.cpu id r ready.steady.list = elim c.if-inside.branch [
-      | then-inside w ↦ w.fits-is ∙ w.fits_slot-fits.ensures cpu.cpu ready.steady.list (shows _ _ _ cpu.side ready.steady.list ready.steady.listed.shown) caller_now
-      | else-inside w ↦ absurd (true≢false (sym inside ∙ w.if-inside.false))
-    ] in
-    let fit_is : fit ≡ b = answered
+    let fit_is : fit ≡ b = sym (own_fits shape cpu.config cpu.cpu id r (known cpu.seat).own ready.steady.list ready.steady.listed.own)
     ∙ (sym (side.ensures.answer cpu.config cpu.cpu ready.steady.list (shows _ _ _ cpu.side ready.steady.list ready.steady.listed.shown) caller_now) ∙ is) in
     let deeds = grant_deeds cpu.cpu (asked id r fit mine) id r reached b c.in-Granted.is fit_is in (
       behind _ _ _ words cpu ready seat c.go_on-reached.ensures.seat side.new.self (Speculate cpu.cpu id r (if b then spoken.Kept else spoken.Dropped) ∷ [])

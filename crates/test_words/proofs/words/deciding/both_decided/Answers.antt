@@ -35,8 +35,8 @@ returns-clause-rests c =
     (sym c.commit_at.ensures ∙ c.in-Attempt.is) c.shown-ours.ensures.next in
     let theirs = attempted k (known second) (known c.shown-theirs.new.seat) second.cpu c.args.discard.now (op.Discard c.args.id) c.shown-theirs.result c.in-Attempt-discard_at.thrown
     c.requires.discard (sym c.discard_at.ensures ∙ c.in-Attempt-discard_at.is) c.shown-theirs.ensures.next in (
-      tried_rests k first.cpu (known c.shown-ours.new.seat) (known c.try_word-2.new.self) c.args.commit.now c.in-Err.word false (subst IsDeciding (sym c.requires.commit) tt)
+      tried_rests k first.cpu (known c.shown-ours.new.seat) (known c.try_word-2.new.seat) c.args.commit.now c.in-Err.word false (subst IsDeciding (sym c.requires.commit) tt)
           (subst (Unused k first.cpu) (sym ours.1) c.requires.first.2) c.in-Err.ensures.tried.step,
-      tried_rests k second.cpu (known c.shown-theirs.new.seat) (known c.try_word.new.self) c.args.discard.now c.shown-theirs.result true (subst IsDeciding (sym c.requires.discard) tt)
+      tried_rests k second.cpu (known c.shown-theirs.new.seat) (known c.try_word.new.seat) c.args.discard.now c.shown-theirs.result true (subst IsDeciding (sym c.requires.discard) tt)
           (subst (Unused k second.cpu) (sym theirs.1) c.requires.second.2) c.in-Ok.ensures.tried.step,
     )

@@ -30,7 +30,7 @@ try_word-requires-2-clause-call c =
 pub try_word-requires-3-clause-call : goal.try_word-requires-3-clause-call
 try_word-requires-3-clause-call c =
     let seat = c.shown-theirs.new.seat in
-    let new = c.try_word-2.new.self in
+    let new = c.try_word-2.new.seat in
     let k = c.args.words.now.config in
     let call = c.args.call.now in
     let from = c.in-Err.word in

@@ -1,6 +1,0 @@
-use Rattle.std.proofs.Common.{◌∷◌, sym, ap, ◌∙◌}
-use Rattle.dspec_c.proofs.Each.{first_and_rest}
-use Rattle.dspec_c.proofs.gather.next_place.Goals as goal
-
-pub returns : goal.returns
-returns c = record { cons = sym (ap (λ xs. c.remove.result ∷ xs) c.remove.ensures.items ∙ first_and_rest c.args.places.now.items c.remove.result c.requires c.remove.ensures.value) }

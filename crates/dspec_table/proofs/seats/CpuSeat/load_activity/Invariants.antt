@@ -1,4 +1,0 @@
-use Rattle.dspec_table.proofs.seats.CpuSeat.load_activity.Given as goal
-
-abbrev pub ghosts-load_activity_as : goal.ghosts-load_activity_as
-ghosts-load_activity_as a = record { doing = a.doing.now }

@@ -1,4 +1,0 @@
-use Rattle.dspec_table.proofs.seats.CpuSeat.load_word.Given as goal
-
-abbrev pub ghosts-load_word_as : goal.ghosts-load_word_as
-ghosts-load_word_as a = record { doing = a.doing.now }
