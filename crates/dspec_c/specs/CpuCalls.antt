@@ -30,19 +30,19 @@ abbrev pub put_record : EnabledRows → ℕ → ℕ → List ℕ → Option Reco
 put_record e claim stamp ws =
     if stamp_fits e.header stamp then option_map (λ fs. packed_record (claim % 2 ^ 32) stamp fs ws) (claimed e.rows claim (length ws)) else None
 
--- that record was traced; where there is none, there is no answer, and nothing was done
-pub record Put (claim stamp : ℕ) (ws : List ℕ) (a : Option Traced) (old new : Cpu EnabledRows) : Type 0 where
+-- that record was handed over so; where there is none, there is no answer, and nothing was done
+pub record PutBy {A : Type 0} (Does : Record → A → Cpu EnabledRows → Cpu EnabledRows → Type 0) (claim stamp : ℕ) (ws : List ℕ) (a : Option A) (old new : Cpu EnabledRows) : Type 0 where
   pub same : identity new ≡ identity old
   pub due : is_some a ≡ is_some (put_record (schema_of old) claim stamp ws)
   pub refused : IfNone a (new ≡ old)
-  pub one : IfSome a (λ t. IfSome (put_record (schema_of old) claim stamp ws) (λ r. TracesOne Has r t old new))
+  pub one : IfSome a (λ t. IfSome (put_record (schema_of old) claim stamp ws) (λ r. Does r t old new))
 
--- that record was offered to a speculation; where there is none, there is no answer, and nothing was done
-pub record PutIn (id : Speculation) (claim stamp : ℕ) (ws : List ℕ) (a : Option Spoken) (old new : Cpu EnabledRows) : Type 0 where
-  pub same : identity new ≡ identity old
-  pub due : is_some a ≡ is_some (put_record (schema_of old) claim stamp ws)
-  pub refused : IfNone a (new ≡ old)
-  pub one : IfSome a (λ s. IfSome (put_record (schema_of old) claim stamp ws) (λ r. SpeculatesOne Has id r s old new))
+-- it was traced, or offered to a speculation
+abbrev pub Put : ℕ → ℕ → List ℕ → Option Traced → Cpu EnabledRows → Cpu EnabledRows → Type 0
+Put = PutBy (λ r t. TracesOne Has r t)
+
+abbrev pub PutIn : Speculation → ℕ → ℕ → List ℕ → Option Spoken → Cpu EnabledRows → Cpu EnabledRows → Type 0
+PutIn id = PutBy (λ r s. SpeculatesOne Has id r s)
 
 -- `Cpu::speculation`
 pub record CpuOpened (a : Opening) (old new : Cpu EnabledRows) : Type 0 where

@@ -5,7 +5,7 @@ pub use Rattle.dspec_c.specs.ClosedCalls.{TellsCountsOf}
 pub use Rattle.dspec_c.specs.Closing.{fulls, held_in_each, KeepAll, KeepsHeld, names}
 pub use Rattle.dspec_c.specs.ConsumerCalls.{OnConsumer, OnTheirs, ToldSo}
 pub use Rattle.dspec_c.specs.ConsumerHomes.{AreHomeOf, IsSameTheirs, IsTheirPlaceWith, LeaveTheirs, Theirs, theirs_of, TheirStay}
-pub use Rattle.dspec_c.specs.CpuCalls.{CommittedIfRoom, OnCpu, one_refused, OnSide, put_record, Reports, ServicedSo}
+pub use Rattle.dspec_c.specs.CpuCalls.{CommittedIfRoom, OnCpu, one_refused, OnSide, Put, put_record, PutBy, PutIn, Reports, ServicedSo}
 pub use Rattle.dspec_c.specs.Handles.{held_in, is_full}
 pub use Rattle.dspec_c.specs.Homes.{AtHome, Came, cpu_side_of, CpuSide, CpuStay, HasGone, IsAtHomeOf, IsDesk, IsOut, IsPlaceWith, IsSameAsAll, IsSameSide, IsUnused, LeavesPlace, Stay}
 pub use Rattle.dspec_c.specs.Lending.{with_held, with_inside}

@@ -33,21 +33,21 @@ fn has_session(session: &mut Handle) -> bool
     ensures has { result ≡ is_session_in (held_in session.old) }
     ensures leaves { KeepsHeld session.old session.new }
 {
-    session.is_held() && is_session(session.lend())
+    session.is_held() && is_session(&session.lend().held)
 }
 
 fn has_consumer(consumer: &mut Handle) -> bool
     ensures has { result ≡ is_consumer_in (held_in consumer.old) }
     ensures leaves { KeepsHeld consumer.old consumer.new }
 {
-    consumer.is_held() && is_consumer(consumer.lend())
+    consumer.is_held() && is_consumer(&consumer.lend().held)
 }
 
 fn has_cpu(cpu: &mut Handle) -> bool
     ensures has { result ≡ is_cpu_in (held_in cpu.old) }
     ensures leaves { KeepsHeld cpu.old cpu.new }
 {
-    cpu.is_held() && is_cpu(cpu.lend())
+    cpu.is_held() && is_cpu(&cpu.lend().held)
 }
 
 // Whether each of the handles has a CPU.

@@ -41,7 +41,7 @@ pub extern "C" fn dspec_trace(cpu: &mut Handle, epid: u32, stamp: u64, values: &
     if !cpu.is_held() {
         return bad_handle();
     }
-    held_trace(cpu.lend(), epid, stamp, values)
+    held_trace(&mut cpu.lend().held, epid, stamp, values)
 }
 
 /// Opens a speculation.
@@ -68,7 +68,7 @@ pub extern "C" fn dspec_speculate(
     if !cpu.is_held() {
         return bad_handle();
     }
-    held_speculate(cpu.lend(), id, epid, stamp, values)
+    held_speculate(&mut cpu.lend().held, id, epid, stamp, values)
 }
 
 /// Commits a speculation.

@@ -1,8 +1,10 @@
-ghost use Rattle.std.specs.Prelude.{◌≡◌};
+ghost use Rattle.std.specs.Prelude.{◌≡◌, Bool, true, false};
+ghost use Rattle.dspec_c.specs.{Seals.seal_owns, Seals.kept_coded, declared.handle.HandleContents.HandleContents};
 
 use crate::held::HandleValue;
-use crate::seal::Seal;
+use crate::parts::BoxParts;
 use std::alloc::{AllocError, Global};
+use std::marker::Model;
 use std::mem;
 
 /// A call on what a handle has, where that is of this kind; else the export answers so.
@@ -11,7 +13,7 @@ macro_rules! lent {
         if !$handle.is_held() {
             return $none;
         }
-        match $handle.lend() {
+        match &mut $handle.lend().held {
             HandleValue::$kind($held) => $call,
             _ => $none,
         }
@@ -22,7 +24,7 @@ pub(crate) use lent;
 
 /// What is in a handle's box. Where that is let go, what was handed out goes home.
 pub struct HandleContents {
-    held: HandleValue,
+    pub(crate) held: HandleValue,
 }
 
 impl Drop for HandleContents {
@@ -85,6 +87,76 @@ impl HandleBox {
     }
 }
 
+/// A box whose type names no other type, so that C can hold it; or room for one.
+#[repr(C)]
+struct Seal {
+    at: *mut u8,
+    alloc: Global,
+    pub ghost full: { Bool },
+    pub ghost inside: { HandleContents } by { kept_coded },
+}
+
+impl Model for Seal {
+    ghost also_owns = { λ s. seal_owns s.full s.alloc s.at s.inside };
+}
+
+impl Seal {
+    ghost use Rattle.std.specs.Prelude.{◌≡◌, true, false};
+
+    fn of(b: Box<HandleContents>) -> Seal
+        ensures { (result.full ≡ true) × (result.inside ≡ b.value) }
+    {
+        Seal::of_parts(BoxParts::of(b))
+    }
+
+    fn into_box(self) -> Box<HandleContents>
+        requires { self.full ≡ true }
+        ensures { result.value ≡ self.inside }
+    {
+        self.into_parts().into_box()
+    }
+
+    fn blank(alloc: Global) -> Seal
+        ensures { result.full ≡ false }
+    {
+        Seal {
+            at: std::ptr::null_mut(),
+            alloc,
+        }
+    }
+
+    // Takes one apart that has no box.
+    fn leave(self)
+        requires { self.full ≡ false }
+    {
+        let Seal { at: _, alloc: _ } = self;
+    }
+
+    fn of_parts(parts: BoxParts<HandleContents, Global>) -> Seal
+        ensures { (result.full ≡ true) × (result.inside ≡ parts.value) }
+    {
+        let BoxParts { at, alloc } = parts;
+        Seal {
+            at: at as *mut u8,
+            alloc,
+        }
+    }
+
+    fn into_parts(self) -> BoxParts<HandleContents, Global>
+        requires { self.full ≡ true }
+        ensures { result.value ≡ self.inside }
+    {
+        let Seal { at, alloc } = self;
+        BoxParts {
+            at: at as *mut HandleContents,
+            alloc,
+        }
+    }
+}
+
+// C gives a handle to another thread, with what it holds.
+unsafe impl Send for Seal {}
+
 /// A box or nothing, as C holds it.
 #[repr(C)]
 pub struct Handle {
@@ -95,7 +167,7 @@ pub struct Handle {
 
 impl Handle {
     ghost use Rattle.std.specs.{Borrow.sem, Prelude.◌≡◌, Prelude.is_some, Prelude.true, Prelude.false, Prelude.IfSome};
-    ghost use Rattle.dspec_c.specs.{Handles.held_in, Handles.is_full, Lending.LendsHeld};
+    ghost use Rattle.dspec_c.specs.{Handles.held_in, Handles.is_full, Lending.LendsInside};
 
     /// Whether something is in the handle.
     pub(crate) fn is_held(&self) -> bool
@@ -105,12 +177,12 @@ impl Handle {
     }
 
     /// What is in the handle, for a call; the handle stays full.
-    pub(crate) fn lend(&mut self) -> &mut HandleValue
+    pub(crate) fn lend(&mut self) -> &mut HandleContents
         requires { is_full self.old ≡ true }
-        ensures* writes_back { sem 𝓛 (LendsHeld self.entry result) }
-        ensures value { result.now ≡ held_in self.old }
+        ensures* writes_back { sem 𝓛 (LendsInside self.entry result) }
+        ensures value { result.now.held ≡ held_in self.old }
     {
-        &mut self.seal.lend().held
+        unsafe { &mut *(self.seal.at as *mut HandleContents) }
     }
 
     /// Fills the handle, which was empty.

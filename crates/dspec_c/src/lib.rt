@@ -3,7 +3,7 @@
 //!
 //! | File | What is in it |
 //! |---|---|
-//! | `handle.rt`, `seal.rt`, `parts.rt`, `held.rt`, `boxed.rt` | a box in C's memory, which is lent for a call (the walks over raw pointers in `proofs/seal` and `proofs/parts`); room for what a handle can hold, which can't be let go but by going home where it was handed out; a schema, or the files of a CPU, in a box of its own |
+//! | `handle.rt`, `parts.rt`, `held.rt`, `boxed.rt` | a box in C's memory, which is lent for a call (the walks over raw pointers in `proofs/handle` and `proofs/parts`); room for what a handle can hold, which can't be let go but by going home where it was handed out; a schema, or the files of a CPU, in a box of its own |
 //! | `out_cpu.rt`, `homing.rt`, `desk.rt`, `cpu_place.rt` | a CPU that is out, with its calls and their statuses; how it goes out and comes home, again and again, each time by a ring of its own; `out_consumer.rt`, `consumer_homing.rt`, `consumer_place.rt`, `consumer_side.rt` the same of the consumer, with the batches that are out |
 //! | `under_way.rt`, `places.rt`, `gather.rt`, `close.rt`, `ended.rt` | a session from its start to its end |
 //! | `tending.rt` | the services of CPUs that are at their places (`specs/Tending`) |
@@ -11,7 +11,7 @@
 //! | `statuses.rt`, `configs.rt`, `reports.rt`, `batches.rt` | what crosses |
 //! | `schema_calls.rt`, `session_calls.rt`, `cpu_calls.rt`, `put_calls.rt`, `consumer_calls.rt`, `home_calls.rt`, `rest_calls.rt` | the exports |
 //! | `ctf_calls.rt`, `ctf_statuses.rt` | the exports of a trace that C writes, and what they answer (`specs/CtfCalls`, `specs/CtfStatuses`) |
-//! | `recording.rt`, `word_counts.rt` | a record by a claim and the words of its text; how many words an export takes, as a type |
+//! | `word_counts.rt` | how many words an export takes, as a type |
 //! | `specs/`: Homes, Statuses, Shows, Handles, Lending | that a call leaves the same CPU of the same session; which number an answer is, and what goes out; what C reads, field by field; which handles are full, and of what; what lending keeps |
 //! | `specs/`: Answered, CpuCalls, ConsumerCalls | what a status and an out parameter tell of an answer; what each call of a CPU and of the consumer did, by what its handle held before and after |
 //! | `specs/`: SessionCalls, Widths, Configs, ClosedCalls | the same of schemas, sessions and what is left; fields by their widths; a configuration in C's memory |
@@ -45,11 +45,9 @@ mod out_cpu;
 mod parts;
 mod places;
 mod put_calls;
-mod recording;
 mod reports;
 mod rest_calls;
 mod schema_calls;
-mod seal;
 mod session_calls;
 mod statuses;
 mod tending;

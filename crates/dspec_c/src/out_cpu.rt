@@ -1,11 +1,11 @@
 use crate::homing::{Homing, HomingProtocol};
-use crate::recording;
 use crate::reports::CReport;
 use crate::statuses::{
     BAD_RECORD, OK, number_of, of_committed, of_decided, of_opening, of_spoken, of_traced,
 };
+use crate::word_counts::Worded;
 use dspec_cpu::{Cpu, Shared};
-use dspec_record::Enablings;
+use dspec_record::{Enablings, Stamped, Unstamped};
 use dspec_word::SpecId;
 use rtrb::Producer;
 use std::alloc::Global;
@@ -104,15 +104,26 @@ impl OutCpu {
         }
     }
 
-    /// Traces the record that these words stand for.
+    /// Traces the record that these words stand for. Each header has code of its own, which asks for it once.
     #[inline(always)]
     pub fn put<N>(&mut self, claim: u64, stamp: u64, words: &[u64]) -> u32
         ensures { PutTold claim stamp words.now result self.old self.new }
     {
-        match recording::put::<N>(&mut *self.cpu, &*self.shared, claim, stamp, words) {
-            Some(answer) => of_traced(Some(answer)),
-            None => self.refuse(),
+        if let Some(rec) = self
+            .cpu
+            .schema()
+            .packed::<Worded<N, Unstamped>>(claim, stamp, words)
+        {
+            return of_traced(Some(self.cpu.trace_recorded(&self.shared, &rec)));
         }
+        let Some(rec) = self
+            .cpu
+            .schema()
+            .packed::<Worded<N, Stamped>>(claim, stamp, words)
+        else {
+            return self.refuse();
+        };
+        of_traced(Some(self.cpu.trace_recorded(&self.shared, &rec)))
     }
 
     /// Opens a speculation.
@@ -139,17 +150,22 @@ impl OutCpu {
     pub fn put_in<N>(&mut self, id: u64, claim: u64, stamp: u64, words: &[u64]) -> u32
         ensures { PutInTold id claim stamp words.now result self.old self.new }
     {
-        match recording::put_in::<N>(
-            &mut *self.cpu,
-            SpecId::from_raw(id),
-            &*self.shared,
-            claim,
-            stamp,
-            words,
-        ) {
-            Some(answer) => of_spoken(Some(answer)),
-            None => self.refuse(),
+        let id = SpecId::from_raw(id);
+        if let Some(rec) = self
+            .cpu
+            .schema()
+            .packed::<Worded<N, Unstamped>>(claim, stamp, words)
+        {
+            return of_spoken(Some(self.cpu.speculate_packed(&self.shared, id, &rec)));
         }
+        let Some(rec) = self
+            .cpu
+            .schema()
+            .packed::<Worded<N, Stamped>>(claim, stamp, words)
+        else {
+            return self.refuse();
+        };
+        of_spoken(Some(self.cpu.speculate_packed(&self.shared, id, &rec)))
     }
 
     /// Commits a speculation.

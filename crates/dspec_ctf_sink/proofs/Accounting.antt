@@ -2,7 +2,8 @@
 use Rattle.std.proofs.Common.{◌≡◌, ◌≢◌, ◌⊎◌, ◌<◌, ◌+◌, ◌^◌, ◌∙◌, ℕ, List, [], ap, arith, inl, inr, length, refl}
 use Rattle.std.proofs.lemmas.{List.get_or-set_same, List.get_or-set_other, Option.get_or_from_slice_get}
 use Rattle.std.specs.Prelude.{None, slice_index, slice_set}
-use Rattle.dspec_ctf_sink.specs.Words.{Record, EnabledRows, IsText, HasSoManyRecords, capped, AddsPacket, AreNextOf, GetsPacket, IsNothing, LosesPacket, Tracing, Accounts, missed_on, Batch}
+use Rattle.dspec_ctf_sink.specs.Words.{Record, EnabledRows, IsText, HasSoManyRecords, capped, missed_more, AddsPacket, AreNextOf, GetsPacket, IsNothing, LosesPacket, Tracing, Accounts, missed_on}
+use Rattle.dspec_ctf_sink.specs.Words.{Batch}
 
 -- what fits isn't capped
 pub capped_below : (n : ℕ) → n < 2 ^ 64 → capped n ≡ n
@@ -13,13 +14,18 @@ text_of : (e : EnabledRows) (uuid : List ℕ) (missed cpu told : ℕ) (text byte
 text_of e uuid missed cpu told text bytes (inl (first, behind)) = (behind.are_packets.read, behind.are_packets.is_text)
 text_of e uuid missed cpu told text bytes (inr (later, are)) = (are.read, are.is_text)
 
+-- what is counted of a CPU whose count was changed, and of the others
+module _ (old new : List ℕ) (cpu : ℕ) (there : cpu < length old) where
+  pub changed : (n : ℕ) → new ≡ slice_set old cpu n → slice_index new cpu ≡ n
+  changed n is = ap (λ ms. slice_index ms cpu) is ∙ get_or-set_same old cpu n 0 there
+
+  pub other : (n : ℕ) → new ≡ slice_set old cpu n → (c : ℕ) → c ≢ cpu → slice_index new c ≡ slice_index old c
+  other n is c differs = ap (λ ms. slice_index ms c) is ∙ get_or-set_other old cpu c n 0 differs
+
+  pub counted : (n : ℕ) → slice_index old cpu + n < 2 ^ 64 → new ≡ missed_more old cpu n → slice_index new cpu ≡ slice_index old cpu + n
+  counted n fits is = changed (capped (slice_index old cpu + n)) is ∙ capped_below (slice_index old cpu + n) fits
+
 module _ (e : EnabledRows) (old new : Tracing) (b : Batch) (there : b.cpu < length old.missed) where
-  changed : (n : ℕ) → new.missed ≡ slice_set old.missed b.cpu n → missed_on new b.cpu ≡ n
-  changed n is = ap (λ ms. slice_index ms b.cpu) is ∙ get_or-set_same old.missed b.cpu n 0 there
-
-  other : (n : ℕ) → new.missed ≡ slice_set old.missed b.cpu n → (c : ℕ) → c ≢ b.cpu → missed_on new c ≡ missed_on old c
-  other n is c differs = ap (λ ms. slice_index ms c) is ∙ get_or-set_other old.missed b.cpu c n 0 differs
-
   of_nothing : IsNothing old b → new ≡ record old { last = None } → Accounts e old b new
   of_nothing (text, drops, told) is =
       let same : missed_on new b.cpu ≡ missed_on old b.cpu = ap (λ t. missed_on t b.cpu) is in
@@ -34,7 +40,7 @@ module _ (e : EnabledRows) (old new : Tracing) (b : Batch) (there : b.cpu < leng
 
   of_added : AddsPacket e old b new → Accounts e old b new
   of_added adds =
-      let now : missed_on new b.cpu ≡ adds.total = changed adds.total adds.missed in
+      let now : missed_on new b.cpu ≡ adds.total = changed old.missed new.missed b.cpu there adds.total adds.missed in
       let was : missed_on old b.cpu ≡ adds.packet_is.before = get_or_from_slice_get old.missed b.cpu adds.packet_is.before 0 adds.packet_is.there in
       let sum : adds.total ≡ adds.packet_is.before + b.drops = adds.packet_is.missed_is in
       let read = text_of e old.uuid adds.total b.cpu (slice_index old.told b.cpu) b.buffer.text adds.bytes adds.packet_is.packet_is in
@@ -44,7 +50,7 @@ module _ (e : EnabledRows) (old new : Tracing) (b : Batch) (there : b.cpu < leng
         packed = length read.0;
         packed_is = inl (adds, refl);
         sum = omega (arith, now, was, sum);
-        others = other adds.total adds.missed;
+        others = other old.missed new.missed b.cpu there adds.total adds.missed;
       }
 
   module _ (is_one : (rs : List Record) × IsText e b.buffer.text rs)
@@ -53,17 +59,14 @@ module _ (e : EnabledRows) (old new : Tracing) (b : Batch) (there : b.cpu < leng
     of_lost n (inl (rs, (text, is))) missed =
         let below : missed_on old b.cpu + b.drops + length rs < 2 ^ 64 = fits rs text in
         let all : n ≡ length rs = is ∙ capped_below (length rs) (omega (arith, below)) in
-        let whole : capped (missed_on old b.cpu + (b.drops + n)) ≡ missed_on old b.cpu + (b.drops + n) =
-        capped_below (missed_on old b.cpu + (b.drops + n)) (omega (arith, below, all)) in
-        let now : missed_on new b.cpu ≡ capped (missed_on old b.cpu + (b.drops + n)) = changed (capped (missed_on old b.cpu + (b.drops + n))) missed in
-        let counted : missed_on new b.cpu ≡ missed_on old b.cpu + (b.drops + n) = now ∙ whole in
+        let now : missed_on new b.cpu ≡ missed_on old b.cpu + (b.drops + n) = counted old.missed new.missed b.cpu there (b.drops + n) (omega (arith, below, all)) missed in
         record {
           read = rs;
           is_text = text;
           packed = 0;
           packed_is = inr refl;
-          sum = omega (arith, counted, all);
-          others = other (capped (missed_on old b.cpu + (b.drops + n))) missed;
+          sum = omega (arith, now, all);
+          others = other old.missed new.missed b.cpu there (capped (missed_on old b.cpu + (b.drops + n))) missed;
         }
     of_lost n (inr (unread, is)) missed = elim (unread is_one.0 is_one.1) [ ]
 

@@ -4,24 +4,21 @@ use Rattle.std.specs.Prelude.{Option, Some, None, slice_get, slice_set}
 use Rattle.dspec_ctf_sink.specs.Words.{Record, EnabledRows, IsText, HasSoManyRecords, lost_more, missed_more, FileWrite, AddsAll, AddsBatch, AddsRuns, CpuFiles, GetsRuns, HasNoRuns, IsBatchLoss}
 use Rattle.dspec_ctf_sink.specs.Words.{LosesRuns, StopsRuns, TellsMissed, TellsNone, TimedTracing, Batch, PacketFault}
 use Rattle.dspec_ctf_sink.specs.declared.{fault.FolderFault.FolderFault, fault.FolderFault.TheVariants.Cpu, fault.FolderFault.TheVariants.Packet, losing.Loss.Loss}
+use Rattle.dspec_ctf_sink.proofs.Following.{of_cpu}
 
 -- a CPU's files, by their parts
 abbrev pub files : ℕ → List ℕ → Option (List FileWrite) → CpuFiles
 files told lasts written = record { told = told; lasts = lasts; written = written }
 
--- what a batch loses
-abbrev pub lost_of : Batch → Option ℕ → FolderFault → ℕ → Loss
-lost_of b row fault records = record { cpu = b.cpu; row = row; fault = fault; records = records }
-
 module _ (uuid : List ℕ) (e : EnabledRows) (before total cpu : ℕ) (b : Batch) (told : ℕ) (lasts : List ℕ) (was : Option (List FileWrite)) where
   -- it has no packets
   pub no-file : (f : PacketFault) (fault : FolderFault) (loss : Loss) → HasNoRuns e before b f → fault ≡ Packet b.cpu f → HasSoManyRecords e b loss.records
-      → loss ≡ lost_of b None fault loss.records → LosesRuns uuid e before b (files told lasts was) (files told lasts was) loss
+      → loss ≡ of_cpu b.cpu None fault loss.records → LosesRuns uuid e before b (files told lasts was) (files told lasts was) loss
   no-file f fault loss none is has loss_is = grind (arith, nat_tests)
 
   -- what was missed isn't told
   pub loses-all : (is : Option (List FileWrite)) (fault : FolderFault) (loss : Loss) → total ≡ before + b.drops → cpu ≡ b.cpu → TellsNone uuid told total cpu lasts was is fault
-      → HasSoManyRecords e b loss.records → loss ≡ lost_of b (Some 0) fault loss.records → LosesRuns uuid e before b (files told lasts was) (files told lasts is) loss
+      → HasSoManyRecords e b loss.records → loss ≡ of_cpu b.cpu (Some 0) fault loss.records → LosesRuns uuid e before b (files told lasts was) (files told lasts is) loss
   loses-all is fault loss sum same none has loss_is = grind (arith, nat_tests)
 
   module _ (rs : List Record) (mid is : Option (List FileWrite)) (after : List ℕ) (sum : total ≡ before + b.drops) (same : cpu ≡ b.cpu) (read : IsText e b.buffer.text rs)
@@ -60,7 +57,7 @@ module _ (e : EnabledRows) (uuid missed told : List ℕ) (lasts : List (List ℕ
     (view : timed uuid missed told lasts was lost last ≡ old) where
   -- no such CPU
   pub no-cpu : (loss : Loss) → (slice_get missed b.cpu ≡ None) ⊎ (slice_get lasts b.cpu ≡ None) → HasSoManyRecords e b loss.records
-      → loss ≡ lost_of b None (Cpu b.cpu) loss.records → IsBatchLoss e old b (timed uuid missed told lasts was lost last) loss
+      → loss ≡ of_cpu b.cpu None (Cpu b.cpu) loss.records → IsBatchLoss e old b (timed uuid missed told lasts was lost last) loss
   no-cpu loss beyond has loss_is = subst (λ o. IsBatchLoss e o b (timed uuid missed told lasts was lost last) loss) view
       (inl (record { beyond = beyond; has = has; loss_is = loss_is; told = refl; lasts = refl; written = refl }))
 

@@ -5,7 +5,7 @@ mod Cutting
 mod OneMore
 mod Following
 mod Handing
-mod Silent
+pub mod Silent
 mod Timely
 mod Tying
 mod Walks

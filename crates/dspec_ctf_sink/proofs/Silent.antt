@@ -17,7 +17,7 @@ module _ (shape : ℕ → Option Shape) (accepted : Record → Bool) (text : Rec
   no_fault_there = grind (arith, nat_tests)
 
 module _ (e : EnabledRows) where
-  laws : SchemaLaws (table_shape e.header (enabled e.rows)) (table_accepts e.header (enabled e.rows)) (table_text e.header (enabled e.rows))
+  pub laws : SchemaLaws (table_shape e.header (enabled e.rows)) (table_accepts e.header (enabled e.rows)) (table_text e.header (enabled e.rows))
   laws = record {
     zero_has_none = refl;
     shapes_fit = table-shapes_fit e.header (enabled e.rows) (enabled-IsLimited e.rows);

@@ -1,21 +1,15 @@
 -- By time nothing is lost uncounted.
-use Rattle.std.proofs.Common.{◌≡◌, ◌≢◌, ◌⊎◌, ◌<◌, ◌+◌, ◌^◌, ◌∙◌, ℕ, List, ap, arith, inl, inr, length, refl}
-use Rattle.std.proofs.lemmas.{List.get_or-set_same, List.get_or-set_other, Option.get_or_from_slice_get}
-use Rattle.std.specs.Prelude.{Some, slice_index, slice_set}
+use Rattle.std.proofs.Common.{◌≡◌, ◌⊎◌, ◌<◌, ◌+◌, ◌^◌, ◌∙◌, ℕ, List, arith, inl, inr, length, refl}
+use Rattle.std.proofs.lemmas.Option.{get_or_from_slice_get}
+use Rattle.std.specs.Prelude.{Some, slice_index}
 use Rattle.dspec_ctf_sink.specs.{Words.Record, Words.EnabledRows, Words.IsText, Words.HasSoManyRecords, Words.capped, Words.missed_more, Words.AddsBatch, Words.CpuFiles, Words.GetsRuns}
 use Rattle.dspec_ctf_sink.specs.{Words.IsBatchLoss, Words.LosesBatch, Words.LosesRuns, Words.TimedTracing, Words.TimedAccounts, Words.Batch, declared.losing.Loss.Loss}
-use Rattle.dspec_ctf_sink.proofs.Accounting.{capped_below}
+use Rattle.dspec_ctf_sink.proofs.Accounting.{capped_below, changed, counted, other}
 
 module _ (e : EnabledRows) (old new : TimedTracing) (b : Batch) (there : b.cpu < length old.missed) where
-  changed : (n : ℕ) → new.missed ≡ slice_set old.missed b.cpu n → slice_index new.missed b.cpu ≡ n
-  changed n is = ap (λ ms. slice_index ms b.cpu) is ∙ get_or-set_same old.missed b.cpu n 0 there
-
-  other : (n : ℕ) → new.missed ≡ slice_set old.missed b.cpu n → (c : ℕ) → c ≢ b.cpu → slice_index new.missed c ≡ slice_index old.missed c
-  other n is c differs = ap (λ ms. slice_index ms c) is ∙ get_or-set_other old.missed b.cpu c n 0 differs
-
   of_added : AddsBatch e old b new → TimedAccounts e old b new
   of_added adds =
-      let now : slice_index new.missed b.cpu ≡ adds.before + b.drops = changed (adds.before + b.drops) adds.missed in
+      let now : slice_index new.missed b.cpu ≡ adds.before + b.drops = changed old.missed new.missed b.cpu there (adds.before + b.drops) adds.missed in
       let was : slice_index old.missed b.cpu ≡ adds.before = get_or_from_slice_get old.missed b.cpu adds.before 0 adds.has.missed in
       record {
         read = adds.added.read;
@@ -23,7 +17,7 @@ module _ (e : EnabledRows) (old new : TimedTracing) (b : Batch) (there : b.cpu <
         packed = length adds.added.read;
         packed_is = inl (adds, refl);
         sum = omega (arith, now, was);
-        others = other (adds.before + b.drops) adds.missed;
+        others = other old.missed new.missed b.cpu there (adds.before + b.drops) adds.missed;
       }
 
   module _ (is_one : (rs : List Record) × IsText e b.buffer.text rs)
@@ -32,18 +26,15 @@ module _ (e : EnabledRows) (old new : TimedTracing) (b : Batch) (there : b.cpu <
     of_part : (rs : List Record) (packed : ℕ) → IsText e b.buffer.text rs → packed + loss.records ≡ length rs → TimedAccounts e old b new
     of_part rs packed text rest =
         let below : slice_index old.missed b.cpu + b.drops + length rs < 2 ^ 64 = fits rs text in
-        let whole : capped (slice_index old.missed b.cpu + (b.drops + loss.records)) ≡ slice_index old.missed b.cpu + (b.drops + loss.records) =
-        capped_below (slice_index old.missed b.cpu + (b.drops + loss.records)) (omega (arith, below, rest)) in
-        let now : slice_index new.missed b.cpu ≡ capped (slice_index old.missed b.cpu + (b.drops + loss.records)) =
-        changed (capped (slice_index old.missed b.cpu + (b.drops + loss.records))) missed in
-        let counted : slice_index new.missed b.cpu ≡ slice_index old.missed b.cpu + (b.drops + loss.records) = now ∙ whole in
+        let now : slice_index new.missed b.cpu ≡ slice_index old.missed b.cpu + (b.drops + loss.records) =
+        counted old.missed new.missed b.cpu there (b.drops + loss.records) (omega (arith, below, rest)) missed in
         record {
           read = rs;
           is_text = text;
           packed = packed;
           packed_is = inr (loss, (last, rest));
-          sum = omega (arith, counted, rest);
-          others = other (capped (slice_index old.missed b.cpu + (b.drops + loss.records))) missed;
+          sum = omega (arith, now, rest);
+          others = other old.missed new.missed b.cpu there (capped (slice_index old.missed b.cpu + (b.drops + loss.records))) missed;
         }
 
     of_all : HasSoManyRecords e b loss.records → TimedAccounts e old b new

@@ -1,9 +1,8 @@
 pub mod Accounts
-pub mod Answered
-pub mod Asked
 pub mod Ending
 pub mod Faults
 pub mod Held
+pub mod Jottings
 pub mod Losses
 pub mod Places
 pub mod Writes

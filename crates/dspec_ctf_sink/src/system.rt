@@ -1,11 +1,11 @@
 ghost use Rattle.std.specs.Prelude.{◌≡◌, ◌≢◌, ◌<◌, ◌++◌, ◌∷◌, length, vec_len, [], All, List, Some, IfOk, IfErr, IfSome, None, OnOk, string_bytes};
 ghost use Rattle.dspec_ctf_sink.specs.{Faults.IsFolderFault, Faults.IsWriteFault, Held.FilesHave, Held.HaveBesides, Held.IsFileAt, Held.path_in, Writes.FileWrite, Writes.made_at};
 
-use crate::asked::{Asking, FolderAsked};
 use crate::counted::CountedFile;
 use crate::fault::{FolderFault, look_fault, write_fault};
 use crate::folder::Folder;
 use crate::held::{Cuttable, HeldFile};
+use crate::jotted::{Jotted, Jotting};
 use std::alloc::{AllocError, Global};
 use std::fs::File;
 use std::os::fd::{AsRawFd, RawFd};
@@ -17,9 +17,9 @@ use std::{fs, io};
 pub struct SystemFolder<'a> {
     pub(crate) host: &'a HostRuntime,
     pub(crate) folder: File,
-    made: FolderAsked,
+    made: Jotted,
     files: Vec<HeldFile<CountedFile>>,
-    asked: FolderAsked,
+    asked: Jotted,
     ghost tied: { ∥ FilesHave files.items asked.writes ∥₁ },
 }
 
@@ -42,7 +42,7 @@ impl<'a> SystemFolder<'a> {
             folder,
             made,
             files: Vec::new(rt.alloc()),
-            asked: FolderAsked::none(),
+            asked: Jotted::none(),
         })
     }
 }
@@ -59,16 +59,12 @@ pub(crate) fn open_folder(rt: &HostRuntime, path: &str) -> Result<File, FolderFa
 }
 
 /// The same, and that this is the path at which it was made.
-fn open_made(rt: &HostRuntime, path: &str) -> Result<(File, FolderAsked), FolderFault>
+fn open_made(rt: &HostRuntime, path: &str) -> Result<(File, Jotted), FolderFault>
     ensures made { IfOk result (λ opened. opened.1.writes ≡ made_at path.now ∷ []) }
     ensures fault { IfErr result IsFolderFault }
 {
     let folder = open_folder(rt, path)?;
-    let made = FolderAsked::none().then(&Asking {
-        name: "",
-        bytes: path.as_bytes(),
-        refused: None,
-    });
+    let made = Jotted::none().then(&Jotting::Asked("", path.as_bytes(), None));
     Ok((folder, made))
 }
 
@@ -180,11 +176,7 @@ impl<'a> Folder for SystemFolder<'a> {
     fn add(&mut self, alloc: Global, name: &str, bytes: &[u8]) -> Result<(), FolderFault> {
         let answer = add_to(&mut self.files, self.host, &self.folder, alloc, name, bytes);
         let refused = answer.err();
-        self.asked = self.asked.then(&Asking {
-            name,
-            bytes,
-            refused,
-        });
+        self.asked = self.asked.then(&Jotting::Asked(name, bytes, refused));
         answer
     }
 }

@@ -3,6 +3,6 @@ pub mod FilesLaws
 mod Folding
 pub mod Fronts
 pub mod Growing
-mod Packets
+pub mod Packets
 pub mod Sharing
 mod Standing

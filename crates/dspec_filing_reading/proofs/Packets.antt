@@ -3,11 +3,11 @@ use Rattle.std.proofs.Common.{◌≡◌, ◌<◌, ◌≤◌, ◌^◌, ◌==◌, 
 use Rattle.std.proofs.lemmas.{Bool.eqb-true, Bool.eqb-false, Bool.ne_eqb, Bool.Decides.nat_tests, Grind.flat_map-append, List.append-nil, List.map-append, List.Elements.All-append}
 use Rattle.std.proofs.lemmas.{List.Elements.All-cons, List.Elements.All-nil, List.Elements.All-weaker, List.Elements.filter-append}
 use Rattle.std.specs.Prelude.{slice_index, slice_range}
-use Rattle.dspec_filing_reading.specs.Words.{Record, EnabledRows, missed_packets, of_file, run_files, run_packet, run_packets, told_by, Accepts, AreRuns, IsFileRun, FileTells, PartTells, file_bytes}
-use Rattle.dspec_filing_reading.specs.Words.{event_of, layout_of, EventRead, ReadsPackets, ByTime, Names, Run}
+use Rattle.dspec_filing_reading.specs.Words.{Record, EnabledRows, missed_packets, of_file, run_files, run_packets, told_by, Accepts, AreRuns, FileTells, PartTells, file_bytes, event_of, layout_of}
+use Rattle.dspec_filing_reading.specs.Words.{EventRead, ReadsPackets, ByTime, Names, Run}
 use Rattle.dspec_record.specs.declared.header.Header.TheVariants as header
-use Rattle.dspec_filing_reading.proofs.{FilesLaws.FilesLaws, FilesLaws.told_other, FilesLaws.told_same, Fronts.none_between, Growing.grown, Growing.told_more, Sharing.of_more, Sharing.run_few}
-use Rattle.dspec_filing_reading.proofs.{Sharing.spread_each}
+use Rattle.dspec_filing_reading.proofs.{FilesLaws.FilesLaws, FilesLaws.told_other, FilesLaws.told_same, Fronts.none_between, Growing.grown, Growing.told_more, Sharing.of_more, Sharing.packets_few}
+use Rattle.dspec_filing_reading.proofs.{Sharing.runs_few, Sharing.spread_each}
 
 -- packets, each for one of 64 files
 abbrev pub AreFew : List (ℕ × List ℕ) → Type 0
@@ -17,7 +17,7 @@ AreFew ps = All (λ (p : ℕ × List ℕ). p.0 < 64) ps
 pub bytes_more : (file : ℕ) (ps qs : List (ℕ × List ℕ)) → file_bytes file (ps ++ qs) ≡ file_bytes file ps ++ file_bytes file qs
 bytes_more file ps qs = grind (arith, nat_tests, filter-append, flat_map-append)
 
-one_few : (file : ℕ) (bytes : List ℕ) → file < 64 → AreFew ((file, bytes) ∷ [])
+pub one_few : (file : ℕ) (bytes : List ℕ) → file < 64 → AreFew ((file, bytes) ∷ [])
 one_few file bytes few = All-cons (λ (p : ℕ × List ℕ). p.0 < 64) (file, bytes) [] few (All-nil (λ (p : ℕ × List ℕ). p.0 < 64))
 
 module _ (uuid : List ℕ) (e : EnabledRows) (names : Names) (hertz cpu : ℕ) where
@@ -36,35 +36,34 @@ module _ (laws : FilesLaws) (uuid : List ℕ) (e : EnabledRows) (names : Names) 
   abbrev Tells : ℕ → List ℕ → List EventRead → ℕ → Type 0
   Tells file bytes es told = FileTells (layout_of e names (ByTime hertz)) uuid cpu bytes es (told_by file told)
 
-  -- one run's packet
-  pub reads_run : (ps : List (ℕ × List ℕ)) (stream : List Record) (lasts after : List ℕ) (rs : List Record) (from : ℕ) (run : Run) (told : ℕ) → told < 2 ^ 64 → All (Accepts e) rs
-      → length lasts ≤ 64 → IsFileRun lasts rs from run after → Reads uuid e names hertz cpu ps stream told
-      → Reads uuid e names hertz cpu (ps ++ (run.file, run_packet uuid e told cpu run.file (slice_range rs from run.end)) ∷ []) (stream ++ slice_range rs from run.end) told
-  reads_run ps stream lasts after rs from run told small accepted few is reads =
-      let one : List (ℕ × List ℕ) = run_packets uuid e told cpu rs from (run ∷ []) in
-      let more : List ℕ = run_files from (run ∷ []) in
-      let part : List Record = slice_range rs from run.end in
-      let are : AreRuns lasts rs from (run ∷ []) run.end after = (after, (is, (refl, refl))) in
-      let covers = laws.runs_have lasts after rs from run.end (run ∷ []) are in
+  -- the packets of runs
+  pub reads_runs : (ps : List (ℕ × List ℕ)) (stream : List Record) (lasts after : List ℕ) (rs : List Record) (from to : ℕ) (runs : List Run) (told : ℕ) → told < 2 ^ 64 → All (Accepts e) rs
+      → length lasts ≤ 64 → AreRuns lasts rs from runs to after → Reads uuid e names hertz cpu ps stream told
+      → Reads uuid e names hertz cpu (ps ++ run_packets uuid e told cpu rs from runs) (stream ++ slice_range rs from to) told
+  reads_runs ps stream lasts after rs from to runs told small accepted few are reads =
+      let some : List (ℕ × List ℕ) = run_packets uuid e told cpu rs from runs in
+      let more : List ℕ = run_files from runs in
+      let part : List Record = slice_range rs from to in
+      let covers = laws.runs_have lasts after rs from to runs are in
       let all = laws.have_all lasts part more after few covers.1 in
-      let below = run_few laws.have_all laws.runs_have lasts rs from run after few is in
       record {
-        few_files = All-append (λ (p : ℕ × List ℕ). p.0 < 64) ps one reads.few_files (one_few run.file (run_packet uuid e told cpu run.file part) below.0);
+        few_files = All-append (λ (p : ℕ × List ℕ). p.0 < 64) ps some reads.few_files
+            (packets_few uuid e told cpu rs from runs (runs_few laws.have_all laws.runs_have lasts rs from runs to after few are));
         files = reads.files ++ more;
         each = omega (arith, length-append reads.files more, length-append stream part, reads.each, spread_each lasts part more after covers.1);
         few = All-append (λ file. file < 64) reads.files more reads.few
             (All-weaker (λ file. file < length after) (λ file. file < 64) (λ file there. omega (arith, there, all.3)) more all.2);
         tells = λ file.
-            let tells_part : PartTells (layout_of e names (ByTime hertz)) uuid cpu (file_bytes file one) (map (event_of e names (ByTime hertz)) (of_file file more part)) (told_by file told) =
-            subst (λ qs. PartTells (layout_of e names (ByTime hertz)) uuid cpu (file_bytes file one) (map (event_of e names (ByTime hertz)) (of_file file more qs)) (told_by file told)) covers.0
-            (laws.runs e names hertz uuid told cpu rs file lasts after from run.end (run ∷ []) stamped long small low accepted are) in
+            let tells_part : PartTells (layout_of e names (ByTime hertz)) uuid cpu (file_bytes file some) (map (event_of e names (ByTime hertz)) (of_file file more part)) (told_by file told) =
+            subst (λ qs. PartTells (layout_of e names (ByTime hertz)) uuid cpu (file_bytes file some) (map (event_of e names (ByTime hertz)) (of_file file more qs)) (told_by file told)) covers.0
+            (laws.runs e names hertz uuid told cpu rs file lasts after from to runs stamped long small low accepted are) in
             let split : map (event_of e names (ByTime hertz)) (of_file file reads.files stream) ++ map (event_of e names (ByTime hertz)) (of_file file more part)
             ≡ map (event_of e names (ByTime hertz)) (of_file file (reads.files ++ more) (stream ++ part)) =
             sym (ap (map (event_of e names (ByTime hertz))) (of_more file reads.files more stream part reads.each)
             ∙ map-append (event_of e names (ByTime hertz)) (of_file file reads.files stream) (of_file file more part)) in
-            subst (λ bytes. Tells file bytes (map (event_of e names (ByTime hertz)) (of_file file (reads.files ++ more) (stream ++ part))) told) (sym (bytes_more file ps one))
-            (subst (λ es. Tells file (file_bytes file ps ++ file_bytes file one) es told) split
-            (grown laws.join (layout_of e names (ByTime hertz)) uuid cpu (file_bytes file ps) (file_bytes file one) (map (event_of e names (ByTime hertz)) (of_file file reads.files stream))
+            subst (λ bytes. Tells file bytes (map (event_of e names (ByTime hertz)) (of_file file (reads.files ++ more) (stream ++ part))) told) (sym (bytes_more file ps some))
+            (subst (λ es. Tells file (file_bytes file ps ++ file_bytes file some) es told) split
+            (grown laws.join (layout_of e names (ByTime hertz)) uuid cpu (file_bytes file ps) (file_bytes file some) (map (event_of e names (ByTime hertz)) (of_file file reads.files stream))
             (map (event_of e names (ByTime hertz)) (of_file file more part)) (told_by file told) (reads.tells file) tells_part));
       }
 

@@ -1,20 +1,14 @@
 -- Records of a batch that are shared out to the files of their CPU.
-use Rattle.std.proofs.Common.{◌≡◌, ◌<◌, ◌≤◌, ◌-◌, ◌^◌, ◌==◌, ◌++◌, inl, inr, ℕ, zero, suc, Bool, true, false, cond, IsTrue, List, [], ◌∷◌, refl, ap, sym, subst, arith, drop, length, map, replicate}
-use Rattle.std.proofs.Common.{All}
-use Rattle.std.proofs.lemmas.Bool.{ltb-true, eqb-true, Decides.nat_tests}
+use Rattle.std.proofs.Common.{◌≡◌, ◌<◌, ◌≤◌, ◌-◌, ◌^◌, ◌==◌, ◌++◌, inl, inr, ℕ, zero, suc, Bool, true, false, cond, List, [], ◌∷◌, refl, ap, sym, subst, arith, drop, length, map, replicate, All}
+use Rattle.std.proofs.lemmas.Bool.Decides.{nat_tests}
 use Rattle.std.proofs.lemmas.List.Elements.{All-head, All-tail, All-nil, All-cons, All-drop, All-take, All-weaker}
 use Rattle.std.specs.Prelude.{slice_index, slice_range, slice_set, filter, zip}
-use Rattle.dspec_filing_reading.specs.Words.{Record, stamp_fits, enabled, EnabledRows, accepted-parts, AreFiled, HaveAllBetween, Accepts, AreRuns, GoesToFile, IsFileRun, Spreads, of_file, run_files}
-use Rattle.dspec_filing_reading.specs.Words.{run_packets, run_records, Header, Run}
-use Rattle.dspec_record.specs.declared.header.Header.TheVariants as header
-
--- stamps of accepted records have 64 bits
-stamp_low : (h : Header) (stamp : ℕ) → IsTrue (stamp_fits h stamp) → stamp < 2 ^ 64
-stamp_low header.One stamp fit = omega (arith, eqb-true stamp 0 fit)
-stamp_low header.Two stamp fit = ltb-true stamp (2 ^ 64) fit
+use Rattle.dspec_filing_reading.specs.Words.{Record, enabled, EnabledRows, accepted-parts, AreFiled, HaveAllBetween, Accepts, AreRuns, GoesToFile, IsFileRun, Spreads, of_file, run_files}
+use Rattle.dspec_filing_reading.specs.Words.{run_packets, Run}
+use Rattle.dspec_ctf_reading.proofs.Files.{stamp-low}
 
 pub stamps_low : (e : EnabledRows) (rs : List Record) → All (Accepts e) rs → All (λ r. r.stamp < 2 ^ 64) rs
-stamps_low e rs all = All-weaker (Accepts e) (λ r. r.stamp < 2 ^ 64) (λ r is. stamp_low e.header r.stamp (accepted-parts e.header (enabled e.rows) r is).stamp) rs all
+stamps_low e rs all = All-weaker (Accepts e) (λ r. r.stamp < 2 ^ 64) (λ r is. stamp-low e.header r.stamp (accepted-parts e.header (enabled e.rows) r is).stamp) rs all
 
 -- records behind others that have a file each
 one_more : (b : Bool) (p : ℕ × Record) (ps qs : List (ℕ × Record)) (more : List Record) → map (λ x. x.1) ps ≡ map (λ x. x.1) qs ++ more
@@ -74,15 +68,6 @@ all_same : (n file most : ℕ) → 0 < n → All (λ f. f < most) (replicate n f
 all_same zero file most some all = absurd (omega (arith, some))
 all_same (suc n) file most some all = All-head (λ f. f < most) file (replicate n file) all
 
--- what the runs of a batch's records up to a place are
-pub record Shared (lasts : List ℕ) (rs : List Record) (runs : List Run) (to : ℕ) (new : List ℕ) : Type 0 where
-  pub few : All (λ (run : Run). run.file < 64) runs
-  pub still : length new ≤ 64
-  pub records : run_records rs 0 runs ≡ slice_range rs 0 to
-  pub each : length (run_files 0 runs) ≡ length (slice_range rs 0 to)
-  pub below : All (λ file. file < 64) (run_files 0 runs)
-  pub low : slice_index new 0 < 2 ^ 64
-
 -- that files have all records, and runs too
 abbrev pub FilesHaveAll : Type 0
 FilesHaveAll = (lasts : List ℕ) (rs : List Record) (files new : List ℕ) → length lasts ≤ 64 → Spreads lasts rs files new
@@ -93,31 +78,25 @@ RunsHaveAll = (lasts new : List ℕ) (rs : List Record) (from to : ℕ) (runs : 
     → HaveAllBetween lasts rs from runs to new
 
 module _ (files_law : FilesHaveAll) (runs_law : RunsHaveAll) where
-  pub run_few : (lasts : List ℕ) (rs : List Record) (place : ℕ) (run : Run) (new : List ℕ) → length lasts ≤ 64 → IsFileRun lasts rs place run new → (run.file < 64) × (length new ≤ 64)
+  run_few : (lasts : List ℕ) (rs : List Record) (place : ℕ) (run : Run) (new : List ℕ) → length lasts ≤ 64 → IsFileRun lasts rs place run new → (run.file < 64) × (length new ≤ 64)
   run_few lasts rs place run new few is = grind (arith, nat_tests, all_same)
 
-  runs_few : (lasts : List ℕ) (rs : List Record) (from : ℕ) (runs : List Run) (to : ℕ) (new : List ℕ) → length lasts ≤ 64 → AreRuns lasts rs from runs to new
+  pub runs_few : (lasts : List ℕ) (rs : List Record) (from : ℕ) (runs : List Run) (to : ℕ) (new : List ℕ) → length lasts ≤ 64 → AreRuns lasts rs from runs to new
       → All (λ (run : Run). run.file < 64) runs
   runs_few lasts rs from [] to new few is = All-nil (λ (run : Run). run.file < 64)
   runs_few lasts rs from (run ∷ runs) to new few (mid, (one, more)) =
       let first = run_few lasts rs from run mid few one in
       All-cons (λ (run : Run). run.file < 64) run runs first.0 (runs_few mid rs run.end runs to new first.1 more)
 
-  pub shared : (lasts : List ℕ) (rs : List Record) (runs : List Run) (to : ℕ) (new : List ℕ) → length lasts ≤ 64 → slice_index lasts 0 < 2 ^ 64 → All (λ r. r.stamp < 2 ^ 64) rs
-      → AreRuns lasts rs 0 runs to new → Shared lasts rs runs to new
-  shared lasts rs runs to new few first low are =
-      let covers = runs_law lasts new rs 0 to runs are in
-      let all = files_law lasts (slice_range rs 0 to) (run_files 0 runs) new few covers.1 in
-      record {
-        few = runs_few lasts rs 0 runs to new few are;
-        still = all.3;
-        records = covers.0;
-        each = spread_each lasts (slice_range rs 0 to) (run_files 0 runs) new covers.1;
-        below = All-weaker (λ file. file < length new) (λ file. file < 64) (λ file is. omega (arith, is, all.3)) (run_files 0 runs) all.2;
-        low = spread_low lasts (slice_range rs 0 to) (run_files 0 runs) new (range_low rs 0 to low) first covers.1;
-      }
+  -- the last stamps behind runs, also where they aren't written
+  pub lasts_behind : (lasts : List ℕ) (rs : List Record) (from to : ℕ) (runs : List Run) (new : List ℕ) → length lasts ≤ 64 → slice_index lasts 0 < 2 ^ 64 → All (λ r. r.stamp < 2 ^ 64) rs
+      → AreRuns lasts rs from runs to new → (length new ≤ 64) × (slice_index new 0 < 2 ^ 64)
+  lasts_behind lasts rs from to runs new few first low are =
+      let covers = runs_law lasts new rs from to runs are in (
+        (files_law lasts (slice_range rs from to) (run_files from runs) new few covers.1).3,
+        spread_low lasts (slice_range rs from to) (run_files from runs) new (range_low rs from to low) first covers.1,
+      )
 
-  -- the last stamps behind one run, also where it isn't written
   pub lasts_after : (lasts : List ℕ) (rs : List Record) (place : ℕ) (run : Run) (new : List ℕ) → length lasts ≤ 64 → slice_index lasts 0 < 2 ^ 64 → All (λ r. r.stamp < 2 ^ 64) rs
       → IsFileRun lasts rs place run new → (length new ≤ 64) × (slice_index new 0 < 2 ^ 64)
-  lasts_after lasts rs place run new few first low is = grind (arith, nat_tests, run_few, spread_low, range_low)
+  lasts_after lasts rs place run new few first low is = lasts_behind lasts rs place run.end (run ∷ []) new few first low (new, (is, (refl, refl)))

@@ -4,7 +4,7 @@ use Rattle.std.proofs.lemmas.Bool.Decides.{nat_tests}
 use Rattle.std.specs.Prelude.{slice_index, slice_range}
 use Rattle.dspec_filing_reading.specs.Words.{Record, EnabledRows, Accepts, IsFileRun, IsFoundRun, missed_packets, run_packet, CpuFiling, as_written, AreFrontsKept, Packets, all_written, Names, Run}
 use Rattle.dspec_record.specs.declared.header.Header.TheVariants as header
-use Rattle.dspec_filing_reading.proofs.{FilesLaws.FilesLaws, Fronts.behind, Packets.Reads, Packets.reads_missed, Packets.reads_run, Packets.reads_same, Sharing.lasts_after, Sharing.stamps_low}
+use Rattle.dspec_filing_reading.proofs.{FilesLaws.FilesLaws, Fronts.behind, Packets.Reads, Packets.reads_missed, Packets.reads_runs, Packets.reads_same, Sharing.lasts_after, Sharing.stamps_low}
 
 -- a run that was found, by the last stamps that there were before, and whose packet wasn't handed out yet
 pub record WasFound (records : List Record) (place : ℕ) (after : List ℕ) (run : Run) : Type 0 where
@@ -64,8 +64,8 @@ module _ (laws : FilesLaws) (uuid : List ℕ) (e : EnabledRows) (names : Names) 
       ap (λ id. run_packet id e f.told cpu run.file part) (sym s.uuid_is) ∙ ap (λ x. run_packet f.uuid x f.told cpu run.file part) (sym s.schema_is)
       ∙ ap (λ n. run_packet f.uuid f.schema n cpu run.file part) (sym told) ∙ ap (λ c. run_packet f.uuid f.schema f.missed c run.file part) (sym s.cpu_is) in
       let grown : Reads uuid e names hertz cpu ((ws ++ []) ++ (run.file, bytes) ∷ []) ((s.kept ++ slice_range f.records f.from f.place) ++ part) f.told =
-      reads_run laws uuid e names hertz cpu low long stamped (ws ++ []) (s.kept ++ slice_range f.records f.from f.place) was.lasts f.lasts f.records f.place run f.told (omega (arith, told, small))
-      s.accepted was.few was.is_run s.all in
+      reads_runs laws uuid e names hertz cpu low long stamped (ws ++ []) (s.kept ++ slice_range f.records f.from f.place) was.lasts f.lasts f.records f.place run.end (run ∷ []) f.told
+      (omega (arith, told, small)) s.accepted was.few (f.lasts, (was.is_run, (refl, refl))) s.all in
       record {
         uuid_is = s.uuid_is;
         schema_is = s.schema_is;

@@ -1,34 +1,17 @@
 -- Turns one behind the other: the first that isn't played, and the calls that have ended.
-use Prim.Native.Nat.{zero, suc}
+use Prim.Native.Nat.{suc}
 use Rattle.std.proofs.Common.{◌≡◌, ◌<◌, ◌≤◌, ◌+◌, ◌++◌, ◌∷◌, [], ℕ, Bool, List, Option, Some, None, length, map, Result, Ok, Err, IfOk, take, drop, drop-cons, get_or, add-one, refl, sym, ap, ◌∙◌}
 use Rattle.std.proofs.Common.{subst, arith}
-use Rattle.std.proofs.lemmas.List.{take_more, map-append}
+use Rattle.std.proofs.lemmas.List.{drop_all, take_all, take_more, map-append}
 use Rattle.dspec_replay.specs.Words.{Record, start_fault, EndedCall, IsDue, call_that_ended, first_refusal, first_of, schedule_refusal, setup_refusal, turn_refusal, whole_call_of, Turn, Config}
-use Rattle.dspec_replay.specs.declared.session_fault.SessionFault.{SessionFault, TheVariants.Play, TheVariants.NoText, TheVariants.NoWholeCall}
+use Rattle.dspec_replay.specs.declared.session_fault.SessionFault.{SessionFault, TheVariants.Play, TheVariants.NoText}
 use Rattle.dspec_interleaving.specs.declared.outcome.PlayFault.TheVariants as play_fault
 
 -- what is due here is due there
 pub due_by : (a b : Option SessionFault) (h : SessionFault) → ((x : SessionFault) → a ≡ Some x → b ≡ Some x) → IsDue a h → IsDue b h
 due_by a b (Play play_fault.Memory) f d = d
-due_by a b (Play (play_fault.Setup x)) f d = f _ d
-due_by a b (Play (play_fault.NoSuchActor i)) f d = f _ d
-due_by a b (Play (play_fault.Busy i)) f d = f _ d
-due_by a b (Play (play_fault.IdleStep i)) f d = f _ d
-due_by a b (Play (play_fault.BadRecord i)) f d = f _ d
 due_by a b (NoText c) f d = d
-due_by a b (NoWholeCall i) f d = f _ d
-
-drop_all : {X : Type 0} (xs : List X) (i : ℕ) → length xs ≤ i → drop i xs ≡ []
-drop_all [] zero le = refl
-drop_all [] (suc i) le = refl
-drop_all (x ∷ xs) zero le = absurd (omega arith)
-drop_all (x ∷ xs) (suc i) le = drop_all xs i (omega arith)
-
-take_all : {X : Type 0} (xs : List X) (i : ℕ) → length xs ≤ i → take i xs ≡ xs
-take_all [] zero le = refl
-take_all [] (suc i) le = refl
-take_all (x ∷ xs) zero le = absurd (omega arith)
-take_all (x ∷ xs) (suc i) le = ap (λ l. x ∷ l) (take_all xs i (omega arith))
+due_by a b h f d = f h d
 
 module _ (accepted : Record → Bool) (k : Config) (ts : List Turn) where
   -- so many turns were played, and ended as their calls
@@ -71,8 +54,8 @@ module _ (accepted : Record → Bool) (k : Config) (ts : List Turn) where
   pub so_far_last : (i : ℕ) (answers : List EndedCall) → length ts ≤ i → start_fault k ≡ None → IsSoFar i answers
       → (schedule_refusal accepted k ts ≡ None) × (map call_that_ended answers ≡ map whole_call_of ts)
   so_far_last i answers le fine s = (
-    ap (λ f. first_of (setup_refusal f) (first_refusal accepted k.cpus 0 ts)) fine ∙ (sym s.refusals ∙ ap (λ l. first_refusal accepted k.cpus i l) (drop_all ts i le)),
-    s.calls ∙ ap (λ l. map whole_call_of l) (take_all ts i le),
+    ap (λ f. first_of (setup_refusal f) (first_refusal accepted k.cpus 0 ts)) fine ∙ (sym s.refusals ∙ ap (λ l. first_refusal accepted k.cpus i l) (drop_all i ts le)),
+    s.calls ∙ ap (λ l. map whole_call_of l) (take_all i ts le),
   )
 
 -- what holds of a result holds of it by what follows

@@ -1,35 +1,35 @@
--- A folder in which the metadata was written, and no packet yet.
-use Rattle.std.proofs.Common.{arith, ◌≡◌, ◌∙◌, ℕ, zero, suc, List, [], ◌∷◌, ◌++◌, Some, None, refl, sym, ap, codes, replicate, slice_index}
-use Rattle.std.proofs.lemmas.Bool.Decides.{nat_tests}
-use Rattle.dspec_trace_reading.specs.Words.{EnabledRows, origin_text, missed_on, FileWrite, file_of, Tracing, cpu_name, told_on, BegunNew, AsTaken, Names, Origin}
+-- A folder of either form in which the metadata was written, and no packet yet.
+use Rattle.std.proofs.Common.{◌≡◌, ◌≢◌, ◌∙◌, ℕ, zero, suc, Option, get_or, List, [], ◌∷◌, ◌++◌, Some, None, refl, sym, ap, codes, replicate, slice_index}
+use Rattle.dspec_trace_reading.specs.Words.{EnabledRows, origin_text, FileWrite, file_of, path_of, LeaveNone, Takes, Form, Names, Origin}
 use Rattle.dspec_ctf_sink.proofs.Written.{brought_elsewhere, brought_whole}
-use Rattle.dspec_trace_reading.proofs.{Asking.took, Naming.cpu_named, Naming.metadata_named, Naming.not_metadata, Placing.alone}
+use Rattle.dspec_trace_reading.proofs.{Asking.took, Naming.metadata_named, Placing.alone, Placing.path_stays}
 
-pub all_zero : (n i : ℕ) → slice_index (replicate n 0) i ≡ 0
-all_zero zero i = refl
-all_zero (suc n) zero = refl
-all_zero (suc n) (suc i) = all_zero n i
+pub same_at : {A : Type 0} (n i : ℕ) (d : A) → get_or (replicate n d) i d ≡ d
+same_at zero i d = refl
+same_at (suc n) zero d = refl
+same_at (suc n) (suc i) d = same_at n i d
 
--- the write of the metadata
-abbrev pub first : Origin → EnabledRows → Names → FileWrite
-first origin e names = record { name = codes "metadata"; bytes = origin_text origin AsTaken e names; refused = None }
+-- of no CPU anything is counted
+pub none_yet : (counts : List ℕ) → counts ≡ replicate 64 0 → (c : ℕ) → slice_index counts c ≡ 0
+none_yet counts is c = ap (λ (xs : List ℕ). slice_index xs c) is ∙ same_at 64 c 0
 
-module _ (origin : Origin) (e : EnabledRows) (names : Names) (begun : Tracing) (is : BegunNew origin e names begun) where
-  abbrev pub begun_with : List FileWrite
-  begun_with = is.before ++ first origin e names ∷ []
+-- the write of the metadata, behind those of before
+abbrev pub first : Origin → Form → EnabledRows → Names → FileWrite
+first origin form e names = record { name = codes "metadata"; bytes = origin_text origin form e names; refused = None }
 
-  pub asked : begun.written ≡ Some begun_with
-  asked = took (Some is.before) begun.written is.before (codes "metadata") (origin_text origin AsTaken e names) refl is.begins.written
+abbrev pub begun_with : Origin → Form → EnabledRows → Names → List FileWrite → List FileWrite
+begun_with origin form e names before = before ++ first origin form e names ∷ []
 
-  pub metadata_is : file_of (codes "metadata") begun_with ≡ origin_text origin AsTaken e names
-  metadata_is = grind (arith, nat_tests, alone, metadata_named, brought_whole)
+module _ (origin : Origin) (form : Form) (e : EnabledRows) (names : Names) (before : List FileWrite) (new : LeaveNone before) where
+  pub asked : (written : Option (List FileWrite)) → Takes (Some before) (codes "metadata") (origin_text origin form e names) written → written ≡ Some (begun_with origin form e names before)
+  asked written takes = took (Some before) written before (codes "metadata") (origin_text origin form e names) refl takes
 
-  pub nothing_yet : (c : ℕ) → file_of (cpu_name c) begun_with ≡ []
-  nothing_yet c =
-      alone is.before (first origin e names) (cpu_name c) is.new (cpu_named c) ∙ brought_elsewhere (cpu_name c) (first origin e names) (λ s. not_metadata c (sym s))
+  pub metadata_is : file_of (codes "metadata") (begun_with origin form e names before) ≡ origin_text origin form e names
+  metadata_is =
+      alone before (first origin form e names) (codes "metadata") new metadata_named ∙ brought_whole (codes "metadata") (codes "metadata") (origin_text origin form e names) refl
 
-  pub none_missed : (c : ℕ) → missed_on begun c ≡ 0
-  none_missed c = ap (λ (xs : List ℕ). slice_index xs c) is.begins.missed ∙ all_zero 64 c
+  pub nothing_yet : (name : List ℕ) → name ≢ [] → name ≢ codes "metadata" → file_of name (begun_with origin form e names before) ≡ []
+  nothing_yet name named other = alone before (first origin form e names) name new named ∙ brought_elsewhere name (first origin form e names) (λ s. other (sym s))
 
-  pub none_told : (c : ℕ) → told_on begun c ≡ 0
-  none_told c = ap (λ (xs : List ℕ). slice_index xs c) is.begins.told ∙ all_zero 64 c
+  pub path_is : path_of (begun_with origin form e names before) ≡ path_of before
+  path_is = path_stays before (first origin form e names) metadata_named

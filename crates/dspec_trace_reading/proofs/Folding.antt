@@ -1,9 +1,10 @@
 -- What proofs of folders have in common.
-use Rattle.std.proofs.Common.{◌++◌, ◌≡◌, ℕ, List, [], ◌∷◌, Some, None, refl}
-use Rattle.dspec_trace_reading.specs.Words.{FilledFilesReadBack, HasNumbers, MetadataTells, last_missed, origin_fault, Record, EnabledRows, enabled, table_shape, table_accepts, table_text}
-use Rattle.dspec_trace_reading.specs.Words.{enabled-IsLimited, table-shapes_fit, table-texts_fit, table-texts_differ, IsText, FileWrite, file_of, Tracing, HoldRecords, Form, Names, Origin, Batch}
-use Rattle.dspec_buffer.proofs.{OneReading.one_reading, SchemaLaws.SchemaLaws}
-use Rattle.dspec_trace_reading.proofs.Asking.{took}
+use Rattle.std.proofs.Common.{◌++◌, ◌≡◌, ℕ, List, [], ◌∷◌, Option, Some, None, refl, ap, sym, ◌∙◌, append_assoc}
+use Rattle.std.proofs.lemmas.List.{append-nil}
+use Rattle.dspec_trace_reading.specs.Words.{FilledFilesReadBack, HasNumbers, MetadataTells, last_missed, origin_fault, Record, EnabledRows, enabled, table_shape, table_accepts, table_text, IsText}
+use Rattle.dspec_trace_reading.specs.Words.{FileWrite, file_of, Passed, GotAll, HoldRecords, Form, Names, Origin, Batch}
+use Rattle.dspec_buffer.proofs.OneReading.{one_reading}
+use Rattle.dspec_ctf_sink.proofs.Silent.{laws}
 
 -- what the last packet tells, and this number where there is none
 abbrev pub last_from : ℕ → List (ℕ × List Record) → ℕ
@@ -22,22 +23,25 @@ module _ (e : EnabledRows) where
   abbrev pub Holds : List Batch → List Record → Type 0
   Holds bs rs = HoldRecords (table_shape e.header (enabled e.rows)) (table_accepts e.header (enabled e.rows)) (table_text e.header (enabled e.rows)) bs rs
 
-  pub laws : SchemaLaws (table_shape e.header (enabled e.rows)) (table_accepts e.header (enabled e.rows)) (table_text e.header (enabled e.rows))
-  laws = record {
-    zero_has_none = refl;
-    shapes_fit = table-shapes_fit e.header (enabled e.rows) (enabled-IsLimited e.rows);
-    texts_fit = table-texts_fit e.header (enabled e.rows);
-    texts_differ = table-texts_differ e.header (enabled e.rows);
-  }
-
   -- a text is of one list of records alone
   pub one_text : (b : Batch) (rs read : List Record) → IsText e b.buffer.text rs → IsText e b.buffer.text read → read ≡ rs
   one_text b rs read has is =
-      one_reading (table_shape e.header (enabled e.rows)) (table_accepts e.header (enabled e.rows)) (table_text e.header (enabled e.rows)) laws 0 b.buffer.text read rs is has
+      one_reading (table_shape e.header (enabled e.rows)) (table_accepts e.header (enabled e.rows)) (table_text e.header (enabled e.rows)) (laws e) 0 b.buffer.text read rs is has
 
-  -- the place took writes behind those of before, which left the file of this name as it was
-  abbrev pub Stays : List ℕ → Tracing → List FileWrite → Type 0
-  Stays name new was = (added : List FileWrite) × ((new.written ≡ Some (was ++ added)) × (file_of name (was ++ added) ≡ file_of name was))
+-- the place took writes behind those of before, which left the file of this name as it was
+abbrev pub Stays : List ℕ → Option (List FileWrite) → List FileWrite → Type 0
+Stays name written was = (added : List FileWrite) × ((written ≡ Some (was ++ added)) × (file_of name (was ++ added) ≡ file_of name was))
+
+-- so it is of all batches that a trace of either form got, where it is of each
+module _ {T : Type 0} (gets : T → Batch → T → Type 0) (writing : T → Option (List FileWrite)) (name : List ℕ)
+    (one : (old : T) (b : Batch) (new : T) → gets old b new → (was : List FileWrite) → writing old ≡ Some was → Stays name (writing new) was) where
+  pub stays : (bs : List Passed) (old new : T) (was : List FileWrite) → GotAll gets old bs new → writing old ≡ Some was → Stays name (writing new) was
+  stays [] old new was got asked = ([], (ap writing (sym got) ∙ asked ∙ ap Some (sym (append-nil was)), ap (λ ws. file_of name ws) (append-nil was)))
+  stays (x ∷ xs) old new was (mid, gets, rest) asked =
+      let first = one old x.batch mid gets was asked in
+      let all = stays xs mid new (was ++ first.0) rest first.1.0 in
+      let both = append_assoc was first.0 all.0 in
+      (first.0 ++ all.0, (all.1.0 ∙ ap Some both, ap (λ ws. file_of name ws) (sym both) ∙ all.1.1 ∙ first.1.1))
 
 -- that metadata is read as its layout, and a file of packets as their events
 abbrev pub MetadataReads : Type 0

@@ -6,8 +6,8 @@ use Rattle.std.specs.List.{flat_map}
 use Rattle.dspec_trace_reading.specs.Words.{Record, EnabledRows, Passed, GotAll, passed_from, filled_packets, Accepts, IsText, missed_on, FileWrite, file_of, AreNextOf, GetsPacket, Tracing}
 use Rattle.dspec_trace_reading.specs.Words.{cpu_name, AreKept, HaveNumbers, drops_carried, told_on, Batch}
 use Rattle.dspec_ctf_sink.proofs.Written.{brought_whole, file_of_more}
-use Rattle.dspec_trace_reading.proofs.{Asking.missed_before, Asking.missed_here, Asking.some_lost, Asking.took, Asking.unlost, Folding.Holds, Folding.Stays, Folding.last_from, Folding.one_text}
-use Rattle.dspec_trace_reading.proofs.{Losing.Came, Losing.files_stay, Losing.leaves, Losing.own_missed, Naming.names_differ}
+use Rattle.dspec_trace_reading.proofs.{Asking.missed_before, Asking.missed_here, Asking.some_lost, Asking.took, Asking.unlost, Folding.Holds, Folding.last_from, Folding.one_text, Losing.Came}
+use Rattle.dspec_trace_reading.proofs.{Losing.files_stay, Losing.leaves, Losing.own_missed, Naming.names_differ}
 use Rattle.dspec_filing_reading.proofs.Fronts.{all_accepted}
 
 -- nothing was lost, or 64 bits are enough for what the CPU missed
@@ -15,17 +15,6 @@ abbrev pub IsExact : ℕ → Tracing → Type 0
 IsExact c t = (t.lost ≡ None) ⊎ (missed_on t c + 1 < 2 ^ 64)
 
 module _ (e : EnabledRows) where
-  -- a file that is none of a CPU's stays as it was
-  pub stays : (name : List ℕ) → ((c : ℕ) → cpu_name c ≢ name) → (bs : List Passed) (old new : Tracing) (was : List FileWrite) → GotAll (GetsPacket e) old bs new → old.written ≡ Some was
-      → Stays e name new was
-  stays name apart [] old new was got asked =
-      ([], (ap (λ (t : Tracing). t.written) (sym got) ∙ asked ∙ ap Some (sym (append-nil was)), ap (λ ws. file_of name ws) (append-nil was)))
-  stays name apart (x ∷ xs) old new was (mid, gets, rest) asked =
-      let one = (leaves e old mid x.batch gets.came).files was asked in
-      let all = stays name apart xs mid new (was ++ one.0) rest one.1.0 in
-      let both = append_assoc was one.0 all.0 in
-      (one.0 ++ all.0, (all.1.0 ∙ ap Some both, ap (λ ws. file_of name ws) (sym both) ∙ all.1.1 ∙ one.1.1 name (λ there. apart x.batch.cpu)))
-
   module _ (uuid : List ℕ) (c : ℕ) (low : c < 64) where
     abbrev pub Told : Tracing → ℕ × List Record → Type 0
     Told new p = (p.0 ≤ missed_on new c) × All (Accepts e) p.1

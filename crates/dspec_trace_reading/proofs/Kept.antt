@@ -1,14 +1,11 @@
 -- What is kept of a CPU's batches, of folders of either form.
 use Rattle.std.proofs.Common.{◌≡◌, ◌+◌, ◌++◌, ◌⊎◌, ℕ, inl, inr, List, [], ◌∷◌, refl, sym, ap, subst, ◌∙◌, arith, length}
-use Rattle.std.proofs.lemmas.List.{append-nil}
+use Rattle.std.proofs.lemmas.List.{append-nil, nil_from_length}
 use Rattle.dspec_trace_reading.specs.Words.{IsText, Record, EnabledRows, enabled, table_accepts, table_shape, table_text, FileWrite, IsBare, drops_carried, KeptOf, Reads, ReadsKept, Batch, Form}
 use Rattle.dspec_trace_reading.specs.Words.{AsTaken, ByTime, Names}
 use Rattle.dspec_buffer.proofs.OneReading.{one_reading}
-use Rattle.dspec_trace_reading.proofs.Folding.{Holds, laws, one_text}
-
-none_of : (rs : List Record) → length rs ≡ 0 → rs ≡ []
-none_of [] few = refl
-none_of (r ∷ rs) few = absurd (omega (arith, few))
+use Rattle.dspec_trace_reading.proofs.Folding.{Holds, one_text}
+use Rattle.dspec_ctf_sink.proofs.Silent.{laws}
 
 -- of no records, those in front are none, and those behind too
 both_none : (front back : List Record) → front ++ back ≡ [] → (front ≡ []) × (back ≡ [])
@@ -32,11 +29,11 @@ module _ (e : EnabledRows) where
         go : (rest ≡ 0 → more ≡ after) → ((kept ≡ ps ++ more) × (lost ≡ rest)) ⊎ ((kept ≡ more) × (lost ≡ length ps + rest)) → kept ≡ rs
         go whole (inl (is, so_many)) = is ∙ ap (λ xs. xs ++ more) same ∙ ap (λ xs. qs ++ xs) (whole (sym so_many ∙ none)) ∙ sym sum
         go whole (inr (is, so_many)) =
-            let empty : qs ≡ [] = sym same ∙ none_of ps (omega (arith, none, so_many)) in
+            let empty : qs ≡ [] = sym same ∙ nil_from_length ps (omega (arith, none, so_many)) in
             is ∙ whole (omega (arith, none, so_many)) ∙ sym (sum ∙ ap (λ xs. xs ++ after) empty)
   kept_whole (ByTime hertz) [] kept rs lost none are hold = are.0 ∙ sym hold
   kept_whole (ByTime hertz) (b ∷ bs) kept rs lost none (front, back, more, rest, text, later, is, so_many) (qs, after, has, many, sum, holds) =
-      let empty : back ≡ [] = none_of back (omega (arith, none, so_many)) in
+      let empty : back ≡ [] = nil_from_length back (omega (arith, none, so_many)) in
       let same : front ≡ qs = sym (append-nil front) ∙ ap (λ xs. front ++ xs) (sym empty) ∙ one_text e b qs (front ++ back) has text in
       is ∙ ap (λ xs. xs ++ more) same ∙ ap (λ xs. qs ++ xs) (kept_whole (ByTime hertz) bs more after rest (omega (arith, none, so_many)) later holds) ∙ sym sum
 

@@ -8,6 +8,7 @@ mod Carried
 mod Counted
 mod Filing
 mod Folding
+mod Filled
 mod InFolder
 mod Keeping
 mod Kept
@@ -20,7 +21,6 @@ mod Read
 mod RowNaming
 mod RanInto
 mod Summing
-mod TakenInFolder
 mod Taking
 mod Through
 mod TimedAnswered
@@ -29,7 +29,6 @@ mod TimedBegun
 mod TimedBounded
 mod TimedFiles
 mod TimedFronts
-mod TimedInFolder
 mod TimedKeeping
 mod TimedLosing
 mod TimedPartly

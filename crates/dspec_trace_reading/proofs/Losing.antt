@@ -17,6 +17,16 @@ refused_there (Some xs) (Some ys) was name bytes fault e refuses = grind (arith,
 pub uncapped : (n : ℕ) → capped n + 1 < 2 ^ 64 → capped n ≡ n
 uncapped n below = omega (arith, below)
 
+-- the batch's records, and that its text has no others
+module _ (e : EnabledRows) (b : Batch) (rs : List Record) (is_text : IsText e b.buffer.text rs) (unique : (qs : List Record) → IsText e b.buffer.text qs → qs ≡ rs) where
+  pub at_most : (n : ℕ) → HasSoManyRecords e b n → n ≤ length rs
+  at_most n (inl (qs, (text, is))) = let one : length qs ≡ length rs = ap length (unique qs text) in omega (arith, is, one)
+  at_most n (inr (none, is)) = absurd (none rs is_text)
+
+  pub exactly : (n : ℕ) → n + 1 < 2 ^ 64 → HasSoManyRecords e b n → n ≡ length rs
+  exactly n small (inl (qs, (text, is))) = is ∙ uncapped (length qs) (subst (λ m. m + 1 < 2 ^ 64) is small) ∙ ap length (unique qs text)
+  exactly n small (inr (none, is)) = absurd (none rs is_text)
+
 -- what may come of a batch
 abbrev pub Came : EnabledRows → Tracing → Batch → Tracing → Type 0
 Came e old b new = (IsNothing old b × (new ≡ record old { last = None })) ⊎ ((IsNothing old b → ⊥) × (AddsPacket e old b new ⊎ LosesPacket e old b new))
@@ -47,11 +57,7 @@ module _ (e : EnabledRows) where
     -- no more is counted than the batch's records, and its drops
     pub own_at_most : (c : ℕ) → c < 64 → b.cpu ≡ c → (rs : List Record) → IsText e b.buffer.text rs → ((qs : List Record) → IsText e b.buffer.text qs → qs ≡ rs)
         → missed_on new c ≤ missed_on old c + b.drops + length rs
-    own_at_most c low same rs is_text unique = omega (arith, counted_here c low same, few loses.counted.has)
-      where
-        few : HasSoManyRecords e b loses.counted.records → loses.counted.records ≤ length rs
-        few (inl (qs, (text, n))) = let one : length qs ≡ length rs = ap length (unique qs text) in omega (arith, n, one)
-        few (inr (none, n)) = absurd (none rs is_text)
+    own_at_most c low same rs is_text unique = omega (arith, counted_here c low same, at_most e b rs is_text unique loses.counted.records loses.counted.has)
 
     -- all records of the batch are counted, and its drops
     pub own_missed : (c : ℕ) → c < 64 → b.cpu ≡ c → missed_on new c + 1 < 2 ^ 64 → (rs : List Record) → IsText e b.buffer.text rs
@@ -60,12 +66,8 @@ module _ (e : EnabledRows) where
         let read = counted_here c low same in
         let sum : missed_on new c ≡ missed_on old c + (b.drops + loses.counted.records) = read ∙ uncapped _ (subst (λ n. n + 1 < 2 ^ 64) read below) in
         let small : loses.counted.records + 1 < 2 ^ 64 = omega (arith, sum, below) in
-        let so_many : loses.counted.records ≡ length rs = count loses.counted.has small in
+        let so_many : loses.counted.records ≡ length rs = exactly e b rs is_text unique loses.counted.records small loses.counted.has in
         omega (arith, sum, so_many)
-      where
-        count : HasSoManyRecords e b loses.counted.records → loses.counted.records + 1 < 2 ^ 64 → loses.counted.records ≡ length rs
-        count (inl (qs, (text, n))) small = n ∙ uncapped (length qs) (subst (λ m. m + 1 < 2 ^ 64) n small) ∙ ap length (unique qs text)
-        count (inr (none, n)) small = absurd (none rs is_text)
 
   pub leaves : (old new : Tracing) (b : Batch) → Came e old b new → LeavesTaken old b new
   leaves old new b (inl nothing) = record {

@@ -1,5 +1,5 @@
 -- Each batch that a sink got of a session has the number of the CPU that it came from.
-use Rattle.std.proofs.Common.{◌≡◌, ◌<◌, ◌==◌, ℕ, zero, suc, Bool, true, false, if◌then◌else◌, List, [], ◌∷◌, ◌++◌, Option, Some, refl, sym, subst, arith, length, reverse, slice_get, append_assoc}
+use Rattle.std.proofs.Common.{◌≡◌, ◌<◌, ◌==◌, ℕ, Bool, true, false, if◌then◌else◌, List, [], ◌∷◌, ◌++◌, Option, refl, sym, subst, reverse, append_assoc}
 use Rattle.std.proofs.lemmas.{Bool.eq-eqb, List.reverse-append, List.reverse-reverse, List.Elements.All-head, List.Elements.All-tail}
 use Rattle.std.specs.List.{AllByRecursion}
 use Rattle.dspec_trace_reading.specs.Words.{Record, waiting, IsWithSeals, AreFrom, Passed, left_batches, passed_from, HaveNumbers, Shape, Config, Deed, Batch, Left}
@@ -22,16 +22,7 @@ module _ (shape : ℕ → Option Shape) (accepted : Record → Bool) (text : Rec
   sealed_numbered : (q entered : List Deed) (bs : List Batch) → IsWithSeals shape accepted text k c entered bs q → Numbered c bs
   sealed_numbered [] entered bs (none, nil) = subst (λ ys. Numbered c ys) (sym nil) tt
   sealed_numbered (deed.Seal a ∷ p) entered bs (b, rest, is, sealed, more) = subst (λ ys. Numbered c ys) (sym is) (sealed.of_cpu, sealed_numbered p entered rest more)
-  sealed_numbered (deed.Trace a r f ∷ p) entered bs (before, is, more) = sealed_numbered p before bs more
-  sealed_numbered (deed.Scan a u ∷ p) entered bs (before, is, more) = sealed_numbered p before bs more
-  sealed_numbered (deed.Opened a i ∷ p) entered bs (before, is, more) = sealed_numbered p before bs more
-  sealed_numbered (deed.Miss a s u ∷ p) entered bs (before, is, more) = sealed_numbered p before bs more
-  sealed_numbered (deed.Speculate a i r f ∷ p) entered bs (before, is, more) = sealed_numbered p before bs more
-  sealed_numbered (deed.Commit a i f ∷ p) entered bs (before, is, more) = sealed_numbered p before bs more
-  sealed_numbered (deed.Discard a i f ∷ p) entered bs (before, is, more) = sealed_numbered p before bs more
-  sealed_numbered (deed.Settle a i f ∷ p) entered bs (before, is, more) = sealed_numbered p before bs more
-  sealed_numbered (deed.Release s ∷ p) entered bs (before, is, more) = sealed_numbered p before bs more
-  sealed_numbered (deed.Halt ∷ p) entered bs (before, is, more) = sealed_numbered p before bs more
+  sealed_numbered (d ∷ p) entered bs s = sealed_numbered p s.0 bs s.2
 
   -- and the last buffer, where it has the number
   pub taken_numbered : (q entered : List Deed) (taken : List Batch) (l : Left) → IsWithSeals shape accepted text k c entered (reverse (taken ++ waiting l.rest)) q → l.last.cpu ≡ c
@@ -53,9 +44,3 @@ have_numbers n (x ∷ xs) from each =
     let own : Numbered x.from (x.batch ∷ passed_from x.from xs) =
     subst (λ q. Numbered x.from (if q then x.batch ∷ passed_from x.from xs else passed_from x.from xs)) (eq-eqb x.from x.from refl) (each x.from below) in
     (own.0, have_numbers n xs (All-tail (λ (y : Passed). y.from < n) x xs from) (λ d lt. rest_numbered d (x.from == d) x.batch (passed_from d xs) (each d lt)))
-
--- a list has an element at each place below its length
-pub is_there : {A : Type 0} (xs : List A) (i : ℕ) → i < length xs → (x : A) × (slice_get xs i ≡ Some x)
-is_there [] i within = absurd (omega arith)
-is_there (x ∷ xs) zero within = (x, refl)
-is_there (x ∷ xs) (suc i) within = is_there xs i (omega arith)

@@ -1,13 +1,12 @@
 -- A folder that was written as batches were taken, of which some may be lost, and what is read of it.
-use Rattle.std.proofs.Common.{◌≡◌, ◌<◌, ◌≤◌, ◌+◌, ◌^◌, ℕ, inl, inr, List, [], ◌∷◌, ◌++◌, false, Some, sym, ap, ◌∙◌, subst, arith, length, map, slice_get, All, codes, None}
+use Rattle.std.proofs.Common.{◌≡◌, ◌≢◌, ◌<◌, ◌≤◌, ◌+◌, ◌^◌, ℕ, inl, List, [], ◌∷◌, ◌++◌, false, Some, sym, ap, ◌∙◌, subst, arith, length, map, All, codes, None}
 use Rattle.std.proofs.lemmas.List.Elements.{All-head, All-tail, All-weaker}
 use Rattle.std.specs.List.{flat_map}
-use Rattle.dspec_trace_reading.specs.Words.{FileWrite, Record, EnabledRows, Passed, GotAll, passed_from, filled_packets, origin_text, Accepts, FileTells, last_missed, event_of, layout_of}
-use Rattle.dspec_trace_reading.specs.Words.{read_metadata, HasNumbers, missed_on, file_of, GetsPacket, Tracing, cpu_name, HaveNumbers, drops_carried, told_on, BegunNew, path_of, ReadsAllKept}
-use Rattle.dspec_trace_reading.specs.Words.{ReadsBack, ReadsKept, Left, AsTaken, Names, Origin}
-use Rattle.dspec_trace_reading.proofs.{Begun.asked, Begun.begun_with, Begun.first, Begun.metadata_is, Begun.none_missed, Begun.none_told, Begun.nothing_yet, Folding.FilesRead, Folding.Holds}
-use Rattle.dspec_trace_reading.proofs.{Folding.MetadataReads, Folding.Stays, Folding.last_from, Folding.last_same, Keeping.IsExact, Keeping.Kept, Keeping.Told, Keeping.all_kept, Keeping.stays}
-use Rattle.dspec_trace_reading.proofs.{Kept.whole_read, Naming.cpu_named, Naming.metadata_named, Naming.not_metadata, Placing.path_stays}
+use Rattle.dspec_trace_reading.specs.Words.{FileWrite, Record, EnabledRows, Passed, GotAll, passed_from, filled_packets, Accepts, FileTells, last_missed, event_of, layout_of, missed_on, file_of}
+use Rattle.dspec_trace_reading.specs.Words.{GetsPacket, Tracing, cpu_name, HaveNumbers, drops_carried, told_on, BegunNew, ReadsKept, AsTaken, Names, Origin}
+use Rattle.dspec_trace_reading.proofs.{Begun.asked, Begun.begun_with, Begun.metadata_is, Begun.none_yet, Begun.nothing_yet, Begun.path_is, Filled.IsFilled, Filled.path_kept, Folding.FilesRead}
+use Rattle.dspec_trace_reading.proofs.{Folding.Holds, Folding.Stays, Folding.last_from, Folding.last_same, Folding.stays, Keeping.IsExact, Keeping.Kept, Keeping.Told, Keeping.all_kept}
+use Rattle.dspec_trace_reading.proofs.{Losing.leaves, Naming.cpu_named, Naming.not_metadata}
 
 -- the last packet tells no more than what no packet tells more than
 last_at_most : (n m : ℕ) (ps : List (ℕ × List Record)) → n ≤ m → All (λ (p : ℕ × List Record). p.0 ≤ m) ps → last_from n ps ≤ m
@@ -15,28 +14,33 @@ last_at_most n m [] few all = few
 last_at_most n m (p ∷ ps) few all =
     last_at_most p.0 m ps (All-head (λ (q : ℕ × List Record). q.0 ≤ m) p ps all) (All-tail (λ (q : ℕ × List Record). q.0 ≤ m) p ps all)
 
-module _ (metadata_law : MetadataReads) (files_law : FilesRead) (origin : Origin) (e : EnabledRows) (names : Names) (begun ended : Tracing)
-    (is : BegunNew origin e names begun) (passed : List Passed) (got : GotAll (GetsPacket e) begun passed ended) where
-  pub all_writes : Stays e (codes "metadata") ended (begun_with origin e names begun is)
-  all_writes = stays e (codes "metadata") not_metadata passed begun ended (begun_with origin e names begun is) got (asked origin e names begun is)
+module _ (files_law : FilesRead) (origin : Origin) (e : EnabledRows) (names : Names) (begun ended : Tracing) (is : BegunNew origin e names begun)
+    (passed : List Passed) (got : GotAll (GetsPacket e) begun passed ended) where
+  abbrev first_writes : List FileWrite
+  first_writes = begun_with origin AsTaken e names is.before
 
-  abbrev pub writes : List FileWrite
-  writes = begun_with origin e names begun is ++ all_writes.0
+  begun_asked : begun.written ≡ Some first_writes
+  begun_asked = asked origin AsTaken e names is.before is.new begun.written is.begins.written
 
-  -- the folder is where it was made
-  pub path_kept : path_of writes ≡ path_of is.before
-  path_kept =
-      let one = stays e [] cpu_named passed begun ended (begun_with origin e names begun is) got (asked origin e names begun is) in
-      let both : Some writes ≡ Some (begun_with origin e names begun is ++ one.0) = sym all_writes.1.0 ∙ one.1.0 in
-      let same : writes ≡ begun_with origin e names begun is ++ one.0 = cc (both) in
-      ap path_of same ∙ one.1.1 ∙ path_stays is.before (first origin e names) metadata_named
+  -- a file that is none of a CPU's stays as it was
+  others_stay : (name : List ℕ) → ((c : ℕ) → cpu_name c ≢ name) → Stays name ended.written first_writes
+  others_stay name apart =
+      stays (GetsPacket e) (λ (t : Tracing). t.written) name
+      (λ old b new gets was asked. let one = (leaves e old new b gets.came).files was asked in (one.0, (one.1.0, one.1.1 name (λ there. apart b.cpu))))
+      passed begun ended first_writes got begun_asked
+
+  metadata_stays : Stays (codes "metadata") ended.written first_writes
+  metadata_stays = others_stay (codes "metadata") not_metadata
+
+  abbrev writes : List FileWrite
+  writes = first_writes ++ metadata_stays.0
 
   module _ (c : ℕ) (low : c < 64) (rs : List Record) (long : length origin.uuid ≡ 16) (small : missed_on ended c < 2 ^ 64) (exact : IsExact c ended)
       (own : HaveNumbers passed) (hold : Holds e (passed_from c passed) rs) where
-    kept : Kept e origin.uuid c low begun ended (passed_from c passed) (begun_with origin e names begun is)
+    kept : Kept e origin.uuid c low begun ended (passed_from c passed) first_writes
     kept =
-        all_kept e origin.uuid c low passed begun ended (begun_with origin e names begun is) rs got is.begins.uuid_is (ap length is.begins.missed) (ap length is.begins.told)
-        (asked origin e names begun is) exact own hold
+        all_kept e origin.uuid c low passed begun ended first_writes rs got is.begins.uuid_is (ap length is.begins.missed) (ap length is.begins.told)
+        begun_asked exact own hold
 
     tells_kept : FileTells (layout_of e names AsTaken) origin.uuid c (flat_map (λ p. filled_packets false e origin.uuid p.0 c p.1) kept.packets)
         (map (event_of e names AsTaken) (flat_map (λ p. p.1) kept.packets)) (last_missed kept.packets)
@@ -46,24 +50,25 @@ module _ (metadata_law : MetadataReads) (files_law : FilesRead) (origin : Origin
         (λ p h. (omega (arith, h.0, small), h.1)) kept.packets kept.each)
 
     told_is : last_missed kept.packets ≡ told_on ended c
-    told_is = last_same kept.packets ∙ ap (λ n. last_from n kept.packets) (sym (none_told origin e names begun is c)) ∙ kept.told
+    told_is = last_same kept.packets ∙ ap (λ n. last_from n kept.packets) (sym (none_yet begun.told is.begins.told c)) ∙ kept.told
 
     same_writes : writes ≡ kept.writes
     same_writes =
-        let both : Some writes ≡ Some kept.writes = sym all_writes.1.0 ∙ kept.asked in
+        let both : Some writes ≡ Some kept.writes = sym metadata_stays.1.0 ∙ kept.asked in
         cc (both)
 
     -- where nothing is lost, all that its batches carried as drops is told
-    pub none_lost : ended.lost ≡ None → (missed_on ended c ≡ drops_carried (passed_from c passed)) × (told_on ended c ≡ missed_on ended c)
+    none_lost : ended.lost ≡ None → (missed_on ended c ≡ drops_carried (passed_from c passed)) × (told_on ended c ≡ missed_on ended c)
     none_lost none =
         let w = kept.whole none in
-        (omega (arith, kept.counted, w.0, none_missed origin e names begun is c), w.1 (none_told origin e names begun is c ∙ sym (none_missed origin e names begun is c)))
+        (omega (arith, kept.counted, w.0, none_yet begun.missed is.begins.missed c), w.1 (none_yet begun.told is.begins.told c ∙ sym (none_yet begun.missed is.begins.missed c)))
 
-    pub stream_kept : ReadsKept AsTaken origin.uuid e names c (passed_from c passed) writes (told_on ended c) (missed_on ended c)
+    stream_kept : ReadsKept AsTaken origin.uuid e names c (passed_from c passed) writes (told_on ended c) (missed_on ended c)
     stream_kept =
         let bytes : file_of (cpu_name c) writes ≡ flat_map (λ p. filled_packets false e origin.uuid p.0 c p.1) kept.packets =
         ap (λ ws. file_of (cpu_name c) ws) same_writes ∙ kept.bytes
-        ∙ ap (λ xs. xs ++ flat_map (λ p. filled_packets false e origin.uuid p.0 c p.1) kept.packets) (nothing_yet origin e names begun is c) in
+        ∙ ap (λ xs. xs ++ flat_map (λ p. filled_packets false e origin.uuid p.0 c p.1) kept.packets)
+        (nothing_yet origin AsTaken e names is.before is.new (cpu_name c) (cpu_named c) (not_metadata c)) in
         record {
           kept = flat_map (λ p. p.1) kept.packets;
           lost = kept.lost;
@@ -72,35 +77,21 @@ module _ (metadata_law : MetadataReads) (files_law : FilesRead) (origin : Origin
               subst (λ n. FileTells (layout_of e names AsTaken) origin.uuid c (file_of (cpu_name c) writes) (map (event_of e names AsTaken) (flat_map (λ p. p.1) kept.packets)) n) told_is
               (subst (λ xs. FileTells (layout_of e names AsTaken) origin.uuid c xs (map (event_of e names AsTaken) (flat_map (λ p. p.1) kept.packets)) (last_missed kept.packets))
               (sym bytes) tells_kept);
-          counted = omega (arith, kept.counted, none_missed origin e names begun is c);
-          no_more = subst (λ n. n ≤ missed_on ended c) kept.told (last_at_most (told_on begun c) (missed_on ended c) kept.packets (omega (arith, none_told origin e names begun is c))
+          counted = omega (arith, kept.counted, none_yet begun.missed is.begins.missed c);
+          no_more = subst (λ n. n ≤ missed_on ended c) kept.told
+              (last_at_most (told_on begun c) (missed_on ended c) kept.packets (omega (arith, none_yet begun.told is.begins.told c))
               (All-weaker (Told e origin.uuid c low ended) (λ (p : ℕ × List Record). p.0 ≤ missed_on ended c) (λ p h. h.0) kept.packets kept.each));
         }
 
-  pub metadata_text : file_of (codes "metadata") writes ≡ origin_text origin AsTaken e names
-  metadata_text = all_writes.1.1 ∙ metadata_is origin e names begun is
-
-  pub metadata_read : HasNumbers origin AsTaken e names → read_metadata (file_of (codes "metadata") writes) ≡ Some (layout_of e names AsTaken)
-  metadata_read numbers = ap read_metadata metadata_text ∙ metadata_law origin AsTaken e names is.begins.allowed numbers
-
-  module _ (left : List Left) (seen : (c : ℕ) (l : Left) → slice_get left c ≡ Some l → List Record) (long : length origin.uuid ≡ 16) (numbers : HasNumbers origin AsTaken e names)
-      (own : HaveNumbers passed) (holds : (c : ℕ) (l : Left) (there : slice_get left c ≡ Some l) → Holds e (passed_from c passed) (seen c l there)) where
-    pub reads_kept : ((c : ℕ) → missed_on ended c + 1 < 2 ^ 64) → ReadsAllKept AsTaken origin.uuid e names left (λ c. passed_from c passed) ended.written (told_on ended) (missed_on ended)
-    reads_kept small = record {
-      writes = writes;
-      asked = all_writes.1.0;
-      metadata = metadata_read numbers;
-      streams = λ c l low there. stream_kept c low (seen c l there) long (omega (arith, small c)) (inr (small c)) own (holds c l there);
-    }
-
-    pub reads_back : ended.lost ≡ None → ((c : ℕ) → missed_on ended c < 2 ^ 64) → ReadsBack AsTaken origin.uuid e names left seen (λ c. passed_from c passed) ended.written
-    reads_back none small = record {
-      writes = writes;
-      asked = all_writes.1.0;
-      metadata = metadata_read numbers;
-      streams = λ c l low there.
-          let rs = seen c l there in
-          let hold = holds c l there in
-          whole_read e AsTaken origin.uuid names c (passed_from c passed) writes (told_on ended c) (missed_on ended c) rs
-          (stream_kept c low rs long (small c) (inl none) own hold) hold (none_lost c low rs long (small c) (inl none) own hold none);
-    }
+  -- what is known of the folder
+  pub filled : length origin.uuid ≡ 16 → HaveNumbers passed
+      → IsFilled AsTaken origin e names is.before (λ c. passed_from c passed) ended.lost ended.written (told_on ended) (missed_on ended)
+  filled long own = record {
+    later = metadata_stays.0;
+    asked = metadata_stays.1.0;
+    at = path_kept first_writes ended.written metadata_stays (others_stay [] cpu_named) ∙ path_is origin AsTaken e names is.before is.new;
+    text = metadata_stays.1.1 ∙ metadata_is origin AsTaken e names is.before is.new;
+    allowed = is.begins.allowed;
+    kept = λ c low rs small exact hold. stream_kept c low rs long small exact own hold;
+    whole = λ c low rs small none hold. none_lost c low rs long small (inl none) own hold none;
+  }

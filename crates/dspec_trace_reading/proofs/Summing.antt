@@ -2,7 +2,7 @@
 use Rattle.std.proofs.Common.{◌≡◌, ◌<◌, ◌≤◌, ◌+◌, ℕ, zero, suc, inl, inr, List, [], ◌∷◌, Some, refl, sym, subst, arith, length, slice_get}
 use Rattle.std.proofs.lemmas.Bool.{cases_eq, cases_lt, Decides.nat_tests}
 use Rattle.dspec_trace_reading.specs.Words.{Left, all_counted, lost_of, missed_in}
-use Rattle.dspec_trace_reading.proofs.OwnNumbers.{is_there}
+use Rattle.dspec_ctf_reading.proofs.AllowedWords.{get-some}
 
 -- of each the sum of two others
 pub both_of : (f g h : ℕ → ℕ) (n : ℕ) → ((c : ℕ) → c < n → h c ≡ f c + g c) → lost_of h n ≡ lost_of f n + lost_of g n
@@ -64,6 +64,6 @@ one_within (x ∷ ls) (suc c) l at = omega (arith, one_within ls c l at)
 -- of CPUs that all have numbers below 64 there are no more
 pub most : (ls : List Left) → ((c : ℕ) (l : Left) → slice_get ls c ≡ Some l → c < 64) → length ls ≤ 64
 most ls low = elim (cases_lt 64 (length ls)) [
-  | inl more ↦ let found = is_there ls 64 more in absurd (omega (arith, low 64 found.0 found.1))
+  | inl more ↦ let found = get-some ls 64 more in absurd (omega (arith, low 64 found.0 found.1))
   | inr few ↦ few
 ]

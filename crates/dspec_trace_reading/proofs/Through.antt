@@ -1,6 +1,6 @@
 -- A sink that is part of another got what that got.
-use Rattle.std.proofs.Common.{◌+◌, ℕ, Bool, List, [], ◌∷◌, Option, ap}
-use Rattle.dspec_trace_reading.specs.Words.{Record, CallsMade, GotAll, Passed, IsKept, GetsTellings, Shape, Config, Batch, Left}
+use Rattle.std.proofs.Common.{◌+◌, ℕ, List, [], ◌∷◌, ap}
+use Rattle.dspec_trace_reading.specs.Words.{GotAll, Passed, GetsTellings, Batch, Left}
 
 module _ {B K : Type 0} (gets : B → Batch → B → Type 0) (sees : K → Batch → K → Type 0) (f : B → K) (through : (a : B) (b : Batch) (c : B) → gets a b c → sees (f a) b (f c)) where
   pub got_through : (xs : List Passed) (k l : B) → GotAll gets k xs l → GotAll sees (f k) xs (f l)
@@ -11,14 +11,3 @@ module _ {B K : Type 0} (gets : B → Batch → B → Type 0) (sees : K → Batc
   told_through c [] k l e = ap f e
   told_through c (x ∷ xs) k l (m, one, rest) =
       (f m, record { batch = one.batch; is = one.is; got = through k one.batch m one.got }, told_through (c + 1) xs m l rest)
-
-  module _ (does : ℕ → CallsMade → CallsMade → Type 0) (shape : ℕ → Option Shape) (accepted : Record → Bool) (text : Record → List ℕ) where
-    pub kept_through : (k : Config) (old : B) (left : List Left) (new : B) → IsKept gets does shape accepted text k old left new → IsKept sees does shape accepted text k (f old) left (f new)
-    kept_through k old left new t = record {
-      passed = t.passed;
-      from = t.from;
-      got = got_through t.passed old new t.got;
-      calls = t.calls;
-      worked = t.worked;
-      page = t.page;
-    }

@@ -5,9 +5,9 @@ use Rattle.std.specs.Prelude.{slice_range}
 use Rattle.dspec_trace_reading.specs.Words.{Record, EnabledRows, IsText, AddsBatch, HasNoCpu, HasSoManyRecords, LosesBatch, LosesOfFiles, LosesRest, TimedTracing, missed_by_time, told_by_time}
 use Rattle.dspec_trace_reading.specs.Words.{Batch, Names}
 use Rattle.dspec_record.specs.declared.header.Header.TheVariants as header
-use Rattle.dspec_trace_reading.proofs.{Asking.some_lost, Filing.Filed, TimedAsking.lasts_of, TimedAsking.missed_before, TimedAsking.missed_here, TimedAsking.missed_then, TimedAsking.told_here}
-use Rattle.dspec_trace_reading.proofs.{TimedAsking.told_now, TimedAsking.told_then, TimedFiles.HasFiled, TimedFiles.all_added, TimedFiles.filed_now, TimedFiles.filed_then, TimedFiles.front_added}
-use Rattle.dspec_trace_reading.proofs.{TimedFiles.none_added, TimedLosing.CameByTime, TimedLosing.IsExactByTime, TimedLosing.exact, TimedLosing.exactly, TimedLosing.small_then}
+use Rattle.dspec_trace_reading.proofs.{Asking.some_lost, Filing.Filed, Losing.exactly, TimedAsking.lasts_of, TimedAsking.missed_before, TimedAsking.missed_here, TimedAsking.missed_then}
+use Rattle.dspec_trace_reading.proofs.{TimedAsking.told_here, TimedAsking.told_now, TimedAsking.told_then, TimedFiles.HasFiled, TimedFiles.all_added, TimedFiles.filed_now, TimedFiles.filed_then}
+use Rattle.dspec_trace_reading.proofs.{TimedFiles.front_added, TimedFiles.none_added, TimedLosing.CameByTime, TimedLosing.IsExactByTime, TimedLosing.exact, TimedLosing.small_then}
 use Rattle.dspec_filing_reading.proofs.FilesLaws.{FilesLaws}
 
 -- what is known of a CPU after some batches, of whose records these are kept so far

@@ -1,27 +1,12 @@
 -- What all batches of a session bring to one CPU's files by time, where some of them may be lost.
-use Rattle.std.proofs.Common.{◌≡◌, ◌≢◌, ◌<◌, ◌+◌, ◌^◌, ◌==◌, ℕ, Bool, true, false, if◌then◌else◌, List, [], ◌∷◌, ◌++◌, Some, None, refl, sym, ap, ◌∙◌, subst, arith, length, append_assoc}
+use Rattle.std.proofs.Common.{◌≡◌, ◌≢◌, ◌<◌, ◌+◌, ◌^◌, ◌==◌, ℕ, Bool, true, false, if◌then◌else◌, List, [], ◌∷◌, ◌++◌, None, refl, sym, ap, ◌∙◌, subst, arith, length, append_assoc}
 use Rattle.std.proofs.lemmas.{Bool.eqb-true, Bool.eqb-false, Bool.Decides.nat_tests, List.append-nil}
-use Rattle.dspec_trace_reading.specs.Words.{Record, EnabledRows, Passed, GotAll, passed_from, GetsRuns, TimedTracing, row_name, FileWrite, file_of, HaveNumbers, drops_carried, AreKeptInFront}
-use Rattle.dspec_trace_reading.specs.Words.{missed_by_time, told_by_time, Batch, Names}
+use Rattle.dspec_trace_reading.specs.Words.{Record, EnabledRows, Passed, GotAll, passed_from, GetsRuns, TimedTracing, HaveNumbers, drops_carried, AreKeptInFront, missed_by_time, told_by_time, Batch}
+use Rattle.dspec_trace_reading.specs.Words.{Names}
 use Rattle.dspec_record.specs.declared.header.Header.TheVariants as header
 use Rattle.dspec_trace_reading.proofs.{Filing.Filed, Filing.still_filed, Folding.Holds, Folding.one_text, RowNaming.cpus_differ, TimedAsking.lasts_of, TimedAsking.none_before, TimedBounded.rises}
 use Rattle.dspec_trace_reading.proofs.{TimedFronts.KeepsFront, TimedFronts.StandsInPart, TimedFronts.keeps, TimedLosing.CameByTime, TimedLosing.IsExactByTime, TimedLosing.Leaves, TimedLosing.leaves}
 use Rattle.dspec_filing_reading.proofs.FilesLaws.{FilesLaws}
-
--- the place took writes behind those of before, which left the file of this name as it was
-abbrev pub TimedStays : List ℕ → TimedTracing → List FileWrite → Type 0
-TimedStays name new was = (added : List FileWrite) × ((new.written ≡ Some (was ++ added)) × (file_of name (was ++ added) ≡ file_of name was))
-
--- a file that is none of a CPU's stays, whatever is lost
-pub stays : (e : EnabledRows) (name : List ℕ) → ((c file : ℕ) → row_name c file ≢ name) → (bs : List Passed) (old new : TimedTracing) (was : List FileWrite)
-    → GotAll (GetsRuns e) old bs new → old.written ≡ Some was → TimedStays name new was
-stays e name apart [] old new was got asked =
-    ([], (ap (λ (t : TimedTracing). t.written) (sym got) ∙ asked ∙ ap Some (sym (append-nil was)), ap (λ ws. file_of name ws) (append-nil was)))
-stays e name apart (x ∷ xs) old new was (mid, gets, rest) asked =
-    let one = (leaves e old mid x.batch gets.came).files was asked in
-    let all = stays e name apart xs mid new (was ++ one.0) rest one.1.0 in
-    let both = append_assoc was one.0 all.0 in
-    (one.0 ++ all.0, (all.1.0 ∙ ap Some both, ap (λ ws. file_of name ws) (sym both) ∙ all.1.1 ∙ one.1.1 name (λ there file. apart x.batch.cpu file)))
 
 module _ (laws : FilesLaws) (uuid : List ℕ) (e : EnabledRows) (names : Names) (hertz c : ℕ) (low : c < 64) (long : length uuid ≡ 16) (stamped : e.header ≡ header.Two) where
   -- the records that are kept of a CPU's batches, behind those of before

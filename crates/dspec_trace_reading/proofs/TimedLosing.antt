@@ -1,12 +1,12 @@
 -- What one batch makes of a trace by time, where some of it may be lost.
 use Rattle.std.proofs.Common.{◌≡◌, ◌≢◌, ◌<◌, ◌≤◌, ◌+◌, ◌^◌, ◌++◌, ◌⊎◌, inl, inr, ℕ, List, [], Some, None, sym, ap, subst, ◌∙◌, append_assoc, arith, length, length-set, get_or, slice_index}
 use Rattle.std.proofs.lemmas.{List.get_or-set_same, List.get_or-set_other, Option.slice_get_within}
-use Rattle.dspec_trace_reading.specs.Words.{Record, EnabledRows, IsText, run_packets, AddsBatch, capped, FileWrite, file_of, HasSoManyRecords, IsBatchLoss, LosesBatch, LosesOfFiles, LosesRest}
-use Rattle.dspec_trace_reading.specs.Words.{row_name, TimedTracing, missed_by_time, Batch, Loss}
-use Rattle.dspec_trace_reading.proofs.{Asking.some_lost, Losing.uncapped, Taking.Telling, Taking.row_writes, Taking.stays_elsewhere, Taking.telling, Taking.took_all, TimedAsking.asked_then}
-use Rattle.dspec_trace_reading.proofs.{TimedAsking.lasts_elsewhere, TimedAsking.lasts_of, TimedAsking.lasts_others, TimedAsking.missed_before, TimedAsking.missed_elsewhere, TimedAsking.missed_here}
-use Rattle.dspec_trace_reading.proofs.{TimedAsking.stays_then, TimedAsking.told_elsewhere, TimedAsking.told_others, TimedAsking.added, TimedFiles.StaysSame, TimedFiles.not_taken, TimedFiles.stopped}
-use Rattle.dspec_trace_reading.proofs.{TimedFiles.unasked}
+use Rattle.dspec_trace_reading.specs.Words.{Record, EnabledRows, IsText, run_packets, AddsBatch, capped, FileWrite, file_of, IsBatchLoss, LosesBatch, LosesOfFiles, LosesRest, row_name, TimedTracing}
+use Rattle.dspec_trace_reading.specs.Words.{missed_by_time, Batch, Loss}
+use Rattle.dspec_trace_reading.proofs.{Asking.some_lost, Losing.at_most, Losing.uncapped, Taking.Telling, Taking.row_writes, Taking.stays_elsewhere, Taking.telling, Taking.took_all}
+use Rattle.dspec_trace_reading.proofs.{TimedAsking.asked_then, TimedAsking.lasts_elsewhere, TimedAsking.lasts_of, TimedAsking.lasts_others, TimedAsking.missed_before, TimedAsking.missed_elsewhere}
+use Rattle.dspec_trace_reading.proofs.{TimedAsking.missed_here, TimedAsking.stays_then, TimedAsking.told_elsewhere, TimedAsking.told_others, TimedAsking.added, TimedFiles.StaysSame}
+use Rattle.dspec_trace_reading.proofs.{TimedFiles.not_taken, TimedFiles.stopped, TimedFiles.unasked}
 
 -- what may come of a batch
 abbrev pub CameByTime : EnabledRows → TimedTracing → Batch → TimedTracing → Type 0
@@ -124,23 +124,14 @@ module _ (e : EnabledRows) (old new : TimedTracing) (b : Batch) (low : b.cpu < 6
   own_rises is (inl adds) = omega (arith, missed_here e old new b adds, missed_before e old new b adds)
   own_rises is (inr loses) = omega (arith, exact (small_then e old new b b.cpu loses is) loses)
 
--- the batch's records, and that its text has no others
 module _ (e : EnabledRows) (b : Batch) (rs : List Record) (is_text : IsText e b.buffer.text rs) (unique : (qs : List Record) → IsText e b.buffer.text qs → qs ≡ rs) where
-  at_most : (n : ℕ) → HasSoManyRecords e b n → n ≤ length rs
-  at_most n (inl (qs, (text, is))) = let one : length qs ≡ length rs = ap length (unique qs text) in omega (arith, is, one)
-  at_most n (inr (none, is)) = absurd (none rs is_text)
-
-  pub exactly : (n : ℕ) → n + 1 < 2 ^ 64 → HasSoManyRecords e b n → n ≡ length rs
-  exactly n small (inl (qs, (text, is))) = is ∙ uncapped (length qs) (subst (λ m. m + 1 < 2 ^ 64) is small) ∙ ap length (unique qs text)
-  exactly n small (inr (none, is)) = absurd (none rs is_text)
-
   module _ (old new : TimedTracing) (low : b.cpu < 64) (wide : length old.missed ≡ 64) where
     lost_few : (loss : Loss) → IsBatchLoss e old b new loss → loss.records ≤ length rs
     lost_few loss why = elim why [
-      | inl n ↦ at_most loss.records n.has
+      | inl n ↦ at_most e b rs is_text unique loss.records n.has
       | inr l ↦ elim l.loses [
-        | inl n ↦ at_most loss.records n.has
-        | inr (inl a) ↦ at_most loss.records a.has
+        | inl n ↦ at_most e b rs is_text unique loss.records n.has
+        | inr (inl a) ↦ at_most e b rs is_text unique loss.records a.has
         | inr (inr r) ↦ let one : length r.read ≡ length rs = ap length (unique r.read r.is_text) in omega (arith, r.stops.stops.rest, one)
       ]
     ]

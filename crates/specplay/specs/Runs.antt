@@ -21,14 +21,6 @@ IsInputFault TooLong = Unit {0}
 IsInputFault Read = Unit {0}
 IsInputFault Write = ⊥
 
--- a fault of the schedule or of its play
-abbrev pub IsScheduleFault : RunFault → Type 0
-IsScheduleFault (Line line kind) = Unit {0}
-IsScheduleFault Memory = Unit {0}
-IsScheduleFault TooLong = ⊥
-IsScheduleFault Read = ⊥
-IsScheduleFault Write = ⊥
-
 -- a fault of the schedule as a run tells it
 abbrev pub run_fault_of : ScheduleFault → RunFault
 run_fault_of (schedule.Line line kind) = Line line kind

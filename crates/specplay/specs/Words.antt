@@ -2,5 +2,5 @@
 pub mod Outside
 unfoldable pub use Outside.*
 pub use Rattle.specplay.specs.Lines.{lines_text}
-pub use Rattle.specplay.specs.Schedules.{IsCutOff, Prints}
+pub use Rattle.specplay.specs.Schedules.{IsCutOff, IsToldOf, Prints}
 pub use Rattle.specplay.specs.Written.{AppendsBefore, AppendsBeginning}

@@ -7,7 +7,10 @@ use dspec_schedule::ScheduleFault;
 use std::alloc::AllocError;
 use thiserror::Error;
 
-/// The exit status after a wrong command line.
+/// What is told of a wrong command line.
+pub const USAGE: &str = "usage: specplay [threads]";
+
+/// The exit status after it.
 pub const USAGE_STATUS: u8 = 4;
 
 /// Why a run failed. Lines are counted from 1.

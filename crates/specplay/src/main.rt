@@ -18,36 +18,12 @@ mod fault;
 mod runner;
 mod threads;
 
-use fault::RunFault;
+use fault::{RunFault, USAGE, USAGE_STATUS};
+use runner::run;
 use std::fmt::Display;
 use std::process::ExitCode;
 use std::{env, io};
 use threads::run_threads;
-
-/// What the command line asks for.
-enum Command {
-    Play,
-    Threads,
-    Nothing,
-}
-
-/// Without arguments the play of a schedule, with the one argument `threads` the demonstration. An argument that is no text asks
-/// for nothing.
-fn command_of(rt: &HostRuntime) -> Result<Command, RunFault> {
-    let mut words = match env::args(rt) {
-        Ok(words) => words,
-        Err(error) if error.kind() == io::ErrorKind::OutOfMemory => return Err(RunFault::Memory),
-        Err(_) => return Ok(Command::Nothing),
-    };
-    let _program = words.next();
-    let Some(word) = words.next() else {
-        return Ok(Command::Play);
-    };
-    if words.next().is_some() || word.as_str() != "threads" {
-        return Ok(Command::Nothing);
-    }
-    Ok(Command::Threads)
-}
 
 /// Tells of a fault, and gives its exit status.
 fn told<F: Display + Drop>(rt: &HostRuntime, fault: F, status: u8) -> ExitCode {
@@ -55,17 +31,28 @@ fn told<F: Display + Drop>(rt: &HostRuntime, fault: F, status: u8) -> ExitCode {
     ExitCode::from(status)
 }
 
+/// Without arguments plays a schedule, with the one argument `threads` runs the demonstration. An argument that is no text asks
+/// for nothing.
 fn main(rt: HostRuntime) -> ExitCode {
-    match command_of(&rt) {
-        Ok(Command::Play) => match runner::run(rt.alloc(), &mut rt.stdin(), &mut rt.stdout()) {
+    let mut words = match env::args(&rt) {
+        Ok(words) => words,
+        Err(error) if error.kind() == io::ErrorKind::OutOfMemory => {
+            return told(&rt, RunFault::Memory, RunFault::Memory.status());
+        }
+        Err(_) => return told(&rt, USAGE, USAGE_STATUS),
+    };
+    let _program = words.next();
+    let Some(word) = words.next() else {
+        return match run(rt.alloc(), &mut rt.stdin(), &mut rt.stdout()) {
             Ok(()) => ExitCode::SUCCESS,
             Err(fault) => told(&rt, fault, fault.status()),
-        },
-        Ok(Command::Threads) => match run_threads(&rt, rt.alloc(), &mut rt.stdout()) {
-            Ok(()) => ExitCode::SUCCESS,
-            Err(fault) => told(&rt, fault, fault.status()),
-        },
-        Ok(Command::Nothing) => told(&rt, "usage: specplay [threads]", fault::USAGE_STATUS),
+        };
+    };
+    if words.next().is_some() || word.as_str() != "threads" {
+        return told(&rt, USAGE, USAGE_STATUS);
+    }
+    match run_threads(&rt, rt.alloc(), &mut rt.stdout()) {
+        Ok(()) => ExitCode::SUCCESS,
         Err(fault) => told(&rt, fault, fault.status()),
     }
 }

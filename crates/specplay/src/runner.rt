@@ -1,6 +1,6 @@
 ghost use Rattle.std.specs.Io.KnownBytes.{Appends};
-ghost use Rattle.std.specs.Prelude.{◌≡◌, ◌≢◌, ◌<◌, List, ℕ, length, IfErr, IfOk, IfSome, IsErrAnd, OnErr, OnOk, string_bytes};
-ghost use Rattle.specplay.specs.{Runs.IsInputFault, Runs.IsScheduleFault, Schedules.IsCutOff, Schedules.IsToldOf, Schedules.Prints, Written.AppendsBeginning};
+ghost use Rattle.std.specs.Prelude.{◌≡◌, ◌≢◌, ◌<◌, List, ℕ, length, IfErr, IfSome, IsErrAnd, OnErr, OnOk};
+ghost use Rattle.specplay.specs.{Runs.IsInputFault, Schedules.IsCutOff, Schedules.IsToldOf, Schedules.Prints, Written.AppendsBeginning};
 
 use crate::fault::RunFault;
 use dspec_replay::input::MAX_INPUT;
@@ -9,8 +9,9 @@ use dspec_schedule::printed;
 use std::alloc::Global;
 use std::io::{self, Read, Write};
 
-/// Reads a whole schedule, plays it, and writes what it prints. Nothing is written before the play has succeeded;
+/// Reads a whole schedule, plays it, and writes what its play prints. Nothing is written before the play has succeeded;
 /// after a write fault a beginning of the output has been.
+#[tactic(auto, using(crate::proofs::WritingLemmas::prints_of))]
 pub fn run<R: Read, W: Write>(alloc: Global, input: &mut R, output: &mut W) -> Result<(), RunFault>
     ensures unwritten { IfErr result (λ fault. fault ≢ RunFault.Write → output.new ≡ output.old) }
     ensures too_long { IfSome (R.remaining input.old) (λ known. MAX_INPUT < length known → IsErrAnd result IsInputFault) }
@@ -21,18 +22,9 @@ pub fn run<R: Read, W: Write>(alloc: Global, input: &mut R, output: &mut W) -> R
     ensures cut_off { result ≡ Err RunFault.Write → IfSome (R.remaining input.old) (λ text. IsCutOff text (W.contents output.old) (W.contents output.new)) }
 {
     let text = read_whole(alloc, input)?;
-    let printed = print_play(alloc, text.as_slice())?;
-    write_whole(output, printed.as_str())
-}
-
-/// Plays the schedule of a text, and gives what the play prints.
-fn print_play(alloc: Global, text: &[u8]) -> Result<String, RunFault>
-    ensures ok { IfOk result (λ printed. Prints text.now (string_bytes printed)) }
-    ensures faults { IfErr result IsScheduleFault }
-    ensures told { IfErr result (IsToldOf text.now) }
-{
-    let played = play_text(alloc, text)?;
-    Ok(printed(alloc, played.schedule.header(), &played.outcome)?)
+    let played = play_text(alloc, text.as_slice())?;
+    let page = printed(alloc, played.schedule.header(), &played.outcome)?;
+    write_whole(output, page.as_str())
 }
 
 /// Writes a text, and has it go out.

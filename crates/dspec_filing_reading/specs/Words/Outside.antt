@@ -1,10 +1,9 @@
 -- Serves proofs. Words from the crates below, in one place. Declares nothing.
-pub use Rattle.dspec_record.specs.Words.{accepted-parts, enabled, EnabledRows, Record, stamp_fits, table_accepts, table_shape, table_text}
-pub use Rattle.dspec_record.specs.declared.header.Header.{Header}
+pub use Rattle.dspec_record.specs.Words.{accepted-parts, enabled, EnabledRows, Record, table_accepts, table_shape, table_text}
 pub use Rattle.dspec_record.specs.declared.header.Header.TheVariants.{Two}
 pub use Rattle.dspec_buffer.specs.Words.{BufferText}
 pub use Rattle.dspec_ctf.specs.Words.{Accepts, AreFiled, AreRuns, as_written, CpuFiling, GoesToFile, Hands, HandsNone, HasAsMuchRoom, HasNoBatch, HaveAllBetween, IsFileRun, IsFoundRun, IsText}
-pub use Rattle.dspec_ctf.specs.Words.{missed_packets, no_packets, of_file, OpensBatch, run_files, run_packet, run_packets, run_records, Spreads, told_by, unwritten, with_more_missed, without_rest}
+pub use Rattle.dspec_ctf.specs.Words.{missed_packets, no_packets, of_file, OpensBatch, run_files, run_packet, run_packets, Spreads, told_by, unwritten, with_more_missed, without_rest}
 pub use Rattle.dspec_ctf.specs.declared.form.Form.TheVariants.{ByTime}
 pub use Rattle.dspec_ctf.specs.declared.in_memory.fault.PutFault.{PutFault}
 pub use Rattle.dspec_ctf.specs.declared.in_memory.packet.Packet.{Packet}

@@ -1,5 +1,5 @@
 -- Serves proofs. Words from the crates below, in one place. Declares nothing.
-pub use Rattle.dspec_record.specs.Words.{enabled, enabled-IsLimited, EnabledRows, Record, table-shapes_fit, table-texts_differ, table-texts_fit, table_accepts, table_shape, table_text}
+pub use Rattle.dspec_record.specs.Words.{enabled, EnabledRows, Record, table_accepts, table_shape, table_text}
 pub use Rattle.dspec_record.specs.declared.field.Shape.{Shape}
 pub use Rattle.dspec_record.specs.declared.header.Header.{Header}
 pub use Rattle.dspec_word.specs.Words.{Speculation}
@@ -20,7 +20,7 @@ pub use Rattle.dspec.specs.Words.{AreFrom, GotAll, HasLists, IsKept, IsOneListWi
 pub use Rattle.dspec.specs.declared.both.Both.{Both}
 pub use Rattle.dspec_probe.specs.Words.{Declared}
 pub use Rattle.dspec_probe.specs.declared.probes.ProbeNames.{ProbeNames}
-pub use Rattle.dspec_ctf.specs.Words.{Accepts, AreRuns, earlier, event_fields, IsText, labels_at, missed_packets, of_file, run_files, run_packets, told_by}
+pub use Rattle.dspec_ctf.specs.Words.{Accepts, AreRuns, event_fields, IsText, labels_at, missed_packets, of_file, run_packets, told_by}
 unfoldable pub use Rattle.dspec_ctf.specs.Words.{filled_packets, form_fault, metadata_fault, origin_fault, origin_text}
 pub use Rattle.dspec_ctf.specs.declared.form.Form.{Form}
 pub use Rattle.dspec_ctf.specs.declared.form.Form.TheVariants.{AsTaken, ByTime}
@@ -29,9 +29,9 @@ pub use Rattle.dspec_ctf.specs.declared.names.Names.TheVariants.{Given, Numbered
 pub use Rattle.dspec_ctf.specs.declared.origin.ClockStart.{ClockStart}
 pub use Rattle.dspec_ctf.specs.declared.origin.Origin.{Origin}
 pub use Rattle.dspec_ctf.specs.declared.rows.Run.{Run}
-pub use Rattle.dspec_ctf_reading.specs.Words.{event_of, EventRead, file_bytes, FileTells, FilledFilesReadBack, HasNumbers, last_missed, layout_of, MetadataTells, PacketRead, PartTells}
-pub use Rattle.dspec_ctf_reading.specs.Words.{read_metadata, ticks_of}
+pub use Rattle.dspec_ctf_reading.specs.Words.{event_of, file_bytes, FileTells, FilledFilesReadBack, HasNumbers, last_missed, layout_of, MetadataTells, read_metadata, ticks_of}
 unfoldable pub use Rattle.dspec_ctf_reading.specs.Words.{is_digit}
+pub use Rattle.dspec_filing_reading.specs.Words.{ReadsPackets}
 pub use Rattle.dspec_ctf_sink.specs.Words.{AddsAll, AddsBatch, AddsPacket, AddsRuns, AreNextOf, brought_to, capped, ChangesFiles, cpu_name, CpuFiles, file_of, FileWrite, GetsPacket, GetsRuns}
 pub use Rattle.dspec_ctf_sink.specs.Words.{GetsTellings, HasFiles, HasNoCpu, HasSoManyRecords, IsBare, IsBatchLoss, IsBegun, IsNothing, IsNotTaken, IsTelling, IsTimedBegun, LeaveNone, LosesAll}
 pub use Rattle.dspec_ctf_sink.specs.Words.{LosesBatch, LosesOfFiles, LosesPacket, LosesRest, lost_more, made_at, missed_on, path_of, Refuses, RefusesRun, row_name, StopsRun, Takes, TakesAll}

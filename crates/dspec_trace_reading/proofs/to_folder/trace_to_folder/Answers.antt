@@ -1,6 +1,6 @@
 use Rattle.std.proofs.Common.{ℕ, IfOk, subst}
 use Rattle.dspec_trace_reading.specs.Words.{EnabledRows, CallsMade, ThenServed, GetsPacket, RanBegun}
-use Rattle.dspec_trace_reading.proofs.TakenInFolder.{taken_if}
+use Rattle.dspec_trace_reading.proofs.InFolder.{taken_if}
 use Rattle.dspec_trace_reading.proofs.to_folder.trace_to_folder.Goals as goal
 
 pub returns-clause-read : goal.returns-clause-read
@@ -12,6 +12,6 @@ returns-clause-read g c =
     let has =
     subst (λ (s : EnabledRows). IfOk ran.1 (λ r. RanBegun (GetsPacket s) (g.K.Sink.gets s) (does s) s c.args.config.now c.args.sink begun r ran.0)) c.enablings-schema.ensures
     c.run_in-sink.ensures.ran in
-    taken_if c.metadata_reads_back.ensures c.live_file_reads_back.ensures.taken (g.K.Sink.gets e) (does e) e c.args.probes.now.names c.args.place.path.now
-    c.args.place.name.now c.args.config.now c.args.sink ran.0 begun
+    taken_if c.metadata_reads_back.ensures (g.K.Sink.gets e) (does e) e c.args.probes.now.names c.args.place.path.now
+    c.args.place.name.now c.args.config.now c.args.sink ran.0 c.live_file_reads_back.ensures.taken begun
     ran.1 c.came.result c.run_in-sink.ensures.started c.begin-begun.ensures.begun has c.came.ensures.traced c.came.ensures.ran

@@ -1,7 +1,7 @@
 use Rattle.std.proofs.Common.{ℕ, IfOk, subst}
 use Rattle.dspec_trace_reading.specs.Words.{EnabledRows, CallsMade, WorkedOn, one_for, GetsRuns, RanBegun}
 use Rattle.dspec_filing_reading.proofs.FilesLaws.{FilesLaws}
-use Rattle.dspec_trace_reading.proofs.TimedInFolder.{timed_if}
+use Rattle.dspec_trace_reading.proofs.InFolder.{timed_if}
 use Rattle.dspec_trace_reading.proofs.to_timed_folder.trace_workers_to_timed_folder.Goals as goal
 
 pub returns-clause-read : goal.returns-clause-read
@@ -22,6 +22,6 @@ returns-clause-read g c =
       have_all = c.files_have_all.ensures;
       runs_have = c.runs_have_all.ensures;
     } in
-    timed_if c.metadata_reads_back.ensures laws (g.K.Sink.gets e) (does e) e c.args.probes.now.names c.args.place.path.now
-    c.args.place.name.now c.args.clock.hertz c.args.clock.start k c.args.sink ran.0 begun
+    timed_if c.metadata_reads_back.ensures (g.K.Sink.gets e) (does e) e c.args.probes.now.names c.args.place.path.now
+    c.args.place.name.now k c.args.sink ran.0 laws c.args.clock.hertz c.args.clock.start begun
     ran.1 c.came.result c.run_workers_in-sink.ensures.started c.begin_for-begun.ensures.begun has c.came.ensures.traced c.came.ensures.ran
