@@ -1,21 +1,22 @@
 -- A call on what a handle holds is one on the CPU, or the consumer, that is there.
 use Rattle.std.proofs.Common.{◌≡◌, ℕ, Bool, true, false, refl, Option, Some, None, sym, subst, ap, ◌∙◌}
 use Rattle.std.specs.Prelude.{if◌then◌else◌, Result, Ok, Err, IfErr, IfNone, IfSome, MatchOption, MatchResult, OnErr, OnOk}
-use Rattle.dspec_c.specs.Words.{Batch, EnabledRows, FoundNone, GaveBack, IsNotTakenBack, Took, Consuming, OnConsumer, OnTheirs, Theirs, OnCpu, OnSide, one_refused, CpuSide, held_in, with_held, Cpu}
-use Rattle.dspec_c.specs.Words.{Shared}
+use Rattle.dspec_c.specs.Words.{Batch, EnabledRows, FoundNone, GaveBack, IsNotTakenBack, Took, Consuming, OnConsumer, OnTheirs, Theirs, OnCpu, OnSide, one_refused, CpuSide, held_in, with_held}
+use Rattle.dspec_c.specs.Words.{identity, Cpu, Shared}
 use Rattle.dspec_c.specs.declared.{consumer_side.ConsumerSide.ConsumerSide, handle.Handle.Handle, held.HandleValue.HandleValue}
 use Rattle.dspec_c.specs.declared.held.HandleValue.TheVariants as held
 use Rattle.dspec_c.proofs.Options.{unless}
 
-pub on_side : (refuses : Bool) (did : Cpu EnabledRows → Cpu EnabledRows → Type 0) (old was new : CpuSide) → was ≡ old → new.shared ≡ was.shared → did was.cpu new.cpu
-    → new.refused ≡ one_refused refuses was.refused → OnSide refuses did old new
-on_side refuses did old was new e shared done count = subst (λ (s : CpuSide). OnSide refuses did s new) e (record { shared = shared; cpu = done; refused = count })
-
 -- where the CPU is in a box
 pub on_boxed : (refuses : Bool) (did : Cpu EnabledRows → Cpu EnabledRows → Type 0) (old : CpuSide) (shared : Shared) (was cpu : Cpu EnabledRows) (refused : ℕ) (new : CpuSide)
-    → record { shared = shared; cpu = cpu; refused = refused } ≡ old → was ≡ cpu → new.shared ≡ shared → did was new.cpu → new.refused ≡ one_refused refuses refused → OnSide refuses did old new
-on_boxed refuses did old shared was cpu refused new e f same done count =
-    on_side refuses did old (record { shared = shared; cpu = cpu; refused = refused }) new e same (subst (λ (x : Cpu EnabledRows). did x new.cpu) f done) count
+    → record { shared = shared; cpu = cpu; refused = refused } ≡ old → was ≡ cpu → new.shared ≡ shared → identity new.cpu ≡ identity was → did was new.cpu
+    → new.refused ≡ one_refused refuses refused → OnSide refuses did old new
+on_boxed refuses did old shared was cpu refused new e f there same done count = subst (λ (s : CpuSide). OnSide refuses did s new) e (record {
+  shared = there;
+  same = same ∙ ap (λ (x : Cpu EnabledRows). identity x) f;
+  cpu = subst (λ (x : Cpu EnabledRows). did x new.cpu) f done;
+  refused = count;
+})
 
 pub on_cpu : (did : CpuSide → CpuSide → Type 0) (stays : Type 0) (was : HandleValue) (status : ℕ) (now : HandleValue) (old new : CpuSide) → was ≡ held.Cpu old → now ≡ held.Cpu new → did old new
     → OnCpu did stays was status now

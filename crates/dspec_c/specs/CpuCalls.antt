@@ -7,23 +7,13 @@ use Rattle.dspec_c.specs.Shows.{TellsReport}
 use Rattle.dspec_c.specs.Statuses.{bad_handle, committed_number, committed_status, decided_number, decided_status, id_or_zero, opened_number, opening_status, spoken_status, traced_status}
 use Rattle.dspec_c.specs.Words.Outside.{Speculation, id_number, Record, EnabledRows, claimed, packed_record, stamp_fits, enabled, table_accepts, table_shape, dropped_in, report, By, commit, discard}
 use Rattle.dspec_c.specs.Words.Outside.{drops_told, config_of, number_in, schema_of, worn_of, CommitsIfRoom, OpensOne, DecidesOne, ServesOnce, RecordsValues, OffersValues, SpeculatesOne, TracesOne}
-use Rattle.dspec_c.specs.Words.Outside.{IsOpenAt, identity, Has, Shape, Decided, Opening, Served, Spoken, Traced, Deed, Report, Cpu}
+use Rattle.dspec_c.specs.Words.Outside.{IsOpenAt, identity, Has, Shape, Decided, Opening, Served, Spoken, Traced, Deed, Report, Cpu, Header}
 use Rattle.dspec_c.specs.declared.{held.HandleValue.HandleValue, reports.CReport.CReport}
 use Rattle.dspec_c.specs.declared.held.HandleValue.TheVariants as held
 
 -- which records a CPU's schema accepts
 abbrev pub accepts_at : EnabledRows → Record → Bool
 accepts_at e = table_accepts e.header (enabled e.rows)
-
--- `Cpu::record`
-pub record CpuRecorded (epid stamp : ℕ) (values : List ℕ) (a : Option Traced) (old new : Cpu EnabledRows) : Type 0 where
-  pub same : identity new ≡ identity old
-  pub does : RecordsValues Has accepts_at epid stamp values a old new
-
--- `Cpu::offer`
-pub record CpuOffered (id : Speculation) (epid stamp : ℕ) (values : List ℕ) (a : Option Spoken) (old new : Cpu EnabledRows) : Type 0 where
-  pub same : identity new ≡ identity old
-  pub does : OffersValues Has accepts_at id epid stamp values a old new
 
 -- the record that a claim's words stand for, where it is true of an enabling of so many words, and the stamp is one that records have
 abbrev pub put_record : EnabledRows → ℕ → ℕ → List ℕ → Option Record
@@ -32,7 +22,6 @@ put_record e claim stamp ws =
 
 -- that record was handed over so; where there is none, there is no answer, and nothing was done
 pub record PutBy {A : Type 0} (Does : Record → A → Cpu EnabledRows → Cpu EnabledRows → Type 0) (claim stamp : ℕ) (ws : List ℕ) (a : Option A) (old new : Cpu EnabledRows) : Type 0 where
-  pub same : identity new ≡ identity old
   pub due : is_some a ≡ is_some (put_record (schema_of old) claim stamp ws)
   pub refused : IfNone a (new ≡ old)
   pub one : IfSome a (λ t. IfSome (put_record (schema_of old) claim stamp ws) (λ r. Does r t old new))
@@ -44,29 +33,9 @@ Put = PutBy (λ r t. TracesOne Has r t)
 abbrev pub PutIn : Speculation → ℕ → ℕ → List ℕ → Option Spoken → Cpu EnabledRows → Cpu EnabledRows → Type 0
 PutIn id = PutBy (λ r s. SpeculatesOne Has id r s)
 
--- `Cpu::speculation`
-pub record CpuOpened (a : Opening) (old new : Cpu EnabledRows) : Type 0 where
-  pub same : identity new ≡ identity old
-  pub does : OpensOne Has a old new
-
--- `Cpu::commit` and `Cpu::discard`
-pub record DecidedAs (b : By) (id : Speculation) (a : Decided) (old new : Cpu EnabledRows) : Type 0 where
-  pub same : identity new ≡ identity old
-  pub does : DecidesOne Has b id a old new
-
 -- by the shapes of a CPU's schema
 abbrev pub shape_at : EnabledRows → ℕ → Option Shape
 shape_at e = table_shape e.header (enabled e.rows)
-
--- `Cpu::commit_if_room`
-pub record CommittedIfRoom (id : Speculation) (a : Option Decided) (old new : Cpu EnabledRows) : Type 0 where
-  pub same : identity new ≡ identity old
-  pub does : CommitsIfRoom Has shape_at id a old new
-
--- `Cpu::service`
-pub record ServicedSo (a : Served) (old new : Cpu EnabledRows) : Type 0 where
-  pub same : identity new ≡ identity old
-  pub does : ServesOnce Has a old new
 
 -- `Cpu::report`: it counts whichever list the CPU has
 abbrev pub Reports : Cpu EnabledRows → Report → Type 0
@@ -85,9 +54,10 @@ Drops id cpu n = (p : List Deed) → Has cpu p → n ≡ drops_told (dropped_in 
 abbrev pub OpensAt : ℕ → Cpu EnabledRows → Option Speculation → Type 0
 OpensAt slot cpu a = (p : List Deed) → Has cpu p → IsOpenAt (number_in cpu) slot p a
 
--- the session that it is of is the same, the CPU came of the other so, and the call's record was refused, or none was
+-- it is the same CPU of the same session, to which this was done, and the call's record was refused, or none was
 pub record OnSide (refuses : Bool) (did : Cpu EnabledRows → Cpu EnabledRows → Type 0) (old new : CpuSide) : Type 0 where
   pub shared : new.shared ≡ old.shared
+  pub same : identity new.cpu ≡ identity old.cpu
   pub cpu : did old.cpu new.cpu
   pub refused : new.refused ≡ one_refused refuses old.refused
 
@@ -102,37 +72,43 @@ pub record IsNumberOf (number : ℕ) (id : Speculation) : Type 0 where
   pub numbered : id_number id ≡ number
   pub slot : id.slot < 64
 
+-- these words stand for no record of the CPU's schema, if its records have this header
+abbrev pub IsRefusedAs : Header → CpuSide → ℕ → ℕ → List ℕ → Type 0
+IsRefusedAs header side claim stamp ws = (schema_of side.cpu).header ≡ header → is_some (put_record (schema_of side.cpu) claim stamp ws) ≡ false
+
 -- what each call told of what it did on a CPU, by its status and its out parameters
 abbrev pub TraceTold : ℕ → ℕ → List ℕ → ℕ → CpuSide → CpuSide → Type 0
-TraceTold epid stamp values status old new = Answered traced_status (λ a. OnSide (is_none a) (CpuRecorded epid stamp values a) old new) status
+TraceTold epid stamp values status old new = Answered traced_status (λ a. OnSide (is_none a) (RecordsValues Has accepts_at epid stamp values a) old new) status
 
 abbrev pub PutTold : ℕ → ℕ → List ℕ → ℕ → CpuSide → CpuSide → Type 0
 PutTold claim stamp ws status old new = Answered traced_status (λ a. OnSide (is_none a) (Put claim stamp ws a) old new) status
 
 abbrev pub OpeningTold : ℕ → ℕ → ℕ → CpuSide → CpuSide → Type 0
-OpeningTold status before id old new = AnsweredWith opening_status opened_number (λ a. OnSide false (CpuOpened a) old new) status before id
+OpeningTold status before id old new = AnsweredWith opening_status opened_number (λ a. OnSide false (OpensOne Has a) old new) status before id
 
 abbrev pub SpeculateTold : ℕ → ℕ → ℕ → List ℕ → ℕ → CpuSide → CpuSide → Type 0
 SpeculateTold number epid stamp values status old new =
-    (id : Speculation) × IsNumberOf number id × Answered spoken_status (λ a. OnSide (is_none a) (CpuOffered id epid stamp values a) old new) status
+    (id : Speculation) × IsNumberOf number id × Answered spoken_status (λ a. OnSide (is_none a) (OffersValues Has accepts_at id epid stamp values a) old new) status
+
+abbrev pub PutInAs : Speculation → ℕ → ℕ → List ℕ → ℕ → CpuSide → CpuSide → Type 0
+PutInAs id claim stamp ws status old new = Answered spoken_status (λ a. OnSide (is_none a) (PutIn id claim stamp ws a) old new) status
 
 abbrev pub PutInTold : ℕ → ℕ → ℕ → List ℕ → ℕ → CpuSide → CpuSide → Type 0
-PutInTold number claim stamp ws status old new =
-    (id : Speculation) × IsNumberOf number id × Answered spoken_status (λ a. OnSide (is_none a) (PutIn id claim stamp ws a) old new) status
+PutInTold number claim stamp ws status old new = (id : Speculation) × IsNumberOf number id × PutInAs id claim stamp ws status old new
 
 abbrev pub DecideTold : By → ℕ → ℕ → ℕ → ℕ → CpuSide → CpuSide → Type 0
 DecideTold b number status before count old new =
-    (id : Speculation) × IsNumberOf number id × AnsweredWith decided_status decided_number (λ a. OnSide false (DecidedAs b id a) old new) status before count
+    (id : Speculation) × IsNumberOf number id × AnsweredWith decided_status decided_number (λ a. OnSide false (DecidesOne Has b id a) old new) status before count
 
 abbrev pub CommitIfRoomTold : ℕ → ℕ → ℕ → ℕ → CpuSide → CpuSide → Type 0
 CommitIfRoomTold number status before count old new =
-    (id : Speculation) × IsNumberOf number id × AnsweredWith committed_status committed_number (λ a. OnSide false (CommittedIfRoom id a) old new) status before count
+    (id : Speculation) × IsNumberOf number id × AnsweredWith committed_status committed_number (λ a. OnSide false (CommitsIfRoom Has shape_at id a) old new) status before count
 
 abbrev pub served_so : Bool → ℕ → Served
 served_so sealed settled = record { sealed = sealed; settled = settled }
 
 abbrev pub ServiceTold : ℕ → Served → CpuSide → CpuSide → Type 0
-ServiceTold status told old new = (status ≡ 0) × OnSide false (ServicedSo told) old new
+ServiceTold status told old new = (status ≡ 0) × OnSide false (ServesOnce Has told) old new
 
 abbrev pub ReportTold : ℕ → CReport → CpuSide → CpuSide → Type 0
 ReportTold status told old new = (status ≡ 0) × (new ≡ old) × ((r : Report) × Reports old.cpu r × TellsReport told r old.refused)

@@ -1,7 +1,13 @@
 -- Cited by calls. What a session does for its CPUs that are at their places: one service each, whether a CPU came home or was never handed out.
 use Rattle.std.specs.Prelude.{ℕ, zero, suc, ◌≡◌, ◌+◌, List, length, Some, MatchOption, slice_get, slice_set}
-use Rattle.dspec_c.specs.{CpuCalls.ServicedSo, Homes.AtHome, Homes.Came, Homes.CpuStay, Statuses.bad_handle, Whole.Going, Words.Outside.Served, declared.held.HandleValue.HandleValue}
+use Rattle.dspec_c.specs.{Homes.AtHome, Homes.Came, Homes.CpuStay, Statuses.bad_handle, Whole.Going, Words.Outside.Cpu, Words.Outside.EnabledRows, Words.Outside.Has, Words.Outside.identity}
+use Rattle.dspec_c.specs.{Words.Outside.Served, Words.Outside.ServesOnce, declared.held.HandleValue.HandleValue}
 use Rattle.dspec_c.specs.declared.held.HandleValue.TheVariants as held
+
+-- `Cpu::service`
+pub record ServicedSo (a : Served) (old new : Cpu EnabledRows) : Type 0 where
+  pub same : identity new ≡ identity old
+  pub does : ServesOnce Has a old new
 
 -- a CPU at home was served once, which settled so many speculations
 pub record ServedAtHome (settled : ℕ) (old new : AtHome) : Type 0 where

@@ -7,7 +7,7 @@ ghost use Rattle.dspec_c.specs.Handles.{held_in, is_full};
 
 use crate::boxed::Boxed;
 use crate::ctf_statuses::{NO_PACKET, NO_STAMP, needed_of, of_packet, of_put, of_text, text_size};
-use crate::handle::{Handle, HandleBox, lent};
+use crate::handle::{Handle, HandleContents, lent};
 use crate::held::HandleValue;
 use crate::schema_calls::schema_in;
 use crate::statuses::{BAD_HANDLE, FULL_HANDLE, NO_MEMORY, NO_SUCH_CPU, OK};
@@ -86,7 +86,7 @@ pub extern "C" fn dspec_ctf_new(
         Ok(made) => made,
         Err(why) => return why,
     };
-    let Ok(room) = HandleBox::new(alloc) else {
+    let Ok(room) = HandleContents::room(alloc) else {
         return NO_MEMORY;
     };
     files.put(room, HandleValue::Files(made));

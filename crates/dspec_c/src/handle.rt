@@ -37,53 +37,22 @@ impl Drop for HandleContents {
 impl HandleContents {
     ghost use Rattle.std.specs.Prelude.{◌≡◌};
 
+    /// A box with room for what a handle can hold.
+    pub(crate) fn room(alloc: Global) -> Result<Box<HandleContents>, AllocError> {
+        let nothing = HandleContents {
+            held: HandleValue::Nothing,
+        };
+        let Ok(room) = Box::new(alloc, nothing) else {
+            return Err(AllocError);
+        };
+        Ok(room)
+    }
+
     fn into_held(self) -> HandleValue
         ensures { result ≡ self.held }
     {
         let HandleContents { held } = self;
         held
-    }
-}
-
-/// A box with room for what a handle can hold.
-#[derive(Drop)]
-pub struct HandleBox {
-    kept: Box<HandleContents>,
-}
-
-impl HandleBox {
-    ghost use Rattle.std.specs.Prelude.{◌≡◌};
-
-    pub(crate) fn new(alloc: Global) -> Result<HandleBox, AllocError> {
-        let nothing = HandleContents {
-            held: HandleValue::Nothing,
-        };
-        let Ok(kept) = Box::new(alloc, nothing) else {
-            return Err(AllocError);
-        };
-        Ok(HandleBox { kept })
-    }
-
-    /// The box, with this in it.
-    fn fill(self, held: HandleValue) -> Box<HandleContents>
-        ensures { result.value.held ≡ held }
-    {
-        let HandleBox { kept } = self;
-        let mut kept = kept;
-        *kept = HandleContents { held };
-        kept
-    }
-
-    /// What is in the box, and the room that it leaves.
-    fn clear(kept: Box<HandleContents>) -> (HandleValue, HandleBox)
-        ensures { result.0 ≡ kept.value.held }
-    {
-        let mut kept = kept;
-        let nothing = HandleContents {
-            held: HandleValue::Nothing,
-        };
-        let was = mem::replace(&mut *kept, nothing);
-        (was.into_held(), HandleBox { kept })
     }
 }
 
@@ -102,19 +71,6 @@ impl Model for Seal {
 
 impl Seal {
     ghost use Rattle.std.specs.Prelude.{◌≡◌, true, false};
-
-    fn of(b: Box<HandleContents>) -> Seal
-        ensures { (result.full ≡ true) × (result.inside ≡ b.value) }
-    {
-        Seal::of_parts(BoxParts::of(b))
-    }
-
-    fn into_box(self) -> Box<HandleContents>
-        requires { self.full ≡ true }
-        ensures { result.value ≡ self.inside }
-    {
-        self.into_parts().into_box()
-    }
 
     fn blank(alloc: Global) -> Seal
         ensures { result.full ≡ false }
@@ -186,21 +142,23 @@ impl Handle {
     }
 
     /// Fills the handle, which was empty.
-    pub(crate) fn put(&mut self, room: HandleBox, what: HandleValue)
+    pub(crate) fn put(&mut self, room: Box<HandleContents>, what: HandleValue)
         requires { is_full self.old ≡ false }
         ensures full { is_full self.new ≡ true }
         ensures holds { held_in self.new ≡ what }
     {
+        let mut room = room;
+        *room = HandleContents { held: what };
         let filled = Handle {
             held: true,
-            seal: Seal::of(room.fill(what)),
+            seal: Seal::of_parts(BoxParts::of(room)),
         };
         let Handle { held: _, seal } = mem::replace(self, filled);
         seal.leave();
     }
 
     /// What is in the handle, which is empty then, and the room that it leaves.
-    pub(crate) fn take(&mut self, alloc: Global) -> Option<(HandleValue, HandleBox)>
+    pub(crate) fn take(&mut self, alloc: Global) -> Option<(HandleValue, Box<HandleContents>)>
         ensures was { is_some result ≡ is_full self.old }
         ensures held { IfSome result (λ r. r.0 ≡ held_in self.old) }
         ensures empty { is_full self.new ≡ false }
@@ -216,6 +174,11 @@ impl Handle {
             seal.leave();
             return None;
         }
-        Some(HandleBox::clear(seal.into_box()))
+        let mut room = seal.into_parts().into_box();
+        let nothing = HandleContents {
+            held: HandleValue::Nothing,
+        };
+        let was = mem::replace(&mut *room, nothing);
+        Some((was.into_held(), room))
     }
 }

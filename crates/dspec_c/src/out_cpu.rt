@@ -39,9 +39,10 @@ impl OutCpu {
     ghost use Rattle.std.specs.Prelude.{◌≡◌, ◌<◌, true};
     ghost use Rattle.rtrb.specs.Ring.{known_free, sent};
     ghost use Rattle.dspec_promise.specs.Promise.{commit, discard};
-    ghost use Rattle.dspec_c.specs.CpuCalls.{CommitIfRoomTold, DecideTold, DroppedInTold, OpenAtTold, OpeningTold, PutInTold, PutTold, ReportTold, ServiceTold, SpeculateTold, TraceTold, one_refused};
-    ghost use Rattle.dspec_c.specs.CpuCalls.{served_so};
+    ghost use Rattle.dspec_c.specs.CpuCalls.{CommitIfRoomTold, DecideTold, DroppedInTold, OpenAtTold, OpeningTold, PutInTold, PutTold, ReportTold, ServiceTold, SpeculateTold, TraceTold, PutInAs};
+    ghost use Rattle.dspec_c.specs.CpuCalls.{IsRefusedAs, one_refused, served_so};
     ghost use Rattle.dspec_c.specs.Homes.{HasGone, IsOut, IsSameSide};
+    ghost use Rattle.dspec_record.specs.declared.header.Header.TheVariants as header;
 
     pub fn of(way: Producer<Homing, Global, HomingProtocol>, homing: Homing) -> OutCpu
         requires out { IsOut IsSameSide (sent way) homing }
@@ -109,21 +110,30 @@ impl OutCpu {
     pub fn put<N>(&mut self, claim: u64, stamp: u64, words: &[u64]) -> u32
         ensures { PutTold claim stamp words.now result self.old self.new }
     {
-        if let Some(rec) = self
-            .cpu
+        let (cpu, shared) = (&mut *self.cpu, &*self.shared);
+        if let Some(rec) = &cpu
             .schema()
             .packed::<Worded<N, Unstamped>>(claim, stamp, words)
         {
-            return of_traced(Some(self.cpu.trace_recorded(&self.shared, &rec)));
+            return of_traced(Some(cpu.trace_recorded(shared, rec)));
         }
-        let Some(rec) = self
-            .cpu
+        self.put_stamped::<N>(claim, stamp, words)
+    }
+
+    // The same where records have a stamp. What it holds in memory is cleared here, so that other records don't pay for it.
+    #[inline(always)]
+    fn put_stamped<N>(&mut self, claim: u64, stamp: u64, words: &[u64]) -> u32
+        requires { IsRefusedAs header.One self.old claim stamp words.now }
+        ensures { PutTold claim stamp words.now result self.old self.new }
+    {
+        let (cpu, shared) = (&mut *self.cpu, &*self.shared);
+        if let Some(stamped) = &cpu
             .schema()
             .packed::<Worded<N, Stamped>>(claim, stamp, words)
-        else {
-            return self.refuse();
-        };
-        of_traced(Some(self.cpu.trace_recorded(&self.shared, &rec)))
+        {
+            return of_traced(Some(cpu.trace_recorded(shared, stamped)));
+        }
+        self.refuse()
     }
 
     /// Opens a speculation.
@@ -151,21 +161,30 @@ impl OutCpu {
         ensures { PutInTold id claim stamp words.now result self.old self.new }
     {
         let id = SpecId::from_raw(id);
-        if let Some(rec) = self
-            .cpu
+        let (cpu, shared) = (&mut *self.cpu, &*self.shared);
+        if let Some(rec) = &cpu
             .schema()
             .packed::<Worded<N, Unstamped>>(claim, stamp, words)
         {
-            return of_spoken(Some(self.cpu.speculate_packed(&self.shared, id, &rec)));
+            return of_spoken(Some(cpu.speculate_packed(shared, id, rec)));
         }
-        let Some(rec) = self
-            .cpu
+        self.put_in_stamped::<N>(id, claim, stamp, words)
+    }
+
+    // The same where records have a stamp. What it holds in memory is cleared here, so that other records don't pay for it.
+    #[inline(always)]
+    fn put_in_stamped<N>(&mut self, id: SpecId, claim: u64, stamp: u64, words: &[u64]) -> u32
+        requires { IsRefusedAs header.One self.old claim stamp words.now }
+        ensures { PutInAs id claim stamp words.now result self.old self.new }
+    {
+        let (cpu, shared) = (&mut *self.cpu, &*self.shared);
+        if let Some(stamped) = &cpu
             .schema()
             .packed::<Worded<N, Stamped>>(claim, stamp, words)
-        else {
-            return self.refuse();
-        };
-        of_spoken(Some(self.cpu.speculate_packed(&self.shared, id, &rec)))
+        {
+            return of_spoken(Some(cpu.speculate_packed(shared, id, stamped)));
+        }
+        self.refuse()
     }
 
     /// Commits a speculation.

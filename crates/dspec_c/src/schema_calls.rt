@@ -6,7 +6,7 @@ ghost use Rattle.dspec_c.specs.{Widths.EnablesSo, Widths.enable_fault, Widths.fi
 ghost use Rattle.dspec_c.specs.declared.held.HandleValue.TheVariants as held_as;
 
 use crate::boxed::Boxed;
-use crate::handle::{Handle, HandleBox, lent};
+use crate::handle::{Handle, HandleContents, lent};
 use crate::held::HandleValue;
 use crate::statuses::{
     BAD_HANDLE, BAD_WIDTH, FULL_HANDLE, NO_MEMORY, OK, TOO_MANY_ENABLINGS, TOO_MANY_FIELDS,
@@ -39,7 +39,7 @@ pub extern "C" fn dspec_schema_new(alloc: Global, schema: &mut Handle) -> u32
     let Ok(made) = Boxed::new(alloc, Enablings::new()) else {
         return NO_MEMORY;
     };
-    let Ok(room) = HandleBox::new(alloc) else {
+    let Ok(room) = HandleContents::room(alloc) else {
         return NO_MEMORY;
     };
     schema.put(room, HandleValue::Schema(made));

@@ -9,7 +9,7 @@ ghost use Rattle.dspec_c.specs.declared.held.HandleValue.TheVariants as held_as;
 use crate::configs::CConfig;
 use crate::consumer_side::{ConsumerSide, places_for_batches};
 use crate::ended::EndedSession;
-use crate::handle::{Handle, HandleBox, lent};
+use crate::handle::{Handle, HandleContents, lent};
 use crate::held::HandleValue;
 use crate::schema_calls::schema_in;
 use crate::statuses::{
@@ -25,7 +25,7 @@ fn keep(alloc: Global, whole: UnderWay, session: &mut Handle) -> u32
     requires { is_full session.old ≡ false }
     ensures { KeptSo whole result session.old session.new }
 {
-    let Ok(room) = HandleBox::new(alloc) else {
+    let Ok(room) = HandleContents::room(alloc) else {
         return NO_MEMORY;
     };
     session.put(room, HandleValue::Session(whole));
@@ -73,7 +73,7 @@ fn give_cpu(alloc: Global, session: &mut UnderWay, number: u32, cpu: &mut Handle
     requires empty { is_full cpu.old ≡ false }
     ensures { HandsOut (GivesCpu number) None session.old result session.new cpu.old cpu.new }
 {
-    let Ok(room) = HandleBox::new(alloc) else {
+    let Ok(room) = HandleContents::room(alloc) else {
         return NO_MEMORY;
     };
     let Ok(shared) = session.share() else {
@@ -124,7 +124,7 @@ fn hand_out_consumer(alloc: Global, session: &mut UnderWay, consumer: &mut Handl
     if !session.has_consumer_in() {
         return OUT;
     }
-    let Ok(room) = HandleBox::new(alloc) else {
+    let Ok(room) = HandleContents::room(alloc) else {
         return NO_MEMORY;
     };
     let Ok(taken) = places_for_batches(alloc, session.count()) else {

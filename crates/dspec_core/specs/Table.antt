@@ -1,7 +1,7 @@
 -- Serves proofs. The table of steps by what a step sees, and what the step makes of its CPU.
 use Rattle.std.specs.Prelude.{ℕ, ◌≡◌, ◌+◌, ◌<◌, ◌≤◌, ◌||◌, Bool, List, [], ◌∷◌, length, Option, None, Some}
-use Rattle.dspec_core.specs.Words.Outside.{Shape, one, Speculation, ack, callers, fits_principal, fits_speculative, halted, held, is_among, issue, missed_busy, present, seals, word_at, CpuStep}
-use Rattle.dspec_core.specs.Words.Outside.{is_worn, same_word, fits_held, call_step, Measured, Config, Thrown, Deed, Discard, Release, CallPlace, CpuProgress}
+use Rattle.dspec_core.specs.Words.Outside.{Shape, one, Record, Speculation, ack, callers, fits_principal, fits_speculative, halted, held, is_among, issue, missed_busy, present, seals, word_at}
+use Rattle.dspec_core.specs.Words.Outside.{CpuStep, is_worn, same_word, fits_held, call_step, Measured, Config, Thrown, Deed, Discard, Release, CallPlace, CpuProgress}
 use Rattle.dspec_core.specs.declared.machine.seen.{Entry.Entry, Entry.TheVariants.Nothing, Entry.TheVariants.One, Entry.TheVariants.Alone, Move.Move, Seen.Seen}
 use Rattle.dspec_deeds.specs.declared.calls.CpuOp.TheVariants.{Trace}
 use Rattle.dspec_interleaving.specs.declared.flight.CallPlace.TheVariants as flight
@@ -71,27 +71,32 @@ aimed h (flight.ServiceLoad s sum) = present s h
 aimed h (flight.ServiceStore s w sum) = present s h
 aimed h f = present 1 h
 
--- the CPU's own of a speculation is told of the slot's present one alone
-pub record TellsHeld (shape : ℕ → Option Shape) (k : Config) (c : ℕ) (h : List Deed) (id : Speculation) (seen : Seen) : Type 0 where
-  pub mine : seen.mine ≡ is_among c (callers id h)
-  pub copies : seen.copies ≡ fits_held shape k c h id
-  pub count : seen.count ≡ length (held c id h)
-
--- what is seen is what the list says of a speculation and its slot
-pub record TellsAt (shape : ℕ → Option Shape) (k : Config) (c : ℕ) (h : List Deed) (id : Speculation) (seen : Seen) : Type 0 where
+-- what is seen is what the list says of the session, the CPU and the slot of a speculation
+pub record TellsAt (k : Config) (c : ℕ) (h : List Deed) (id : Speculation) (seen : Seen) : Type 0 where
   pub config : seen.config ≡ k
   pub cpu : seen.cpu ≡ c
   pub worn : seen.worn ≡ is_worn k c h
   pub stopped : seen.stopped ≡ halted h
   pub word : seen.word ≡ word_at id.slot h
   pub acked : seen.acked ≡ ack c id.slot h
-  pub own : id.issue ≡ issue id.slot h → TellsHeld shape k c h id seen
   pub missed : seen.missed_busy ≡ missed_busy c h
   pub sealed : seen.seals ≡ seals c h
 
--- whether the call's record fits its buffer
-abbrev pub TellsFit : (ℕ → Option Shape) → Config → ℕ → List Deed → CallPlace → Bool → Type 0
-TellsFit shape k c h (flight.Begun (Trace r)) fits = fits ≡ fits_principal shape k c (one r) h
-TellsFit shape k c h (flight.SpeculateLoad id r) fits = id.issue ≡ issue id.slot h → fits ≡ fits_speculative shape k c id r h
-TellsFit shape k c h (flight.SpeculateTry id r w) fits = id.issue ≡ issue id.slot h → fits ≡ fits_speculative shape k c id r h
-TellsFit shape k c h f fits = Unit {0}
+-- whether the CPU is a caller of a speculation, and whether a record fits behind what it holds of it
+pub record TellsRoom (shape : ℕ → Option Shape) (k : Config) (c : ℕ) (h : List Deed) (id : Speculation) (r : Record) (seen : Seen) : Type 0 where
+  pub mine : seen.mine ≡ is_among c (callers id h)
+  pub fits : seen.fits ≡ fits_speculative shape k c id r h
+
+-- whether it is one, whether all that it holds of it fits the principal buffer, and how many records that is
+pub record TellsHeld (shape : ℕ → Option Shape) (k : Config) (c : ℕ) (h : List Deed) (id : Speculation) (seen : Seen) : Type 0 where
+  pub mine : seen.mine ≡ is_among c (callers id h)
+  pub copies : seen.copies ≡ fits_held shape k c h id
+  pub count : seen.count ≡ length (held c id h)
+
+-- what a call at that place measures of the CPU's own: of a speculation only where it is its slot's present one
+abbrev pub TellsOwn : (ℕ → Option Shape) → Config → ℕ → List Deed → CallPlace → Seen → Type 0
+TellsOwn shape k c h (flight.Begun (Trace r)) seen = seen.fits ≡ fits_principal shape k c (one r) h
+TellsOwn shape k c h (flight.Begun o) seen = Unit {0}
+TellsOwn shape k c h (flight.SpeculateLoad id r) seen = id.issue ≡ issue id.slot h → TellsRoom shape k c h id r seen
+TellsOwn shape k c h (flight.SpeculateTry id r w) seen = id.issue ≡ issue id.slot h → TellsRoom shape k c h id r seen
+TellsOwn shape k c h f seen = (aimed h f).issue ≡ issue (aimed h f).slot h → TellsHeld shape k c h (aimed h f) seen

@@ -1,17 +1,16 @@
 -- The file of each CPU stands at its place.
-use Rattle.std.proofs.Common.{◌≡◌, ℕ, ◌<◌, List, [], ◌∷◌, Option, Bool, true, false, if◌then◌else◌, Some, length, None, ◌==◌, slice_get, reverse, get_or, refl, sym, ap, ◌∙◌, subst, below_more}
+use Rattle.std.proofs.Common.{◌≡◌, ℕ, ◌<◌, List, [], ◌∷◌, Option, Bool, true, false, if◌then◌else◌, Some, length, None, ◌==◌, slice_get, reverse, map, get_or, refl, sym, ap, ◌∙◌, subst, below_more}
 use Rattle.std.proofs.Common.{⊎_elim, ◌⊎◌, zero, suc, add-one, arith}
 use Rattle.std.proofs.lemmas.{Bool.Decides.nat_tests, List.length-append, List.length-map, List.get_or_append_left, List.get_or_at, List.get_or_default, List.get_or-map}
 use Rattle.std.proofs.lemmas.{Option.get_or_from_slice_get, Option.slice_get_within}
 use Rattle.specview.specs.Words.{Record, EnabledRows, numbers_below, reports, stream, Offer, accepts, accepts_now, report, IsLegal, TellsCounts, AreStreams, AsTaken, ByTime, Numbered, MetadataFault}
 use Rattle.specview.specs.Words.{HasUnknown, IsFileFault, IsOfNumbered, IsPlayTraceFault, fault_of_metadata, earlier, form_fault, names_fault, Header, Deed, Report, Form, Shape, Config}
-use Rattle.specview.specs.declared.fault.ViewFault.{ViewFault}
-use Rattle.specview.specs.declared.fault.ViewFault.TheVariants.{Line, NoStamp, LateStamp, NoFrequency, GreatestFrequency, NoEvent, Memory, Read, Write, TooLong, NotEmpty}
+use Rattle.specview.specs.declared.fault.ViewFault.{ViewFault, TheVariants.NoStamp, TheVariants.NoEvent, TheVariants.Memory}
 use Rattle.dspec_record.specs.declared.header.Header.TheVariants as header
 use Rattle.dspec_deeds.proofs.{DeedEffects.Accounts, DeedEffects.legal_accounts, DeedOffers.next_offer, DeedOffers.Effect, DeedOffers.idle, DeedOffers.offering, DeedOffers.emptying}
 use Rattle.dspec_ctf.specs.declared.fault.MetadataFault.TheVariants as metadata_fault
 
-pub below_long : (n : ℕ) → length (numbers_below n) ≡ n
+below_long : (n : ℕ) → length (numbers_below n) ≡ n
 below_long zero = refl
 below_long (suc n) = let before = below_long n in let long = length-append (numbers_below n) (n ∷ []) in omega arith
 
@@ -23,30 +22,27 @@ below_at (suc n) c d lt =
     (get_or_at (numbers_below n) n [] d n (below_long n))
     c (subst (λ m. c < m) (sym (add-one n)) lt)
 
+-- a list of something of each CPU
+module _ {X : Type 0} (f : ℕ → X) (n : ℕ) (xs : List X) (are : xs ≡ map f (numbers_below n)) where
+  pub mapped_long : length xs ≡ n
+  mapped_long = ap length are ∙ (length-map (numbers_below n) f ∙ below_long n)
+
+  mapped_at : (c : ℕ) (x : X) → c < n → get_or xs c x ≡ f c
+  mapped_at c x lt =
+      let within : c < length (numbers_below n) = subst (λ m. c < m) (sym (below_long n)) lt in
+      ap (λ l. get_or l c x) are ∙ (get_or-map f (numbers_below n) c 0 x within ∙ ap f (below_at n c 0 lt))
+
 -- the records of a CPU are its stream
 pub stream_at : (cpus c : ℕ) (deeds : List Deed) (rss : List (List Record)) (rs : List Record) → AreStreams cpus deeds rss → c < cpus → rs ≡ get_or rss c rs → rs ≡ stream c (reverse deeds)
-stream_at cpus c deeds rss rs streams lt is =
-    let f : ℕ → List Record = λ a. stream a (reverse deeds) in
-    let within : c < length (numbers_below cpus) = subst (λ m. c < m) (sym (below_long cpus)) lt in
-    is ∙ (ap (λ xs. get_or xs c rs) streams ∙ (get_or-map f (numbers_below cpus) c 0 rs within ∙ ap f (below_at cpus c 0 lt)))
-
-pub streams_long : (cpus : ℕ) (deeds : List Deed) (rss : List (List Record)) → AreStreams cpus deeds rss → length rss ≡ cpus
-streams_long cpus deeds rss streams = ap length streams ∙ (length-map (numbers_below cpus) (λ a. stream a (reverse deeds)) ∙ below_long cpus)
+stream_at cpus c deeds rss rs streams lt is = is ∙ mapped_at (λ a. stream a (reverse deeds)) cpus rss streams c rs lt
 
 -- why there is no file is why there is no trace
 pub no_trace : (form : Form) (e : EnabledRows) (rss : List (List Record)) (rs : List Record) (c : ℕ) (fault : ViewFault) → c < length rss → rs ≡ get_or rss c rs
     → IsFileFault form e rs fault → IsPlayTraceFault form e rss fault
-no_trace form e rss rs c (Line line kind) lt is why = why
 no_trace form e rss rs c NoStamp lt is why = why
-no_trace form e rss rs c LateStamp lt is why = absurd why
-no_trace form e rss rs c NoFrequency lt is why = absurd why
-no_trace form e rss rs c GreatestFrequency lt is why = absurd why
 no_trace form e rss rs c (NoEvent epid) lt is why = (c, subst (HasUnknown e epid) (is ∙ get_or_default rss c rs [] lt) why)
 no_trace form e rss rs c Memory lt is why = why
-no_trace form e rss rs c Read lt is why = why
-no_trace form e rss rs c Write lt is why = why
-no_trace form e rss rs c TooLong lt is why = why
-no_trace form e rss rs c NotEmpty lt is why = why
+no_trace form e rss rs c fault lt is why = absurd why
 
 -- a deed tells how many records it brought
 one_or_none : (b : Bool) (os : List Offer) → (if b then length os else 0) ≡ length (if b then os else [])
@@ -63,19 +59,13 @@ accounts_told c (d ∷ h) a = (accounts_told c h a.0, effect_told c d h a.1)
 pub legal_told : (shape : ℕ → Option Shape) (k : Config) (c : ℕ) (h : List Deed) → IsLegal shape k h → TellsCounts c h
 legal_told shape k c h legal = accounts_told c h (legal_accounts shape k c h legal.0)
 
-pub reports_long : (k : Config) (worn : ℕ → ℕ) (h : List Deed) → length (reports k worn h) ≡ k.cpus
-reports_long k worn h = length-map (numbers_below k.cpus) (λ c. report k c (worn c) h) ∙ below_long k.cpus
-
 -- the report at a place is that CPU's
 pub report_at : (k : Config) (worn : ℕ → ℕ) (h : List Deed) (reps : List Report) (c : ℕ) (p : Report) → reps ≡ reports k worn h → slice_get reps c ≡ Some p → p ≡ report k c (worn c) h
 report_at k worn h reps c p are at =
     let f : ℕ → Report = λ a. report k a (worn a) h in
     let within = slice_get_within reps c p at in
-    let long = ap length are ∙ reports_long k worn h in
-    let all = below_long k.cpus in
-    let lt : c < k.cpus = omega arith in
-    let inside : c < length (numbers_below k.cpus) = omega arith in
-    sym (get_or_from_slice_get reps c p p at) ∙ (ap (λ xs. get_or xs c p) are ∙ (get_or-map f (numbers_below k.cpus) c 0 p inside ∙ ap f (below_at k.cpus c 0 lt)))
+    let long = mapped_long f k.cpus reps are in
+    sym (get_or_from_slice_get reps c p p at) ∙ mapped_at f k.cpus reps are c p (omega arith)
 
 of_clock : (form : Form) (e : EnabledRows) (f : MetadataFault) → fault_of_metadata form e Numbered ≡ Some f → IsOfNumbered f
 unfolding fault_of_metadata form_fault names_fault

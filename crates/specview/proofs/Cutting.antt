@@ -1,19 +1,12 @@
 -- A CPU's stream, cut into its batches.
-use Rattle.std.proofs.Common.{◌≡◌, ℕ, suc, ◌+◌, ◌≤◌, ◌<◌, Bool, true, false, List, [], ◌∷◌, ◌++◌, length, map, reverse, take, drop, get_or, refl, sym, ap, ◌∙◌, subst, append_assoc, arith}
-use Rattle.std.proofs.Common.{if◌then◌else◌}
+use Rattle.std.proofs.Common.{◌≡◌, ℕ, ◌+◌, ◌≤◌, ◌<◌, true, false, List, [], ◌∷◌, ◌++◌, length, map, reverse, take, drop, get_or, refl, sym, ap, ◌∙◌, subst, append_assoc, arith, if◌then◌else◌}
 use Rattle.std.proofs.lemmas.Bool.Decides.{nat_tests}
 use Rattle.std.proofs.lemmas.List.{reverse-append, append-nil, append_cancel_left, take-append-drop, take_all, take_at, drop_at, take_more, map-append, length-append, length-reverse}
-use Rattle.specview.specs.Words.{Record, Offer, contents, accepts, accepted, stream, seals_now, is_drop, Sealing, growing, batches, batch_records, accepts_now, ShareOf, share_of, shares, last_share}
-use Rattle.specview.specs.Words.{TellsCounts, Deed}
+use Rattle.specview.specs.Words.{Record, contents, accepts, stream, seals_now, is_drop, Sealing, growing, batches, batch_records, accepts_now, ShareOf, share_of, shares, last_share, TellsCounts}
+use Rattle.specview.specs.Words.{Deed}
 use Rattle.dspec_deeds.proofs.Prefixes.{stream_in_batches}
-
-contents_more : (xs ys : List Offer) → contents (xs ++ ys) ≡ contents xs ++ contents ys
-contents_more [] ys = refl
-contents_more (x ∷ xs) ys = ap (λ zs. x.content ∷ zs) (contents_more xs ys)
-
-contents_long : (xs : List Offer) → length (contents xs) ≡ length xs
-contents_long [] = refl
-contents_long (x ∷ xs) = ap suc (contents_long xs)
+use Rattle.dspec_core.proofs.MachineReads.{length_contents}
+use Rattle.specview.proofs.Parts.{stream_more}
 
 records_more : (xs ys : List Sealing) → batch_records (xs ++ ys) ≡ batch_records xs ++ batch_records ys
 records_more [] ys = refl
@@ -25,23 +18,16 @@ one_more b bs =
     ap batch_records (reverse-append (b ∷ []) bs)
     ∙ (records_more (reverse bs) (b ∷ []) ∙ ap (λ xs. batch_records (reverse bs) ++ xs) (append-nil (reverse (contents b.offers))))
 
--- what was accepted earlier is accepted later
-later : (c : ℕ) (xs h : List Deed) → (more : List Offer) × (accepted c (xs ++ h) ≡ more ++ accepted c h)
-later c [] h = ([], refl)
-later c (x ∷ xs) h =
-    let before = later c xs h in
-    (accepts c x (xs ++ h) ++ before.0, ap (λ os. accepts c x (xs ++ h) ++ os) before.1 ∙ sym (append_assoc (accepts c x (xs ++ h)) before.0 (accepted c h)))
-
 -- the records begin with the stream of this list
 abbrev pub Begins : ℕ → List Deed → List Record → Type 0
 Begins c h all = (more : List Record) × (all ≡ stream c h ++ more)
 
 begins_later : (c : ℕ) (xs h : List Deed) → Begins c h (stream c (xs ++ h))
-begins_later c xs h =
-    let more = later c xs h in (
-      reverse (contents more.0),
-      ap (λ os. reverse (contents os)) more.1 ∙ (ap reverse (contents_more more.0 (accepted c h)) ∙ reverse-append (contents more.0) (contents (accepted c h))),
-    )
+begins_later c [] h = ([], sym (append-nil (stream c h)))
+begins_later c (x ∷ xs) h =
+    let before = begins_later c xs h in
+    let own = reverse (contents (accepts c x (xs ++ h))) in
+    (before.0 ++ own, stream_more c x (xs ++ h) ∙ (ap (λ rs. rs ++ own) before.1 ∙ append_assoc (stream c h) before.0 own))
 
 tells_earlier : (c : ℕ) (xs h : List Deed) → TellsCounts c (xs ++ h) → TellsCounts c h
 tells_earlier c [] h t = t
@@ -80,7 +66,7 @@ module _ (c : ℕ) (all : List Record) where
       (sym left ∙ (begins ∙ (ap (λ xs. xs ++ more) (stream_in_batches c h) ∙ append_assoc (batch_records (reverse (batches c h))) (reverse (contents (growing c h).offers)) more)))
 
   growing_long : (h : List Deed) → length (reverse (contents (growing c h).offers)) ≡ length (growing c h).offers
-  growing_long h = length-reverse (contents (growing c h).offers) ∙ contents_long (growing c h).offers
+  growing_long h = length-reverse (contents (growing c h).offers) ∙ length_contents (growing c h).offers
 
   -- a batch is cut off
   cut_sealed : (h : List Deed) (d : Deed) (cut : List ShareOf) (rest : List Record) (count drops : ℕ) → IsCut c h all cut rest count drops → Begins c h all
@@ -158,12 +144,3 @@ module _ (c : ℕ) (all : List Record) where
       → IsCut c (reverse (take i ds)) all cut rest count drops → length ds ≤ i → found ≡ cut ++ last_share (record { drops = drops; records = rest })
       → found ≡ shares c (reverse ds)
   ended_at ds i cut found rest count drops ends is le found_is = grind (arith, nat_tests, take_all, ended)
-
--- there are no more drops than deeds
-pub drops_few : (c : ℕ) (h : List Deed) → (growing c h).drops ≤ length h
-drops_few c [] = omega arith
-drops_few c (d ∷ h) = grind (arith, nat_tests, drops_few c h)
-
-pub at_most_one : (b : Bool) → (if b then 1 else 0) ≤ 1
-at_most_one true = omega arith
-at_most_one false = omega arith

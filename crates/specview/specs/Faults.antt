@@ -2,7 +2,8 @@
 use Rattle.std.specs.Prelude.{ℕ}
 use Rattle.specview.specs.Words.Outside.{InputFault, ScheduleFault}
 use Rattle.specview.specs.declared.fault.ViewFault.{ViewFault}
-use Rattle.specview.specs.declared.fault.ViewFault.TheVariants.{Line, NoStamp, LateStamp, NoFrequency, GreatestFrequency, NoEvent, Memory, Read, Write, TooLong, NotEmpty}
+use Rattle.specview.specs.declared.fault.ViewFault.TheVariants.{Line, NoStamp, LateStamp, NoFrequency, GreatestFrequency, NoEvent, Memory, Read, Write, TooLong, NotEmpty, TooManyDeeds, NoWholeCall}
+use Rattle.specview.specs.declared.fault.ViewFault.TheVariants.{NoText}
 use Rattle.dspec_replay.specs.declared.input.InputFault.TheVariants as input
 use Rattle.dspec_schedule.specs.declared.fault.ScheduleFault.TheVariants as schedule
 
@@ -12,6 +13,7 @@ status_of_view (Line line kind) = 1
 status_of_view NoStamp = 1
 status_of_view LateStamp = 1
 status_of_view (NoEvent epid) = 1
+status_of_view TooManyDeeds = 1
 status_of_view Memory = 2
 status_of_view Read = 3
 status_of_view Write = 3
@@ -19,6 +21,8 @@ status_of_view TooLong = 3
 status_of_view NotEmpty = 3
 status_of_view NoFrequency = 4
 status_of_view GreatestFrequency = 4
+status_of_view (NoWholeCall line) = 5
+status_of_view (NoText cpu) = 6
 
 abbrev pub view_of_schedule : ScheduleFault → ViewFault
 view_of_schedule (schedule.Line line kind) = Line line kind

@@ -1,14 +1,15 @@
 -- Cited by calls. What is printed of a text's schedule that a session made.
 use Rattle.std.specs.Prelude.{◌≡◌, ◌++◌, ℕ, Bool, true, false, List, map, Ok}
-use Rattle.specview.specs.Faults.{status_of_view}
 use Rattle.specview.specs.Words.Outside.{Header, printed_text, Plan, header_of, schedule_of, all_buffers, call_that_ended, whole_call_of, Replayed}
-use Rattle.specview.specs.declared.replaying.ReplayFault.{ReplayFault, TheVariants.View, TheVariants.NoWholeCall, TheVariants.NoText}
+use Rattle.specview.specs.declared.fault.ViewFault.{ViewFault, TheVariants.Line, TheVariants.Memory, TheVariants.NoWholeCall, TheVariants.NoText}
 
--- the exit status that tells of a fault
-abbrev pub status_of_replay : ReplayFault → ℕ
-status_of_replay (View fault) = status_of_view fault
-status_of_replay (NoWholeCall line) = 5
-status_of_replay (NoText cpu) = 6
+-- why a schedule isn't replayed: its text says none, the player refuses it too, a growth was refused, or one of the session's own reasons
+abbrev pub IsReplayFault : ViewFault → Type 0
+IsReplayFault (Line line kind) = Unit {0}
+IsReplayFault Memory = Unit {0}
+IsReplayFault (NoWholeCall line) = Unit {0}
+IsReplayFault (NoText cpu) = Unit {0}
+IsReplayFault fault = ⊥
 
 -- what is printed: what a play prints, and behind it the bytes of each buffer where they are wanted
 abbrev pub replay_printed : Bool → Header → Replayed → List ℕ

@@ -1,5 +1,5 @@
 -- Cited by calls. The trace of a play: its metadata, and the bytes of each CPU's file.
-use Rattle.std.specs.Prelude.{◌≡◌, ℕ, ◌+◌, ◌^◌, ◌<◌, ◌≤◌, ◌==◌, ◌++◌, List, [], ◌∷◌, length, map, reverse, replicate, min, max, take, slice_get, slice_index_or, Some, unwrap_or, false}
+use Rattle.std.specs.Prelude.{◌≡◌, ℕ, ◌+◌, ◌^◌, ◌<◌, ◌≤◌, ◌==◌, ◌++◌, List, [], ◌∷◌, length, map, reverse, replicate, min, max, fold, take, slice_get, slice_index_or, Some, unwrap_or, false}
 use Rattle.std.specs.Prelude.{if◌then◌else◌, string_bytes, All}
 use Rattle.specview.specs.Batches.{ShareOf, last_share, shares}
 use Rattle.specview.specs.Clocks.{IsClockFault, IsTakenByReaders}
@@ -15,12 +15,10 @@ use Rattle.uuid.specs.{Parts.with_variant, Parts.with_version, Uuid.namespace_oi
 
 -- the greatest EPID of records, 0 where there is none
 abbrev pub greatest_of : List Record → ℕ
-greatest_of [] = 0
-greatest_of (r ∷ rs) = max r.epid (greatest_of rs)
+greatest_of rs = fold (λ n r. max n r.epid) 0 rs
 
 abbrev pub greatest_epid : List (List Record) → ℕ
-greatest_epid [] = 0
-greatest_epid (rs ∷ rss) = max (greatest_of rs) (greatest_epid rss)
+greatest_epid rss = fold (λ n rs. max n (greatest_of rs)) 0 rss
 
 -- The events of a play: the enablings of its schedule; of the default action, events without fields as far as the greatest EPID, 64
 -- at the most.

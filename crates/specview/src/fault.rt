@@ -32,12 +32,21 @@ pub enum ViewFault {
     NoFrequency,
     #[error("a clock of frequency 18446744073709551615, which no reader takes")]
     GreatestFrequency,
+    #[error("more than 2000 deeds, which no picture shows")]
+    TooManyDeeds,
+    /// The line is a part of a call: a session makes whole ones.
+    #[error("line {line}: no whole call")]
+    NoWholeCall { line: u64 },
+    /// A buffer of this CPU can't be read back.
+    #[error("cpu {cpu}: a buffer that is no text")]
+    NoText { cpu: u32 },
 }
 
 impl ViewFault {
     ghost use Rattle.specview.specs.Faults.{status_of_view};
 
-    /// The exit status that tells of the fault: 1 for what the schedule says, 2 for memory, 3 for input and output, 4 for arguments.
+    /// The exit status that tells of the fault: 1 for what the schedule says, 2 for memory, 3 for input and output, 4 for arguments, 5 for
+    /// a line that is no whole call, and 6 for a buffer of the session that can't be read back.
     pub fn status(&self) -> u8
         ensures { result ≡ status_of_view self.now }
     {
@@ -45,10 +54,13 @@ impl ViewFault {
             ViewFault::Line { .. }
             | ViewFault::NoStamp
             | ViewFault::LateStamp
-            | ViewFault::NoEvent(_) => 1,
+            | ViewFault::NoEvent(_)
+            | ViewFault::TooManyDeeds => 1,
             ViewFault::Memory => 2,
             ViewFault::Read | ViewFault::Write | ViewFault::TooLong | ViewFault::NotEmpty => 3,
             ViewFault::NoFrequency | ViewFault::GreatestFrequency => 4,
+            ViewFault::NoWholeCall { .. } => 5,
+            ViewFault::NoText { .. } => 6,
         }
     }
 }

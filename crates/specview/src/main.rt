@@ -24,17 +24,16 @@
 //! |---|---|
 //! | `arguments.rt`, `main.rt`, `fault.rt`, `program.rt`, `replacing.rt` | what the words ask (a subcommand more is one function and one arm of `ViewTask`); statuses; how a picture takes the place of an old one |
 //! | `clock.rt` | `see_clock`: what readers of a trace by time take (`specs/Clocks`) |
-//! | `pictured.rt`, `stepped.rt`, `ending.rt` | `picture_of`: the picture of a text's play; `steps_of_text`: its steps; which text has them, and why another has none (`specs/Pictures`, `specs/Stepping`); how a run ends |
+//! | `pictured.rt`, `stepped.rt` | `picture_of`: the picture of a text's play; `steps_of_text`: its steps; which text has them, and why another has none (`specs/Pictures`, `specs/Stepping`) |
 //! | `replay_asking.rt`, `replaying.rt` | what is asked of a replay; `replay_text`: what is printed of a schedule that a session makes (`specs/Replays`), and why it isn't |
 //! | `trace.rt`, `batches.rt`, `events.rt`, `folder.rt` | `trace_of`: a file as taken and by time; `shares_of`: a stream cut at the seals; the events; `TraceFiles` and `write_trace` |
 //! | `folder_asking.rt` | what is asked of folders |
-//! | `proofs/` | Cutting (a stream cut into batches), SmallShares, SmallPlays (what a play's packets tell is of 64 bits), Parts, Greatest, AllFiles, Files |
+//! | `proofs/` | Cutting (a stream cut into batches), SmallPlays (what a play's packets tell is of 64 bits), Parts, AllFiles, Files, Taking |
 #![tactic(auto)]
 
 mod arguments;
 mod batches;
 mod clock;
-mod ending;
 mod events;
 mod fault;
 mod folder;

@@ -3,7 +3,6 @@
 ghost use Rattle.std.specs.Prelude.{◌≤◌, IfErr, IfOk, length};
 ghost use Rattle.specview.specs.Pictures.{IsPictureFault, IsPictured, IsPlayPictureFault};
 
-use crate::ending::DrawingFault;
 use crate::fault::ViewFault;
 use dspec_core::{Actor, Answer, ConsumerOp, Op, Outcome};
 use dspec_picture::{PictureFault, picture};
@@ -22,16 +21,6 @@ fn took_of(cpu: u32, op: Op, answer: Answer) -> bool {
     }
 }
 
-/// How many batches of the CPU the consumer took.
-fn taken_batches(cpu: u32, answers: &[(Actor, Op, Answer)]) -> u64 {
-    let mut taken = 0;
-    for ended in answers {
-        let (_, op, answer) = *ended;
-        taken += u64::from(took_of(cpu, op, answer));
-    }
-    taken
-}
-
 /// How many batches of each CPU the consumer took.
 fn batches_taken(
     alloc: Global,
@@ -40,7 +29,10 @@ fn batches_taken(
 ) -> Result<Vec<u64>, AllocError> {
     let mut taken = Vec::new(alloc);
     for cpu in 0..cpus {
-        taken.push(taken_batches(cpu, answers))?;
+        let of_cpu = answers
+            .iter()
+            .filter(|ended| took_of(cpu, ended.1, ended.2));
+        taken.push(of_cpu.count() as u64)?;
     }
     Ok(taken)
 }
@@ -50,7 +42,7 @@ fn picture_of_play(
     alloc: Global,
     schedule: &Schedule,
     outcome: &Outcome,
-) -> Result<String, DrawingFault>
+) -> Result<String, ViewFault>
     ensures few { IfOk result (λ _. length outcome.now.close.deeds ≤ 2000) }
     ensures fault { IfErr result (IsPlayPictureFault (length outcome.now.close.deeds)) }
 {
@@ -59,20 +51,17 @@ fn picture_of_play(
     let header = schedule.header();
     match picture(alloc, &schedule.config, header, batches.as_slice(), deeds) {
         Ok(svg) => Ok(svg),
-        Err(PictureFault::TooManyDeeds) => Err(DrawingFault::TooManyDeeds),
-        Err(PictureFault::Memory) => Err(DrawingFault::View(ViewFault::Memory)),
+        Err(PictureFault::TooManyDeeds) => Err(ViewFault::TooManyDeeds),
+        Err(PictureFault::Memory) => Err(ViewFault::Memory),
     }
 }
 
 /// Plays the schedule of a text, and gives the picture of its play.
 #[tactic(auto, using(crate::proofs::Taking::text_fault, crate::proofs::Taking::play_fault_told))]
-pub fn picture_of(alloc: Global, text: &[u8]) -> Result<String, DrawingFault>
+pub fn picture_of(alloc: Global, text: &[u8]) -> Result<String, ViewFault>
     ensures played { IfOk result (λ _. IsPictured text.now) }
     ensures fault { IfErr result (IsPictureFault text.now) }
 {
-    let played = match play_text(alloc, text) {
-        Ok(played) => played,
-        Err(fault) => return Err(DrawingFault::View(ViewFault::from(fault))),
-    };
+    let played = play_text(alloc, text)?;
     picture_of_play(alloc, &played.schedule, &played.outcome)
 }

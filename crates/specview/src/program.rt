@@ -1,6 +1,4 @@
-use crate::ending::DrawingFault;
 use crate::fault::ViewFault;
-use crate::replaying::ReplayFault;
 use dspec_command::{CommandFault, ExitFault};
 use dspec_folder_view::{FolderViewFault, TraceFolderFault};
 use thiserror::Error;
@@ -9,13 +7,11 @@ use thiserror::Error;
 #[derive(Clone, Copy, Debug, Error)]
 pub enum ProgramFault<'a> {
     #[error("{0}")]
-    Run(#[from] DrawingFault),
+    View(#[from] ViewFault),
     #[error("{0}")]
     Command(#[from] CommandFault<'a>),
     #[error("{0}")]
     Folder(#[from] TraceFolderFault<'a>),
-    #[error("{0}")]
-    Replay(#[from] ReplayFault),
     /// The picture would take the place of its own schedule.
     #[error("{0}: the schedule's own file")]
     OwnSchedule(&'a str),
@@ -25,18 +21,11 @@ impl<'a> ExitFault for ProgramFault<'a> {
     /// The exit status that tells of the fault.
     fn exit_status(&self) -> u8 {
         match self {
-            ProgramFault::Run(fault) => fault.status(),
+            ProgramFault::View(fault) => fault.status(),
             ProgramFault::Command(fault) => fault.status(),
             ProgramFault::Folder(fault) => fault.status(),
-            ProgramFault::Replay(fault) => fault.status(),
             ProgramFault::OwnSchedule(_) => 4,
         }
-    }
-}
-
-impl<'a> From<ViewFault> for ProgramFault<'a> {
-    fn from(fault: ViewFault) -> Self {
-        ProgramFault::Run(DrawingFault::View(fault))
     }
 }
 

@@ -3,7 +3,7 @@
 ghost use Rattle.std.specs.Prelude.{◌≡◌, ◌≢◌, ℕ, ◌+◌, ◌^◌, ◌<◌, ◌≤◌, map, reverse, length, All, IfOk, IfErr};
 ghost use Rattle.dspec_ctf.specs.{ByTime.ArePacketsOfRecords, Streams.Accepts};
 ghost use Rattle.dspec_deeds.specs.Own.{stream as stream_of};
-ghost use Rattle.dspec_schedule.specs.Schedules.{plan_of};
+ghost use Rattle.dspec_schedule.specs.{Reading.HasOneHeader, Schedules.plan_of};
 ghost use Rattle.dspec_replay.specs.PlayedTexts.{IsPlayOf};
 ghost use Rattle.specview.specs.Batches.{TellsCounts, last_share, shares, shown_share};
 ghost use Rattle.specview.specs.Traces.{AllTellSmall, AreFiles, HaveShortEvents, AreStreams, IsFile, IsFileFault, IsFormFault, IsOfNumbered, IsPlayTrace, IsPlayTraceFault, TellsSmall, IsTraceFault};
@@ -104,14 +104,6 @@ fn file_as_taken(
     put_shares(alloc, stream, shares.as_slice())
 }
 
-/// How many records a CPU missed, by its report.
-fn missed_of(report: &Report) -> u64
-    requires { missed_by report.now ≤ report.now.offered }
-    ensures { result ≡ missed_by report.now }
-{
-    report.dropped + report.specdropped + report.lost
-}
-
 /// A CPU's file by time, of all its records.
 fn file_by_time(
     alloc: Global,
@@ -127,7 +119,7 @@ fn file_by_time(
         (missed_by report.now) stream.entry.cpu records.now bytes.items) }
     ensures fault { IfErr result (IsFileFault form stream.entry.enablings.now records.now) }
 {
-    stream.missed = missed_of(report);
+    stream.missed = report.dropped + report.specdropped + report.lost;
     match stream.packets_by_time_of(alloc, records) {
         Ok(bytes) => Ok(bytes),
         Err(TimeFault::NoStamp) => Err(ViewFault::NoStamp),
@@ -222,7 +214,8 @@ fn trace_of_play(
     schedule: &Schedule,
     outcome: &Outcome,
 ) -> Result<Trace, ViewFault>
-    requires { IsPlayOf (plan_of schedule.now) outcome.now }
+    requires play { IsPlayOf (plan_of schedule.now) outcome.now }
+    requires one_header { HasOneHeader (plan_of schedule.now) }
     ensures trace { IfOk result (IsPlayTrace uuid.now form (plan_of schedule.now) outcome.now) }
     ensures fault { IfErr result (IsPlayTraceFault form (event_rows (plan_of schedule.now) outcome.now.close.accepted) outcome.now.close.accepted) }
 {
@@ -231,9 +224,7 @@ fn trace_of_play(
         Ok(text) => text,
         Err(fault) => return Err(form_fault(fault)),
     };
-    if let Err(fault) = see_clock(form, outcome.close.accepted.as_slice()) {
-        return Err(fault);
-    }
+    see_clock(form, outcome.close.accepted.as_slice())?;
     let files = files_of(
         alloc,
         uuid,

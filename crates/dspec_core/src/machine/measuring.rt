@@ -1,35 +1,32 @@
-ghost use Rattle.std.specs.Prelude.{◌≡◌, ◌<◌, None, Some, true};
-ghost use Rattle.dspec_deeds.specs.{History.in_range, Legal.IsSound, Ranges.start_fault};
-ghost use Rattle.dspec_interleaving.specs.{Calls.op_of, Calls.record_passes, Coherent.IsSlot, Coherent.progress_of};
-ghost use Rattle.dspec_core.specs.{Machines.IsShownMachine, Machines.history, Machines.state_of, Table.TellsAt, Table.TellsFit, Table.aimed, Worlds.WorldInvariant};
+ghost use Rattle.std.specs.Prelude.{◌≡◌, ◌<◌, None, Some, IsTrue};
+ghost use Rattle.dspec_deeds.specs.{History.issue, Legal.IsSound, Ranges.start_fault};
+ghost use Rattle.dspec_interleaving.specs.Coherent.{IsSlot, progress_of};
+ghost use Rattle.dspec_core.specs.{Machines.IsShownMachine, Machines.history, Machines.state_of, Table.TellsAt, Table.TellsOwn, Table.TellsRoom, Table.aimed, Worlds.WorldInvariant};
 
 use crate::machine::Machine;
 use crate::machine::seen::Seen;
 use dspec_buffer::TraceBuffer;
 use dspec_deeds::CpuOp;
 use dspec_interleaving::CallPlace;
-use dspec_record::Schema;
+use dspec_record::{Rec, Schema};
 use dspec_word::SpecId;
 
 impl<S: Schema, B: TraceBuffer<S>> Machine<S, B> {
-    /// What the step of a CPU's call at that place sees.
+    /// What the step of a CPU's call at that place sees: of the CPU's own only what such a step measures.
     pub fn see(&self, cpu: u32, place: &CallPlace) -> Seen
         requires kept { WorldInvariant B.has B.capacity S.shape_of S.accepted self.now }
         requires cpu { cpu < self.now.config.cpus }
         requires flight { (progress_of (state_of self.now).progresses cpu).flight ≡ Some place.now }
-        ensures at { TellsAt (S.shape_of self.now.schema) self.now.config cpu (history self.now) (aimed (history self.now) place.now) result }
-        ensures fits { TellsFit (S.shape_of self.now.schema) self.now.config cpu (history self.now) place.now result.fits }
+        ensures at { TellsAt self.now.config cpu (history self.now) (aimed (history self.now) place.now) result }
+        ensures own { TellsOwn (S.shape_of self.now.schema) self.now.config cpu (history self.now) place.now result }
         ensures me { result.me ≡ progress_of (state_of self.now).progresses cpu }
     {
         let id = self.aim(place);
-        let fits = self.fits_call(cpu, place);
         let own = &self.cpus[cpu as usize];
-        let mine = own.side.is_mine(id);
-        let (copies, count) = own.side.measure::<S>(&self.config, id, mine);
         let slot = (id.slot() - 1) as usize;
         let word = self.words[slot];
         let acked = own.side.acks[slot];
-        Seen {
+        let seen = Seen {
             config: self.config,
             cpu,
             me: own.progress,
@@ -37,13 +34,50 @@ impl<S: Schema, B: TraceBuffer<S>> Machine<S, B> {
             stopped: self.halted,
             word,
             acked,
-            mine,
-            fits,
-            copies,
-            count,
+            mine: false,
+            fits: false,
+            copies: false,
+            count: 0,
             missed_busy: own.side.missed_busy,
             seals: own.side.seals,
+        };
+        match *place {
+            CallPlace::Begun(op) => match op {
+                CpuOp::Trace(rec) => {
+                    let fits = own.side.fits(&self.config, &self.schema, &rec);
+                    Seen { fits, ..seen }
+                }
+                _ => seen,
+            },
+            CallPlace::SpeculateLoad(id, rec) => self.see_room(cpu, id, &rec, seen),
+            CallPlace::SpeculateTry(id, rec, _) => self.see_room(cpu, id, &rec, seen),
+            _ => {
+                let mine = own.side.is_mine(id);
+                let (copies, count) = own.side.measure::<S>(&self.config, id, mine);
+                Seen {
+                    mine,
+                    copies,
+                    count,
+                    ..seen
+                }
+            }
         }
+    }
+
+    // What a step sees that may put a record behind what the CPU holds of its slot's present speculation.
+    fn see_room(&self, cpu: u32, id: SpecId, rec: &Rec, seen: Seen) -> Seen
+        requires shown { IsShownMachine B.has B.capacity self.now }
+        requires cpu { cpu < self.now.config.cpus }
+        requires sound { IsSound self.now.config (history self.now) }
+        requires slot { IsSlot self.now.config id.slot }
+        requires accepted { IsTrue (S.accepted self.now.schema rec.now) }
+        ensures room { id.issue ≡ issue id.slot (history self.now) → TellsRoom (S.shape_of self.now.schema) self.now.config cpu (history self.now) id rec.now result }
+        ensures rest { result ≡ record seen { mine = result.mine; fits = result.fits } }
+    {
+        let side = &self.cpus[cpu as usize].side;
+        let mine = side.is_mine(id);
+        let fits = side.fits_slot(&self.config, &self.schema, id, rec, mine);
+        Seen { mine, fits, ..seen }
     }
 
     // The speculation that a call at that place is at.
@@ -70,27 +104,5 @@ impl<S: Schema, B: TraceBuffer<S>> Machine<S, B> {
             | CallPlace::ServicePush => 1,
         };
         SpecId::of(self.words[(slot - 1) as usize].issue(), slot)
-    }
-
-    // Whether the record of a call at that place fits its buffer.
-    fn fits_call(&self, cpu: u32, place: &CallPlace) -> bool
-        requires shown { IsShownMachine B.has B.capacity self.now }
-        requires cpu { cpu < self.now.config.cpus }
-        requires sound { IsSound self.now.config (history self.now) }
-        requires slot { in_range self.now.config (aimed (history self.now) place.now) ≡ true }
-        requires accepted { record_passes (S.accepted self.now.schema) (op_of place.now) ≡ true }
-        ensures { TellsFit (S.shape_of self.now.schema) self.now.config cpu (history self.now) place.now result }
-    {
-        match *place {
-            CallPlace::Begun(op) => match op {
-                CpuOp::Trace(rec) => self.cpus[cpu as usize]
-                    .side
-                    .fits(&self.config, &self.schema, &rec),
-                _ => false,
-            },
-            CallPlace::SpeculateLoad(id, rec) => self.fits_speculative(cpu, id, &rec),
-            CallPlace::SpeculateTry(id, rec, _) => self.fits_speculative(cpu, id, &rec),
-            _ => false,
-        }
     }
 }

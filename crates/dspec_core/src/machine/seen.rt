@@ -3,7 +3,7 @@ use dspec_interleaving::{CallPlace, CpuProgress, Spare};
 use dspec_word::{SpecId, Word};
 
 /// What a step of a CPU goes by: the configuration, the CPU's progress, and what the step measures, of the slot and the
-/// speculation that its call is at.
+/// speculation that its call is at. What it doesn't measure is false, or 0.
 #[derive(Clone, Copy)]
 pub struct Seen {
     /// What the session was set up with.

@@ -1,6 +1,6 @@
-ghost use Rattle.std.specs.Prelude.{◌≡◌, ◌<◌, true, slice_get, Some, IsTrue};
+ghost use Rattle.std.specs.Prelude.{◌≡◌, ◌<◌, true, slice_get, Some};
 ghost use Rattle.dspec_deeds.specs.declared.calls.Actor.TheVariants as actor;
-ghost use Rattle.dspec_deeds.specs.{History.in_range, History.issue, History.part, Legal.IsSound, Legal.fits_speculative, Settling.settle_fate};
+ghost use Rattle.dspec_deeds.specs.{History.in_range, History.issue, History.part, Legal.IsSound, Settling.settle_fate};
 ghost use Rattle.dspec_cpu_state.specs.CpuStates.{ShowsList};
 ghost use Rattle.dspec_core.specs.{Machines.IsShownMachine, Machines.history, declared.machine.cpu.Cpu.Cpu};
 
@@ -8,7 +8,7 @@ use crate::machine::Machine;
 use dspec_buffer::TraceBuffer;
 use dspec_cpu_state::settled_as;
 use dspec_deeds::DecideFate;
-use dspec_record::{Rec, Schema};
+use dspec_record::Schema;
 use dspec_word::{Code, SpecId};
 
 impl<S: Schema, B: TraceBuffer<S>> Machine<S, B> {
@@ -18,20 +18,6 @@ impl<S: Schema, B: TraceBuffer<S>> Machine<S, B> {
         ensures { (own : Cpu B) → slice_get self.now.cpus.items cpu ≡ Some own
             → ShowsList (λ b. B.has b self.now.schema) B.capacity self.now.config cpu (part (actor.Cpu cpu) (history self.now)) own.side }
     {}
-
-    /// Whether a record fits the rest of the CPU's buffer of a speculation, which is its slot's present one.
-    pub fn fits_speculative(&self, cpu: u32, id: SpecId, rec: &Rec) -> bool
-        requires shown { IsShownMachine B.has B.capacity self.now }
-        requires cpu { cpu < self.now.config.cpus }
-        requires sound { IsSound self.now.config (history self.now) }
-        requires slot { in_range self.now.config id ≡ true }
-        requires accepted { IsTrue (S.accepted self.now.schema rec.now) }
-        ensures { id.issue ≡ issue id.slot (history self.now) → result ≡ fits_speculative (S.shape_of self.now.schema) self.now.config cpu id rec.now (history self.now) }
-    {
-        let side = &self.cpus[cpu as usize].side;
-        let mine = side.is_mine(id);
-        side.fits_slot(&self.config, &self.schema, id, rec, mine)
-    }
 
     /// The fate of the CPU's buffer of its slot's present speculation where that is settled, by the code of the slot's word.
     pub fn settle_fate(&self, cpu: u32, id: SpecId, code: Code) -> DecideFate

@@ -1,7 +1,8 @@
-use Rattle.std.proofs.Common.{◌≡◌, ◌∷◌, ◌∙◌, ◌++◌, IfOk, Ok, Err, [], map, reverse, take, refl, ap, sym, arith}
-use Rattle.std.proofs.lemmas.List.{map-append, length-reverse, length-take-le}
+use Rattle.std.proofs.Common.{◌≡◌, ◌≤◌, if◌then◌else◌, ◌∷◌, ◌∙◌, ◌++◌, IfOk, Ok, Err, [], map, reverse, take, refl, ap, sym, arith}
+use Rattle.std.proofs.lemmas.{Bool.Decides.nat_tests, List.map-append, List.length-reverse, List.length-take-le}
 use Rattle.specview.specs.Words.{is_drop, shown_share, last_share, shares}
-use Rattle.specview.proofs.Cutting.{begins_at, enough, sealed_at, grown_at, grown_within, ended_at, drops_few, at_most_one}
+use Rattle.dspec_interleaving.proofs.Counts.{drops_counted}
+use Rattle.specview.proofs.Cutting.{begins_at, enough, sealed_at, grown_at, grown_within, ended_at}
 use Rattle.specview.proofs.batches.shares_of.Goals as goal
 
 pub split_at-requires : goal.split_at-requires
@@ -25,10 +26,10 @@ overflow_add-count c =
 
 pub overflow_add-drops : goal.overflow_add-drops
 overflow_add-drops c =
-    let few = drops_few c.args.cpu (reverse (take c.loop-deed.deed-index c.args.deeds.now)) in
+    let few = drops_counted c.args.cpu (reverse (take c.loop-deed.deed-index c.args.deeds.now)) in
     let long = length-reverse (take c.loop-deed.deed-index c.args.deeds.now) ∙ length-take-le c.loop-deed.deed-index c.args.deeds.now c.loop-deed.auto.deed-index-end in
     let told = c.loop-deed.invariant.dropped in
-    let one = at_most_one (is_drop c.args.cpu c.deed-item.result) in
+    let one : (if is_drop c.args.cpu c.deed-item.result then 1 else 0) ≤ 1 = grind (arith, nat_tests) in
     let here = c.dropped_by-drops.ensures in
     omega arith
 

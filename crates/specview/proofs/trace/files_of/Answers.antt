@@ -1,12 +1,12 @@
 use Rattle.std.proofs.Common.{◌∙◌, sym, ap, subst, reverse, length, slice_index_or, All, arith, slice_get}
 use Rattle.std.proofs.lemmas.Option.{slice_get-get_or}
 use Rattle.specview.specs.Words.{Accepts, stream, TellsCounts, AreStreams, TellsSmall, Report}
-use Rattle.specview.proofs.AllFiles.{stream_at, streams_long, no_trace}
+use Rattle.specview.proofs.AllFiles.{mapped_long, stream_at, no_trace}
 use Rattle.specview.proofs.trace.files_of.Goals as goal
 
 pub bounds-accepted-cpu : goal.bounds-accepted-cpu
 bounds-accepted-cpu c =
-    let long = streams_long c.args.cpus c.args.close.now.deeds c.args.close.now.accepted c.requires.accepted in
+    let long = mapped_long (λ a. stream a (reverse c.args.close.now.deeds)) c.args.cpus c.args.close.now.accepted c.requires.accepted in
     let same = ap length c.as_slice-accepted.ensures in
     omega arith
 
@@ -41,7 +41,7 @@ pub returns-in-Err-clause-fault : goal.returns-in-Err-clause-fault
 returns-in-Err-clause-fault c =
     let accepted = c.args.close.now.accepted in
     let same = c.as_slice-accepted.ensures in
-    let long = streams_long c.args.cpus c.args.close.now.deeds accepted c.requires.accepted in
+    let long = mapped_long (λ a. stream a (reverse c.args.close.now.deeds)) c.args.cpus accepted c.requires.accepted in
     no_trace c.args.form c.args.events.now accepted c.as_slice-records.result.now c.loop-cpu.cpu c.in-Err.fault (omega arith)
     (c.as_slice-records.ensures ∙ (c.index-accepted-cpu.is ∙ (ap (λ l. slice_index_or l c.loop-cpu.cpu c.index-accepted-cpu.result) same
     ∙ ap (slice_index_or accepted c.loop-cpu.cpu) (sym c.as_slice-records.ensures))))

@@ -1,12 +1,12 @@
-use Rattle.std.proofs.Common.{◌≡◌, ◌+◌, ◌++◌, ◌∙◌, subst, sym, ap, All, arith, drop, map}
-use Rattle.specview.specs.Words.{packet, Accepts, HasNoRecordPacket, shown_share, packets_behind, refused_in}
-use Rattle.specview.proofs.Parts.{memory_alone, packet_next, refused_next, share_at, short_at}
+use Rattle.std.proofs.Common.{◌≡◌, ◌<◌, ◌^◌, ◌+◌, length, ◌++◌, ◌∙◌, subst, sym, ap, All, arith, drop, map}
+use Rattle.specview.specs.Words.{packet, events, Accepts, HasNoRecordPacket, shown_share, packets_behind, refused_in}
+use Rattle.specview.proofs.Parts.{HasRecords, memory_alone, packet_next, refused_next, share_at}
 use Rattle.specview.proofs.trace.put_shares.Goals as goal
 
 pub packet_of-requires : goal.packet_of-requires
 packet_of-requires c =
     subst (λ e. All (Accepts e.now) c.share-item.result.records.now) (sym c.loop-share.invariant.events)
-    (share_at (Accepts c.args.stream.enablings.now) c.args.shares.now c.loop-share.share-index c.share-item.result c.requires.known c.loop-share-test.true c.share-item.is)
+    (share_at (HasRecords c.args.stream.enablings.now) c.args.shares.now c.loop-share.share-index c.share-item.result c.requires.known c.loop-share-test.true c.share-item.is)
 
 pub no_memory-requires : goal.no_memory-requires
 no_memory-requires c =
@@ -17,7 +17,7 @@ no_memory-requires c =
     let held = c.loop-share.invariant.counted in
     let few = c.requires.counted in
     memory_alone e before share.drops share.records.now c.in-Err.fault (omega arith)
-    (short_at e c.args.shares.now c.loop-share.share-index share c.requires.short c.loop-share-test.true c.share-item.is)
+    (share_at (λ s. length (events e s.records) < 2 ^ 60) c.args.shares.now c.loop-share.share-index share c.requires.short c.loop-share-test.true c.share-item.is)
     (subst (λ known. HasNoRecordPacket known.now before share.drops share.records.now c.in-Err.fault) c.loop-share.invariant.events c.in-Err.ensures.fault)
 
 pub loop-share-preserved : goal.loop-share-preserved

@@ -1,5 +1,5 @@
 use Rattle.std.proofs.Common.{false, refl, ap, ◌∙◌}
-use Rattle.dspec_c.specs.Words.{EnabledRows, identity, CommittedIfRoom, Cpu}
+use Rattle.dspec_c.specs.Words.{EnabledRows, identity, Cpu}
 use Rattle.dspec_c.proofs.{Calls.on_boxed, Homes.stays_out}
 use Rattle.dspec_c.proofs.out_cpu.OutCpu.commit_if_room.Goals as goal
 
@@ -15,7 +15,6 @@ returns c = (
     answer = c.commit_if_room.result;
     numbered = c.of_committed.ensures.status;
     tells = c.of_committed.ensures.count;
-    done = on_boxed false (CommittedIfRoom c.from_raw.result c.commit_if_room.result) _ _ _ _ _ _ c.self.view_is c.deref_mut.ensures.value refl
-        (record { same = c.commit_if_room.ensures.same; does = c.commit_if_room.ensures.does }) refl;
+    done = on_boxed false _ _ _ _ _ _ _ c.self.view_is c.deref_mut.ensures.value refl c.commit_if_room.ensures.same c.commit_if_room.ensures.does refl;
   },
 )

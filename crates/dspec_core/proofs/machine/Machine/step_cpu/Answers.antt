@@ -31,7 +31,7 @@ enter-requires g c =
     let flight = flies _ _ c.args.self.now c.requires.kept.shown c.args.cpu c.index.result.now _ c.requires.cpu c.index.ensures c.in-Some.is in
     record {
       cpu = c.requires.cpu;
-      next = move_comes c.requires.kept c.args.cpu c.requires.cpu c.in-Some.place flight c.see-seen.ensures.at c.see-seen.ensures.fits c.see-seen.ensures.me c.next-step.result c.next-step.ensures;
+      next = move_comes c.requires.kept c.args.cpu c.requires.cpu c.in-Some.place flight c.see-seen.ensures.at c.see-seen.ensures.own c.see-seen.ensures.me c.next-step.result c.next-step.ensures;
     }
 
 pub move_cpu-requires : goal.move_cpu-requires
@@ -50,6 +50,6 @@ move_cpu-requires g c =
 pub returns : goal.returns
 returns g c =
     let flight = flies _ _ c.args.self.now c.requires.kept.shown c.args.cpu c.index.result.now _ c.requires.cpu c.index.ensures c.in-Some.is in
-    let left = move_leaves c.requires.kept c.args.cpu c.requires.cpu c.in-Some.place flight c.see-seen.ensures.at c.see-seen.ensures.fits c.see-seen.ensures.me c.next-step.result c.next-step.ensures
+    let left = move_leaves c.requires.kept c.args.cpu c.requires.cpu c.in-Some.place flight c.see-seen.ensures.at c.see-seen.ensures.own c.see-seen.ensures.me c.next-step.result c.next-step.ensures
     c.enter.new.self c.move_cpu.new.self c.in_ok-enter.ensures.entered c.move_cpu.ensures.shown c.move_cpu.ensures.state c.move_cpu.ensures.schema in
     record { kept = left.kept; state = left.state; answered = left.answered; schema = left.schema; refused = tt }
