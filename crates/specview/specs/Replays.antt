@@ -3,7 +3,7 @@ use Rattle.std.specs.Prelude.{◌≡◌, ◌++◌, ℕ, Bool, true, false, List,
 use Rattle.specview.specs.Words.Outside.{Header, printed_text, Plan, header_of, schedule_of, all_buffers, call_that_ended, whole_call_of, Replayed}
 use Rattle.specview.specs.declared.fault.ViewFault.{ViewFault, TheVariants.Line, TheVariants.Memory, TheVariants.NoWholeCall, TheVariants.NoText}
 
--- why a schedule isn't replayed: its text says none, the player refuses it too, a growth was refused, or one of the session's own reasons
+-- a fault of a schedule's text or of its play, of memory, or one of the session's own; not that it is due
 abbrev pub IsReplayFault : ViewFault → Type 0
 IsReplayFault (Line line kind) = Unit {0}
 IsReplayFault Memory = Unit {0}
