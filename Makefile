@@ -11,8 +11,27 @@ PREFIX = /usr/local
 INTO =
 
 JOBS =
+PREBUILT = prebuilt/x86_64-linux
 
-.PHONY: no_goal check crates-line quick play test examples ctf-check api edits mutants rows soak fuzz build bench bench-instructions bench-peers build-bench picture lib c-check install uninstall dist
+.PHONY: help kit no_goal check crates-line quick play test examples ctf-check api edits mutants rows soak fuzz build bench bench-instructions bench-peers build-bench picture lib c-check install uninstall dist deb
+
+help:
+	@echo "make play SCHEDULE=FILE         plays a schedule, as examples/tutorial/01-three-traces.schedule"
+	@echo "make picture SCHEDULE=FILE OUTPUT=FILE.svg   draws its play"
+	@echo "make install PREFIX=FOLDER [SHARED=1] [PROGRAMS=1]   the proved library of prebuilt/, headers, pkg-config file, manual pages"
+	@echo "make uninstall PREFIX=FOLDER    takes them away again"
+	@echo "make lib                        the C library into build/"
+	@echo "make dist, make deb             a tarball that can be unpacked anywhere; Debian's packages; into build/"
+	@echo "These need cc and make. With PROVE=1 the library is proved and built here, with TRY=1 built in a minute or two, unproved."
+	@echo "make check CRATE=NAME           proves one crate"
+	@echo "make quick                      tests everything, unproved, in some minutes"
+	@echo "make test                       proves, tests and runs everything, in one to two hours"
+	@echo "make crates-line CRATE=NAME CRATES=\"dspec ..\" INTO=FOLDER   begins a Rattle program"
+	@echo "CONTRIBUTING.md has the others. They need rt, the Rattle toolchain's command, as PROVE=1 and TRY=1 do."
+
+# What can't be done without the toolchain says so at once.
+kit:
+	@command -v rt > /dev/null || { echo "rt, the Rattle toolchain's command, isn't on the path: whoever gave you this repository can give you the kit" >&2; exit 1; }
 
 # Plays one schedule, or several (SCHEDULES="a b"), at once: with the proved program where it is built, else with the trial build of the
 # same sources.
@@ -29,7 +48,8 @@ picture:
 	@echo "$@ is no goal: make play SCHEDULE=$@" >&2; exit 2
 
 # Proves one crate, and what it stands on where that has changed, as in make check CRATE=dspec_ring.
-check:
+check: kit
+	@[ -n "$(CRATE)" ] || { echo "make check CRATE=NAME: crates.txt has the names" >&2; exit 2; }
 	@cd "crates/$(CRATE)" && rt check
 
 # The line of crates.txt for a program that uses these crates, as in make crates-line CRATE=app CRATES="dspec anyhow". With
@@ -38,11 +58,11 @@ crates-line:
 	@INTO="$(INTO)" tools/crates_line "$(CRATE)" $(CRATES)
 
 # All that runs, by trial builds: tests, programs, the corpus, sessions. Nothing is proved by it. Some minutes on four processors.
-quick:
+quick: kit
 	@JOBS="$(JOBS)" sh tools/quick
 
 # Everything: all proofs from nothing, the must-fail edits, the tests, the program, and the corpus.
-test:
+test: kit
 	@sh .ci/run
 
 # The corpus alone, over the built program.
@@ -62,11 +82,11 @@ edits:
 	@sh tools/edits
 
 # The wrong bodies that the gate leaves out, each of which the prover must refuse; CRATES names some crates alone.
-mutants:
+mutants: kit
 	@sh tools/mutants $(CRATES)
 
 # Rows of the definitions of a play's steps and of the words' steps, turned one at a time: the law that both agree is refused.
-rows:
+rows: kit
 	@sh tools/rows
 
 # What runs in threads, so many times each, as in make soak COUNT=5000; the gate runs it 50, 20, 20 and 20 times.
@@ -82,7 +102,7 @@ fuzz:
 
 # Proves what the program stands on, and builds it; where nothing has changed, it is kept. It gets the time at which the build
 # began, so that what was edited meanwhile is newer, and play doesn't take the program for proved.
-build:
+build: kit
 	@mkdir -p crates/specplay/out && touch crates/specplay/out/begun
 	@cd crates/specplay && rt run < ../../examples/cases/empty-session.schedule > /dev/null
 	@touch -r crates/specplay/out/begun $(PROGRAM)
@@ -102,33 +122,42 @@ bench-instructions: build-bench
 bench-peers: build-bench
 	@sh tools/peers
 
-build-bench:
-	@command -v rt > /dev/null || { echo "make bench needs rt, the toolchain's command" >&2; exit 1; }
+build-bench: kit
 	@cd crates/bench && rt run > /dev/null
 
-# The C library, proved: build/lib has the archive, build/shared the shared object where one links, build/include the header. With
-# TRY=1 in a minute or two, unproved: to look at and to write programs against. With BITCODE=1 the proved library's bitcode too, for -flto.
-lib:
+# The C library, of the proved archive in prebuilt/, whose sums are looked at first: build/lib has the archive, build/shared the shared object where one links,
+# build/include the headers. With PROVE=1 that is proved and built here, with TRY=1 built in a minute or two, unproved: to look at and to write programs against.
+# With BITCODE=1 the proved library's bitcode too, for -flto.
+lib: $(if $(filter 1,$(PROVE) $(TRY) $(BITCODE)),kit)
 	@if [ "$(TRY)" = 1 ]; then \
 		tools/c_module trial build/trial/libdspec_c.a && TRY=1 DSPEC_ARCHIVE=build/trial/libdspec_c.a sh tools/c_lib build build; \
-	else \
+	elif [ "$(PROVE)" = 1 ]; then \
 		sh tools/c_lib prove && sh tools/c_lib build build; \
+	else \
+		tools/prebuilt check dspec_c || { echo "With the Rattle kit, PROVE=1 proves and builds what is here, and TRY=1 builds it unproved." >&2; exit 1; }; \
+		DSPEC_ARCHIVE=$(PREBUILT)/libdspec_c.a sh tools/c_lib build build; \
 	fi
 	@[ "$(BITCODE)" != 1 ] || tools/c_module bitcode build/lib/libdspec.bc
 
-# The C library's tests, and those of the Rust package: over the archive that make lib builds.
-c-check: lib
+# The C library's tests, and those of the Rust package: over the archive that is proved here.
+c-check: kit
+	@sh tools/c_lib prove
 	@sh tests/c/run
 
-# The archive, the headers, a pkg-config file and manual pages to PREFIX, behind DESTDIR; with SHARED=1 the shared object too, with
-# PROGRAMS=1 specplay and specview; all proved, or with TRY=1 by trial builds.
+# The archive, the headers, a pkg-config file and manual pages to PREFIX, below DESTDIR; with SHARED=1 the shared object too, with PROGRAMS=1 specplay and
+# specview; PROVE=1 and TRY=1 as for lib.
 install: lib
-	@[ "$(PROGRAMS)" != 1 ] || TRY="$(TRY)" sh tools/c_lib programs
-	@DESTDIR="$(DESTDIR)" SHARED="$(SHARED)" PROGRAMS="$(PROGRAMS)" TRY="$(TRY)" sh tools/c_lib install build "$(PREFIX)"
+	@[ "$(PROGRAMS)" != 1 ] || PROVE="$(PROVE)" TRY="$(TRY)" sh tools/c_lib programs
+	@DESTDIR="$(DESTDIR)" SHARED="$(SHARED)" PROGRAMS="$(PROGRAMS)" PROVE="$(PROVE)" TRY="$(TRY)" sh tools/c_lib install build "$(PREFIX)"
 
 uninstall:
 	@DESTDIR="$(DESTDIR)" sh tools/c_lib uninstall "$(PREFIX)"
 
-# build/dspec-VERSION.tar.gz, which needs nothing of the kit: archive, shared object, headers, pkg-config file, Rust package, documents.
+# build/dspec-VERSION.tar.gz, which can be unpacked anywhere: archive, shared object, headers, files for pkg-config and CMake, Rust packages, documents,
+# what is compiled in (SPDX), and the sums of all files.
 dist: lib
-	@sh tools/c_lib dist build
+	@PROVE="$(PROVE)" TRY="$(TRY)" tools/packages dist build
+
+# Debian's packages libdspec0, libdspec-dev and dspec-tools, into build.
+deb: lib
+	@PROVE="$(PROVE)" TRY="$(TRY)" tools/packages deb build

@@ -181,6 +181,12 @@ typedef struct dspec_batch {
 /* The library's version, as DSPEC_VERSION has the header's. */
 uint32_t dspec_version(void) DSPEC_NOEXCEPT;
 
+/* Whether the library that is loaded serves a program that was compiled with this header: it is of the same series, and not older. A series is a major version, and before version 1 a minor one. */
+DSPEC_INLINE bool dspec_version_fits(void) DSPEC_NOEXCEPT {
+    const uint32_t within = DSPEC_VERSION_MAJOR == 0 ? 256u : 65536u;
+    return dspec_version() / within == DSPEC_VERSION / within && dspec_version() >= DSPEC_VERSION;
+}
+
 /* ---- Schemas: which records there are. One thread at a time. ---- */
 
 /* A schema without enablings, whose records have no stamp. Takes memory.
@@ -386,14 +392,8 @@ DSPEC_INLINE void dspec_closed_drop(dspec_closed *closed) DSPEC_NOEXCEPT { dspec
 
 /* ---- Beside the library. ---- */
 
-/* The version in words, as a static text; that of a trial build says that nothing of it is proved. */
-DSPEC_INLINE const char *dspec_version_text(void) DSPEC_NOEXCEPT {
-#ifdef DSPEC_UNPROVED
-    return DSPEC_VERSION_STRING " (trial build, unproved)";
-#else
-    return DSPEC_VERSION_STRING;
-#endif
-}
+/* The version of the library that is linked, in words, as a static text; that of a trial build says that nothing of it is proved. The header's is DSPEC_VERSION_STRING. */
+const char *dspec_version_text(void) DSPEC_NOEXCEPT;
 
 /* A status in words, as a static text; of a number that is none, "unknown status". */
 DSPEC_INLINE const char *dspec_status_text(dspec_status status) DSPEC_NOEXCEPT {

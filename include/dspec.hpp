@@ -145,15 +145,15 @@ constexpr std::size_t place_from(std::size_t end, std::size_t bytes) noexcept {
     return (end + width - 1) / width * width;
 }
 
-/* The text of a record in words, each field at the next multiple of its width behind the EPID's four bytes. */
-template <typename... Fields> struct packed {
+/* The text of a record in words, each field at the next multiple of its width from this byte on. */
+template <std::size_t From, typename... Fields> struct packed_from {
     std::uint64_t words[9] = {};
-    std::size_t end = 4;
+    std::size_t end = From;
 
-    constexpr explicit packed(Fields... values) noexcept { (put(values), ...); }
+    constexpr explicit packed_from(Fields... values) noexcept { (put(values), ...); }
     /* How many words there are: known by the fields. */
     static constexpr std::size_t count() noexcept {
-        std::size_t at = 4;
+        std::size_t at = From;
         ((at = place_from(at, sizeof(Fields)) + sizeof(Fields)), ...);
         return (at + 7) / 8;
     }
@@ -167,6 +167,8 @@ private:
         end += sizeof(T);
     }
 };
+/* After the EPID's four bytes. */
+template <typename... Fields> using packed = packed_from<4, Fields...>;
 
 /* What numbers of a type mean, as a trace's metadata says it. */
 template <field T> constexpr std::uint8_t kind() noexcept {

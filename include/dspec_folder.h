@@ -1,6 +1,6 @@
 /* dspec_folder.h: writes the files of a trace, for dspec_ctf.h, which includes it. Nothing of it is proved.
  *
- *     static dspec_folder folder;                                 all zeros, some 62 KB
+ *     static dspec_folder folder;                                 all zeros, some 96 KB
  *     dspec_folder_limit(&folder, bytes, folders)                 where the trace has a bound
  *     dspec_folder_reserve(&folder, bufsize)                      where no memory may be taken later
  *     dspec_folder_begin(&folder, path, &schema, cpus, &identity, &names)
@@ -21,7 +21,7 @@
 #ifndef DSPEC_FOLDER_H
 #define DSPEC_FOLDER_H
 
-#include "dspec_folder_files.h"
+#include "dspec/folder_files.h"
 
 #ifdef __cplusplus
 extern "C" {
@@ -39,17 +39,16 @@ DSPEC_INLINE void dspec_folder_limit(dspec_folder *folder, uint64_t bytes, uint3
 DSPEC_INLINE void dspec_folder_reserve(dspec_folder *folder, size_t len) DSPEC_NOEXCEPT { folder->reserved = len; }
 
 /* Has rooms for the packets and the parts of batches for which memory is to be taken: whether there is so much. */
-DSPEC_INLINE bool dspec_folder_rooms(dspec_folder *folder) DSPEC_NOEXCEPT {
+DSPEC_INLINE bool dspec_folder_rooms_(dspec_folder *folder) DSPEC_NOEXCEPT {
     if (folder->reserved == 0) return true;
-    return dspec_folder_grows(&folder->room, &folder->size, dspec_ctf_room(folder->reserved)) &&
-           (folder->most_folders == 0 || dspec_folder_grows(&folder->copy, &folder->copy_size, 2 * folder->reserved));
+    return dspec_folder_grows_(&folder->room, &folder->size, dspec_ctf_room(folder->reserved)) &&
+           (folder->most_folders == 0 || dspec_folder_grows_(&folder->copy, &folder->copy_size, 2 * folder->reserved));
 }
 
 /* Lets go the memory of a trace that has ended, or isn't begun. */
-DSPEC_INLINE void dspec_folder_lets_go(dspec_folder *folder) DSPEC_NOEXCEPT {
-    for (; folder->kept > 0; folder->kept--) close(dspec_folder_newest(folder)->at);
-    if (folder->parent >= 0) close(folder->parent);
-    folder->parent = -1;
+DSPEC_INLINE void dspec_folder_lets_go_(dspec_folder *folder) DSPEC_NOEXCEPT {
+    for (; folder->kept > 0; folder->kept--) dspec_folder_unlatches_(&dspec_folder_newest_(folder)->at, &dspec_folder_newest_(folder)->mark);
+    dspec_folder_unlatches_(&folder->parent, &folder->parent_mark);
     free(folder->room);
     free(folder->copy);
     free(folder->text);
@@ -60,10 +59,10 @@ DSPEC_INLINE void dspec_folder_lets_go(dspec_folder *folder) DSPEC_NOEXCEPT {
 }
 
 /* Lets go what a trace has that isn't begun, notes why, and answers false. */
-DSPEC_INLINE bool dspec_folder_fails(dspec_folder *folder, dspec_status status, int code, const dspec_names *names) DSPEC_NOEXCEPT {
+DSPEC_INLINE bool dspec_folder_fails_(dspec_folder *folder, dspec_status status, int code, const dspec_names *names) DSPEC_NOEXCEPT {
     size_t at = 0;
-    dspec_folder_lets_go(folder);
-    dspec_folder_loses(folder, status, code, 0, 0, 0);
+    dspec_folder_lets_go_(folder);
+    dspec_folder_loses_(folder, status, code, 0, 0, 0);
     if (status == DSPEC_BAD_NAME) folder->last.why = dspec_names_refused(names, &at);
     if (folder->last.why != NULL) folder->last.name = names->texts[at];
     return false;
@@ -76,7 +75,7 @@ typedef struct dspec_label_text_ {
 } dspec_label_text_;
 
 DSPEC_INLINE void dspec_label_adds_(dspec_label_text_ *to, const char *bytes, size_t len) DSPEC_NOEXCEPT {
-    if (to->len + len <= to->size) memcpy(to->bytes + to->len, bytes, len);
+    if (len > 0 && to->len + len <= to->size) memcpy(to->bytes + to->len, bytes, len);
     to->len += len;
 }
 
@@ -123,12 +122,12 @@ DSPEC_INLINE size_t dspec_labels_put(const dspec_names *names, const char *text,
 }
 
 /* Has the text of `metadata`. */
-DSPEC_INLINE dspec_status dspec_folder_text(dspec_folder *folder, dspec_schema *schema, const dspec_identity *identity, const dspec_names *names) DSPEC_NOEXCEPT {
+DSPEC_INLINE dspec_status dspec_folder_text_(dspec_folder *folder, dspec_schema *schema, const dspec_identity *identity, const dspec_names *names) DSPEC_NOEXCEPT {
     dspec_status status;
     const char *made;
     size_t needed = 4096, at;
     do {
-        if (!dspec_folder_grows(&folder->room, &folder->size, needed)) return DSPEC_NO_MEMORY;
+        if (!dspec_folder_grows_(&folder->room, &folder->size, needed)) return DSPEC_NO_MEMORY;
         status = dspec_ctf_metadata(schema, identity, names->texts, names->count, names->kinds, names->kind_count, folder->room, folder->size, &needed);
     } while (status == DSPEC_TOO_SMALL);
     if (status != DSPEC_OK) return status;
@@ -156,23 +155,23 @@ DSPEC_INLINE bool dspec_folder_begin(dspec_folder *folder, const char *path, dsp
     dspec_folder_limit(folder, most_bytes, most_folders);
     dspec_folder_reserve(folder, reserved);
     folder->parent = -1;
-    if (strlen(path) >= sizeof folder->path) return dspec_folder_loses(folder, DSPEC_OK, ENAMETOOLONG, 0, 0, 0);
+    if (strlen(path) >= sizeof folder->path) return dspec_folder_loses_(folder, DSPEC_OK, ENAMETOOLONG, 0, 0, 0);
     memcpy(folder->path, path, strlen(path));
-    if (cpus == 0 || cpus > DSPEC_MAX_CPUS) return dspec_folder_loses(folder, DSPEC_BAD_CPUS, 0, 0, 0, 0);
+    if (cpus == 0 || cpus > DSPEC_MAX_CPUS) return dspec_folder_loses_(folder, DSPEC_BAD_CPUS, 0, 0, 0, 0);
     if (names == NULL) names = &none;
-    if (names->over) return dspec_folder_loses(folder, DSPEC_BAD_NAME_COUNT, 0, 0, 0, 0);
+    if (names->over) return dspec_folder_loses_(folder, DSPEC_BAD_NAME_COUNT, 0, 0, 0, 0);
     folder->cpus = cpus;
     folder->schema = schema;
     folder->identity = *identity;
     folder->identity.host = folder->identity.name = nothing; /* they are in the text, and nobody keeps them */
-    status = dspec_folder_text(folder, schema, identity, names);
-    if (status == DSPEC_OK && !dspec_folder_rooms(folder)) status = DSPEC_NO_MEMORY;
+    status = dspec_folder_text_(folder, schema, identity, names);
+    if (status == DSPEC_OK && !dspec_folder_rooms_(folder)) status = DSPEC_NO_MEMORY;
     if (status == DSPEC_OK && most_folders > 0) {
-        if (most_folders < 2 || most_folders > DSPEC_FOLDER_MOST || dspec_folder_left(folder) < 4) status = DSPEC_TOO_SMALL;
-        else code = dspec_folder_finds(folder);
+        if (most_folders < 2 || most_folders > DSPEC_FOLDER_MOST || dspec_folder_left_(folder) < 4) status = DSPEC_TOO_SMALL;
+        else code = dspec_folder_finds_(folder);
     }
-    if (status == DSPEC_OK && code == 0 && dspec_folder_enters(folder, &status, &code)) return true;
-    return dspec_folder_fails(folder, status, code, names);
+    if (status == DSPEC_OK && code == 0 && dspec_folder_enters_(folder, &status, &code)) return true;
+    return dspec_folder_fails_(folder, status, code, names);
 }
 
 /* Why the last call answered false, in words: the system's, or the library's, or which name isn't allowed and why. They stay until the next call. */
@@ -185,81 +184,112 @@ DSPEC_INLINE const char *dspec_folder_why(dspec_folder *folder) DSPEC_NOEXCEPT {
 }
 
 /* Gives up what wasn't written of the batch that is open. */
-DSPEC_INLINE bool dspec_folder_gives_up(dspec_folder *folder, dspec_status status, int code, uint32_t cpu, size_t file) DSPEC_NOEXCEPT {
+DSPEC_INLINE bool dspec_folder_gives_up_(dspec_folder *folder, dspec_status status, int code, uint32_t cpu, size_t file) DSPEC_NOEXCEPT {
     uint64_t records = 0;
     dspec_ctf_lose(&folder->ctf[cpu], &records);
-    return dspec_folder_loses(folder, status, code, cpu, file, records);
-}
-
-/* Writes the packets of a batch until one has no room below the bound: then its CPU has no packets in this folder any more. How many records a batch has that
- * isn't opened is for the caller to say. written: how many records are. */
-DSPEC_INLINE bool dspec_folder_writes(dspec_folder *folder, const dspec_batch *batch, uint64_t records, uint64_t *written) DSPEC_NOEXCEPT {
-    dspec_packet packet = { 0, 0, 0 };
-    dspec_ctf *ctf;
-    dspec_status status;
-    if (batch->cpu >= folder->cpus) return dspec_folder_loses(folder, DSPEC_NO_SUCH_CPU, 0, batch->cpu, 0, records);
-    ctf = &folder->ctf[batch->cpu];
-    status = dspec_ctf_batch(ctf, batch);
-    if (status != DSPEC_OK) {
-        dspec_ctf_miss(ctf, batch->drops);
-        dspec_ctf_miss(ctf, records);
-        return dspec_folder_loses(folder, status, 0, batch->cpu, 0, records);
-    }
-    for (*written = 0;; *written += packet.records) {
-        int code;
-        status = dspec_ctf_put(ctf, folder->room, folder->size, &packet);
-        if (status == DSPEC_NO_PACKET) return true;
-        packet.records = status == DSPEC_TOO_SMALL ? 0 : packet.records;
-        if (status == DSPEC_TOO_SMALL && dspec_folder_grows(&folder->room, &folder->size, packet.size)) continue;
-        if (status == DSPEC_TOO_SMALL) status = DSPEC_NO_MEMORY;
-        if (status != DSPEC_OK) return dspec_folder_gives_up(folder, status, 0, batch->cpu, 0);
-        if (!folder->ending && packet.size > dspec_folder_left(folder) * DSPEC_FOLDER_PACKET) {
-            dspec_ctf_drop(ctf);
-            return true;
-        }
-        do code = dspec_folder_appends(folder, batch->cpu, &packet);
-        while (dspec_folder_gives_room(folder, code));
-        if (code != 0) return dspec_folder_gives_up(folder, DSPEC_OK, code, batch->cpu, packet.file);
-    }
-}
-
-/* Tells what isn't told yet of what CPUs missed, and closes the folder that is being written. */
-DSPEC_INLINE void dspec_folder_leaves(dspec_folder *folder) DSPEC_NOEXCEPT {
-    uint64_t written;
-    folder->ending = true;
-    for (uint32_t cpu = 0; cpu < folder->cpus; cpu++) {
-        const dspec_batch none = { folder->room, 0, 0, cpu };
-        if (folder->ctf[cpu].held) dspec_folder_writes(folder, &none, 0, &written);
-    }
-    dspec_folder_shuts(folder);
-    folder->ending = false;
-}
-
-/* Closes the folder that is being written, and begins the next: whether there is one. */
-DSPEC_INLINE bool dspec_folder_turns(dspec_folder *folder, uint32_t cpu) DSPEC_NOEXCEPT {
-    dspec_status status = DSPEC_OK;
-    int code;
-    if (folder->is_open) dspec_folder_leaves(folder);
-    do {
-        code = folder->kept < folder->most_folders ? 0 : dspec_folder_forgets(folder);
-        if (code == 0 && dspec_folder_enters(folder, &status, &code)) return true;
-    } while (dspec_folder_gives_room(folder, code));
-    return dspec_folder_loses(folder, status, code, cpu, 0, 0);
+    return dspec_folder_loses_(folder, status, code, cpu, file, records);
 }
 
 /* Moves behind so many records of a batch: how many there were. */
-DSPEC_INLINE uint64_t dspec_folder_skips(const dspec_layout *layout, const dspec_batch *batch, size_t *at, uint64_t most) DSPEC_NOEXCEPT {
+DSPEC_INLINE uint64_t dspec_folder_skips_(const dspec_layout *layout, const dspec_batch *batch, size_t *at, uint64_t most) DSPEC_NOEXCEPT {
     dspec_record record;
     uint64_t records = 0;
     while (records < most && dspec_read(layout, batch->bytes, batch->len, at, &record) == DSPEC_READ) records++;
     return records;
 }
 
+/* How many records a batch has. They are counted where they are lost alone, since that takes as long as half of a write. */
+DSPEC_INLINE uint64_t dspec_folder_counts_(const dspec_layout *layout, const dspec_batch *batch) DSPEC_NOEXCEPT {
+    size_t at = 0;
+    return dspec_folder_skips_(layout, batch, &at, UINT64_MAX);
+}
+
+/* A packet of the format has its first stamp, its last one, and the bits of what it has at these bytes; one without events has so many bits. */
+#define DSPEC_FOLDER_FIRST 24u
+#define DSPEC_FOLDER_FINAL 32u
+#define DSPEC_FOLDER_CONTENT 40u
+#define DSPEC_FOLDER_NO_EVENTS 544u
+
+/* A folder's first packet of a CPU, where that tells what was missed, has no stamp of its own: it gets that of the events after it, or where the folder is closed the CPU's last one of the folder
+ * before. So tools say when events were missed, and not that it was at the clock's beginning. */
+DSPEC_INLINE void dspec_folder_dates_(dspec_folder *folder, uint32_t cpu, const dspec_packet *packet) DSPEC_NOEXCEPT {
+    uint64_t first = 0;
+    size_t at;
+    for (at = 0; at < packet->size && first == 0; at += DSPEC_FOLDER_PACKET) first = dspec_number_at(folder->room + at + DSPEC_FOLDER_FIRST, 8);
+    if (first == 0 && folder->ending) first = folder->dated[cpu];
+    for (at = 0; at < packet->size; at += DSPEC_FOLDER_PACKET) {
+        uint8_t *const one = folder->room + at;
+        const uint64_t final = dspec_number_at(one + DSPEC_FOLDER_FINAL, 8);
+        if (final != 0) folder->dated[cpu] = final;
+        else if (dspec_number_at(one + DSPEC_FOLDER_CONTENT, 8) == DSPEC_FOLDER_NO_EVENTS)
+            for (size_t byte = 0; byte < 8; byte++) one[DSPEC_FOLDER_FIRST + byte] = one[DSPEC_FOLDER_FINAL + byte] = DSPEC_AS(uint8_t, first >> 8 * byte);
+    }
+}
+
+/* Writes the packets of a batch until one has no room below the bound: then its CPU has no packets in this folder any more. written: how many records are. */
+DSPEC_INLINE bool dspec_folder_writes_(dspec_folder *folder, const dspec_layout *layout, const dspec_batch *batch, uint64_t *written) DSPEC_NOEXCEPT {
+    dspec_packet packet = { 0, 0, 0 };
+    dspec_ctf *ctf;
+    dspec_status status;
+    *written = 0;
+    if (batch->cpu >= folder->cpus) return dspec_folder_loses_(folder, DSPEC_NO_SUCH_CPU, 0, batch->cpu, 0, dspec_folder_counts_(layout, batch));
+    ctf = &folder->ctf[batch->cpu];
+    status = dspec_ctf_batch(ctf, batch);
+    if (status != DSPEC_OK) {
+        const uint64_t records = dspec_folder_counts_(layout, batch);
+        dspec_ctf_miss(ctf, batch->drops);
+        dspec_ctf_miss(ctf, records);
+        return dspec_folder_loses_(folder, status, 0, batch->cpu, 0, records);
+    }
+    for (;; *written += packet.records) {
+        int code;
+        status = dspec_ctf_put(ctf, folder->room, folder->size, &packet);
+        if (status == DSPEC_NO_PACKET) return true;
+        packet.records = status == DSPEC_TOO_SMALL ? 0 : packet.records;
+        if (status == DSPEC_TOO_SMALL && dspec_folder_grows_(&folder->room, &folder->size, packet.size)) continue;
+        if (status == DSPEC_TOO_SMALL) status = DSPEC_NO_MEMORY;
+        if (status != DSPEC_OK) return dspec_folder_gives_up_(folder, status, 0, batch->cpu, 0);
+        if (!folder->ending && packet.size > dspec_folder_left_(folder) * DSPEC_FOLDER_PACKET) {
+            dspec_ctf_drop(ctf);
+            return true;
+        }
+        dspec_folder_dates_(folder, batch->cpu, &packet);
+        do code = dspec_folder_appends_(folder, batch->cpu, &packet);
+        while (dspec_folder_gives_room_(folder, code));
+        if (code != 0) return dspec_folder_gives_up_(folder, DSPEC_OK, code, batch->cpu, packet.file);
+    }
+}
+
+/* Tells what isn't told yet of what CPUs missed, and closes the folder that is being written. */
+DSPEC_INLINE void dspec_folder_leaves_(dspec_folder *folder) DSPEC_NOEXCEPT {
+    static dspec_layout no_records; /* all zeros */
+    uint64_t written;
+    folder->ending = true;
+    for (uint32_t cpu = 0; cpu < folder->cpus; cpu++) {
+        const dspec_batch none = { folder->room, 0, 0, cpu };
+        if (folder->ctf[cpu].held) dspec_folder_writes_(folder, &no_records, &none, &written);
+    }
+    dspec_folder_shuts_(folder);
+    folder->ending = false;
+}
+
+/* Closes the folder that is being written, and begins the next: whether there is one. */
+DSPEC_INLINE bool dspec_folder_turns_(dspec_folder *folder, uint32_t cpu) DSPEC_NOEXCEPT {
+    dspec_status status = DSPEC_OK;
+    int code;
+    if (folder->is_open) dspec_folder_leaves_(folder);
+    do {
+        code = folder->kept < folder->most_folders ? 0 : dspec_folder_forgets_(folder);
+        if (code == 0 && dspec_folder_enters_(folder, &status, &code)) return true;
+    } while (dspec_folder_gives_room_(folder, code));
+    return dspec_folder_loses_(folder, status, code, cpu, 0, 0);
+}
+
 /* Copies records of a batch, so that they stand as a batch does that begins with them: whether there is memory. */
-DSPEC_INLINE bool dspec_folder_copies(dspec_folder *folder, const dspec_layout *layout, dspec_batch *part, uint64_t records, size_t from, const dspec_batch *batch) DSPEC_NOEXCEPT {
+DSPEC_INLINE bool dspec_folder_copies_(dspec_folder *folder, const dspec_layout *layout, dspec_batch *part, uint64_t records, size_t from, const dspec_batch *batch) DSPEC_NOEXCEPT {
     dspec_record record;
     size_t at = from, end = 0;
-    if (!dspec_folder_grows(&folder->copy, &folder->copy_size, part->len + 4 * DSPEC_AS(size_t, records))) return false;
+    if (!dspec_folder_grows_(&folder->copy, &folder->copy_size, part->len + 4 * DSPEC_AS(size_t, records))) return false;
     while (at < from + part->len && dspec_read(layout, batch->bytes, batch->len, &at, &record) == DSPEC_READ) {
         const size_t start = from + (dspec_number_at(batch->bytes + from, 4) == 0 ? 4 : 0);
         bool is_wide = false;
@@ -280,70 +310,69 @@ DSPEC_INLINE bool dspec_folder_copies(dspec_folder *folder, const dspec_layout *
 
 /* The next records of a batch that have so many bytes at most, or else one, as a batch of its own: how many. What isn't a record ends it, or is all of it. Its bytes are
  * NULL where there is no memory for them. */
-DSPEC_INLINE uint64_t dspec_folder_part_of(dspec_folder *folder, const dspec_layout *layout, const dspec_batch *batch, size_t *at, uint64_t most, dspec_batch *part) DSPEC_NOEXCEPT {
+DSPEC_INLINE uint64_t dspec_folder_part_of_(dspec_folder *folder, const dspec_layout *layout, const dspec_batch *batch, size_t *at, uint64_t most, dspec_batch *part) DSPEC_NOEXCEPT {
     const size_t from = *at;
     size_t next = from;
     uint64_t records = 0;
-    for (; dspec_folder_skips(layout, batch, &next, 1) == 1 && (records == 0 || next - from <= most); records++) *at = next;
+    for (; dspec_folder_skips_(layout, batch, &next, 1) == 1 && (records == 0 || next - from <= most); records++) *at = next;
     if (records == 0) *at = batch->len;
     *part = *batch;
     part->bytes += from;
     part->len = *at - from;
     part->drops = from == 0 ? batch->drops : 0;
-    if (from % 8 != 0 && records > 0 && !dspec_folder_copies(folder, layout, part, records, from, batch)) part->bytes = NULL;
+    if (from % 8 != 0 && records > 0 && !dspec_folder_copies_(folder, layout, part, records, from, batch)) part->bytes = NULL;
     return records;
 }
 
 /* Writes a batch below a bound, in parts of which each has room where it goes. */
-DSPEC_INLINE bool dspec_folder_takes(dspec_folder *folder, const dspec_layout *layout, const dspec_batch *batch) DSPEC_NOEXCEPT {
+DSPEC_INLINE bool dspec_folder_takes_(dspec_folder *folder, const dspec_layout *layout, const dspec_batch *batch) DSPEC_NOEXCEPT {
     const uint64_t filled = DSPEC_FOLDER_PACKET - 68 - 75; /* bytes of events in each packet of a run but its last, at the least */
     size_t at = 0;
     bool whole = true;
     do {
-        const bool is_open = folder->is_open && folder->ctf[batch->cpu].held && dspec_folder_left(folder) > DSPEC_FOLDER_LAST + 1;
+        const bool is_open = folder->is_open && folder->ctf[batch->cpu].held && dspec_folder_left_(folder) > DSPEC_FOLDER_LAST + 1;
         const size_t from = at;
         uint64_t records, written = 0;
         dspec_batch part;
-        if (!is_open && !dspec_folder_turns(folder, batch->cpu)) {
-            const uint64_t missed = dspec_folder_skips(layout, batch, &at, UINT64_MAX);
+        if (!is_open && !dspec_folder_turns_(folder, batch->cpu)) {
+            const uint64_t missed = dspec_folder_skips_(layout, batch, &at, UINT64_MAX);
             folder->untold[batch->cpu] += missed + (from == 0 ? batch->drops : 0);
             folder->last.records = missed;
             folder->first.records += missed;
             return false;
         }
-        records = dspec_folder_part_of(folder, layout, batch, &at, (dspec_folder_left(folder) - DSPEC_FOLDER_LAST - 1) * filled, &part);
+        records = dspec_folder_part_of_(folder, layout, batch, &at, (dspec_folder_left_(folder) - DSPEC_FOLDER_LAST - 1) * filled, &part);
         if (records > 0 && part.bytes == NULL) {
             dspec_ctf_miss(&folder->ctf[batch->cpu], records + part.drops);
-            whole = dspec_folder_loses(folder, DSPEC_NO_MEMORY, 0, batch->cpu, 0, records);
+            whole = dspec_folder_loses_(folder, DSPEC_NO_MEMORY, 0, batch->cpu, 0, records);
             continue;
         }
-        whole = dspec_folder_writes(folder, &part, records, &written) && whole;
+        whole = dspec_folder_writes_(folder, layout, &part, &written) && whole;
         if (folder->ctf[batch->cpu].held) continue;
         at = from;
-        dspec_folder_skips(layout, batch, &at, written);
+        dspec_folder_skips_(layout, batch, &at, written);
     } while (at < batch->len);
     return whole;
 }
 
 /* Writes a batch, whose bytes may be given back behind it. layout is the schema's, by which the records of a batch are counted that can't be opened. */
 DSPEC_INLINE bool dspec_folder_take(dspec_folder *folder, const dspec_layout *layout, const dspec_batch *batch) DSPEC_NOEXCEPT {
-    size_t at = 0;
     uint64_t written;
-    if (folder->most_folders > 0 && batch->cpu < folder->cpus) return dspec_folder_takes(folder, layout, batch);
-    return dspec_folder_writes(folder, batch, dspec_folder_skips(layout, batch, &at, UINT64_MAX), &written);
+    if (folder->most_folders > 0 && batch->cpu < folder->cpus) return dspec_folder_takes_(folder, layout, batch);
+    return dspec_folder_writes_(folder, layout, batch, &written);
 }
 
 /* Tells what isn't told yet of what CPUs missed, and closes the files. Whether the whole trace was written; else folder.first says what was lost first,
  * and how many records in all. A program whose session has ended calls dspec_folder_close instead: what speculative buffers dropped, and how many records
  * lost commits had, stands in no batch. */
 DSPEC_INLINE bool dspec_folder_end(dspec_folder *folder) DSPEC_NOEXCEPT {
-    if (folder->is_open) dspec_folder_leaves(folder);
-    dspec_folder_lets_go(folder);
+    if (folder->is_open) dspec_folder_leaves_(folder);
+    dspec_folder_lets_go_(folder);
     return !folder->lost;
 }
 
 /* How many records a CPU missed that its batches don't tell, by its report: a batch tells each refused reservation, so a lost commit as one. */
-DSPEC_INLINE uint64_t dspec_folder_untold(const dspec_report *report) DSPEC_NOEXCEPT {
+DSPEC_INLINE uint64_t dspec_folder_untold_(const dspec_report *report) DSPEC_NOEXCEPT {
     uint64_t missed = report->dropped + report->specdropped + report->lost;
     return missed > report->drops ? missed - report->drops : 0;
 }
@@ -362,7 +391,7 @@ DSPEC_INLINE bool dspec_folder_close(dspec_folder *folder, const dspec_layout *l
     for (uint32_t cpu = 0; folder->cpus > 0 && dspec_closed_report(closed, cpu, &report) == DSPEC_OK; cpu++) {
         for (int last = 0; last < 2; last++)
             if (dspec_rest(closed, cpu, last == 1, &batch) == DSPEC_OK) dspec_folder_take(folder, layout, &batch);
-        if (cpu < folder->cpus) dspec_ctf_miss(&folder->ctf[cpu], dspec_folder_untold(&report));
+        if (cpu < folder->cpus) dspec_ctf_miss(&folder->ctf[cpu], dspec_folder_untold_(&report));
     }
     return dspec_folder_end(folder);
 }

@@ -118,6 +118,13 @@ DSPEC_INLINE bool dspec_word_is_identifier(const dspec_text *word) DSPEC_NOEXCEP
     return word->len > 0;
 }
 
+/* A field's name as readers of the format show it: without the underscore that it begins with. */
+DSPEC_INLINE dspec_text dspec_text_shown_(const dspec_text *field) DSPEC_NOEXCEPT {
+    const bool is_marked = field->len > 1 && field->bytes[0] == '_';
+    const dspec_text shown = { field->bytes + is_marked, field->len - is_marked };
+    return shown;
+}
+
 /* Why the name at a place isn't allowed, as a static text; NULL where it is. */
 DSPEC_INLINE const char *dspec_name_refused(const dspec_names *names, size_t at) DSPEC_NOEXCEPT {
     const dspec_text *name = &names->texts[at];
@@ -128,6 +135,10 @@ DSPEC_INLINE const char *dspec_name_refused(const dspec_names *names, size_t at)
         if (!dspec_label_is_shown(names->labels[at]->texts[i])) return "a label that isn't 1 to 255 bytes of printable ASCII without quotes and backslashes";
     for (size_t i = at; i > 0; i--) {
         if (names->events[i - 1] == names->events[at] && dspec_text_is(&names->texts[i - 1], name)) return "the name of another event, or of another field of this one";
+        if (!names->events[i - 1] && !names->events[at]) {
+            const dspec_text one = dspec_text_shown_(name), other = dspec_text_shown_(&names->texts[i - 1]);
+            if (dspec_text_is(&one, &other)) return "the name of another field of this one but for the underscore in front, which readers of the format take off";
+        }
         if (names->events[i - 1] && !names->events[at]) return NULL;
     }
     return NULL;

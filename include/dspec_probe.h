@@ -48,6 +48,13 @@ static inline void dspec_bool_of(void *value, const uint64_t *bits, size_t width
 #define DSPEC_IF_TEXT_(TYPE, TEXT, ELSE)                                                                                                              \
     _Generic(*(TYPE *)0, dspec_text8: TEXT, dspec_text16: TEXT, dspec_text24: TEXT, dspec_text32: TEXT, dspec_text40: TEXT, dspec_text48: TEXT, default: ELSE)
 
+/* Whether a type is a pointer, where the compiler can tell. */
+#if defined(__GNUC__)
+#define DSPEC_IS_POINTER_(TYPE) (__builtin_classify_type(*(TYPE *)0) == 5)
+#else
+#define DSPEC_IS_POINTER_(TYPE) _Generic(*(TYPE *)0, char *: 1, const char *: 1, void *: 1, const void *: 1, default: 0)
+#endif
+
 /* What a type's numbers mean, as a trace's metadata says it. */
 #define DSPEC_KIND_OF(TYPE)                                                                                                                           \
     _Generic(*(TYPE *)0, float: DSPEC_KIND_FLOAT, double: DSPEC_KIND_FLOAT, char: DSPEC_KIND_SIGNED, signed char: DSPEC_KIND_SIGNED, short: DSPEC_KIND_SIGNED, \
@@ -132,14 +139,37 @@ static inline dspec_status dspec_probe_enable(dspec_layout *layout, dspec_schema
 /* Of a struct that is no text, `!` isn't compiled. */
 #define DSPEC_PROBE_ASSERT_(PROBE, TYPE, NAME)                                                                                                             \
     static_assert(DSPEC_IF_TEXT_(TYPE, 1, sizeof(TYPE) == 1 || sizeof(TYPE) == 2 || sizeof(TYPE) == 4 || sizeof(TYPE) == 8), "a field has 1, 2, 4 or 8 bytes, or is a text"); \
-    static_assert(sizeof(!DSPEC_IF_TEXT_(TYPE, 0, *(TYPE *)0)) > 0, "a field is a number or a text");
+    static_assert(sizeof(!DSPEC_IF_TEXT_(TYPE, 0, *(TYPE *)0)) > 0, "a field is a number or a text");                                                                        \
+    static_assert(!DSPEC_IS_POINTER_(TYPE), "a pointer would be recorded as an address: for a text declare dspec_text32 and record dspec_text32_of(bytes, strlen(bytes)), for an address uintptr_t");
 
 /* What a header over this one declares of each probe; dspec_tracer.h does. */
 #ifndef DSPEC_PROBE_MORE_
 #define DSPEC_PROBE_MORE_(PROBE, ...)
 #endif
 
-#define DSPEC_PROBE(PROBE, ...)                                                                                                                                            \
+/* A declaration that can't be is one line of the compiler. Which form it has: by the number of words, and by whether a name is a macro in parentheses, as errno is. */
+#define DSPEC_PROBE_NO_FIELD_(...) static_assert(0, "DSPEC_PROBE(probe, type, field, ..): a probe has one field at least")
+#define DSPEC_PROBE_NO_NAME_(...) static_assert(0, "DSPEC_PROBE(probe, type, field, ..): each field is a type and a name")
+#define DSPEC_PROBE_TOO_MANY_(...) static_assert(0, "DSPEC_PROBE(probe, type, field, ..): a probe has eight fields at most: move the others to a second probe")
+#define DSPEC_PROBE_MACRO_NAME_(...) static_assert(0, "DSPEC_PROBE(probe, type, field, ..): a field's name is a macro, as errno is: give it another name")
+#define DSPEC_PROBE_COMMA_(...) ,
+#define DSPEC_PROBE_IS_MACRO_(PROBE, TYPE, NAME) DSPEC_PROBE_COMMA_ NAME
+#define DSPEC_PROBE_NAMES_FORM_(A1, A2, A3, A4, A5, A6, A7, A8, A9, FORM, ...) FORM
+#define DSPEC_PROBE_BY_NAMES_(...)                                                                                                                             \
+    DSPEC_PROBE_NAMES_FORM_(__VA_ARGS__, DSPEC_PROBE_MACRO_NAME_, DSPEC_PROBE_MACRO_NAME_, DSPEC_PROBE_MACRO_NAME_, DSPEC_PROBE_MACRO_NAME_, DSPEC_PROBE_MACRO_NAME_, \
+                            DSPEC_PROBE_MACRO_NAME_, DSPEC_PROBE_MACRO_NAME_, DSPEC_PROBE_MACRO_NAME_, DSPEC_PROBE_DECLARE_, 0)
+#define DSPEC_PROBE_NAMED_(PROBE, ...) DSPEC_PROBE_BY_NAMES_(DSPEC_PROBE_EACH_(DSPEC_PROBE_IS_MACRO_, PROBE, __VA_ARGS__))(PROBE, __VA_ARGS__)
+#define DSPEC_PROBE_FORM_(A1, A2, A3, A4, A5, A6, A7, A8, A9, A10, A11, A12, A13, A14, A15, A16, A17, A18, A19, A20, A21, A22, A23, A24, A25, A26, A27, A28, A29, A30, A31, A32, A33, FORM, ...) FORM
+#define DSPEC_PROBE(...)                                                                                                                                       \
+    DSPEC_PROBE_FORM_(__VA_ARGS__, DSPEC_PROBE_TOO_MANY_, DSPEC_PROBE_TOO_MANY_, DSPEC_PROBE_TOO_MANY_, DSPEC_PROBE_TOO_MANY_, DSPEC_PROBE_TOO_MANY_,           \
+                      DSPEC_PROBE_TOO_MANY_, DSPEC_PROBE_TOO_MANY_, DSPEC_PROBE_TOO_MANY_, DSPEC_PROBE_TOO_MANY_, DSPEC_PROBE_TOO_MANY_, DSPEC_PROBE_TOO_MANY_, \
+                      DSPEC_PROBE_TOO_MANY_, DSPEC_PROBE_TOO_MANY_, DSPEC_PROBE_TOO_MANY_, DSPEC_PROBE_TOO_MANY_, DSPEC_PROBE_TOO_MANY_, DSPEC_PROBE_NAMED_,   \
+                      DSPEC_PROBE_NO_NAME_, DSPEC_PROBE_NAMED_, DSPEC_PROBE_NO_NAME_, DSPEC_PROBE_NAMED_, DSPEC_PROBE_NO_NAME_, DSPEC_PROBE_NAMED_,            \
+                      DSPEC_PROBE_NO_NAME_, DSPEC_PROBE_NAMED_, DSPEC_PROBE_NO_NAME_, DSPEC_PROBE_NAMED_, DSPEC_PROBE_NO_NAME_, DSPEC_PROBE_NAMED_,            \
+                      DSPEC_PROBE_NO_NAME_, DSPEC_PROBE_NAMED_, DSPEC_PROBE_NO_NAME_, DSPEC_PROBE_NO_FIELD_, 0)                                                \
+    (__VA_ARGS__)
+
+#define DSPEC_PROBE_DECLARE_(PROBE, ...)                                                                                                                                            \
     typedef struct PROBE##_probe {                                                                                                                                         \
         uint32_t epid, fields;                                                                                                                                             \
     } PROBE##_probe;                                                                                                                                                       \

@@ -23,14 +23,14 @@ extern "C" {
 #define DSPEC_NANOSECONDS UINT64_C(1000000000)
 
 /* Nanoseconds of one of the system's clocks. */
-DSPEC_INLINE uint64_t dspec_nanoseconds_of(clockid_t clock) DSPEC_NOEXCEPT {
+DSPEC_INLINE uint64_t dspec_nanoseconds_of_(clockid_t clock) DSPEC_NOEXCEPT {
     struct timespec at;
     clock_gettime(clock, &at);
     return DSPEC_AS(uint64_t, at.tv_sec) * DSPEC_NANOSECONDS + DSPEC_AS(uint64_t, at.tv_nsec);
 }
 
 /* Nanoseconds of the system's clock that never goes back: a stamp, which threads and processes of one machine have in common. */
-DSPEC_INLINE uint64_t dspec_monotonic(void) DSPEC_NOEXCEPT { return dspec_nanoseconds_of(CLOCK_MONOTONIC); }
+DSPEC_INLINE uint64_t dspec_monotonic(void) DSPEC_NOEXCEPT { return dspec_nanoseconds_of_(CLOCK_MONOTONIC); }
 
 /* A text as metadata may show it, of 1 to 255 bytes: each byte that it may not show is an underscore from now on, and an empty text is "unknown", for which there is room. */
 DSPEC_INLINE dspec_text dspec_shown(char *text) DSPEC_NOEXCEPT {
@@ -57,7 +57,7 @@ DSPEC_INLINE bool dspec_identity_of_system(dspec_identity *identity, const char 
     identity->uuid[6] = DSPEC_AS(uint8_t, (identity->uuid[6] & 15) | 64);
     identity->uuid[8] = DSPEC_AS(uint8_t, (identity->uuid[8] & 63) | 128);
     before = dspec_monotonic();
-    real = dspec_nanoseconds_of(CLOCK_REALTIME);
+    real = dspec_nanoseconds_of_(CLOCK_REALTIME);
     after = dspec_monotonic();
     began = real - (before + (after - before) / 2);
     identity->pid = DSPEC_AS(uint32_t, getpid());

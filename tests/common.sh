@@ -85,6 +85,13 @@ copy_to() {
         tar --null --files-from=- --ignore-failed-read -cf - 2> "$work/unread" | tar -xf - -C "$1" || exit 2
 }
 
+# Makes a folder of links to all commands but the kit's: without_kit FOLDER
+without_kit() {
+    mkdir "$1" || exit 2
+    echo "$PATH" | tr : '\n' | while IFS= read -r commands; do ln -s "$commands"/* "$1/" 2> "$work/unread"; done
+    rm -f "$1/rt"
+}
+
 # Prints the names of the crates, one a line.
 crates() {
     sed -n 's/^\([a-z][a-z_0-9]*\)[^#]*:.*/\1/p' crates.txt

@@ -2,7 +2,8 @@
  *
  * A lane's state is one word. HELD is its lock: the consumer has the lane between two calls of its thread, or a thread that shares it is in a call. A lane that nobody shares
  * belongs to one thread, which takes no lock: it sets `inside`, looks at the state, and makes its call. Whoever else wants the lane sets HELD, has every processor come to an order by
- * membarrier(2), and waits until `inside` is 0; so the order is paid where it is rarely needed. SHARED says that all take the lock, that thread too.
+ * membarrier(2), and waits until `inside` is 0; so the order is paid where it is rarely needed. SHARED says that all take the lock, that thread too. Of a lane that is nobody's own or
+ * SHARED the lock is enough.
  */
 #ifndef DSPEC_TRACER_BODY_H
 #define DSPEC_TRACER_BODY_H
@@ -26,9 +27,13 @@ typedef struct dspec_tracer_seat seat;
  * its turn. */
 enum { HELD = DSPEC_TRACER_HELD_, GONE = 2, SERVE = 4, IDLE = 8, SHARED = 16, WANTED = 32, USER = 64 };
 static_assert((HELD | GONE | IDLE | SHARED | WANTED) == DSPEC_TRACER_LOOK_, "the header's LOOK is these");
-/* Within these bounds the consumer waits for a lane, in microseconds: in a round for none. */
-enum { TAKE_US = 20000, CLOSE_US = 5000000 };
+/* Within these bounds somebody waits for lanes, in microseconds: a thread for one, the consumer in a turn of a flush and at the end for all; in a round for none. */
+enum { ENTER_US = 1000000, TAKE_US = 20000, CLOSE_US = 5000000 };
 enum { MAX_OPEN = 64, MAX_CRASHES = 16 };
+/* What stands for the number of the path to which a thread recorded last, where that got no slot. */
+#define REFUSED_PATH UINT64_C(1)
+/* A record's text in words of eight bytes, at most. */
+enum { MOST_WORDS = 9 };
 /* Behind the tracers stand watches (watch.h), which signals know as tracers without lanes. */
 enum { MAX_WATCHES = 64, MAX_SLOTS = DSPEC_MAX_TRACERS + MAX_WATCHES };
 enum { CACHE_LINES = 128 };
@@ -41,11 +46,20 @@ typedef struct open_path {
     uint64_t id;    /* 0: none */
     uint64_t older; /* with keep_last its records before those, in a speculation that is full; 0: none */
     uint64_t cut;   /* its records before those again, which are thrown away */
+    uint64_t begun; /* the stamp of its first record */
+    uint64_t mark;  /* its number, in the upper half */
+    uint64_t left;  /* the mark of a path whose end couldn't get into its lane, and which is to be thrown away; set from outside the lane */
     uint32_t token; /* of the thread that recorded last */
+    uint32_t thread; /* the system's number of the thread in which it began */
+    bool own;       /* it began on its thread's own lane */
     bool saved;     /* a crash has kept it */
     bool waits;     /* it is being kept, as soon as there is room */
-    bool has_last;  /* its last records are on their way already */
-    bool is_cut;    /* and some of them aren't there */
+    bool is_prepared, has_event; /* for its commit, where its event is among its records or had no room there */
+    bool has_key, has_first;
+    uint32_t untold; /* where it is prepared: its records that aren't kept with it */
+    uint64_t key[2];
+    size_t first_words; /* with keep_last its first record */
+    uint64_t first_claim, first[MOST_WORDS];
 } open_path;
 
 typedef struct lane {
@@ -53,10 +67,16 @@ typedef struct lane {
     uint32_t number;
     body *of;
     uint64_t kept, thrown, cut, cut_records;
-    uint64_t turned; /* records that one speculation refused and the next one took */
+    uint32_t opened; /* the number of the path that was opened last */
+    uint32_t handed; /* how many paths of the thread whose own it is others have ended since that looked */
+    uint32_t left;   /* whether one is to be thrown away */
+    dspec_report latest; /* at the last service */
+    uint64_t turned; /* records that one speculation refused and the next one took, and paths' events that had no room in theirs */
+    uint64_t own_accepted, own_lost, own_discarded; /* of the counts of its CPU the paths' events, which are no records of the program */
     dspec_batch out; /* which the folder is getting, where `bringing` says so */
     uint64_t before; /* how many records the folder had in front of it */
     uint32_t bringing;
+    bool waits_for_disk; /* with `survive`: it is taken, and stays here until the disk has room */
     /* With `survive`: whether a service is made, where the two buffers are and which one is filled, how many batches were switched out, taken and given back, what the CPU
      * had accepted at the last switch and how many records that switched out, and how many stood in the buffer in front of the service. */
     uint32_t serving, filled;
@@ -74,40 +94,94 @@ enum { NOT_SERVED = 0, IS_SERVED = 1, HAS_SWITCHED = 2 };
 /* What stands in front of the library's answer; of a whole one no field is as here. */
 static const dspec_batch nothing_out = { NULL, SIZE_MAX, UINT64_MAX, 0 };
 
+/* Who sent a signal, and which thread got it. */
+typedef struct sender {
+    int32_t process, code;
+    uint32_t user, thread;
+    uint64_t at;
+} sender;
+
 /* What a handler tells the consumer of a thread that crashed. */
 typedef enum crash_state { CRASH_FREE = 0, CRASH_FILLING = 1, CRASH_READY = 2 } crash_state;
 typedef struct crash {
-    uint32_t state, serial;
+    uint32_t state;
     int32_t signal, code;
-    uint64_t address, at;
+    uint64_t address, at, pc;
+    uint64_t recent;       /* the number of the path to which it recorded last, in the upper half */
+    uint64_t stack, frame; /* the pointers of its stack and its frame; 0 where they aren't known of the machine */
     uint32_t token, thread;
+    bool is_from_outside; /* another process sent the signal, and all paths are kept */
+    bool is_last;         /* the signal ends the process */
+    sender by;
     uint64_t here[2]; /* what a watch asked of the thread */
 } crash;
+
+/* A consumer that has ended hears of no signal. */
+#define NO_MORE_SIGNALS UINT32_MAX
+
+/* A thread that recorded: its number is written last. */
+typedef struct seen_thread {
+    uint32_t thread;
+    char name[16];
+} seen_thread;
+enum { MAX_SEEN = 256, MAX_WHYS = 64 };
+
+/* The file of a memory that outlives the process (survive.h), and the folder that has it: by descriptors, since a program may change its root or its user. */
+typedef struct memory_file {
+    int at, parent; /* -1: not open */
+    uint64_t device, inode, parent_device, parent_inode;
+    uint32_t aside; /* the number of what an earlier run left; 0: nothing */
+    bool is_made;
+    char name[288];
+} memory_file;
 
 struct dspec_tracer_body {
     uint32_t slot; /* among the process's tracers */
     uint32_t run;  /* which no other tracer of the process has or had */
     uint32_t count;
-    bool by_thread, locked;
+    bool by_thread;
+    uint32_t locked; /* each lane is taken by its lock, since there is no membarrier(2) */
     uint32_t up;
     pid_t pid;
     dspec_tracer_options options;
     const dspec_enabling **events;
+    dspec_event **added; /* of plugins (dspec_tracer_add) */
+    size_t added_count;
     dspec_layout layout;
     dspec_schema schema;
     dspec_folder folder;
     dspec_tracer_report report;
     pthread_t thread;
-    int bell; /* an eventfd that wakes the consumer */
-    bool whole, joined;
-    uint32_t epid_of_crash;
+    uint32_t heard; /* of the rings, by the consumer */
+    bool whole, joined, is_pressed; /* is_pressed: somebody rang, so that the next round waits for nothing */
+    uint32_t epid_of_crash, epid_of_place, epid_of_signal, epid_of_unsaved;
+    uint64_t told_unsaved; /* the consumer's, of dspec_unsaved */
+    uint64_t quiet_until;  /* the consumer's: it makes no rounds until then */
+    sender sent; /* who sent the signal that `deferred` is */
+    uint64_t claim_of_path, claim_of_thread, claim_of_counts, claim_of_refused;
+    uint64_t told_at, told_paths, told_records, told_waited, told_missing, told_kept, told_thrown; /* the consumer's, of dspec_refused */
+    uint32_t told_threads;
+    dspec_tracer *front; /* the program's */
+    uint64_t claims[DSPEC_MAX_ENABLINGS];
+    uint32_t missing_state; /* of the name: 0 none is noted, 1 it is being written, 2 it is there */
+    char missing_name[64];  /* the first event that records and isn't the tracer's */
+    const char *why_texts[MAX_WHYS];
+    size_t why_count;
+    dspec_labels whys;
+    const dspec_labels *labels[7];
+    seen_thread seen[MAX_SEEN];
     crash crashes[MAX_CRASHES];
     void (*here)(uint64_t *); /* a watch's */
     struct saved_head *saved; /* where the tracer's memory is a file (survive.h) */
     void *memory;
-    int memory_file;
-    APART uint32_t stop, asked, served, deferring, deferred, ended;
-    APART uint64_t no_slot, no_room, nested, late, waited, threads;
+    memory_file file;
+    APART uint32_t stop, rings, deferring, deferred, ended; /* deferred: the signal that is left to the consumer; 0: none yet */
+    uint32_t unsaved, never_saved; /* threads that crashed: whose handler waits, and those whose handler waited in vain */
+    uint32_t asked, served, flushing; /* tickets of flushes: the last one that was asked for and that was served; and how many threads wait for one */
+    uint32_t flushed;                 /* the ticket that is being served, */
+    uint64_t undrained;               /* and the lanes that stay for it */
+    uint32_t misses;                  /* whether the folder misses something that was kept */
+    APART uint64_t no_slot, no_room, nested, late, waited, threads, refused_records, missing;
     lane lanes[]; /* `count`, and one more of the consumer's own */
 };
 
@@ -116,8 +190,13 @@ struct dspec_tracer_body {
 typedef struct here {
     void *stack;
     bool consumer;
+    uint32_t thread; /* the system's number */
+    int32_t again;   /* the signal that comes a second time (signals.c), or 0; and what its context has to have then */
+    uint64_t mask;
+    stack_t other;
+    uint32_t hands_on; /* so many paths are begun on a lane that isn't its own, since others end them */
 } here;
-/* A handler may look at these, as at the token (dspec_tracer_record.h). */
+/* A handler may look at these, as at the token (dspec/tracer_record.h). */
 extern __thread here dspec_here __attribute__((tls_model("initial-exec")));
 extern __thread seat dspec_seats[DSPEC_MAX_TRACERS] __attribute__((tls_model("initial-exec")));
 
@@ -129,29 +208,51 @@ void threads_begin(void);  /* once a process */
 void threads_in_child(void);
 void stack_on(void);
 void stack_off(void);
+bool stack_is_ours(const stack_t *of);
+
+/* ---- wait.c ---- */
+
+void word_waits(const uint32_t *word, uint32_t was, uint64_t nanoseconds); /* while the word is this, until it is woken, at the most for so long */
+void word_wakes(const uint32_t *word);
+void sleep_for(uint64_t microseconds);
+/* How long somebody waits: so many microseconds from the first wait on, and for good for some tries too: a process that stood still, stopped or frozen, has its time over and no thread
+ * has had a turn. What is waited for is looked at once more when it is over. */
+typedef struct patience {
+    uint64_t most, until;
+    unsigned tries;
+} patience;
+patience patience_of(uint64_t microseconds);
+bool is_spent(const patience *left);
+void wait_on(patience *left);
 
 /* ---- lane.c: into a call and out of it. ---- */
 
-bool lane_enter_slowly(seat *me, lane *on);
+/* How a thread is in a call: as the one whose lane it is, or by the lane's lock. */
+typedef enum way { NOT_IN = 0, ALONE = 1, BY_LOCK = 2 } way;
+way lane_enter_slowly(seat *me, lane *on);
 lane *lane_for_path(body *of, seat *me); /* one more path is on it; NULL where none has room */
 lane *lane_shared(body *of, uint32_t number); /* likewise, on this one */
 lane *lane_for_record(body *of, seat *me);
 void lane_path_off(seat *me, lane *on, bool own);
-uint64_t lanes_take(body *of, uint64_t which, uint32_t bits, uint64_t wait_us); /* the consumer's: which it got */
-void lanes_release(body *of, uint64_t which, uint32_t set);
+/* The consumer's: whether it has the lane, between two calls. With GONE in bits no thread gets in any more. */
+bool lane_take(lane *on, uint32_t bits, patience *left);
+void lane_release(lane *on, uint32_t set);
 bool barrier_is_there(void);
 
 /* ---- path.c ---- */
 
-void path_ends_with_thread(body *of, seat *me);
+void path_ends_with_thread(body *of, seat *me, uint32_t token); /* token: of the thread, which has none any more */
+void path_throw_left(lane *on); /* the caller has the lane */
 /* Whether a path's records may be lost, wait for room, or find their buffer empty, as where the consumer commits them. */
 typedef enum room { ANY_ROOM = 0, WAITS_FOR_ROOM = 1, EMPTY_ROOM = 2 } room;
 /* The caller has the lane. Whether the path's last records were kept; DSPEC_BUSY: there is no room yet. */
-dspec_status path_commit(lane *on, open_path *one, room has);
+dspec_status path_commit(lane *on, open_path *one, uint32_t why, room has);
 bool path_discard(lane *on, open_path *one);
 
 /* ---- session.c: what a lane has of the library. ---- */
 
+/* A program's options, of a header that may be older and knows fewer; false where it is newer and sets one that isn't known here. */
+bool options_take(dspec_tracer *tracer, const dspec_tracer_options *options, size_t size, dspec_tracer_options *taken);
 dspec_config lane_config(const dspec_tracer_options *options);
 dspec_status lane_start(lane *on, const dspec_tracer_options *options, dspec_schema *schema);
 void lane_ask(lane *on);
@@ -159,7 +260,10 @@ void lane_serve(lane *on, bool *is_empty);
 void lane_write(body *of, lane *on);
 void lane_empty(body *of, lane *on); /* both buffers; the caller has the lane */
 void lane_clean(lane *on);
+bool lanes_wait_for_disk(const body *of);
 bool lane_end(body *of, lane *on);
+void lane_add(dspec_tracer_report *sum, const dspec_report *one);
+void lane_counts(const lane *on, dspec_report *report); /* takes out what is no record of the program */
 void lane_drop(lane *on);
 
 /* ---- consumer.c ---- */
@@ -167,14 +271,29 @@ void lane_drop(lane *on);
 void *consumer_runs(void *of);
 void consumer_wakes(body *of);
 void consumer_ends_by_signal(body *of);
+void tell_counts(const body *of, dspec_tracer_report *report);
 bool consumer_served(body *of, uint32_t ticket, uint32_t timeout_ms);
+
+/* ---- place.c ---- */
+
+enum { MOST_CALLERS = 4 };
+typedef struct code_place {
+    uint64_t offset, base; /* from where the file begins in memory, and where that is */
+    bool runs;             /* it is code */
+    char file[40];         /* its name without folders, or the begin of that */
+} code_place;
+bool place_of(uint64_t address, code_place *found);
+/* To where the code returns in which a thread crashed, and the code there, and so on: by frame pointers, as far as there are any. The thread waits meanwhile. */
+size_t callers_of(const crash *of_thread, uint64_t callers[MOST_CALLERS]);
 
 /* ---- signals.c ---- */
 
 void signals_hook(const dspec_tracer_options *options);
 void signals_unhook(const dspec_tracer_options *options);
+void crash_is_saved(body *of, crash *of_thread); /* its handler goes on */
 void signals_end(int signal); /* does what the signal would have done; the last tracer that it closes ends the process */
 bool signal_is_crash(int signal);
+void signals_in_child(void);
 bool signals_are_over(void); /* whether no handler looks at a tracer that is down, within a second */
 
 /* ---- start.c ---- */
@@ -182,7 +301,8 @@ bool signals_are_over(void); /* whether no handler looks at a tracer that is dow
 body *tracer_at(uint32_t slot); /* the tracer that is up there; a handler may call it */
 void tracer_set(uint32_t slot, body *of);
 void tracers_begin(void); /* once a process */
-void tracers_lock(void);        /* none begins or ends meanwhile */
+bool process_is_ours(void); /* whether this is the process whose tracers these are, and no child by _Fork or vfork */
+void tracers_lock(void);        /* none begins or ends meanwhile, and no cancellation ends the thread */
 void tracers_unlock(void);
 
 /* ---- identity.c ---- */
@@ -193,6 +313,12 @@ typedef struct whose {
     char host[DSPEC_HOST_SIZE], name[256];
 } whose;
 bool identify(whose *of);
+void event_claims(dspec_event *event, uint32_t slot, uint64_t claim);
+bool event_adds(body *of, dspec_event *event, uint64_t claim); /* a plugin's, where the tracer doesn't have it; whether there is memory */
+void event_goes(body *of, dspec_event *event);
+void events_forget(body *of);
+void enabling_widths(const dspec_enabling *one, uint8_t widths[DSPEC_MAX_FIELDS + 1], size_t *n); /* with the path's number as the first */
+extern const dspec_enabling *const own_events[]; /* the tracer's */
 dspec_status enable_all(body *of, const dspec_enabling *const *events, struct naming *naming);
 struct naming *naming_new(void);
 const dspec_names *naming_names(const struct naming *naming);
@@ -226,9 +352,17 @@ static inline seat *seat_at(uint32_t slot) {
     return me;
 }
 
-/* Whether the thread is in the middle of this tracer, as a handler's may be: between these calls, in one on its own lane, or in a record that is in no path. */
+/* Whether the thread is in the middle of this tracer, as a handler's may be: between these calls, in one on its own lane, or in a record that is in no path. A handler that comes in between may
+ * begin a path or end one, so a yes is looked at again where the thread has another lane by then. */
 static inline bool seat_is_in(const seat *me) {
-    return me->busy || (me->own != NULL ? LOAD(&me->own->inside) != 0 : LOAD(&me->plain) == DSPEC_TRACER_NONE_);
+    while (!me->busy) {
+        dspec_tracer_lane *const own = LOAD(&me->own);
+        const bool is_in = own != NULL ? LOAD(&own->inside) != 0 : LOAD(&me->plain) == DSPEC_TRACER_NONE_;
+        if (LIKELY(!is_in)) return false;
+        __atomic_signal_fence(__ATOMIC_SEQ_CST);
+        if (LOAD(&me->own) == own) return true;
+    }
+    return true;
 }
 
 static inline bool seat_enter(seat *me) {
@@ -256,21 +390,14 @@ static inline void seat_owns(seat *me, dspec_tracer_lane *own) {
     STORE(&me->plain, own != NULL ? DSPEC_TRACER_NONE_ : me->run);
 }
 
-static inline bool lane_enter(seat *me, lane *on) {
-    me->locked = false;
-    return (LIKELY(&on->front == me->own) && dspec_tracer_enter_(&on->front)) || lane_enter_slowly(me, on);
-}
-
-/* Into a call on a lane that nobody is on, by its lock: whether it is in. */
-static inline bool lane_enter_free(lane *on) {
-    uint32_t state = LOAD(&on->front.state);
-    return LIKELY((state & ~(uint32_t)(SERVE | SHARED)) == 0) && state_becomes(on, &state, state | HELD);
+static inline way lane_enter(seat *me, lane *on) {
+    return LIKELY(&on->front == me->own) && dspec_tracer_enter_(&on->front) ? ALONE : lane_enter_slowly(me, on);
 }
 
 static inline void lane_leave_locked(lane *on) { state_clear(on, HELD); }
 
-static inline void lane_leave(seat *me, lane *on) {
-    if (me->locked) lane_leave_locked(on);
+static inline void lane_leave(lane *on, way in) {
+    if (in == BY_LOCK) lane_leave_locked(on);
     else dspec_tracer_leave_(&on->front);
 }
 

@@ -1,4 +1,5 @@
 /* heap.c: where the library takes memory: of malloc, or of a memory of the caller's (dspec_memory.h). The three calls stand in the place of those of the kit's `heap`. */
+#include "dspec.h"
 #include "dspec_memory.h"
 
 #include <assert.h>
@@ -17,6 +18,12 @@ typedef struct taken {
 
 enum { STEP = 16 };
 static_assert(sizeof(front) == STEP && sizeof(taken) == STEP, "what is taken begins at a multiple of 16");
+
+#ifndef DSPEC_LIBRARY_TEXT
+#define DSPEC_LIBRARY_TEXT DSPEC_VERSION_STRING
+#endif
+
+const char *dspec_version_text(void) { return DSPEC_LIBRARY_TEXT; }
 
 static front *memories[DSPEC_MAX_MEMORIES];
 static __thread front *from __attribute__((tls_model("initial-exec")));

@@ -12,7 +12,7 @@ bool identify(whose *of) {
 
 /* ---- Names. ---- */
 
-enum { MOST_NAMES = DSPEC_MAX_ENABLINGS * (DSPEC_MAX_FIELDS + 1), MOST_ESCAPED = 32 };
+enum { MOST_NAMES = DSPEC_MAX_ENABLINGS * (DSPEC_MAX_FIELDS + 1), MOST_ESCAPED = 257 };
 
 struct naming {
     dspec_names names;
@@ -24,37 +24,154 @@ struct naming *naming_new(void) { return calloc(1, sizeof(struct naming)); }
 
 const dspec_names *naming_names(const struct naming *naming) { return &naming->names; }
 
-/* A word that the metadata keeps for itself gets an underscore in front, which readers of the format take off a field's name again. */
-static const char *escaped(struct naming *naming, const char *name) {
+/* Readers of the format take one underscore off the front of a field's name. So a field gets one if its name begins with one, or is a word that the metadata keeps for itself;
+ * and an event if its name is such a word. */
+static const char *escaped(struct naming *naming, const char *name, bool is_field) {
     const dspec_text text = { name, strlen(name) };
-    if (!dspec_word_is_reserved(&text) || naming->count == MOST_NAMES) return name;
+    const bool is_due = dspec_word_is_reserved(&text) || (is_field && name[0] == '_');
+    if (!is_due || naming->count == MOST_NAMES || text.len + 2 > MOST_ESCAPED) return name;
     snprintf(naming->escaped[naming->count], MOST_ESCAPED, "_%s", name);
     return naming->escaped[naming->count++];
+}
+
+/* ---- What records claim. ---- */
+
+static pthread_mutex_t claiming = PTHREAD_MUTEX_INITIALIZER;
+
+/* Whether a record of the event has to look closer than at the lane: one load says it for all tracers. */
+static uint32_t look_of(const dspec_event *event) {
+    uint32_t on = 0, off = 0;
+    for (uint32_t slot = 0; slot < DSPEC_MAX_TRACERS; slot++) {
+        const uint64_t claim = LOAD(&event->claims[slot]);
+        on += claim > DSPEC_TRACER_OFF_;
+        off += claim == DSPEC_TRACER_OFF_;
+    }
+    return off > 0 ? on > 0 ? DSPEC_LOOK_CLOSER : DSPEC_LOOK_OFF : on > 0 ? 0 : DSPEC_LOOK_NONE;
+}
+
+static void set_claim(dspec_event *event, uint32_t slot, uint64_t claim) {
+    STORE(&event->claims[slot], claim);
+    STORE(&event->look, look_of(event));
+}
+
+void event_claims(dspec_event *event, uint32_t slot, uint64_t claim) {
+    pthread_mutex_lock(&claiming);
+    set_claim(event, slot, claim);
+    pthread_mutex_unlock(&claiming);
+}
+
+bool event_adds(body *of, dspec_event *event, uint64_t claim) {
+    bool is_there = true;
+    pthread_mutex_lock(&claiming);
+    if (event->claims[of->slot] == 0) {
+        dspec_event **grown = realloc(of->added, (of->added_count + 1) * sizeof *grown);
+        is_there = grown != NULL;
+        if (is_there) {
+            of->added = grown;
+            of->added[of->added_count++] = event;
+            set_claim(event, of->slot, claim);
+        }
+    }
+    pthread_mutex_unlock(&claiming);
+    return is_there;
+}
+
+void event_goes(body *of, dspec_event *event) {
+    pthread_mutex_lock(&claiming);
+    for (size_t at = of->added_count; at-- > 0;) {
+        if (of->added[at] != event) continue;
+        set_claim(event, of->slot, 0);
+        of->added[at] = of->added[--of->added_count];
+    }
+    pthread_mutex_unlock(&claiming);
+}
+
+void events_forget(body *of) {
+    pthread_mutex_lock(&claiming);
+    for (uint32_t i = 0; of->events != NULL && of->events[i] != NULL; i++) set_claim(of->events[i]->event, of->slot, 0);
+    for (size_t i = 0; i < of->added_count; i++) set_claim(of->added[i], of->slot, 0);
+    of->added_count = 0;
+    pthread_mutex_unlock(&claiming);
 }
 
 /* claim: what its records claim (dspec_put). */
 static dspec_status enable(body *of, const dspec_enabling *one, uint64_t *claim, struct naming *naming) {
     uint32_t epid, signature;
-    dspec_status status = dspec_probe_enable(&of->layout, &of->schema, one->widths, one->n, &epid, &signature);
+    uint8_t widths[DSPEC_MAX_FIELDS + 1];
+    size_t n;
+    dspec_status status;
+    enabling_widths(one, widths, &n);
+    status = dspec_probe_enable(&of->layout, &of->schema, widths, n, &epid, &signature);
     if (status != DSPEC_OK) return status;
     *claim = (uint64_t)signature << 32 | epid;
-    dspec_names_event(&naming->names, escaped(naming, one->name));
+    dspec_names_event(&naming->names, escaped(naming, one->name, false));
+    dspec_names_wide(&naming->names, "dspec_path", DSPEC_KIND_UNSIGNED, 4);
     for (size_t i = 0; i < one->n; i++) {
-        dspec_names_wide(&naming->names, escaped(naming, one->fields[i]), one->kinds[i], one->widths[i]);
+        dspec_names_wide(&naming->names, escaped(naming, one->fields[i], true), one->kinds[i], one->widths[i]);
         if (one->labels != NULL) dspec_names_labels(&naming->names, one->labels[i]);
     }
     return DSPEC_OK;
 }
 
-/* The tracer's own event, of its own lane. */
-static dspec_status enable_crash(body *of, struct naming *naming) {
-    static const char *const fields[] = { "signal", "code", "address", "thread", "paths", "stuck" };
-    static const uint8_t widths[] = { 4, 4, 8, 4, 4, 4 };
-    static const uint8_t kinds[] = { DSPEC_KIND_SIGNED, DSPEC_KIND_SIGNED, DSPEC_KIND_UNSIGNED, DSPEC_KIND_UNSIGNED, DSPEC_KIND_UNSIGNED, DSPEC_KIND_UNSIGNED };
-    const dspec_enabling own = { NULL, "dspec_crash", fields, widths, kinds, sizeof widths, NULL };
-    uint64_t claim = 0;
-    dspec_status status = enable(of, &own, &claim, naming);
-    of->epid_of_crash = (uint32_t)claim;
+/* The tracer's own events. */
+#define U DSPEC_KIND_UNSIGNED
+#define S DSPEC_KIND_SIGNED
+#define T DSPEC_KIND_TEXT
+static const char *const why_texts[] = { "kept", "failed", "slow", "asked", "sampled", "crash", "undecided", "signal" };
+enum { OWN_CRASH = 0, OWN_PLACE = 1, OWN_PATH = 2, OWN_THREAD = 3, OWN_COUNTS = 4, OWN_REFUSED = 5, OWN_SIGNAL = 6, OWN_UNSAVED = 7 };
+static const char *const crash_fields[] = { "signal", "code", "thread", "address", "pc", "paths", "stuck" };
+static const char *const place_fields[] = { "frame", "offset", "file" };
+static const char *const path_fields[] = { "thread", "by", "cut", "why", "begun", "key_high", "key_low" };
+static const char *const thread_fields[] = { "thread", "name" };
+static const char *const counts_fields[] = { "kept", "thrown" };
+static const char *const refused_fields[] = { "paths", "records", "waited", "missing" };
+static const char *const signal_fields[] = { "signal", "code", "sender", "user", "thread", "paths", "stuck" };
+static const char *const unsaved_fields[] = { "threads" };
+static const dspec_enabling own[] = {
+    { NULL, "dspec_crash", crash_fields, (const uint8_t[]){ 4, 4, 4, 8, 8, 4, 4 }, (const uint8_t[]){ S, S, U, U, U, U, U }, 7, NULL, NULL },
+    { NULL, "dspec_crash_at", place_fields, (const uint8_t[]){ 4, 8, 40 }, (const uint8_t[]){ U, U, T }, 3, NULL, NULL },
+    { NULL, "dspec_kept", path_fields, (const uint8_t[]){ 4, 4, 4, 4, 8, 8, 8 }, (const uint8_t[]){ U, U, U, U, U, U, U }, 7, NULL, NULL },
+    { NULL, "dspec_thread", thread_fields, (const uint8_t[]){ 4, 16 }, (const uint8_t[]){ U, T }, 2, NULL, NULL },
+    { NULL, "dspec_counts", counts_fields, (const uint8_t[]){ 8, 8 }, (const uint8_t[]){ U, U }, 2, NULL, NULL },
+    { NULL, "dspec_refused", refused_fields, (const uint8_t[]){ 8, 8, 8, 8 }, (const uint8_t[]){ U, U, U, U }, 4, NULL, NULL },
+    { NULL, "dspec_signal", signal_fields, (const uint8_t[]){ 4, 4, 4, 4, 4, 4, 4 }, (const uint8_t[]){ S, S, S, U, U, U, U }, 7, NULL, NULL },
+    { NULL, "dspec_unsaved", unsaved_fields, (const uint8_t[]){ 8 }, (const uint8_t[]){ U }, 1, NULL, NULL },
+};
+const dspec_enabling *const own_events[] = { &own[0], &own[1], &own[2], &own[3], &own[4], &own[5], &own[6], &own[7], NULL };
+
+void enabling_widths(const dspec_enabling *one, uint8_t widths[DSPEC_MAX_FIELDS + 1], size_t *n) {
+    size_t count = 0;
+    widths[count++] = 4;
+    for (size_t i = 0; i < one->n && count <= DSPEC_MAX_FIELDS; i++) widths[count++] = one->widths[i];
+    *n = count;
+}
+
+/* What the numbers of `why` are called: the tracer's, and after them the program's. */
+static void name_whys(body *of) {
+    const dspec_labels *more = of->options.whys;
+    for (of->why_count = 0; of->why_count < DSPEC_WHY_OWN; of->why_count++) of->why_texts[of->why_count] = why_texts[of->why_count];
+    for (size_t i = 0; more != NULL && more->count != NULL && i < *more->count && of->why_count < MAX_WHYS; i++) of->why_texts[of->why_count++] = more->texts[i];
+    of->whys = (dspec_labels){ of->why_texts, &of->why_count };
+}
+
+static dspec_status enable_own(body *of, struct naming *naming) {
+    uint64_t claims[sizeof own / sizeof own[0]] = { 0 };
+    dspec_status status = DSPEC_OK;
+    name_whys(of);
+    of->labels[3] = &of->whys;
+    for (size_t i = 0; own_events[i] != NULL && status == DSPEC_OK; i++) {
+        dspec_enabling one = own[i];
+        if (i == OWN_PATH) one.labels = of->labels;
+        status = enable(of, &one, &claims[i], naming);
+    }
+    of->epid_of_crash = (uint32_t)claims[OWN_CRASH];
+    of->epid_of_place = (uint32_t)claims[OWN_PLACE];
+    of->epid_of_signal = (uint32_t)claims[OWN_SIGNAL];
+    of->epid_of_unsaved = (uint32_t)claims[OWN_UNSAVED];
+    of->claim_of_path = claims[OWN_PATH];
+    of->claim_of_thread = claims[OWN_THREAD];
+    of->claim_of_counts = claims[OWN_COUNTS];
+    of->claim_of_refused = claims[OWN_REFUSED];
     return status;
 }
 
@@ -68,8 +185,9 @@ dspec_status enable_all(body *of, const dspec_enabling *const *events, struct na
         status = enable(of, events[i], &claim, naming);
         if (status != DSPEC_OK) break;
         of->events[i] = events[i];
-        STORE(&events[i]->event->claims[of->slot], claim);
+        of->claims[i] = claim;
+        event_claims(events[i]->event, of->slot, claim);
     }
-    if (status == DSPEC_OK && !of->options.no_crash) status = enable_crash(of, naming);
+    if (status == DSPEC_OK) status = enable_own(of, naming);
     return status;
 }

@@ -1,47 +1,46 @@
 /* lane.c: how a thread gets into a call on a lane and out of it, and how the consumer gets between two calls. */
 #include "body.h"
 
-#include <linux/membarrier.h>
-#include <poll.h>
+#include <errno.h>
 #include <sys/syscall.h>
 #include <unistd.h>
 
-enum { SPINS = 100, MOST_WAITS = SPINS + 1000, TRY_US = 5000 };
+/* So many paths of a thread that hands them on are begun on a lane of all. */
+enum { HANDS_ON = 64 };
+/* So long after a store no processor keeps it to itself any more, by far. */
+enum { STORED_US = 2000 };
+
+/* The system's numbers for membarrier(2), as <linux/membarrier.h> has them, which isn't there beside each C library. */
+enum { MEMBARRIER_QUERY = 0, MEMBARRIER_PRIVATE_EXPEDITED = 8, MEMBARRIER_REGISTER_PRIVATE_EXPEDITED = 16 };
 
 bool barrier_is_there(void) {
-    long known = syscall(SYS_membarrier, MEMBARRIER_CMD_QUERY, 0, 0);
-    if (known < 0 || (known & MEMBARRIER_CMD_PRIVATE_EXPEDITED) == 0) return false;
-    return syscall(SYS_membarrier, MEMBARRIER_CMD_REGISTER_PRIVATE_EXPEDITED, 0, 0) == 0;
+    long known = syscall(SYS_membarrier, MEMBARRIER_QUERY, 0, 0);
+    if (known < 0 || (known & MEMBARRIER_PRIVATE_EXPEDITED) == 0) return false;
+    return syscall(SYS_membarrier, MEMBARRIER_REGISTER_PRIVATE_EXPEDITED, 0, 0) == 0;
 }
 
-/* Whether each thread of the process has come to an order with what this one did before. */
-static bool barrier(const body *of) {
-    return of->locked || syscall(SYS_membarrier, MEMBARRIER_CMD_PRIVATE_EXPEDITED, 0, 0) == 0;
-}
-
-/* Who is waited for may be off its processor, which a thread that spins would keep from it. */
-static void wait_a_little(unsigned tries) {
-    if (tries < SPINS) {
-#if defined(__x86_64__)
-        __builtin_ia32_pause();
-#endif
-    } else {
-        poll(NULL, 0, 1);
+/* Has each thread of the process come to an order with what this one did before. A system that refuses that since the start, as by a filter of system calls, has lanes taken by their locks from
+ * now on; for the threads that are on one without its lock, time brings the order. */
+static void order(body *of) {
+    const int saved = errno;
+    if (LOAD(&of->locked) || syscall(SYS_membarrier, MEMBARRIER_PRIVATE_EXPEDITED, 0, 0) != 0) {
+        STORE(&of->locked, 1);
+        sleep_for(STORED_US);
     }
+    errno = saved;
 }
 
 static bool is_inside(const lane *on) { return __atomic_load_n(&on->front.inside, __ATOMIC_ACQUIRE) != 0; }
 
+/* Whether a lane of this state has an owner, who takes no lock. */
+static bool is_alone(uint32_t state) { return state >= USER && !(state & SHARED); }
+
 /* Whether the thread whose lane this is has left its call; the caller has set HELD. */
-static bool is_left(const lane *on) {
-    unsigned tries = 0;
-    while (!barrier(on->of)) {
-        if (++tries > MOST_WAITS) return false;
-        wait_a_little(tries);
-    }
-    for (; is_inside(on); tries++) {
-        if (tries > MOST_WAITS) return false;
-        wait_a_little(tries);
+static bool is_left(const lane *on, patience *left) {
+    order(on->of);
+    while (is_inside(on)) {
+        if (is_spent(left)) return false;
+        wait_on(left);
     }
     return true;
 }
@@ -49,37 +48,35 @@ static bool is_left(const lane *on) {
 /* Into a call on the thread's own lane, once more: whether nobody was in the way. */
 static bool enter_alone(lane *on, uint32_t state) {
     if (state & IDLE) state_clear(on, IDLE); /* the consumer has to look again */
-    __atomic_exchange_n(&on->front.inside, 1, __ATOMIC_SEQ_CST);
-    if (!(state_of(on) & DSPEC_TRACER_LOOK_)) return true;
-    __atomic_store_n(&on->front.inside, 0, __ATOMIC_RELEASE);
-    return false;
+    return dspec_tracer_enter_(&on->front);
 }
 
 /* Into a call by the lane's lock: whether it was free. Where the lane was one thread's alone, that one takes the lock from now on. */
-static bool enter_locked(lane *on, uint32_t state) {
-    bool was_alone = state >= USER && !(state & SHARED);
+static bool enter_locked(lane *on, uint32_t state, patience *left) {
+    const bool was_alone = is_alone(state);
     if (!state_becomes(on, &state, (state & ~(uint32_t)IDLE) | HELD | (was_alone ? SHARED : 0u))) return false;
-    if (!was_alone || is_left(on)) return true;
+    if (!was_alone || is_left(on, left)) return true;
     state_clear(on, HELD | SHARED);
     return false;
 }
 
-bool lane_enter_slowly(seat *me, lane *on) {
-    for (unsigned tries = 0; tries < MOST_WAITS; tries++) {
-        uint32_t state = state_of(on);
+way lane_enter_slowly(seat *me, lane *on) {
+    patience left = patience_of(ENTER_US);
+    for (;;) {
+        const uint32_t state = state_of(on);
         if (state & GONE) {
             ADD(&on->of->late, 1);
-            return false;
+            return NOT_IN;
         }
-        if (state & (HELD | WANTED)) {
-            wait_a_little(tries);
-            continue;
+        if (!(state & (HELD | WANTED))) {
+            const way how = &on->front != me->own || state & SHARED ? BY_LOCK : ALONE;
+            if (how == BY_LOCK ? enter_locked(on, state, &left) : enter_alone(on, state)) return how;
         }
-        me->locked = &on->front != me->own || state & SHARED;
-        if (me->locked ? enter_locked(on, state) : enter_alone(on, state)) return true;
+        if (is_spent(&left)) break;
+        wait_on(&left);
     }
     ADD(&on->of->waited, 1);
-    return false;
+    return NOT_IN;
 }
 
 /* ---- Which lane. ---- */
@@ -96,8 +93,9 @@ static lane *claim(body *of, seat *me, uint32_t users) {
         lane *on = lane_behind(of, me, i);
         uint32_t state = LOAD(&on->front.state);
         while (state < USER && !(state & GONE)) {
-            uint32_t is = (of->locked ? state : state & ~(uint32_t)SHARED) + users * USER;
+            uint32_t is = (LOAD(&of->locked) ? state : state & ~(uint32_t)SHARED) + users * USER;
             if (!state_becomes(on, &state, is)) continue;
+            STORE(&on->handed, 0);
             me->last = &on->front;
             seat_owns(me, &on->front);
             return on;
@@ -123,9 +121,24 @@ lane *lane_shared(body *of, uint32_t number) {
     return on;
 }
 
+/* What other threads ended of this one's paths is counted now. A lane that they ended the last path of is nobody's own, and a thread that hands its paths on claims none for the next ones: it
+ * would keep it while it waits for work. */
+RARELY static void take_back(seat *me, lane *on) {
+    me->open = (uint16_t)(me->open - __atomic_exchange_n(&on->handed, 0, __ATOMIC_RELAXED));
+    if (me->open != 0 || on->of->by_thread) return;
+    seat_owns(me, NULL);
+    __atomic_fetch_sub(&on->front.state, USER, __ATOMIC_SEQ_CST);
+    dspec_here.hands_on = HANDS_ON;
+}
+
 lane *lane_for_path(body *of, seat *me) {
     lane *on = lane_of(me->own);
-    if (on == NULL && (on = claim(of, me, 2)) != NULL) return on;
+    if (on != NULL && !LIKELY(LOAD(&on->handed) == 0)) {
+        take_back(me, on);
+        on = lane_of(me->own);
+    }
+    if (on == NULL && !LIKELY(dspec_here.hands_on == 0)) dspec_here.hands_on--;
+    else if (on == NULL && (on = claim(of, me, 2)) != NULL) return on;
     return lane_shared(of, on == NULL || !has_room(of, on) ? least(of)->number : on->number);
 }
 
@@ -153,66 +166,26 @@ lane *lane_for_record(body *of, seat *me) {
 
 /* ---- The consumer. ---- */
 
-static uint64_t micros(void) { return dspec_monotonic() / 1000; }
-
-/* How long the consumer waits: until a time, and for good for so many tries too: a process that stood still, stopped or frozen, has its time over and no thread has had a turn. */
-typedef struct patience {
-    uint64_t until;
-    unsigned tries, least;
-} patience;
-
-/* Whether it is over; what was waited for is looked at once more behind it. */
-static bool is_over(const patience *left) { return left->tries >= left->least && micros() >= left->until; }
-
-static void wait_on(patience *left) { wait_a_little(left->tries++); }
-
-/* Lets go a lane that wasn't left in time. What is gone stays so, and no thread gets in. */
-static void give_up(lane *on, uint32_t bits) {
-    if (!(bits & GONE)) state_clear(on, HELD);
-}
-
-/* Of the lanes whose lock the consumer has just taken, those whose thread is in no call. */
-static uint64_t left_of(body *of, uint64_t held, uint32_t bits, patience *most) {
-    uint64_t left = 0;
-    bool ordered;
-    while (!(ordered = barrier(of)) && !is_over(most)) wait_on(most);
-    for (uint32_t i = 0; i < of->count; i++) {
-        lane *on = &of->lanes[i];
-        if (!(held >> i & 1)) continue;
-        while (ordered && is_inside(on) && !is_over(most)) wait_on(most);
-        if (ordered && !is_inside(on)) left |= UINT64_C(1) << i;
-        else give_up(on, bits);
-    }
-    return left;
-}
-
-/* Tries to have the lock of these lanes: which ones it has. */
-static uint64_t hold(body *of, uint64_t which, uint32_t bits) {
-    uint64_t held = 0;
-    for (uint32_t i = 0; i < of->count; i++)
-        if (which >> i & 1 && !(state_set(&of->lanes[i], HELD | WANTED | bits) & HELD)) held |= UINT64_C(1) << i;
-    return held;
-}
-
-uint64_t lanes_take(body *of, uint64_t which, uint32_t bits, uint64_t wait_us) {
-    patience most = { wait_us == 0 ? 0 : micros() + wait_us, 0, bits & GONE ? SPINS + (unsigned)(wait_us / TRY_US) : 0 };
-    uint64_t got = 0;
+bool lane_take(lane *on, uint32_t bits, patience *left) {
+    bool is_held = false, alone = false, has;
     for (;;) {
-        const bool is_last = is_over(&most);
-        uint64_t held = hold(of, which & ~got, bits);
-        if (held != 0) got |= left_of(of, held, bits, &most);
-        if (got == which || is_last) break;
-        wait_on(&most);
+        const bool is_last = is_spent(left);
+        if (!is_held) {
+            const uint32_t was = state_set(on, HELD | WANTED | bits);
+            is_held = !(was & HELD);
+            alone = is_held && is_alone(was);
+            if (alone) order(on->of);
+        }
+        has = is_held && !(alone && is_inside(on));
+        if (has || is_last) break;
+        wait_on(left);
     }
-    for (uint32_t i = 0; i < of->count; i++)
-        if (which >> i & 1) state_clear(&of->lanes[i], WANTED);
-    return got;
+    if (has && alone && LOAD(&on->of->locked)) state_set(on, SHARED);
+    state_clear(on, is_held && !has ? WANTED | HELD : WANTED);
+    return has;
 }
 
-void lanes_release(body *of, uint64_t which, uint32_t set) {
-    for (uint32_t i = 0; i < of->count; i++) {
-        if (!(which >> i & 1)) continue;
-        if (set != 0) state_set(&of->lanes[i], set);
-        state_clear(&of->lanes[i], HELD | SERVE);
-    }
+void lane_release(lane *on, uint32_t set) {
+    if (set != 0) state_set(on, set);
+    state_clear(on, HELD | SERVE);
 }

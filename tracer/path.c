@@ -1,7 +1,5 @@
-/* path.c: records and paths, as the threads of a program make them; but a record that nobody hinders is made in its caller (dspec_tracer_record.h). */
+/* path.c: records and paths, as the threads of a program make them; but a record that nobody hinders is made in its caller (dspec/tracer_record.h). */
 #include "body.h"
-
-#include <poll.h>
 
 uint64_t dspec_tracer_now(void) { return dspec_monotonic(); }
 
@@ -10,7 +8,7 @@ static body *body_of(const dspec_tracer *tracer) { return tracer == NULL ? NULL 
 
 /* A path is over without a token, so that its next call takes a closer look. */
 static void is_over(dspec_path *path) {
-    path->over = true;
+    path->over = 1;
     path->token = 0;
 }
 
@@ -31,15 +29,19 @@ static void wants_room(body *of) {
 }
 
 /* Notes an open path in its lane, which the caller is in: whether there was a place. There are as many as a lane has paths, so that each finds the speculations that it needs. */
-static bool note(lane *on, dspec_path *path) {
+static bool note(lane *on, dspec_path *path, bool own, uint64_t now) {
     const uint32_t places = on->of->options.paths;
     for (uint32_t i = 0, place = (uint32_t)path->id % MAX_OPEN; i < places; i++, place++) {
         if (place >= places) place = 0;
         open_path *one = &on->open[place];
         if (one->id != 0) continue;
-        one->saved = one->waits = one->has_last = false;
         one->older = one->cut = 0;
-        STORE(&one->token, dspec_tracer_token_2);
+        one->begun = now;
+        one->mark = path->mark;
+        one->thread = dspec_here.thread;
+        one->own = own;
+        one->saved = one->waits = one->is_prepared = one->has_event = one->has_key = one->has_first = false;
+        STORE(&one->token, dspec_tracer_token_4);
         __atomic_store_n(&one->id, path->id, __ATOMIC_RELEASE);
         path->place = (uint16_t)place;
         return true;
@@ -47,33 +49,79 @@ static bool note(lane *on, dspec_path *path) {
     return false;
 }
 
+/* A number that no open path of the tracer has: each lane has every so many. 0 is no path's. */
+static uint32_t next_number(lane *on) {
+    on->opened += on->of->count;
+    if (on->opened == 0) on->opened += on->of->count;
+    return on->opened;
+}
+
 /* Opens a path on a lane, which the caller is in: whether there is a slot. own: whether it is the thread's own. */
-static bool open_on(lane *on, dspec_path *path, bool own) {
+static bool open_on(lane *on, dspec_path *path, bool own, uint64_t now) {
     uint32_t count;
     if (dspec_speculation(&on->front.cpu, &path->id) != DSPEC_OK) return false;
-    if (!note(on, path)) {
+    path->mark = (uint64_t)next_number(on) << 32;
+    if (!note(on, path, own, now)) {
         dspec_discard(&on->front.cpu, path->id, &count);
         return false;
     }
     path->lane = &on->front;
+    path->begun = now;
     path->own = own;
-    path->token = own ? dspec_tracer_token_2 : 0;
+    path->token = own ? dspec_tracer_token_4 : 0;
     return true;
 }
 
+/* With keep_last a path's first record stands aside, for the case that it is thrown away: it names the request. */
+RARELY static void note_first(lane *on, const dspec_path *path, uint64_t claim, uint64_t first, const uint64_t *words, size_t n) {
+    open_path *one = &on->open[path->place];
+    if (one->has_first || n > MOST_WORDS) return;
+    one->has_first = true;
+    one->first_words = n;
+    one->first_claim = claim;
+    memcpy(one->first, words, 8 * n);
+    one->first[0] = first;
+}
+
+RARELY dspec_status dspec_tracer_put_long(dspec_cpu *cpu, uint64_t id, uint64_t claim, uint64_t now, uint64_t first, const uint64_t *words, size_t n) {
+    uint64_t all[MOST_WORDS];
+    if (n == 0 || n > MOST_WORDS) return dspec_put_in(cpu, id, claim, now, words, n);
+    memcpy(all, words, 8 * n);
+    all[0] = first;
+    return dspec_put_in(cpu, id, claim, now, all, n);
+}
+
 /* A record of a path on its lane, which the caller is in. */
-static inline dspec_status put_on(lane *on, dspec_path *path, const dspec_event *event, const uint64_t *words, size_t n) {
-    const uint64_t now = dspec_monotonic();
+static inline dspec_status put_on(lane *on, dspec_path *path, const dspec_event *event, const uint64_t *words, size_t n, uint64_t now) {
+    const uint64_t claim = dspec_tracer_claim_(event, on->front.slot), first = words[0] | path->mark;
     dspec_status status;
+    STORE(&dspec_tracer_recent_4, path->mark);
+    if (!LIKELY(!on->of->options.keep_last)) note_first(on, path, claim, first, words, n);
     do {
-        status = dspec_tracer_put_in_(&on->front.cpu, path->id, dspec_tracer_claim_(event, on->front.slot), now, words, n);
-    } while (!LIKELY(status != DSPEC_DROPPED) && dspec_path_turn(path));
+        status = dspec_tracer_put_in_(&on->front.cpu, path->id, claim, now, first, words, n);
+    } while (!LIKELY(status == DSPEC_OK) && dspec_path_turn(path, event, status));
     return status;
 }
 
+/* A record of an event that the tracer wasn't handed is counted, and the first such event is named. */
+RARELY static void count_missing(body *of, const dspec_event *event) {
+    uint32_t none = 0;
+    ADD(&of->missing, 1);
+    if (!__atomic_compare_exchange_n(&of->missing_state, &none, 1, false, __ATOMIC_RELAXED, __ATOMIC_RELAXED)) return;
+    if (event->name != NULL) memcpy(of->missing_name, event->name, strnlen(event->name, sizeof of->missing_name - 1));
+    __atomic_store_n(&of->missing_state, 2, __ATOMIC_RELEASE);
+}
+
+/* A record of an event that is switched off, or that the tracer doesn't have. */
+RARELY static dspec_status not_enabled(body *of, const dspec_event *event) {
+    if (!LOAD(&of->up)) return DSPEC_STOPPED;
+    if (dspec_tracer_claim_(event, of->slot) == DSPEC_TRACER_OFF_) return DSPEC_VOID;
+    count_missing(of, event);
+    return DSPEC_BAD_RECORD;
+}
+
 /* With keep_last a path whose speculation is full goes on in a new one, and the one before the full one is thrown away. */
-RARELY bool dspec_path_turn(dspec_path *path) {
-    lane *on = lane_of(path->lane);
+static bool turn(lane *on, dspec_path *path) {
     open_path *one = &on->open[path->place];
     uint64_t id;
     uint32_t count;
@@ -86,28 +134,39 @@ RARELY bool dspec_path_turn(dspec_path *path) {
     return true;
 }
 
+RARELY bool dspec_path_turn(dspec_path *path, const dspec_event *event, dspec_status status) {
+    lane *on = lane_of(path->lane);
+    if (status == DSPEC_DROPPED) return turn(on, path);
+    if (status == DSPEC_BAD_RECORD && dspec_tracer_claim_(event, on->front.slot) <= DSPEC_TRACER_OFF_) count_missing(on->of, event);
+    return false;
+}
+
 /* The first record of a path opens its speculation. Where there is none to be had, the path is refused as a whole. */
 static dspec_status begin(body *of, seat *me, dspec_path *path, const dspec_event *event, const uint64_t *words, size_t n) {
     dspec_status status = DSPEC_UNAVAILABLE;
+    const uint64_t now = dspec_monotonic();
     for (uint32_t tries = 0; tries <= of->count && status == DSPEC_UNAVAILABLE; tries++) {
         lane *on = tries == 0 ? lane_for_path(of, me) : lane_shared(of, tries - 1);
         if (on == NULL) continue;
         const bool own = &on->front == me->own;
         me->open += own;
-        if (!lane_enter(me, on)) {
+        const way in = lane_enter(me, on);
+        if (in == NOT_IN) {
             status = DSPEC_STOPPED;
-        } else if (open_on(on, path, own)) {
-            status = put_on(on, path, event, words, n);
-            lane_leave(me, on);
+        } else if (open_on(on, path, own, now)) {
+            status = put_on(on, path, event, words, n, now);
+            lane_leave(on, in);
             return status;
         } else {
-            lane_leave(me, on);
+            lane_leave(on, in);
         }
         lane_path_off(me, on, own);
     }
     is_over(path);
+    STORE(&dspec_tracer_recent_4, REFUSED_PATH);
     if (!LOAD(&of->up)) return DSPEC_STOPPED;
     ADD(&of->no_slot, 1);
+    ADD(&of->refused_records, 1);
     wants_room(of);
     return DSPEC_UNAVAILABLE;
 }
@@ -116,7 +175,7 @@ static dspec_status begin(body *of, seat *me, dspec_path *path, const dspec_even
 static bool adopt(lane *on, const dspec_path *path) {
     open_path *one = &on->open[path->place];
     if (one->id != path->id) return false;
-    STORE(&one->token, dspec_tracer_token_2);
+    STORE(&one->token, dspec_tracer_token_4);
     return true;
 }
 
@@ -124,14 +183,15 @@ static bool adopt(lane *on, const dspec_path *path) {
 static dspec_status go_on(seat *me, dspec_path *path, const dspec_event *event, const uint64_t *words, size_t n) {
     lane *on = lane_of(path->lane);
     dspec_status status = DSPEC_VOID;
-    if (!lane_enter(me, on)) return DSPEC_STOPPED;
+    const way in = lane_enter(me, on);
+    if (in == NOT_IN) return DSPEC_STOPPED;
     if (adopt(on, path)) {
-        path->token = path->own && path->lane == me->own ? dspec_tracer_token_2 : 0;
-        status = put_on(on, path, event, words, n);
+        path->token = path->own && path->lane == me->own ? dspec_tracer_token_4 : 0;
+        status = put_on(on, path, event, words, n, dspec_monotonic());
     } else {
         is_over(path);
     }
-    lane_leave(me, on);
+    lane_leave(on, in);
     return status;
 }
 
@@ -141,35 +201,50 @@ static body *body_of_path(const dspec_path *path) {
     return path->lane != NULL ? lane_of(path->lane)->of : body_of(path->tracer);
 }
 
-static dspec_status put_slowly(dspec_path *path, const dspec_event *event, const uint64_t *words, size_t n) {
+/* A further record of a path that got no slot is counted; one of a path that began while the tracer was off isn't. */
+RARELY static dspec_status refused(const dspec_path *path) {
+    body *of = path->over == 1 ? body_of(path->tracer) : NULL;
+    STORE(&dspec_tracer_recent_4, REFUSED_PATH);
+    if (of != NULL && LOAD(&of->up)) ADD(&of->refused_records, 1);
+    return DSPEC_UNAVAILABLE;
+}
+
+dspec_status dspec_path_put_slowly_(dspec_path *path, const dspec_event *event, const uint64_t *words, size_t n) {
     body *of = body_of_path(path);
     seat *me;
     dspec_status status;
-    if (of == NULL) return path->lane != NULL ? DSPEC_VOID : DSPEC_UNAVAILABLE;
+    if (of == NULL) return path->lane != NULL ? DSPEC_VOID : refused(path);
+    if (!LIKELY(dspec_tracer_claim_(event, of->slot) > DSPEC_TRACER_OFF_)) return not_enabled(of, event);
     if ((status = seat_take(of, &me)) != DSPEC_OK) return status;
     status = path->lane == NULL ? begin(of, me, path, event, words, n) : go_on(me, path, event, words, n);
     seat_leave(me);
     return status;
 }
 
-dspec_status dspec_path_put(dspec_path *path, const dspec_event *event, const uint64_t *words, size_t n) {
+INTO_CALLER dspec_status put(dspec_path *path, const dspec_event *event, const uint64_t *words, size_t n) {
     dspec_status status;
-    return dspec_path_try_(path, event, words, n, &status) ? status : put_slowly(path, event, words, n);
+    return LIKELY(dspec_event_goes_(event)) && dspec_path_try_(path, event, words, n, &status) ? status : dspec_path_put_slowly_(path, event, words, n);
 }
 
-dspec_status dspec_path_put_1(dspec_path *path, const dspec_event *event, uint64_t w0) { return put_slowly(path, event, &w0, 1); }
+dspec_status dspec_path_put(dspec_path *path, const dspec_event *event, const uint64_t *words, size_t n) { return put(path, event, words, n); }
+
+dspec_status dspec_path_put_1(dspec_path *path, const dspec_event *event, uint64_t w0) { return put(path, event, &w0, 1); }
 
 dspec_status dspec_path_put_2(dspec_path *path, const dspec_event *event, uint64_t w0, uint64_t w1) {
     const uint64_t words[] = { w0, w1 };
-    return put_slowly(path, event, words, 2);
+    return put(path, event, words, 2);
 }
 
 dspec_status dspec_path_put_3(dspec_path *path, const dspec_event *event, uint64_t w0, uint64_t w1, uint64_t w2) {
     const uint64_t words[] = { w0, w1, w2 };
-    return put_slowly(path, event, words, 3);
+    return put(path, event, words, 3);
 }
 
-RARELY void dspec_tracer_dropped(dspec_tracer *tracer) { wants_room(tracer->body); }
+RARELY void dspec_tracer_missed(dspec_tracer *tracer, const dspec_event *event, dspec_status status) {
+    body *of = tracer->body;
+    if (status == DSPEC_DROPPED) wants_room(of);
+    if (status == DSPEC_BAD_RECORD && dspec_tracer_claim_(event, of->slot) <= DSPEC_TRACER_OFF_) count_missing(of, event);
+}
 
 /* A record that is in no path, on its thread's own lane, where nobody is in its way: whether it was made. */
 INTO_CALLER bool record_on_own(dspec_tracer *tracer, const dspec_event *event, const uint64_t *words, size_t n, dspec_status *status) {
@@ -178,7 +253,7 @@ INTO_CALLER bool record_on_own(dspec_tracer *tracer, const dspec_event *event, c
     if (!LIKELY(me->run == LOAD(&tracer->run) && seat_enter(me))) return false;
     lane *on = lane_of(me->own);
     if (LIKELY(on != NULL) && dspec_tracer_enter_(&on->front)) {
-        *status = dspec_tracer_put_(&on->front.cpu, dspec_tracer_claim_(event, on->front.slot), dspec_monotonic(), words, n);
+        *status = dspec_tracer_fill_(&on->front, dspec_tracer_claim_(event, on->front.slot), dspec_monotonic(), words, n);
         serve_if_asked(on);
         dspec_tracer_leave_(&on->front);
         if (!LIKELY(*status != DSPEC_DROPPED)) wants_room(on->of);
@@ -193,29 +268,34 @@ static dspec_status record_slowly(dspec_tracer *tracer, const dspec_event *event
     body *of = body_of(tracer);
     seat *me;
     dspec_status status;
-    if (of == NULL) return DSPEC_UNAVAILABLE;
+    if (of == NULL || LOAD(&tracer->run) == 0) return DSPEC_UNAVAILABLE;
+    if (!LIKELY(dspec_tracer_claim_(event, of->slot) > DSPEC_TRACER_OFF_)) return not_enabled(of, event);
     if ((status = seat_take(of, &me)) != DSPEC_OK) return status;
     lane *on = lane_for_record(of, me);
     status = DSPEC_STOPPED;
-    if (lane_enter(me, on)) {
-        status = dspec_tracer_put_(&on->front.cpu, dspec_tracer_claim_(event, of->slot), dspec_monotonic(), words, n);
+    const way in = lane_enter(me, on);
+    if (in != NOT_IN) {
+        status = dspec_tracer_fill_(&on->front, dspec_tracer_claim_(event, of->slot), dspec_monotonic(), words, n);
         serve_if_asked(on);
-        lane_leave(me, on);
+        lane_leave(on, in);
         if (status == DSPEC_DROPPED) wants_room(of);
     }
     seat_leave(me);
     return status;
 }
 
-INTO_CALLER dspec_status record(dspec_tracer *tracer, const dspec_event *event, const uint64_t *words, size_t n) {
+dspec_status dspec_tracer_put_slowly_(dspec_tracer *tracer, const dspec_event *event, const uint64_t *words, size_t n) {
     dspec_status status;
-    return record_on_own(tracer, event, words, n, &status) ? status : record_slowly(tracer, event, words, n);
+    return LIKELY(dspec_event_goes_(event)) && record_on_own(tracer, event, words, n, &status) ? status : record_slowly(tracer, event, words, n);
 }
 
-dspec_status dspec_tracer_put(dspec_tracer *tracer, const dspec_event *event, const uint64_t *words, size_t n) {
+INTO_CALLER dspec_status record(dspec_tracer *tracer, const dspec_event *event, const uint64_t *words, size_t n) {
     dspec_status status;
-    return dspec_tracer_try_(tracer, event, words, n, &status) ? status : record(tracer, event, words, n);
+    if (LIKELY(dspec_event_goes_(event)) && dspec_tracer_try_(tracer, event, words, n, &status)) return status;
+    return dspec_tracer_put_slowly_(tracer, event, words, n);
 }
+
+dspec_status dspec_tracer_put(dspec_tracer *tracer, const dspec_event *event, const uint64_t *words, size_t n) { return record(tracer, event, words, n); }
 
 dspec_status dspec_tracer_put_1(dspec_tracer *tracer, const dspec_event *event, uint64_t w0) { return record(tracer, event, &w0, 1); }
 
@@ -229,103 +309,232 @@ dspec_status dspec_tracer_put_3(dspec_tracer *tracer, const dspec_event *event, 
     return record(tracer, event, words, 3);
 }
 
-/* Commits one part of a path. count: its records. */
+/* Commits one part of a path. count: its records. A kill in its middle finds that it was made. */
 static dspec_status commit_part(lane *on, uint64_t id, uint32_t *count, room has) {
-    if (has == EMPTY_ROOM) lane_empty(on->of, on);
-    return has == WAITS_FOR_ROOM ? dspec_commit_if_room(&on->front.cpu, id, count) : dspec_commit(&on->front.cpu, id, count);
-}
-
-/* The last records of a path, or all. */
-static dspec_status commit_last(lane *on, open_path *one, room has) {
-    uint32_t count = 0, dropped = 0;
     dspec_status status;
-    if (!on->of->options.keep_last) dspec_dropped_in(&on->front.cpu, one->id, &dropped);
-    status = commit_part(on, one->id, &count, has);
-    if (status == DSPEC_BUSY) return status;
-    on->cut_records += one->cut;
-    one->is_cut = one->cut > 0 || dropped > 0;
-    one->has_last = status == DSPEC_OK;
-    if (!one->has_last && one->older != 0 && dspec_discard(&on->front.cpu, one->older, &count) == DSPEC_OK) on->cut_records += count;
+    if (has == EMPTY_ROOM) lane_empty(on->of, on);
+    STORE(&on->front.commits, 1);
+    __atomic_signal_fence(__ATOMIC_SEQ_CST);
+    status = has == WAITS_FOR_ROOM ? dspec_commit_if_room(&on->front.cpu, id, count) : dspec_commit(&on->front.cpu, id, count);
+    __atomic_signal_fence(__ATOMIC_SEQ_CST);
+    if (LIKELY(status == DSPEC_OK)) STORE(&on->front.answered, on->front.answered + *count);
+    STORE(&on->front.commits, 0);
     return status;
 }
 
-/* The last records come first: where the buffer has no room for the others, what is kept has no hole. */
-dspec_status path_commit(lane *on, open_path *one, room has) {
-    dspec_status status = one->has_last ? DSPEC_OK : commit_last(on, one, has);
-    uint32_t count;
-    if (status == DSPEC_OK && one->older != 0) {
-        status = commit_part(on, one->older, &count, has);
-        if (status != DSPEC_BUSY) {
-            one->is_cut |= status != DSPEC_OK;
-            status = DSPEC_OK;
-        }
+static size_t words_of_path(const open_path *one, uint32_t why, uint64_t words[6]) {
+    words[0] = one->mark;
+    words[1] = one->thread | (uint64_t)dspec_here.thread << 32;
+    words[2] = one->untold | (uint64_t)why << 32;
+    words[3] = one->begun;
+    words[4] = one->has_key ? one->key[0] : 0;
+    words[5] = one->has_key ? one->key[1] : 0;
+    return 6;
+}
+
+/* Puts a path's event among its records, so that it is kept with them or not at all: whether it had room there. */
+static bool tell_in_path(lane *on, const open_path *one, uint32_t why) {
+    uint64_t words[6];
+    const size_t n = words_of_path(one, why, words);
+    if (dspec_put_in(&on->front.cpu, one->id, on->of->claim_of_path, dspec_monotonic(), words, n) == DSPEC_OK) return true;
+    on->turned++;
+    return false;
+}
+
+/* A path that had no room for its event has it after its records. */
+RARELY static void tell_after_path(lane *on, const open_path *one, uint32_t why) {
+    uint64_t words[6];
+    const size_t n = words_of_path(one, why, words);
+    on->own_accepted += dspec_tracer_fill_(&on->front, on->of->claim_of_path, dspec_monotonic(), words, n) == DSPEC_OK;
+}
+
+/* With keep_last a path's first record, which names the request, is put among its last ones again where it was thrown away. */
+static void put_first_again(lane *on, open_path *one) {
+    if (one->cut == 0 || !one->has_first) return;
+    if (dspec_put_in(&on->front.cpu, one->id, one->first_claim, one->begun, one->first, one->first_words) == DSPEC_OK) one->cut--;
+    else on->turned++;
+}
+
+/* What a path's records need before they are committed. */
+static void prepare(lane *on, open_path *one, uint32_t why) {
+    uint32_t dropped = 0;
+    put_first_again(on, one);
+    if (!on->of->options.keep_last) dspec_dropped_in(&on->front.cpu, one->id, &dropped);
+    one->untold = (uint32_t)one->cut + dropped;
+    one->has_event = tell_in_path(on, one, why);
+    one->is_prepared = true;
+}
+
+/* The first part of a path that has two. Where it has no room, the path is lost as a whole: no end of a path is kept for the path. */
+static dspec_status commit_older(lane *on, open_path *one, room has) {
+    uint32_t count = 0;
+    dspec_status status = commit_part(on, one->older, &count, has);
+    if (status == DSPEC_BUSY) return status;
+    one->older = 0;
+    if (status == DSPEC_OK) return status;
+    if (dspec_discard(&on->front.cpu, one->id, &count) == DSPEC_OK) {
+        on->own_discarded += one->has_event;
+        STORE(&on->cut_records, on->cut_records + count - one->has_event);
     }
+    return status;
+}
+
+static dspec_status commit_last(lane *on, open_path *one, room has) {
+    uint32_t count = 0;
+    dspec_status status = commit_part(on, one->id, &count, has);
+    if (status == DSPEC_BUSY || !one->has_event) return status;
+    if (status == DSPEC_OK) on->own_accepted++;
+    else on->own_lost++;
+    return status;
+}
+
+dspec_status path_commit(lane *on, open_path *one, uint32_t why, room has) {
+    dspec_status status = DSPEC_OK;
+    if (!one->is_prepared) prepare(on, one, why);
+    if (one->older != 0) status = commit_older(on, one, has);
+    if (status == DSPEC_OK) status = commit_last(on, one, has);
     one->waits = status == DSPEC_BUSY;
-    on->cut += status == DSPEC_OK && one->is_cut;
+    if (one->waits) return status;
+    STORE(&on->cut_records, on->cut_records + one->cut);
+    STORE(&on->cut, on->cut + (status == DSPEC_OK && one->untold > 0));
+    if (status == DSPEC_OK && !LIKELY(one->has_event)) tell_after_path(on, one, why);
     return status;
 }
 
 bool path_discard(lane *on, open_path *one) {
     uint32_t count;
     if (one->older != 0) dspec_discard(&on->front.cpu, one->older, &count);
-    return dspec_discard(&on->front.cpu, one->id, &count) == DSPEC_OK;
+    if (dspec_discard(&on->front.cpu, one->id, &count) != DSPEC_OK) return false;
+    on->own_discarded += one->is_prepared && one->has_event;
+    return true;
 }
 
 /* Decides a path in its lane, which the caller is in: DSPEC_OK where it was decided so, DSPEC_BUSY where it waits for room. */
-INTO_CALLER dspec_status decide(lane *on, open_path *one, bool keep, bool waits) {
+INTO_CALLER dspec_status decide(lane *on, open_path *one, bool keep, bool waits, uint32_t why) {
     dspec_status status;
     if (one->saved) return keep ? DSPEC_OK : DSPEC_VOID;
-    status = keep ? path_commit(on, one, waits ? WAITS_FOR_ROOM : ANY_ROOM) : path_discard(on, one) ? DSPEC_OK : DSPEC_VOID;
+    status = keep ? path_commit(on, one, why, waits ? WAITS_FOR_ROOM : ANY_ROOM) : path_discard(on, one) ? DSPEC_OK : DSPEC_VOID;
     if (status != DSPEC_OK) return status;
-    if (keep) on->kept++;
-    else on->thrown++;
+    if (keep) STORE(&on->kept, on->kept + 1);
+    else STORE(&on->thrown, on->thrown + 1);
     return status;
 }
 
+/* A path whose end can't get into its lane is thrown away by the next one that has it. */
+RARELY static bool leave_behind(lane *on, open_path *one, uint64_t mark) {
+    if (state_of(on) & GONE) return false;
+    STORE(&one->left, mark);
+    __atomic_store_n(&on->left, 1, __ATOMIC_RELEASE);
+    return false;
+}
+
 /* Ends a path: whether it was decided so. Behind a stop the stop has decided it, and at a thread's end that has. */
-INTO_CALLER bool end(seat *me, dspec_path *path, bool keep) {
+INTO_CALLER bool end(seat *me, dspec_path *path, bool keep, uint32_t why) {
     lane *on = lane_of(path->lane);
     open_path *one = &on->open[path->place];
     const bool own = path->own && path->lane == me->own;
     const uint64_t most = keep ? on->of->options.keep_ms * UINT64_C(1000000) : 0, began = most > 0 ? dspec_monotonic() : 0;
     dspec_status status;
+    way in;
     is_over(path);
     for (;;) {
-        if (!lane_enter(me, on)) return false;
+        in = lane_enter(me, on);
+        if (in == NOT_IN) return leave_behind(on, one, path->mark);
         if (!adopt(on, path)) {
-            lane_leave(me, on);
+            lane_leave(on, in);
             return false;
         }
-        status = decide(on, one, keep, most > 0 && dspec_monotonic() - began < most);
+        status = decide(on, one, keep, most > 0 && dspec_monotonic() - began < most, why);
         serve_if_asked(on);
         if (status != DSPEC_BUSY) break;
-        lane_leave(me, on);
+        lane_leave(on, in);
         consumer_wakes(on->of);
-        poll(NULL, 0, 1);
+        sleep_for(1000);
     }
+    if (!LIKELY(one->own == own)) ADD(&on->handed, 1);
     STORE(&one->id, 0);
-    lane_leave(me, on);
+    lane_leave(on, in);
     lane_path_off(me, on, own);
     if (status != DSPEC_OK) wants_room(on->of);
     return status == DSPEC_OK;
 }
 
-INTO_CALLER bool ends(dspec_path *path, bool keep) {
+INTO_CALLER bool ends(dspec_path *path, bool keep, uint32_t why) {
     body *of = body_of_path(path);
     seat *me;
     bool done;
     if (of == NULL || seat_take(of, &me) != DSPEC_OK) return false;
-    done = end(me, path, keep);
+    done = end(me, path, keep, why);
     seat_leave(me);
     return done;
 }
 
-bool dspec_path_keep(dspec_path *path) { return path->lane != NULL && ends(path, true); }
+bool dspec_path_keep(dspec_path *path) { return path->lane != NULL && ends(path, true, DSPEC_WHY_KEPT); }
+
+bool dspec_path_keep_why(dspec_path *path, uint32_t why) { return path->lane != NULL && ends(path, true, why); }
+
+/* Whether a path is one of so many, by its number alone: lanes count in steps, so the number is spread first. */
+static bool is_sampled(const dspec_path *path, uint32_t sample) {
+    const uint32_t spread = (uint32_t)(path->mark >> 32) * UINT32_C(2654435761);
+    return sample > 0 && spread <= UINT32_MAX / sample;
+}
+
+bool dspec_path_end(dspec_path *path, bool failed, uint64_t slow_ns) {
+    const dspec_tracer_options *options;
+    if (path->lane == NULL || path->over) return !dspec_path_drop(path) && false;
+    options = &lane_of(path->lane)->of->options;
+    if (slow_ns == 0) slow_ns = options->slow_ns;
+    if (failed) return ends(path, true, DSPEC_WHY_FAILED);
+    if (slow_ns > 0 && dspec_path_took(path) >= slow_ns) return ends(path, true, DSPEC_WHY_SLOW);
+    if (is_sampled(path, options->sample)) return ends(path, true, DSPEC_WHY_SAMPLED);
+    return !ends(path, false, 0) && false;
+}
+
+uint64_t dspec_path_took(const dspec_path *path) { return path->lane != NULL ? dspec_monotonic() - path->begun : 0; }
+
+static void set_key(open_path *one, const uint64_t *key) {
+    memcpy(one->key, key, sizeof one->key);
+    one->has_key = true;
+}
+
+/* Makes a path this thread's, in its lane, and has the key noted where there is one: whether it is open. */
+static bool take_over(dspec_path *path, const uint64_t *key) {
+    body *of = path->lane != NULL ? body_of_path(path) : NULL;
+    bool is_open = false;
+    seat *me;
+    if (of == NULL || seat_take(of, &me) != DSPEC_OK) return false;
+    lane *on = lane_of(path->lane);
+    const way in = lane_enter(me, on);
+    if (in != NOT_IN) {
+        is_open = adopt(on, path);
+        if (is_open) path->token = path->own && path->lane == me->own ? dspec_tracer_token_4 : 0;
+        if (is_open) STORE(&dspec_tracer_recent_4, path->mark);
+        if (is_open && key != NULL) set_key(&on->open[path->place], key);
+        lane_leave(on, in);
+        if (!is_open) is_over(path);
+    }
+    seat_leave(me);
+    return is_open;
+}
+
+bool dspec_path_adopt(dspec_path *path) { return take_over(path, NULL); }
+
+bool dspec_path_key(dspec_path *path, uint64_t high, uint64_t low) {
+    const uint64_t key[] = { high, low };
+    return take_over(path, key);
+}
 
 bool dspec_path_drop(dspec_path *path) {
-    if (path->lane != NULL) return ends(path, false);
+    if (path->lane != NULL) return ends(path, false, 0);
     is_over(path);
     return true;
+}
+
+/* Throws away a path of a lane that the caller has. */
+static void throw_one(lane *on, open_path *one) {
+    decide(on, one, false, false, 0);
+    if (one->own) ADD(&on->handed, 1);
+    STORE(&one->id, 0);
 }
 
 /* Throws away the paths of a thread on one lane, which the caller is in: how many there were. */
@@ -334,11 +543,23 @@ static uint32_t throw_away(lane *on, uint32_t token) {
     for (uint32_t i = 0; i < MAX_OPEN; i++) {
         open_path *one = &on->open[i];
         if (one->id == 0 || one->token != token) continue;
-        decide(on, one, false, false);
-        STORE(&one->id, 0);
+        throw_one(on, one);
         found++;
     }
     return found;
+}
+
+void path_throw_left(lane *on) {
+    uint32_t found = 0;
+    if (LIKELY(__atomic_exchange_n(&on->left, 0, __ATOMIC_ACQUIRE) == 0)) return;
+    for (uint32_t i = 0; i < MAX_OPEN; i++) {
+        open_path *one = &on->open[i];
+        const uint64_t mark = __atomic_exchange_n(&one->left, 0, __ATOMIC_RELAXED); /* the path that has this place now may be left at any time */
+        if (mark == 0 || one->id == 0 || one->mark != mark) continue;               /* its thread's end has thrown it away since */
+        throw_one(on, one);
+        found++;
+    }
+    __atomic_fetch_sub(&on->front.state, found * USER, __ATOMIC_SEQ_CST);
 }
 
 static bool has_path_of(const lane *on, uint32_t token) {
@@ -347,13 +568,14 @@ static bool has_path_of(const lane *on, uint32_t token) {
     return false;
 }
 
-void path_ends_with_thread(body *of, seat *me) {
+void path_ends_with_thread(body *of, seat *me, uint32_t token) {
     for (uint32_t i = 0; i < of->count; i++) {
         lane *on = &of->lanes[i];
         uint32_t found;
-        if (!has_path_of(on, dspec_tracer_token_2) || !lane_enter(me, on)) continue;
-        found = throw_away(on, dspec_tracer_token_2);
-        lane_leave(me, on);
+        const way in = has_path_of(on, token) ? lane_enter(me, on) : NOT_IN;
+        if (in == NOT_IN) continue;
+        found = throw_away(on, token);
+        lane_leave(on, in);
         __atomic_fetch_sub(&on->front.state, found * USER, __ATOMIC_SEQ_CST);
     }
     if (me->own != NULL) __atomic_fetch_sub(&me->own->state, USER, __ATOMIC_SEQ_CST);

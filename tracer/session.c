@@ -65,18 +65,25 @@ void lane_serve(lane *on, bool *is_empty) {
     uint32_t settled = 0;
     if (on->buffers[0] != NULL) serve_noted(on, &sealed, &settled);
     else dspec_service(&on->front.cpu, &sealed, &settled);
+    dspec_cpu_report(&on->front.cpu, &on->latest);
     *is_empty = sealed && settled == 0;
 }
 
-/* Where a kill comes behind the library's take, what it took is told by `out` alone. */
-void lane_write(body *of, lane *on) {
+/* Takes what was switched out: whether there is something. Where a kill comes after the library's take, what it took is told by `out` alone. */
+static bool takes(lane *on) {
+    if (LOAD(&on->waits_for_disk)) return true;
     on->out = nothing_out;
     __atomic_store_n(&on->bringing, IS_TAKEN, __ATOMIC_RELEASE);
     if (dspec_take(&on->consumer, 0, &on->out) != DSPEC_OK) {
         __atomic_store_n(&on->bringing, NOT_OUT, __ATOMIC_RELEASE);
-        return;
+        return false;
     }
     on->out.cpu = on->number;
+    return true;
+}
+
+static void brings(body *of, lane *on) {
+    STORE(&on->waits_for_disk, false);
     on->before = survive_brought(&of->folder);
     on->taken++;
     __atomic_store_n(&on->bringing, IS_BROUGHT, __ATOMIC_RELEASE);
@@ -85,6 +92,28 @@ void lane_write(body *of, lane *on) {
     dspec_give_back(&on->consumer, 0);
     on->given++;
     __atomic_store_n(&on->bringing, NOT_OUT, __ATOMIC_RELEASE);
+}
+
+/* Whether the disk keeps room for the packets of what was taken; else that stays in the memory, where dspec_salvage finds it. With a bound the oldest folder goes for it. */
+static bool has_room(body *of, const lane *on) {
+    enum { LEAST_EVENTS = DSPEC_FOLDER_PACKET - 68 - 75, MORE_PACKETS = 3 };
+    int file;
+    if (of->saved == NULL || on->out.len == 0 || of->folder.most_folders > 0) return true;
+    file = dspec_folder_file_(&of->folder, on->number, 0);
+    if (file < 0) return true; /* its write tells why not */
+    return dspec_folder_keeps_(file, of->folder.sizes[on->number][0], (on->out.len / LEAST_EVENTS + MORE_PACKETS) * DSPEC_FOLDER_PACKET) == 0;
+}
+
+void lane_write(body *of, lane *on) {
+    if (!takes(on)) return;
+    STORE(&on->waits_for_disk, !has_room(of, on));
+    if (!LOAD(&on->waits_for_disk)) brings(of, on);
+}
+
+bool lanes_wait_for_disk(const body *of) {
+    for (uint32_t i = 0; i <= of->count; i++)
+        if (LOAD(&of->lanes[i].waits_for_disk)) return true;
+    return false;
 }
 
 /* Twice: with one buffer sealed the other may be full. */
@@ -102,7 +131,7 @@ void lane_clean(lane *on) {
     dspec_clean(&on->consumer, &released);
 }
 
-static void add(dspec_tracer_report *sum, const dspec_report *one) {
+void lane_add(dspec_tracer_report *sum, const dspec_report *one) {
     sum->accepted += one->accepted;
     sum->dropped += one->dropped;
     sum->specdropped += one->specdropped;
@@ -112,12 +141,20 @@ static void add(dspec_tracer_report *sum, const dspec_report *one) {
     sum->refused += one->refused;
 }
 
+void lane_counts(const lane *on, dspec_report *report) {
+    report->specdropped -= on->turned;
+    report->accepted -= on->own_accepted;
+    report->lost -= on->own_lost;
+    report->discarded -= on->own_discarded;
+}
+
 /* The end of a lane that no thread is in: whether its session ended. */
 bool lane_end(body *of, lane *on) {
     dspec_cpu *const cpus[] = { &on->front.cpu };
     dspec_closed closed = DSPEC_EMPTY;
     dspec_report report;
     dspec_batch batch;
+    if (LOAD(&on->waits_for_disk)) brings(of, on);
     if (dspec_close(&on->session, cpus, 1, &on->consumer, &closed) != DSPEC_OK) return false;
     for (int last = 0; last < 2; last++) {
         if (dspec_rest(&closed, 0, last == 1, &batch) != DSPEC_OK) continue;
@@ -125,9 +162,10 @@ bool lane_end(body *of, lane *on) {
         dspec_folder_take(&of->folder, &of->layout, &batch);
     }
     if (dspec_closed_report(&closed, 0, &report) == DSPEC_OK) {
-        report.specdropped -= on->turned;
-        dspec_ctf_miss(&of->folder.ctf[on->number], dspec_folder_untold(&report) + on->cut_records);
-        add(&of->report, &report);
+        lane_counts(on, &report);
+        dspec_ctf_miss(&of->folder.ctf[on->number], dspec_folder_untold_(&report) + on->cut_records);
+        if (on->number < of->count) lane_add(&of->report, &report);
+        of->report.own += on->own_accepted + (on->number < of->count ? 0 : report.accepted);
     }
     dspec_closed_drop(&closed);
     return true;

@@ -2,12 +2,15 @@
 #include "survive.h"
 #include "dspec_memory.h"
 
-#include <sys/eventfd.h>
 #include <errno.h>
+#include <link.h>
+#include <sys/stat.h>
 #include <unistd.h>
 
 static pthread_mutex_t mutex = PTHREAD_MUTEX_INITIALIZER;
 static pthread_once_t once = PTHREAD_ONCE_INIT;
+static pid_t process;
+static int cancelable; /* what the thread that has the lock was before */
 static body *tracers[MAX_SLOTS];
 static uint32_t runs = DSPEC_TRACER_NONE_;
 
@@ -15,19 +18,36 @@ body *tracer_at(uint32_t slot) { return __atomic_load_n(&tracers[slot], __ATOMIC
 
 void tracer_set(uint32_t slot, body *of) { __atomic_store_n(&tracers[slot], of, __ATOMIC_SEQ_CST); }
 
-void tracers_lock(void) { pthread_mutex_lock(&mutex); }
+bool process_is_ours(void) { return process == getpid(); }
 
-void tracers_unlock(void) { pthread_mutex_unlock(&mutex); }
+void tracers_lock(void) {
+    int before;
+    pthread_setcancelstate(PTHREAD_CANCEL_DISABLE, &before);
+    pthread_mutex_lock(&mutex);
+    cancelable = before;
+}
+
+void tracers_unlock(void) {
+    const int before = cancelable;
+    pthread_mutex_unlock(&mutex);
+    pthread_setcancelstate(before, NULL);
+}
 
 /* The child has this thread alone: no consumer, and files that are the parent's. */
-static void in_child(void) {
+static void leave_parent(void) {
     for (uint32_t slot = 0; slot < MAX_SLOTS; slot++) {
         if (tracers[slot] != NULL && slot < DSPEC_MAX_TRACERS) survive_in_child(tracers[slot]);
-        if (tracers[slot] != NULL) tracers[slot]->up = 0;
+        if (tracers[slot] != NULL) tracers[slot]->up = tracers[slot]->front->up = 0;
         tracers[slot] = NULL;
     }
     threads_in_child();
-    pthread_mutex_unlock(&mutex);
+    signals_in_child();
+    process = getpid();
+}
+
+static void in_child(void) {
+    leave_parent();
+    tracers_unlock();
 }
 
 /* Stops the consumer, who ends all; the caller has the lock. */
@@ -41,7 +61,9 @@ static void stop(body *of) {
     signals_unhook(&of->options);
 }
 
+/* A child by _Fork has no consumer to stop. */
 static void at_exit(void) {
+    if (!process_is_ours()) return;
     tracers_lock();
     for (uint32_t slot = 0; slot < DSPEC_MAX_TRACERS; slot++)
         if (tracers[slot] != NULL) stop(tracers[slot]);
@@ -49,12 +71,19 @@ static void at_exit(void) {
 }
 
 static void begin_once(void) {
+    process = getpid();
     threads_begin();
     pthread_atfork(tracers_lock, tracers_unlock, in_child);
     atexit(at_exit);
 }
 
-void tracers_begin(void) { pthread_once(&once, begin_once); }
+/* A child by _Fork, of which pthread_atfork wasn't told, begins here. */
+void tracers_begin(void) {
+    pthread_once(&once, begin_once);
+    if (process_is_ours()) return;
+    mutex = (pthread_mutex_t)PTHREAD_MUTEX_INITIALIZER;
+    leave_parent();
+}
 
 /* ---- The memory of a tracer. ---- */
 
@@ -70,15 +99,15 @@ static size_t events_of(const dspec_enabling *const *events) {
 }
 
 static void free_body(body *of) {
-    if (of->bell >= 0) close(of->bell);
     free(of->events);
+    free(of->added);
     if (of->saved != NULL) survive_free(of);
     else free(of);
 }
 
 /* Lets go what a tracer has that never came up. */
 static void unmake(body *of) {
-    for (uint32_t i = 0; of->events != NULL && of->events[i] != NULL; i++) STORE(&of->events[i]->event->claims[of->slot], 0);
+    events_forget(of);
     for (uint32_t i = 0; i <= of->count; i++) lane_drop(&of->lanes[i]);
     dspec_schema_drop(&of->schema);
     free_body(of);
@@ -94,7 +123,6 @@ static body *room_for(const dspec_tracer_options *options) {
 }
 
 static body *body_in(body *of, const dspec_tracer_options *options, size_t events) {
-    of->bell = -1;
     of->options = *options;
     of->count = options->lanes;
     of->by_thread = options->by_thread;
@@ -104,6 +132,7 @@ static body *body_in(body *of, const dspec_tracer_options *options, size_t event
     for (uint32_t i = 0; i <= of->count; i++) {
         of->lanes[i].number = i;
         of->lanes[i].of = of;
+        of->lanes[i].opened = i + 1 - options->lanes;
         of->lanes[i].front.state = of->locked ? IDLE | SHARED : IDLE;
     }
     if (of->events != NULL) return of;
@@ -145,7 +174,7 @@ static const char *complete(dspec_tracer_options *options) {
     set(&options->specsize, 4096);
     set(&options->period_ms, 10);
     set(&options->crash_ms, 500);
-    if (options->lanes > DSPEC_MAX_LANES) return dspec_status_text(DSPEC_BAD_CPUS);
+    if (options->lanes > DSPEC_MAX_LANES) return "lanes is not 1 to 63";
     if (options->specsize > options->bufsize) return dspec_status_text(DSPEC_BAD_SPECSIZE);
     if (options->max_bytes > 0) set(&options->max_folders, 4);
     else if (options->max_folders > 0) return "max_folders stands without max_bytes";
@@ -175,41 +204,84 @@ static bool begin_folder(dspec_tracer *tracer, body *of, const char *folder, con
     return begun;
 }
 
-/* The consumer gets no signal but its own faults. SIGXFSZ is among those that it doesn't get, so a limit on files is an error of a write. */
-static int make_thread(body *of) {
-    sigset_t all, before;
+/* What the C library takes of each thread's stack for the thread-local variables of the program and its libraries. */
+static int add_of_object(struct dl_phdr_info *object, size_t unused, void *sum) {
+    (void)unused;
+    for (size_t i = 0; i < object->dlpi_phnum; i++)
+        if (object->dlpi_phdr[i].p_type == PT_TLS) *(size_t *)sum += object->dlpi_phdr[i].p_memsz + object->dlpi_phdr[i].p_align;
+    return 0;
+}
+
+/* Our part of the consumer's stack, and the most that a stack is tried with. */
+#define STACK_SIZE ((size_t)262144)
+#define MOST_STACK ((size_t)1 << 28)
+
+/* Makes the consumer's thread with a stack of at least so many bytes. A C library that takes more than is known of it says that the stack is too small. */
+static int make_thread_with(body *of, size_t stack) {
     pthread_attr_t attributes;
     int code = pthread_attr_init(&attributes);
     if (code != 0) return code;
-    sigfillset(&all);
-    sigdelset(&all, SIGSEGV);
-    sigdelset(&all, SIGBUS);
-    sigdelset(&all, SIGFPE);
-    sigdelset(&all, SIGILL);
-    sigdelset(&all, SIGABRT);
-    pthread_attr_setstacksize(&attributes, 262144);
-    pthread_sigmask(SIG_SETMASK, &all, &before);
-    code = pthread_create(&of->thread, &attributes, consumer_runs, of);
-    pthread_sigmask(SIG_SETMASK, &before, NULL);
+    do {
+        code = pthread_attr_setstacksize(&attributes, stack);
+        if (code == 0) code = pthread_create(&of->thread, &attributes, consumer_runs, of);
+        stack *= 2;
+    } while (code == EINVAL && stack <= MOST_STACK);
     pthread_attr_destroy(&attributes);
+    return code;
+}
+
+/* The consumer gets no signal, and a fault of its own ends the process: no handler of the program's is meant for this thread, and a signal that the program's threads block waits for them.
+ * SIGXFSZ is among those that it doesn't get, so a limit on files is an error of a write. */
+static int make_thread(body *of) {
+    static const size_t page = 65536; /* as the machines have it whose pages are the largest */
+    sigset_t all, before;
+    size_t stack = STACK_SIZE;
+    int code;
+    dl_iterate_phdr(add_of_object, &stack);
+    sigfillset(&all);
+    pthread_sigmask(SIG_SETMASK, &all, &before);
+    code = make_thread_with(of, (stack + page - 1) / page * page);
+    pthread_sigmask(SIG_SETMASK, &before, NULL);
     return code;
 }
 
 static bool make(dspec_tracer *tracer, body *of, const char *folder, const dspec_enabling *const *events) {
     int code;
-    of->bell = eventfd(0, EFD_CLOEXEC | EFD_NONBLOCK);
-    if (of->bell < 0) return fail(tracer, "eventfd", strerror(errno));
     if (!begin_folder(tracer, of, folder, events)) return false;
     code = make_thread(of);
     if (code == 0) return true;
-    dspec_folder_undoes(&of->folder);
-    dspec_folder_fails(&of->folder, DSPEC_OK, code, NULL);
+    dspec_folder_undoes_(&of->folder);
+    dspec_folder_fails_(&of->folder, DSPEC_OK, code, NULL);
     return fail(tracer, "the consumer's thread", strerror(code));
+}
+
+/* Whether the folder that is to have the trace's is there. */
+static bool has_parent(dspec_tracer *tracer, const char *folder) {
+    size_t len = strlen(folder);
+    char parent[4096];
+    struct stat is;
+    while (len > 1 && folder[len - 1] == '/') len--;
+    while (len > 0 && folder[len - 1] != '/') len--;
+    if (len == 0 || len >= sizeof parent) return true;
+    memcpy(parent, folder, len);
+    parent[len] = 0;
+    if (stat(parent, &is) == 0 || errno != ENOENT) return true;
+    return fail(tracer, parent, "there is no such folder to put the trace's into: make it first");
+}
+
+bool options_take(dspec_tracer *tracer, const dspec_tracer_options *options, size_t size, dspec_tracer_options *taken) {
+    const unsigned char *bytes = (const unsigned char *)options;
+    memset(taken, 0, sizeof *taken);
+    if (options == NULL) return true;
+    memcpy(taken, options, size < sizeof *taken ? size : sizeof *taken);
+    for (size_t i = sizeof *taken; i < size; i++)
+        if (bytes[i] != 0) return fail(tracer, "the options", "one is set that this library is too old for: the program was compiled with a newer header");
+    return true;
 }
 
 /* The caller has the lock. */
 static bool start(dspec_tracer *tracer, const char *folder, const dspec_tracer_options *options, const dspec_enabling *const *events) {
-    dspec_tracer_options all = options != NULL ? *options : (dspec_tracer_options){ 0 };
+    dspec_tracer_options all = *options;
     const char *why = complete(&all);
     uint32_t slot = 0;
     body *of;
@@ -217,9 +289,11 @@ static bool start(dspec_tracer *tracer, const char *folder, const dspec_tracer_o
     while (slot < DSPEC_MAX_TRACERS && tracers[slot] != NULL) slot++;
     if (slot == DSPEC_MAX_TRACERS) return fail(tracer, "the tracer", "as many are up as can be");
     if (why != NULL) return fail(tracer, "the options", why);
+    if (!has_parent(tracer, folder)) return false;
     of = body_new(tracer, folder, &all, events);
     if (of == NULL) return false;
     of->slot = slot;
+    of->front = tracer;
     for (uint32_t i = 0; i <= of->count; i++) of->lanes[i].front.slot = slot;
     of->run = ++runs;
     of->up = 1;
@@ -227,35 +301,162 @@ static bool start(dspec_tracer *tracer, const char *folder, const dspec_tracer_o
         unmake(of);
         return false;
     }
-    survive_is_whole(of);
+    survive_is_whole(of, tracer->why, sizeof tracer->why);
     tracer_set(slot, of);
     STORE(&tracer->seat, (size_t)((const char *)&dspec_seats[slot] - dspec_tracer_thread_()));
     STORE(&tracer->run, of->run);
+    STORE(&tracer->up, 1);
     __atomic_store_n(&tracer->body, of, __ATOMIC_RELEASE);
     signals_hook(&of->options);
     return true;
 }
 
-bool dspec_tracer_start(dspec_tracer *tracer, const char *folder, const dspec_tracer_options *options, const dspec_enabling *const *events) {
+/* ---- The probes that a program declares. ---- */
+
+static bool is_same(const dspec_enabling *one, const dspec_enabling *other) {
+    if (one->n != other->n || memcmp(one->widths, other->widths, one->n) != 0 || memcmp(one->kinds, other->kinds, one->n) != 0) return false;
+    for (size_t i = 0; i < one->n; i++)
+        if (strcmp(one->fields[i], other->fields[i]) != 0) return false;
+    return true;
+}
+
+/* A probe is one event for all files of a program, so that all have to say the same of it. */
+static bool are_same(dspec_tracer *tracer, const dspec_enabling *const *declared, const dspec_enabling *const *end) {
+    for (const dspec_enabling *const *one = declared; one != end; one++)
+        for (const dspec_enabling *const *other = declared; other != one; other++) {
+            if ((*one)->event != (*other)->event || is_same(*one, *other)) continue;
+            snprintf(tracer->why, sizeof tracer->why, "probe `%s`: %s declares it with other fields than %s", (*one)->name, (*one)->file, (*other)->file);
+            return false;
+        }
+    return true;
+}
+
+/* Names the probes that are declared and aren't among the events. */
+static void tell_missing(dspec_tracer *tracer, const dspec_enabling *const *events, const dspec_enabling *const *declared, const dspec_enabling *const *end) {
+    size_t len = strlen(tracer->why), many = 0;
+    for (const dspec_enabling *const *one = declared; one != end; one++) {
+        bool is_there = false;
+        for (size_t i = 0; events != NULL && events[i] != NULL; i++) is_there |= events[i]->event == (*one)->event;
+        for (const dspec_enabling *const *other = declared; other != one; other++) is_there |= (*other)->event == (*one)->event;
+        if (is_there || len >= sizeof tracer->why) continue;
+        const int put = snprintf(tracer->why + len, sizeof tracer->why - len, "%s%s", many++ > 0 ? ", " : len > 0 ? "; declared, but not among the events: " : "declared, but not among the events: ", (*one)->name);
+        len += put > 0 ? (size_t)put : 0;
+    }
+}
+
+bool dspec_tracer_start_sized(dspec_tracer *tracer, const char *folder, const dspec_tracer_options *options, size_t size, const dspec_enabling *const *events,
+                              const dspec_enabling *const *declared, const dspec_enabling *const *end) {
+    dspec_tracer_options taken;
+    held_limit held;
     bool started;
     tracers_begin();
     tracers_lock();
+    held = limit_hold();
     tracer->why[0] = 0;
-    started = start(tracer, folder, options, events);
+    started = options_take(tracer, options, size, &taken) && are_same(tracer, declared, end) && start(tracer, folder, &taken, events);
+    if (started) tell_missing(tracer, events, declared, end);
+    limit_release(&held);
     tracers_unlock();
     return started;
 }
 
+/* ---- Probes of plugins. ---- */
+
+/* The place of the tracer's event of this name and these fields; -1: it has none. */
+static int place_of_event(const body *of, const dspec_enabling *one) {
+    for (int i = 0; of->events[i] != NULL; i++)
+        if (strcmp(of->events[i]->name, one->name) == 0 && is_same(of->events[i], one)) return i;
+    return -1;
+}
+
+/* The caller has the lock. */
+static bool add(dspec_tracer *tracer, body *of, const dspec_enabling *const *events) {
+    if (!LOAD(&of->up)) return fail(tracer, "the tracer", "it isn't up");
+    for (size_t i = 0; events[i] != NULL; i++)
+        if (place_of_event(of, events[i]) < 0) return fail(tracer, events[i]->name, "a tracer's events are those of its start, and it has none of this name and these fields");
+    for (size_t i = 0; events[i] != NULL; i++) {
+        if (event_adds(of, events[i]->event, of->claims[place_of_event(of, events[i])])) continue;
+        while (i-- > 0) event_goes(of, events[i]->event);
+        return fail(tracer, "the tracer", dspec_status_text(DSPEC_NO_MEMORY));
+    }
+    return true;
+}
+
+bool dspec_tracer_add(dspec_tracer *tracer, const dspec_enabling *const *events) {
+    body *of = __atomic_load_n(&tracer->body, __ATOMIC_ACQUIRE);
+    bool is_taken;
+    if (of == NULL || of->pid != getpid()) return fail(tracer, "the tracer", "it isn't up");
+    tracers_lock();
+    tracer->why[0] = 0;
+    is_taken = add(tracer, of, events);
+    tracers_unlock();
+    return is_taken;
+}
+
+void dspec_tracer_remove(dspec_tracer *tracer, const dspec_enabling *const *events) {
+    body *of = __atomic_load_n(&tracer->body, __ATOMIC_ACQUIRE);
+    if (of == NULL || of->pid != getpid()) return;
+    tracers_lock();
+    for (size_t i = 0; events[i] != NULL; i++) event_goes(of, events[i]->event);
+    tracers_unlock();
+}
+
+/* ---- While it runs. ---- */
+
+static void counts(const body *of, dspec_tracer_report *report) {
+    for (uint32_t i = 0; i < of->count; i++) {
+        const lane *on = &of->lanes[i];
+        dspec_report latest = on->latest;
+        lane_counts(on, &latest);
+        lane_add(report, &latest);
+        report->kept += LOAD(&on->kept);
+        report->thrown += LOAD(&on->thrown);
+        report->cut += LOAD(&on->cut);
+        report->cut_records += LOAD(&on->cut_records);
+    }
+    report->crash_paths = LOAD(&of->report.crash_paths);
+    tell_counts(of, report);
+}
+
+/* As much of a report as the program has room for; what it has more is zeros. */
+static void report_give(const dspec_tracer_report *from, dspec_tracer_report *report, size_t size) {
+    memset(report, 0, size);
+    memcpy(report, from, size < sizeof *from ? size : sizeof *from);
+}
+
+bool dspec_tracer_counts_sized(dspec_tracer *tracer, dspec_tracer_report *report, size_t size) {
+    const body *of = __atomic_load_n(&tracer->body, __ATOMIC_ACQUIRE);
+    dspec_tracer_report all = { 0 };
+    const bool is_up = of != NULL && of->pid == getpid() && LOAD(&of->up);
+    if (is_up) counts(of, &all);
+    report_give(&all, report, size);
+    return is_up;
+}
+
+/* No seat has run 0, so that each record outside a path takes the closer look. */
+void dspec_tracer_switch(dspec_tracer *tracer, bool on) {
+    body *of = __atomic_load_n(&tracer->body, __ATOMIC_ACQUIRE);
+    if (of == NULL) return;
+    STORE(&tracer->run, on ? of->run : 0);
+    STORE(&tracer->up, on && LOAD(&of->up));
+}
+
+void dspec_tracer_switch_event(dspec_tracer *tracer, dspec_event *event, bool on) {
+    body *of = __atomic_load_n(&tracer->body, __ATOMIC_ACQUIRE);
+    for (uint32_t i = 0; of != NULL && LOAD(&of->up) && of->events[i] != NULL; i++)
+        if (of->events[i]->event == event) event_claims(event, of->slot, on ? of->claims[i] : DSPEC_TRACER_OFF_);
+}
+
 /* ---- The end. ---- */
 
-bool dspec_tracer_stop(dspec_tracer *tracer, dspec_tracer_report *report) {
+bool dspec_tracer_stop_sized(dspec_tracer *tracer, dspec_tracer_report *report, size_t size) {
     body *of = __atomic_load_n(&tracer->body, __ATOMIC_ACQUIRE);
-    if (report != NULL) memset(report, 0, sizeof *report);
+    if (report != NULL) memset(report, 0, size);
     if (of == NULL || of->pid != getpid()) return false;
     tracers_lock();
     stop(of);
     tracers_unlock();
-    if (report != NULL) *report = of->report;
+    if (report != NULL) report_give(&of->report, report, size);
     return of->whole;
 }
 
@@ -271,8 +472,12 @@ void dspec_tracer_drop(dspec_tracer *tracer) {
 bool dspec_tracer_flush(dspec_tracer *tracer, uint32_t timeout_ms) {
     body *of = __atomic_load_n(&tracer->body, __ATOMIC_ACQUIRE);
     uint32_t ticket;
+    bool is_there;
     if (of == NULL || of->pid != getpid() || !LOAD(&of->up)) return false;
+    __atomic_fetch_add(&of->flushing, 1, __ATOMIC_SEQ_CST);
     ticket = __atomic_add_fetch(&of->asked, 1, __ATOMIC_SEQ_CST);
     consumer_wakes(of);
-    return consumer_served(of, ticket, timeout_ms);
+    is_there = consumer_served(of, ticket, timeout_ms) && !LOAD(&of->misses) && !lanes_wait_for_disk(of);
+    __atomic_fetch_sub(&of->flushing, 1, __ATOMIC_SEQ_CST);
+    return is_there;
 }

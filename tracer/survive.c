@@ -1,10 +1,8 @@
-/* survive.c: a tracer's memory as a file beside its folder, FOLDER.memory, which an orderly stop takes away and a kill leaves. */
+/* survive.c: a tracer's memory as a file beside its folder, FOLDER-memory, which an orderly stop takes away and a kill leaves. What that file is called and who has it: survive_file.c. */
 #include "survive.h"
 #include "dspec_memory.h"
 
 #include <errno.h>
-#include <fcntl.h>
-#include <sys/file.h>
 #include <sys/mman.h>
 #include <sys/stat.h>
 #include <unistd.h>
@@ -13,11 +11,13 @@
 #define MAP_FIXED_NOREPLACE 0x100000
 #endif
 
-enum { PAGE = 4096, MOST_OLD = 1000 };
+enum { PAGE = 4096 };
 
 static uint64_t pages(uint64_t bytes) { return (bytes + PAGE - 1) / PAGE * PAGE; }
 
-/* FNV-1a of all in front of the sum but the magic. */
+uint64_t saved_body_size(uint32_t lanes) { return pages(sizeof(body) + (lanes + 1) * sizeof(lane)); }
+
+/* FNV-1a of all before the sum but the magic. */
 uint64_t saved_sum(const saved_head *head) {
     const uint8_t *bytes = (const uint8_t *)head;
     uint64_t sum = UINT64_C(0xcbf29ce484222325);
@@ -25,16 +25,9 @@ uint64_t saved_sum(const saved_head *head) {
     return sum;
 }
 
-static void *fail(char *why, size_t size, const char *path, const char *reason) {
-    if (snprintf(why, size, "%s: %s", path, reason) < 0) why[0] = 0;
+static void *fail(char *why, size_t size, const char *what, const char *reason) {
+    if (snprintf(why, size, "%s: %s", what, reason) < 0) why[0] = 0;
     return NULL;
-}
-
-/* The file's name, beside the folder; false: it is too long. */
-static bool path_of(char path[4200], const char *folder) {
-    size_t length = strlen(folder);
-    while (length > 1 && folder[length - 1] == '/') length--;
-    return length < 4096 && snprintf(path, 4200, "%.*s.memory", (int)length, folder) > 0;
 }
 
 /* The bytes of the sessions of all lanes. */
@@ -46,36 +39,19 @@ static dspec_status bytes_of(const dspec_tracer_options *options, const dspec_en
     size_t each = 0;
     uint32_t epid, signature;
     if (status == DSPEC_OK) status = dspec_schema_stamp(&schema);
-    for (size_t i = 0; status == DSPEC_OK && events != NULL && events[i] != NULL; i++) status = dspec_probe_enable(&layout, &schema, events[i]->widths, events[i]->n, &epid, &signature);
+    for (int which = 0; which < 2; which++) {
+        const dspec_enabling *const *all = which == 0 ? events : own_events;
+        for (size_t i = 0; status == DSPEC_OK && all != NULL && all[i] != NULL; i++) {
+            uint8_t widths[DSPEC_MAX_FIELDS + 1];
+            size_t n;
+            enabling_widths(all[i], widths, &n);
+            status = dspec_probe_enable(&layout, &schema, widths, n, &epid, &signature);
+        }
+    }
     if (status == DSPEC_OK) status = dspec_memory_for(&config, &schema, &each);
     dspec_schema_drop(&schema);
     *bytes = 64 + (uint64_t)each * (options->lanes + 1);
     return status;
-}
-
-/* A file that stands there already is left by a run that ended without a stop: it goes out of the way, and why tells where. Whether the name is free. */
-static bool is_free(const char *path, char *why, size_t size) {
-    char aside[4200];
-    struct stat is;
-    int file = open(path, O_RDWR | O_NOFOLLOW | O_NONBLOCK | O_CLOEXEC);
-    if (file < 0 && errno == ENOENT) return true;
-    if (file < 0) return fail(why, size, path, errno == ELOOP ? "a link stands there" : strerror(errno)) != NULL;
-    if (fstat(file, &is) != 0 || !S_ISREG(is.st_mode) || is.st_uid != geteuid()) {
-        close(file);
-        return fail(why, size, path, "what stands there is no file of this user's") != NULL;
-    }
-    if (flock(file, LOCK_EX | LOCK_NB) != 0) {
-        close(file);
-        return fail(why, size, path, "another process uses it") != NULL;
-    }
-    for (int number = 0; number < MOST_OLD; number++) {
-        if (snprintf(aside, sizeof aside, "%s.%d", path, number) < 0 || renameat2(AT_FDCWD, path, AT_FDCWD, aside, RENAME_NOREPLACE) != 0) continue;
-        close(file);
-        fail(why, size, aside, "a run that didn't stop left it; dspec-salvage reads it");
-        return true;
-    }
-    close(file);
-    return fail(why, size, path, "it stands there already, and can't be put aside") != NULL;
 }
 
 /* An address that is free, and the file there; NULL: there is none. */
@@ -89,53 +65,69 @@ static void *map_at_a_place(int file, uint64_t size) {
     return NULL;
 }
 
-/* The file has all its bytes on the disk before the first of them is used: a full disk is a refusal here and no fault later. */
-static int make_file(const char *path, uint64_t size) {
-    int file = open(path, O_RDWR | O_CREAT | O_EXCL | O_NOFOLLOW | O_CLOEXEC, 0600), code;
-    if (file < 0) return -1;
-    code = flock(file, LOCK_EX | LOCK_NB) != 0 ? errno : posix_fallocate(file, 0, (off_t)size);
-    if (code == 0) return file;
-    unlink(path);
-    close(file);
-    errno = code;
-    return -1;
+/* Takes away what was made of a file, and gives the name back. */
+static void unmake(memory_file *of, const char *folder) {
+    if (of->is_made) memory_file_unlink(of, folder);
+    memory_file_puts_back(of);
+    memory_file_close(of);
 }
 
-body *survive_make(const char *folder, const dspec_tracer_options *options, const dspec_enabling *const *events, char *why, size_t size) {
-    const uint64_t head_size = pages(sizeof(saved_head)), body_size = pages(sizeof(body) + (options->lanes + 1) * sizeof(lane));
-    char path[4200];
-    uint64_t sessions = 0, all;
-    saved_head *head;
-    body *of;
-    int file;
-    dspec_status status = bytes_of(options, events, &sessions);
-    all = pages(head_size + body_size + sessions);
-    if (!path_of(path, folder)) return fail(why, size, "the folder", strerror(ENAMETOOLONG));
-    if (status != DSPEC_OK) return fail(why, size, "the session", dspec_status_text(status));
-    if (all > SURVIVE_APART) return fail(why, size, path, dspec_status_text(DSPEC_NO_MEMORY));
-    if (!is_free(path, why, size)) return NULL;
-    file = make_file(path, all);
-    if (file < 0) return fail(why, size, path, strerror(errno));
-    head = map_at_a_place(file, all);
-    if (head == NULL || dspec_memory_begin((char *)head + head_size + body_size, sessions) != DSPEC_OK) {
-        if (head != NULL) munmap(head, all);
-        unlink(path);
-        close(file);
-        return fail(why, size, path, "none of the addresses that it may have is free");
-    }
-    *head = (saved_head){ .version = SURVIVE_VERSION, .head_size = (uint32_t)head_size, .body_size = (uint32_t)body_size, .lane_size = sizeof(lane), .address = (uintptr_t)head, .size = all,
+/* The head of a memory that has nothing yet. */
+static void begin_head(saved_head *head, const dspec_tracer_options *options, const memory_file *file, const char *folder, uint64_t size) {
+    const uint64_t head_size = pages(sizeof *head), body_size = saved_body_size(options->lanes);
+    *head = (saved_head){ .version = SURVIVE_VERSION, .head_size = (uint32_t)head_size, .body_size = (uint32_t)body_size, .lane_size = sizeof(lane), .address = (uintptr_t)head, .size = size,
                           .body_at = head_size, .memory_at = head_size + body_size, .lanes = options->lanes, .paths = options->paths, .bufsize = options->bufsize,
-                          .specsize = options->specsize, .max_folders = options->max_folders };
+                          .specsize = options->specsize, .max_folders = options->max_folders, .device = file->device, .inode = file->inode };
     snprintf(head->build, sizeof head->build, "%s", dspec_build());
     snprintf(head->folder, sizeof head->folder, "%s", folder);
-    of = (body *)(void *)((char *)head + head_size);
+}
+
+/* The tracer in a file that was made; NULL: none of the addresses that it may have is free. */
+static body *body_in_file(const memory_file *file, const dspec_tracer_options *options, const char *folder, uint64_t sessions, uint64_t size) {
+    const uint64_t memory_at = size - pages(sessions);
+    saved_head *head = map_at_a_place(file->at, size);
+    body *of;
+    if (head == NULL) return NULL;
+    if (dspec_memory_begin((char *)head + memory_at, sessions) != DSPEC_OK) {
+        munmap(head, size);
+        return NULL;
+    }
+    begin_head(head, options, file, folder, size);
+    of = (body *)(void *)((char *)head + head->body_at);
     of->saved = head;
     of->memory = (char *)head + head->memory_at;
-    of->memory_file = file;
+    of->file = *file;
     return of;
 }
 
-/* How many labels of the name at a place the head tells behind the bytes that it has: all, or where they have no room none. */
+body *survive_make(const char *folder, const dspec_tracer_options *options, const dspec_enabling *const *events, char *why, size_t size) {
+    char whole[4096];
+    uint64_t sessions = 0, all;
+    memory_file file;
+    body *of = NULL;
+    dspec_status status = bytes_of(options, events, &sessions);
+    int code;
+    if (status != DSPEC_OK) return fail(why, size, "the session", dspec_status_text(status));
+    all = pages(sizeof(saved_head)) + saved_body_size(options->lanes) + pages(sessions);
+    if (all > SURVIVE_APART) return fail(why, size, "the memory", dspec_status_text(DSPEC_NO_MEMORY));
+    code = memory_file_place(&file, folder, whole);
+    if (code != 0) {
+        memory_file_close(&file);
+        return fail(why, size, folder, strerror(code));
+    }
+    if (!memory_file_frees_name(&file, why, size)) {
+        memory_file_close(&file);
+        return NULL;
+    }
+    code = memory_file_make(&file, all);
+    if (code == 0) of = body_in_file(&file, options, whole, sessions, all);
+    if (of != NULL) return of;
+    unmake(&file, whole);
+    if (code != 0 && snprintf(why, size, "%s: %s, for %llu bytes", file.name, code == EFBIG ? "RLIMIT_FSIZE (ulimit -f) is too low" : strerror(code), (unsigned long long)all) > 0) return NULL;
+    return fail(why, size, file.name, "none of the addresses that it may have is free");
+}
+
+/* How many labels of the name at a place the head tells after the bytes that it has: all, or where they have no room none. */
 static uint16_t tell_labels(saved_head *head, const dspec_names *names, size_t at, size_t *bytes) {
     const size_t count = dspec_names_label_count(names, at);
     size_t end = *bytes;
@@ -176,36 +168,71 @@ void survive_tell(body *of, const struct whose *us, const dspec_names *names) {
     head->ticks = us->identity.ticks;
     snprintf(head->host, sizeof head->host, "%.*s", (int)us->identity.host.len, us->identity.host.bytes);
     snprintf(head->program, sizeof head->program, "%s", us->name);
+    head->process = memory_file_process(head->pid);
     head->sum = saved_sum(head);
 }
 
-void survive_is_whole(body *of) {
-    if (of->saved != NULL) __atomic_store_n(&of->saved->magic, SURVIVE_MAGIC, __ATOMIC_RELEASE);
+void survive_is_whole(body *of, char *why, size_t size) {
+    uint32_t unread;
+    size_t len;
+    if (of->saved == NULL) return;
+    __atomic_store_n(&of->saved->magic, SURVIVE_MAGIC, __ATOMIC_RELEASE);
+    unread = of->file.aside == 0 ? 0 : memory_file_prunes(&of->file);
+    of->file.aside = 0;
+    len = strlen(why);
+    if (unread > 0) snprintf(why + len, size - len, "; the oldest of more than %d went, which nobody had read", SURVIVE_MOST_ASIDE);
 }
 
 void survive_over(body *of) {
-    char path[4200];
-    struct stat is, there;
-    if (of->saved == NULL || of->memory_file < 0) return;
-    if (path_of(path, of->saved->folder) && fstat(of->memory_file, &is) == 0 && lstat(path, &there) == 0 && is.st_dev == there.st_dev && is.st_ino == there.st_ino) unlink(path);
-    close(of->memory_file);
-    of->memory_file = -1;
+    int code;
+    if (of->saved == NULL || of->file.at < 0) return;
+    code = memory_file_unlink(&of->file, of->saved->folder);
+    if (code != 0 && of->report.why[0] == 0) snprintf(of->report.why, sizeof of->report.why, "the memory's file stays, %.80s: %s", of->file.name, strerror(code));
+    memory_file_close(&of->file);
+}
+
+/* Whether the folder has all that the memory has. No thread gets into a lane any more; the consumer found each empty after its last call, and has written what it took. */
+static bool is_settled(body *of) {
+    bool is = true;
+    for (uint32_t i = 0; i <= of->count; i++) {
+        lane *on = &of->lanes[i];
+        const uint32_t state = state_set(on, GONE);
+        is = is && (state & (IDLE | HELD)) == IDLE && LOAD(&on->front.inside) == 0 && LOAD(&on->bringing) == NOT_OUT && LOAD(&on->given) == LOAD(&on->switched);
+        for (uint32_t k = 0; k < MAX_OPEN; k++) is = is && (LOAD(&on->open[k].id) == 0 || LOAD(&on->open[k].saved));
+    }
+    return is;
+}
+
+void survive_dies(body *of) {
+    const memory_file *file = &of->file;
+    if (of->saved == NULL || !memory_file_is_ours(file->parent, file->parent_device, file->parent_inode)) return;
+    if (is_settled(of)) memory_file_unlink(file, of->saved->folder);
 }
 
 void survive_free(body *of) {
     saved_head *head = of->saved;
-    survive_over(of);
+    memory_file file = of->file;
+    if (file.at >= 0) unmake(&file, head->folder);
     dspec_memory_end(of->memory);
     munmap(head, head->size);
 }
 
-/* What the child does to the memory is its own from now on, and the lock is the parent's alone. */
+/* A copy at the same address, which takes no descriptor. */
+static void copy_in_place(saved_head *head, size_t size) {
+    void *copy = mmap(NULL, size, PROT_READ | PROT_WRITE, MAP_PRIVATE | MAP_ANONYMOUS, -1, 0);
+    if (copy == MAP_FAILED) return;
+    memcpy(copy, head, size);
+    if (mremap(copy, size, size, MREMAP_MAYMOVE | MREMAP_FIXED, head) == MAP_FAILED) munmap(copy, size);
+}
+
+/* What the child does to the memory is its own from now on; the lock is the parent's alone. */
 void survive_in_child(body *of) {
     saved_head *head = of->saved;
-    if (head == NULL || of->memory_file < 0) return;
-    if (mmap(head, head->size, PROT_READ | PROT_WRITE, MAP_PRIVATE | MAP_FIXED, of->memory_file, 0) == MAP_FAILED) return;
-    close(of->memory_file);
-    of->memory_file = -1;
+    if (head == NULL || of->file.at < 0) return;
+    if (!memory_file_is_ours(of->file.at, of->file.device, of->file.inode) ||
+        mmap(head, head->size, PROT_READ | PROT_WRITE, MAP_PRIVATE | MAP_FIXED, of->file.at, 0) == MAP_FAILED)
+        copy_in_place(head, head->size);
+    memory_file_close(&of->file);
 }
 
 uint64_t survive_brought(const dspec_folder *folder) {

@@ -2,20 +2,27 @@
 #include "body.h"
 
 #include <sys/mman.h>
+#include <sys/prctl.h>
 #include <sys/syscall.h>
+#include <time.h>
 #include <unistd.h>
 
 enum { STACK_SIZE = 65536, GUARD_SIZE = 4096 };
+/* So many threads of a process may record: one that had another's number would be on its lanes without their locks. A test has fewer. */
+#ifndef DSPEC_MOST_TOKENS
+#define DSPEC_MOST_TOKENS (NO_TOKEN - 1)
+#endif
 
 __thread here dspec_here __attribute__((tls_model("initial-exec")));
 #define FREE_SEAT { .run = DSPEC_TRACER_NONE_, .plain = DSPEC_TRACER_NONE_ }
 __thread seat dspec_seats[DSPEC_MAX_TRACERS] __attribute__((tls_model("initial-exec"))) = { FREE_SEAT, FREE_SEAT, FREE_SEAT, FREE_SEAT, FREE_SEAT, FREE_SEAT, FREE_SEAT, FREE_SEAT };
 static_assert(DSPEC_MAX_TRACERS == 8, "a free seat for each");
-__thread uint32_t dspec_tracer_token_2 __attribute__((tls_model("initial-exec"))) = NO_TOKEN;
+__thread uint32_t dspec_tracer_token_4 __attribute__((tls_model("initial-exec"))) = NO_TOKEN;
+__thread uint64_t dspec_tracer_recent_4 __attribute__((tls_model("initial-exec")));
 
 static pthread_key_t key;
 static bool has_key;
-static uint32_t tokens;
+static uint32_t tokens; /* how many were given */
 
 /* A stack that overflowed has no room for a handler, so a thread that has no other stack for that gets one. */
 void stack_on(void) {
@@ -41,21 +48,33 @@ void stack_off(void) {
     munmap(at, STACK_SIZE + GUARD_SIZE);
 }
 
-/* The thread has no seat, and is none that has been. */
+bool stack_is_ours(const stack_t *of) { return dspec_here.stack != NULL && of->ss_sp == (char *)dspec_here.stack + GUARD_SIZE; }
+
+/* The thread has no seat, and is none that has been. A handler that comes in between finds a seat that is busy or no run's. */
 static void forget(void) {
-    for (uint32_t slot = 0; slot < DSPEC_MAX_TRACERS; slot++) dspec_seats[slot] = (seat)FREE_SEAT;
-    dspec_tracer_token_2 = NO_TOKEN;
+    dspec_tracer_token_4 = NO_TOKEN;
+    dspec_tracer_recent_4 = 0;
+    for (uint32_t slot = 0; slot < DSPEC_MAX_TRACERS; slot++) {
+        seat *me = &dspec_seats[slot];
+        me->run = DSPEC_TRACER_NONE_;
+        seat_owns(me, NULL);
+        seat_leave(me);
+    }
 }
 
-/* The thread ends: what it left undecided is thrown away, and its lanes are others'. */
+/* The thread ends: what it left undecided is thrown away, and its lanes are others'. It is in each tracer meanwhile, and has no token, so that a handler's call finds nothing of it. */
 static void detach(void *unused) {
+    const uint32_t token = dspec_tracer_token_4;
+    bool is_in[DSPEC_MAX_TRACERS];
     (void)unused;
     tracers_lock();
+    /* A seat that is in a call still was thrown out of it by a signal's handler: its lane stays as it is. */
+    for (uint32_t slot = 0; slot < DSPEC_MAX_TRACERS; slot++) is_in[slot] = seat_enter(&dspec_seats[slot]);
+    dspec_tracer_token_4 = NO_TOKEN;
     for (uint32_t slot = 0; slot < DSPEC_MAX_TRACERS; slot++) {
         seat *me = &dspec_seats[slot];
         body *of = tracer_at(slot);
-        /* One that is in a call still was thrown out of it by a signal's handler: that lane stays as it is. */
-        if (of != NULL && me->run == of->run && LOAD(&of->up) && !seat_is_in(me)) path_ends_with_thread(of, me);
+        if (of != NULL && me->run == of->run && LOAD(&of->up) && is_in[slot]) path_ends_with_thread(of, me, token);
     }
     forget();
     tracers_unlock();
@@ -69,16 +88,37 @@ __attribute__((destructor)) static void unloaded(void) {
     if (has_key) pthread_key_delete(key);
 }
 
-void threads_in_child(void) { forget(); }
+void threads_in_child(void) {
+    forget();
+    dspec_here.thread = 0;
+}
+
+/* Has the consumer tell what the thread is called. */
+static void see(body *of) {
+    seen_thread *at = &of->seen[ADD(&of->threads, 1) % MAX_SEEN];
+    prctl(PR_GET_NAME, at->name, 0, 0, 0);
+    __atomic_store_n(&at->thread, dspec_here.thread, __ATOMIC_RELEASE);
+}
+
+/* Whether the thread has a number that no other has or had; one is taken where it has none. */
+static bool has_token(void) {
+    uint32_t given = LOAD(&tokens);
+    if (dspec_tracer_token_4 != NO_TOKEN) return true;
+    do {
+        if (given == DSPEC_MOST_TOKENS) return false;
+    } while (!__atomic_compare_exchange_n(&tokens, &given, given + 1, false, __ATOMIC_RELAXED, __ATOMIC_RELAXED));
+    dspec_tracer_token_4 = given + 1;
+    return true;
+}
 
 /* The thread is in the tracer meanwhile, so that no handler comes in between. */
 static void attach(body *of, seat *me) {
-    if (dspec_tracer_token_2 == NO_TOKEN) dspec_tracer_token_2 = __atomic_add_fetch(&tokens, 1, __ATOMIC_RELAXED);
     me->open = 0;
-    me->last = &of->lanes[dspec_tracer_token_2 % of->count].front;
+    me->last = &of->lanes[dspec_tracer_token_4 % of->count].front;
     if (!of->options.no_crash) stack_on();
     if (has_key) pthread_setspecific(key, &dspec_here);
-    ADD(&of->threads, 1);
+    if (dspec_here.thread == 0) dspec_here.thread = (uint32_t)syscall(SYS_gettid);
+    see(of);
     me->run = of->run;
     seat_owns(me, NULL);
 }
@@ -97,6 +137,11 @@ RARELY dspec_status seat_take_slowly(body *of, seat *me) {
     dspec_tracer_reach_();
     me->busy = true;
     __atomic_signal_fence(__ATOMIC_SEQ_CST);
+    if (!has_token()) {
+        seat_leave(me);
+        ADD(&of->refused_records, 1);
+        return DSPEC_UNAVAILABLE;
+    }
     attach(of, me);
     return DSPEC_OK;
 }

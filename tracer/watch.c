@@ -3,28 +3,15 @@
 #include "body.h"
 #include "watch.h"
 
-#include <errno.h>
-#include <poll.h>
-#include <sys/eventfd.h>
 #include <unistd.h>
 
 static body *watches[MAX_WATCHES];
-
-/* The memory of a watch, with a bell. */
-static body *made(void) {
-    body *of = calloc(1, sizeof *of);
-    if (of == NULL) return NULL;
-    of->bell = eventfd(0, EFD_CLOEXEC | EFD_NONBLOCK);
-    if (of->bell >= 0) return of;
-    free(of);
-    return NULL;
-}
 
 /* A watch that nobody has; the caller has the lock. */
 static body *unused(void) {
     uint32_t place = 0;
     while (place < MAX_WATCHES && tracer_at(DSPEC_MAX_TRACERS + place) != NULL) place++;
-    if (place == MAX_WATCHES || (watches[place] == NULL && (watches[place] = made()) == NULL)) return NULL;
+    if (place == MAX_WATCHES || (watches[place] == NULL && (watches[place] = calloc(1, sizeof(body))) == NULL)) return NULL;
     watches[place]->slot = DSPEC_MAX_TRACERS + place;
     return watches[place];
 }
@@ -38,7 +25,7 @@ dspec_watch *dspec_watch_begin(uint32_t crash_ms, void (*tells)(uint64_t *)) {
         of->options = (dspec_tracer_options){ .crash_ms = crash_ms, .no_term = true };
         of->here = tells;
         of->pid = getpid();
-        of->deferring = of->deferred = of->ended = 0;
+        of->deferring = of->deferred = of->ended = of->unsaved = of->never_saved = 0;
         for (uint32_t i = 0; i < MAX_CRASHES; i++) of->crashes[i].state = CRASH_FREE;
         tracer_set(of->slot, of);
         signals_hook(&of->options);
@@ -48,10 +35,8 @@ dspec_watch *dspec_watch_begin(uint32_t crash_ms, void (*tells)(uint64_t *)) {
 }
 
 void dspec_watch_sleep(dspec_watch *of, uint64_t nanoseconds) {
-    const struct timespec most = { (time_t)(nanoseconds / 1000000000u), (long)(nanoseconds % 1000000000u) };
-    struct pollfd bell = { .fd = of->bell, .events = POLLIN };
-    uint64_t rings;
-    while (ppoll(&bell, 1, &most, NULL) > 0 && read(of->bell, &rings, sizeof rings) < 0 && errno == EINTR) {}
+    if (__atomic_load_n(&of->rings, __ATOMIC_ACQUIRE) == of->heard) word_waits(&of->rings, of->heard, nanoseconds);
+    of->heard = __atomic_load_n(&of->rings, __ATOMIC_ACQUIRE);
 }
 
 void dspec_watch_ring(dspec_watch *of) { consumer_wakes(of); }
@@ -60,13 +45,28 @@ bool dspec_watch_next(dspec_watch *of, dspec_watched *told) {
     for (uint32_t i = 0; i < MAX_CRASHES; i++) {
         const crash *one = &of->crashes[i];
         if (__atomic_load_n(&one->state, __ATOMIC_ACQUIRE) != CRASH_READY) continue;
-        *told = (dspec_watched){ one->signal, one->code, one->address, one->at, { one->here[0], one->here[1] }, one->thread, i };
+        *told = (dspec_watched){ one->signal, one->code, one->address, one->at, one->pc, { one->here[0], one->here[1] }, one->thread, i };
         return true;
     }
     return false;
 }
 
-void dspec_watch_saved(dspec_watch *of, uint32_t place) { __atomic_store_n(&of->crashes[place].state, CRASH_FREE, __ATOMIC_RELEASE); }
+void dspec_watch_saved(dspec_watch *of, uint32_t place) { crash_is_saved(of, &of->crashes[place]); }
+
+bool dspec_watch_place(dspec_watch *of, uint32_t place, uint32_t frame, uint64_t *offset, char file[DSPEC_WATCH_FILE]) {
+    const crash *one = &of->crashes[place];
+    uint64_t address = one->pc, callers[MOST_CALLERS];
+    code_place at;
+    if (frame > 0) {
+        if (callers_of(one, callers) < frame) return false;
+        address = callers[frame - 1] - 1; /* in the call */
+    }
+    if (!place_of(address, &at)) return false;
+    *offset = at.offset;
+    memcpy(file, at.file, sizeof at.file);
+    file[sizeof at.file] = 0;
+    return true;
+}
 
 int32_t dspec_watch_signal(dspec_watch *of) { return (int32_t)__atomic_load_n(&of->deferred, __ATOMIC_ACQUIRE); }
 

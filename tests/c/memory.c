@@ -53,6 +53,41 @@ static void records_come_out(void *memory, size_t bytes) {
     dspec_memory_end(memory);
 }
 
+/* What the library calls where it grows a block (tracer/heap.c). */
+typedef struct block {
+    uint64_t is_there;
+    void *at;
+} block;
+block rattle_alloc(size_t size, size_t align);
+block rattle_realloc(void *at, size_t had, size_t size, size_t align);
+void rattle_dealloc(void *at);
+
+/* A block that grows keeps its bytes, in a memory and in malloc's; what malloc gave doesn't grow into a memory. */
+static void grows(uint8_t *memory) {
+    for (int inside = 0; inside < 2; inside++) {
+        block one, more;
+        if (inside == 1) CHECK(dspec_memory_begin(memory, 1024) == DSPEC_OK && dspec_memory_turn(memory) == NULL);
+        one = rattle_alloc(24, 8);
+        CHECK(one.is_there == 1 && (inside == 0 || ((uint8_t *)one.at > memory && (uint8_t *)one.at < memory + 1024)));
+        memcpy(one.at, "twenty-four bytes of it", 24);
+        more = rattle_realloc(one.at, 24, 200, 8);
+        CHECK(more.is_there == 1 && memcmp(more.at, "twenty-four bytes of it", 24) == 0);
+        if (inside == 1) CHECK(rattle_realloc(more.at, 200, 2000, 8).is_there == 0 && rattle_alloc(1000, 8).is_there == 0);
+        dspec_memory_turn(NULL);
+        rattle_dealloc(more.at);
+    }
+    dspec_memory_end(memory);
+}
+
+/* A session that isn't started takes no memory's place. */
+static void refused_sessions(uint8_t *memory) {
+    const dspec_config none = { 0 };
+    for (uint32_t i = 0; i < 2 * DSPEC_MAX_MEMORIES; i++) {
+        dspec_session session = DSPEC_EMPTY;
+        CHECK(dspec_start_in(&none, &schema, memory, 4096, &session) == DSPEC_BAD_CPUS);
+    }
+}
+
 int main(void) {
     const uint8_t widths[] = { 4, 4 };
     size_t bytes = 0;
@@ -83,6 +118,8 @@ int main(void) {
     CHECK(dspec_memory_begin(many[0], 64) == DSPEC_OK);
     dspec_memory_end(many[0]);
     CHECK(strlen(dspec_build()) == 32);
+    grows(memory);
+    refused_sessions(memory);
     dspec_schema_drop(&schema);
     free(memory);
     return check_end();

@@ -1,14 +1,20 @@
-/* Files that dspec_salvage can't trust: `salvage FILE FOLDER COUNT SEED`. FILE is what a killed tracer left. Each time one word of it is changed, or the head or a page is random bytes, or the
+/* Files that dspec_salvage can't trust: `salvage FILE FOLDER COUNT SEED`; `salvage FILE HOW` makes FILE one of a kind, with a sum that fits, and `salvage FILE leak FOLDER` counts memory.
+ *
+ * FILE is what a killed tracer left. Each time one word of it is changed, or the head or a page is random bytes, or the
  * file ends early; half of the changed heads have a sum that fits. dspec_salvage has to come back, with a word where it answers false, and else with no more kept records than there are. */
 #define _GNU_SOURCE
 #include "dice.h"
 
 #include "dspec_tracer.h"
 
+#include <dirent.h>
+#include <errno.h>
 #include <fcntl.h>
 #include <inttypes.h>
+#include <malloc.h>
 #include <sys/mman.h>
 #include <sys/stat.h>
+#include <unistd.h>
 
 /* Where the parts of a file are that this test has to know: those of tracer/survive.h. */
 #include "../../tracer/survive.h"
@@ -66,10 +72,93 @@ static void damage(dice *d) {
     if (one_in(d, 2)) head->sum = sum_of(head);
 }
 
+/* Takes away a folder with all that it has. */
 static void without(const char *folder) {
-    char words[4200];
-    snprintf(words, sizeof words, "rm -rf '%s'", folder);
-    if (system(words) != 0) exit(9);
+    static const char *const parts[] = { "kept", "undecided" };
+    for (size_t part = 0; part < 2; part++) {
+        char name[4200];
+        DIR *names;
+        snprintf(name, sizeof name, "%s/%s", folder, parts[part]);
+        names = opendir(name);
+        for (struct dirent *one; names != NULL && (one = readdir(names)) != NULL;)
+            if (one->d_name[0] != '.' && unlinkat(dirfd(names), one->d_name, 0) != 0) exit(9);
+        if (names != NULL) closedir(names);
+        if (rmdir(name) != 0 && errno != ENOENT) exit(9);
+    }
+    if (rmdir(folder) != 0 && errno != ENOENT) exit(9);
+}
+
+/* ---- Files of a kind. ---- */
+
+/* The write that was under way has no end, and neither has its file. */
+static void make_endless(const saved_head *head, body *us) {
+    char name[4200];
+    int hole;
+    us->folder.writing.size = (size_t)1 << 62;
+    snprintf(name, sizeof name, "%s/cpu_%u_%zu", head->folder, us->folder.writing_cpu, us->folder.writing.file);
+    hole = open(name, O_WRONLY);
+    if (hole < 0 || ftruncate(hole, (off_t)1 << 42) != 0) exit(9);
+    close(hole);
+}
+
+/* A lane, or its session alone, is another one's. */
+static void make_twice(saved_head *head, body *us, uint32_t number, bool with_all) {
+    const uint32_t from = number % head->lanes, to = (number + 1) % head->lanes;
+    lane *copy = &us->lanes[to], *of = &us->lanes[from];
+    const lane was = *copy;
+    if (with_all) {
+        *copy = *of;
+        copy->number = was.number;
+    } else {
+        copy->session = of->session;
+        copy->consumer = of->consumer;
+        copy->front.cpu = of->front.cpu;
+        copy->accepted = of->accepted;
+        copy->standing = of->standing;
+        copy->sealed = of->sealed;
+        copy->switched = of->switched;
+        copy->taken = of->taken;
+        copy->given = of->given;
+        copy->filled = of->filled;
+        memcpy(copy->open, of->open, sizeof copy->open);
+    }
+}
+
+static int make(const char *how) {
+    saved_head *head = (saved_head *)(void *)bytes;
+    body *us = (body *)(void *)(bytes + head->body_at);
+    const uint64_t body_at = head->body_at;
+    int file;
+    if (strcmp(how, "escapes") == 0) {
+        strcpy(head->folder, "/\033]0;owned\007\033[31m");
+        strcpy(head->program, "p\033[2J");
+    }
+    if (strcmp(how, "path") == 0) strcpy(head->folder, "/dev/full/../../proc/self/mem");
+    if (strcmp(how, "endless") == 0) make_endless(head, us);
+    if (strncmp(how, "lane", 4) == 0) make_twice(head, us, (uint32_t)atoi(how + 4), true);
+    if (strncmp(how, "session", 7) == 0) make_twice(head, us, (uint32_t)atoi(how + 7), false);
+    head->sum = sum_of(head);
+    if (strcmp(how, "hole") != 0) return 0;
+    file = open(path, O_RDWR);
+    return file < 0 || ftruncate(file, (off_t)body_at) != 0 || ftruncate(file, (off_t)size) != 0;
+}
+
+/* A trace is where this one is to be, so that it can't begin: nothing is kept of 200 refusals. */
+static int refuse_often(void) {
+    static dspec_salvaged told;
+    size_t before = 0, now;
+    for (int i = 0; i < 200; i++) {
+        if (dspec_salvage(path, out, &told)) return 1;
+        if (i == 10) before = mallinfo2().uordblks;
+    }
+    now = mallinfo2().uordblks;
+    printf("%zu bytes more, '%s'\n", now - before, told.why);
+    return now > before + 8000;
+}
+
+/* How far it is, for whoever waits for many. */
+static void tell(uint64_t count, const uint64_t answered[2], uint64_t unreadable) {
+    fprintf(stderr, "%" PRIu64 ": %" PRIu64 " read, %" PRIu64 " refused, %" PRIu64 " lanes unreadable\n", count, answered[1], answered[0], unreadable);
 }
 
 int main(int count, char **words) {
@@ -78,16 +167,18 @@ int main(int count, char **words) {
     dice d = { 0 };
     struct stat is;
     int file;
-    if (count != 5) return 2;
+    if (count < 3 || count > 5) return 2;
     snprintf(path, sizeof path, "%s", words[1]);
-    snprintf(out, sizeof out, "%s", words[2]);
-    d.state = strtoull(words[4], NULL, 10);
+    snprintf(out, sizeof out, "%s", words[count == 4 ? 3 : 2]);
+    if (count == 4) return refuse_often();
+    d.state = count == 5 ? strtoull(words[4], NULL, 10) : 0;
     file = open(path, O_RDWR);
     if (file < 0 || fstat(file, &is) != 0) return 9;
     size = (size_t)is.st_size;
     bytes = mmap(NULL, size, PROT_READ | PROT_WRITE, MAP_SHARED, file, 0);
     whole = malloc(size);
     if (bytes == MAP_FAILED || whole == NULL) return 9;
+    if (count == 3) return make(words[2]);
     memcpy(whole, bytes, size);
     without(out);
     if (!dspec_salvage(path, out, &told)) {
@@ -107,6 +198,7 @@ int main(int count, char **words) {
             return 1;
         }
         without(out);
+        if (i % 1000 == 999) tell(i + 1, answered, unreadable);
     }
     memcpy(bytes, whole, size);
     printf("%" PRIu64 " read, %" PRIu64 " refused, %" PRIu64 " lanes unreadable\n", answered[1], answered[0], unreadable);

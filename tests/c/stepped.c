@@ -1,10 +1,11 @@
 /* A tracer that is killed behind each instruction: of its calls, `stepped FOLDER SNAP OUT EACH`, and of its consumer's thread, as it writes what there is, `stepped FOLDER SNAP OUT EACH
- * consumer`. Behind each EACH-th instruction the memory's file is copied to SNAP, as a kill would leave it, and read by `stepped judge SNAP OUT ..`, a process of its own. What was answered has
+ * consumer`; as it can't, since the disk is full, `full`; and as it can again, `room`. The linker's --wrap leads what keeps room on the disk through here, and the consumer's own records. Behind each EACH-th instruction the memory's file is copied to SNAP, as a kill would leave it, and read by `stepped judge SNAP OUT ..`, a process of its own. What was answered has
  * to be there or in the tracer's folder, what was thrown away nowhere, and what is being made may be there or not, as a whole. The last line counts what was judged. */
 #define _GNU_SOURCE
 #include "dspec_tracer.h"
 
 #include <dirent.h>
+#include <errno.h>
 #include <fcntl.h>
 #include <inttypes.h>
 #include <poll.h>
@@ -14,6 +15,7 @@
 #include <stdlib.h>
 #include <string.h>
 #include <sys/auxv.h>
+#include <sys/mman.h>
 #include <sys/ptrace.h>
 #include <sys/stat.h>
 #include <sys/user.h>
@@ -33,10 +35,11 @@ typedef struct known {
 } known;
 
 static known now;
+static bool *is_putting; /* the consumer makes a record of its own, in the middle of which each third instruction is looked behind: few of them are between its bytes and its count */
 static char **names;
 static int memory;
 static uint64_t instructions, judged, wrong, lacking, each;
-enum { IS_LACKING = 9 };
+enum { IS_LACKING = 9, EACH_OF_A_PUT = 3 };
 static uint8_t copy[1 << 20];
 
 /* ---- The judge. ---- */
@@ -62,6 +65,12 @@ static void add_query(found *all, uint64_t request, uint64_t at) {
     all->steps[place] = at;
 }
 
+/* The bytes of an event's fields: of the program's, each with the number of its path first, of the tracer's own of a path, and of one that tells of an open path. */
+static uint64_t size_of(uint64_t epid) {
+    enum { QUERY = 1, TICK = 2, KEPT = 5 };
+    return epid == QUERY ? 16 : epid == TICK ? 12 : epid == KEPT ? 44 : 12;
+}
+
 /* The events of a file of the lane: queries by their requests, and ticks. */
 static void read_file(const char *folder, int number, found *all) {
     uint8_t packet[PACKET];
@@ -75,11 +84,11 @@ static void read_file(const char *folder, int number, found *all) {
             const uint64_t epid = number_of(packet + at, 4);
             at += 12;
             if (epid == 1 && all->count < MOST) {
-                add_query(all, number_of(packet + at, 8), number_of(packet + at + 8, 4));
+                add_query(all, number_of(packet + at + 4, 8), number_of(packet + at + 12, 4));
             } else if (epid == 2 && all->ticked < MOST) {
-                all->ticks[all->ticked++] = number_of(packet + at, 8);
+                all->ticks[all->ticked++] = number_of(packet + at + 4, 8);
             }
-            at += epid == 2 ? 8 : 12;
+            at += size_of(epid);
         }
     }
     if (file >= 0) close(file);
@@ -215,7 +224,7 @@ static void one_request(dspec_tracer *tracer, uint64_t number) {
 
 static bool opens(const char *folder) {
     char path[4200];
-    snprintf(path, sizeof path, "%s.memory", folder);
+    snprintf(path, sizeof path, "%s-memory", folder);
     memory = open(path, O_RDONLY | O_CLOEXEC);
     return memory >= 0;
 }
@@ -236,8 +245,37 @@ static int end(void) {
 
 /* ---- The consumer. ---- */
 
+/* A disk that is full. */
+static bool is_full;
+int __real_fallocate(int file, int mode, off_t from, off_t length);
+int __wrap_fallocate(int file, int mode, off_t from, off_t length);
+
+int __wrap_fallocate(int file, int mode, off_t from, off_t length) {
+    if (!is_full) return __real_fallocate(file, mode, from, length);
+    errno = ENOSPC;
+    return -1;
+}
+
+dspec_status __real_dspec_put(dspec_cpu *cpu, uint64_t claim, uint64_t stamp, const uint64_t *words, size_t n);
+dspec_status __wrap_dspec_put(dspec_cpu *cpu, uint64_t claim, uint64_t stamp, const uint64_t *words, size_t n);
+
+dspec_status __wrap_dspec_put(dspec_cpu *cpu, uint64_t claim, uint64_t stamp, const uint64_t *words, size_t n) {
+    dspec_status status;
+    if (is_putting == NULL) return __real_dspec_put(cpu, claim, stamp, words, n);
+    *(volatile bool *)is_putting = true;
+    status = __real_dspec_put(cpu, claim, stamp, words, n);
+    *(volatile bool *)is_putting = false;
+    return status;
+}
+
+/* Fills a disk, so that a batch waits for it. */
+static bool waits_for_disk(dspec_tracer *tracer) {
+    is_full = true;
+    return !dspec_tracer_flush(tracer, 60000);
+}
+
 /* Makes all requests and the first records of one more, says so, and flushes once it is told to. */
-static void play(dspec_tracer *tracer, int to, int from) {
+static void play(dspec_tracer *tracer, const char *how, int to, int from) {
     char word = 0;
     for (uint64_t number = 1; number <= REQUESTS + 1; number++) {
         dspec_path path = dspec_path_begin(tracer);
@@ -246,7 +284,10 @@ static void play(dspec_tracer *tracer, int to, int from) {
         if (number % 2 == 1 ? !dspec_path_keep(&path) : !dspec_path_drop(&path)) _exit(6);
         tick_now(tracer, number - 1);
     }
-    if (write(to, &word, 1) != 1 || read(from, &word, 1) != 1 || !dspec_tracer_flush(tracer, 3600000) || write(to, &word, 1) != 1) _exit(6);
+    if (strcmp(how, "consumer") != 0 && !waits_for_disk(tracer)) _exit(6);
+    if (write(to, &word, 1) != 1 || read(from, &word, 1) != 1) _exit(6);
+    is_full = strcmp(how, "full") == 0;
+    if (dspec_tracer_flush(tracer, 3600000) == is_full || write(to, &word, 1) != 1) _exit(6);
     pause();
 }
 
@@ -284,15 +325,16 @@ static bool reads_clock(pid_t thread) {
 #endif
 }
 
-static int step_the_consumer(const char *folder) {
+static int step_the_consumer(const char *folder, const char *how) {
     static dspec_tracer tracer;
     int to[2], from[2], status = 0, signal = 0;
     pid_t child, thread;
     char word = 0;
-    if (pipe(to) != 0 || pipe(from) != 0) return 4;
+    is_putting = mmap(NULL, sizeof *is_putting, PROT_READ | PROT_WRITE, MAP_SHARED | MAP_ANONYMOUS, -1, 0);
+    if (is_putting == MAP_FAILED || pipe(to) != 0 || pipe(from) != 0) return 4;
     child = fork();
     if (child == 0) {
-        if (starts(&tracer, folder)) play(&tracer, from[1], to[0]);
+        if (starts(&tracer, folder)) play(&tracer, how, from[1], to[0]);
         _exit(3);
     }
     close(from[1]);
@@ -302,9 +344,10 @@ static int step_the_consumer(const char *folder) {
     if (!opens(folder) || thread == 0 || ptrace(PTRACE_SEIZE, thread, 0, 0) != 0 || ptrace(PTRACE_INTERRUPT, thread, 0, 0) != 0 || waitpid(thread, &status, __WALL) != thread) return 5;
     if (write(to[1], &word, 1) != 1) return 5;
     while (has_stepped(thread, signal, from[0], &status)) {
+        const uint64_t often = *(volatile bool *)is_putting && each > EACH_OF_A_PUT ? EACH_OF_A_PUT : each;
         signal = WSTOPSIG(status) == SIGTRAP ? 0 : WSTOPSIG(status);
         instructions++;
-        if (instructions % each == 0 && !reads_clock(thread)) look();
+        if (instructions % often == 0 && !reads_clock(thread)) look();
     }
     kill(child, SIGKILL);
     while (waitpid(-1, &status, __WALL) > 0) {}
@@ -321,7 +364,7 @@ int main(int count, char **words) {
     if (count != 5 && count != 6) return 2;
     names = words;
     each = strtoull(words[4], NULL, 10);
-    if (count == 6) return step_the_consumer(words[1]);
+    if (count == 6) return step_the_consumer(words[1], words[5]);
     if (!starts(&tracer, words[1])) return 3;
     sigaction(SIGTRAP, &trap, NULL);
     for (uint64_t number = 1; number <= REQUESTS; number++) {

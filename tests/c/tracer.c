@@ -155,8 +155,8 @@ static int end(dspec_tracer *one) {
            r.dropped, r.specdropped, r.lost, r.discarded, r.void_, r.refused);
     printf(" kept=%" PRIu64 " thrown=%" PRIu64 " undecided=%" PRIu64 " crash_paths=%" PRIu64 " no_slot=%" PRIu64 " nested=%" PRIu64 " late=%" PRIu64 " waited=%" PRIu64, r.kept, r.thrown,
            r.undecided, r.crash_paths, r.no_slot, r.nested, r.late, r.waited);
-    printf(" threads=%" PRIu64 " stuck=%" PRIu64 " not_written=%" PRIu64 " cut=%" PRIu64 " cut_records=%" PRIu64 " gone=%" PRIu64 " gone_folders=%" PRIu64, r.threads, r.stuck_lanes,
-           r.not_written, r.cut, r.cut_records, r.gone_records, r.gone_folders);
+    printf(" threads=%" PRIu64 " stuck=%" PRIu64 " not_written=%" PRIu64 " own=%" PRIu64 " cut=%" PRIu64 " cut_records=%" PRIu64 " gone=%" PRIu64 " gone_folders=%" PRIu64, r.threads, r.stuck_lanes,
+           r.not_written, r.own, r.cut, r.cut_records, r.gone_records, r.gone_folders);
     printf(" requests=%" PRIu64 " why=%s\n", (uint64_t)requests, r.why);
     return whole ? 0 : 4;
 }

@@ -3,6 +3,7 @@
 #include "dspec_tracer.hpp"
 
 #include <cstdio>
+#include <cstdlib>
 #include <cstring>
 #include <string>
 #include <thread>
@@ -68,6 +69,45 @@ void to_another_thread(dspec::tracer &tracer) {
     std::thread([moved = std::move(path)]() mutable { check(moved.record(tick, 5u) == DSPEC_OK && moved.keep(), "a path goes on on another thread"); }).join();
 }
 
+/* Requests 6, 8 and 9 are kept: one was failed, one failed by an exception, one was slow. */
+void by_rule(dspec::tracer &tracer) {
+    {
+        dspec::tracer::guard bad{tracer.open()};
+        bad.record(tick, 6u);
+        bad.fail();
+    }
+    {
+        dspec::tracer::guard fine{tracer.open()};
+        fine.record(tick, 107u);
+    }
+    try {
+        dspec::tracer::guard thrown{tracer.open()};
+        thrown.record(tick, 8u);
+        throw 1;
+    } catch (int) {
+    }
+    dspec::tracer::path slow = tracer.open();
+    check(!slow.is_open() && slow.took().count() == 0, "a path without a record is not open");
+    slow.record(tick, 9u);
+    check(slow.is_open() && slow.adopt() && slow.key(7, 8) && slow.took().count() >= 0, "an open path");
+    check(slow.end(false, std::chrono::nanoseconds(1)) && !slow.is_open(), "a slow path is kept");
+    check(tracer.is_up() && tracer.counts().kept == 6, "counts while it runs");
+    tracer.turn(tick, false);
+    check(tracer.record(tick, 108u) == DSPEC_VOID, "an event that is off");
+    tracer.turn(tick, true);
+    tracer.turn(false);
+    check(!tracer.is_up() && tracer.record(tick, 109u) == DSPEC_UNAVAILABLE && tracer.open().record(tick, 109u) == DSPEC_UNAVAILABLE, "a tracer that is off");
+    tracer.turn(true);
+}
+
+void by_environment(const std::string &folder) {
+    setenv("DSPEC_TRACE", (folder + ".environment,sample=1").c_str(), 1);
+    dspec::tracer tracer(dspec::tracer::by_environment{}, {}, tick);
+    dspec::tracer::path path = tracer.open();
+    path.record(tick, 1u);
+    check(path.end(false) && tracer.stop().whole, "a start by the environment");
+}
+
 } /* namespace */
 
 int main(int argc, char **argv) {
@@ -77,12 +117,13 @@ int main(int argc, char **argv) {
         dspec::tracer tracer(folder.c_str(), {}, tick, kinds, reserved, said);
         paths(tracer);
         to_another_thread(tracer);
+        by_rule(tracer);
         check(tracer.record(kinds, std::int16_t{-2}, 0.5f, -0.25, true, color::blue) == DSPEC_OK, "a record in no path");
         check(tracer.record(reserved, 1u, 2u) == DSPEC_OK, "names that are kept for the metadata");
         check(tracer.record(said, "a \"text\" that is longer", outcome::aborted) == DSPEC_OK, "a text and a label");
         check(tracer.flush(std::chrono::seconds(10)), "a flush");
         auto [whole, report] = tracer.stop();
-        check(whole && report.accepted == 8 && report.kept == 3 && report.discarded == 3 && report.refused == 0, "what came of it");
+        check(whole && report.accepted == 11 && report.kept == 6 && report.discarded == 4 && report.refused == 0, "what came of it");
         check(tracer.record(tick, 104u) == DSPEC_STOPPED, "a record behind the stop");
     }
     bool is_refused = false;
@@ -92,6 +133,7 @@ int main(int argc, char **argv) {
         is_refused = std::strstr(error.what(), "File exists") != nullptr;
     }
     check(is_refused, "a folder that has a trace");
+    by_environment(folder);
     std::printf("%d passed, %d failed\n", passed, failed);
     return failed > 0;
 }

@@ -1,11 +1,13 @@
 /* The lanes' locks of a tracer, raced: `tracer_race FOLDER SEED [OPTION=NUMBER ..]`. Eight threads share two lanes while a signal's handler yields, spins or
  * sleeps inside their calls; where the processor can step, some calls are interrupted behind each of their instructions. Paths go from thread to thread, and
  * a thread flushes meanwhile. With alone=1 each thread has a lane of its own, takes no lock, makes plain records inside its paths too, and steps half of its
- * requests, while another thread flushes all the time: then the consumer comes to lanes whose threads are in a call. Printed are the records of each kept path
+ * requests, while another thread flushes all the time: then the consumer comes to lanes whose threads are in a call. With forbidden=1 the system refuses
+ * membarrier(2) from some time on. Printed are the records of each kept path
  * that were made, as bits, and what the stop tells; tests/c/tracer compares both with the trace. */
 #define _GNU_SOURCE
 #include "dspec_tracer.h"
 #include "dice.h"
+#include "forbid.h"
 
 #include <inttypes.h>
 #include <pthread.h>
@@ -37,7 +39,7 @@ static bool one_waits;
 static atomic_int running = THREADS;
 static _Atomic uint64_t ticks, refused;
 static uint64_t seed;
-static bool alone;
+static bool alone, is_forbidden;
 static _Thread_local dice interrupted;
 
 static void on_interrupt(int signal) {
@@ -153,6 +155,7 @@ int main(int count, char **words) {
     seed = strtoull(words[2], NULL, 10);
     for (int i = 3; i < count; i++) {
         if (strcmp(words[i], "no_membarrier=1") == 0) options.no_membarrier = true;
+        else if (strcmp(words[i], "forbidden=1") == 0) is_forbidden = true;
         else if (strcmp(words[i], "alone=1") == 0) alone = true, options.lanes = THREADS;
         else if (strcmp(words[i], "by_thread=1") == 0) options.by_thread = true;
         else if (strcmp(words[i], "keep_last=1") == 0) options.keep_last = true, options.paths = 31;
@@ -167,6 +170,7 @@ int main(int count, char **words) {
     }
     for (uintptr_t i = 0; i < THREADS; i++) pthread_create(&threads[i], NULL, work, (void *)i);
     dice d = { seed };
+    if (is_forbidden) forbid_barriers();
     while (atomic_load(&running) > 0) {
         pthread_kill(threads[below(&d, THREADS)], SIGUSR2);
         if (alone || one_in(&d, 200)) dspec_tracer_flush(&tracer, 1);

@@ -23,11 +23,16 @@ DSPEC_PROBE(p60, uint8_t, v); DSPEC_PROBE(p61, uint8_t, v); DSPEC_PROBE(p62, uin
 DSPEC_PROBE(p70, uint8_t, v); DSPEC_PROBE(p71, uint8_t, v); DSPEC_PROBE(p72, uint8_t, v); DSPEC_PROBE(p73, uint8_t, v); DSPEC_PROBE(p74, uint8_t, v); DSPEC_PROBE(p75, uint8_t, v); DSPEC_PROBE(p76, uint8_t, v); DSPEC_PROBE(p77, uint8_t, v);
 #define MANY p00, p01, p02, p03, p04, p05, p06, p07, p10, p11, p12, p13, p14, p15, p16, p17, p20, p21, p22, p23, p24, p25, p26, p27, \
     p30, p31, p32, p33, p34, p35, p36, p37, p40, p41, p42, p43, p44, p45, p46, p47, p50, p51, p52, p53, p54, p55, p56, p57, \
-    p60, p61, p62, p63, p64, p65, p66, p67, p70, p71, p72, p73, p74, p75, p76, p77
+    p60, p61, p62, p63, p64, p65, p66, p67
 
 DSPEC_PROBE(event, uint32_t, stream, int32_t, clock);
 DSPEC_PROBE(once, uint32_t, a, uint32_t, _event, uint32_t, event);
 DSPEC_PROBE(twice, uint32_t, _clock, uint32_t, clock);
+/* One whose field has the name of the tracer's own. */
+static dspec_event taken;
+static const char *const fields_of_taken[] = { "dspec_path" };
+static const uint8_t widths_of_taken[] = { 4 }, kinds_of_taken[] = { DSPEC_KIND_UNSIGNED };
+static const dspec_enabling enabling_of_taken = { &taken, "taken", fields_of_taken, widths_of_taken, kinds_of_taken, 1, NULL, NULL };
 
 /* Which call of the system is refused, from 1 on; 0 none. Those of the consumer's thread are counted too, but none of them is refused. */
 static _Atomic long calls, refused, blocks;
@@ -43,14 +48,12 @@ void *REAL(realloc)(void *held, size_t bytes);
 void REAL(free)(void *held);
 int REAL(posix_memalign)(void **held, size_t multiple, size_t bytes);
 int REAL(pthread_create)(pthread_t *thread, const pthread_attr_t *how, void *(*body)(void *), void *of);
-int REAL(eventfd)(unsigned count, int flags);
 void *WRAPPED(malloc)(size_t bytes);
 void *WRAPPED(calloc)(size_t count, size_t bytes);
 void *WRAPPED(realloc)(void *held, size_t bytes);
 void WRAPPED(free)(void *held);
 int WRAPPED(posix_memalign)(void **held, size_t multiple, size_t bytes);
 int WRAPPED(pthread_create)(pthread_t *thread, const pthread_attr_t *how, void *(*body)(void *), void *of);
-int WRAPPED(eventfd)(unsigned count, int flags);
 
 static void *counted(void *held) {
     blocks += held != NULL;
@@ -79,12 +82,6 @@ int WRAPPED(posix_memalign)(void **held, size_t multiple, size_t bytes) {
 }
 
 int WRAPPED(pthread_create)(pthread_t *thread, const pthread_attr_t *how, void *(*body)(void *), void *of) { return is_refused() ? EAGAIN : REAL(pthread_create)(thread, how, body, of); }
-
-int WRAPPED(eventfd)(unsigned count, int flags) {
-    if (!is_refused()) return REAL(eventfd)(count, flags);
-    errno = EMFILE;
-    return -1;
-}
 
 /* ---- What is left. ---- */
 
@@ -149,7 +146,7 @@ static void goes_well(const dspec_tracer_options *options, const dspec_enabling 
 }
 
 static void options(void) {
-    refuses(&(dspec_tracer_options){ .lanes = 64 }, DSPEC_PROBES(p00), "cpus");
+    refuses(&(dspec_tracer_options){ .lanes = 64 }, DSPEC_PROBES(p00), "lanes");
     refuses(&(dspec_tracer_options){ .paths = 64 }, DSPEC_PROBES(p00), "nspec");
     refuses(&(dspec_tracer_options){ .bufsize = 4095 }, DSPEC_PROBES(p00), "specsize");
     refuses(&(dspec_tracer_options){ .bufsize = 8193 }, DSPEC_PROBES(p00), "bufsize");
@@ -167,11 +164,11 @@ static void options(void) {
 }
 
 static void probes(void) {
-    refuses(NULL, DSPEC_PROBES(MANY), "too many enablings");
+    refuses(NULL, DSPEC_PROBES(MANY, p70), "too many enablings");
     goes_well(&(dspec_tracer_options){ .no_crash = true }, DSPEC_PROBES(MANY));
     goes_well(NULL, DSPEC_PROBES(event));
-    refuses(NULL, DSPEC_PROBES(once), "another field");
-    refuses(NULL, DSPEC_PROBES(twice), "another field");
+    goes_well(NULL, DSPEC_PROBES(once, twice));
+    refuses(NULL, ((const dspec_enabling *const[]){ &enabling_of_taken, NULL }), "another field");
     refuses(NULL, DSPEC_PROBES(event, event), "another event");
 }
 
@@ -187,7 +184,7 @@ static void folders(void) {
     CHECK(!starts(&tracer, NULL, DSPEC_PROBES(p00)) && strstr(tracer.why, "File exists") != NULL);
     empty_folder();
     folder = "/no/such/folder";
-    refuses(NULL, DSPEC_PROBES(p00), "No such file");
+    refuses(NULL, DSPEC_PROBES(p00), "there is no such folder");
     folder = right;
 }
 

@@ -12,7 +12,7 @@ DSPEC_PROBE(said, uint64_t, request, dspec_text32, what, uint8_t, outcome);
 DSPEC_LABELS(said, outcome, "done", "aborted", "slow");
 DSPEC_PROBE(step, dspec_text8, name, uint32_t, place, int16_t, state);
 DSPEC_LABELS(step, state, "begun", "gone on");
-DSPEC_PROBE(note, dspec_text48, first, dspec_text16, second);
+DSPEC_PROBE(note, dspec_text40, first, dspec_text16, second);
 
 static dspec_literals places;
 DSPEC_LITERALS(step, place, places);
@@ -35,7 +35,7 @@ int main(int argc, char **argv) {
     is_well &= step_in(&kept, dspec_text8_of("", 0), emit, 1) == DSPEC_OK && dspec_path_keep(&kept);
     dropped = dspec_path_begin(&tracer);
     is_well &= said_in(&dropped, 2, what("never seen"), 0) == DSPEC_OK && dspec_path_drop(&dropped);
-    is_well &= note_now(&tracer, dspec_text48_of("forty-six letters of ASCII, and then one more: \xe2\x82\xac", 50), dspec_text16_of("\xff\x01", 2)) == DSPEC_OK;
+    is_well &= note_now(&tracer, dspec_text40_of("forty-six letters of ASCII, and then one more: \xe2\x82\xac", 50), dspec_text16_of("\xff\x01", 2)) == DSPEC_OK;
     is_well &= step_now(&tracer, dspec_text8_of("more than eight", 15), parse, -1) == DSPEC_OK;
     open = dspec_path_begin(&tracer);
     is_well &= said_in(&open, 3, what("an open path"), 1) == DSPEC_OK;

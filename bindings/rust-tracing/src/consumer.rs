@@ -6,7 +6,7 @@ use crate::layer::{locked, Core, DROPPED, FINISHED};
 use crate::otlp::mixed;
 use crate::path_id::PathId;
 use crate::schema::{CLOSE, ENTER, EVENT, EXIT, HEAD, MORE, OPEN, SET};
-use crate::sink::{Kind, Line, Missed, Path, Sink};
+use crate::sink::{Counts, Kind, Line, Missed, Path, Sink};
 use crate::values::{read, Held};
 use dspec::{Batch, Record, Session};
 use std::collections::{HashMap, VecDeque};
@@ -137,6 +137,8 @@ pub(crate) fn start<K: Sink + 'static>(mut sessions: Vec<Session>, core: Arc<Cor
             seed,
             full: false,
             handed: false,
+            thrown: 0,
+            counted: Counts::default(),
             report: Report::default(),
         };
         // What a sink traces isn't traced.
@@ -175,12 +177,18 @@ pub(crate) struct Paths<K> {
     full: bool,
     /// Whether the sink got something since its last flush.
     handed: bool,
+    thrown: u64,
+    /// What the sink was told last.
+    counted: Counts,
     pub(crate) report: Report,
 }
 
 /// A lane's part of a path is copied by the service behind the commit, and the buffer that it is copied to is sealed by the next: with
 /// the visit that the consumer may be in when it learns of the commit, a path is whole three visits behind.
 const VISITS: u64 = 3;
+
+/// Beside paths the counts are told so often, in nanoseconds.
+const COUNTED: u64 = 1_000_000_000;
 
 /// How long the consumer waits for a lane that somebody is in, where a flush asks for all.
 const FLUSHING: Duration = Duration::from_millis(20);
@@ -228,6 +236,7 @@ impl<K: Sink> Paths<K> {
             }
         }
         self.hand_on(true);
+        self.tell_counts();
         let answer = self.sink.end();
         self.answered(answer);
         self.report.stray = self.lines.values().map(|came| came.records).sum();
@@ -248,6 +257,7 @@ impl<K: Sink> Paths<K> {
         }
         let failures = self.report.failures;
         if self.whole_rounds(FLUSHING) {
+            self.tell_counts();
             self.handed = true;
             self.flush();
             core.flushes.made(asked, self.report.failures == failures);
@@ -329,7 +339,30 @@ impl<K: Sink> Paths<K> {
         }
     }
 
+    /// Tells the sink what came of all paths, where that has changed.
+    pub(crate) fn tell_counts(&mut self) {
+        let core = &self.core;
+        let stamp = core.now();
+        let counts = Counts {
+            stamp,
+            unix: core.unix.wrapping_add(stamp),
+            kept: self.report.paths,
+            thrown: self.thrown,
+            refused: core.missed.load(Ordering::Relaxed),
+            refused_records: core.refused_records.load(Ordering::Relaxed),
+            threads: std::mem::take(&mut *locked(&core.threads)),
+        };
+        let same = |one: &Counts| [one.kept, one.thrown, one.refused, one.refused_records];
+        if same(&counts) == same(&self.counted) && counts.threads.is_empty() {
+            return;
+        }
+        let answer = self.sink.counts(&counts);
+        self.answered(answer);
+        self.counted = counts;
+    }
+
     fn told(&mut self, told: Told) {
+        self.thrown += told.thrown;
         for kept in told.kept {
             self.ended.push_back(Ended { kept, seen: self.visits.clone() });
         }
@@ -362,11 +395,17 @@ impl<K: Sink> Paths<K> {
             lines.push(line_of_held(&self.core, &held));
         }
         lines.sort_by_key(|line| line.stamp);
+        if self.core.now().wrapping_sub(self.counted.stamp) >= COUNTED {
+            self.tell_counts();
+        }
         self.report.paths += 1;
         self.report.cut += kept.cut;
         self.report.lost += lost;
         let path = Path {
             id: kept.path.raw(),
+            number: kept.path.number(self.core.sessions()),
+            thread: kept.thread,
+            by: kept.by,
             metadata: self.core.callsites.metadata(kept.callsite),
             begun: kept.begun,
             begun_unix: self.core.unix.wrapping_add(kept.begun),

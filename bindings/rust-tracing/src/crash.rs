@@ -6,6 +6,7 @@ use crate::path_id::PathId;
 use crate::sink::{Kind, Line, Sink, Value};
 use crate::spans::{Here, Place};
 use dspec::crash::{Crash, Watch};
+use std::iter;
 use std::sync::atomic::Ordering;
 use std::time::Duration;
 use tracing_core::callsite::{Callsite, Identifier};
@@ -14,13 +15,18 @@ use tracing_core::metadata::Kind as Of;
 use tracing_core::subscriber::Interest;
 use tracing_core::{Level, Metadata};
 
-/// The callsite of the event that tells of a crash.
+/// The callsites of the events that tell of a crash, and of where it was.
 struct Told;
+struct At;
 
 static TOLD: Told = Told;
-static NAMES: &[&str] = &["signal", "code", "address", "thread"];
+static AT: At = At;
+static NAMES: &[&str] = &["signal", "code", "thread", "address", "pc", "paths", "stuck"];
+static NAMES_AT: &[&str] = &["frame", "offset", "file"];
 static METADATA: Metadata<'static> =
     Metadata::new("dspec_crash", "dspec_crash", Level::ERROR, None, None, None, FieldSet::new(NAMES, Identifier(&TOLD)), Of::EVENT);
+static METADATA_AT: Metadata<'static> =
+    Metadata::new("dspec_crash_at", "dspec_crash_at", Level::ERROR, None, None, None, FieldSet::new(NAMES_AT, Identifier(&AT)), Of::EVENT);
 
 impl Callsite for Told {
     fn set_interest(&self, _interest: Interest) {}
@@ -28,6 +34,21 @@ impl Callsite for Told {
         &METADATA
     }
 }
+
+impl Callsite for At {
+    fn set_interest(&self, _interest: Interest) {}
+    fn metadata(&self) -> &Metadata<'_> {
+        &METADATA_AT
+    }
+}
+
+/// Whether an event tells of a crash.
+pub(crate) fn is_told(line: &Line) -> bool {
+    line.metadata.is_some_and(|metadata| [&METADATA, &METADATA_AT].iter().any(|own| std::ptr::eq(*own, metadata)))
+}
+
+/// The program counter, and so many calls that lead there.
+const FRAMES: u32 = 5;
 
 /// How long the consumer waits for a lane that the crash may have left taken, in each of its rounds.
 const SAVING: Duration = Duration::from_millis(20);
@@ -83,11 +104,30 @@ impl Core {
     }
 }
 
-fn line_of(crash: &Crash<'_>, stamp: u64, span: u32) -> Line {
+fn line(
+    metadata: &'static Metadata<'static>,
+    names: &[&'static str],
+    values: impl IntoIterator<Item = Value>,
+    stamp: u64,
+    span: u32,
+) -> Line {
+    let values = names.iter().copied().zip(values).collect();
+    Line { kind: Kind::Event, stamp, lane: 0, span, parent: 0, metadata: Some(metadata), values }
+}
+
+/// What is told of a crash: what it was, and where. `stuck` is the number of lanes that somebody stays in.
+fn lines_of(crash: &Crash<'_>, stamp: u64, span: u32, kept: bool, stuck: u64) -> Vec<Line> {
     let (signal, code, address) = crash.signal();
-    let values = [Value::I64(signal.into()), Value::I64(code.into()), Value::U64(address), Value::U64(crash.thread().into())];
-    let values = NAMES.iter().copied().zip(values).collect();
-    Line { kind: Kind::Event, stamp, lane: 0, span, parent: 0, metadata: Some(&METADATA), values }
+    let numbers = [crash.thread().into(), address, crash.pc(), kept.into(), stuck];
+    let values = [signal, code].map(|value| Value::I64(value.into())).into_iter().chain(numbers.map(Value::U64));
+    let told = line(&METADATA, NAMES, values, stamp, span);
+    let places = (0..FRAMES).filter_map(|frame| crash.place(frame).map(|(offset, file)| (frame, offset, file)));
+    let places = places.map(|(frame, offset, file)| {
+        let length = file.len();
+        let values = [Value::U64(frame.into()), Value::U64(offset), Value::Text(file, length)];
+        line(&METADATA_AT, NAMES_AT, values, stamp, span)
+    });
+    iter::once(told).chain(places).collect()
 }
 
 impl<K: Sink> Paths<K> {
@@ -107,15 +147,17 @@ impl<K: Sink> Paths<K> {
         let core = self.core.clone();
         let (place, stamp) = (place_of(crash.here()), core.stamp_of(crash));
         let kept = core.crashed(place, stamp);
-        let line = line_of(crash, stamp, place.span);
+        let stuck = (0..core.lanes.count()).filter(|&number| core.lanes.tried(number, SAVING).is_none()).count();
+        let lines = lines_of(crash, stamp, place.span, kept, stuck as u64);
         if kept {
-            self.lines.entry(place.path).or_default().lines.push(line);
+            self.lines.entry(place.path).or_default().lines.extend(lines);
         } else {
-            self.outside.push(line);
+            self.outside.extend(lines);
         }
         self.report.crashes += 1;
         let whole = self.whole_rounds(SAVING);
         self.hand_on(!whole);
+        self.tell_counts();
         self.flush();
     }
 

@@ -1,8 +1,11 @@
-use crate::sink::{Kind, Line, Missed, Path, Sink, Span, Value};
-use crate::tsdl::{head, quoted, Classes, Event, PATH};
+use crate::crash::is_told;
+use crate::otlp::Trace;
+use crate::sink::{Counts, Kind, Line, Path, Sink, Span, Value};
+use crate::tsdl::{head, number_of, quoted, Classes, Event, COUNTS, ENDED, KEPT, REFUSED, THREAD, UNWRITTEN};
 use std::fs::{self, File, OpenOptions};
 use std::io::{self, Read, Write};
 use std::path::{Path as FilePath, PathBuf};
+use std::time::SystemTime;
 
 /// How many files there are at most whose times overlap. Each is held open.
 const FILES: usize = 64;
@@ -17,15 +20,20 @@ const MAGIC: u32 = 0xc1fc_1fc1;
 /// to the file whose last stamp is the greatest not above the path's first; where there is none, to a new file. 64 paths that overlap have files; one
 /// more is not written, which is a failure of [`Sink::path`].
 ///
-/// Each event has the path's number, its span and its lane as its context. A path is, in order:
+/// Each event has its span and its lane as its context, and as its first field `dspec_path`, the number of its path ([`Path::number`]); 0 of none. Events of these names are as
+/// the tracer in C has them, so one reader shows both: `dspec_kept`, `dspec_thread`, `dspec_counts`, `dspec_refused`, `dspec_crash`, `dspec_crash_at`. A path is, in order:
 ///
-/// - `dspec_path`, with the path's name, why it was kept, how long it took, its records without room ([`Path::cut`], [`Path::lost`]), and what isn't there
-///   of the time since the path before: how many paths were `missed`, and how many are `unwritten` since a write failed. The records without room are
-///   the packet's discarded events too, of which readers warn.
 /// - Events, called by target, level and line: `service_ERROR_30`, with their fields.
 /// - A span's begin, with the fields that it began with, and the number of the span around it: `query_begin`.
 /// - Values that it was given later: `query_set`. Where a thread went into it, and left it: `query_enter`, `query_exit`.
 /// - A span's end, with all its fields: `query_end`. Those of a span of which the begin was cut are `unknown_set`, `unknown_end`, ..
+/// - `dspec_ended`, with the path's name, all its reasons, how long it took, and its records that had no room in the stream ([`Path::lost`]).
+/// - `dspec_kept`, the last one: the threads that began it and decided it, its records that aren't there ([`Path::cut`] and [`Path::lost`]), its first reason of crash, panicked,
+///   failed, slow and asked, the stamp of its begin, and as its key the trace's number that [`Otlp`](crate::Otlp) writes. The records that aren't there are the packet's
+///   discarded events too, of which readers warn.
+///
+/// `stream_counts` has what is of no path: how many were kept and thrown away, and were refused, since the last time ([`Sink::counts`]); threads' names, which are those that they
+/// had at their first path; a crash outside of paths. `dspec_unwritten` tells beside the next path how many couldn't be written.
 ///
 /// Fields are what they are: integers of 64 bits with and without a sign, truth values, floating-point numbers, and texts in UTF-8. The letter of
 /// code 0 ends a text there, so U+2400 is written for it. Each pair of a callsite and its fields' types is a class of its own.
@@ -46,7 +54,10 @@ pub struct Ctf {
     /// Of which clock `metadata` is, and how many bytes of the classes' text it has.
     told: (Option<i64>, usize),
     rows: Vec<Row>,
-    missed: u64,
+    /// What is of no path, where there is something.
+    counts: Option<Row>,
+    /// What was written there last.
+    counted: Counts,
     unwritten: u64,
 }
 
@@ -84,7 +95,8 @@ impl Ctf {
             classes: Classes::new(),
             told: (None, 0),
             rows: Vec::new(),
-            missed: 0,
+            counts: None,
+            counted: Counts::default(),
             unwritten: 0,
         };
         // Whoever makes this file has the folder.
@@ -127,10 +139,34 @@ impl Ctf {
         if number == FILES {
             return Err(io::Error::other(format!("{}: each of its {FILES} files has a later time", self.folder.display())));
         }
-        let place = self.folder.join(format!("stream_{number}"));
-        let file = OpenOptions::new().append(true).create_new(true).open(&place).map_err(|error| of(&place, &error))?;
-        self.rows.push(Row { file, place, length: 0, torn: false, last: 0, discarded: 0 });
+        let row = self.new_row(&number.to_string())?;
+        self.rows.push(row);
         Ok(number)
+    }
+
+    fn new_row(&self, name: &str) -> io::Result<Row> {
+        let place = self.folder.join(format!("stream_{name}"));
+        let file = OpenOptions::new().append(true).create_new(true).open(&place).map_err(|error| of(&place, &error))?;
+        Ok(Row { file, place, length: 0, torn: false, last: 0, discarded: 0 })
+    }
+
+    /// Writes events of no path.
+    fn write_counts(&mut self, unix: u64, pieces: &mut [(u64, Vec<u8>)]) -> io::Result<()> {
+        let Some(stamp) = pieces.first().map(|piece| piece.0) else { return Ok(()) };
+        self.offset.get_or_insert(unix.wrapping_sub(stamp).cast_signed());
+        self.tell()?;
+        if self.counts.is_none() {
+            self.counts = Some(self.new_row("counts")?);
+        }
+        let Some(row) = &mut self.counts else { return Ok(()) };
+        for piece in pieces.iter_mut() {
+            piece.0 = piece.0.max(row.last);
+            row.last = piece.0;
+            piece.1[4..12].copy_from_slice(&piece.0.to_le_bytes());
+        }
+        let mut packets = Vec::new();
+        put_packets(&mut packets, self.uuid, 0, pieces);
+        row.append(&packets).map_err(|error| of(&row.place, &error))
     }
 
     fn write(&mut self, path: &Path) -> io::Result<()> {
@@ -138,11 +174,17 @@ impl Ctf {
         let first = events.first().map_or(path.begun, |event| event.stamp.min(path.begun));
         let last = events.last().map_or(first, |event| event.stamp.max(first));
         self.offset.get_or_insert(path.begun_unix.wrapping_sub(path.begun).cast_signed());
-        let mut pieces = vec![(first, self.path_event(path, first))];
+        let mut pieces = Vec::new();
+        if self.unwritten > 0 {
+            pieces.push((first, own_event(UNWRITTEN, first, |bytes| put_words(bytes, &[self.unwritten]))));
+        }
         for event in &events {
             let number = self.classes.number(event);
-            pieces.push((event.stamp.max(first), event_bytes(path, number, event)));
+            pieces.push((event.stamp.max(first), event_bytes(path.number, number, event)));
         }
+        let last = last.max(path.begun + path.nanoseconds);
+        pieces.push((last, ended_event(path, last)));
+        pieces.push((last, kept_event(path, last)));
         self.tell()?;
         let uuid = self.uuid;
         let row = self.row(first)?;
@@ -159,24 +201,12 @@ impl Ctf {
         row.discarded = discarded;
         Ok(())
     }
-
-    fn path_event(&self, path: &Path, stamp: u64) -> Vec<u8> {
-        let mut bytes = Vec::new();
-        put_header(&mut bytes, path, PATH, stamp, 1, 0);
-        put_text(&mut bytes, path.name());
-        put_text(&mut bytes, &path.why.to_string());
-        for count in [path.nanoseconds, path.cut, path.lost, self.missed, self.unwritten] {
-            bytes.extend(count.to_le_bytes());
-        }
-        bytes
-    }
 }
 
 impl Sink for Ctf {
     fn path(&mut self, path: &Path) -> io::Result<()> {
         let answer = self.write(path);
         if answer.is_ok() {
-            self.missed = 0;
             self.unwritten = 0;
         } else {
             self.unwritten += 1;
@@ -184,8 +214,33 @@ impl Sink for Ctf {
         answer
     }
 
-    fn missed(&mut self, _: &Missed) -> io::Result<()> {
-        self.missed += 1;
+    fn outside(&mut self, line: &Line) -> io::Result<()> {
+        if !is_told(line) {
+            return Ok(());
+        }
+        let event = event(line, &[]);
+        let bytes = event_bytes(0, self.classes.number(&event), &event);
+        // Where the clock began isn't known before the first path, but that the crash is of now.
+        let now = SystemTime::now().duration_since(SystemTime::UNIX_EPOCH).unwrap_or_default();
+        self.write_counts(u64::try_from(now.as_nanos()).unwrap_or(0), &mut [(line.stamp, bytes)])
+    }
+
+    fn counts(&mut self, counts: &Counts) -> io::Result<()> {
+        let (stamp, before) = (counts.stamp, &self.counted);
+        let since = [counts.kept - before.kept, counts.thrown - before.thrown];
+        let refused = [counts.refused - before.refused, counts.refused_records - before.refused_records, 0, 0];
+        let mut pieces = Vec::new();
+        for (number, name) in &counts.threads {
+            pieces.push((stamp, thread_event(stamp, *number, name)));
+        }
+        if since != [0; 2] {
+            pieces.push((stamp, own_event(COUNTS, stamp, |bytes| put_words(bytes, &since))));
+        }
+        if refused != [0; 4] {
+            pieces.push((stamp, own_event(REFUSED, stamp, |bytes| put_words(bytes, &refused))));
+        }
+        self.write_counts(counts.unix, &mut pieces)?;
+        self.counted = Counts { threads: Vec::new(), ..counts.clone() };
         Ok(())
     }
 
@@ -313,23 +368,67 @@ fn put_packets(out: &mut Vec<u8>, uuid: [u8; 16], discarded: u64, mut events: &[
     }
 }
 
-fn put_header(bytes: &mut Vec<u8>, path: &Path, class: u32, stamp: u64, span: u32, lane: u32) {
+fn put_header(bytes: &mut Vec<u8>, class: u32, stamp: u64, span: u32, lane: u32) {
     bytes.extend(class.to_le_bytes());
     bytes.extend(stamp.to_le_bytes());
-    bytes.extend(path.id.to_le_bytes());
     bytes.extend(span.to_le_bytes());
     bytes.extend(lane.to_le_bytes());
 }
 
-fn event_bytes(path: &Path, class: u32, event: &Event<'_>) -> Vec<u8> {
+fn put_words(bytes: &mut Vec<u8>, words: &[u64]) {
+    bytes.extend(words.iter().flat_map(|word| word.to_le_bytes()));
+}
+
+/// An event of the layer's that is of no path.
+fn own_event(class: u32, stamp: u64, put: impl FnOnce(&mut Vec<u8>)) -> Vec<u8> {
     let mut bytes = Vec::new();
-    put_header(&mut bytes, path, class, event.stamp, event.span, event.lane);
+    put_header(&mut bytes, class, stamp, 0, 0);
+    bytes.extend(0u32.to_le_bytes());
+    put(&mut bytes);
+    bytes
+}
+
+fn thread_event(stamp: u64, number: u32, name: &str) -> Vec<u8> {
+    own_event(THREAD, stamp, |bytes| {
+        bytes.extend(number.to_le_bytes());
+        put_text(bytes, name);
+    })
+}
+
+fn ended_event(path: &Path, stamp: u64) -> Vec<u8> {
+    let mut bytes = Vec::new();
+    put_header(&mut bytes, ENDED, stamp, 1, 0);
+    bytes.extend(path.number.to_le_bytes());
+    put_text(&mut bytes, path.name());
+    put_text(&mut bytes, &path.why.to_string());
+    put_words(&mut bytes, &[path.nanoseconds, path.lost]);
+    bytes
+}
+
+fn kept_event(path: &Path, stamp: u64) -> Vec<u8> {
+    let mut bytes = Vec::new();
+    let key = u128::from_str_radix(&Trace::of(path).id, 16).unwrap_or(0);
+    let cut = u32::try_from(path.cut + path.lost).unwrap_or(u32::MAX);
+    put_header(&mut bytes, KEPT, stamp, 1, 0);
+    for number in [path.number, path.thread, path.by, cut, number_of(path.why)] {
+        bytes.extend(number.to_le_bytes());
+    }
+    bytes.extend(path.begun.to_le_bytes());
+    // The upper half comes first.
+    key.to_be_bytes().chunks(8).for_each(|half| bytes.extend(half.iter().rev()));
+    bytes
+}
+
+fn event_bytes(path: u32, class: u32, event: &Event<'_>) -> Vec<u8> {
+    let mut bytes = Vec::new();
+    put_header(&mut bytes, class, event.stamp, event.span, event.lane);
     if event.kind == Kind::Open {
         bytes.extend(event.parent.to_le_bytes());
     }
     if event.left_out > 0 {
         bytes.extend(event.left_out.to_le_bytes());
     }
+    bytes.extend(path.to_le_bytes());
     for (_, value) in &event.values {
         match value {
             Value::U64(value) => bytes.extend(value.to_le_bytes()),

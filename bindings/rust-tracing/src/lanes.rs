@@ -38,6 +38,9 @@ pub(crate) struct Kept {
     pub(crate) cut: u64,
     /// What failed, where the principal buffer had no room for it.
     pub(crate) held: Option<Box<Held>>,
+    /// The threads on which it began and was decided; 0 for the consumer.
+    pub(crate) thread: u32,
+    pub(crate) by: u32,
 }
 
 /// A path that went missing, and would have been kept.
@@ -56,6 +59,8 @@ pub(crate) const NOTED: usize = 4096;
 pub(crate) struct Told {
     pub(crate) kept: Vec<Kept>,
     pub(crate) wanted: Vec<Wanted>,
+    /// How many paths were thrown away.
+    pub(crate) thrown: u64,
 }
 
 #[derive(Debug)]

@@ -13,6 +13,7 @@ use dspec::crash::Watch;
 use dspec::{Consumer, Cpu, Opening, Spoken};
 use std::cell::{Cell, RefCell};
 use std::collections::HashMap;
+use std::fs;
 use std::sync::atomic::{AtomicBool, AtomicU32, AtomicU64, AtomicU8, Ordering};
 use std::sync::{Arc, Mutex, MutexGuard, OnceLock, PoisonError};
 use std::thread::{self, Thread};
@@ -29,7 +30,12 @@ thread_local! {
     static NOW: Cell<Place> = const { Cell::new(NOWHERE) };
     /// The spans that this thread has entered, by layer and identifier, each with where the thread was before.
     static OUTSIDE: RefCell<Vec<(u32, u64, Place)>> = const { RefCell::new(Vec::new()) };
+    /// The last layer in which this thread had a path.
+    static SEEN: Cell<u32> = const { Cell::new(0) };
 }
+
+/// How many threads are noted that the sink wasn't told of.
+const MOST_THREADS: usize = 256;
 
 /// Where this thread is; a signal's handler may ask.
 pub(crate) fn place_now() -> Place {
@@ -73,6 +79,8 @@ pub(crate) struct Slot {
     pub(crate) path: AtomicU64,
     begun: AtomicU64,
     callsite: AtomicU32,
+    /// The system's number of the thread on which it began.
+    thread: AtomicU32,
     /// Where the path keeps its last records.
     pub(crate) tail: Tail,
 }
@@ -81,6 +89,7 @@ impl Slot {
     fn begins(&self, path: PathId, begun: u64, callsite: u32) {
         self.begun.store(begun, Ordering::Relaxed);
         self.callsite.store(callsite, Ordering::Relaxed);
+        self.thread.store(dspec::thread_number(), Ordering::Relaxed);
         self.path.store(path.raw(), Ordering::Release);
     }
 
@@ -122,6 +131,10 @@ pub(crate) struct Core {
     /// Paths without a slot, and those that the consumer was too far behind for; and those of both that would have been kept.
     pub(crate) missed: AtomicU64,
     pub(crate) wanted: AtomicU64,
+    /// Records of paths without a slot.
+    pub(crate) refused_records: AtomicU64,
+    /// Threads that had their first path, and that the sink wasn't told of.
+    pub(crate) threads: Mutex<Vec<(u32, String)>>,
     /// Numbers of paths without a slot.
     slotless_paths: AtomicU64,
     /// Of each session, the paths that aren't decided yet.
@@ -173,6 +186,10 @@ impl Core {
         }
     }
 
+    pub(crate) fn sessions(&self) -> usize {
+        self.sessions as usize
+    }
+
     pub(crate) fn runs(&self) -> bool {
         self.ended.load(Ordering::Acquire) == RUNS
     }
@@ -200,8 +217,22 @@ impl Core {
         self.options.patience.max(if waits { self.options.freeing } else { Duration::ZERO })
     }
 
+    /// Notes what the system calls this thread, where it is there.
+    #[cold]
+    fn sees_thread(&self) {
+        SEEN.set(self.layer);
+        let Ok(name) = fs::read_to_string("/proc/thread-self/comm") else { return };
+        let mut threads = locked(&self.threads);
+        if threads.len() < MOST_THREADS {
+            threads.push((dspec::thread_number(), name.trim_end_matches('\n').to_owned()));
+        }
+    }
+
     /// The identifier of a new path, none where the sessions have ended. Where all slots are taken, it is tried again while there is patience.
     fn open(&self, begun: u64, callsite: u32) -> PathId {
+        if SEEN.get() != self.layer {
+            self.sees_thread();
+        }
         // In time for what is left, the consumer frees the slots of paths that were decided.
         if self.opened.fetch_add(1, Ordering::Relaxed) + 1 == (self.options.open() / 8).max(1) {
             self.wake();
@@ -365,6 +396,7 @@ impl Core {
                 self.parts(path).0.for_each(|part| lane.discard(path.session(), part));
                 self.missed.fetch_add(u64::from(kept), Ordering::Relaxed);
                 self.unended.fetch_add(u64::from(open && !kept), Ordering::Relaxed);
+                lane.told.thrown += u64::from(!kept);
                 return;
             }
             // Of a path that is thrown away nobody asks when it ended.
@@ -387,7 +419,11 @@ impl Core {
                 (!whole).then_some(held)
             });
             let records = records + lane.traced - before;
-            lane.told.kept.push(Kept { path, callsite: here.callsite, begun: here.begun, took, why, open, records, cut, held });
+            let thread = slot.thread.load(Ordering::Relaxed);
+            // What is open is decided by the consumer.
+            let by = if open { 0 } else { dspec::thread_number() };
+            let kept = Kept { path, callsite: here.callsite, begun: here.begun, took, why, open, records, cut, held, thread, by };
+            lane.told.kept.push(kept);
         });
         if kept {
             self.wake_from_rest();
@@ -418,6 +454,8 @@ impl DspecLayer {
             callsites: Callsites::new(),
             missed: AtomicU64::new(0),
             wanted: AtomicU64::new(0),
+            refused_records: AtomicU64::new(0),
+            threads: Mutex::default(),
             slotless_paths: AtomicU64::new(0),
             undecided: (0..sessions).map(|_| AtomicU32::new(0)).collect(),
             stuck: AtomicBool::new(false),

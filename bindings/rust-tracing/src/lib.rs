@@ -72,5 +72,5 @@ pub use consumer::{Guard, Report};
 pub use ctf::Ctf;
 pub use layer::{keep, DspecLayer};
 pub use otlp::Otlp;
-pub use sink::{each, Each, Kind, Line, Missed, Path, Sink, Span, Value, Why};
+pub use sink::{each, Counts, Each, Kind, Line, Missed, Path, Sink, Span, Value, Why};
 pub use text::Text;

@@ -47,6 +47,9 @@ impl Core {
             return if lane.trace(0, epid, stamp, values) { Spoken::Kept } else { Spoken::Dropped };
         }
         let answer = lane.speculate(path.session(), part, epid, stamp, values);
+        if !path.has_slot() {
+            self.refused_records.fetch_add(1, Ordering::Relaxed);
+        }
         if answer == Spoken::Kept {
             self.kept_in(path, part);
         }

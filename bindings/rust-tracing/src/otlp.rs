@@ -64,15 +64,15 @@ impl<W: Write + Send> Sink for Otlp<W> {
 }
 
 /// The identifiers of a path's spans.
-struct Trace<'p> {
-    id: String,
+pub(crate) struct Trace<'p> {
+    pub(crate) id: String,
     caller: Option<&'p str>,
     flags: u32,
     seed: u64,
 }
 
 impl Trace<'_> {
-    fn of(path: &Path) -> Trace<'_> {
+    pub(crate) fn of(path: &Path) -> Trace<'_> {
         let seed = mixed(path.seed ^ path.id);
         match path.value("traceparent").and_then(Value::text).and_then(of_header) {
             Some((trace, caller, flags)) => Trace { id: trace.to_owned(), caller: Some(caller), flags, seed },

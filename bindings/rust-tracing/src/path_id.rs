@@ -38,6 +38,13 @@ impl PathId {
         self.0
     }
 
+    /// Its number in a trace: where there is one session, its identifier. None other of 2^32 / 64 paths of its slot has it, and it isn't 0.
+    #[allow(clippy::cast_possible_truncation)] // that is the lower part
+    pub(crate) fn number(self, sessions: usize) -> u32 {
+        let (slots, raw) = (SLOTS as u64, self.speculation().raw());
+        ((raw / slots).wrapping_mul(sessions as u64).wrapping_add(self.session() as u64).wrapping_mul(slots) + raw % slots) as u32
+    }
+
     #[inline]
     pub(crate) fn session(self) -> usize {
         (self.0 >> BITS) as usize

@@ -178,6 +178,12 @@ impl fmt::Display for Why {
 pub struct Path {
     /// Its identifier; no other path of this layer has it.
     pub id: u64,
+    /// Its number in a trace, `dspec_path`, which isn't 0. Where no more than 63 paths are open at once it is the identifier, until that has more than 32 bits.
+    pub number: u32,
+    /// The system's number of the thread on which it began.
+    pub thread: u32,
+    /// That of the thread that decided it; 0 for the layer, as at a crash.
+    pub by: u32,
     /// The callsite of its own span.
     pub metadata: Option<&'static Metadata<'static>>,
     /// When it began, in nanoseconds of the layer's clock.
@@ -268,6 +274,25 @@ impl Path {
     }
 }
 
+/// What came of all paths until now.
+#[derive(Clone, Debug, Default, PartialEq, Eq)]
+pub struct Counts {
+    /// When, in nanoseconds of the layer's clock.
+    pub stamp: u64,
+    /// When, in nanoseconds since 1970 began, by the system's clock when the layer was built.
+    pub unix: u64,
+    /// Paths that were handed to the sink.
+    pub kept: u64,
+    /// Paths that were thrown away.
+    pub thrown: u64,
+    /// Paths that went without a slot, or for which the consumer was too far behind.
+    pub refused: u64,
+    /// Records of the paths without a slot.
+    pub refused_records: u64,
+    /// Threads that had their first path since the last counts, by the number and the name that the system has.
+    pub threads: Vec<(u32, String)>,
+}
+
 /// A path that went without a slot, and would have been kept.
 #[derive(Clone, Copy, Debug)]
 pub struct Missed {
@@ -306,6 +331,16 @@ pub trait Sink: Send {
     /// As [`Sink::path`].
     fn missed(&mut self, missed: &Missed) -> io::Result<()> {
         let _ = missed;
+        Ok(())
+    }
+
+    /// What came of all paths: at most once a second beside a path, and where something has changed after a crash, at a flush and at the end.
+    ///
+    /// # Errors
+    ///
+    /// As [`Sink::path`].
+    fn counts(&mut self, counts: &Counts) -> io::Result<()> {
+        let _ = counts;
         Ok(())
     }
 
@@ -380,6 +415,9 @@ macro_rules! sinks_of_tuple {
             }
             fn missed(&mut self, missed: &Missed) -> io::Result<()> {
                 in_turn!($(self.$place.missed(missed)),*)
+            }
+            fn counts(&mut self, counts: &Counts) -> io::Result<()> {
+                in_turn!($(self.$place.counts(counts)),*)
             }
             fn full(&mut self, open: u32) -> io::Result<()> {
                 in_turn!($(self.$place.full(open)),*)

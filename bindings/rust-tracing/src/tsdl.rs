@@ -1,6 +1,6 @@
 //! The text that tells readers of a trace how its events are laid out: a class for each pair of a callsite and the types of its fields.
 
-use crate::sink::{Kind, Value};
+use crate::sink::{Kind, Value, Why};
 use std::collections::{HashMap, HashSet};
 use std::fmt::Write;
 use tracing_core::callsite::Identifier;
@@ -29,25 +29,52 @@ struct Shape {
     fields: Vec<(&'static str, &'static str)>,
 }
 
-/// The class of the event that stands before those of a path.
-pub(crate) const PATH: u32 = 0;
+// The numbers of the classes that every trace has: the first ones are those of the tracer in C, in its form; the last two are the layer's own.
+pub(crate) const KEPT: u32 = 0;
+pub(crate) const THREAD: u32 = 1;
+pub(crate) const COUNTS: u32 = 2;
+pub(crate) const REFUSED: u32 = 3;
+pub(crate) const ENDED: u32 = 4;
+pub(crate) const UNWRITTEN: u32 = 5;
 
-const PATH_CLASS: &str = "
-event {
-	id = 0;
-	name = \"dspec_path\";
-	stream_id = 0;
-	fields := struct {
-		string name;
-		string why;
-		uint64_t nanoseconds;
-		uint64_t cut;
-		uint64_t lost;
-		uint64_t missed;
-		uint64_t unwritten;
-	};
-};
-";
+/// Their names and fields, each beside the path's number.
+const OWN: [(&str, &[&str]); 6] = [
+    (
+        "dspec_kept",
+        &["uint32_t thread", "uint32_t by", "uint32_t cut", "why_t why", "uint64_t begun", "uint64_t key_high", "uint64_t key_low"],
+    ),
+    ("dspec_thread", &["uint32_t thread", "string name"]),
+    ("dspec_counts", &["uint64_t kept", "uint64_t thrown"]),
+    ("dspec_refused", &["uint64_t paths", "uint64_t records", "uint64_t waited", "uint64_t missing"]),
+    ("dspec_ended", &["string name", "string why", "uint64_t nanoseconds", "uint64_t lost"]),
+    ("dspec_unwritten", &["uint64_t paths"]),
+];
+
+/// Why a path is kept: the tracer's numbers, and a reason of this layer's own.
+const WHYS: [&str; 9] = ["kept", "failed", "slow", "asked", "sampled", "crash", "undecided", "signal", "panicked"];
+
+/// The number of the reason that comes first.
+pub(crate) fn number_of(why: Why) -> u32 {
+    let reasons = [(why.crashed, "crash"), (why.panicked, "panicked"), (why.failed, "failed"), (why.slow, "slow"), (why.asked, "asked")];
+    let first = reasons.iter().find(|reason| reason.0).map_or("kept", |reason| reason.1);
+    WHYS.iter().zip(0..).find(|label| *label.0 == first).map_or(0, |label| label.1)
+}
+
+/// What each event has as its first field.
+const NUMBER: &str = "uint32_t dspec_path";
+
+fn own_classes() -> String {
+    let mut text = String::new();
+    for (number, (name, fields)) in OWN.iter().enumerate() {
+        let _ =
+            write!(text, "\nevent {{\n\tid = {number};\n\tname = \"{name}\";\n\tstream_id = 0;\n\tfields := struct {{\n\t\t{NUMBER};\n");
+        for field in *fields {
+            let _ = writeln!(text, "\t\t{field};");
+        }
+        text += "\t};\n};\n";
+    }
+    text
+}
 
 /// The classes that there are so far.
 #[derive(Debug)]
@@ -59,7 +86,8 @@ pub(crate) struct Classes {
 
 impl Classes {
     pub(crate) fn new() -> Classes {
-        Classes { numbers: HashMap::new(), names: HashSet::from(["dspec_path".to_owned()]), text: PATH_CLASS.to_owned() }
+        let names = OWN.iter().map(|class| class.0.to_owned()).collect();
+        Classes { numbers: HashMap::new(), names, text: own_classes() }
     }
 
     pub(crate) fn text(&self) -> &str {
@@ -73,7 +101,7 @@ impl Classes {
         if let Some(number) = self.numbers.get(&shape) {
             return *number;
         }
-        let number = u32::try_from(self.numbers.len() + 1).expect("fewer classes than bytes of memory");
+        let number = u32::try_from(OWN.len() + self.numbers.len()).expect("fewer classes than bytes of memory");
         let name = told_apart(&allowed(&title(event)), &mut self.names);
         let mut text = format!("\nevent {{\n\tid = {number};\n\tname = \"{name}\";\n\tstream_id = 0;\n");
         if let Some(metadata) = event.metadata {
@@ -87,8 +115,8 @@ impl Classes {
             }
             text += "\t};\n";
         }
-        text += "\tfields := struct {\n";
-        let mut names = HashSet::new();
+        let _ = writeln!(text, "\tfields := struct {{\n\t\t{NUMBER};");
+        let mut names = HashSet::from(["dspec_path".to_owned()]);
         for (name, kind) in &shape.fields {
             let _ = writeln!(text, "\t\t{kind} {};", told_apart(&allowed(name), &mut names));
         }
@@ -108,6 +136,8 @@ pub(crate) fn head(uuid: [u8; 16], offset: i64, env: &[(&str, String)]) -> Strin
         let _ = writeln!(text, "typealias integer {{ size = {bits}; align = 8; signed = {signed}; }} := {sign}int{bits}_t;");
     }
     text += "typealias enum : uint8_t { \"false\" = 0, \"true\" = 1 } := truth_t;\n";
+    let whys: Vec<_> = WHYS.iter().enumerate().map(|(number, label)| format!("\"{label}\" = {number}")).collect();
+    let _ = writeln!(text, "typealias enum : uint32_t {{ {} }} := why_t;", whys.join(", "));
     text += "typealias floating_point { exp_dig = 11; mant_dig = 53; align = 8; } := float64_t;\n";
     let _ = write!(text, "\ntrace {{\n\tmajor = 1;\n\tminor = 8;\n\tuuid = \"{}\";\n\tbyte_order = le;\n", hyphened(uuid));
     text += "\tpacket.header := struct {\n\t\tuint32_t magic;\n\t\tuint8_t uuid[16];\n\t\tuint32_t stream_id;\n\t};\n};\n\nenv {\n";
@@ -121,7 +151,7 @@ pub(crate) fn head(uuid: [u8; 16], offset: i64, env: &[(&str, String)]) -> Strin
     text += "\nstream {\n\tid = 0;\n\tpacket.context := struct {\n\t\tstamp_t timestamp_begin;\n\t\tstamp_t timestamp_end;\n";
     text += "\t\tuint64_t content_size;\n\t\tuint64_t packet_size;\n\t\tuint64_t events_discarded;\n\t};\n";
     text += "\tevent.header := struct {\n\t\tuint32_t id;\n\t\tstamp_t timestamp;\n\t};\n";
-    text += "\tevent.context := struct {\n\t\tuint64_t path;\n\t\tuint32_t span;\n\t\tuint32_t lane;\n\t};\n};\n";
+    text += "\tevent.context := struct {\n\t\tuint32_t span;\n\t\tuint32_t lane;\n\t};\n};\n";
     text
 }
 
@@ -191,7 +221,7 @@ fn loglevel(level: Level) -> u32 {
 }
 
 /// Words that are no names: those of the language, and the types that the text declares. Those that begin with `_` get another anyway.
-const RESERVED: [&str; 32] = [
+const RESERVED: [&str; 33] = [
     "align",
     "callsite",
     "char",
@@ -224,6 +254,7 @@ const RESERVED: [&str; 32] = [
     "unsigned",
     "variant",
     "void",
+    "why_t",
 ];
 
 /// A name that is longer is cut, so that there is room for a number behind it in the 255 bytes that a name may have.

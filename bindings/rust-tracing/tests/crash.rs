@@ -145,6 +145,19 @@ fn path(text: &str, request: u64) -> Option<(String, Vec<String>)> {
     Some((why, own.collect()))
 }
 
+/// Whether the event of a crash is one of its path, as the tracer in C has it.
+fn is_of_path(crash: &str, trace: &str, signal: i32) -> bool {
+    let Some(kept) = trace.lines().find(|line| line.contains(" dspec_kept: ") && line.contains("why = ( \"crash\" : container = 5 )"))
+    else {
+        return false;
+    };
+    let number = |line: &str| line.split_once("dspec_path = ").and_then(|rest| rest.1.split_once(',')).map(|rest| rest.0.to_owned());
+    let names =
+        crash.rsplit_once("{ ").map_or("", |rest| rest.1).split(", ").filter_map(|field| field.split_once(" = ")).map(|field| field.0);
+    let is_whole = names.eq(["dspec_path", "signal", "code", "thread", "address", "pc", "paths", "stuck"]);
+    is_whole && crash.contains(&format!(", signal = {signal}, code = ")) && number(crash) == number(kept) && !crash.contains("pc = 0,")
+}
+
 #[test]
 fn a_crash_keeps_the_path_of_its_thread() {
     for (way, signals) in [("abort", &[6][..]), ("fault", &[11]), ("stack", &[11, 6]), ("event", &[6])] {
@@ -154,9 +167,10 @@ fn a_crash_keeps_the_path_of_its_thread() {
         assert_eq!(why, "crashed, open still", "{way}");
         let due = ["request { request=5", "DEBUG crash: stepped step=1", "part { table=orders", "DEBUG crash: stepped step=2"];
         assert_eq!(lines[..4], due, "{way}: {}", left.text);
-        // The second crash stands behind the path, or behind request 3, where that was handed on later.
+        // The second crash stands behind the path, or behind request 3, where that was handed on later. A crash has up to five places.
         assert!(
-            (5..=4 + signals.len()).contains(&lines.len())
+            (6..=4 + 6 * signals.len()).contains(&lines.len())
+                && lines[5].starts_with("ERROR dspec_crash_at: frame=0 offset=")
                 && lines[4].starts_with(&format!("ERROR dspec_crash: signal={} code=", signals[0])),
             "{way}: {}",
             left.text
@@ -168,9 +182,9 @@ fn a_crash_keeps_the_path_of_its_thread() {
         assert!(left.text.matches(" took ").count() == 2 && !left.text.contains("records had no room"), "{way}: {}", left.text);
         let Ok(told) = Command::new("babeltrace2").arg(left.folder.join("ctf")).output() else { continue };
         let told = (told.status.success(), String::from_utf8(told.stdout).unwrap(), String::from_utf8(told.stderr).unwrap());
-        assert!(told.0 && told.2.is_empty() && told.1.matches(" dspec_path: ").count() == 2, "{way}: {told:?}");
+        assert!(told.0 && told.2.is_empty() && told.1.matches(" dspec_kept: ").count() == 2, "{way}: {told:?}");
         let of_crash: Vec<_> = told.1.lines().filter(|line| line.contains(" dspec_crash: ")).collect();
-        assert!(of_crash.len() == 1 && of_crash[0].contains(&format!("{{ signal = {}, code = ", signals[0])), "{way}: {told:?}");
+        assert!(of_crash.len() == signals.len() && is_of_path(of_crash[0], &told.1, signals[0]), "{way}: {told:?}");
     }
 }
 
@@ -199,9 +213,9 @@ fn two_threads_crash_at_once() {
     let whole = kept
         .iter()
         .flatten()
-        .filter(|(why, lines)| why == "crashed, open still" && lines.last().unwrap().starts_with("ERROR dspec_crash: signal=6 "));
+        .filter(|(why, lines)| why == "crashed, open still" && lines.iter().any(|line| line.starts_with("ERROR dspec_crash: signal=6 ")));
     let count = whole.count();
-    assert!(count >= 1 && count == left.text.matches("dspec_crash").count(), "{}", left.text);
+    assert!(count >= 1 && count == left.text.matches("dspec_crash:").count(), "{}", left.text);
 }
 
 /// A watchdog's signal keeps all paths that are open.

@@ -9,7 +9,7 @@ use std::fs;
 use std::path::{Path as FilePath, PathBuf};
 use std::process::Command;
 use tracing::{debug, error, field, info, info_span, trace, Dispatch};
-use tracing_dspec::{Builder, Ctf, Kind, Line, Path, Report, Value};
+use tracing_dspec::{Builder, Ctf, Kind, Line, Path, Report, Value, Why};
 use tracing_subscriber::prelude::*;
 
 /// A folder that isn't there.
@@ -30,6 +30,9 @@ fn written(folder: &FilePath, builder: Builder, work: impl FnOnce()) -> (All, Re
     (all, report)
 }
 
+/// Classes that each trace has.
+const OWN: usize = 6;
+
 /// A field's name and its type.
 type Field = (String, String);
 
@@ -46,7 +49,7 @@ struct Event {
     name: String,
     loglevel: Option<String>,
     stamp: u64,
-    path: u64,
+    path: u32,
     span: u32,
     lane: u32,
     context: Vec<(String, Value)>,
@@ -69,8 +72,10 @@ struct Packet {
 #[derive(Debug)]
 struct Trace {
     metadata: String,
-    /// The packets of each file, by its name.
+    /// The packets of each file, by its name, but for those of no path.
     files: BTreeMap<String, Vec<Packet>>,
+    /// What is of no path.
+    counts: Vec<Event>,
     /// Nanoseconds after 1970 began at which the clock was 0.
     offset: i128,
 }
@@ -80,7 +85,7 @@ impl Trace {
         self.files.values().flatten().flat_map(|packet| &packet.events)
     }
 
-    fn of_path(&self, path: u64) -> Vec<&Event> {
+    fn of_path(&self, path: u32) -> Vec<&Event> {
         self.events().filter(|event| event.path == path).collect()
     }
 }
@@ -103,7 +108,7 @@ fn half(bytes: &mut &[u8]) -> u32 {
 fn value(bytes: &mut &[u8], kind: &str) -> Value {
     match kind {
         "uint64_t" => Value::U64(word(bytes)),
-        "uint32_t" => Value::U64(half(bytes).into()),
+        "uint32_t" | "why_t" => Value::U64(half(bytes).into()),
         "int64_t" => Value::I64(i64::from_le_bytes(taken(bytes))),
         "float64_t" => Value::F64(f64::from_le_bytes(taken(bytes))),
         "truth_t" => match taken(bytes) {
@@ -174,7 +179,8 @@ fn read(folder: &FilePath) -> Trace {
         let bytes = fs::read(folder.join(&name)).unwrap();
         files.insert(name, packets(&bytes, &uuid, &classes));
     }
-    Trace { metadata, files, offset }
+    let counts = files.remove("stream_counts").into_iter().flatten().flat_map(|packet| packet.events).collect();
+    Trace { metadata, files, counts, offset }
 }
 
 /// Whole packets, in which time doesn't fall.
@@ -198,11 +204,14 @@ fn packets(mut bytes: &[u8], uuid: &str, classes: &[Class]) -> Vec<Packet> {
         last = begin;
         while !rest.is_empty() {
             let class = &classes[half(&mut rest) as usize];
-            let (stamp, path, span, lane) = (word(&mut rest), word(&mut rest), half(&mut rest), half(&mut rest));
+            let (stamp, span, lane) = (word(&mut rest), half(&mut rest), half(&mut rest));
             assert!(stamp >= last);
             last = stamp;
             let mut values = |fields: &[Field]| fields.iter().map(|(name, kind)| (name.clone(), value(&mut rest, kind))).collect();
-            let (context, fields) = (values(&class.context), values(&class.fields));
+            let (context, mut fields): (_, Vec<(String, Value)>) = (values(&class.context), values(&class.fields));
+            let (name, Value::U64(number)) = fields.remove(0) else { panic!("{class:?}") };
+            assert_eq!(name, "dspec_path");
+            let path = u32::try_from(number).unwrap();
             events.push(Event { name: class.name.clone(), loglevel: class.loglevel.clone(), stamp, path, span, lane, context, fields });
         }
         assert_eq!((events.first().map_or(begin, |event: &Event| event.stamp), last), (begin, end));
@@ -216,16 +225,36 @@ fn text(text: &str) -> Value {
     Value::Text(text.to_owned(), text.len())
 }
 
-/// A path's events are its lines behind the one that says what the path is; names and values by themselves.
-fn same(events: &[&Event], path: &Path) {
-    let head = events[0];
-    assert_eq!((head.name.as_str(), head.span, head.lane), ("dspec_path", 1, 0));
-    assert_eq!((head.field("name"), head.field("why")), (&text(path.name()), &text(&path.why.to_string())));
-    for (name, due) in [("nanoseconds", path.nanoseconds), ("cut", path.cut), ("lost", path.lost)] {
-        assert_eq!(head.field(name), &Value::U64(due));
+/// The fields of `dspec_kept`, as the tracer in C has them, and what they say of a path; the numbers of the reasons are those of include/dspec_tracer.h.
+fn is_kept(event: &Event, path: &Path) {
+    let names: Vec<_> = event.fields.iter().map(|field| field.0.as_str()).collect();
+    assert_eq!((event.name.as_str(), event.path), ("dspec_kept", path.number));
+    assert_eq!(names, ["thread", "by", "cut", "why", "begun", "key_high", "key_low"]);
+    let why = match path.why {
+        Why { crashed: true, .. } => 5,
+        Why { panicked: true, .. } => 8,
+        Why { failed: true, .. } => 1,
+        Why { slow: true, .. } => 2,
+        _ => 3,
+    };
+    for (name, due) in
+        [("thread", path.thread.into()), ("by", path.by.into()), ("cut", path.cut + path.lost), ("why", why), ("begun", path.begun)]
+    {
+        assert_eq!(event.field(name), &Value::U64(due), "{name} of {event:?}");
     }
-    assert_eq!(events.len(), path.lines.len() + 1);
-    for (event, line) in events[1..].iter().zip(&path.lines) {
+}
+
+/// A path's events are its lines, and behind them those that say what the path is; names and values by themselves.
+fn same(events: &[&Event], path: &Path) {
+    let [lines @ .., ended, kept] = events else { panic!("{events:?}") };
+    is_kept(kept, path);
+    assert_eq!((ended.name.as_str(), ended.span, ended.lane), ("dspec_ended", 1, 0));
+    assert_eq!((ended.field("name"), ended.field("why")), (&text(path.name()), &text(&path.why.to_string())));
+    for (name, due) in [("nanoseconds", path.nanoseconds), ("lost", path.lost)] {
+        assert_eq!(ended.field(name), &Value::U64(due));
+    }
+    assert_eq!(lines.len(), path.lines.len());
+    for (event, line) in lines.iter().zip(&path.lines) {
         // A cut text says how long it was.
         let value = |value: &Value| value.text().map_or(value.clone(), |_| text(&value.to_string()));
         let values = |line: &Line| line.values.iter().map(|one| value(&one.1)).collect::<Vec<_>>();
@@ -268,44 +297,44 @@ fn a_folder_read_back() {
     // One behind the other, so one file has both.
     assert_eq!((trace.files.len(), trace.files["stream_0"].len()), (1, 2));
     for path in &all.paths {
-        let events = trace.of_path(path.id);
+        let events = trace.of_path(path.number);
         let unix = i128::from(events[0].stamp) + trace.offset;
         assert_eq!(unix, i128::from(path.begun_unix));
         assert!(i128::try_from(now).unwrap() - unix < 600_000_000_000);
         let line = line!();
         let names: Vec<_> = events.iter().map(|event| event.name.as_str()).collect();
         let numbered = |name: &str| name.rsplit('_').next().and_then(|last| last.parse::<u32>().ok()).is_some_and(|at| at < line);
-        assert_eq!((names.len(), names[0], names[1], names[3], names[5], names[6], names[8]), {
-            (9, "dspec_path", "request_begin", "select_begin", "select_end", "request_set", "request_end")
+        assert_eq!((names.len(), names[0], names[2], names[4], names[5], names[7], names[9]), {
+            (10, "request_begin", "select_begin", "select_end", "request_set", "request_end", "dspec_kept")
         });
-        for (at, front) in [(2, "ctf_INFO_"), (4, "ctf_TRACE_"), (7, "ctf_ERROR_")] {
+        for (at, front) in [(1, "ctf_INFO_"), (3, "ctf_TRACE_"), (6, "ctf_ERROR_")] {
             assert!(names[at].starts_with(front) && numbered(names[at]), "{names:?}");
         }
-        let levels: Vec<_> = [0, 1, 2, 4, 7].map(|at: usize| events[at].loglevel.as_deref()).into();
+        let levels: Vec<_> = [9, 0, 1, 3, 6].map(|at: usize| events[at].loglevel.as_deref()).into();
         assert_eq!(levels, [None, Some("6"), Some("6"), Some("14"), Some("3")]);
         let Some(Value::U64(request)) = path.value("request") else { panic!("{path:?}") };
         assert!(matches!(request, 0 | 2));
 
-        let accepted = events[2];
+        let accepted = events[1];
         assert_eq!((accepted.field("size"), accepted.field("ratio")), (&Value::I64(-5), &Value::F64(0.25)));
         assert_eq!((accepted.field("all"), accepted.field("message")), (&Value::U64(u64::MAX), &text("accepted")));
         assert_eq!((accepted.field("yes"), accepted.field("no")), (&Value::Bool(true), &Value::Bool(false)));
         assert_eq!(accepted.field("odd"), &text("a \"quoted\" \\ text\n\u{2400}größe"));
 
-        let named = events[4];
+        let named = events[3];
         assert_eq!((named.field("log_target"), named.span), (&text("dots"), 2));
         assert_eq!((named.field("a_b"), named.field("a_b_2")), (&Value::U64(1), &Value::U64(2)));
         assert_eq!((named.field("_uint64_t"), named.field("__rows")), (&Value::U64(3), &Value::U64(4)));
-        assert_eq!((events[3].field("_int"), events[5].field("_int")), (&Value::U64(*request), &Value::U64(*request)));
-        assert_eq!(events[3].context, [("parent".to_owned(), Value::U64(1))]);
+        assert_eq!((events[2].field("_int"), events[4].field("_int")), (&Value::U64(*request), &Value::U64(*request)));
+        assert_eq!(events[2].context, [("parent".to_owned(), Value::U64(1))]);
 
         // The begin has what was there then, the end all.
         let fields = |at: usize| events[at].fields.iter().map(|(name, value)| (name.as_str(), value.clone())).collect::<Vec<_>>();
         let mut due = vec![("request", Value::U64(*request)), ("otel_kind", text("server"))];
-        assert_eq!(fields(1), due);
-        assert_eq!(fields(6), [("status", Value::U64(500))]);
+        assert_eq!(fields(0), due);
+        assert_eq!(fields(5), [("status", Value::U64(500))]);
         due.push(("status", Value::U64(500)));
-        assert_eq!(fields(8), due);
+        assert_eq!(fields(7), due);
     }
     for (name, due) in [("tracer_name", "sidingyarrow"), ("vpid", std::process::id().to_string().as_str())] {
         assert_eq!(told(&trace.metadata, name), due);
@@ -333,16 +362,16 @@ fn a_class_for_each_callsite_and_types() {
     });
     let trace = read(&folder);
     for path in &all.paths {
-        let events = trace.of_path(path.id);
+        let events = trace.of_path(path.number);
         if path.value("of").and_then(Value::text).is_none() {
             same(&events, path);
         }
     }
-    let of_turn = |turn: usize| trace.of_path(all.paths[turn].id).iter().map(|event| event.name.clone()).collect::<Vec<_>>();
-    let of_set = |turn: usize| trace.of_path(all.paths[turn].id)[2].field("of").clone();
-    assert_eq!((of_turn(0)[1].as_str(), of_turn(1)[1].as_str(), of_turn(3)[1].as_str()), ("turn_begin", "turn_begin", "turn_begin_2"));
-    assert_eq!((of_turn(0)[2].as_str(), of_turn(1)[2].as_str(), of_turn(2)[2].as_str()), ("turn_set", "turn_set_2", "turn_set"));
-    assert_eq!((of_turn(0)[4].as_str(), of_turn(1)[4].as_str(), of_turn(2)[4].as_str()), ("turn_end", "turn_end_2", "turn_end"));
+    let of_turn = |turn: usize| trace.of_path(all.paths[turn].number).iter().map(|event| event.name.clone()).collect::<Vec<_>>();
+    let of_set = |turn: usize| trace.of_path(all.paths[turn].number)[1].field("of").clone();
+    assert_eq!((of_turn(0)[0].as_str(), of_turn(1)[0].as_str(), of_turn(3)[0].as_str()), ("turn_begin", "turn_begin", "turn_begin_2"));
+    assert_eq!((of_turn(0)[1].as_str(), of_turn(1)[1].as_str(), of_turn(2)[1].as_str()), ("turn_set", "turn_set_2", "turn_set"));
+    assert_eq!((of_turn(0)[3].as_str(), of_turn(1)[3].as_str(), of_turn(2)[3].as_str()), ("turn_end", "turn_end_2", "turn_end"));
     assert_eq!((of_set(0), of_set(1), of_set(2)), (Value::U64(7), text("seven"), Value::U64(8)));
     fs::remove_dir_all(folder).unwrap();
 }
@@ -362,14 +391,14 @@ fn overlapping_paths_in_two_files() {
     });
     assert_eq!((all.paths.len(), report.failures), (3, 0));
     let trace = read(&folder);
-    all.paths.iter().for_each(|path| same(&trace.of_path(path.id), path));
+    all.paths.iter().for_each(|path| same(&trace.of_path(path.number), path));
     let paths = |name: &str| trace.files[name].iter().map(|packet| packet.events[0].path).collect::<Vec<_>>();
     assert_eq!(trace.files.len(), 2);
-    assert_eq!((paths("stream_0"), paths("stream_1")), (vec![all.paths[0].id], vec![all.paths[1].id, all.paths[2].id]));
+    assert_eq!((paths("stream_0"), paths("stream_1")), (vec![all.paths[0].number], vec![all.paths[1].number, all.paths[2].number]));
     fs::remove_dir_all(folder).unwrap();
 }
 
-/// More paths that overlap than there may be files: one is told as a failure, and by the path behind it.
+/// More paths that overlap than there may be files: one is told as a failure, and beside the path behind it.
 #[test]
 fn sixty_four_files() {
     let folder = folder("files");
@@ -382,10 +411,11 @@ fn sixty_four_files() {
     assert_eq!((all.paths.len(), report.failures), (66, 1), "{report:?}");
     assert!(report.failure.unwrap().ends_with("each of its 64 files has a later time"));
     let trace = read(&folder);
-    assert_eq!((trace.files.len(), trace.events().filter(|event| event.name == "dspec_path").count()), (64, 65));
-    assert_eq!(trace.of_path(all.paths[64].id).len(), 0);
-    let unwritten = |at: usize| trace.of_path(all.paths[at].id)[0].field("unwritten").clone();
-    assert_eq!((unwritten(63), unwritten(65)), (Value::U64(0), Value::U64(1)));
+    assert_eq!((trace.files.len(), trace.events().filter(|event| event.name == "dspec_kept").count()), (64, 65));
+    assert_eq!(trace.of_path(all.paths[64].number).len(), 0);
+    let unwritten: Vec<_> =
+        trace.events().filter(|event| event.name == "dspec_unwritten").map(|event| event.field("paths").clone()).collect();
+    assert_eq!(unwritten, [Value::U64(1)]);
     fs::remove_dir_all(folder).unwrap();
 }
 
@@ -405,11 +435,53 @@ fn a_cut_path_behind_a_missed_one() {
     // Readers tell the difference of two packets: so one that tells none stands before it.
     let [before, packet] = &trace.files["stream_0"][..] else { panic!("{trace:?}") };
     assert_eq!((before.discarded, before.events.len()), (0, 0));
-    let (head, last) = (&packet.events[0], packet.events.last().unwrap());
+    let [.., last, _, kept] = &packet.events[..] else { panic!("{packet:?}") };
     same(&packet.events.iter().collect::<Vec<_>>(), &all.paths[0]);
     assert!(report.cut >= 19 && packet.discarded == report.cut, "{report:?}");
-    assert_eq!((head.field("cut"), head.field("missed")), (&Value::U64(report.cut), &Value::U64(1)));
+    assert_eq!(kept.field("cut"), &Value::U64(report.cut));
+    let refused: Vec<_> = trace.counts.iter().filter(|event| event.name == "dspec_refused").collect();
+    let [refused] = refused[..] else { panic!("{:?}", trace.counts) };
+    // Of the path without a slot an event and the span's begin.
+    let fields: Vec<_> = refused.fields.iter().map(|field| (field.0.as_str(), field.1.clone())).collect();
+    assert_eq!(fields, [("paths", Value::U64(1)), ("records", Value::U64(2)), ("waited", Value::U64(0)), ("missing", Value::U64(0))]);
     assert_eq!((last.context.as_slice(), last.fields.len()), ([("fields_left_out".to_owned(), Value::U64(2))].as_slice(), 12));
+    fs::remove_dir_all(folder).unwrap();
+}
+
+/// What is told of no path, and who began and decided one: the events of the tracer in C, with its names and fields.
+#[test]
+fn as_the_tracer_tells() {
+    let folder = folder("as-the-tracer");
+    let trace_id = "0af7651916cd43dd8448eb211c80008e";
+    let (all, report) = written(&folder, Builder::new(), || {
+        for request in 0..5u64 {
+            let header = format!("00-{trace_id}-b7ad6b7169203331-01");
+            let path = info_span!("request", request, traceparent = header.as_str(), dspec_path = 7u64);
+            path.in_scope(|| if request == 3 { error!("bad") } else { info!("good") });
+        }
+    });
+    let (trace, path) = (read(&folder), &all.paths[0]);
+    let own = fs::read_to_string("/proc/thread-self/stat").unwrap();
+    assert_eq!((path.thread.to_string().as_str(), path.by, u64::from(path.number)), (own.split(' ').next().unwrap(), path.thread, path.id));
+    let events = trace.of_path(path.number);
+    let kept = events.last().unwrap();
+    is_kept(kept, path);
+    let key = u128::from_str_radix(trace_id, 16).unwrap();
+    assert_eq!(kept.field("key_high"), &Value::U64(u64::try_from(key >> 64).unwrap()));
+    assert_eq!(kept.field("key_low"), &Value::U64(u64::try_from(key & u128::from(u64::MAX)).unwrap()));
+    // A program's own field of that name is another.
+    assert_eq!(events[0].field("dspec_path_2"), &Value::U64(7));
+    let told = |event: &Event| (event.name.clone(), event.path, event.fields.iter().map(|field| field.1.clone()).collect::<Vec<_>>());
+    let name = fs::read_to_string("/proc/thread-self/comm").unwrap();
+    let thread = ("dspec_thread".to_owned(), 0, vec![Value::U64(path.thread.into()), text(name.trim_end())]);
+    assert!(trace.counts.iter().any(|event| told(event) == thread), "{:?}", trace.counts);
+    let sums = trace.counts.iter().filter(|event| event.name == "dspec_counts").fold([0; 2], |sums, event| {
+        let [Value::U64(kept), Value::U64(thrown)] = told(event).2[..] else { panic!("{event:?}") };
+        [sums[0] + kept, sums[1] + thrown]
+    });
+    assert_eq!((sums, report.paths, report.missed), ([1, 4], 1, 0));
+    let why = "typealias enum : uint32_t { \"kept\" = 0, \"failed\" = 1, \"slow\" = 2, \"asked\" = 3, \"sampled\" = 4, \"crash\" = 5, \"undecided\" = 6, \"signal\" = 7, ";
+    assert!(trace.metadata.contains(why), "{}", trace.metadata);
     fs::remove_dir_all(folder).unwrap();
 }
 
@@ -426,9 +498,8 @@ fn a_span_without_its_begin() {
             error!("bad");
         });
         let (trace, path) = (read(&folder), &all.paths[0]);
-        let events = trace.of_path(path.id);
+        let events = trace.of_path(path.number);
         same(&events, path);
-        assert_eq!(events[0].field("cut"), &Value::U64(path.cut));
         let has = |name: &str| events.iter().find(|event| event.name == name);
         if let Some(end) = has("unknown_end") {
             assert_eq!((end.span, end.loglevel.as_deref(), has("inner_begin").is_none()), (2, None, true));
@@ -447,9 +518,10 @@ fn a_path_without_records() {
         written(&folder, Builder::new().bytes_a_path(16).slow(std::time::Duration::ZERO), || info_span!("kept").in_scope(|| info!("well")));
     let (trace, path) = (read(&folder), &all.paths[0]);
     assert!(path.lines.is_empty() && path.cut > 0, "{path:?}");
-    let events = trace.of_path(path.id);
+    let events = trace.of_path(path.number);
     same(&events, path);
-    assert_eq!((events.len(), i128::from(events[0].stamp) + trace.offset), (1, i128::from(path.begun_unix)));
+    let ended = i128::from(path.begun_unix) + i128::from(path.nanoseconds);
+    assert_eq!((events.len(), i128::from(events[0].stamp) + trace.offset), (2, ended));
     fs::remove_dir_all(folder).unwrap();
 }
 
@@ -459,7 +531,7 @@ fn a_folder_with_something_in_it_is_refused() {
     let (all, report) = written(&folder, Builder::new(), || info_span!("fine").in_scope(|| info!("well")));
     assert_eq!((all.paths.len(), report.failures), (0, 0));
     let trace = read(&folder);
-    assert_eq!((trace.files.len(), classes(&trace.metadata).len()), (0, 1));
+    assert_eq!((trace.files.len(), classes(&trace.metadata).len()), (0, OWN));
     let refused = Ctf::create(&folder).unwrap_err();
     assert_eq!(refused.kind(), std::io::ErrorKind::AlreadyExists);
     assert_eq!(fs::read_to_string(folder.join("metadata")).unwrap(), trace.metadata);
@@ -568,12 +640,12 @@ fn below_a_low_limit() {
         );
         path.in_scope(|| error!("bad"));
     });
-    // The path, and the end.
-    assert_eq!((all.paths.len(), report.failures), (1, 2), "{report:?}");
+    // The path, the counts, and the end.
+    assert_eq!((all.paths.len(), report.failures), (1, 3), "{report:?}");
     assert!(report.failure.as_deref().is_some_and(|why| why.contains("metadata: ")), "{report:?}");
     assert_eq!(fs::read_dir(&folder).unwrap().count(), 1);
     let trace = read(&folder);
-    assert_eq!((trace.files.len(), classes(&trace.metadata).len()), (0, 1));
+    assert_eq!((trace.files.len(), classes(&trace.metadata).len()), (0, OWN));
     println!("metadata alone");
 }
 

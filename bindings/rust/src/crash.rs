@@ -47,6 +47,22 @@ impl Crash<'_> {
     pub fn thread(&self) -> u32 {
         self.raw.thread
     }
+
+    /// The program counter.
+    #[must_use]
+    pub fn pc(&self) -> u64 {
+        self.raw.pc
+    }
+
+    /// The file, and the offset in it, of the program counter, frame 0, or of the so many-th call that leads there.
+    #[must_use]
+    pub fn place(&self, frame: u32) -> Option<(u64, String)> {
+        let (mut offset, mut file) = (0, [0; 41]);
+        // SAFETY: the watch isn't dropped, and the place is of a crash that it told, whose thread waits.
+        let found = unsafe { raw::dspec_watch_place(self.of.at, self.raw.place, frame, &mut offset, &mut file) };
+        let name = file.split(|byte| *byte == 0).next().unwrap_or_default();
+        found.then(|| (offset, String::from_utf8_lossy(name).into_owned()))
+    }
 }
 
 impl Drop for Crash<'_> {
@@ -105,7 +121,7 @@ impl Watch {
     pub fn crash(&self) -> Option<Crash<'_>> {
         let mut raw = raw::Watched::default();
         // SAFETY: as above; the crash is there to be written.
-        unsafe { raw::dspec_watch_next(self.at, &mut raw) }.then_some(Crash { raw, of: self })
+        unsafe { raw::dspec_watch_next(self.at, &mut raw) }.then(|| Crash { raw, of: self })
     }
 
     /// Whether another process sent the signal of a crash, by which this one ends at the end of the watch.

@@ -1,6 +1,7 @@
 use crate::{raw, Fields};
 use std::marker::PhantomData;
-use std::sync::atomic::AtomicU64;
+use std::ptr;
+use std::sync::atomic::{AtomicU32, AtomicU64};
 
 /// An event of a program, with its fields in its type: a static, which all tracers may be started with. What isn't one is refused by the compiler, and so is one
 /// that hasn't a name for each field:
@@ -21,16 +22,19 @@ pub struct Event<F> {
 }
 
 impl<F: Fields> Event<F> {
-    /// An event of this name, and names for its one to eight fields.
+    /// An event of this name, and names for its fields: one to seven values of eight bytes at most, beside the number of its path; a text is one for each eight bytes.
     ///
     /// # Panics
     ///
-    /// Where there isn't a name for each field, or no field; in a static the program isn't compiled then.
+    /// Where there isn't a name for each field, or no field, or more than seven values; in a static the program isn't compiled then.
     #[must_use]
     pub const fn new(name: &'static str, fields: &'static [&'static str]) -> Event<F> {
         assert!(fields.len() == F::BYTES.len(), "an event has a name for each field");
-        assert!(!fields.is_empty(), "an event has one to eight fields");
-        Event { raw: raw::Event { claims: [const { AtomicU64::new(0) }; raw::MAX_TRACERS] }, name, fields, types: PhantomData }
+        assert!(!fields.is_empty(), "an event has one to seven values");
+        assert!(F::WIDTHS.len() < 8, "an event has one to seven values beside the number of its path");
+        let raw =
+            raw::Event { claims: [const { AtomicU64::new(0) }; raw::MAX_TRACERS], name: ptr::null(), look: AtomicU32::new(raw::LOOK_NONE) };
+        Event { raw, name, fields, types: PhantomData }
     }
 
     pub(crate) fn at(&self) -> *const raw::Event {
@@ -58,8 +62,8 @@ pub(crate) mod private {
     }
 
     /// The labels of a field, with the texts that they are.
-    struct Labels {
-        raw: raw::Labels,
+    pub(crate) struct Labels {
+        pub(crate) raw: raw::Labels,
         count: usize,
         _texts: Vec<CString>,
         all: Vec<*const c_char>,
@@ -69,7 +73,7 @@ pub(crate) mod private {
         texts.iter().map(|&text| CString::new(text)).collect()
     }
 
-    fn labels_of(labels: &[&'static str]) -> Result<Box<Labels>, NulError> {
+    pub(crate) fn labels_of(labels: &[&'static str]) -> Result<Box<Labels>, NulError> {
         let texts = texts_of(labels)?;
         let all = texts.iter().map(|text| text.as_ptr()).collect();
         let raw = raw::Labels { texts: ptr::null(), count: ptr::null() };
@@ -97,6 +101,7 @@ pub(crate) mod private {
                 kinds: F::FIRST_KINDS.as_ptr(),
                 n: fields.len(),
                 labels: all_labels.as_ptr(),
+                file: ptr::null(),
             };
             Ok(Enabling { raw, _texts: texts, _fields: fields, _labels: labels, _all_labels: all_labels })
         }

@@ -90,7 +90,7 @@ pub use labelled::Labelled;
 pub use path::Path;
 pub use probe::{Field, Fields, Probe};
 #[doc(hidden)]
-pub use process::at_exit;
+pub use process::{at_exit, thread_number};
 pub use schema::{Schema, Width};
 pub use session::{Config, NotHome, Policy, Session};
 pub use text::Text;

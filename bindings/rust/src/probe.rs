@@ -207,11 +207,17 @@ pub(crate) const fn signature(widths: &[Width]) -> u32 {
     word
 }
 
-/// The text of a record in words, and how many these are: each field at the next multiple of its width behind the EPID's four bytes.
+/// The text of a record in words, and how many these are: each field at the next multiple of its width after the EPID's four bytes.
 #[inline]
 pub(crate) fn packed<F: Fields>(values: F) -> ([u64; 9], usize) {
+    packed_from(4, values)
+}
+
+/// The same from another byte on.
+#[inline]
+pub(crate) fn packed_from<F: Fields>(from: usize, values: F) -> ([u64; 9], usize) {
     let row = values.row();
-    let (mut words, mut end) = ([0; 9], 4_usize);
+    let (mut words, mut end) = ([0; 9], from);
     for (value, width) in row.iter().zip(F::WIDTHS) {
         let width = *width as usize;
         end = end.next_multiple_of(width);

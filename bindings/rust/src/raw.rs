@@ -2,7 +2,7 @@
 
 use crate::{tracer, Report};
 use std::ffi::{c_char, c_void};
-use std::sync::atomic::AtomicU64;
+use std::sync::atomic::{AtomicU32, AtomicU64};
 
 pub(crate) type Status = u32;
 
@@ -109,6 +109,7 @@ pub(crate) struct Watched {
     pub(crate) code: i32,
     pub(crate) address: u64,
     pub(crate) at: u64,
+    pub(crate) pc: u64,
     pub(crate) here: [u64; 2],
     pub(crate) thread: u32,
     pub(crate) place: u32,
@@ -120,6 +121,7 @@ extern "C" {
     pub(crate) fn dspec_watch_ring(watch: *mut c_void);
     pub(crate) fn dspec_watch_next(watch: *mut c_void, told: *mut Watched) -> bool;
     pub(crate) fn dspec_watch_saved(watch: *mut c_void, place: u32);
+    pub(crate) fn dspec_watch_place(watch: *mut c_void, place: u32, frame: u32, offset: &mut u64, file: &mut [u8; 41]) -> bool;
     pub(crate) fn dspec_watch_signal(watch: *mut c_void) -> i32;
     pub(crate) fn dspec_watch_end(watch: *mut c_void);
 }
@@ -133,6 +135,7 @@ pub(crate) struct Tracer {
     pub(crate) body: *mut c_void,
     pub(crate) seat: usize,
     pub(crate) run: u32,
+    pub(crate) up: u32,
     pub(crate) why: [c_char; 256],
 }
 
@@ -144,7 +147,9 @@ pub(crate) struct TracerPath {
     pub(crate) token: u32,
     pub(crate) place: u16,
     pub(crate) own: bool,
-    pub(crate) over: bool,
+    pub(crate) over: u8,
+    pub(crate) mark: u64,
+    pub(crate) begun: u64,
 }
 
 /// What an event's records claim in each tracer.
@@ -152,6 +157,39 @@ pub(crate) struct TracerPath {
 #[derive(Debug)]
 pub(crate) struct Event {
     pub(crate) claims: [AtomicU64; MAX_TRACERS],
+    pub(crate) name: *const c_char,
+    pub(crate) look: AtomicU32,
+}
+
+// SAFETY: the name is a static text or null, and the rest are atomics.
+unsafe impl Sync for Event {}
+
+/// No tracer has the event.
+pub(crate) const LOOK_NONE: u32 = 3;
+
+/// How a tracer is started, as C has it.
+#[repr(C)]
+pub(crate) struct TracerOptions {
+    pub(crate) lanes: u32,
+    pub(crate) paths: u32,
+    pub(crate) bufsize: u32,
+    pub(crate) specsize: u32,
+    pub(crate) period_ms: u32,
+    pub(crate) crash_ms: u32,
+    pub(crate) by_thread: bool,
+    pub(crate) no_crash: bool,
+    pub(crate) no_term: bool,
+    pub(crate) keep_all: bool,
+    pub(crate) keep_open: bool,
+    pub(crate) no_membarrier: bool,
+    pub(crate) keep_last: bool,
+    pub(crate) survive: bool,
+    pub(crate) max_bytes: u64,
+    pub(crate) max_folders: u32,
+    pub(crate) keep_ms: u32,
+    pub(crate) whys: *const Labels,
+    pub(crate) slow_ns: u64,
+    pub(crate) sample: u32,
 }
 
 #[repr(C)]
@@ -163,6 +201,7 @@ pub(crate) struct TracerEnabling {
     pub(crate) kinds: *const u8,
     pub(crate) n: usize,
     pub(crate) labels: *const *const Labels,
+    pub(crate) file: *const c_char,
 }
 
 /// What the numbers of a field are called.
@@ -173,16 +212,35 @@ pub struct Labels {
 }
 
 extern "C" {
-    pub(crate) fn dspec_tracer_start(
+    pub(crate) fn dspec_tracer_start_sized(
         tracer: *mut Tracer,
         folder: *const c_char,
-        options: *const tracer::Options,
+        options: *const TracerOptions,
+        size: usize,
         events: *const *const TracerEnabling,
+        declared: *const *const TracerEnabling,
+        end: *const *const TracerEnabling,
     ) -> bool;
-    pub(crate) fn dspec_tracer_stop(tracer: *mut Tracer, report: *mut tracer::Report) -> bool;
+    pub(crate) fn dspec_tracer_stop_sized(tracer: *mut Tracer, report: *mut tracer::Report, size: usize) -> bool;
     pub(crate) fn dspec_tracer_drop(tracer: *mut Tracer);
     pub(crate) fn dspec_tracer_flush(tracer: *mut Tracer, timeout_ms: u32) -> bool;
+    pub(crate) fn dspec_tracer_start_env_sized(
+        tracer: *mut Tracer,
+        options: *const TracerOptions,
+        size: usize,
+        events: *const *const TracerEnabling,
+        declared: *const *const TracerEnabling,
+        end: *const *const TracerEnabling,
+    ) -> bool;
+    pub(crate) fn dspec_tracer_counts_sized(tracer: *mut Tracer, report: *mut tracer::Report, size: usize) -> bool;
+    pub(crate) fn dspec_tracer_switch(tracer: *mut Tracer, on: bool);
+    pub(crate) fn dspec_tracer_switch_event(tracer: *mut Tracer, event: *const Event, on: bool);
     pub(crate) fn dspec_path_keep(path: *mut TracerPath) -> bool;
+    pub(crate) fn dspec_path_keep_why(path: *mut TracerPath, why: u32) -> bool;
+    pub(crate) fn dspec_path_end(path: *mut TracerPath, failed: bool, slow_ns: u64) -> bool;
+    pub(crate) fn dspec_path_took(path: *const TracerPath) -> u64;
+    pub(crate) fn dspec_path_adopt(path: *mut TracerPath) -> bool;
+    pub(crate) fn dspec_path_key(path: *mut TracerPath, high: u64, low: u64) -> bool;
     pub(crate) fn dspec_path_drop(path: *mut TracerPath) -> bool;
     pub(crate) fn dspec_path_put(path: *mut TracerPath, event: *const Event, words: *const u64, n: usize) -> Status;
     pub(crate) fn dspec_tracer_put(tracer: *mut Tracer, event: *const Event, words: *const u64, n: usize) -> Status;

@@ -27,19 +27,20 @@
 pub use crate::event::{AnyEvent, Event};
 
 use crate::event::private;
-use crate::probe::packed;
+use crate::probe::packed_from;
 use crate::raw::{self, Status};
 use crate::Fields;
 use std::cell::UnsafeCell;
 use std::ffi::{c_char, CStr, CString};
 use std::fmt;
 use std::marker::PhantomData;
+use std::mem::size_of;
 use std::os::unix::ffi::OsStrExt;
 use std::ptr;
+use std::sync::atomic::{AtomicU32, Ordering};
 use std::time::Duration;
 
 /// How a tracer is started. Zeros are the defaults.
-#[repr(C)]
 #[derive(Clone, Copy, Debug, Default, PartialEq, Eq, Hash)]
 #[allow(clippy::struct_excessive_bools)] // any of them may be beside any other
 pub struct Options {
@@ -70,7 +71,7 @@ pub struct Options {
     /// A path that has more records than fit keeps its last ones, at least `specsize` less a record's bytes of them; else its first. `paths` is 31 then, and 1 to 31,
     /// and `specsize` 80 or more; each lane has twice `paths` and one more times `specsize` bytes.
     pub keep_last: bool,
-    /// The tracer's memory is a file beside the folder, `folder.memory`, which outlives a kill: the program `dspec-salvage` reads it. A stop takes it away.
+    /// The tracer's memory is a file beside the folder, `folder-memory`, which outlives a kill: the program `dspec-salvage` reads it. A stop takes it away.
     pub survive: bool,
     /// Bytes of all files of the trace, which stands in folders `folder.0`, `folder.1`, .. below that bound then, by age, each a trace of its own; the oldest goes.
     /// 0: there is no bound.
@@ -79,6 +80,73 @@ pub struct Options {
     pub max_folders: u32,
     /// How many milliseconds a keep waits for room of its lane, which the consumer makes, before the path's records are lost; 0 at first: it doesn't wait.
     pub keep_ms: u32,
+    /// What the program's own reasons are called, [`Why::Own`] by their number.
+    pub whys: &'static [&'static str],
+    /// [`Path::end`] keeps a path that took so many nanoseconds or more; 0: none.
+    pub slow_ns: u64,
+    /// And one of so many others, by its number; 0: none.
+    pub sample: u32,
+}
+
+impl Options {
+    fn raw(&self, whys: *const raw::Labels) -> raw::TracerOptions {
+        let Options { lanes, paths, bufsize, specsize, period_ms, crash_ms, by_thread, no_crash, no_term, .. } = *self;
+        let Options { keep_all, keep_open, no_membarrier, keep_last, survive, max_bytes, max_folders, keep_ms, slow_ns, sample, .. } =
+            *self;
+        raw::TracerOptions {
+            lanes,
+            paths,
+            bufsize,
+            specsize,
+            period_ms,
+            crash_ms,
+            by_thread,
+            no_crash,
+            no_term,
+            keep_all,
+            keep_open,
+            no_membarrier,
+            keep_last,
+            survive,
+            max_bytes,
+            max_folders,
+            keep_ms,
+            whys,
+            slow_ns,
+            sample,
+        }
+    }
+}
+
+/// Why a path is kept, as the trace tells it in the path's event `dspec_kept`.
+#[derive(Clone, Copy, Debug, PartialEq, Eq, Hash)]
+#[non_exhaustive]
+pub enum Why {
+    /// It isn't said.
+    Kept,
+    /// The request failed.
+    Failed,
+    /// It took long.
+    Slow,
+    /// Somebody asked for it.
+    Asked,
+    /// It is one of so many.
+    Sampled,
+    /// A reason of the program's, of [`Options::whys`] by its number from 0 on.
+    Own(u32),
+}
+
+impl Why {
+    const fn number(self) -> u32 {
+        match self {
+            Why::Kept => 0,
+            Why::Failed => 1,
+            Why::Slow => 2,
+            Why::Asked => 3,
+            Why::Sampled => 4,
+            Why::Own(number) => number.saturating_add(8),
+        }
+    }
 }
 
 /// What came of all lanes of a tracer.
@@ -111,6 +179,12 @@ pub struct Report {
     pub no_slot: u64,
     /// Calls of a signal's handler in the middle of the tracer, refused.
     pub nested: u64,
+    /// Records of the paths that had no slot, and of threads that came after 4,294,967,294 others.
+    pub refused_records: u64,
+    /// Records of events that the tracer wasn't started with.
+    pub missing: u64,
+    /// Records of the tracer's own events, which are in no other count but `not_written` and `gone_records`.
+    pub own: u64,
     /// Calls behind the stop, refused.
     pub late: u64,
     /// Calls that gave up waiting for a lane.
@@ -147,7 +221,11 @@ impl Report {
     }
 }
 
-/// A text of C that stands in so many bytes.
+fn zero_byte(_: std::ffi::NulError) -> StartError {
+    StartError("a name with a zero byte".to_owned())
+}
+
+/// A text of C in so many bytes.
 fn text_of(bytes: &[c_char]) -> String {
     let bytes: Vec<u8> = bytes.iter().map(|byte| byte.to_ne_bytes()[0]).collect();
     CStr::from_bytes_until_nul(&bytes).unwrap_or_default().to_string_lossy().into_owned()
@@ -166,13 +244,13 @@ pub struct Ended {
 #[derive(Clone, Copy, Debug, PartialEq, Eq, Hash)]
 #[non_exhaustive]
 pub enum Recorded {
-    /// It stands in its path, or in the stream.
+    /// It is in its path, or in the stream.
     Kept,
     /// There was no room for it. It was counted.
     Dropped,
     /// No lane had a slot for its path, or could be had in time.
     Unavailable,
-    /// Its path was decided, as the thread that recorded to it last ended.
+    /// Its path was decided, as the thread that recorded to it last ended; or the event is switched off.
     Void,
     /// The tracer was stopped, or is that of a process which this one was forked from.
     Stopped,
@@ -212,6 +290,7 @@ pub struct Tracer {
     raw: Box<UnsafeCell<raw::Tracer>>,
     /// The library looks at these until the tracer is dropped.
     _enablings: Vec<private::Enabling>,
+    whys: Box<private::Labels>,
 }
 
 // SAFETY: the library's calls of a tracer may come from any thread, several at a time. A drop has the tracer alone.
@@ -225,7 +304,7 @@ impl fmt::Debug for Tracer {
 }
 
 impl Tracer {
-    /// Starts a tracer into a folder, which is made where it isn't there and may have no trace yet, with at most 63 events beside `dspec_crash`. It makes a
+    /// Starts a tracer into a folder, which is made where it isn't there and may have no trace yet, with at most 56 events beside the tracer's own. It makes a
     /// thread, and handles signals as the options say.
     ///
     /// # Errors
@@ -233,20 +312,77 @@ impl Tracer {
     /// [`StartError`] says why not: options out of range, a name that a trace can't have, a folder that can't be written, no memory, no thread, or eight
     /// tracers that are up.
     pub fn start(folder: impl AsRef<std::path::Path>, options: &Options, events: &[&'static dyn AnyEvent]) -> Result<Tracer, StartError> {
-        let zero = |_| StartError("a name with a zero byte".to_owned());
-        let folder = CString::new(folder.as_ref().as_os_str().as_bytes()).map_err(zero)?;
-        let enablings = events.iter().map(|event| event.enabling()).collect::<Result<Vec<_>, _>>().map_err(zero)?;
+        let folder = CString::new(folder.as_ref().as_os_str().as_bytes()).map_err(zero_byte)?;
+        // SAFETY: the tracer is all zeros; the pointers are valid, the list ends with null, and what the library keeps of it stays until the drop.
+        Tracer::started(options, events, |tracer, options, all| unsafe {
+            raw::dspec_tracer_start_sized(tracer, folder.as_ptr(), options, size_of::<raw::TracerOptions>(), all, ptr::null(), ptr::null())
+        })
+    }
+
+    /// Starts a tracer by the variable `DSPEC_TRACE`, as in `DSPEC_TRACE=/tmp/trace,slow=5ms,sample=1000,max=64M,off=lookup`: its folder, then words that go over
+    /// the options.
+    ///
+    /// # Errors
+    ///
+    /// As [`Tracer::start`]; also where the variable isn't set, or has a word that is none.
+    pub fn start_env(options: &Options, events: &[&'static dyn AnyEvent]) -> Result<Tracer, StartError> {
+        // SAFETY: as in `start`.
+        Tracer::started(options, events, |tracer, options, all| unsafe {
+            raw::dspec_tracer_start_env_sized(tracer, options, size_of::<raw::TracerOptions>(), all, ptr::null(), ptr::null())
+        })
+    }
+
+    fn started(
+        options: &Options,
+        events: &[&'static dyn AnyEvent],
+        start: impl FnOnce(*mut raw::Tracer, *const raw::TracerOptions, *const *const raw::TracerEnabling) -> bool,
+    ) -> Result<Tracer, StartError> {
+        let enablings = events.iter().map(|event| event.enabling()).collect::<Result<Vec<_>, _>>().map_err(zero_byte)?;
         let all: Vec<_> = enablings.iter().map(|one| &raw const one.raw).chain([ptr::null()]).collect();
         let tracer = Tracer {
-            raw: Box::new(UnsafeCell::new(raw::Tracer { body: ptr::null_mut(), seat: 0, run: 0, why: [0; 256] })),
+            raw: Box::new(UnsafeCell::new(raw::Tracer { body: ptr::null_mut(), seat: 0, run: 0, up: 0, why: [0; 256] })),
             _enablings: enablings,
+            whys: private::labels_of(options.whys).map_err(zero_byte)?,
         };
-        // SAFETY: the tracer is all zeros; the pointers are valid, the list ends with null, and what the library keeps of it stays until the drop.
-        if unsafe { raw::dspec_tracer_start(tracer.at(), folder.as_ptr(), options, all.as_ptr()) } {
+        let whys = if options.whys.is_empty() { ptr::null() } else { &raw const tracer.whys.raw };
+        if start(tracer.at(), &options.raw(whys), all.as_ptr()) {
             return Ok(tracer);
         }
         // SAFETY: no call is going on.
         Err(StartError(text_of(unsafe { &(*tracer.at()).why })))
+    }
+
+    /// What came of it until now, while it runs: the counts of records are those of each lane's last service.
+    #[must_use]
+    pub fn counts(&self) -> Report {
+        let mut report = Report::NONE;
+        // SAFETY: as in `record`; the report is there to be written.
+        unsafe { raw::dspec_tracer_counts_sized(self.at(), &mut report, size_of::<Report>()) };
+        report
+    }
+
+    /// Off: paths that begin from now on have no records, nor is there one outside a path; what is open goes on. On again: as before.
+    pub fn turn(&self, on: bool) {
+        // SAFETY: as in `record`.
+        unsafe { raw::dspec_tracer_switch(self.at(), on) }
+    }
+
+    /// The same of one event, whose records are void meanwhile.
+    pub fn turn_event<F: Fields>(&self, event: &'static Event<F>, on: bool) {
+        // SAFETY: as in `record`; the event's words are atomics.
+        unsafe { raw::dspec_tracer_switch_event(self.at(), event.at(), on) }
+    }
+
+    /// Whether it is neither stopped nor switched off.
+    #[must_use]
+    pub fn is_up(&self) -> bool {
+        // SAFETY: the library writes these words as atomics.
+        unsafe { AtomicU32::from_ptr(&raw mut (*self.at()).up) }.load(Ordering::Relaxed) != 0
+    }
+
+    fn is_off(&self) -> bool {
+        // SAFETY: as in `is_up`.
+        unsafe { AtomicU32::from_ptr(&raw mut (*self.at()).run) }.load(Ordering::Relaxed) == 0
     }
 
     fn at(&self) -> *mut raw::Tracer {
@@ -255,14 +391,16 @@ impl Tracer {
 
     /// A path begins. Nothing is taken before its first record.
     pub fn path(&self) -> Path<'_> {
-        let raw = raw::TracerPath { tracer: self.at(), lane: ptr::null_mut(), id: 0, token: 0, place: 0, own: false, over: false };
+        let over = u8::from(self.is_off()) << 1;
+        let raw =
+            raw::TracerPath { tracer: self.at(), lane: ptr::null_mut(), id: 0, token: 0, place: 0, own: false, over, mark: 0, begun: 0 };
         Path { raw, of: PhantomData }
     }
 
     /// A record that is kept whatever comes, with the time as its stamp.
     #[inline]
     pub fn record<F: Fields>(&self, event: &Event<F>, values: F) -> Recorded {
-        let (words, count) = packed(values);
+        let (words, count) = packed_from(8, values);
         // SAFETY: the tracer was started and isn't dropped, and the words are as many as is told.
         recorded(unsafe { raw::dspec_tracer_put(self.at(), event.at(), words.as_ptr(), count) })
     }
@@ -279,7 +417,7 @@ impl Tracer {
     pub fn stop(&self) -> Ended {
         let mut report = Report::NONE;
         // SAFETY: as in `record`; the report is there to be written.
-        let whole = unsafe { raw::dspec_tracer_stop(self.at(), &mut report) };
+        let whole = unsafe { raw::dspec_tracer_stop_sized(self.at(), &mut report, size_of::<Report>()) };
         Ended { whole, report }
     }
 }
@@ -315,11 +453,11 @@ impl fmt::Debug for Path<'_> {
     }
 }
 
-impl Path<'_> {
+impl<'a> Path<'a> {
     /// A record of the path, with the time as its stamp.
     #[inline]
     pub fn record<F: Fields>(&mut self, event: &Event<F>, values: F) -> Recorded {
-        let (words, count) = packed(values);
+        let (words, count) = packed_from(8, values);
         // SAFETY: the tracer stays while it is borrowed, nobody else has the path, and the words are as many as is told.
         recorded(unsafe { raw::dspec_path_put(&mut self.raw, event.at(), words.as_ptr(), count) })
     }
@@ -328,6 +466,49 @@ impl Path<'_> {
     pub fn keep(mut self) -> bool {
         // SAFETY: as in `record`.
         unsafe { raw::dspec_path_keep(&mut self.raw) }
+    }
+
+    /// The same for this reason.
+    pub fn keep_why(mut self, why: Why) -> bool {
+        // SAFETY: as in `record`.
+        unsafe { raw::dspec_path_keep_why(&mut self.raw, why.number()) }
+    }
+
+    /// Ends it by the tracer's rule: it is kept if it failed, else if it took [`Options::slow_ns`] or more, else if it is one of [`Options::sample`]; whether it is kept.
+    pub fn end(mut self, failed: bool) -> bool {
+        // SAFETY: as in `record`.
+        unsafe { raw::dspec_path_end(&mut self.raw, failed, 0) }
+    }
+
+    /// Whether it has records.
+    #[must_use]
+    pub fn is_open(&self) -> bool {
+        !self.raw.lane.is_null() && self.raw.over == 0
+    }
+
+    /// How long ago its first record was; zero of one that has none.
+    #[must_use]
+    pub fn took(&self) -> Duration {
+        // SAFETY: as in `record`.
+        Duration::from_nanos(unsafe { raw::dspec_path_took(&self.raw) })
+    }
+
+    /// The path is this thread's from now on, as it would be with its next record: whether it is open.
+    pub fn adopt(&mut self) -> bool {
+        // SAFETY: as in `record`.
+        unsafe { raw::dspec_path_adopt(&mut self.raw) }
+    }
+
+    /// Sixteen bytes of the program's in the path's event, as a trace's number that another service sent: whether it is open.
+    pub fn key(&mut self, key: [u8; 16]) -> bool {
+        let [high, low] = [0, 8].map(|at| key[at..at + 8].iter().fold(0, |value, &byte| value << 8 | u64::from(byte)));
+        // SAFETY: as in `record`.
+        unsafe { raw::dspec_path_key(&mut self.raw, high, low) }
+    }
+
+    /// A path that ends by the tracer's rule where it goes out of scope.
+    pub fn guard(self) -> Guard<'a> {
+        Guard { path: Some(self), failed: false }
     }
 
     /// Throws it away, as dropping it does: whether none of its records is kept.
@@ -344,9 +525,48 @@ impl Drop for Path<'_> {
     }
 }
 
+/// A [`Path`] that ends by the tracer's rule where it goes out of scope ([`Path::end`]): in each way out of a request. A panic counts as failed; an `Err` that is
+/// returned doesn't, so say [`Guard::fail`] before.
+#[must_use = "a guard ends its path where it goes out of scope"]
+#[derive(Debug)]
+pub struct Guard<'a> {
+    path: Option<Path<'a>>,
+    failed: bool,
+}
+
+impl<'a> Guard<'a> {
+    /// A record of its path.
+    #[inline]
+    pub fn record<F: Fields>(&mut self, event: &Event<F>, values: F) -> Recorded {
+        self.path.as_mut().map_or(Recorded::Void, |path| path.record(event, values))
+    }
+
+    /// The request failed: its path is kept at its end.
+    pub fn fail(&mut self) {
+        self.failed = true;
+    }
+
+    /// The path alone, undecided.
+    ///
+    /// # Panics
+    ///
+    /// Never.
+    pub fn into_path(mut self) -> Path<'a> {
+        self.path.take().expect("a guard has its path until its end")
+    }
+}
+
+impl Drop for Guard<'_> {
+    fn drop(&mut self) {
+        if let Some(path) = self.path.take() {
+            path.end(self.failed || std::thread::panicking());
+        }
+    }
+}
+
 #[cfg(test)]
 mod tests {
-    use super::{raw, Options, Report};
+    use super::{raw, Report};
     use std::io::Write;
     use std::mem::{offset_of, size_of};
     use std::path::Path;
@@ -356,9 +576,9 @@ mod tests {
 #include "dspec_tracer.h"
 #include <stdio.h>
 int main(void) {
-    printf("%zu %zu ", sizeof(dspec_tracer_options), offsetof(dspec_tracer_options, keep_ms));
+    printf("%zu %zu ", sizeof(dspec_tracer_options), offsetof(dspec_tracer_options, sample));
     printf("%zu %zu ", sizeof(dspec_tracer_report), offsetof(dspec_tracer_report, why));
-    printf("%zu %zu ", sizeof(dspec_path), offsetof(dspec_path, over));
+    printf("%zu %zu ", sizeof(dspec_path), offsetof(dspec_path, begun));
     printf("%zu %zu %zu", sizeof(dspec_tracer), sizeof(dspec_event), sizeof(dspec_enabling));
 }
 "#;
@@ -379,9 +599,9 @@ int main(void) {
         let told = Command::new(&program).output().unwrap();
         std::fs::remove_file(program).unwrap();
         let due = [
-            (size_of::<Options>(), offset_of!(Options, keep_ms)),
+            (size_of::<raw::TracerOptions>(), offset_of!(raw::TracerOptions, sample)),
             (size_of::<Report>(), offset_of!(Report, why)),
-            (size_of::<raw::TracerPath>(), offset_of!(raw::TracerPath, over)),
+            (size_of::<raw::TracerPath>(), offset_of!(raw::TracerPath, begun)),
         ];
         let mut due: Vec<_> = due.into_iter().flat_map(|(size, last)| [size, last]).collect();
         due.extend([size_of::<raw::Tracer>(), size_of::<raw::Event>(), size_of::<raw::TracerEnabling>()]);

@@ -1,6 +1,6 @@
 //! The tracer in a box: its counts, its refusals, and what stays of a process that crashes.
 
-use dspec::tracer::{Event, Options, Path, Recorded};
+use dspec::tracer::{Event, Options, Path, Recorded, Why};
 use dspec::{Text, Tracer};
 use std::path::PathBuf;
 use std::process::Command;
@@ -11,7 +11,7 @@ use std::{env, fs, mem, process, thread};
 
 static STEP: Event<(u64, i8)> = Event::new("step", &["request", "number"]);
 #[allow(clippy::type_complexity)] // one of each kind
-static WIDE: Event<(u8, u16, u32, u64, i64, f32, f64, bool)> = Event::new("wide", &["a", "b", "c", "event", "e", "f", "g", "h"]);
+static WIDE: Event<(u8, u16, u32, u64, i64, f64, bool)> = Event::new("wide", &["a", "b", "c", "event", "e", "f", "g"]);
 static OTHER: Event<(u32,)> = Event::new("other", &["number"]);
 static QUERY: Event<(u64, Text<32>, Outcome)> = Event::new("query", &["request", "sql", "outcome"]);
 
@@ -49,8 +49,25 @@ impl Folder {
         assert!(told.status.success() && is_due, "{warning}");
         let text = String::from_utf8(told.stdout).unwrap();
         let event = |line: &str| line.split_once(") ").unwrap().1.split_once(' ').unwrap().1.to_owned();
-        Some(text.lines().map(event).collect())
+        Some(text.lines().map(event).filter(|line| !line.starts_with("dspec_")).map(|line| without_path(&line)).collect())
     }
+
+    /// The lines of the tracer's own events of this name; of all of them by an empty one.
+    fn own_lines(&self, name: &str) -> Option<Vec<String>> {
+        let told = Command::new("babeltrace2").arg(&self.0).output().ok()?;
+        let text = String::from_utf8(told.stdout).unwrap();
+        let is_own = |line: &&str| {
+            line.contains(&format!(" {name}: "))
+                || (name.is_empty() && line.split(": {").next().is_some_and(|front| front.contains(" dspec_")))
+        };
+        Some(text.lines().filter(is_own).map(str::to_owned).collect())
+    }
+}
+
+/// A line without the number of its path.
+fn without_path(line: &str) -> String {
+    let (front, rest) = line.split_once("dspec_path = ").unwrap();
+    format!("{front}{}", rest.split_once(", ").unwrap().1)
 }
 
 impl Drop for Folder {
@@ -85,7 +102,7 @@ fn kept_paths_are_in_the_folder_and_no_other() {
     let tracer = folder.start(&Options { no_term: true, ..Options::default() });
     let mut kept = tracer.path();
     assert_eq!(kept.record(&STEP, (1, -1)), Recorded::Kept);
-    assert_eq!(kept.record(&WIDE, (255, 1, 2, u64::MAX, -1, 0.5, -2.5, true)), Recorded::Kept);
+    assert_eq!(kept.record(&WIDE, (255, 1, 2, u64::MAX, -1, -2.5, true)), Recorded::Kept);
     let mut thrown = tracer.path();
     assert_eq!(thrown.record(&STEP, (2, 1)), Recorded::Kept);
     assert!(thrown.discard() && kept.keep());
@@ -94,7 +111,7 @@ fn kept_paths_are_in_the_folder_and_no_other() {
     assert_eq!(tracer.record(&STEP, (4, 1)), Recorded::Kept);
     assert!(tracer.flush(Duration::from_secs(60)));
     shows(&folder, "step", &["{ request = 1, number = -1 }", "{ request = 4, number = 1 }"]);
-    shows(&folder, "wide", &["{ a = 255, b = 1, c = 2, event = 18446744073709551615, e = -1, f = 0.5, g = -2.5, h = 1 }"]);
+    shows(&folder, "wide", &["{ a = 255, b = 1, c = 2, event = 18446744073709551615, e = -1, f = -2.5, g = 1 }"]);
     let (first, again) = (tracer.stop(), tracer.stop());
     assert!(first.whole && again.whole);
     let report = first.report;
@@ -144,7 +161,7 @@ fn what_is_refused() {
     assert_eq!(path.record(&OTHER, (1,)), Recorded::Refused);
     assert_eq!(path.record(&STEP, (1, 1)), Recorded::Kept);
     let report = tracer.stop().report;
-    assert_eq!((report.refused, report.undecided, report.accepted, report.late), (2, 1, 0, 0));
+    assert_eq!((report.missing, report.refused, report.undecided, report.accepted, report.late), (2, 0, 1, 0, 0));
     assert_eq!(tracer.record(&STEP, (2, 2)), Recorded::Stopped);
     assert_eq!(path.record(&STEP, (2, 2)), Recorded::Stopped);
     assert!(!path.keep() && !tracer.flush(Duration::from_secs(60)));
@@ -175,7 +192,7 @@ fn the_last_records_of_a_path() {
     let ended = tracer.stop();
     let (kept, cut) = (ended.report.accepted, ended.report.cut_records);
     assert!(ended.whole && kept + cut == 100 && (9..=20).contains(&kept) && ended.report.cut == 1, "{ended:?}");
-    let due: Vec<_> = (cut + 1..=100).map(|number| format!("{{ request = 1, number = {number} }}")).collect();
+    let due: Vec<_> = [1].into_iter().chain(cut + 2..=100).map(|number| format!("{{ request = 1, number = {number} }}")).collect();
     let Some(lines) = folder.lines_without(cut) else { return };
     show(&lines, "step", &due.iter().map(String::as_str).collect::<Vec<_>>());
 }
@@ -202,7 +219,8 @@ fn a_bound_on_disk() {
     assert!(bytes <= bound && folders.len() == 2 && report.gone_folders > 0, "{bytes} {report:?}");
     let Some(lines) = folders.iter().map(Folder::lines).collect::<Option<Vec<_>>>() else { return };
     let lines = lines.concat();
-    assert_eq!(lines.len() as u64 + report.gone_records, 20_000);
+    let own: usize = folders.iter().map(|one| one.own_lines("").map_or(0, |lines| lines.len())).sum();
+    assert_eq!((report.accepted, (lines.len() + own) as u64 + report.gone_records), (20_000, 20_000 + report.own));
     assert!(lines.last().unwrap().ends_with("{ request = 19999, number = 1 }"), "{:?}", lines.last());
 }
 
@@ -320,12 +338,11 @@ fn a_crash_keeps_its_path_whole() {
         let steps = |request: u64| [1, 2, 3].map(|number| format!("{{ request = {request}, number = {number} }}"));
         let due: Vec<_> = steps(771).into_iter().chain(steps(777)).collect();
         shows(&folder, "step", &due.iter().map(String::as_str).collect::<Vec<_>>());
-        let Some(lines) = folder.lines() else { return };
-        let crashes: Vec<_> = lines.iter().filter(|line| line.contains("dspec_crash")).collect();
+        let Some(crashes) = folder.own_lines("dspec_crash") else { return };
         // A stack that ends is a fault, of which the runtime of Rust makes an abort.
         assert_eq!(crashes.len(), signals.len(), "{way}: {crashes:?}");
         for (at, (line, signal)) in crashes.iter().zip(signals).enumerate() {
-            assert!(line.contains(&format!("{{ signal = {signal}, ")), "{way}: {crashes:?}");
+            assert!(line.contains(&format!(", signal = {signal}, ")), "{way}: {crashes:?}");
             assert!(line.ends_with(&format!("paths = {}, stuck = 0 }}", u32::from(at == 0))), "{way}: {crashes:?}");
         }
     }
@@ -348,4 +365,63 @@ fn a_tracer_that_is_forgotten_is_written() {
     program.args(["--exact", "a_program_that_forgets_its_tracer"]).env("DSPEC_FORGETS", &folder.0);
     assert!(program.output().unwrap().status.success());
     shows(&folder, "step", &["{ request = 5, number = 1 }"]);
+}
+
+#[test]
+fn paths_end_by_the_rule() {
+    let folder = Folder::new();
+    let hour = 3_600_000_000_000;
+    let tracer = folder.start(&Options { slow_ns: hour, whys: &["vip", "canary"], ..Options::default() });
+    assert!(tracer.is_up());
+    let request = |number| {
+        let mut path = tracer.path();
+        assert!(!path.is_open() && path.took() == Duration::ZERO);
+        assert_eq!(path.record(&STEP, (number, 1)), Recorded::Kept);
+        assert!(path.is_open() && path.adopt());
+        path
+    };
+    assert!(request(1).end(true) && !request(2).end(false));
+    let mut third = request(3);
+    assert!(third.key([0, 0, 0, 0, 0, 0, 0, 7, 0, 0, 0, 0, 0, 0, 0, 8]) && third.keep_why(Why::Own(1)));
+    let mut guard = request(4).guard();
+    guard.fail();
+    drop(guard);
+    drop(request(5).guard());
+    let panicked = std::panic::catch_unwind(std::panic::AssertUnwindSafe(|| {
+        let _guard = request(6).guard();
+        std::panic::resume_unwind(Box::new(()));
+    }));
+    assert!(panicked.is_err() && request(7).guard().into_path().keep());
+    tracer.turn(false);
+    assert!(!tracer.is_up());
+    assert_eq!((tracer.path().record(&STEP, (8, 1)), tracer.record(&STEP, (8, 1))), (Recorded::Unavailable, Recorded::Unavailable));
+    tracer.turn(true);
+    tracer.turn_event(&WIDE, false);
+    assert_eq!(tracer.record(&WIDE, (0, 0, 0, 0, 0, 0.0, false)), Recorded::Void);
+    assert_eq!(tracer.counts().kept, 5);
+    let ended = tracer.stop();
+    assert!(ended.whole && !tracer.is_up());
+    assert_eq!((ended.report.kept, ended.report.thrown, ended.report.accepted), (5, 2, 5));
+    shows(&folder, "step", &[1, 3, 4, 6, 7].map(|number| format!("{{ request = {number}, number = 1 }}")).each_ref().map(String::as_str));
+    let Some(kept) = folder.own_lines("dspec_kept") else { return };
+    let whys: Vec<_> = kept.iter().map(|line| line.split_once("why = ( \"").unwrap().1.split_once('"').unwrap().0).collect();
+    assert_eq!(whys, ["failed", "canary", "failed", "failed", "kept"]);
+    assert!(kept[1].ends_with("key_high = 7, key_low = 8 }"), "{}", kept[1]);
+}
+
+#[test]
+fn a_start_by_the_environment() {
+    if let Ok(folder) = env::var("DSPEC_TRACER_TEST_ENVIRONMENT") {
+        let tracer = Tracer::start_env(&Options::default(), &[&STEP, &WIDE]).unwrap();
+        let mut path = tracer.path();
+        assert_eq!(path.record(&STEP, (folder.len() as u64, 1)), Recorded::Kept);
+        assert!(path.end(false) && tracer.stop().whole);
+        return;
+    }
+    let folder = Folder::new();
+    let mut child = Command::new(env::current_exe().unwrap());
+    child.args(["--exact", "a_start_by_the_environment"]).env("DSPEC_TRACER_TEST_ENVIRONMENT", &folder.0);
+    assert!(child.env("DSPEC_TRACE", format!("{},sample=1,off=wide", folder.0.display())).output().unwrap().status.success());
+    shows(&folder, "step", &[&format!("{{ request = {}, number = 1 }}", folder.0.as_os_str().len())]);
+    assert!(!child.env("DSPEC_TRACE", format!("{},slow=5", folder.0.display())).output().unwrap().status.success());
 }

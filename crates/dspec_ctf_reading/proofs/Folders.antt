@@ -1,4 +1,3 @@
 pub mod Counting
-pub mod Rows
 pub mod Checking
 pub mod Splitting

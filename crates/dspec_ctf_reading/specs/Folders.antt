@@ -5,4 +5,3 @@ pub mod Counts
 pub mod Marks
 pub mod Values
 pub mod Whole
-pub mod Tracks

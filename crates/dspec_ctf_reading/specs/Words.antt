@@ -5,7 +5,6 @@ pub use Rattle.dspec_ctf_reading.specs.Faults.{behind_events}
 pub use Rattle.dspec_ctf_reading.specs.Files.{file_bytes, FileTells, last_missed, PartTells}
 pub use Rattle.dspec_ctf_reading.specs.Folders.Checks.{IsSoundFrom, last_of, packet_as_read, RisesFrom, stamps_of, times_of}
 pub use Rattle.dspec_ctf_reading.specs.Folders.Counts.{BeginsFile, CountsPacket, CountsPackets, span_from, up_to_64}
-pub use Rattle.dspec_ctf_reading.specs.Folders.Tracks.{records_told, row_parts}
 pub use Rattle.dspec_ctf_reading.specs.Folders.Whole.{AreWholeBefore, SplitsInto}
 pub use Rattle.dspec_ctf_reading.specs.Fronts.{front_of, PacketSplit, split_behind, split_packet, split_packet as packet_split}
 pub use Rattle.dspec_ctf_reading.specs.Laws.{FilledFilesReadBack, MetadataTells, MissedReadsBack, RunsReadBack, with_its_events}

@@ -3,7 +3,7 @@
 //!
 //! `packet.rt` reads a file packet by packet, `whole.rt` says how much of a file is whole packets, `check.rt` what is wrong with one.
 //! `counts.rt` counts, `clock.rt` tells times, `value.rt` what a field's number stands for, `mark.rt` puts what happened in order of
-//! time. `text.rt` and `chrome.rt` write what happened; `track.rt` says which records of a row are slices.
+//! time. `text.rt` and `chrome.rt` write what happened.
 
 mod check;
 mod chrome;
@@ -14,14 +14,11 @@ mod fault;
 mod mark;
 mod packet;
 mod text;
-mod track;
 mod value;
 mod whole;
 
 pub use check::{Whose, check_file};
-pub use chrome::{
-    RowRecord, Track, chrome_event, chrome_missed, chrome_name, chrome_record, chrome_slice,
-};
+pub use chrome::{RowRecord, Track, chrome_event, chrome_missed, chrome_name, chrome_record};
 pub use clock::{Base, base_of, nanoseconds};
 pub use counts::{CpuCounts, count_events, count_file};
 pub use date::Moment;
@@ -29,6 +26,5 @@ pub use fault::{FileFault, Wrong};
 pub use mark::{Mark, What, marks_of, sort_by_time};
 pub use packet::{ReadPacket, read_packet};
 pub use text::{event_text, field_text, missed_text};
-pub use track::{RowPart, row_parts_of};
 pub use value::ShownValue;
 pub use whole::{Ending, ending_of, whole_len};

@@ -20,6 +20,8 @@ file_name cpu (Some number) = codes "cpu_" ++ (decimal cpu ++ (codes "_" ++ deci
 abbrev pub status_of_folder : TraceFolderFault → ℕ
 status_of_folder (folder.Text path reason) = 3
 status_of_folder (folder.File path file reason) = 3
+status_of_folder (folder.NoTextFile path) = 1
+status_of_folder (folder.NoFile path file) = 1
 status_of_folder (folder.NoMetadata path) = 1
 status_of_folder (folder.Metadata path fault) = 1
 status_of_folder (folder.Uuid path) = 1

@@ -24,6 +24,15 @@ pub enum TraceFolderFault<'a> {
         file: FileName,
         reason: io::Error,
     },
+    /// What has the name of its metadata is no file, but a pipe or a device, say.
+    #[error("{0}/metadata: it is no regular file")]
+    NoTextFile(&'a str),
+    /// The same of a file of it.
+    #[error("{folder}/{file}: it is no regular file")]
+    NoFile {
+        folder: &'a str,
+        file: FileName,
+    },
     /// It has no metadata.
     #[error("{0}: no trace, since there is no metadata in it")]
     NoMetadata(&'a str),
@@ -55,7 +64,9 @@ impl<'a> TraceFolderFault<'a> {
         ensures { result ≡ status_of_folder self.now }
     {
         match self {
-            TraceFolderFault::NoMetadata(_)
+            TraceFolderFault::NoTextFile(_)
+            | TraceFolderFault::NoFile { .. }
+            | TraceFolderFault::NoMetadata(_)
             | TraceFolderFault::Metadata { .. }
             | TraceFolderFault::Uuid(_)
             | TraceFolderFault::Clocks

@@ -31,4 +31,4 @@ pub use examining::examine_folders;
 pub use fault::FolderViewFault;
 pub use folder_fault::TraceFolderFault;
 pub use naming::FileName;
-pub use showing::{OutputFormat, TracksAsk, show_folders};
+pub use showing::{OutputFormat, show_folders};

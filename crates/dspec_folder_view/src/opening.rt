@@ -56,13 +56,23 @@ pub(crate) fn path_of(alloc: Global, folder: &str, file: FileName) -> Result<Str
     format!(in alloc; "{folder}/{file}")
 }
 
+/// The bytes of a regular file; of anything else none, since a pipe has no end, and a device may have none either.
+fn read_regular(rt: &HostRuntime, path: &str) -> io::Result<Option<Vec<u8>>> {
+    if fs::metadata(rt, path)?.is_file() {
+        Ok(Some(fs::read(rt, path)?))
+    } else {
+        Ok(None)
+    }
+}
+
 /// The bytes of a folder's metadata.
 fn text_of<'a>(rt: &HostRuntime, folder: &'a str) -> Result<Vec<u8>, TraceFolderFault<'a>> {
     let Ok(path) = format!(in rt.alloc(); "{folder}/metadata") else {
         return Err(TraceFolderFault::Memory);
     };
-    match fs::read(rt, path.as_str()) {
-        Ok(text) => Ok(text),
+    match read_regular(rt, path.as_str()) {
+        Ok(Some(text)) => Ok(text),
+        Ok(None) => Err(TraceFolderFault::NoTextFile(folder)),
         Err(reason) if reason.kind() == io::ErrorKind::NotFound => {
             Err(TraceFolderFault::NoMetadata(folder))
         }
@@ -108,8 +118,12 @@ impl<'a> OpenedTrace<'a> {
         let Ok(path) = path_of(rt.alloc(), self.path, file) else {
             return Err(TraceFolderFault::Memory);
         };
-        match fs::read(rt, path.as_str()) {
-            Ok(bytes) => Ok(bytes),
+        match read_regular(rt, path.as_str()) {
+            Ok(Some(bytes)) => Ok(bytes),
+            Ok(None) => Err(TraceFolderFault::NoFile {
+                folder: self.path,
+                file,
+            }),
             Err(reason) => Err(file_fault(self.path, file, reason)),
         }
     }

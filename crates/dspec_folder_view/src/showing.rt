@@ -13,15 +13,6 @@ use std::alloc::Global;
 use std::io;
 use std::io::{BufWriter, Write};
 
-/// A document with a row for each value of a field.
-#[derive(Debug, Clone, Copy, PartialEq, Eq)]
-pub struct TracksAsk<'a> {
-    /// The name of the field.
-    pub field: &'a str,
-    /// Whether two records of one event, one behind the other in a row, are a slice.
-    pub slices: bool,
-}
-
 /// How folders are shown.
 #[derive(Debug, Clone, Copy, PartialEq, Eq)]
 pub enum OutputFormat<'a> {
@@ -29,8 +20,8 @@ pub enum OutputFormat<'a> {
     Text,
     /// A document of Chrome's Trace Event form.
     Json,
-    /// The same with a row for each value of a field.
-    Tracks(TracksAsk<'a>),
+    /// The same with a row for each value of the field of this name.
+    Tracks(&'a str),
 }
 
 /// Traces with their folders.
@@ -109,8 +100,8 @@ pub fn show_folders<'a>(
         opened: opened.as_slice(),
         metadatas: metadatas.as_slice(),
     };
-    if let OutputFormat::Tracks(ask) = shape {
-        see_field(&traces, ask.field)?;
+    if let OutputFormat::Tracks(field) = shape {
+        see_field(&traces, field)?;
     }
     let merged = merge_all(rt, &traces)?;
     let mut out = match BufWriter::new(rt.alloc(), io::writer(rt)) {
@@ -120,7 +111,9 @@ pub fn show_folders<'a>(
     written(match shape {
         OutputFormat::Text => write_list(rt.alloc(), &mut out, &traces, &merged),
         OutputFormat::Json => write_chart(rt.alloc(), &mut out, &traces, &merged),
-        OutputFormat::Tracks(ask) => write_tracks(rt.alloc(), &mut out, &traces, &merged, ask),
+        OutputFormat::Tracks(field) => {
+            write_tracks(rt.alloc(), &mut out, &traces, &merged, field)
+        }
     })?;
     written(out.flush())?;
     Ok(merged.sound)

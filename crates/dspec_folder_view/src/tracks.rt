@@ -5,11 +5,10 @@ use crate::chart::{
     END, FRONT, STEP, behind_begin, cpu_name, event_of, process_name, put_event, track_of,
 };
 use crate::merging::{Merged, Source};
-use crate::showing::{OpenedTraces, TracksAsk};
+use crate::showing::OpenedTraces;
 use dspec_ctf_reading::EventText;
 use dspec_ctf_reading::folder::{
-    Mark, RowPart, RowRecord, Track, What, chrome_name, chrome_record, chrome_slice, field_text,
-    row_parts_of,
+    Mark, RowRecord, Track, What, chrome_name, chrome_record, field_text,
 };
 use std::alloc::{AllocError, Global};
 use std::io;
@@ -49,7 +48,8 @@ struct TrackRow {
 struct Page<'p, 's, 'o, 'a, 'f> {
     traces: &'p OpenedTraces<'s, 'o, 'a>,
     merged: &'s Merged,
-    ask: TracksAsk<'f>,
+    /// The name of the field.
+    field: &'f str,
 }
 
 /// Whose row a mark of this file stands in.
@@ -143,7 +143,7 @@ fn name_of(
     page: Page<'_, '_, '_, '_, '_>,
     owner: &Owner,
 ) -> Result<String, AllocError> {
-    let field = page.ask.field;
+    let field = page.field;
     match owner {
         Owner::Cpu(cpu) => cpu_name(alloc, page.merged, *cpu),
         Owner::Value(value) => {
@@ -189,32 +189,6 @@ fn record_at<'s, 'o>(
     Some((text, record))
 }
 
-/// The kinds of the events of a row of a value.
-fn kinds_of(alloc: Global, merged: &Merged, row: &[Placed]) -> Result<Vec<usize>, AllocError> {
-    let mut kinds = Vec::new(alloc);
-    for placed in row {
-        if let Some(mark) = merged.marks.get(placed.mark) {
-            if let What::Event(event) = &mark.what {
-                kinds.push(event.place)?;
-            }
-        }
-    }
-    Ok(kinds)
-}
-
-/// What is drawn of a row of a value.
-fn drawn(
-    alloc: Global,
-    page: Page<'_, '_, '_, '_, '_>,
-    row: &[Placed],
-) -> Result<Vec<RowPart>, AllocError> {
-    if page.ask.slices {
-        let kinds = kinds_of(alloc, page.merged, row)?;
-        return row_parts_of(alloc, kinds.as_slice());
-    }
-    vec![in alloc; RowPart::Mark; row.len()]
-}
-
 /// Writes the records of a row of a value, each once.
 fn put_records<W: Write>(
     alloc: Global,
@@ -223,23 +197,11 @@ fn put_records<W: Write>(
     row: &[Placed],
     track: Track,
 ) -> io::Result<()> {
-    let row_parts = drawn(alloc, page, row)?;
-    let mut place = 0usize;
-    for piece in &row_parts {
-        let first = record_at(page, row, place);
-        let second = record_at(page, row, place.saturating_add(1));
-        let event = match (*piece, first, second) {
-            (RowPart::Slice, Some((text, first)), Some((_, second))) => {
-                place = place.saturating_add(2);
-                chrome_slice(alloc, track, text, first, second)?
-            }
-            (_, Some((text, first)), _) => {
-                place = place.saturating_add(1);
-                chrome_record(alloc, track, text, first)?
-            }
-            _ => break,
-        };
-        put_event(out, false, event.as_str())?;
+    for place in 0..row.len() {
+        if let Some((text, record)) = record_at(page, row, place) {
+            let event = chrome_record(alloc, track, text, record)?;
+            put_event(out, false, event.as_str())?;
+        }
     }
     Ok(())
 }
@@ -315,14 +277,14 @@ pub(crate) fn write_tracks<'s, W: Write>(
     out: &mut W,
     traces: &OpenedTraces<'s, '_, '_>,
     merged: &'s Merged,
-    ask: TracksAsk<'_>,
+    field: &str,
 ) -> io::Result<()> {
     let page = Page {
         traces,
         merged,
-        ask,
+        field,
     };
-    let all = placed_marks(alloc, traces, merged, ask.field)?;
+    let all = placed_marks(alloc, traces, merged, field)?;
     let rows = rows_of(alloc, all.as_slice())?;
     out.write_all(FRONT)?;
     put_processes(alloc, out, page)?;

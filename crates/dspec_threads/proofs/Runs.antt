@@ -5,7 +5,7 @@ use Rattle.std.specs.{Option.option_map_or, Prelude.All, Prelude.Bool, Prelude.I
 use Rattle.dspec_threads.specs.Words.{enabled, table_accepts, table_shape, table_text, Has, AreNew, HandsLane, IsLaneOf, IsRun, rank_of, RunningSession, EnabledRows, IsUnusedConsumer, Pair}
 use Rattle.dspec_threads.specs.Words.{last_seat, set_up, CallsMade, called, no_calls, number_in, schema_of, words_of, Consuming, view_of, IsSession, PassesOn, IsOfRank, AreCpusOf, AreAtPlaces}
 use Rattle.dspec_threads.specs.Words.{AtOne, EachPair, IsAtPlace, IsAtPlaceSo, KeepsPlace, LooksAndSends, Rests, StaysIn, Whereabouts, waits_inside, who_is_in, IsFresh, Config, Deed, Batch, Cpu}
-use Rattle.dspec_threads.specs.Words.{Shared, Session}
+use Rattle.dspec_threads.specs.Words.{IsOneList, Shared, Session, Record, Shape, Left}
 use Rattle.dspec.proofs.{Passing.passes_both, Passing.passes_nothing, Tracing.fresh_none}
 use Rattle.dspec_threads.proofs.Pairs.{each_itself, pair_count, set_past}
 use Rattle.dspec_threads.proofs.Whereabouts.{begins, each_placed, inside_there, sent_from, stays_itself}
@@ -145,6 +145,29 @@ module _ {K : Type 0} (gets : K → Batch → K → Type 0) (done : ℕ → Call
         → IsRun gets done shared schema count old x began k → AtOne (LooksAndSends done a) c old new → IfOk a (λ b. IfSome b (λ cpu. IsLaneOf done schema c cpu))
     lane_sent (Ok b) shared schema count c x began k old new is one = sent_if (Ok b) b shared schema count c x began k old new is one refl
     lane_sent (Err e) shared schema count c x began k old new is one = tt
+
+-- a session whose calls did more is one whose calls did less
+pub less_done : {K : Type 0} (gets : K → Batch → K → Type 0) (does less : ℕ → CallsMade → CallsMade → Type 0) (shape : ℕ → Option Shape) (accepted : Record → Bool) (text : Record → List ℕ)
+    (k : Config) (old : K) (left : List Left) (new : K) → ((c : ℕ) (x y : CallsMade) → does c x y → less c x y) → IsOneList gets does shape accepted text k old left new
+    → IsOneList gets less shape accepted text k old left new
+less_done gets does less shape accepted text k old left new weak one = (
+  record {
+    passed = one.0.passed;
+    from = one.0.from;
+    got = one.0.got;
+    calls = one.0.calls;
+    worked = λ c lt. weak c no_calls (one.0.calls c) (one.0.worked c lt);
+    entered = one.0.entered;
+    told = one.0.told;
+    released = one.0.released;
+    taken = one.0.taken;
+    whole = one.0.whole;
+    promised = one.0.promised;
+  },
+  one.1,
+  one.2,
+  one.3,
+)
 
 -- what is seen but for who is at home stays
 pub later_so : {K : Type 0} (schema : EnabledRows) (config : Config) (home : List (Option (Cpu EnabledRows))) (held : Bool) (consumer : Consuming) (began sink : K) (old : RunningSession K)

@@ -2,9 +2,9 @@
 use Rattle.std.specs.Option.{option_map_or}
 use Rattle.std.specs.Prelude.{ℕ, ◌≡◌, Bool, false, List, length, slice_get, slice_set, All, Option, Some, None, Result, MatchResult}
 use Rattle.dspec_threads.specs.Homes.{Rank}
-use Rattle.dspec_threads.specs.Places.{AreAtPlaces, EachPair, Rests, ServesInside, StaysIn, Whereabouts}
+use Rattle.dspec_threads.specs.Places.{AllIn, AreAtPlaces, EachPair, NothingOrDone, Rests, ServesInside, StaysIn, Whereabouts}
 use Rattle.dspec_threads.specs.Words.Outside.{EnabledRows, start_fault, IsUnusedConsumer, last_seat, set_up, CallsMade, called, no_calls, number_in, schema_of, words_of, Consuming, pairs_of}
-use Rattle.dspec_threads.specs.Words.Outside.{view_of, PassesOn, MakesRound, Config, Batch, Cpu, Shared}
+use Rattle.dspec_threads.specs.Words.Outside.{view_of, PassesOn, MakesRound, IsOneListWith, ThenServed, Config, Batch, Cpu, Shared, Left}
 
 -- its schema and configuration; of each CPU, in order, itself where its lane is back; whether what the lanes share was somebody else's when
 -- it was to end; its consumer, and the sink, as it was at the start and as it is
@@ -31,6 +31,19 @@ pub record IsRun {K : Type 0} (gets : K → Batch → K → Type 0) (done : ℕ 
   pub first_view : view_of first ≡ last_seat (set_up (words_of shared))
   pub unused : All IsUnusedConsumer first.ends
   pub passes : PassesOn gets (words_of shared) first began consumer sink
+
+-- what the calls of the CPU with this number did, where that is at home
+abbrev pub called_home : List (Option (Cpu EnabledRows)) → ℕ → CallsMade
+called_home home c = option_map_or (λ (o : Option (Cpu EnabledRows)). option_map_or (λ (cpu : Cpu EnabledRows). called cpu) o no_calls) (slice_get home c) no_calls
+
+-- the calls are those of the CPU that is at home, with which nothing was done, or what is asked of one that is given back, and which served then
+abbrev pub ByThoseHome : (ℕ → CallsMade → Type 0) → List (Option (Cpu EnabledRows)) → ℕ → CallsMade → CallsMade → Type 0
+ByThoseHome done home c x y = ThenServed (NothingOrDone done) c x y × (y ≡ called_home home c)
+
+-- Behind a look all CPUs are at home: who was there before is that still. By one list the session is closed, whose calls are theirs.
+abbrev pub EndsHome : {K : Type 0} → (K → Batch → K → Type 0) → (ℕ → CallsMade → Type 0) → RunningSession K → List Left → K → Type 0
+EndsHome gets done r left new =
+    (looked : List (Option (Cpu EnabledRows))) × EachPair StaysIn r.home looked × AllIn looked × IsOneListWith r.schema gets (ByThoseHome done looked) r.config r.began left new
 
 -- it was started just now, with this sink
 pub record BeginsRun {K : Type 0} (k : Config) (schema : EnabledRows) (sink : K) (r : RunningSession K) : Type 0 where

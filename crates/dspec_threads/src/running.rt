@@ -7,7 +7,7 @@ ghost use Rattle.dspec_cpu.specs.Lists.{words_of};
 ghost use Rattle.dspec_session_core.specs.{Consumers.view_of, Leaving.AllSteady, Sessions.IsSession};
 ghost use Rattle.dspec.specs.{Serving.ThenServed, Traced.IsKeptWith, Traced.IsOneListWith, Traced.IsTracedWith};
 ghost use Rattle.dspec_threads.specs.Places.{AllIn, IsOneOut, NothingOrDone, all_whereabouts, who_is_in, waits_inside};
-ghost use Rattle.dspec_threads.specs.Runs.{AreNew, BeginsRun, HandsLane, IsLaneOf, LooksLater, RoundMade, RunningSession, TendsHome};
+ghost use Rattle.dspec_threads.specs.Runs.{AreNew, BeginsRun, ByThoseHome, EndsHome, HandsLane, IsLaneOf, LooksLater, RoundMade, RunningSession, TendsHome};
 
 use crate::common::Common;
 use crate::duty::{Anything, Duty};
@@ -174,6 +174,7 @@ impl<D: Duty, K: Sink<Enablings>> Running<D, K> {
         ensures keeps { IfOk result (λ r. IsKeptWith self.schema (K.gets self.schema) (ThenServed (NothingOrDone D.done)) self.config self.began r.0 r.1) }
         ensures traced { IfOk result (λ r. IsTracedWith self.schema (K.gets self.schema) (ThenServed (NothingOrDone D.done)) self.config self.began r.0 r.1) }
         ensures one_list { IfOk result (λ r. IsOneListWith self.schema (K.gets self.schema) (ThenServed (NothingOrDone D.done)) self.config self.began r.0 r.1) }
+        ensures home { IfOk result (λ r. IsOneListWith self.schema (K.gets self.schema) (ByThoseHome D.done self.home) self.config self.began r.0 r.1) }
         ensures back { IfErr result (λ r. r ≡ record self { held = true }) }
     {
         let Running {
@@ -217,13 +218,15 @@ impl<D: Duty, K: Sink<Enablings>> Running<D, K> {
     }
 
     /// Ends the session, once all lanes are back: it is closed, and what nobody had taken goes to the sink, CPU by CPU. Each CPU is
-    /// promised what `trace` promises, of calls that have done what was promised of a lane that is given back, and of services. While a
+    /// promised what `trace` promises, of the calls of the CPU that is at home then: those that have done what was promised of a lane that is given back, or
+    /// none, and then services. While a
     /// lane is out the session comes back as it was.
     pub fn end(self) -> Result<(Closed, K), Running<D, K>>
         ensures all { IfOk result (λ r. length r.0 ≡ self.config.cpus) }
         ensures keeps { IfOk result (λ r. IsKeptWith self.schema (K.gets self.schema) (ThenServed (NothingOrDone D.done)) self.config self.began r.0 r.1) }
         ensures traced { IfOk result (λ r. IsTracedWith self.schema (K.gets self.schema) (ThenServed (NothingOrDone D.done)) self.config self.began r.0 r.1) }
         ensures one_list { IfOk result (λ r. IsOneListWith self.schema (K.gets self.schema) (ThenServed (NothingOrDone D.done)) self.config self.began r.0 r.1) }
+        ensures home { IfOk result (λ r. EndsHome (K.gets self.schema) D.done self r.0 r.1) }
         ensures out { IfErr result (λ r. LooksLater (record self { held = r.held }) r) }
         ensures why { IfErr result (λ r. IsOneOut r.home ⊎ (r.held ≡ true)) }
     {

@@ -1,9 +1,9 @@
 -- What a session promises of a folder that it was traced into, and of the sink beside it.
-use Rattle.std.proofs.Common.{◌≡◌, ◌<◌, ◌+◌, ℕ, Bool, List, [], ◌∷◌, ◌++◌, Option, Some, None, sym, ap, ◌∙◌, subst, arith, append_assoc, length, slice_get}
+use Rattle.std.proofs.Common.{◌≡◌, ◌<◌, ◌+◌, ℕ, Bool, List, [], ◌∷◌, ◌++◌, Option, Some, None, refl, sym, ap, ◌∙◌, subst, arith, append_assoc, length, slice_get}
 use Rattle.std.proofs.lemmas.{Bool.Decides.nat_tests, List.Elements.All-append, Option.slice_get_within}
 use Rattle.dspec_trace_reading.specs.Words.{Record, EnabledRows, enabled, table_accepts, table_shape, table_text, start_fault, CallsMade, waiting, all_did, IsPromised, GotAll, Passed, passed_from}
-use Rattle.dspec_trace_reading.specs.Words.{AreFrom, IsKept, IsOneListWith, IsTelling, TellsUntold, untold, HaveNumbers, drops_carried, missed_in, BothGet, RanInto, Shape, Config, Batch, Left, Both}
-use Rattle.dspec_trace_reading.specs.Words.{Telling}
+use Rattle.dspec_trace_reading.specs.Words.{AreFrom, HasLists, IsKept, IsOneListWith, IsTraced, IsTelling, TellsUntold, untold, HaveNumbers, drops_carried, missed_in, BothGet, RanInto, Shape}
+use Rattle.dspec_trace_reading.specs.Words.{Config, Batch, Left, Both, Telling}
 use Rattle.dspec_deeds.proofs.SetUp.{most_cpus}
 use Rattle.dspec.proofs.Passing.{from_both, got_both}
 use Rattle.dspec_trace_reading.proofs.{Apart.told_from, Begun.first, Counted.accepted_reported, Counted.drops_reported, Folding.Holds, Read.numbered, Through.got_through, Told.drops_more}
@@ -13,6 +13,8 @@ use Rattle.dspec_trace_reading.proofs.{Told.got_told, Told.hold_more, Told.numbe
 pub record Carries {K F : Type 0} (gets : K → Batch → K → Type 0) (sees : F → Batch → F → Type 0) (does : ℕ → CallsMade → CallsMade → Type 0) (e : EnabledRows) (k : Config) (old : K)
     (left : List Left) (new : K) (begun ended : F) : Type 0 where
   pub kept : IsKept gets does (table_shape e.header (enabled e.rows)) (table_accepts e.header (enabled e.rows)) (table_text e.header (enabled e.rows)) k old left new
+  pub one_list : IsOneListWith e gets does k old left new
+  pub alike : (kept.passed ≡ one_list.0.passed) × (kept.calls ≡ one_list.0.calls)
   pub all : List Passed
   pub got : GotAll sees begun all ended
   pub own : HaveNumbers all
@@ -73,6 +75,35 @@ module _ {B K F : Type 0} (bgets : B → Batch → B → Type 0) (gets : K → B
     };
   }
 
+  abbrev traced : IsTraced gets does shape accepts text k (other old) left (other new)
+  traced = record {
+    passed = one.0.passed;
+    from = one.0.from;
+    got = got_through bgets gets other to_other one.0.passed old new one.0.got;
+    calls = one.0.calls;
+    worked = one.0.worked;
+    entered = one.0.entered;
+    told = one.0.told;
+    released = one.0.released;
+    taken = one.0.taken;
+    whole = one.0.whole;
+    promised = one.0.promised;
+  }
+
+  abbrev listed : HasLists gets shape accepts text k (other old) left (other new)
+  listed = record {
+    passed = one.1.passed;
+    got = got_through bgets gets other to_other one.1.passed old new one.1.got;
+    worn = one.1.worn;
+    taken = one.1.taken;
+    consumer = one.1.consumer;
+    own = one.1.own;
+    deeds = one.1.deeds;
+    closes = one.1.closes;
+    whole = one.1.whole;
+    accepts = one.1.accepts;
+  }
+
   abbrev seen : (c : ℕ) (l : Left) → slice_get left c ≡ Some l → List Record
   seen c l at = (kept.page.each c l at).seen
 
@@ -104,7 +135,20 @@ module _ {B K F : Type 0} (bgets : B → Batch → B → Type 0) (gets : K → B
       accepted_reported shape accepts text k.cpus kept.page.all c (kept.calls c) (kept.page.closed c) (passed_from c one.0.passed) l.report (kept.page.each c l at)
 
   pub carried : Carries gets sees does e k (other old) left (other new) (folder old) ended
-  carried = record { kept = kept; all = all_passed; got = got_all; own = own; from = from_left; ends = ends; holds = holds; missed = missed; accepted = reported; low = low }
+  carried = record {
+    kept = kept;
+    one_list = (traced, listed, one.2, one.3);
+    alike = (refl, refl);
+    all = all_passed;
+    got = got_all;
+    own = own;
+    from = from_left;
+    ends = ends;
+    holds = holds;
+    missed = missed;
+    accepted = reported;
+    low = low;
+  }
 
 -- where it ran into a folder and to a sink
 pub in_both : {K F : Type 0} (sees : F → Batch → F → Type 0) (gets : K → Batch → K → Type 0) (does : ℕ → CallsMade → CallsMade → Type 0) (e : EnabledRows) (k : Config) (old new : K)

@@ -1,8 +1,8 @@
 -- What proofs of folders have in common.
-use Rattle.std.proofs.Common.{◌++◌, ◌≡◌, ℕ, List, [], ◌∷◌, Option, Some, None, refl, ap, sym, ◌∙◌, append_assoc}
-use Rattle.std.proofs.lemmas.List.{append-nil}
+use Rattle.std.proofs.Common.{◌++◌, ◌≡◌, ◌<◌, arith, ℕ, List, [], ◌∷◌, Option, Some, None, refl, ap, sym, ◌∙◌, append_assoc}
+use Rattle.std.proofs.lemmas.List.{append-nil, Elements.All-head, Elements.All-tail}
 use Rattle.dspec_trace_reading.specs.Words.{FilledFilesReadBack, HasNumbers, MetadataTells, last_missed, origin_fault, Record, EnabledRows, enabled, table_shape, table_accepts, table_text, IsText}
-use Rattle.dspec_trace_reading.specs.Words.{FileWrite, file_of, Passed, GotAll, HoldRecords, Form, Names, Origin, Batch}
+use Rattle.dspec_trace_reading.specs.Words.{FileWrite, file_of, AreFrom, HaveNumbers, Passed, GotAll, HoldRecords, Form, Names, Origin, Batch}
 use Rattle.dspec_buffer.proofs.OneReading.{one_reading}
 use Rattle.dspec_ctf_sink.proofs.Silent.{laws}
 
@@ -40,6 +40,18 @@ module _ {T : Type 0} (gets : T → Batch → T → Type 0) (writing : T → Opt
   stays (x ∷ xs) old new was (mid, gets, rest) asked =
       let first = one old x.batch mid gets was asked in
       let all = stays xs mid new (was ++ first.0) rest first.1.0 in
+      let both = append_assoc was first.0 all.0 in
+      (first.0 ++ all.0, (all.1.0 ∙ ap Some both, ap (λ ws. file_of name ws) (sym both) ∙ all.1.1 ∙ first.1.1))
+
+-- so it is of all batches of so many CPUs, where it is of each of these
+module _ {T : Type 0} (gets : T → Batch → T → Type 0) (writing : T → Option (List FileWrite)) (name : List ℕ) (count : ℕ)
+    (one : (old : T) (b : Batch) (new : T) → b.cpu < count → gets old b new → (was : List FileWrite) → writing old ≡ Some was → Stays name (writing new) was) where
+  pub stays_of : (bs : List Passed) (old new : T) (was : List FileWrite) → HaveNumbers bs → AreFrom count bs → GotAll gets old bs new → writing old ≡ Some was → Stays name (writing new) was
+  stays_of [] old new was own from got asked = ([], (ap writing (sym got) ∙ asked ∙ ap Some (sym (append-nil was)), ap (λ ws. file_of name ws) (append-nil was)))
+  stays_of (x ∷ xs) old new was (own, owns) from (mid, gets, rest) asked =
+      let low : x.batch.cpu < count = omega (arith, own, All-head (λ (y : Passed). y.from < count) x xs from) in
+      let first = one old x.batch mid low gets was asked in
+      let all = stays_of xs mid new (was ++ first.0) owns (All-tail (λ (y : Passed). y.from < count) x xs from) rest first.1.0 in
       let both = append_assoc was first.0 all.0 in
       (first.0 ++ all.0, (all.1.0 ∙ ap Some both, ap (λ ws. file_of name ws) (sym both) ∙ all.1.1 ∙ first.1.1))
 

@@ -2,11 +2,11 @@
 use Rattle.std.proofs.Common.{◌≡◌, ◌≢◌, ◌<◌, ◌≤◌, ◌+◌, ◌^◌, ℕ, inl, List, [], ◌∷◌, ◌++◌, false, Some, sym, ap, ◌∙◌, subst, arith, length, map, All, codes, None}
 use Rattle.std.proofs.lemmas.List.Elements.{All-head, All-tail, All-weaker}
 use Rattle.std.specs.List.{flat_map}
-use Rattle.dspec_trace_reading.specs.Words.{FileWrite, Record, EnabledRows, Passed, GotAll, passed_from, filled_packets, Accepts, FileTells, last_missed, event_of, layout_of, missed_on, file_of}
-use Rattle.dspec_trace_reading.specs.Words.{GetsPacket, Tracing, cpu_name, HaveNumbers, drops_carried, told_on, BegunNew, ReadsKept, AsTaken, Names, Origin}
+use Rattle.dspec_trace_reading.specs.Words.{FileWrite, Record, EnabledRows, AreFrom, Passed, GotAll, passed_from, filled_packets, Accepts, FileTells, last_missed, event_of, layout_of, missed_on}
+use Rattle.dspec_trace_reading.specs.Words.{file_of, GetsPacket, Tracing, cpu_name, HaveNumbers, drops_carried, told_on, BegunNew, ReadsKept, AsTaken, Names, Origin}
 use Rattle.dspec_trace_reading.proofs.{Begun.asked, Begun.begun_with, Begun.metadata_is, Begun.none_yet, Begun.nothing_yet, Begun.path_is, Filled.IsFilled, Filled.path_kept, Folding.FilesRead}
-use Rattle.dspec_trace_reading.proofs.{Folding.Holds, Folding.Stays, Folding.last_from, Folding.last_same, Folding.stays, Keeping.IsExact, Keeping.Kept, Keeping.Told, Keeping.all_kept}
-use Rattle.dspec_trace_reading.proofs.{Losing.leaves, Naming.cpu_named, Naming.not_metadata}
+use Rattle.dspec_trace_reading.proofs.{Folding.Holds, Folding.Stays, Folding.last_from, Folding.last_same, Folding.stays, Folding.stays_of, Keeping.IsExact, Keeping.Kept, Keeping.Told}
+use Rattle.dspec_trace_reading.proofs.{Keeping.all_kept, Losing.leaves, Naming.cpu_named, Naming.not_metadata}
 
 -- the last packet tells no more than what no packet tells more than
 last_at_most : (n m : ℕ) (ps : List (ℕ × List Record)) → n ≤ m → All (λ (p : ℕ × List Record). p.0 ≤ m) ps → last_from n ps ≤ m
@@ -31,6 +31,17 @@ module _ (files_law : FilesRead) (origin : Origin) (e : EnabledRows) (names : Na
 
   metadata_stays : Stays (codes "metadata") ended.written first_writes
   metadata_stays = others_stay (codes "metadata") not_metadata
+
+  -- nothing was written to a file that is none of these CPUs' and not the metadata
+  pub none_elsewhere : (count : ℕ) → HaveNumbers passed → AreFrom count passed → (ws : List FileWrite) → ended.written ≡ Some ws → (name : List ℕ) → name ≢ [] → name ≢ codes "metadata"
+      → ((c : ℕ) → c < count → cpu_name c ≢ name) → file_of name ws ≡ []
+  none_elsewhere count own from ws is_written name named other apart =
+      let s = stays_of (GetsPacket e) (λ (t : Tracing). t.written) name count
+      (λ old b new low gets was asked. let one = (leaves e old new b gets.came).files was asked in (one.0, (one.1.0, one.1.1 name (λ there. apart b.cpu low))))
+      passed begun ended first_writes own from got begun_asked in
+      let both : Some (first_writes ++ s.0) ≡ Some ws = sym s.1.0 ∙ is_written in
+      let same : first_writes ++ s.0 ≡ ws = cc (both) in
+      ap (λ xs. file_of name xs) (sym same) ∙ s.1.1 ∙ nothing_yet origin AsTaken e names is.before is.new name named other
 
   abbrev writes : List FileWrite
   writes = first_writes ++ metadata_stays.0

@@ -1,11 +1,11 @@
 -- A folder that was written by time, of which some may be lost, and what is read of it.
 use Rattle.std.proofs.Common.{◌++◌, ◌≡◌, ◌≢◌, ◌<◌, ◌+◌, ◌^◌, ℕ, inl, List, [], Some, None, sym, ap, ◌∙◌, subst, arith, length, map, codes}
-use Rattle.dspec_trace_reading.specs.Words.{FileWrite, Record, EnabledRows, Passed, GotAll, passed_from, of_file, told_by, FileTells, event_of, layout_of, ReadsKept, ByTime, Names, Origin, GetsRuns}
-use Rattle.dspec_trace_reading.specs.Words.{TimedTracing, row_name, file_of, HaveNumbers, drops_carried, missed_by_time, told_by_time, TimedBegunNew}
+use Rattle.dspec_trace_reading.specs.Words.{FileWrite, Record, EnabledRows, AreFrom, Passed, GotAll, passed_from, of_file, told_by, FileTells, event_of, layout_of, ReadsKept, ByTime, Names, Origin}
+use Rattle.dspec_trace_reading.specs.Words.{GetsRuns, TimedTracing, row_name, file_of, HaveNumbers, drops_carried, missed_by_time, told_by_time, TimedBegunNew}
 use Rattle.dspec_filing_reading.proofs.FilesLaws.{FilesLaws}
-use Rattle.dspec_trace_reading.proofs.{Begun.asked, Begun.begun_with, Begun.metadata_is, Begun.none_yet, Begun.path_is, Filled.IsFilled, Filled.path_kept, Folding.Holds, Folding.Stays}
-use Rattle.dspec_trace_reading.proofs.{Folding.stays, RowNaming.row_named, RowNaming.row_not_metadata, TimedBegun.begins, TimedBegun.stamped, TimedKeeping.KeptByTime, TimedKeeping.all_kept}
-use Rattle.dspec_trace_reading.proofs.{TimedLosing.IsExactByTime, TimedLosing.leaves}
+use Rattle.dspec_trace_reading.proofs.{Begun.asked, Begun.begun_with, Begun.metadata_is, Begun.none_yet, Begun.nothing_yet, Begun.path_is, Filled.IsFilled, Filled.path_kept, Folding.Holds}
+use Rattle.dspec_trace_reading.proofs.{Folding.Stays, Folding.stays, Folding.stays_of, RowNaming.row_named, RowNaming.row_not_metadata, TimedBegun.begins, TimedBegun.stamped}
+use Rattle.dspec_trace_reading.proofs.{TimedKeeping.KeptByTime, TimedKeeping.all_kept, TimedLosing.IsExactByTime, TimedLosing.leaves}
 
 module _ (laws : FilesLaws) (origin : Origin) (hertz : ℕ) (e : EnabledRows) (names : Names) (begun ended : TimedTracing)
     (is : TimedBegunNew origin hertz e names begun) (passed : List Passed) (got : GotAll (GetsRuns e) begun passed ended) where
@@ -21,6 +21,17 @@ module _ (laws : FilesLaws) (origin : Origin) (hertz : ℕ) (e : EnabledRows) (n
 
   metadata_stays : Stays (codes "metadata") ended.written first_writes
   metadata_stays = others_stay (codes "metadata") row_not_metadata
+
+  -- nothing was written to a file that is none of these CPUs' and not the metadata
+  pub none_elsewhere : (count : ℕ) → HaveNumbers passed → AreFrom count passed → (ws : List FileWrite) → ended.written ≡ Some ws → (name : List ℕ) → name ≢ [] → name ≢ codes "metadata"
+      → ((c file : ℕ) → c < count → row_name c file ≢ name) → file_of name ws ≡ []
+  none_elsewhere count own from ws is_written name named other apart =
+      let s = stays_of (GetsRuns e) (λ (t : TimedTracing). t.written) name count
+      (λ old b new low gets was asked. let one = (leaves e old new b gets.came).files was asked in (one.0, (one.1.0, one.1.1 name (λ there file. apart b.cpu file low))))
+      passed begun ended first_writes own from got (asked origin (ByTime hertz) e names is.before is.new begun.written is.begins.written) in
+      let both : Some (first_writes ++ s.0) ≡ Some ws = sym s.1.0 ∙ is_written in
+      let same : first_writes ++ s.0 ≡ ws = cc (both) in
+      ap (λ xs. file_of name xs) (sym same) ∙ s.1.1 ∙ nothing_yet origin (ByTime hertz) e names is.before is.new name named other
 
   abbrev writes : List FileWrite
   writes = first_writes ++ metadata_stays.0

@@ -3,7 +3,8 @@
 ghost use Rattle.std.specs.Prelude.{◌≡◌, Err, IfErr, IfOk, IsOk, None, OnErr};
 ghost use Rattle.dspec_deeds.specs.Ranges.{start_fault};
 ghost use Rattle.dspec.specs.{Serving.ThenServed, Workers.one_for, Workers.with_cpus};
-ghost use Rattle.dspec_trace_reading.specs.{Begun.IsBegunTrace, Begun.RefusesFolder, IntoFolders.AreTracedInto, IntoFolders.IsTracedInto, Ran.IsOfTrace};
+ghost use Rattle.dspec_trace_reading.specs.{Begun.IsBegunTrace, Begun.RefusesFolder, IntoFolders.AreOneTrace, IntoFolders.AreTracedInto, IntoFolders.IsOneTrace, IntoFolders.IsTracedInto};
+ghost use Rattle.dspec_trace_reading.specs.{Ran.IsOfTrace};
 
 use crate::fault::ToFolderFault;
 use crate::folder_trace::{FolderPlace, FolderTrace};
@@ -107,6 +108,7 @@ pub fn trace_to_folder<'a, R: Threads + Sync, W: Work<Enablings>, K: Sink<Enabli
     ensures unchanged { OnErr result.1 (result.0 ≡ sink) }
     ensures started { IfOk result.1 (λ _. start_fault config.now ≡ None) }
     ensures read { IfOk result.1 (λ t. IsTracedInto (K.gets probes.now.schema) (ThenServed (W.does probes.now.schema work.now)) probes.now place.entry config.now sink t result.0) }
+    ensures one_list { IfOk result.1 (λ t. IsOneTrace (K.gets probes.now.schema) (ThenServed (W.does probes.now.schema work.now)) probes.now place.entry config.now sink t result.0) }
 {
     metadata_reads_back();
     live_file_reads_back();
@@ -131,6 +133,7 @@ pub fn trace_workers_to_folder<'a, R: Threads + Sync, W: Worker<Enablings>, K: S
     ensures unchanged { OnErr result.1 ((result.0 ≡ sink) × (workers.new ≡ workers.old)) }
     ensures started { IfOk result.1 (λ _. start_fault (one_for workers.old.items config.now) ≡ None) }
     ensures read { IfOk result.1 (λ t. AreTracedInto (K.gets probes.now.schema) (W.does probes.now.schema) probes.now place.entry config.now workers.old.items workers.new.items sink t result.0) }
+    ensures one_list { IfOk result.1 (λ t. AreOneTrace (K.gets probes.now.schema) (W.does probes.now.schema) probes.now place.entry config.now workers.old.items workers.new.items sink t result.0) }
 {
     metadata_reads_back();
     live_file_reads_back();

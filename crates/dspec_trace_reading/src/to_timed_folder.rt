@@ -3,7 +3,8 @@
 ghost use Rattle.std.specs.Prelude.{◌≡◌, Err, IfErr, IfOk, IsOk, None, OnErr};
 ghost use Rattle.dspec_deeds.specs.Ranges.{start_fault};
 ghost use Rattle.dspec.specs.{Serving.ThenServed, Workers.one_for, Workers.with_cpus};
-ghost use Rattle.dspec_trace_reading.specs.{Begun.IsBegunByTime, Begun.RefusesFolder, IntoFolders.AreTimedInto, IntoFolders.IsTimedInto, Ran.IsOfTimedTrace};
+ghost use Rattle.dspec_trace_reading.specs.{Begun.IsBegunByTime, Begun.RefusesFolder, IntoFolders.AreTimedInto, IntoFolders.AreOneTimed, IntoFolders.IsTimedInto, IntoFolders.IsOneTimed};
+ghost use Rattle.dspec_trace_reading.specs.{Ran.IsOfTimedTrace};
 
 use crate::fault::ToFolderFault;
 use crate::folder_trace::{FolderPlace, FolderTrace, StampClock};
@@ -118,6 +119,7 @@ pub fn trace_to_timed_folder<'a, R: Threads + Sync, W: Work<Enablings>, K: Sink<
     ensures refused { IfErr result.1 (RefusesFolder config.now) }
     ensures unchanged { OnErr result.1 (result.0 ≡ sink) }
     ensures read { IfOk result.1 (λ t. IsTimedInto (K.gets probes.now.schema) (ThenServed (W.does probes.now.schema work.now)) probes.now place.entry clock config.now sink t result.0) }
+    ensures one_list { IfOk result.1 (λ t. IsOneTimed (K.gets probes.now.schema) (ThenServed (W.does probes.now.schema work.now)) probes.now place.entry clock config.now sink t result.0) }
 {
     metadata_reads_back();
     live_file_reads_back();
@@ -150,6 +152,7 @@ pub fn trace_workers_to_timed_folder<
     ensures refused { IfErr result.1 (RefusesFolder (one_for workers.old.items config.now)) }
     ensures unchanged { OnErr result.1 ((result.0 ≡ sink) × (workers.new ≡ workers.old)) }
     ensures read { IfOk result.1 (λ t. AreTimedInto (K.gets probes.now.schema) (W.does probes.now.schema) probes.now place.entry clock config.now workers.old.items workers.new.items sink t result.0) }
+    ensures one_list { IfOk result.1 (λ t. AreOneTimed (K.gets probes.now.schema) (W.does probes.now.schema) probes.now place.entry clock config.now workers.old.items workers.new.items sink t result.0) }
 {
     files_join();
     files_have_all();

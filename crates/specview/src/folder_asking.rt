@@ -1,7 +1,6 @@
 //! What the words behind `specview folder` ask for.
 
 use clap::{Arg, ArgAction, ArgMatches, Command};
-use dspec_folder_view::TracksAsk;
 use std::alloc::{AllocError, Global};
 
 /// What is done with trace folders.
@@ -18,7 +17,7 @@ pub enum FolderTask<'a> {
     /// Their events are written as a document that ui.perfetto.dev opens.
     Json,
     /// The same with a row for each value of a field.
-    Tracks(TracksAsk<'a>),
+    Tracks(&'a str),
 }
 
 /// Folders, and what is done with them.
@@ -103,18 +102,6 @@ fn track_arg<'a>(alloc: Global) -> Result<Arg<'a>, AllocError> {
         .conflicts_with("text")
 }
 
-/// The options of `--json`.
-fn tracks<'a>(alloc: Global, command: Command<'a>) -> Result<Command<'a>, AllocError> {
-    let slices = flag(
-        alloc,
-        "slices",
-        "with --track: two records of one event, one behind the other in the row of a value, are a slice, from the first to the second; every other one is a mark",
-    );
-    command
-        .arg(track_arg(alloc)?)?
-        .arg(slices.requires_arg("track")?)
-}
-
 /// The subcommand that shows trace folders.
 pub fn folder_command<'a>(alloc: Global) -> Result<Command<'a>, AllocError> {
     let command = Command::new(alloc, "folder").about(
@@ -126,7 +113,7 @@ pub fn folder_command<'a>(alloc: Global) -> Result<Command<'a>, AllocError> {
         .action(ArgAction::Append)
         .num_args(1..)
         .help("a trace folder");
-    tracks(alloc, flags(alloc, command)?)?.arg(paths)
+    flags(alloc, command)?.arg(track_arg(alloc)?)?.arg(paths)
 }
 
 /// What is done, by the flags.
@@ -141,8 +128,7 @@ fn task_of<'a>(found: &ArgMatches<'a>) -> FolderTask<'a> {
         return FolderTask::Text;
     }
     if let Some(field) = found.get_str("track") {
-        let slices = found.get_flag("slices");
-        return FolderTask::Tracks(TracksAsk { field, slices });
+        return FolderTask::Tracks(field);
     }
     if found.get_flag("json") {
         return FolderTask::Json;

@@ -16,7 +16,7 @@
 //! `batch`. A schedule that the player refuses it refuses with the player's line, and one with a line that is no whole call with a status of
 //! its own.
 //!
-//! `specview folder [--check | --repair | --text | --json [--track FIELD [--slices]]] DIR ..` sums up trace folders of ours, whoever wrote them; or checks them, by the
+//! `specview folder [--check | --repair | --text | --json [--track FIELD]] DIR ..` sums up trace folders of ours, whoever wrote them; or checks them, by the
 //! definition of what their bytes say, and cuts off what a stopped writer left; or tells or draws all that they have, merged by time: all of
 //! it is of the crate `dspec_folder_view`.
 //!
@@ -138,7 +138,7 @@ fn run_folder<'a>(rt: &HostRuntime, ask: &FolderAsk<'a>) -> Result<bool, FolderV
         FolderTask::Repair => examine_folders(rt, paths, true),
         FolderTask::Text => show_folders(rt, paths, OutputFormat::Text),
         FolderTask::Json => show_folders(rt, paths, OutputFormat::Json),
-        FolderTask::Tracks(ask) => show_folders(rt, paths, OutputFormat::Tracks(ask)),
+        FolderTask::Tracks(field) => show_folders(rt, paths, OutputFormat::Tracks(field)),
     }
 }
 

@@ -7,6 +7,7 @@ use dspec_trace_reading::{
     trace_workers_to_folder, trace_workers_to_timed_folder,
 };
 use std::fs;
+use std::sync::atomic::{AtomicU64, Ordering};
 use std::test::Fail;
 
 /// It records once.
@@ -29,6 +30,48 @@ impl Worker<Enablings> for Once {
             probe.record(lane, 5, (7,));
         }
     }
+}
+
+/// It records once, and counts how often it runs, which all its runs share.
+#[derive(Drop)]
+struct Counted {
+    once: Once,
+    runs: AtomicU64,
+}
+
+impl Work<Enablings> for Counted {
+    fn work(&self, lane: &mut Lane<'_, Enablings>) {
+        self.runs.fetch_add(1, Ordering::SeqCst);
+        Work::work(&self.once, lane);
+    }
+}
+
+impl Counted {
+    /// It hasn't run.
+    fn new(probe: Probe<(u32,)>) -> Counted {
+        Counted {
+            once: Once { probe },
+            runs: AtomicU64::new(0),
+        }
+    }
+
+    /// How often it ran.
+    fn runs(&self) -> u64 {
+        self.runs.load(Ordering::SeqCst)
+    }
+}
+
+/// Whether a folder has files of these names, and nothing else.
+fn has_alone(rt: &HostRuntime, folder: &str, names: &[&str]) -> Result<bool, Fail> {
+    let mut count = 0usize;
+    for entry in fs::read_dir(rt, folder)? {
+        let entry = entry?;
+        if !names.iter().any(|name| *name == entry.file_name()) {
+            return Ok(false);
+        }
+        count = count.saturating_add(1);
+    }
+    Ok(count == names.len())
 }
 
 /// How many records a CPU accepted, where there is such a CPU.
@@ -56,10 +99,57 @@ fn a_session_in_a_folder(rt: HostRuntime) -> Result<(), Fail> {
     assert!(rt; kept.records()?.len() == 1);
     let file = format!(in rt.alloc(); "{path}/cpu_0")?;
     assert!(rt; fs::metadata(&rt, file.as_str())?.len() == 1024);
+    assert!(rt; has_alone(&rt, path, &["metadata", "cpu_0"])?);
     let kept = RecordSink::new(rt.alloc());
     let (kept, refused) = trace_to_folder(&rt, &rt, &config, &probes, place, &work, kept);
     assert!(rt; refused.err() == Some(ToFolderFault::Folder(FolderFault::NotEmpty)));
     assert!(rt; kept.records()?.is_empty());
+    fs::remove_dir_all(&rt, path)?;
+    Ok(())
+}
+
+/// A work that all share runs once for the one CPU, and not at all where the folder is refused, which has the metadata and the CPU's file alone.
+#[test]
+fn work_runs_once_in_a_folder(rt: HostRuntime) -> Result<(), Fail> {
+    let path = free_path(&rt, "work_runs_once_in_a_folder")?;
+    let mut probes = Probes::unstamped(rt.alloc());
+    let work = Counted::new(probes.probe("once", &["number"])?);
+    let config = Config::of(1, 1, 64, 64);
+    let (path, name, none) = (path.as_str(), "test", None::<RecordSink>);
+    let place = FolderPlace { path, name };
+    let (none, traced) = trace_to_folder(&rt, &rt, &config, &probes, place, &work, none);
+    assert!(rt; traced?.lost.is_none() && work.runs() == 1);
+    assert!(rt; has_alone(&rt, path, &["metadata", "cpu_0"])?);
+    let (_none, refused) = trace_to_folder(&rt, &rt, &config, &probes, place, &work, none);
+    assert!(rt; refused.err() == Some(ToFolderFault::Folder(FolderFault::NotEmpty)));
+    assert!(rt; work.runs() == 1 && has_alone(&rt, path, &["metadata", "cpu_0"])?);
+    fs::remove_dir_all(&rt, path)?;
+    Ok(())
+}
+
+/// The same by time.
+#[test]
+fn work_runs_once_in_a_timed_folder(rt: HostRuntime) -> Result<(), Fail> {
+    let path = free_path(&rt, "work_runs_once_in_a_timed_folder")?;
+    let mut probes = Probes::new(rt.alloc());
+    let work = Counted::new(probes.probe("once", &["number"])?);
+    let clock = StampClock {
+        hertz: 1000,
+        start: None,
+    };
+    let config = Config::of(1, 1, 64, 64);
+    let (path, name, none) = (path.as_str(), "test", None::<RecordSink>);
+    let place = FolderPlace { path, name };
+    let (none, traced) = trace_to_timed_folder(
+        &rt, &rt, &config, &probes, place, clock, &work, none,
+    );
+    assert!(rt; traced?.lost.is_none() && work.runs() == 1);
+    assert!(rt; has_alone(&rt, path, &["metadata", "cpu_0_0"])?);
+    let (_none, refused) = trace_to_timed_folder(
+        &rt, &rt, &config, &probes, place, clock, &work, none,
+    );
+    assert!(rt; refused.err() == Some(ToFolderFault::Folder(FolderFault::NotEmpty)));
+    assert!(rt; work.runs() == 1 && has_alone(&rt, path, &["metadata", "cpu_0_0"])?);
     fs::remove_dir_all(&rt, path)?;
     Ok(())
 }
@@ -91,6 +181,7 @@ fn workers_in_a_folder(rt: HostRuntime) -> Result<(), Fail> {
     assert!(rt; traced.lost.is_none() && accepted_by(&traced.closed, 1) == 1);
     let file = format!(in rt.alloc(); "{path}/cpu_1")?;
     assert!(rt; fs::metadata(&rt, file.as_str())?.len() == 1024);
+    assert!(rt; has_alone(&rt, path, &["metadata", "cpu_0", "cpu_1"])?);
     fs::remove_dir_all(&rt, path)?;
     Ok(())
 }
@@ -119,6 +210,7 @@ fn a_session_in_a_timed_folder(rt: HostRuntime) -> Result<(), Fail> {
     assert!(rt; traced?.lost.is_none());
     let file = format!(in rt.alloc(); "{path}/cpu_0_0")?;
     assert!(rt; fs::metadata(&rt, file.as_str())?.len() == 1024);
+    assert!(rt; has_alone(&rt, path, &["metadata", "cpu_0_0"])?);
     fs::remove_dir_all(&rt, path)?;
     let mut workers = Vec::new(rt.alloc());
     workers.push(work)?;
@@ -134,6 +226,7 @@ fn a_session_in_a_timed_folder(rt: HostRuntime) -> Result<(), Fail> {
     );
     assert!(rt; accepted_by(&traced?.closed, 0) == 1);
     assert!(rt; fs::metadata(&rt, file.as_str())?.len() == 1024);
+    assert!(rt; has_alone(&rt, path, &["metadata", "cpu_0_0"])?);
     fs::remove_dir_all(&rt, path)?;
     Ok(())
 }

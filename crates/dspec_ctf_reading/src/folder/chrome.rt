@@ -82,14 +82,13 @@ fn put_value(out: &mut Writer, field: &FieldText<'_>, number: u64) -> Result<(),
     }
 }
 
-/// The field at a place, as a member: behind its key stands this. A text is a string, at its first word.
+/// The field at a place, as a member. A text is a string, at its first word.
 fn put_member(
     out: &mut Writer,
     alloc: Global,
     event: &EventText<'_>,
-    values: &[u64],
     place: usize,
-    behind: &str,
+    values: &[u64],
 ) -> Result<(), AllocError> {
     let (Some(field), Some(number)) = (event.fields.get(place), values.get(place)) else {
         return Ok(());
@@ -97,9 +96,7 @@ fn put_member(
     if field.kind == Kind::TextNext {
         return Ok(());
     }
-    let name = field.name;
-    let key = format!(in alloc; "{name}{behind}")?;
-    out.key(key.as_str())?;
+    out.key(field.name)?;
     if field.kind == Kind::Text {
         let text = text_at(alloc, event, values, place)?;
         return out.string(text.as_str());
@@ -157,35 +154,17 @@ fn put_mark(
     put_front(out, alloc, track, name, nanoseconds)
 }
 
-/// The members of a slice up to its arguments, which takes so many nanoseconds.
-fn put_slice(
-    out: &mut Writer,
-    alloc: Global,
-    track: Track,
-    name: &str,
-    nanoseconds: u64,
-    took: u64,
-) -> Result<(), AllocError> {
-    out.key("ph")?;
-    out.string("X")?;
-    out.key("dur")?;
-    put_micros(out, alloc, took)?;
-    put_front(out, alloc, track, name, nanoseconds)
-}
-
-/// Arguments: the CPU, and the values of the fields. Behind each key stands this, so that no two are one.
+/// Arguments: the CPU, and the values of the fields.
 fn put_values(
     out: &mut Writer,
     alloc: Global,
     event: &EventText<'_>,
     record: RowRecord<'_>,
-    behind: &str,
 ) -> Result<(), AllocError> {
-    let key = format!(in alloc; "on cpu{behind}")?;
-    out.key(key.as_str())?;
+    out.key("on cpu")?;
     out.u64(u64::from(record.cpu))?;
     for place in 0..event.fields.len() {
-        put_member(out, alloc, event, record.values, place, behind)?;
+        put_member(out, alloc, event, place, record.values)?;
     }
     Ok(())
 }
@@ -212,7 +191,7 @@ pub fn chrome_event(
     out.begin_object()?;
     put_mark(&mut out, alloc, track, event.name, nanoseconds)?;
     for place in 0..event.fields.len() {
-        put_member(&mut out, alloc, event, values, place, "")?;
+        put_member(&mut out, alloc, event, place, values)?;
     }
     ended(out)
 }
@@ -227,25 +206,7 @@ pub fn chrome_record(
     let mut out = Writer::new(Vec::new(alloc));
     out.begin_object()?;
     put_mark(&mut out, alloc, track, event.name, record.nanoseconds)?;
-    put_values(&mut out, alloc, event, record, "")?;
-    ended(out)
-}
-
-/// Two records of one event as a slice, from the first to the second: its arguments are those of the first, and those of the second behind
-/// keys that say so.
-pub fn chrome_slice(
-    alloc: Global,
-    track: Track,
-    event: &EventText<'_>,
-    first: RowRecord<'_>,
-    second: RowRecord<'_>,
-) -> Result<String, AllocError> {
-    let took = second.nanoseconds.saturating_sub(first.nanoseconds);
-    let mut out = Writer::new(Vec::new(alloc));
-    out.begin_object()?;
-    put_slice(&mut out, alloc, track, event.name, first.nanoseconds, took)?;
-    put_values(&mut out, alloc, event, first, "")?;
-    put_values(&mut out, alloc, event, second, " at the end")?;
+    put_values(&mut out, alloc, event, record)?;
     ended(out)
 }
 

@@ -63,6 +63,29 @@ fn records_are_told(rt: HostRuntime) -> Result<(), Fail> {
     Ok(())
 }
 
+/// The same, of a sink that knows none of these probes: each record has its line still, by its numbers.
+#[test]
+fn records_of_no_probe_are_told(rt: HostRuntime) -> Result<(), Fail> {
+    let mut probes = Probes::new(rt.alloc());
+    let nothing = Probes::new(rt.alloc());
+    let work = Requests::declare(&mut probes)?;
+    let (config, schema) = (Config::of(1, 2, 256, 128), probes.enablings());
+    let mut told = TextSink::new(&nothing, String::new(rt.alloc()));
+    trace(&rt, rt.alloc(), &config, schema, &work, &mut told)?;
+    let text = told.finish()?;
+    let mut lines = text.as_str().lines();
+    for line in [
+        "cpu 0: 1@10(1,500)",
+        "cpu 0: 1@11(2,600)",
+        "cpu 0: 2@12(4294967291,1,13826050856027422720)",
+        "cpu 0: 1@14(18446744073709551615,4294967295)",
+    ] {
+        same(&rt, lines.next(), Some(line));
+    }
+    same(&rt, lines.next(), None);
+    Ok(())
+}
+
 #[test]
 fn records_of_probes(rt: HostRuntime) -> Result<(), Fail> {
     let mut probes = Probes::new(rt.alloc());

@@ -1,9 +1,7 @@
 //! Rows of a field's values in Chrome's Trace Event form.
 use super::samples::metadata;
 use crate::same::same;
-use dspec_ctf_reading::folder::{
-    RowPart, RowRecord, Track, chrome_record, chrome_slice, field_text, row_parts_of,
-};
+use dspec_ctf_reading::folder::{RowRecord, Track, chrome_record, field_text};
 use std::test::Fail;
 
 /// The row of all records here.
@@ -17,13 +15,6 @@ const FIRST: RowRecord<'static> = RowRecord {
     cpu: 2,
     nanoseconds: 1_002_003,
     values: &[1, 65_534],
-};
-
-/// A record behind it of CPU 0.
-const SECOND: RowRecord<'static> = RowRecord {
-    cpu: 0,
-    nanoseconds: 1_012_000,
-    values: &[2, 7],
 };
 
 #[test]
@@ -53,17 +44,6 @@ fn values(rt: HostRuntime) -> Result<(), Fail> {
 }
 
 #[test]
-fn rows(rt: HostRuntime) -> Result<(), Fail> {
-    let alloc = rt.alloc();
-    let found = row_parts_of(alloc, &[4, 7, 7, 7, 4, 4, 9, 4])?;
-    let (mark, slice) = (RowPart::Mark, RowPart::Slice);
-    let wanted = [mark, slice, mark, slice, mark, mark];
-    same(&rt, found.as_slice() == wanted.as_slice(), true);
-    same(&rt, row_parts_of(alloc, &[])?.is_empty(), true);
-    Ok(())
-}
-
-#[test]
 fn records(rt: HostRuntime) -> Result<(), Fail> {
     let alloc = rt.alloc();
     let metadata = metadata(alloc)?;
@@ -71,10 +51,6 @@ fn records(rt: HostRuntime) -> Result<(), Fail> {
     let wanted =
         "{\"ph\":\"i\",\"s\":\"t\",\"pid\":1,\"tid\":70,\"ts\":1002.003,\"name\":\"step\",\"args\":{\"on cpu\":2,\"status\":\"not found\",\"delta\":-2}}";
     let text = chrome_record(alloc, TRACK, step, FIRST)?;
-    same(&rt, text.as_str(), wanted);
-    let wanted =
-        "{\"ph\":\"X\",\"dur\":9.997,\"pid\":1,\"tid\":70,\"ts\":1002.003,\"name\":\"step\",\"args\":{\"on cpu\":2,\"status\":\"not found\",\"delta\":-2,\"on cpu at the end\":0,\"status at the end\":2,\"delta at the end\":7}}";
-    let text = chrome_slice(alloc, TRACK, step, FIRST, SECOND)?;
     same(&rt, text.as_str(), wanted);
     Ok(())
 }

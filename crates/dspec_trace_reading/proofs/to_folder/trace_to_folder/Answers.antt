@@ -1,10 +1,10 @@
 use Rattle.std.proofs.Common.{ℕ, IfOk, subst}
 use Rattle.dspec_trace_reading.specs.Words.{EnabledRows, CallsMade, ThenServed, GetsPacket, RanBegun}
-use Rattle.dspec_trace_reading.proofs.InFolder.{taken_if}
+use Rattle.dspec_trace_reading.proofs.InFolder.{first_if, taken_if}
 use Rattle.dspec_trace_reading.proofs.to_folder.trace_to_folder.Goals as goal
 
-pub returns-clause-read : goal.returns-clause-read
-returns-clause-read g c =
+pub returns-clause-one_list : goal.returns-clause-one_list
+returns-clause-one_list g c =
     let e = c.args.probes.now.schema in
     let begun = c.begin-begun.result in
     let ran = c.run_in-sink.result in
@@ -15,3 +15,6 @@ returns-clause-read g c =
     taken_if c.metadata_reads_back.ensures (g.K.Sink.gets e) (does e) e c.args.probes.now.names c.args.place.path.now
     c.args.place.name.now c.args.config.now c.args.sink ran.0 c.live_file_reads_back.ensures.taken begun
     ran.1 c.came.result c.run_in-sink.ensures.started c.begin-begun.ensures.begun has c.came.ensures.traced c.came.ensures.ran
+
+pub returns-clause-read : goal.returns-clause-read
+returns-clause-read g c = first_if _ _ c.came.result (returns-clause-one_list g c)

@@ -1,10 +1,10 @@
 use Rattle.std.proofs.Common.{ℕ, IfOk, subst}
 use Rattle.dspec_trace_reading.specs.Words.{EnabledRows, CallsMade, WorkedOn, one_for, GetsPacket, RanBegun}
-use Rattle.dspec_trace_reading.proofs.InFolder.{taken_if}
+use Rattle.dspec_trace_reading.proofs.InFolder.{first_if, taken_if}
 use Rattle.dspec_trace_reading.proofs.to_folder.trace_workers_to_folder.Goals as goal
 
-pub returns-clause-read : goal.returns-clause-read
-returns-clause-read g c =
+pub returns-clause-one_list : goal.returns-clause-one_list
+returns-clause-one_list g c =
     let e = c.args.probes.now.schema in
     let k = one_for c.args.workers.now.items c.args.config.now in
     let begun = c.begin_for-begun.result in
@@ -17,3 +17,6 @@ returns-clause-read g c =
     taken_if c.metadata_reads_back.ensures (g.K.Sink.gets e) (does e) e c.args.probes.now.names c.args.place.path.now
     c.args.place.name.now k c.args.sink ran.0 c.live_file_reads_back.ensures.taken begun
     ran.1 c.came.result c.run_workers_in-sink.ensures.started c.begin_for-begun.ensures.begun has c.came.ensures.traced c.came.ensures.ran
+
+pub returns-clause-read : goal.returns-clause-read
+returns-clause-read g c = first_if _ _ c.came.result (returns-clause-one_list g c)

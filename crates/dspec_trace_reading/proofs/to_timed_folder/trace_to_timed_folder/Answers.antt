@@ -1,11 +1,11 @@
 use Rattle.std.proofs.Common.{ℕ, IfOk, subst}
 use Rattle.dspec_trace_reading.specs.Words.{EnabledRows, CallsMade, ThenServed, GetsRuns, RanBegun}
 use Rattle.dspec_filing_reading.proofs.FilesLaws.{FilesLaws}
-use Rattle.dspec_trace_reading.proofs.InFolder.{timed_if}
+use Rattle.dspec_trace_reading.proofs.InFolder.{first_if, timed_if}
 use Rattle.dspec_trace_reading.proofs.to_timed_folder.trace_to_timed_folder.Goals as goal
 
-pub returns-clause-read : goal.returns-clause-read
-returns-clause-read g c =
+pub returns-clause-one_list : goal.returns-clause-one_list
+returns-clause-one_list g c =
     let e = c.args.probes.now.schema in
     let begun = c.begin-begun.result in
     let ran = c.run_in-sink.result in
@@ -23,3 +23,6 @@ returns-clause-read g c =
     timed_if c.metadata_reads_back.ensures (g.K.Sink.gets e) (does e) e c.args.probes.now.names c.args.place.path.now
     c.args.place.name.now c.args.config.now c.args.sink
     ran.0 laws c.args.clock.hertz c.args.clock.start begun ran.1 c.came.result c.run_in-sink.ensures.started c.begin-begun.ensures.begun has c.came.ensures.traced c.came.ensures.ran
+
+pub returns-clause-read : goal.returns-clause-read
+returns-clause-read g c = first_if _ _ c.came.result (returns-clause-one_list g c)

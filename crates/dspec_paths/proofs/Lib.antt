@@ -1,0 +1,6 @@
+mod Deciding
+mod Fates
+mod Keeping
+mod Moving
+mod Opening
+mod Turned

@@ -1,0 +1,36 @@
+-- Cited by calls. That each call on a table keeps the page of its paths, and what that says of records.
+use Rattle.std.specs.{List.AllByRecursion, Prelude.ℕ, Prelude.◌≡◌, Prelude.Bool, Prelude.List, Prelude.◌∷◌, Prelude.Option}
+use Rattle.dspec_paths.specs.{PathPage.DecidesItself, PathPage.GoesTo, PathPage.HasFates, PathPage.IsNobodys, PathPage.KeepsPaths, PathPage.PathBook, PathPage.Spares, Table.Places, Table.AdoptsPath}
+use Rattle.dspec_paths.specs.{Table.BeginsBy, Table.DiscardsPath, Table.IsUndecided, Table.KeepsPath, Table.TurnsBy, Words.Outside.CallsMade, Words.Outside.Opening, Words.Outside.Did}
+use Rattle.dspec_paths.specs.{Words.Outside.handed, Words.Outside.Speculation, declared.open_path.OpenPath.OpenPath, declared.path_end.PathEnd.PathEnd, declared.path_key.PathKey.PathKey}
+use Rattle.dspec_deeds.specs.declared.calls.Opening.TheVariants as opening
+
+-- what is opened is nobody's before
+abbrev pub OpensNobodys : PathBook → CallsMade → Opening → Type 0
+OpensNobodys book x o = (id : Speculation) → o ≡ opening.Id id → IsNobodys book x.done id
+
+abbrev pub BeginningKeeps : Type 0
+BeginningKeeps = (book : PathBook) (ps new : Places) (number thread stamp : ℕ) (a : Option PathKey) (o : Opening) (x y : CallsMade) → KeepsPaths book ps x.done → OpensNobodys book x o
+    → BeginsBy o number thread stamp a x y ps new → GoesTo book new y.done
+
+abbrev pub TurningKeeps : Type 0
+TurningKeeps = (book : PathBook) (ps new : Places) (k : PathKey) (p : OpenPath) (a : Option Speculation) (o : Opening) (x y : CallsMade) → KeepsPaths book ps x.done → IsUndecided k ps p
+    → OpensNobodys book x o → TurnsBy o k p a x y ps new → GoesTo book new y.done
+
+abbrev pub DiscardingKeeps : Type 0
+DiscardingKeeps = (book : PathBook) (ps new : Places) (k : PathKey) (a : Bool) (x y : CallsMade) → KeepsPaths book ps x.done → DiscardsPath k a x y ps new → GoesTo book new y.done
+
+-- by which speculations a commit would find no room
+abbrev pub KeepingKeeps : (Speculation → Type 0) → Type 0
+KeepingKeeps lacks = (waits : Bool) (book : PathBook) (ps new : Places) (k : PathKey) (a : PathEnd) (x y : CallsMade) → KeepsPaths book ps x.done → KeepsPath lacks waits k a x y ps new
+    → GoesTo book new y.done
+
+abbrev pub AdoptingKeeps : Type 0
+AdoptingKeeps = (book : PathBook) (ps new : Places) (k : PathKey) (thread : ℕ) (a : Bool) (x : CallsMade) → KeepsPaths book ps x.done → AdoptsPath k thread a ps new → GoesTo book new x.done
+
+-- a deed of the CPU that decides no speculation of a path
+abbrev pub OthersKeep : Type 0
+OthersKeep = (book : PathBook) (ps : Places) (ds : List Did) (d : Did) → KeepsPaths book ps ds → Spares book d → KeepsPaths book ps (d ∷ ds)
+
+abbrev pub RecordsHaveFates : Type 0
+RecordsHaveFates = (book : PathBook) (ps : Places) (ds : List Did) → AllByRecursion DecidesItself ds → KeepsPaths book ps ds → HasFates book (handed ds)

@@ -1,0 +1,7 @@
+pub mod Every
+pub mod Laws
+pub mod Open
+pub mod PathPage
+pub mod Rooms
+pub mod Table
+pub mod Words

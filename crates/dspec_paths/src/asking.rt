@@ -1,0 +1,75 @@
+ghost use Rattle.std.specs.Prelude.{◌≡◌, ◌<◌, IfNone, IfSome, None, replicate, slice_set};
+ghost use Rattle.dspec_paths.specs.{Open.places_of, Table.AdoptsPath, Table.IsNamed, Table.IsUndecided, Table.NoneNamed, Table.NoneUndecided, Table.path_at};
+
+use crate::open_path::OpenPath;
+use crate::path_key::PathKey;
+use crate::paths::{MAX_PATHS, Paths};
+
+impl Paths {
+    /// No path is open.
+    pub fn new() -> Paths
+        ensures { places_of result ≡ replicate 64 None }
+    {
+        Paths {
+            places: [None; MAX_PATHS],
+        }
+    }
+
+    /// The path that is open at a place, of which there are `MAX_PATHS`, from 0 on.
+    #[inline]
+    pub fn open_at(&self, place: u32) -> Option<OpenPath>
+        ensures { result ≡ path_at place (places_of self.now) }
+    {
+        match self.places.get(place as usize) {
+            Some(path) => *path,
+            None => None,
+        }
+    }
+
+    /// The open path of this name.
+    #[inline]
+    pub fn named(&self, key: &PathKey) -> Option<OpenPath>
+        ensures there { IfSome result (λ p. IsNamed key.now (places_of self.now) p) }
+        ensures none { IfNone result (NoneNamed key.now (places_of self.now)) }
+    {
+        let path = self.open_at(key.place)?;
+        if path.newest != key.newest {
+            return None;
+        }
+        Some(path)
+    }
+
+    /// The open path of this name, where it isn't decided yet.
+    #[inline]
+    pub(crate) fn undecided(&self, key: &PathKey) -> Option<OpenPath>
+        ensures there { IfSome result (λ p. IsUndecided key.now (places_of self.now) p) }
+        ensures none { IfNone result (NoneUndecided key.now (places_of self.now)) }
+    {
+        let path = self.named(key)?;
+        if path.is_kept {
+            return None;
+        }
+        Some(path)
+    }
+
+    /// Has a path, or none, at a place.
+    #[inline]
+    pub(crate) fn put(&mut self, place: u32, path: Option<OpenPath>)
+        requires { place < 64 }
+        ensures { places_of self.new ≡ slice_set (places_of self.old) place path }
+    {
+        self.places[place as usize] = path;
+    }
+
+    /// A path is this thread's from now on: whether one of this name is open.
+    pub fn adopt(&mut self, key: &PathKey, thread: u32) -> bool
+        ensures { AdoptsPath key.now thread result (places_of self.old) (places_of self.new) }
+    {
+        let Some(path) = self.named(key) else {
+            return false;
+        };
+        let adopted = OpenPath { thread, ..path };
+        self.put(key.place, Some(adopted));
+        true
+    }
+}

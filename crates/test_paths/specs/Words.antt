@@ -1,0 +1,3 @@
+-- Serves proofs. The words of this crate for its proofs and for the crates above, in one place. Declares nothing.
+pub mod Outside
+unfoldable pub use Outside.*

@@ -1,0 +1,12 @@
+//! Tests of dspec_paths: a table of paths over a CPU of a session, on one thread.
+//!
+//! | Module | Tests of |
+//! |---|---|
+//! | `staging` | a CPU of a session of its own, and what the tests compare |
+//! | `paths` | paths that begin, turn, are kept, thrown away, adopted; those of a thread, and all; what is refused |
+#![tactic(auto)]
+
+#[cfg(test)]
+mod paths;
+#[cfg(test)]
+mod staging;

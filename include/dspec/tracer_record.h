@@ -1,0 +1,230 @@
+/* dspec/tracer_record.h: what a record of dspec_tracer.h does in its caller, where nobody is in its thread's way; else it is dspec_path_put's or dspec_tracer_put's. No program
+ * includes it, or uses what stands here but dspec_path_record and dspec_tracer_record. How a lane is taken is told in tracer/body.h. */
+#ifndef DSPEC_TRACER_RECORD_H
+#define DSPEC_TRACER_RECORD_H
+
+#include "dspec_tracer.h"
+
+#include <time.h>
+
+#ifdef __cplusplus
+extern "C" {
+#endif
+
+#define DSPEC_TRACER_APART_ __attribute__((aligned(128)))
+#define DSPEC_TRACER_LIKELY_(IS) __builtin_expect(!!(IS), 1)
+
+/* Of a lane's state: six bits, and above them how many paths are on it, and 1 more where it is a thread's own (tracer/body.h). */
+#define DSPEC_TRACER_HELD_ 1u
+#define DSPEC_TRACER_LOOK_ 59u /* with one of these a thread doesn't get into a call on its own lane without a closer look */
+
+/* What a record has to know of a lane. */
+typedef struct dspec_tracer_lane {
+    DSPEC_TRACER_APART_ uint32_t state;
+    DSPEC_TRACER_APART_ uint32_t inside; /* the thread whose lane it is, is in a call; no other writes it */
+    uint32_t slot;
+    uint32_t commits;  /* the call that is made is a commit */
+    uint64_t answered; /* records in the principal buffer whose calls have come back; both are for dspec_salvage */
+    dspec_cpu cpu;
+} dspec_tracer_lane;
+
+/* And of its thread in a tracer. */
+typedef struct dspec_tracer_seat {
+    dspec_tracer_lane *last; /* the lane that it had last; where it has none of its own, a record is tried there that is in no path */
+    dspec_tracer_lane *own;  /* its own, or NULL */
+    uint32_t run;            /* of the tracer; another's is stale */
+    uint32_t plain;          /* the same; DSPEC_TRACER_NONE_ where the thread has a lane of its own, and in the middle of a record that is in no path */
+    uint16_t open;           /* paths that it began on its own lane and hasn't ended */
+    bool busy;               /* in the middle of the tracer, where a signal's handler may come */
+} dspec_tracer_seat;
+
+/* No tracer has this run. One that isn't started has 0. */
+#define DSPEC_TRACER_NONE_ 1u
+
+/* What records of an event claim that is switched off. */
+#define DSPEC_TRACER_OFF_ 1u
+
+/* A number that no other thread has or had, and not 0. A handler may look at it: it stands where the thread's memory is, and is never made at its first use. That room is scarce where a library is loaded
+ * late. The number in the name goes up with each change of what is laid out here or in dspec_tracer.h, so that a program which was compiled with another one finds no library. */
+extern __thread uint32_t dspec_tracer_token_4 __attribute__((tls_model("initial-exec")));
+/* The number of the path to which the thread recorded last, in the upper half. */
+extern __thread uint64_t dspec_tracer_recent_4 __attribute__((tls_model("initial-exec")));
+
+/* A record that isn't made in its caller: the first of a path, one on another thread, or one that somebody is in the way of. */
+dspec_status dspec_path_put_slowly_(dspec_path *path, const dspec_event *event, const uint64_t *words, size_t n) DSPEC_NOEXCEPT;
+dspec_status dspec_tracer_put_slowly_(dspec_tracer *tracer, const dspec_event *event, const uint64_t *words, size_t n) DSPEC_NOEXCEPT;
+
+/* After a record that wasn't made. Of one in a path, in the call on its lane: whether it is tried again. */
+bool dspec_path_turn(dspec_path *path, const dspec_event *event, dspec_status status) DSPEC_NOEXCEPT;
+void dspec_tracer_missed(dspec_tracer *tracer, const dspec_event *event, dspec_status status) DSPEC_NOEXCEPT;
+
+/* clock_gettime, which <time.h> shows only to programs that ask for POSIX. */
+int dspec_tracer_clock_(int clock, struct timespec *at) DSPEC_NOEXCEPT __asm__("clock_gettime");
+
+/* As dspec_tracer_now. */
+DSPEC_INLINE uint64_t dspec_tracer_stamp_(void) DSPEC_NOEXCEPT {
+    struct timespec at;
+    dspec_tracer_clock_(1 /* CLOCK_MONOTONIC */, &at);
+    return DSPEC_AS(uint64_t, at.tv_sec) * 1000000000u + DSPEC_AS(uint64_t, at.tv_nsec);
+}
+
+/* A commit takes some 3,600 bytes of stack (docs/C.md), and a stack that ends here ends before the call, where a crash can still keep the path, and not in the middle of it. */
+DSPEC_INLINE void dspec_tracer_reach_(void) DSPEC_NOEXCEPT {
+#if defined(__x86_64__)
+    __asm__ volatile("testb $0, -6144(%%rsp)" : : : "cc");
+#else
+    (void)*(DSPEC_AS(const volatile char *, __builtin_frame_address(0)) - 6144);
+#endif
+}
+
+/* A thread's seats are as far behind this place in each thread. */
+DSPEC_INLINE char *dspec_tracer_thread_(void) DSPEC_NOEXCEPT {
+    char *at;
+#if defined(__x86_64__)
+    __asm__("movq %%fs:0, %0" : "=r"(at));
+#else
+    at = DSPEC_AS(char *, DSPEC_AS(void *, &dspec_tracer_token_4));
+#endif
+    return at;
+}
+
+DSPEC_INLINE dspec_tracer_seat *dspec_tracer_seat_of_(const dspec_tracer *tracer) DSPEC_NOEXCEPT {
+    return DSPEC_AS(dspec_tracer_seat *, DSPEC_AS(void *, dspec_tracer_thread_() + __atomic_load_n(&tracer->seat, __ATOMIC_RELAXED)));
+}
+
+/* Whether a path is open on its thread's own lane, and this is its thread. */
+DSPEC_INLINE bool dspec_path_is_here_(const dspec_path *path) DSPEC_NOEXCEPT { return path->token == dspec_tracer_token_4; }
+
+/* Whether the thread's record that is in no path can be tried on the lane that it had last. */
+DSPEC_INLINE bool dspec_tracer_is_plain_(const dspec_tracer *tracer) DSPEC_NOEXCEPT {
+    return dspec_tracer_seat_of_(tracer)->plain == __atomic_load_n(&tracer->run, __ATOMIC_RELAXED);
+}
+
+/* Into a call on the thread's own lane, where nobody wants it: whether it is in. */
+DSPEC_INLINE bool dspec_tracer_enter_(dspec_tracer_lane *on) DSPEC_NOEXCEPT {
+    __atomic_store_n(&on->inside, 1, __ATOMIC_RELAXED);
+    __atomic_signal_fence(__ATOMIC_SEQ_CST);
+    if (DSPEC_TRACER_LIKELY_(!(__atomic_load_n(&on->state, __ATOMIC_ACQUIRE) & DSPEC_TRACER_LOOK_))) return true;
+    __atomic_store_n(&on->inside, 0, __ATOMIC_RELEASE);
+    return false;
+}
+
+DSPEC_INLINE void dspec_tracer_leave_(dspec_tracer_lane *on) DSPEC_NOEXCEPT { __atomic_store_n(&on->inside, 0, __ATOMIC_RELEASE); }
+
+/* Whether each tracer that has an event records it. */
+DSPEC_INLINE bool dspec_event_goes_(const dspec_event *event) DSPEC_NOEXCEPT { return __atomic_load_n(&event->look, __ATOMIC_RELAXED) == 0; }
+
+/* What a record of an event claims in a tracer. */
+DSPEC_INLINE uint64_t dspec_tracer_claim_(const dspec_event *event, uint32_t slot) DSPEC_NOEXCEPT { return __atomic_load_n(&event->claims[slot], __ATOMIC_RELAXED); }
+
+/* A record of several words, of which the first is another. */
+dspec_status dspec_tracer_put_long(dspec_cpu *cpu, uint64_t id, uint64_t claim, uint64_t now, uint64_t first, const uint64_t *words, size_t n) DSPEC_NOEXCEPT;
+
+/* A record's words, into a path's speculation, with the path's number in the first, or alone; few of them go in registers. */
+DSPEC_INLINE dspec_status dspec_tracer_put_in_(dspec_cpu *cpu, uint64_t id, uint64_t claim, uint64_t now, uint64_t first, const uint64_t *words, size_t n) DSPEC_NOEXCEPT {
+    switch (n) {
+    case 1: return dspec_put_in_1(cpu, id, claim, now, first);
+    case 2: return dspec_put_in_2(cpu, id, claim, now, first, words[1]);
+    case 3: return dspec_put_in_3(cpu, id, claim, now, first, words[1], words[2]);
+    default: return dspec_tracer_put_long(cpu, id, claim, now, first, words, n);
+    }
+}
+
+DSPEC_INLINE dspec_status dspec_tracer_put_(dspec_cpu *cpu, uint64_t claim, uint64_t now, const uint64_t *words, size_t n) DSPEC_NOEXCEPT {
+    switch (n) {
+    case 1: return dspec_put_1(cpu, claim, now, words[0]);
+    case 2: return dspec_put_2(cpu, claim, now, words[0], words[1]);
+    case 3: return dspec_put_3(cpu, claim, now, words[0], words[1], words[2]);
+    default: return dspec_put(cpu, claim, now, words, n);
+    }
+}
+
+/* A record, in the call on a lane, that is in no path. */
+DSPEC_INLINE dspec_status dspec_tracer_fill_(dspec_tracer_lane *on, uint64_t claim, uint64_t now, const uint64_t *words, size_t n) DSPEC_NOEXCEPT {
+    const dspec_status status = dspec_tracer_put_(&on->cpu, claim, now, words, n);
+    __atomic_signal_fence(__ATOMIC_SEQ_CST);
+    __atomic_store_n(&on->answered, on->answered + (status == DSPEC_OK), __ATOMIC_RELAXED);
+    return status;
+}
+
+#define DSPEC_TRACER_INTO_CALLER_ __attribute__((always_inline, unused)) DSPEC_INLINE
+
+/* Of a path that is open on its thread's own lane: whether it was made, and what came of it. A handler that comes in between finds `inside`. */
+DSPEC_TRACER_INTO_CALLER_ bool dspec_path_try_(dspec_path *path, const dspec_event *event, const uint64_t *words, size_t n, dspec_status *status) DSPEC_NOEXCEPT {
+    dspec_tracer_lane *on;
+    uint64_t now;
+    if (!DSPEC_TRACER_LIKELY_(dspec_path_is_here_(path))) return false;
+    __asm__ volatile("" : : : "memory"); /* a handler that comes in between may begin this path: its lane is looked at behind its token */
+    on = path->lane;
+    __asm__("" : "+r"(on)); /* a compiler that sees that a path has no lane yet doesn't know that no thread has its token */
+    if (!DSPEC_TRACER_LIKELY_(__atomic_load_n(&on->inside, __ATOMIC_RELAXED) == 0)) return false;
+    dspec_tracer_reach_();
+    if (!DSPEC_TRACER_LIKELY_(dspec_tracer_enter_(on))) return false;
+    __atomic_store_n(&dspec_tracer_recent_4, path->mark, __ATOMIC_RELAXED);
+    now = dspec_tracer_stamp_();
+    do {
+        *status = dspec_tracer_put_in_(&on->cpu, path->id, dspec_tracer_claim_(event, on->slot), now, words[0] | path->mark, words, n);
+    } while (!DSPEC_TRACER_LIKELY_(*status == DSPEC_OK) && dspec_path_turn(path, event, *status));
+    dspec_tracer_leave_(on);
+    return true;
+}
+
+/* Of no path, on the lane that the thread had last, where nobody is on that. A handler that comes in between finds that `plain` is no run. */
+DSPEC_TRACER_INTO_CALLER_ bool dspec_tracer_try_(dspec_tracer *tracer, const dspec_event *event, const uint64_t *words, size_t n, dspec_status *status) DSPEC_NOEXCEPT {
+    dspec_tracer_seat *me = dspec_tracer_seat_of_(tracer);
+    dspec_tracer_lane *on;
+    const uint32_t run = __atomic_load_n(&tracer->run, __ATOMIC_RELAXED);
+    uint32_t state = 0;
+    bool is_in;
+    if (!DSPEC_TRACER_LIKELY_(me->plain == run)) return false;
+    on = me->last;
+    dspec_tracer_reach_();
+    __atomic_store_n(&me->plain, DSPEC_TRACER_NONE_, __ATOMIC_RELAXED);
+    __atomic_signal_fence(__ATOMIC_SEQ_CST);
+    is_in = __atomic_compare_exchange_n(&on->state, &state, DSPEC_TRACER_HELD_, false, __ATOMIC_SEQ_CST, __ATOMIC_SEQ_CST);
+    if (DSPEC_TRACER_LIKELY_(is_in)) {
+        const uint64_t now = dspec_tracer_stamp_();
+        *status = dspec_tracer_fill_(on, dspec_tracer_claim_(event, on->slot), now, words, n);
+        __atomic_fetch_and(&on->state, ~DSPEC_TRACER_HELD_, __ATOMIC_SEQ_CST);
+    }
+    __atomic_signal_fence(__ATOMIC_SEQ_CST);
+    __atomic_store_n(&me->plain, run, __ATOMIC_RELAXED);
+    if (is_in && !DSPEC_TRACER_LIKELY_(*status == DSPEC_OK)) dspec_tracer_missed(tracer, event, *status);
+    return is_in;
+}
+
+/* Of an event that each tracer records which has it. */
+DSPEC_TRACER_INTO_CALLER_ dspec_status dspec_path_record_(dspec_path *path, const dspec_event *event, const uint64_t *words, size_t n) DSPEC_NOEXCEPT {
+    dspec_status status;
+    if (DSPEC_TRACER_LIKELY_(dspec_path_try_(path, event, words, n, &status))) return status;
+    switch (n) {
+    case 1: return dspec_path_put_1(path, event, words[0]);
+    case 2: return dspec_path_put_2(path, event, words[0], words[1]);
+    case 3: return dspec_path_put_3(path, event, words[0], words[1], words[2]);
+    default: return dspec_path_put(path, event, words, n);
+    }
+}
+
+DSPEC_TRACER_INTO_CALLER_ dspec_status dspec_path_record(dspec_path *path, const dspec_event *event, const uint64_t *words, size_t n) DSPEC_NOEXCEPT {
+    return DSPEC_TRACER_LIKELY_(dspec_event_goes_(event)) ? dspec_path_record_(path, event, words, n) : dspec_path_put_slowly_(path, event, words, n);
+}
+
+DSPEC_TRACER_INTO_CALLER_ dspec_status dspec_tracer_record_(dspec_tracer *tracer, const dspec_event *event, const uint64_t *words, size_t n) DSPEC_NOEXCEPT {
+    dspec_status status;
+    if (DSPEC_TRACER_LIKELY_(dspec_tracer_try_(tracer, event, words, n, &status))) return status;
+    switch (n) {
+    case 1: return dspec_tracer_put_1(tracer, event, words[0]);
+    case 2: return dspec_tracer_put_2(tracer, event, words[0], words[1]);
+    case 3: return dspec_tracer_put_3(tracer, event, words[0], words[1], words[2]);
+    default: return dspec_tracer_put(tracer, event, words, n);
+    }
+}
+
+DSPEC_TRACER_INTO_CALLER_ dspec_status dspec_tracer_record(dspec_tracer *tracer, const dspec_event *event, const uint64_t *words, size_t n) DSPEC_NOEXCEPT {
+    return DSPEC_TRACER_LIKELY_(dspec_event_goes_(event)) ? dspec_tracer_record_(tracer, event, words, n) : dspec_tracer_put_slowly_(tracer, event, words, n);
+}
+
+#ifdef __cplusplus
+} /* extern "C" */
+#endif
+#endif

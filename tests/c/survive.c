@@ -1,0 +1,237 @@
+/* A tracer whose memory outlives its process, in all that may become of it: `survive HOW FOLDER [WORD ..]`, which tests/c/tracer plays and looks at. Most of them kill themselves. */
+#define _GNU_SOURCE
+#include "dspec_tracer.h"
+
+#include <fcntl.h>
+#include <inttypes.h>
+#include <pthread.h>
+#include <semaphore.h>
+#include <signal.h>
+#include <stdio.h>
+#include <stdlib.h>
+#include <string.h>
+#include <sys/resource.h>
+#include <sys/stat.h>
+#include <sys/wait.h>
+#include <unistd.h>
+
+DSPEC_PROBE(query, uint64_t, request, uint32_t, step);
+
+static dspec_tracer tracer;
+static dspec_tracer_options options = { .survive = true, .lanes = 4, .crash_ms = 5000 };
+static const char *folder;
+static char **words;
+
+static bool starts(void) { return dspec_tracer_start(&tracer, folder, &options, DSPEC_PROBES(query)); }
+
+static void up(void) {
+    if (!starts()) {
+        printf("refused: %s\n", tracer.why);
+        exit(3);
+    }
+    if (tracer.why[0] != 0) printf("note: %s\n", tracer.why);
+}
+
+/* So many requests of five records each are kept: how many that was answered of. */
+static uint64_t keep(uint64_t from, uint64_t count) {
+    uint64_t kept = 0;
+    for (uint64_t request = from; request < from + count; request++) {
+        dspec_path path = dspec_path_begin(&tracer);
+        for (uint32_t step = 0; step < 5; step++) query_in(&path, request, step);
+        kept += dspec_path_keep(&path);
+    }
+    return kept;
+}
+
+static int stop(void) {
+    dspec_tracer_report report;
+    const bool is_whole = dspec_tracer_stop(&tracer, &report);
+    printf("whole=%d accepted=%" PRIu64 " why=%s\n", is_whole, report.accepted, report.why);
+    return is_whole ? 0 : 4;
+}
+
+static int end_by_kill(void) {
+    fflush(stdout);
+    kill(getpid(), SIGKILL);
+    return 9;
+}
+
+static int how_kept(void) {
+    up();
+    printf("kept=%" PRIu64 "\n", keep(0, 100));
+    return end_by_kill();
+}
+
+/* The request that hangs, while another process looks. */
+static int how_hangs(void) {
+    up();
+    keep(0, 10);
+    dspec_path path = dspec_path_begin(&tracer);
+    for (uint32_t step = 0; step < 3; step++) query_in(&path, 77, step);
+    printf("up\n");
+    fflush(stdout);
+    pause();
+    return 0;
+}
+
+/* A child outlives the process. */
+static int how_child(void) {
+    pid_t child;
+    options.period_ms = 1000000;
+    up();
+    keep(0, 100);
+    child = strcmp(words[0], "_Fork") == 0 ? _Fork() : strcmp(words[0], "vfork") == 0 ? vfork() : fork();
+    if (child == 0) {
+        close_range(1, 2, 0); /* who reads what this prints doesn't wait for the child */
+        execlp(strcmp(words[0], "vfork") == 0 ? "sleep" : "", "sleep", "60", (char *)NULL);
+        pause();
+        _exit(0);
+    }
+    printf("child=%d\n", (int)child);
+    return end_by_kill();
+}
+
+static void limit_files(rlim_t bytes) {
+    const struct rlimit limit = { bytes, RLIM_INFINITY };
+    setrlimit(RLIMIT_FSIZE, &limit);
+}
+
+static int how_limit(void) {
+    limit_files(strtoul(words[0], NULL, 10));
+    if (starts()) return 5;
+    limit_files(RLIM_INFINITY);
+    printf("refused: %s\n", tracer.why);
+    return 0;
+}
+
+/* What is written beyond a limit is lost, and counted. */
+static int how_lost(void) {
+    up();
+    if (!dspec_tracer_flush(&tracer, 60000)) return 5;
+    limit_files(1);
+    keep(0, 100);
+    printf("flush=%d\n", dspec_tracer_flush(&tracer, 60000));
+    limit_files(RLIM_INFINITY);
+    return end_by_kill();
+}
+
+/* A disk that gets full, and where a word more says so has room again. */
+static int how_full(void) {
+    static char bytes[4096];
+    int filler;
+    up();
+    filler = open(words[0], O_CREAT | O_WRONLY, 0600);
+    while (write(filler, bytes, sizeof bytes) > 0 || write(filler, bytes, 1) > 0) {}
+    printf("kept=%" PRIu64, keep(0, 100));
+    printf(" flush=%d\n", dspec_tracer_flush(&tracer, 60000));
+    if (words[1] == NULL) return end_by_kill();
+    unlink(words[0]);
+    close(filler);
+    printf("flush=%d\n", dspec_tracer_flush(&tracer, 60000));
+    return end_by_kill();
+}
+
+/* It is killed when its second write of packets has ended, which nobody has noted yet: the linker's --wrap leads each write through here. */
+ssize_t __real_write(int file, const void *bytes, size_t len);
+ssize_t __wrap_write(int file, const void *bytes, size_t len);
+static _Atomic int writes_left;
+
+ssize_t __wrap_write(int file, const void *bytes, size_t len) {
+    const ssize_t count = __real_write(file, bytes, len);
+    if (len >= 4096 && writes_left > 0 && --writes_left == 0) kill(getpid(), SIGKILL);
+    return count;
+}
+
+static int how_writes(void) {
+    options.lanes = 1;
+    up();
+    writes_left = 2;
+    for (uint64_t request = 0; request < 1000000; request += 100) {
+        keep(request, 100);
+        usleep(1000);
+    }
+    return 5;
+}
+
+/* A program changes where or who it is, and stops. */
+static int how_moves(void) {
+    if (words[1] != NULL) options.max_bytes = 3000000;
+    up();
+    keep(0, 10);
+    if (strcmp(words[0], "chdir") == 0 && chdir("/") != 0) return 5;
+    if (strcmp(words[0], "chroot") == 0 && (chroot("/var") != 0 || chdir("/") != 0)) return 5;
+    if (strcmp(words[0], "setuid") == 0 && (setgid(65534) != 0 || setuid(65534) != 0)) return 5;
+    if (strcmp(words[0], "close") == 0) close_range(3, ~0U, 0);
+    return stop();
+}
+
+/* Its lock goes with its descriptors; it goes on. */
+static int how_closes(void) {
+    up();
+    close_range(3, ~0U, 0);
+    printf("up\n");
+    fflush(stdout);
+    pause();
+    return 0;
+}
+
+static int how_refused(void) {
+    printf("%s\n", starts() ? "started" : tracer.why);
+    return tracer.body != NULL ? 5 : 0;
+}
+
+/* It reads its own memory, which is refused, and is in use afterwards. */
+static int how_itself(void) {
+    static dspec_salvaged told;
+    static dspec_tracer other;
+    char file[4200], out[4200];
+    up();
+    snprintf(file, sizeof file, "%s-memory", folder);
+    snprintf(out, sizeof out, "%s.out", folder);
+    printf("salvage=%d %s\n", dspec_salvage(file, out, &told), told.why);
+    printf("start=%d", dspec_tracer_start(&other, folder, &options, DSPEC_PROBES(query)));
+    printf(" %s\nup\n", other.why);
+    fflush(stdout);
+    pause();
+    return 0;
+}
+
+/* A crash that leaves nothing unwritten, or where another thread has a path open. */
+static sem_t is_open;
+static void *opens(void *unused) {
+    dspec_path path = dspec_path_begin(&tracer);
+    query_in(&path, 5, 0);
+    sem_post(&is_open);
+    pause();
+    return unused;
+}
+
+static int how_crashes(void) {
+    static int *volatile nowhere;
+    pthread_t other;
+    struct rlimit none = { 0, 0 };
+    setrlimit(RLIMIT_CORE, &none);
+    up();
+    keep(0, 10);
+    if (words[0] != NULL && pthread_create(&other, NULL, opens, NULL) == 0) sem_wait(&is_open);
+    dspec_path path = dspec_path_begin(&tracer);
+    query_in(&path, 77, 0);
+    *nowhere = 1;
+    return 5;
+}
+
+int main(int count, char **all) {
+    static const struct {
+        const char *name;
+        int (*run)(void);
+    } hows[] = {
+        { "kept", how_kept }, { "hangs", how_hangs }, { "child", how_child }, { "limit", how_limit }, { "lost", how_lost }, { "full", how_full }, { "writes", how_writes },
+        { "moves", how_moves }, { "closes", how_closes }, { "refused", how_refused }, { "itself", how_itself }, { "crashes", how_crashes },
+    };
+    if (count < 3) return 2;
+    folder = all[2];
+    words = all + 3;
+    for (size_t i = 0; i < sizeof hows / sizeof hows[0]; i++)
+        if (strcmp(hows[i].name, all[1]) == 0) return hows[i].run();
+    return 2;
+}

@@ -1,0 +1,366 @@
+/* What hinders a tracer's consumer: threads that stay in their calls, a disk with a limit, a program that closes descriptors, a system that forbids a call, stacks that are small.
+ * `tracer_faults FOLDER MODE [FILE]` counts its checks in its last line, or into the file where it has no stdout. */
+#define _GNU_SOURCE
+#include "dspec/tracer_record.h"
+
+#include "check.h"
+#include "forbid.h"
+
+#include <dirent.h>
+#include <errno.h>
+#include <fcntl.h>
+#include <pthread.h>
+#include <semaphore.h>
+#include <signal.h>
+#include <stdatomic.h>
+#include <sys/resource.h>
+#include <sys/stat.h>
+#include <unistd.h>
+
+#ifndef LOCALS
+#define LOCALS 1
+#endif
+
+DSPEC_PROBE(query, uint64_t, request, uint32_t, step);
+DSPEC_PROBE(tick, uint64_t, number);
+
+enum { USERS = 64 }; /* a lane's state divided by this is how many are on it */
+
+static dspec_tracer tracer;
+static const char *folder;
+static __thread volatile char locals[LOCALS];
+
+static void begin(dspec_tracer_options options) {
+    if (CHECK(dspec_tracer_start(&tracer, folder, &options, DSPEC_PROBES(query, tick)))) return;
+    printf("%s\n", tracer.why);
+    exit(check_end());
+}
+
+static dspec_tracer_report ended(bool whole) {
+    dspec_tracer_report report;
+    const bool is_whole = dspec_tracer_stop(&tracer, &report);
+    if (!CHECK(is_whole == whole)) printf("whole %d, stuck %llu, not written %llu: %s\n", is_whole, (unsigned long long)report.stuck_lanes, (unsigned long long)report.not_written, report.why);
+    return report;
+}
+
+static bool keeps(uint64_t request) {
+    dspec_path path = dspec_path_begin(&tracer);
+    query_in(&path, request, 0);
+    return dspec_path_keep(&path);
+}
+
+/* ---- A thread that stays in its call: a signal's handler comes into the middle of a record, and waits there. ---- */
+
+static pthread_t caller;
+static dspec_path callers;
+static _Atomic bool has_begun, is_inside, may_leave, is_over;
+
+/* By the lane as its own, or by its lock, which nobody else takes meanwhile. */
+static bool is_in_call(void) {
+    if (__atomic_load_n(&callers.lane->inside, __ATOMIC_RELAXED)) return true;
+    return __atomic_load_n(&callers.lane->state, __ATOMIC_RELAXED) & DSPEC_TRACER_HELD_ && tick_now(&tracer, 1) == DSPEC_BUSY;
+}
+
+static void stay(int signal) {
+    (void)signal;
+    if (!has_begun || is_inside || !is_in_call()) return;
+    is_inside = true;
+    while (!may_leave) usleep(1000);
+}
+
+static void *calls(void *unused) {
+    callers = dspec_path_begin(&tracer);
+    query_in(&callers, 1, 0);
+    has_begun = true;
+    while (!is_over) query_in(&callers, 1, 0);
+    dspec_path_drop(&callers);
+    return unused;
+}
+
+static void start_caller(void) {
+    const struct sigaction action = { .sa_handler = stay, .sa_flags = SA_RESTART };
+    sigaction(SIGUSR1, &action, NULL);
+    pthread_create(&caller, NULL, calls, NULL);
+    while (!has_begun) usleep(100);
+}
+
+static void make_caller_stay(void) {
+    if (!has_begun) start_caller();
+    while (!is_inside) {
+        pthread_kill(caller, SIGUSR1);
+        usleep(100);
+    }
+}
+
+static void let_caller_leave(void) {
+    may_leave = true;
+    is_over = true;
+    pthread_join(caller, NULL);
+}
+
+/* A flush beside such a thread isn't true until that has left; what is kept on other lanes is written meanwhile. */
+static void mode_flush(void) {
+    begin((dspec_tracer_options){ .period_ms = 100000 });
+    make_caller_stay();
+    for (uint64_t request = 100; request < 105; request++) CHECK(keeps(request));
+    CHECK(!dspec_tracer_flush(&tracer, 300));
+    may_leave = true;
+    CHECK(dspec_tracer_flush(&tracer, 60000));
+    check_end();
+    fflush(stdout);
+    raise(SIGKILL);
+}
+
+static _Atomic bool are_flushed;
+
+static void *flushes(void *unused) {
+    for (int flush = 0; flush < 40; flush++) dspec_tracer_flush(&tracer, 25);
+    are_flushed = true;
+    return unused;
+}
+
+/* It delays no other lane: beside flushes that wait for it, another one is hardly ever found held. */
+static void mode_others(void) {
+    int looks = 0, held = 0;
+    pthread_t flusher;
+    dspec_path mine;
+    begin((dspec_tracer_options){ .period_ms = 100000 });
+    make_caller_stay();
+    mine = dspec_path_begin(&tracer);
+    query_in(&mine, 2, 0);
+    pthread_create(&flusher, NULL, flushes, NULL);
+    for (; !are_flushed; looks++) {
+        held += (__atomic_load_n(&mine.lane->state, __ATOMIC_SEQ_CST) & DSPEC_TRACER_HELD_) != 0;
+        usleep(200);
+    }
+    if (!CHECK(2 * held < looks)) printf("another lane was held in %d of %d looks\n", held, looks);
+    pthread_join(flusher, NULL);
+    let_caller_leave();
+    dspec_path_drop(&mine);
+    ended(true);
+}
+
+/* A record on the same lane waits for it for a second, and not until it has left, which it does behind that record alone. */
+static void mode_waits(void) {
+    dspec_tracer_report report;
+    dspec_path path;
+    begin((dspec_tracer_options){ .lanes = 1, .period_ms = 100000 });
+    make_caller_stay();
+    path = dspec_path_begin(&tracer);
+    CHECK(query_in(&path, 3, 0) != DSPEC_OK);
+    CHECK(dspec_tracer_counts(&tracer, &report) && report.waited == 1);
+    let_caller_leave();
+    ended(true);
+}
+
+/* A path whose end gave up waiting is thrown away, and its place is another's. */
+static void mode_left(void) {
+    dspec_tracer_report report;
+    dspec_path path;
+    begin((dspec_tracer_options){ .lanes = 1, .paths = 2, .period_ms = 100000 });
+    start_caller();
+    path = dspec_path_begin(&tracer);
+    CHECK(query_in(&path, 4, 0) == DSPEC_OK);
+    make_caller_stay();
+    CHECK(!dspec_path_keep(&path));
+    may_leave = true;
+    CHECK(dspec_tracer_flush(&tracer, 60000));
+    path = dspec_path_begin(&tracer);
+    CHECK(query_in(&path, 5, 0) == DSPEC_OK && dspec_path_keep(&path));
+    let_caller_leave();
+    report = ended(true);
+    CHECK(report.no_slot == 0 && report.kept == 1 && report.undecided == 0);
+}
+
+/* ---- Threads that hand their paths on. ---- */
+
+static dspec_path handed;
+static sem_t is_given, is_taken;
+
+static void *works(void *unused) {
+    while (sem_wait(&is_given) == 0 && !is_over) {
+        query_in(&handed, 6, 1);
+        dspec_path_drop(&handed);
+        sem_post(&is_taken);
+    }
+    return unused;
+}
+
+static void hand_one(void) {
+    handed = dspec_path_begin(&tracer);
+    query_in(&handed, 6, 0);
+    sem_post(&is_given);
+    sem_wait(&is_taken);
+}
+
+/* Such a thread keeps no lane, and its count of open paths doesn't go round. */
+static void mode_handed(void) {
+    pthread_t worker;
+    dspec_tracer_report report;
+    begin((dspec_tracer_options){ .lanes = 2 });
+    sem_init(&is_given, 0, 0);
+    sem_init(&is_taken, 0, 0);
+    pthread_create(&worker, NULL, works, NULL);
+    for (int i = 0; i < 2; i++) hand_one();
+    /* The worker has answered, and its last step off the lane may come a little later. */
+    for (int tries = 0; tries < 10000 && __atomic_load_n(&handed.lane->state, __ATOMIC_SEQ_CST) / USERS != 0; tries++) usleep(1000);
+    CHECK(__atomic_load_n(&handed.lane->state, __ATOMIC_SEQ_CST) / USERS == 0);
+    for (int i = 2; i < 70000; i++) hand_one();
+    CHECK(keeps(100));
+    is_over = true;
+    sem_post(&is_given);
+    pthread_join(worker, NULL);
+    report = ended(true);
+    CHECK(report.kept == 1 && report.thrown == 70000 && report.no_slot == 0 && report.undecided == 0);
+}
+
+/* ---- Descriptors, and what the system refuses. ---- */
+
+/* A limit on files, below which nothing is written any more: no flush is true behind that. */
+static void mode_limit(void) {
+    const struct rlimit none = { 0, 0 };
+    begin((dspec_tracer_options){ .period_ms = 100000 });
+    CHECK(keeps(100) && dspec_tracer_flush(&tracer, 60000));
+    CHECK(keeps(101));
+    setrlimit(RLIMIT_FSIZE, &none);
+    CHECK(!dspec_tracer_flush(&tracer, 60000));
+    CHECK(!dspec_tracer_flush(&tracer, 60000));
+    CHECK(ended(false).code == EFBIG);
+}
+
+/* Without stdin, stdout and stderr, and with lines that go there all the same. */
+static void mode_without(void) {
+    for (int file = 0; file < 3; file++) close(file);
+    begin((dspec_tracer_options){ .lanes = 2 });
+    for (int file = 0; file < 3; file++) CHECK(fcntl(file, F_GETFD) == -1);
+    for (uint64_t request = 100; request < 200; request++) {
+        CHECK(keeps(request));
+        CHECK(write(STDOUT_FILENO, "a line\n", 7) == -1);
+        CHECK(write(STDERR_FILENO, "a line\n", 7) == -1);
+        if (request % 10 == 0) dspec_tracer_flush(&tracer, 60000);
+    }
+    ended(true);
+}
+
+static long micros_used(void) {
+    struct rusage use;
+    getrusage(RUSAGE_SELF, &use);
+    return (long)(use.ru_utime.tv_sec + use.ru_stime.tv_sec) * 1000000 + (long)(use.ru_utime.tv_usec + use.ru_stime.tv_usec);
+}
+
+/* A program that closes all descriptors, and opens files of its own by their numbers. */
+static void closes(dspec_tracer_options options) {
+    enum { MANY = 100 };
+    int files[MANY];
+    char name[4200];
+    long used;
+    begin(options);
+    for (int file = 3; file < 1024; file++) close(file);
+    snprintf(name, sizeof name, "%s.own", folder);
+    mkdir(name, 0700);
+    for (int i = 0; i < MANY; i++) {
+        snprintf(name, sizeof name, "%s.own/%d", folder, i);
+        files[i] = open(name, O_RDWR | O_CREAT | O_TRUNC | O_CLOEXEC, 0600);
+        CHECK(write(files[i], "mine", 4) == 4);
+    }
+    CHECK(keeps(100));
+    CHECK(!dspec_tracer_flush(&tracer, 60000));
+    used = micros_used();
+    usleep(1000000);
+    if (!CHECK(micros_used() - used < 200000)) printf("%ld us in a second of sleep\n", micros_used() - used);
+    CHECK(strstr(ended(false).why, "closed the trace's descriptors") != NULL);
+    dspec_tracer_drop(&tracer);
+    for (int i = 0; i < MANY; i++) {
+        struct stat is;
+        CHECK(fstat(files[i], &is) == 0 && is.st_size == 4);
+        close(files[i]);
+    }
+}
+
+static void mode_closed(void) { closes((dspec_tracer_options){ .lanes = 4 }); }
+
+static void mode_closed_bound(void) { closes((dspec_tracer_options){ .lanes = 4, .max_bytes = 200000 }); }
+
+static _Atomic int kept_paths;
+
+static void *keeps_hundred(void *first) {
+    dspec_path open_still = dspec_path_begin(&tracer);
+    query_in(&open_still, 1, 0);
+    for (uint64_t i = 0; i < 100; i++) {
+        kept_paths += keeps(*(uint64_t *)first + i);
+        usleep(500);
+    }
+    pause();
+    return NULL;
+}
+
+/* Threads with lanes of their own, of which each is in an open path, and a system that refuses the order between them and the consumer: nothing is lost, and a crash saves what is open. */
+static void mode_forbidden(void) {
+    static uint64_t firsts[] = { 1000, 2000, 3000, 4000 };
+    pthread_t threads[4];
+    dspec_tracer_report report;
+    dspec_path path;
+    begin((dspec_tracer_options){ .crash_ms = 60000 });
+    if (!forbid_barriers()) {
+        printf("no system call can be forbidden here: left out\n");
+        return;
+    }
+    for (int i = 0; i < 4; i++) pthread_create(&threads[i], NULL, keeps_hundred, &firsts[i]);
+    do usleep(10000);
+    while (dspec_tracer_counts(&tracer, &report) && report.kept < 400);
+    CHECK(dspec_tracer_flush(&tracer, 60000));
+    CHECK(kept_paths == 400 && report.waited == 0);
+    path = dspec_path_begin(&tracer);
+    query_in(&path, 5000, 0);
+    check_end();
+    fflush(stdout);
+    raise(SIGSEGV);
+}
+
+/* ---- The consumer's thread. ---- */
+
+static bool has_thread(const char *due) {
+    DIR *tasks = opendir("/proc/self/task");
+    bool found = false;
+    for (struct dirent *one; (one = readdir(tasks)) != NULL;) {
+        char path[300], name[32] = "";
+        int file;
+        snprintf(path, sizeof path, "/proc/self/task/%s/comm", one->d_name);
+        file = open(path, O_RDONLY);
+        if (file < 0) continue;
+        found |= read(file, name, sizeof name - 1) > 0 && strcmp(name, due) == 0;
+        close(file);
+    }
+    closedir(tasks);
+    return found;
+}
+
+/* Its name, and its stack, of which the C library takes the program's thread-local variables. */
+static void mode_thread(void) {
+    locals[LOCALS - 1] = 1;
+    begin((dspec_tracer_options){ 0 });
+    for (uint64_t request = 100; request < 200; request++) CHECK(keeps(request));
+    CHECK(dspec_tracer_flush(&tracer, 60000));
+    CHECK(has_thread("dspec\n"));
+    ended(true);
+}
+
+static const struct {
+    const char *name;
+    void (*run)(void);
+} modes[] = {
+    { "flush", mode_flush }, { "others", mode_others }, { "waits", mode_waits }, { "left", mode_left }, { "handed", mode_handed }, { "limit", mode_limit },
+    { "without", mode_without }, { "closed", mode_closed }, { "closed_bound", mode_closed_bound }, { "forbidden", mode_forbidden }, { "thread", mode_thread },
+};
+
+int main(int argc, char **argv) {
+    if (argc < 3) return 2;
+    folder = argv[1];
+    for (size_t i = 0; i < sizeof modes / sizeof modes[0]; i++) {
+        if (strcmp(modes[i].name, argv[2]) != 0) continue;
+        modes[i].run();
+        if (argc > 3 && freopen(argv[3], "w", stdout) == NULL) return 2;
+        return check_end();
+    }
+    return 2;
+}

@@ -1,0 +1,134 @@
+/* What a thread has in a tracer. `tracer_seat FOLDER steps`: a signal's handler comes after each of the first instructions of a record, and begins a path of its own or ends it. The thread isn't in
+ * the tracer there, so its record is made all the same; this needs a processor that traps after each instruction. `tracer_seat FOLDER tokens`, over a library that has so many numbers for threads as
+ * TOKENS says: threads after these are refused, and counted. The last line counts the checks. */
+#define _GNU_SOURCE
+#include "dspec_tracer.h"
+
+#include "check.h"
+
+#include <pthread.h>
+#include <signal.h>
+#include <ucontext.h>
+
+#ifndef TOKENS
+#define TOKENS 1000
+#endif
+
+DSPEC_PROBE(query, uint64_t, request, uint32_t, step);
+DSPEC_PROBE(tick, uint64_t, number);
+
+enum { MOST = 300 };
+/* What the handler does with its path. */
+typedef enum deed { BEGINS, ENDS, BEGINS_AND_ENDS } deed;
+
+static dspec_tracer tracer;
+static dspec_path handlers; /* the handler's path */
+static deed due;
+static int at, wanted; /* instructions: how many there were, and after which one the handler acts */
+static bool was_refused;
+
+/* From here on, or no longer, the processor traps after each instruction. */
+static inline void step(bool is_on) {
+#if defined(__x86_64__)
+    if (is_on) __asm__ volatile("pushfq\n\torq $0x100, (%%rsp)\n\tpopfq" ::: "memory", "cc");
+    else __asm__ volatile("pushfq\n\tandq $~0x100, (%%rsp)\n\tpopfq" ::: "memory", "cc");
+#else
+    (void)is_on;
+#endif
+}
+
+static void no_more_steps(ucontext_t *context) {
+#if defined(__x86_64__)
+    context->uc_mcontext.gregs[REG_EFL] &= ~0x100;
+#else
+    (void)context;
+#endif
+}
+
+static void on_step(int signal, siginfo_t *info, void *context) {
+    (void)signal, (void)info;
+    if (++at != wanted) return;
+    no_more_steps(context);
+    if (due != ENDS) was_refused = query_in(&handlers, 1, 0) != DSPEC_OK;
+    if (due != BEGINS) was_refused = !dspec_path_drop(&handlers);
+}
+
+/* A record in a path that begins with it, or in none. */
+static dspec_status records(bool in_path) {
+    dspec_path path = dspec_path_begin(&tracer);
+    dspec_status status;
+    at = 0;
+    step(true);
+    status = in_path ? query_in(&path, 2, 0) : tick_now(&tracer, 3);
+    step(false);
+    if (in_path) dspec_path_drop(&path);
+    return status;
+}
+
+/* The handler comes after each instruction in turn, until it finds the thread in the tracer: how often it came before that. */
+static int comes_anywhere(bool in_path, deed what) {
+    int count = 0;
+    for (due = what, wanted = 1; wanted < MOST; wanted++, count++) {
+        dspec_status status;
+        handlers = dspec_path_begin(&tracer);
+        if (what == ENDS) query_in(&handlers, 1, 0);
+        was_refused = false;
+        status = records(in_path);
+        if (!CHECK(was_refused || at < wanted || status == DSPEC_OK)) printf("after instruction %d (in a path: %d, deed %d): %s\n", wanted, in_path, what, dspec_status_text(status));
+        dspec_path_drop(&handlers);
+        if (was_refused || at < wanted) break;
+    }
+    return count;
+}
+
+static void steps(void) {
+#if defined(__x86_64__)
+    struct sigaction action = { .sa_flags = SA_SIGINFO };
+    action.sa_sigaction = on_step;
+    sigaction(SIGTRAP, &action, NULL);
+    tick_now(&tracer, 0);
+    for (int in_path = 0; in_path < 2; in_path++)
+        for (int what = BEGINS; what <= BEGINS_AND_ENDS; what++) CHECK(comes_anywhere(in_path, (deed)what) > 10);
+#else
+    printf("left out: how this processor traps after an instruction isn't known here\n");
+    CHECK(true);
+#endif
+}
+
+/* A thread's record in no path, and a path of it: whether both are made. */
+static void *records_both(void *made) {
+    dspec_path path = dspec_path_begin(&tracer);
+    const bool is_out = tick_now(&tracer, 1) == DSPEC_OK, is_in = query_in(&path, 1, 0) == DSPEC_OK, is_kept = dspec_path_keep(&path);
+    if (CHECK(is_out == is_in && is_in == is_kept)) *(bool *)made = is_out;
+    return NULL;
+}
+
+enum { REFUSED = 3 };
+
+/* One thread after another. */
+static void gives_tokens(void) {
+    for (int number = 1; number <= TOKENS + REFUSED; number++) {
+        pthread_t thread;
+        bool made = false;
+        if (!CHECK(pthread_create(&thread, NULL, records_both, &made) == 0)) return;
+        pthread_join(thread, NULL);
+        if (!CHECK(made == (number <= TOKENS))) printf("thread %d: made %d\n", number, made);
+    }
+}
+
+int main(int words, char **word) {
+    const dspec_tracer_options options = { .lanes = 2, .period_ms = 100000 };
+    dspec_tracer_report report;
+    bool is_tokens;
+    if (words != 3) return 2;
+    is_tokens = strcmp(word[2], "tokens") == 0;
+    if (!dspec_tracer_start(&tracer, word[1], &options, DSPEC_PROBES(query, tick))) {
+        printf("%s\n0 passed, 1 failed\n", tracer.why);
+        return 1;
+    }
+    if (is_tokens) gives_tokens();
+    else steps();
+    CHECK(dspec_tracer_stop(&tracer, &report));
+    if (is_tokens) CHECK(report.kept == TOKENS && report.refused_records == 2 * REFUSED && report.threads == TOKENS);
+    return check_end();
+}

@@ -1,0 +1,166 @@
+/* salvage_folder.c: the traces that a salvage writes: of what was kept, and of the paths that were open. */
+#include "salvage.h"
+
+#include <dirent.h>
+#include <errno.h>
+#include <fcntl.h>
+#include <unistd.h>
+
+/* ---- Its events. ---- */
+
+static void name_fields(const saved_file *of, dspec_names *names, uint32_t at) {
+    const saved_event *event = &of->head->events[at];
+    uint32_t named = 0;
+    for (uint32_t i = 0; i < event->words; i++) {
+        if (event->kinds[i] == DSPEC_KIND_TEXT_NEXT) {
+            dspec_names_kind(names, DSPEC_KIND_TEXT_NEXT);
+            continue;
+        }
+        dspec_names_field(names, event->fields[named], event->kinds[i]);
+        dspec_names_labels(names, &of->labels[at * DSPEC_MAX_FIELDS + named++]);
+    }
+}
+
+static void name_events(writing *to, const saved_file *of, const char *prefix) {
+    for (uint32_t i = 0; i < of->head->events_count; i++) {
+        snprintf(to->texts[i], sizeof to->texts[i], "%s%.200s", prefix, of->head->events[i].name);
+        dspec_names_event(&to->names, to->texts[i]);
+        name_fields(of, &to->names, i);
+    }
+}
+
+/* The event that tells of an open path, where the schema has room for one more. */
+static void enable_path(writing *to) {
+    static const uint8_t widths[] = { 4, 4, 4 };
+    if (dspec_layout_enable(&to->layout, &to->schema, widths, 3, &to->epid_of_path) != DSPEC_OK) return;
+    dspec_names_event(&to->names, "undecided_path");
+    dspec_names_field(&to->names, "dspec_path", DSPEC_KIND_UNSIGNED);
+    dspec_names_field(&to->names, "lane", DSPEC_KIND_UNSIGNED);
+    dspec_names_field(&to->names, "records", DSPEC_KIND_UNSIGNED);
+}
+
+/* ---- Its beginning. ---- */
+
+/* The run's identity with a number of its own. */
+static bool identify_as(dspec_identity *identity, const saved_head *head) {
+    char host[DSPEC_HOST_SIZE];
+    dspec_identity own;
+    if (!dspec_identity_of_system(&own, "dspec", host)) return false;
+    *identity = (dspec_identity){ .pid = head->pid, .hertz = head->hertz, .seconds = head->seconds, .ticks = head->ticks, .host = { head->host, strlen(head->host) },
+                                  .name = { head->program, strlen(head->program) } };
+    memcpy(identity->uuid, own.uuid, sizeof own.uuid);
+    return true;
+}
+
+const char *writing_begin(writing *to, const saved_file *of, const char *folder, bool is_open) {
+    char path[4200];
+    dspec_identity identity;
+    dspec_status status = saved_file_enable(of, &to->schema, &to->layout);
+    to->name = is_open ? "undecided" : "kept";
+    if (status != DSPEC_OK) return dspec_status_text(status);
+    if (!identify_as(&identity, of->head)) return strerror(errno);
+    name_events(to, of, is_open ? "undecided_" : "");
+    if (is_open) enable_path(to);
+    snprintf(path, sizeof path, "%.4000s/%s", folder, to->name);
+    to->is_begun = dspec_folder_begin(&to->folder, path, &to->schema, of->head->lanes + 1, &identity, &to->names);
+    return to->is_begun ? NULL : dspec_folder_why(&to->folder);
+}
+
+/* ---- Its records. ---- */
+
+void writing_kept(writing *to, found_batch *one, uint64_t without) {
+    const dspec_batch all = one->batch;
+    size_t at = 0;
+    if (without > 0) {
+        dspec_folder_skips_(&to->layout, &all, &at, without);
+        if (at == all.len) return;
+        dspec_folder_part_of_(&to->folder, &to->layout, &all, &at, UINT64_MAX, &one->batch);
+        if (one->batch.bytes == NULL) {
+            dspec_folder_loses_(&to->folder, DSPEC_NO_MEMORY, 0, all.cpu, 0, one->records - without);
+            return;
+        }
+    }
+    dspec_folder_take(&to->folder, &to->layout, &one->batch); /* what it loses is told at its end */
+}
+
+static void put_number(uint8_t *at, uint64_t number, size_t width) {
+    for (size_t i = 0; i < width; i++) at[i] = (uint8_t)(number >> 8 * i);
+}
+
+/* A batch of the path's event, with the stamp and the path's number of its first record, and its records; NULL: no memory. The event has a multiple of 8 bytes, so that they are as they were. */
+static uint8_t *with_event(const writing *to, const found_batch *one) {
+    enum { EVENT_BYTES = 24 };
+    dspec_record first;
+    size_t at = 0;
+    uint8_t *bytes = malloc(EVENT_BYTES + one->batch.len);
+    if (bytes == NULL || dspec_read(&to->layout, one->batch.bytes, one->batch.len, &at, &first) != DSPEC_READ) {
+        free(bytes);
+        return NULL;
+    }
+    put_number(bytes, to->epid_of_path, 4);
+    put_number(bytes + 4, first.stamp, 8);
+    put_number(bytes + 12, first.values[0], 4);
+    put_number(bytes + 16, one->batch.cpu, 4);
+    put_number(bytes + 20, one->records, 4);
+    memcpy(bytes + EVENT_BYTES, one->batch.bytes, one->batch.len);
+    return bytes;
+}
+
+bool writing_path(writing *to, const found_batch *one) {
+    dspec_batch all = one->batch;
+    uint8_t *bytes = NULL;
+    if (to->epid_of_path != 0) {
+        bytes = with_event(to, one);
+        if (bytes == NULL) return false;
+        all.bytes = bytes;
+        all.len += 24;
+    }
+    to->path_events += to->epid_of_path != 0;
+    dspec_folder_take(&to->folder, &to->layout, &all);
+    free(bytes);
+    return true;
+}
+
+/* ---- Its end. ---- */
+
+/* Has what a descriptor has on the disk, and closes it: 0 or the errno. Some file systems can't, and have nothing to do. */
+static int sync_closing(int file) {
+    const int code = file < 0 || fsync(file) == 0 || errno == EINVAL || errno == EROFS ? 0 : errno;
+    if (file >= 0) close(file);
+    return code;
+}
+
+static int sync_files(const char *path) {
+    DIR *names = opendir(path);
+    int code = names == NULL ? errno : 0;
+    for (struct dirent *one; names != NULL && code == 0 && (one = readdir(names)) != NULL;)
+        if (one->d_name[0] != '.') code = sync_closing(openat(dirfd(names), one->d_name, O_RDONLY | O_NOFOLLOW | O_NONBLOCK | O_CLOEXEC));
+    if (names != NULL) closedir(names);
+    return code;
+}
+
+/* The trace's files, its folder, and the names of both. */
+static int sync_all(const char *folder, const char *name) {
+    static const char *const ends[] = { "", "/.", "/.." };
+    char path[4200];
+    int code;
+    snprintf(path, sizeof path, "%.4000s/%s", folder, name);
+    code = sync_files(path);
+    for (size_t i = 0; code == 0 && i < sizeof ends / sizeof ends[0]; i++) {
+        if (i > 0) snprintf(path, sizeof path, "%.4000s%s", folder, ends[i]);
+        code = sync_closing(open(path, O_RDONLY | O_DIRECTORY | O_CLOEXEC));
+    }
+    return code;
+}
+
+const char *writing_end(writing *to, const char *folder, uint64_t *records, uint64_t *lost) {
+    const bool is_whole = !to->is_begun || dspec_folder_end(&to->folder);
+    const dspec_loss *first = &to->folder.first;
+    int code = 0;
+    *records = to->is_begun ? to->folder.parts[0].records - to->path_events : 0;
+    *lost = to->is_begun ? first->records : 0;
+    dspec_schema_drop(&to->schema);
+    if (!is_whole) return first->code != 0 ? strerror(first->code) : dspec_status_text(first->status);
+    if (to->is_begun) code = sync_all(folder, to->name);
+    return code == 0 ? NULL : strerror(code);
+}
