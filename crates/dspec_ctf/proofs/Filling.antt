@@ -36,7 +36,7 @@ module _ (timed : Bool) (e : EnabledRows) where
   abbrev pub Fits : List Record → Type 0
   Fits rs = All (Accepts e) rs × (front_by timed + length (events e rs) ≤ filled_size)
 
-  events-push : (held : List Record) (r : Record) → length (events e (held ++ r ∷ [])) ≡ length (events e held) + length (event e r)
+  pub events-push : (held : List Record) (r : Record) → length (events e (held ++ r ∷ [])) ≡ length (events e held) + length (event e r)
   events-push held r = ap length (events-more e held r) ∙ length-append (events e held) (event e r)
 
   one-fits : (r : Record) → Accepts e r → Fits (r ∷ [])

@@ -8,5 +8,6 @@ mod Spreading
 mod Rising
 mod Texts
 pub mod Filling
+mod FillingRoom
 mod Sample
 mod InMemory

@@ -1,9 +1,19 @@
 -- What files have whose records went to them one after another.
-use Rattle.std.proofs.Common.{◌≡◌, ◌<◌, ◌≤◌, ◌==◌, inl, inr, ℕ, zero, suc, Bool, true, false, cond, List, [], ◌∷◌, length, get_or, map, refl, ap, sym, subst, arith, All}
-use Rattle.std.proofs.lemmas.{Bool.eqb-true, Bool.eqb-false, Bool.Decides.nat_tests, List.length-set, List.get_or-set_same, List.get_or-set_other, List.get_or_push, List.get_or_append_left}
-use Rattle.std.proofs.lemmas.{List.length_push, List.Elements.All-nil, List.Elements.All-cons, List.Elements.All-get_or, List.Elements.All-weaker, List.Sorted.IsNonDecreasingBy-short}
-use Rattle.std.specs.{List.Sorted.IsNonDecreasingBy, Prelude.slice_index, Prelude.filter, Prelude.zip}
+use Rattle.std.proofs.Common.{◌≡◌, ◌<◌, ◌≤◌, ◌+◌, ◌++◌, ◌==◌, take, inl, inr, ℕ, zero, suc, Bool, true, false, cond, List, [], ◌∷◌, length, get_or, map, refl, ap, sym, subst, arith, All}
+use Rattle.std.proofs.Math.Seq.{take-set-lt}
+use Rattle.std.proofs.lemmas.Bool.{eqb-true, eqb-false, Decides.nat_tests}
+use Rattle.std.proofs.lemmas.List.{length-set, get_or-set_same, get_or-set_other, get_or_push, get_or_append_left, length_push, take_more_set, Elements.All-nil, Elements.All-cons}
+use Rattle.std.proofs.lemmas.List.{Elements.All-get_or, Elements.All-weaker, Sorted.IsNonDecreasingBy-short}
+use Rattle.std.specs.{List.Sorted.IsNonDecreasingBy, Prelude.slice_set, Prelude.slice_index, Prelude.filter, Prelude.zip}
 use Rattle.dspec_ctf.specs.Words.{Record, GoesToFile, Spreads, of_file}
+
+-- of the places that are counted, one has another stamp
+pub stamped : (lasts : List ℕ) (count file stamp : ℕ) → file < count → take count (slice_set lasts file stamp) ≡ slice_set (take count lasts) file stamp
+stamped lasts count file stamp there = take-set-lt count lasts file stamp there
+
+-- or one more is counted
+pub stamped_next : (lasts : List ℕ) (count stamp : ℕ) → count < length lasts → take (count + 1) (slice_set lasts count stamp) ≡ take count lasts ++ stamp ∷ []
+stamped_next lasts count stamp there = take_more_set lasts count stamp there
 
 -- the file that a record goes to has its stamp
 pub goes-here : (lasts mid : List ℕ) (stamp file : ℕ) → GoesToFile lasts stamp file mid → (file < length mid) × (slice_index mid file ≡ stamp)

@@ -1,8 +1,8 @@
 -- How many bytes events have at most.
-use Rattle.std.proofs.Common.{◌≡◌, ◌≤◌, ◌*◌, ℕ, zero, suc, List, [], ◌∷◌, length, refl, ap, arith}
+use Rattle.std.proofs.Common.{◌≡◌, ◌≤◌, ◌*◌, ℕ, zero, suc, List, [], ◌∷◌, length, Option, Some, None, refl, ap, arith}
 use Rattle.std.proofs.lemmas.Bool.Decides.{nat_tests}
 use Rattle.std.specs.Int.{bytes_low_first}
-use Rattle.dspec_ctf.specs.Words.{Record, width, little_endian, EnabledRows, stamp_bytes, values_bytes, event, Field, One, Two, Four, Eight, Header}
+use Rattle.dspec_ctf.specs.Words.{Record, width, little_endian, EnabledRows, stamp_bytes, values_bytes, event, front_size, Field, One, Two, Four, Eight, Header}
 use Rattle.dspec_record.specs.declared.header.Header.TheVariants as header
 
 low-first : (i n x : ℕ) → length (bytes_low_first i n x) ≡ n
@@ -12,7 +12,7 @@ low-first i (suc n) x = ap suc (low-first (suc i) n x)
 pub length-little : (n x : ℕ) → length (little_endian n x) ≡ n
 length-little n x = low-first 0 n x
 
-narrow : (f : Field) → width f ≤ 8
+pub narrow : (f : Field) → width f ≤ 8
 narrow One = omega arith
 narrow Two = omega arith
 narrow Four = omega arith
@@ -29,3 +29,8 @@ values-small (f ∷ fs) (v ∷ vs) = grind (arith, nat_tests, values-small fs vs
 
 pub event_small : (e : EnabledRows) (r : Record) → length r.values ≤ 8 → length (event e r) ≤ 76
 event_small e r few = grind (arith, nat_tests, length-little, stamp-small, values-small)
+
+-- and what stands before the events of a packet at least
+pub front_least : (span : Option (ℕ × ℕ)) → 52 ≤ front_size span
+front_least None = omega arith
+front_least (Some span) = omega arith

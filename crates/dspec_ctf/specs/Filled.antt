@@ -1,12 +1,29 @@
 -- Cited by calls. The packets of files that are written while a session runs. Each has 1,024 bytes: a write that is cut off where a page of the
 -- file ends leaves whole packets.
 use Rattle.std.specs.List.{flat_map}
-use Rattle.std.specs.Prelude.{ℕ, ◌≡◌, ◌+◌, ◌-◌, Bool, true, false, nat_le, List, [], ◌∷◌, ◌++◌, length, replicate, Option, Some, None, if◌then◌else◌}
+use Rattle.std.specs.Prelude.{ℕ, ◌≡◌, ◌<◌, ◌⊎◌, vec_capacity, vec_len, ◌+◌, ◌-◌, Bool, true, false, nat_le, List, [], ◌∷◌, ◌++◌, length, replicate, Option, Some, None, if◌then◌else◌}
+use Rattle.std.specs.declared.vec.Vec.{Vec}
 use Rattle.dspec_ctf.specs.{ByTime.span_of, Packets.event, Packets.events, Packets.front_bytes, Packets.front_size, Streams.IsText, Words.Outside.Record, Words.Outside.EnabledRows}
 
 -- how many bytes each of these packets has
 abbrev pub filled_size : ℕ
 filled_size = 1024
+
+-- the most bytes of events while such a packet is made: what it has room for, with one event more
+abbrev pub most_body : ℕ
+most_body = 1048
+
+-- there is no room for so many bytes of packets, or none for the events of one packet
+abbrev pub LacksBytes : ℕ → ℕ → ℕ → Type 0
+LacksBytes bytes body needed = (bytes < needed) ⊎ (body < most_body)
+
+-- so it is of packets that are made anew
+abbrev pub LacksRoomAnew : {Z : Type 0} → Vec ℕ Z → Vec ℕ Z → List ℕ → Type 0
+LacksRoomAnew out body packets = LacksBytes (vec_capacity out) (vec_capacity body) (length packets)
+
+-- so it is of packets after what is there
+abbrev pub LacksRoomAfter : {Z : Type 0} → Vec ℕ Z → Vec ℕ Z → List ℕ → Type 0
+LacksRoomAfter out body packets = LacksBytes (vec_capacity out) (vec_capacity body) (vec_len out + length packets)
 
 -- a packet of that size around the bytes of its events, with zeros behind them
 unfoldable pub filled_around : List ℕ → Option (ℕ × ℕ) → ℕ → ℕ → List ℕ → List ℕ

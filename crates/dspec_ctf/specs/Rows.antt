@@ -1,8 +1,8 @@
 -- Cited by calls. A CPU's files in a trace by time that is written while it runs: which file each record goes to. What is known of a
 -- CPU's files is a list: of each, by its number, the stamp of its last event.
-use Rattle.std.specs.Prelude.{true, ◌≡◌, ◌≢◌, ◌<◌, ◌≤◌, ◌-◌, ◌/◌, ◌==◌, ◌⊎◌, ℕ, List, [], ◌∷◌, ◌++◌, Option, Some, None, length, map, replicate, slice_get, slice_index, slice_range, slice_set}
-use Rattle.std.specs.Prelude.{filter, zip, if◌then◌else◌}
-use Rattle.dspec_ctf.specs.{Filled.filled_around, Filled.filled_packets, Streams.HasNoRecords, Words.Outside.Record, Words.Outside.EnabledRows, declared.rows.Run.Run}
+use Rattle.std.specs.Prelude.{true, ◌≡◌, ◌≢◌, ◌<◌, ◌≤◌, ◌+◌, ◌-◌, ◌*◌, ◌/◌, ◌==◌, ◌⊎◌, ℕ, List, [], ◌∷◌, ◌++◌, Option, Some, None, length, map, replicate, slice_get, slice_index, slice_range}
+use Rattle.std.specs.Prelude.{slice_set, filter, zip, if◌then◌else◌}
+use Rattle.dspec_ctf.specs.{Filled.filled_around, Filled.filled_packets, Filled.filled_size, Streams.HasNoRecords, Words.Outside.Record, Words.Outside.EnabledRows, declared.rows.Run.Run}
 use Rattle.dspec_ctf.specs.{declared.stream.PacketFault.PacketFault, declared.stream.PacketFault.TheVariants.Text, declared.stream.PacketFault.TheVariants.Missed}
 use Rattle.dspec_ctf.specs.{declared.stream.PacketFault.TheVariants.TooLong, declared.stream.PacketFault.TheVariants.Clock, declared.stream.PacketFault.TheVariants.Memory}
 
@@ -57,13 +57,13 @@ abbrev pub IsNextRun : List ℕ → List Record → ℕ → Option Run → List 
 IsNextRun lasts rs place (Some run) new = IsFileRun lasts rs place run new
 IsNextRun lasts rs place None new = (length rs ≤ place) × (new ≡ lasts)
 
--- why there is no run of these records from this place on: the one at this place goes nowhere
+-- why there is no run of these records from this place on: the one at this place goes nowhere. No memory is taken.
 abbrev pub HasNoRun : List ℕ → List Record → ℕ → PacketFault → Type 0
 HasNoRun lasts rs place (Clock number) = (number ≡ place) × ((r : Record) × ((slice_get rs place ≡ Some r) × GoesNowhere lasts r.stamp))
 HasNoRun lasts rs place (Text fault) = ⊥
 HasNoRun lasts rs place Missed = ⊥
 HasNoRun lasts rs place TooLong = ⊥
-HasNoRun lasts rs place Memory = Unit
+HasNoRun lasts rs place Memory = ⊥
 
 -- these are the runs of these records from one place to another, each behind the one before it
 abbrev pub AreRuns : List ℕ → List Record → ℕ → List Run → ℕ → List ℕ → Type 0
@@ -97,6 +97,11 @@ module _ (uuid : List ℕ) (e : EnabledRows) (missed cpu : ℕ) where
 -- the most records that a text of so many bytes has, where each has a stamp: then it has 12 bytes at least
 abbrev pub most_records : ℕ → ℕ
 most_records size = size / 12
+
+-- The most bytes of the packets of one run, or of what tells what was missed, where a text has so many bytes: no event is longer than its record's text,
+-- and each packet but the last has 881 bytes of events or more, since with 76 bytes more, the most of an event, it would be full.
+abbrev pub most_bytes : ℕ → ℕ
+most_bytes size = (size / 881 + 2) * filled_size
 
 -- why the records of a text aren't in a list that has room for so many: it isn't one, or may have more, and memory was wanting
 abbrev pub HasNoRoomFor : EnabledRows → List ℕ → ℕ → PacketFault → Type 0

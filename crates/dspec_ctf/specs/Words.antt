@@ -3,12 +3,12 @@ pub mod Outside
 unfoldable pub use Outside.*
 pub use Rattle.dspec_ctf.specs.ByTime.{ArePacketsOfRecords, AreTexts, IsAdded, packet_count, span_of, timed_packet}
 unfoldable pub use Rattle.dspec_ctf.specs.ByTime.{packet_at, part_at, timed_packets}
-pub use Rattle.dspec_ctf.specs.Filled.{AreFilledOf, filled_size, front_by, portions, portions_from, span_by, takes_another}
+pub use Rattle.dspec_ctf.specs.Filled.{AreFilledOf, filled_size, front_by, LacksBytes, portions, portions_from, span_by, takes_another}
 unfoldable pub use Rattle.dspec_ctf.specs.Filled.{filled_around, filled_packet, filled_packets}
-pub use Rattle.dspec_ctf.specs.InMemory.Batches.{HaveAllLeft, parts_of, PutsPackets}
-pub use Rattle.dspec_ctf.specs.InMemory.Calls.{as_written, FindsAndHands, Hands, HandsMissed, HandsNone, HasAsMuchRoom, HasNoBatch, IsAllHanded, IsFoundRun, OpensBatch, Reserves, with_more_missed}
-pub use Rattle.dspec_ctf.specs.InMemory.Calls.{without_rest}
-pub use Rattle.dspec_ctf.specs.InMemory.Filing.{CpuFiling, no_packets, unwritten}
+pub use Rattle.dspec_ctf.specs.InMemory.Batches.{HaveAllLeft, OpensWithoutMemory, parts_of, PutsPackets, PutsWithoutMemory}
+pub use Rattle.dspec_ctf.specs.InMemory.Calls.{as_written, FindsAlone, FindsAndHands, FindsNone, Hands, HandsMissed, HandsNone, HasAsMuchRoom, HasNoBatch, HasNoRunPacket, HasRoomFor, IsAllHanded}
+pub use Rattle.dspec_ctf.specs.InMemory.Calls.{IsFoundRun, OpensBatch, Reserves, run_bytes, with_more_missed, without_rest}
+pub use Rattle.dspec_ctf.specs.InMemory.Filing.{CpuFiling, FilingRoom, no_packets, unwritten}
 pub use Rattle.dspec_ctf.specs.InMemory.Naming.{AreEvents, HasNoEvents, kind_number, kinds_in, PutsMetadata, PutsNone, texts_in}
 pub use Rattle.dspec_ctf.specs.Laws.{AreFiled, HaveAllBetween}
 pub use Rattle.dspec_ctf.specs.Metadata.{clock_text, clock_uuid, environment_text, field_line, given_lines, kind_line, kind_type, label_item, metadata_text, next_in_front, numbered_lines}
@@ -21,5 +21,6 @@ unfoldable pub use Rattle.dspec_ctf.specs.Names.{is_letter, is_word_byte, label_
 unfoldable pub use Rattle.dspec_ctf.specs.Names.{text_fault_at, texts_fault, unfit}
 pub use Rattle.dspec_ctf.specs.Packets.{event, event_fields, events, front_size, packet, packet as packet_of, packet_around, span_bytes, stamp_bytes, values_bytes}
 unfoldable pub use Rattle.dspec_ctf.specs.Packets.{context_bytes, front_bytes, header_bytes}
-pub use Rattle.dspec_ctf.specs.Rows.{AreRuns, GoesToFile, HasNoRun, IsFileRun, IsFoundOf, missed_packets, most_records, of_file, run_files, run_packet, run_packets, run_records, Spreads, told_by}
+pub use Rattle.dspec_ctf.specs.Rows.{AreRuns, GoesToFile, HasNoRun, IsFileRun, IsFoundOf, missed_packets, most_bytes, most_records, of_file, run_files, run_packet, run_packets, run_records, Spreads}
+pub use Rattle.dspec_ctf.specs.Rows.{told_by}
 pub use Rattle.dspec_ctf.specs.Streams.{Accepts, HasNoPacket, HasNoRecordPacket, HasNoRecords, IsText, IsTooLong}

@@ -3,9 +3,9 @@
 //! Linux copies a page of a write whole, and looks for a kill between two pages alone. A packet of these lies in one page of its file, so it is there or not;
 //! and what is left of a write of several that was cut off between two pages is whole packets.
 
-ghost use Rattle.std.specs.Prelude.{◌≡◌, ◌+◌, ◌≤◌, ◌++◌, [], IfErr, IfOk, OnErr, OnOk, length, replicate};
-ghost use Rattle.dspec_ctf.specs.{Filled.AreFilledOf, Filled.filled_around, Filled.filled_packet, Filled.filled_packets, Filled.filled_size, Filled.front_by, Filled.span_by, Packets.events};
-ghost use Rattle.dspec_ctf.specs.{Packets.front_size, Streams.HasNoPacket};
+ghost use Rattle.std.specs.Prelude.{◌≡◌, ◌+◌, ◌<◌, ◌≤◌, ◌++◌, [], IfErr, IfOk, OnErr, OnOk, length, replicate, vec_capacity, vec_len};
+ghost use Rattle.dspec_ctf.specs.{Filled.AreFilledOf, Filled.filled_around, Filled.filled_packet, Filled.filled_packets, Filled.filled_size, Filled.front_by, Filled.LacksRoomAfter, Filled.span_by};
+ghost use Rattle.dspec_ctf.specs.{Packets.events, Packets.front_size, Streams.HasNoPacket};
 
 use crate::by_time::span_of;
 use crate::packet::{Sizes, front_size, put_event, put_front};
@@ -21,7 +21,10 @@ pub const PACKET_SIZE: usize = 1024;
 #[tactic(auto, using(crate::proofs::Filling::zeros_of))]
 fn put_zeros(out: &mut Vec<u8>, count: usize) -> Result<(), AllocError>
     requires { count ≤ filled_size }
-    ensures { OnOk result (out.new.items ≡ out.old.items ++ replicate count 0) }
+    ensures bytes { OnOk result (out.new.items ≡ out.old.items ++ replicate count 0) }
+    ensures full { OnErr result (vec_capacity out.old < vec_len out.old + count) }
+    ensures long { OnOk result (vec_len out.new ≡ vec_len out.old + count) }
+    ensures capacity { vec_capacity out.old ≤ vec_capacity out.new }
 {
     out.extend_from_slice(&[0; PACKET_SIZE][..count])
 }
@@ -35,8 +38,11 @@ pub(crate) fn put_filled_around(
     body: &[u8],
 ) -> Result<(), AllocError>
     requires fits { front_size span + length body.now ≤ filled_size }
-    ensures { OnOk result (out.new.items ≡ out.old.items
+    ensures bytes { OnOk result (out.new.items ≡ out.old.items
         ++ filled_around stream.now.uuid span stream.now.missed stream.now.cpu body.now) }
+    ensures full { OnErr result (vec_capacity out.old < vec_len out.old + filled_size) }
+    ensures long { OnOk result (vec_len out.new ≡ vec_len out.old + filled_size) }
+    ensures capacity { vec_capacity out.old ≤ vec_capacity out.new }
 {
     let content = front_size(span) as usize + body.len();
     let sizes = Sizes {
@@ -74,8 +80,10 @@ fn put_packet(
 ) -> Result<(), AllocError>
     requires body { body.now ≡ events stream.now.enablings.now recs.now }
     requires fits { front_by timed + length body.now ≤ filled_size }
-    ensures { OnOk result (out.new.items ≡ out.old.items
+    ensures bytes { OnOk result (out.new.items ≡ out.old.items
         ++ filled_packet timed stream.now.enablings.now stream.now.uuid stream.now.missed stream.now.cpu recs.now) }
+    ensures full { OnErr result (vec_capacity out.old < vec_len out.old + filled_size) }
+    ensures capacity { vec_capacity out.old ≤ vec_capacity out.new }
 {
     put_filled_around(out, stream, span_by(timed, recs), body)
 }
@@ -91,8 +99,12 @@ pub(crate) fn put_filled(
     recs: &[Rec],
 ) -> Result<(), AllocError>
     requires { body.old.items ≡ [] }
-    ensures { OnOk result (out.new.items ≡ out.old.items
+    ensures bytes { OnOk result (out.new.items ≡ out.old.items
         ++ filled_packets timed stream.now.enablings.now stream.now.uuid stream.now.missed stream.now.cpu recs.now) }
+    ensures full { OnErr result (LacksRoomAfter out.old body.old
+        (filled_packets timed stream.now.enablings.now stream.now.uuid stream.now.missed stream.now.cpu recs.now)) }
+    ensures capacity { vec_capacity out.old ≤ vec_capacity out.new }
+    ensures body { vec_capacity body.old ≤ vec_capacity body.new }
 {
     let front = front_by(timed);
     let mut from = 0;

@@ -1,4 +1,4 @@
-ghost use Rattle.std.specs.Prelude.{◌≡◌, ◌<◌, ◌≤◌, ◌++◌, ◌*◌, ◌+◌, ◌^◌, length, IfOk, OnOk};
+ghost use Rattle.std.specs.Prelude.{◌≡◌, ◌<◌, ◌≤◌, ◌++◌, ◌*◌, ◌+◌, ◌^◌, length, IfOk, OnErr, OnOk, vec_capacity, vec_len};
 ghost use Rattle.dspec_record.specs.{Layout.width, RecordText.little_endian};
 ghost use Rattle.dspec_ctf.specs.Packets.{stamp_bytes, values_bytes, event, events, event_fields, header_bytes, span_bytes, front_size, context_bytes, front_bytes, packet_around};
 
@@ -8,7 +8,10 @@ use std::alloc::{AllocError, Global};
 
 /// Adds a number in as many bytes as the field has, the lowest first.
 fn put_number(out: &mut Vec<u8>, field: Field, value: u64) -> Result<(), AllocError>
-    ensures { OnOk result (out.new.items ≡ out.old.items ++ little_endian (width field) value) }
+    ensures bytes { OnOk result (out.new.items ≡ out.old.items ++ little_endian (width field) value) }
+    ensures full { OnErr result (vec_capacity out.old < vec_len out.old + width field) }
+    ensures long { OnOk result (vec_len out.new ≡ vec_len out.old + width field) }
+    ensures capacity { vec_capacity out.old ≤ vec_capacity out.new }
 {
     let bytes = value.to_le_bytes();
     match field {
@@ -21,7 +24,10 @@ fn put_number(out: &mut Vec<u8>, field: Field, value: u64) -> Result<(), AllocEr
 
 /// Adds the stamp, where records have one.
 fn put_stamp(out: &mut Vec<u8>, header: Header, stamp: u64) -> Result<(), AllocError>
-    ensures { OnOk result (out.new.items ≡ out.old.items ++ stamp_bytes header stamp) }
+    ensures bytes { OnOk result (out.new.items ≡ out.old.items ++ stamp_bytes header stamp) }
+    ensures full { OnErr result (vec_capacity out.old < vec_len out.old + 8) }
+    ensures long { OnOk result (vec_len out.new ≤ vec_len out.old + 8) }
+    ensures capacity { vec_capacity out.old ≤ vec_capacity out.new }
 {
     match header {
         Header::One => Ok(()),
@@ -31,7 +37,10 @@ fn put_stamp(out: &mut Vec<u8>, header: Header, stamp: u64) -> Result<(), AllocE
 
 /// Adds each value in as many bytes as its field has.
 fn put_values(out: &mut Vec<u8>, fields: &[Field], values: &[u64]) -> Result<(), AllocError>
-    ensures { OnOk result (out.new.items ≡ out.old.items ++ values_bytes fields.now values.now) }
+    ensures bytes { OnOk result (out.new.items ≡ out.old.items ++ values_bytes fields.now values.now) }
+    ensures full { OnErr result (vec_capacity out.old < vec_len out.old + 8 * length values.now) }
+    ensures long { OnOk result (vec_len out.new ≤ vec_len out.old + 8 * length values.now) }
+    ensures capacity { vec_capacity out.old ≤ vec_capacity out.new }
 {
     for (field, value) in fields.iter().zip(values) {
         put_number(out, *field, *value)?;
@@ -48,6 +57,8 @@ pub(crate) fn put_event(
 ) -> Result<(), AllocError>
     ensures bytes { OnOk result (out.new.items ≡ out.old.items ++ event enablings.now rec.now) }
     ensures small { length (event enablings.now rec.now) ≤ 76 }
+    ensures full { OnErr result (vec_capacity out.old < vec_len out.old + 76) }
+    ensures capacity { vec_capacity out.old ≤ vec_capacity out.new }
 {
     let values = rec.values();
     put_number(out, Field::Four, u64::from(rec.epid()))?;
@@ -105,7 +116,10 @@ pub(crate) fn front_size(span: Option<(u64, u64)>) -> u64
 /// Adds what stands at the front of each packet of the trace with this uuid.
 #[tactic(auto, unfolding(crate::specs::Packets::header_bytes))]
 fn put_header(out: &mut Vec<u8>, uuid: &[u8; 16]) -> Result<(), AllocError>
-    ensures { OnOk result (out.new.items ≡ out.old.items ++ header_bytes uuid.now) }
+    ensures bytes { OnOk result (out.new.items ≡ out.old.items ++ header_bytes uuid.now) }
+    ensures full { OnErr result (vec_capacity out.old < vec_len out.old + 24) }
+    ensures long { OnOk result (vec_len out.new ≡ vec_len out.old + 24) }
+    ensures capacity { vec_capacity out.old ≤ vec_capacity out.new }
 {
     put_number(out, Field::Four, MAGIC)?;
     out.extend_from_slice(uuid.as_slice())?;
@@ -114,7 +128,10 @@ fn put_header(out: &mut Vec<u8>, uuid: &[u8; 16]) -> Result<(), AllocError>
 
 /// Adds the stamps of the first event and of the last, in a trace by time.
 fn put_span(out: &mut Vec<u8>, span: Option<(u64, u64)>) -> Result<(), AllocError>
-    ensures { OnOk result (out.new.items ≡ out.old.items ++ span_bytes span) }
+    ensures bytes { OnOk result (out.new.items ≡ out.old.items ++ span_bytes span) }
+    ensures full { OnErr result (vec_capacity out.old + 52 < vec_len out.old + front_size span) }
+    ensures long { OnOk result (vec_len out.new + 52 ≡ vec_len out.old + front_size span) }
+    ensures capacity { vec_capacity out.old ≤ vec_capacity out.new }
 {
     let Some((begin, end)) = span else {
         return Ok(());
@@ -132,7 +149,10 @@ fn put_context(
     missed: u64,
     cpu: u32,
 ) -> Result<(), AllocError>
-    ensures { OnOk result (out.new.items ≡ out.old.items ++ context_bytes content bits missed cpu) }
+    ensures bytes { OnOk result (out.new.items ≡ out.old.items ++ context_bytes content bits missed cpu) }
+    ensures full { OnErr result (vec_capacity out.old < vec_len out.old + 28) }
+    ensures long { OnOk result (vec_len out.new ≡ vec_len out.old + 28) }
+    ensures capacity { vec_capacity out.old ≤ vec_capacity out.new }
 {
     put_number(out, Field::Eight, content)?;
     put_number(out, Field::Eight, bits)?;
@@ -148,7 +168,7 @@ pub(crate) struct Sizes {
 }
 
 /// Adds what stands before the events of a packet of these sizes.
-#[tactic(auto, unfolding(crate::specs::Packets::front_bytes))]
+#[tactic(auto, using(crate::proofs::Sizes::front_least), unfolding(crate::specs::Packets::front_bytes))]
 pub(crate) fn put_front(
     out: &mut Vec<u8>,
     uuid: &[u8; 16],
@@ -159,7 +179,10 @@ pub(crate) fn put_front(
 ) -> Result<(), AllocError>
     requires content { sizes.content < 2 ^ 61 }
     requires size { sizes.size < 2 ^ 61 }
-    ensures { OnOk result (out.new.items ≡ out.old.items ++ front_bytes uuid.now span sizes.content sizes.size missed cpu) }
+    ensures bytes { OnOk result (out.new.items ≡ out.old.items ++ front_bytes uuid.now span sizes.content sizes.size missed cpu) }
+    ensures full { OnErr result (vec_capacity out.old < vec_len out.old + front_size span) }
+    ensures long { OnOk result (vec_len out.new ≡ vec_len out.old + front_size span) }
+    ensures capacity { vec_capacity out.old ≤ vec_capacity out.new }
 {
     put_header(out, uuid)?;
     put_span(out, span)?;

@@ -3,10 +3,9 @@
 //! A CPU's records aren't in the order of their stamps, since those of a committed path stand where it was committed. But each of several
 //! files can be: a record goes to the file that goes on with it (`specs/Rows.antt`), and tools merge the files.
 
-ghost use Rattle.std.specs.Prelude.{◌≡◌, ◌+◌, ◌<◌, ◌≤◌, ◌++◌, [], length, All, IfOk, IfErr, OnErr, OnOk};
-ghost use Rattle.std.specs.Vec.{vec_capacity};
-ghost use Rattle.dspec_ctf.specs.{Packets.events, Rows.HasNoRoomFor, Rows.IsFoundOf, Rows.most_records, Rows.missed_packets, Rows.run_packet, Rows.silent_packet, Streams.Accepts, Streams.IsText};
-ghost use Rattle.dspec_ctf.specs.{Streams.IsTooLong, Streams.HasNoRecords};
+ghost use Rattle.std.specs.Prelude.{◌≡◌, ◌+◌, ◌*◌, ◌<◌, ◌≤◌, ◌++◌, [], length, All, IfOk, IfErr, OnErr, OnOk, vec_capacity, vec_len};
+ghost use Rattle.dspec_ctf.specs.{Filled.filled_size, Filled.LacksRoomAfter, Packets.events, Rows.HasNoRoomFor, Rows.IsFoundOf, Rows.most_records, Rows.missed_packets, Rows.run_packet};
+ghost use Rattle.dspec_ctf.specs.{Rows.silent_packet, Streams.Accepts, Streams.IsText, Streams.IsTooLong, Streams.HasNoRecords};
 ghost use Rattle.dspec_record.specs.declared.header.Header.TheVariants.{Two};
 
 use crate::by_time::add_records;
@@ -32,15 +31,18 @@ pub struct Run {
 /// What is known of a CPU's files: of each the stamp of its last event. In each file stamps don't fall.
 #[derive(Debug, Drop)]
 pub struct Rows {
-    lasts: Vec<u64>,
+    lasts: [u64; MOST_FILES],
+    count: usize,
 }
 
 impl Model for Rows {
-    ghost use Rattle.std.specs.Prelude.{ℕ, List};
+    ghost use Rattle.std.specs.Prelude.{◌≤◌, ℕ, List, take};
 
     ghost Value = { List ℕ };
 
-    ghost view = { λ i. i.lasts.items };
+    ghost view = { λ i. take i.count i.lasts };
+
+    ghost invariant = { λ i. i.count ≤ 64 };
 }
 
 /// What is found among the files up to this one, by what is found among those before it.
@@ -76,33 +78,34 @@ impl Rows {
     ghost use Rattle.dspec_ctf.specs.Rows.{GoesToFile, Spreads, IsNextRun, HasNoRun};
 
     /// No files yet.
-    pub fn new(alloc: Global) -> Rows
+    pub fn new() -> Rows
         ensures { result ≡ [] }
     {
         Rows {
-            lasts: Vec::new(alloc),
+            lasts: [0; MOST_FILES],
+            count: 0,
         }
     }
 
-    /// Takes memory for all files that there may be.
-    pub(crate) fn reserve(&mut self) -> Result<(), AllocError>
-        ensures { self.new ≡ self.old }
+    /// Of each file the stamp of its last event.
+    fn lasts(&self) -> &[u64]
+        ensures { result.now ≡ self.now }
     {
-        self.lasts
-            .reserve(MOST_FILES.saturating_sub(self.lasts.len()))
+        &self.lasts[..self.count]
     }
 
     /// The last stamp of the first file; 0 where there is none.
     fn first_stamp(&self) -> u64
         ensures { result ≡ slice_index self.now 0 }
     {
-        match self.lasts.first() {
+        match self.lasts().first() {
             Some(stamp) => *stamp,
             None => 0,
         }
     }
 
     /// Takes the record at a place, and says its file.
+    #[tactic(auto, using(crate::proofs::Rising::stamped, crate::proofs::Rising::stamped_next))]
     fn take(&mut self, records: &[Rec], place: usize) -> Result<usize, PacketFault>
         requires { place < length records.now }
         ensures goes { IfOk result (λ file. (r : Record) → slice_get records.now place ≡ Some r → GoesToFile self.old r.stamp file self.new) }
@@ -110,19 +113,21 @@ impl Rows {
         ensures refused { OnErr result (self.new ≡ self.old) }
     {
         let stamp = records[place].stamp();
-        if let Some(found) = latest(&self.lasts, stamp) {
+        if let Some(found) = latest(self.lasts(), stamp) {
             self.lasts[found] = stamp;
             return Ok(found);
         }
-        let file = self.lasts.len();
+        let file = self.count;
         if file >= MOST_FILES {
             return Err(PacketFault::Clock(place));
         }
-        self.lasts.push(stamp)?;
+        self.lasts[file] = stamp;
+        self.count = file + 1;
         Ok(file)
     }
 
     /// Takes a record with this stamp where it goes to that file.
+    #[tactic(auto, using(crate::proofs::Rising::stamped))]
     fn take_on(&mut self, file: usize, stamp: u64) -> bool
         requires { file < length self.old }
         ensures goes { result ≡ true → GoesToFile self.old stamp file self.new }
@@ -130,7 +135,7 @@ impl Rows {
         ensures same { result ≡ false → self.new ≡ self.old }
         ensures files { length self.new ≡ length self.old }
     {
-        if latest(&self.lasts, stamp) != Some(file) {
+        if latest(self.lasts(), stamp) != Some(file) {
             return false;
         }
         self.lasts[file] = stamp;
@@ -156,7 +161,7 @@ impl Rows {
 
     /// The run of these records from a place on, which the files have then; None at their end. A record that would need one file more
     /// than 64 is told by its place, as `Clock`: the stamps of the CPU aren't those of one clock. Nothing is taken where the answer is a
-    /// fault, which is that or `Memory`.
+    /// fault, which is that. No memory is taken.
     pub fn next_run(&mut self, records: &[Rec], place: usize) -> Result<Option<Run>, PacketFault>
         ensures run { IfOk result (λ run. IsNextRun self.old records.now place run self.new) }
         ensures fault { IfErr result (HasNoRun self.old records.now place) }
@@ -233,8 +238,11 @@ pub fn records_of(
 
 /// Adds a packet without events, of 1,024 bytes.
 fn put_silent(out: &mut Vec<u8>, stream: &Stream<'_>, stamp: u64) -> Result<(), AllocError>
-    ensures { OnOk result (out.new.items ≡ out.old.items
+    ensures bytes { OnOk result (out.new.items ≡ out.old.items
         ++ silent_packet stream.now.uuid stream.now.missed stream.now.cpu stamp) }
+    ensures full { OnErr result (vec_capacity out.old < vec_len out.old + filled_size) }
+    ensures long { OnOk result (vec_len out.new ≡ vec_len out.old + filled_size) }
+    ensures capacity { vec_capacity out.old ≤ vec_capacity out.new }
 {
     put_filled_around(out, stream, Some((stamp, stamp)), &[])
 }
@@ -267,8 +275,12 @@ impl<'a> Stream<'a> {
         records: &[Rec],
     ) -> Result<(), AllocError>
         requires { body.old.items ≡ [] }
-        ensures { OnOk result (out.new.items ≡ out.old.items
+        ensures bytes { OnOk result (out.new.items ≡ out.old.items
             ++ run_packet self.now.uuid self.now.enablings.now self.now.missed self.now.cpu file records.now) }
+        ensures full { OnErr result (LacksRoomAfter out.old body.old
+            (run_packet self.now.uuid self.now.enablings.now self.now.missed self.now.cpu file records.now)) }
+        ensures capacity { vec_capacity out.old ≤ vec_capacity out.new }
+        ensures body { vec_capacity body.old ≤ vec_capacity body.new }
     {
         let missed = if file == 0 { self.missed } else { 0 };
         let stream = Stream { missed, ..*self };
@@ -298,8 +310,10 @@ impl<'a> Stream<'a> {
         rows: &Rows,
         before: u64,
     ) -> Result<(), AllocError>
-        ensures { OnOk result (out.new.items ≡ out.old.items
+        ensures bytes { OnOk result (out.new.items ≡ out.old.items
             ++ missed_packets self.now.uuid before self.now.missed self.now.cpu rows.now) }
+        ensures full { OnErr result (vec_capacity out.old < vec_len out.old + 2 * filled_size) }
+        ensures capacity { vec_capacity out.old ≤ vec_capacity out.new }
     {
         let stamp = rows.first_stamp();
         let then = Stream {

@@ -49,7 +49,7 @@ fn no_rows(alloc: Global) -> Result<Vec<Rows>, FolderFault>
 {
     let mut rows = Vec::new(alloc);
     for count in 0..MOST_CPUS {
-        rows.push(Rows::new(alloc))?;
+        rows.push(Rows::new())?;
     }
     Ok(rows)
 }

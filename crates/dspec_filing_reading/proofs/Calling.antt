@@ -112,7 +112,7 @@ module _ (laws : FilesLaws) (uuid : List ℕ) (e : EnabledRows) (names : Names) 
       let rises : f.told < f.missed = omega (arith, s.told, to_tell) in
       let file_is : p.file ≡ 0 = ap (λ (q : Packet). q.file) h.packet_is in
       let same = bytes_are ∙ at_front _ _ filled p.size (ap (λ (q : Packet). q.size) h.packet_is) h.bytes.is in
-      subst (λ (g : CpuFiling). Stands uuid e names hertz cpu g (record { written = w.written ++ w.last; last = (p.file, bytes) ∷ [] }) texts count) (sym h.is)
+      roomy uuid e names hertz cpu (record (as_written f) { told = f.missed }) (record { written = w.written ++ w.last; last = (p.file, bytes) ∷ [] }) texts count new (h.roomy, h.is)
       (subst (λ n. Stands uuid e names hertz cpu (record (as_written f) { told = f.missed }) (record { written = w.written ++ w.last; last = (n, bytes) ∷ [] }) texts count) (sym file_is)
       (subst (λ bs. Stands uuid e names hertz cpu (record (as_written f) { told = f.missed }) (record { written = w.written ++ w.last; last = (0, bs) ∷ [] }) texts count) (sym same)
       (hands_missed laws uuid e names hertz cpu low long stamped (as_written f) (w.written ++ w.last) texts count rises small (settles uuid e names hertz cpu f w texts count s))))
@@ -125,7 +125,8 @@ module _ (laws : FilesLaws) (uuid : List ℕ) (e : EnabledRows) (names : Names) 
       (finds laws uuid e names hertz cpu low long stamped (as_written f) (all_written w) texts count x.run x.finds.lasts x.finds.is_run (settles uuid e names hertz cpu f w texts count s)) in
       let file_is : p.file ≡ x.run.file = ap (λ (q : Packet). q.file) x.hands.packet_is in
       let same = bytes_are ∙ at_front _ _ filled p.size (ap (λ (q : Packet). q.size) x.hands.packet_is) x.hands.bytes.is in
-      subst (λ (g : CpuFiling). Stands uuid e names hertz cpu g (record { written = w.written ++ w.last; last = (p.file, bytes) ∷ [] }) texts count) (sym x.hands.is)
+      roomy uuid e names hertz cpu (record x.found { place = x.run.end; run = None }) (record { written = w.written ++ w.last; last = (p.file, bytes) ∷ [] }) texts count new
+      (x.hands.roomy, x.hands.is)
       (subst (λ n. Stands uuid e names hertz cpu (record x.found { place = x.run.end; run = None }) (record { written = w.written ++ w.last; last = (n, bytes) ∷ [] }) texts count) (sym file_is)
       (subst (λ bs. Stands uuid e names hertz cpu (record x.found { place = x.run.end; run = None }) (record { written = w.written ++ w.last; last = (x.run.file, bs) ∷ [] }) texts count) (sym same)
       (hands_run laws uuid e names hertz cpu low long stamped x.found (w.written ++ w.last) texts count x.run told there fits then)))
@@ -133,11 +134,12 @@ module _ (laws : FilesLaws) (uuid : List ℕ) (e : EnabledRows) (names : Names) 
   -- none is, for a fault
   puts_none : (f : CpuFiling) (w : Packets) (texts : List (List ℕ)) (count : ℕ) (room : List ℕ) (fault : PutFault) (new : CpuFiling) → HandsNone f room fault new
       → Stands uuid e names hertz cpu f w texts count → Stands uuid e names hertz cpu new (all_written w) texts count
-  puts_none f w texts count room fault new (inl (to_tell, why, is)) s =
-      subst (λ (g : CpuFiling). Stands uuid e names hertz cpu g (all_written w) texts count) (sym is) (settles uuid e names hertz cpu f w texts count s)
+  puts_none f w texts count room fault new (inl (to_tell, why, same)) s =
+      roomy uuid e names hertz cpu (as_written f) (all_written w) texts count new same (settles uuid e names hertz cpu f w texts count s)
   puts_none f w texts count room fault new (inr (inl alone)) s =
-      subst (λ (g : CpuFiling). Stands uuid e names hertz cpu g (all_written w) texts count) (sym alone.finds.is)
-      (finds laws uuid e names hertz cpu low long stamped (as_written f) (all_written w) texts count alone.run alone.finds.lasts alone.finds.is_run (settles uuid e names hertz cpu f w texts count s))
+      roomy uuid e names hertz cpu alone.found (all_written w) texts count new alone.is
+      (subst (λ (g : CpuFiling). Stands uuid e names hertz cpu g (all_written w) texts count) (sym alone.finds.is)
+      (finds laws uuid e names hertz cpu low long stamped (as_written f) (all_written w) texts count alone.run alone.finds.lasts alone.finds.is_run (settles uuid e names hertz cpu f w texts count s)))
   puts_none f w texts count room fault new (inr (inr none)) s =
       subst (λ (g : CpuFiling). Stands uuid e names hertz cpu g (all_written w) texts count) (sym none.is) (settles uuid e names hertz cpu f w texts count s)
 

@@ -2,7 +2,7 @@
 use Rattle.std.proofs.Common.{◌≡◌, ◌-◌, ◌<◌, ◌≤◌, ◌==◌, ◌∷◌, ◌∙◌, ℕ, List, [], inl, inr, length, ap, refl, subst, arith}
 use Rattle.std.proofs.lemmas.Bool.Decides.{nat_tests}
 use Rattle.std.specs.Prelude.{None, if◌then◌else◌}
-use Rattle.dspec_ctf.specs.Words.{IsFileRun, CpuFiling, FindsAndHands, HandsMissed, IsAllHanded, IsFoundRun, as_written, HaveAllLeft, PutsPackets, parts_of}
+use Rattle.dspec_ctf.specs.Words.{IsFileRun, CpuFiling, FilingRoom, FindsAndHands, HandsMissed, IsAllHanded, IsFoundRun, as_written, HaveAllLeft, PutsPackets, parts_of}
 use Rattle.dspec_ctf.specs.declared.{in_memory.packet.Packet.Packet, rows.Run.Run}
 
 -- a packet without records is none of the parts
@@ -17,29 +17,29 @@ one_of : (p : Packet) (ps : List Packet) (file n : ℕ) → p.file ≡ file → 
 one_of p ps file n is_file is some = grind (arith, nat_tests, some_part)
 
 -- what was missed is handed out: the files are these then, and their records, runs and stamps are as they were
-told_all : CpuFiling → CpuFiling
-told_all f = record (as_written f) { told = f.missed }
+told_all : CpuFiling → FilingRoom → CpuFiling
+told_all f roomy = record (as_written f) { told = f.missed; room = roomy }
 
 after_missed : (f mid new : CpuFiling) (p : Packet) (ps : List Packet) (room filled : List ℕ) → HandsMissed (as_written f) room p filled mid
-    → HaveAllLeft (told_all f) ps new → HaveAllLeft f (p ∷ ps) new
+    → HaveAllLeft (told_all f mid.room) ps new → HaveAllLeft f (p ∷ ps) new
 unfolding told_all
 after_missed f mid new p ps room filled h all =
     record { runs = all.runs; are_runs = all.are_runs; parts = none_of p ps (ap (λ q. q.records) h.packet_is) ∙ all.parts }
 
 -- the packet of a run is handed out: the files are these then
-behind_run : CpuFiling → Run → List ℕ → CpuFiling
-behind_run f run lasts = record (as_written f) { lasts = lasts; place = run.end; run = None }
+behind_run : CpuFiling → Run → List ℕ → FilingRoom → CpuFiling
+behind_run f run lasts roomy = record (as_written f) { lasts = lasts; place = run.end; run = None; room = roomy }
 
-is_behind : (f mid : CpuFiling) (p : Packet) (room filled : List ℕ) (h : FindsAndHands (as_written f) room p filled mid) → mid ≡ behind_run f h.run h.finds.lasts
+is_behind : (f mid : CpuFiling) (p : Packet) (room filled : List ℕ) (h : FindsAndHands (as_written f) room p filled mid) → mid ≡ behind_run f h.run h.finds.lasts mid.room
 unfolding behind_run
-is_behind f mid p room filled h = h.hands.is ∙ ap (λ (x : CpuFiling). record x { place = h.run.end; run = None }) h.finds.is
+is_behind f mid p room filled h = h.hands.is ∙ ap (λ (x : CpuFiling). record x { place = h.run.end; run = None; room = mid.room }) h.finds.is
 
 is_run_of : (f mid : CpuFiling) (p : Packet) (room filled : List ℕ) → f.run ≡ None → (h : FindsAndHands (as_written f) room p filled mid)
     → IsFileRun f.lasts f.records f.place h.run h.finds.lasts
 is_run_of f mid p room filled none h = subst (λ o. IsFoundRun o (as_written f) h.run h.finds.lasts) none h.finds.is_run
 
 after_run : (f mid new : CpuFiling) (p : Packet) (ps : List Packet) (room filled : List ℕ) → f.run ≡ None → (h : FindsAndHands (as_written f) room p filled mid)
-    → HaveAllLeft (behind_run f h.run h.finds.lasts) ps new → HaveAllLeft f (p ∷ ps) new
+    → HaveAllLeft (behind_run f h.run h.finds.lasts mid.room) ps new → HaveAllLeft f (p ∷ ps) new
 unfolding behind_run
 after_run f mid new p ps room filled none h all =
     let run = h.run in
@@ -56,8 +56,8 @@ have_all f new [] none within is done =
     let to : length f.records ≡ f.place = omega (arith, all, within) in
     record { runs = []; are_runs = (to, ap (λ m. m.lasts) is); parts = refl }
 have_all f new (p ∷ ps) none within (room, (filled, (mid, (inl (todo, h), rest)))) done =
-    after_missed f mid new p ps room filled h (have_all (told_all f) new ps none within (subst (λ m. PutsPackets m ps new) h.is rest) done)
+    after_missed f mid new p ps room filled h (have_all (told_all f mid.room) new ps none within (subst (λ m. PutsPackets m ps new) h.is rest) done)
 have_all f new (p ∷ ps) none within (room, (filled, (mid, (inr h, rest)))) done =
     let is_run = is_run_of f mid p room filled none h in
     after_run f mid new p ps room filled none h
-    (have_all (behind_run f h.run h.finds.lasts) new ps refl is_run.within (subst (λ m. PutsPackets m ps new) (is_behind f mid p room filled h) rest) done)
+    (have_all (behind_run f h.run h.finds.lasts mid.room) new ps refl is_run.within (subst (λ m. PutsPackets m ps new) (is_behind f mid p room filled h) rest) done)

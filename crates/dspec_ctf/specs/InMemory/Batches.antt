@@ -1,6 +1,8 @@
--- Cited by calls. All packets of a batch.
-use Rattle.std.specs.Prelude.{◌≡◌, ◌-◌, ◌==◌, ℕ, List, [], ◌∷◌, length, Some, if◌then◌else◌}
-use Rattle.dspec_ctf.specs.{InMemory.Calls.Hands, InMemory.Filing.CpuFiling, Rows.AreRuns, declared.in_memory.packet.Packet.Packet, declared.rows.Run.Run}
+-- Cited by calls. All packets of a batch, and the room that they want.
+use Rattle.std.specs.Prelude.{◌≡◌, ◌≤◌, ◌-◌, ◌==◌, ℕ, List, [], ◌∷◌, length, Some, if◌then◌else◌}
+use Rattle.dspec_ctf.specs.{InMemory.Calls.Hands, InMemory.Calls.HandsNone, InMemory.Calls.HasNoBatch, InMemory.Calls.HasRoomFor, InMemory.Filing.CpuFiling, Rows.AreRuns, Streams.IsText}
+use Rattle.dspec_ctf.specs.{declared.in_memory.packet.Packet.Packet, declared.rows.Run.Run, declared.stream.PacketFault.TheVariants.Memory}
+use Rattle.dspec_ctf.specs.declared.in_memory.fault.PutFault.TheVariants as put
 
 -- calls of `put` one after another, of which each hands out a packet
 abbrev pub PutsPackets : CpuFiling → List Packet → CpuFiling → Type 0
@@ -23,3 +25,12 @@ pub record HaveAllLeft (f : CpuFiling) (ps : List Packet) (new : CpuFiling) : Ty
   pub runs : List Run
   pub are_runs : AreRuns f.lasts f.records f.place runs (length f.records) new.lasts
   pub parts : parts_of ps ≡ run_parts f.place runs
+
+-- with room for batches of so many bytes, no batch that has no more is refused for want of memory
+abbrev pub OpensWithoutMemory : Type 0
+OpensWithoutMemory = (f : CpuFiling) (size drops : ℕ) (text : List ℕ) → HasRoomFor size f.room → length text ≤ size → HasNoBatch f drops text Memory → ⊥
+
+-- nor is any packet of it, nor what tells what was missed, whatever room the caller gives
+abbrev pub PutsWithoutMemory : Type 0
+PutsWithoutMemory = (f new : CpuFiling) (size : ℕ) (text room : List ℕ) → length f.uuid ≡ 16 → HasRoomFor size f.room → IsText f.schema text f.records → length text ≤ size
+    → HandsNone f room (put.Packet Memory) new → ⊥

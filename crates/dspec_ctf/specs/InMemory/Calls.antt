@@ -1,34 +1,43 @@
 -- Cited by calls. What each call makes of a CPU's files.
-use Rattle.std.specs.Prelude.{◌≡◌, ◌≢◌, ℕ, ◌+◌, ◌-◌, ◌^◌, ◌<◌, ◌≤◌, ◌++◌, ◌⊎◌, List, length, drop, slice_range, Option, Some, None}
-use Rattle.dspec_ctf.specs.{InMemory.Filing.CpuFiling, InMemory.Filing.IsRunWithin, InMemory.Filing.as_counted, InMemory.Filing.left, InMemory.Filing.unwritten, Packets.events, Rows.HasNoRoomFor}
-use Rattle.dspec_ctf.specs.{Rows.HasNoRun, Rows.IsFileRun, Rows.most_records, Rows.missed_packets, Rows.run_packet, Streams.HasNoRecords, Streams.IsText, Streams.IsTooLong, Words.Outside.Record}
-use Rattle.dspec_ctf.specs.{declared.in_memory.fault.PutFault.PutFault, declared.in_memory.packet.Packet.Packet, declared.in_memory.putting.NextPart.NextPart, declared.rows.Run.Run}
-use Rattle.dspec_ctf.specs.{declared.stream.PacketFault.PacketFault, declared.stream.PacketFault.TheVariants.Text, declared.stream.PacketFault.TheVariants.Missed}
-use Rattle.dspec_ctf.specs.{declared.stream.PacketFault.TheVariants.TooLong, declared.stream.PacketFault.TheVariants.Clock, declared.stream.PacketFault.TheVariants.Memory}
+use Rattle.std.specs.Prelude.{◌≡◌, ◌≢◌, ℕ, ◌+◌, ◌-◌, ◌*◌, ◌^◌, ◌<◌, ◌≤◌, ◌++◌, ◌⊎◌, List, length, drop, slice_range, Option, Some, None}
+use Rattle.dspec_ctf.specs.{Filled.filled_size, Filled.most_body, Filled.LacksBytes, InMemory.Filing.CpuFiling, InMemory.Filing.FilingRoom, InMemory.Filing.IsRunWithin, InMemory.Filing.as_counted}
+use Rattle.dspec_ctf.specs.{InMemory.Filing.left, InMemory.Filing.unwritten, Rows.HasNoRoomFor, Rows.HasNoRun, Rows.IsFileRun, Rows.most_bytes, Rows.most_records, Rows.missed_packets}
+use Rattle.dspec_ctf.specs.{Rows.run_packet, Streams.HasNoRecords, Streams.IsText, Words.Outside.Record, declared.in_memory.fault.PutFault.PutFault, declared.in_memory.packet.Packet.Packet}
+use Rattle.dspec_ctf.specs.{declared.in_memory.putting.NextPart.NextPart, declared.rows.Run.Run, declared.stream.PacketFault.PacketFault, declared.stream.PacketFault.TheVariants.Text}
+use Rattle.dspec_ctf.specs.{declared.stream.PacketFault.TheVariants.Missed, declared.stream.PacketFault.TheVariants.TooLong, declared.stream.PacketFault.TheVariants.Clock}
+use Rattle.dspec_ctf.specs.{declared.stream.PacketFault.TheVariants.Memory}
 use Rattle.dspec_ctf.specs.declared.in_memory.putting.NextPart.TheVariants as next
 use Rattle.dspec_ctf.specs.declared.in_memory.fault.PutFault.TheVariants as put
 
--- there is as much room for records as there was, or more; else nothing is changed
-abbrev pub HasAsMuchRoom : CpuFiling → CpuFiling → Type 0
-HasAsMuchRoom old new = (old.room ≤ new.room) × (new ≡ record old { room = new.room })
+-- there is as much room as there was, or more
+abbrev pub IsAsMuch : FilingRoom → FilingRoom → Type 0
+IsAsMuch old new = (old.records ≤ new.records) × (old.bytes ≤ new.bytes) × (old.body ≤ new.body)
 
--- there is room for the records of batches of so many bytes
+-- there is as much room as there was, or more; else nothing is changed
+abbrev pub HasAsMuchRoom : CpuFiling → CpuFiling → Type 0
+HasAsMuchRoom old new = IsAsMuch old.room new.room × (new ≡ record old { room = new.room })
+
+-- there is room for batches of so many bytes: for their records, for all that one call hands out, and for the events of a packet
+abbrev pub HasRoomFor : ℕ → FilingRoom → Type 0
+HasRoomFor size room = (most_records size ≤ room.records) × (most_bytes size ≤ room.bytes) × (most_body ≤ room.body)
+
+-- room for batches of so many bytes is there now
 abbrev pub Reserves : CpuFiling → ℕ → CpuFiling → Type 0
-Reserves old size new = (most_records size ≤ new.room) × HasAsMuchRoom old new
+Reserves old size new = HasRoomFor size new.room × HasAsMuchRoom old new
 
 -- A batch is open now, which has the records of this text. What its CPU missed is counted: what it dropped, and the records of the batch
 -- before that no packet has.
 pub record OpensBatch (old : CpuFiling) (drops : ℕ) (text : List ℕ) (new : CpuFiling) : Type 0 where
   pub read : List Record
   pub is_text : IsText old.schema text read
-  pub room : old.room ≤ new.room
+  pub room : IsAsMuch old.room new.room
   pub is : new ≡ record old { missed = old.missed + left old + drops; told_before = old.told; records = read; from = 0; place = 0; run = None; room = new.room }
 
 -- why no batch is opened: more was missed than 64 bits count, the bytes are no text, or there is no room for as many records as they may have, and memory was wanting
 abbrev pub HasNoBatch : CpuFiling → ℕ → List ℕ → PacketFault → Type 0
 HasNoBatch f drops text Missed = 2 ^ 64 ≤ f.missed + left f + drops
 HasNoBatch f drops text (Text fault) = (f.missed + left f + drops < 2 ^ 64) × HasNoRecords f.schema text (Text fault)
-HasNoBatch f drops text Memory = (f.missed + left f + drops < 2 ^ 64) × HasNoRoomFor f.schema text f.room Memory
+HasNoBatch f drops text Memory = (f.missed + left f + drops < 2 ^ 64) × HasNoRoomFor f.schema text f.room.records Memory
 HasNoBatch f drops text (Clock place) = ⊥
 HasNoBatch f drops text TooLong = ⊥
 
@@ -80,13 +89,15 @@ pub record Fills (old bytes new : List ℕ) : Type 0 where
 pub record HandsMissed (f : CpuFiling) (room : List ℕ) (p : Packet) (filled : List ℕ) (new : CpuFiling) : Type 0 where
   pub packet_is : p ≡ record { file = 0; size = length (missed_bytes f); records = 0 }
   pub bytes : Fills room (missed_bytes f) filled
-  pub is : new ≡ record f { told = f.missed }
+  pub roomy : IsAsMuch f.room new.room
+  pub is : new ≡ record f { told = f.missed; room = new.room }
 
 -- the packet of this run is handed out
 pub record HandsRun (f : CpuFiling) (run : Run) (room : List ℕ) (p : Packet) (filled : List ℕ) (new : CpuFiling) : Type 0 where
   pub packet_is : p ≡ record { file = run.file; size = length (run_bytes f run); records = run.end - f.place }
   pub bytes : Fills room (run_bytes f run) filled
-  pub is : new ≡ record f { place = run.end; run = None }
+  pub roomy : IsAsMuch f.room new.room
+  pub is : new ≡ record f { place = run.end; run = None; room = new.room }
 
 -- the run's packet is handed out, once the run was found
 pub record FindsAndHands (f : CpuFiling) (room : List ℕ) (p : Packet) (filled : List ℕ) (new : CpuFiling) : Type 0 where
@@ -106,21 +117,23 @@ Hands f room None filled new = IsAllHanded f × (filled ≡ room) × (new ≡ as
 abbrev pub HasNoRoom : List ℕ → List ℕ → ℕ → Type 0
 HasNoRoom room bytes needed = (needed ≡ length bytes) × (length room < needed)
 
--- why these bytes aren't handed out: they have no room, or memory was wanting for them
+-- why these bytes aren't handed out: the caller's room is too small, or the two packets had no room here and memory was wanting for them
 abbrev pub HasNoMissed : CpuFiling → List ℕ → PutFault → Type 0
 HasNoMissed f room (put.TooSmall needed) = HasNoRoom room (missed_bytes f) needed
-HasNoMissed f room (put.Packet fault) = fault ≡ Memory
+HasNoMissed f room (put.Packet fault) = (fault ≡ Memory) × (f.room.bytes < 2 * filled_size)
 
--- why the packet of this run isn't handed out: it has no room, it is too long for the format, or memory was wanting for it
+-- why the packet of this run isn't handed out: the caller's room is too small, or it had no room here and memory was wanting for it
 abbrev pub HasNoRunPacket : CpuFiling → Run → List ℕ → PutFault → Type 0
 HasNoRunPacket f run room (put.TooSmall needed) = HasNoRoom room (run_bytes f run) needed
-HasNoRunPacket f run room (put.Packet fault) = IsTooLong (events f.schema (slice_range f.records f.place run.end)) fault
+HasNoRunPacket f run room (put.Packet fault) = (fault ≡ Memory) × LacksBytes f.room.bytes f.room.body (length (run_bytes f run))
 
 -- the next packet is of this run, which is found now, and isn't handed out
 pub record FindsAlone (f : CpuFiling) (room : List ℕ) (fault : PutFault) (new : CpuFiling) : Type 0 where
   pub run : Run
-  pub finds : FindsRun f run new
-  pub why : HasNoRunPacket new run room fault
+  pub found : CpuFiling
+  pub finds : FindsRun f run found
+  pub why : HasNoRunPacket found run room fault
+  pub is : HasAsMuchRoom found new
 
 -- there is no next run, for that
 pub record FindsNone (f : CpuFiling) (fault : PutFault) (new : CpuFiling) : Type 0 where
@@ -130,10 +143,11 @@ pub record FindsNone (f : CpuFiling) (fault : PutFault) (new : CpuFiling) : Type
   pub none : HasNoRun f.lasts f.records f.place why
   pub is : new ≡ f
 
--- Why nothing is handed out. Nothing is changed but that what was handed out before counts as written, and that the next run is found.
+-- Why nothing is handed out. Nothing is changed but that what was handed out before counts as written, that the next run is found, and that there may be
+-- more room.
 abbrev pub HandsNone : CpuFiling → List ℕ → PutFault → CpuFiling → Type 0
 HandsNone f room fault new =
-    (IsToTell f × HasNoMissed (as_written f) room fault × (new ≡ as_written f))
+    (IsToTell f × HasNoMissed (as_written f) room fault × HasAsMuchRoom (as_written f) new)
     ⊎ (FindsAlone (as_written f) room fault new ⊎ FindsNone (as_written f) fault new)
 
 -- The packet that was handed out last wasn't written, nor will be those behind it: what it told isn't told, and its records and those that

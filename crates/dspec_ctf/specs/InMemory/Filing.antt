@@ -3,6 +3,19 @@ use Rattle.std.specs.Prelude.{ℕ, ◌≡◌, ◌-◌, ◌^◌, ◌<◌, ◌≤�
 use Rattle.dspec_ctf.specs.{Streams.Accepts, Words.Outside.Record, Words.Outside.EnabledRows, declared.rows.Run.Run}
 use Rattle.dspec_record.specs.declared.header.Header.TheVariants.{Two}
 
+-- what batches and packets have room for, without memory being taken
+pub record FilingRoom : Type 0 where
+  -- so many records of a batch
+  pub records : ℕ
+  -- so many bytes that one call hands out
+  pub bytes : ℕ
+  -- so many bytes of the events of one packet
+  pub body : ℕ
+
+-- no room yet
+abbrev pub no_room : FilingRoom
+no_room = record { records = 0; bytes = 0; body = 0 }
+
 -- Each packet that is handed out counts as written once the next `put` or `open` is made.
 pub record CpuFiling : Type 0 where
   -- the trace's
@@ -27,8 +40,8 @@ pub record CpuFiling : Type 0 where
   pub place : ℕ
   -- the run of which the next packet is, where it was found already
   pub run : Option Run
-  -- so many records of a batch have room
-  pub room : ℕ
+  -- what has room
+  pub room : FilingRoom
 
 -- a run of records from a place on, which are there
 abbrev pub IsRunWithin : List Record → ℕ → Run → Type 0
@@ -45,7 +58,7 @@ pub record IsSoundFiling (f : CpuFiling) : Type 0 where
 -- no packets yet, and no batch
 abbrev pub no_packets : List ℕ → EnabledRows → ℕ → CpuFiling
 no_packets uuid e cpu =
-    record { uuid = uuid; schema = e; cpu = cpu; lasts = []; missed = 0; told = 0; told_before = 0; records = []; from = 0; place = 0; run = None; room = 0 }
+    record { uuid = uuid; schema = e; cpu = cpu; lasts = []; missed = 0; told = 0; told_before = 0; records = []; from = 0; place = 0; run = None; room = no_room }
 
 -- a number as far as 64 bits count
 abbrev pub as_counted : ℕ → ℕ

@@ -1,6 +1,6 @@
 -- Serves proofs. Words from the crates below, in one place. Declares nothing.
-pub use Rattle.dspec_record.specs.Words.{accepted-parts, append-same, both, enabled, EnabledRows, enabling_of, fits, IsAccepted, length-little_endian, little_endian, little_endian-same, Record}
-pub use Rattle.dspec_record.specs.Words.{stamp_fits, table_accepts, table_shape, table_text, width, within_limit}
+pub use Rattle.dspec_record.specs.Words.{accepted-parts, after, append-same, both, enabled, EnabledRows, enabling_of, fields_start, fields_text, fits, gap, IsAccepted, length-little_endian}
+pub use Rattle.dspec_record.specs.Words.{little_endian, little_endian-same, Record, stamp_fits, stamp_text, table_accepts, table_shape, table_text, width, within_limit}
 pub use Rattle.dspec_record.specs.declared.field.Field.{Field}
 pub use Rattle.dspec_record.specs.declared.field.Field.TheVariants.{Eight, Four, One, Two}
 pub use Rattle.dspec_record.specs.declared.field.Shape.{Shape}

@@ -29,7 +29,7 @@ impl Model for CpuPackets {
 
     ghost Value = { CpuFiling };
 
-    ghost view = { λ i. record { uuid = i.uuid; schema = i.enablings; cpu = i.cpu; lasts = i.rows; missed = i.missed; told = i.told; told_before = i.told_before; records = i.records.items; from = i.from; place = i.place; run = i.run; room = vec_capacity i.records } };
+    ghost view = { λ i. record { uuid = i.uuid; schema = i.enablings; cpu = i.cpu; lasts = i.rows; missed = i.missed; told = i.told; told_before = i.told_before; records = i.records.items; from = i.from; place = i.place; run = i.run; room = record { records = vec_capacity i.records; bytes = vec_capacity i.scratch.bytes; body = vec_capacity i.scratch.body } } };
 
-    ghost invariant = { λ i. IsSoundFiling (record { uuid = i.uuid; schema = i.enablings; cpu = i.cpu; lasts = i.rows; missed = i.missed; told = i.told; told_before = i.told_before; records = i.records.items; from = i.from; place = i.place; run = i.run; room = vec_capacity i.records }) };
+    ghost invariant = { λ i. IsSoundFiling (record { uuid = i.uuid; schema = i.enablings; cpu = i.cpu; lasts = i.rows; missed = i.missed; told = i.told; told_before = i.told_before; records = i.records.items; from = i.from; place = i.place; run = i.run; room = record { records = vec_capacity i.records; bytes = vec_capacity i.scratch.bytes; body = vec_capacity i.scratch.body } }) };
 }

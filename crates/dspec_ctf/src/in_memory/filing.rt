@@ -25,7 +25,7 @@ impl CpuPackets {
             uuid,
             enablings: *enablings,
             cpu,
-            rows: Rows::new(alloc),
+            rows: Rows::new(),
             missed: 0,
             told: 0,
             told_before: 0,
@@ -37,12 +37,11 @@ impl CpuPackets {
         })
     }
 
-    /// Takes memory for batches of so many bytes, so that no call on one of these takes any. What it has stays where there is none.
+    /// Takes memory for batches of so many bytes, so that no call on one of these takes any (`reserved_rooms_suffice`). What it has stays where there is none.
     pub fn reserve(&mut self, size: usize) -> Result<(), AllocError>
         ensures reserved { OnOk result (Reserves self.old size self.new) }
         ensures refused { OnErr result (HasAsMuchRoom self.old self.new) }
     {
-        self.rows.reserve()?;
         reserve_in(&mut self.records, most_records(size))?;
         self.scratch.reserve(size)
     }

@@ -1,9 +1,9 @@
 //! The next packet.
 
 ghost use Rattle.std.specs.Prelude.{◌≡◌, IfOk, IfErr, OnOk, OnErr, slice_range};
-ghost use Rattle.dspec_ctf.specs.{InMemory.Calls.Hands, InMemory.Calls.HandsMissed, InMemory.Calls.HandsNone, InMemory.Calls.HandsRun, InMemory.Calls.HasNoMissed, InMemory.Calls.HasNoRunPacket};
-ghost use Rattle.dspec_ctf.specs.{InMemory.Calls.FindsNext, InMemory.Calls.missed_bytes, InMemory.Calls.run_bytes, InMemory.Calls.as_written, InMemory.Filing.IsRunWithin, Packets.events};
-ghost use Rattle.dspec_ctf.specs.{Rows.HasNoRun, Streams.IsTooLong};
+ghost use Rattle.dspec_ctf.specs.InMemory.Calls.{Hands, HandsMissed, HandsNone, HandsRun, HasNoMissed, HasNoRunPacket, FindsNext, HasAsMuchRoom, missed_bytes, run_bytes, as_written};
+ghost use Rattle.dspec_ctf.specs.InMemory.Filing.{IsRunWithin};
+ghost use Rattle.dspec_ctf.specs.Rows.{HasNoRun};
 
 use super::room::fill;
 use crate::{CpuPackets, Packet, PacketFault, PutFault, Run, Stream};
@@ -55,7 +55,7 @@ impl CpuPackets {
     fn put_missed(&mut self, room: &mut [u8]) -> Result<Packet, PutFault>
         ensures hands { IfOk result (λ packet. HandsMissed self.old room.old packet room.new self.new) }
         ensures fault { IfErr result (HasNoMissed self.old room.old) }
-        ensures refused { OnErr result ((self.new ≡ self.old) × (room.new ≡ room.old)) }
+        ensures refused { OnErr result (HasAsMuchRoom self.old self.new × (room.new ≡ room.old)) }
     {
         let stream = Stream {
             uuid: self.uuid,
@@ -81,7 +81,7 @@ impl CpuPackets {
         requires { IsRunWithin self.old.records self.old.place run }
         ensures hands { IfOk result (λ packet. HandsRun self.old run room.old packet room.new self.new) }
         ensures fault { IfErr result (HasNoRunPacket self.old run room.old) }
-        ensures refused { OnErr result ((self.new ≡ self.old) × (room.new ≡ room.old)) }
+        ensures refused { OnErr result (HasAsMuchRoom self.old self.new × (room.new ≡ room.old)) }
     {
         let stream = Stream {
             uuid: self.uuid,
@@ -107,7 +107,7 @@ impl CpuPackets {
 
     /// Puts the next packet into this room, and says for which file it is; None where there is none. What the CPU missed comes first, for its first file. Where the room is too
     /// small, the fault says how many bytes it needs; a call with so many gets the packet. With another fault the rest of the
-    /// batch has no packets, or not yet where memory was wanting: `lose` gives it up.
+    /// batch has no packets, or not yet where memory was wanting, which it never is after `reserve`: `lose` gives it up.
     pub fn put(&mut self, room: &mut [u8]) -> Result<Option<Packet>, PutFault>
         ensures hands { IfOk result (λ packet. Hands self.old room.old packet room.new self.new) }
         ensures fault { IfErr result (λ fault. HandsNone self.old room.old fault self.new) }

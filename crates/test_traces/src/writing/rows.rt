@@ -40,7 +40,7 @@ fn run(file: usize, end: usize) -> Run {
 
 #[test]
 fn worked_runs(rt: HostRuntime) -> Result<(), Fail> {
-    let mut rows = Rows::new(rt.alloc());
+    let mut rows = Rows::new();
     let Ok(runs) = runs_of(rt.alloc(), &mut rows, &[10, 20, 5, 15, 20, 30]) else {
         return Err(Fail::from(AllocError));
     };
@@ -56,7 +56,7 @@ fn worked_runs(rt: HostRuntime) -> Result<(), Fail> {
 
 #[test]
 fn equal_stamps(rt: HostRuntime) -> Result<(), Fail> {
-    let mut rows = Rows::new(rt.alloc());
+    let mut rows = Rows::new();
     let Ok(runs) = runs_of(rt.alloc(), &mut rows, &[0, 0, 7, 7, 6, 7, 6]) else {
         return Err(Fail::from(AllocError));
     };
@@ -75,7 +75,7 @@ fn one_file_too_many(rt: HostRuntime) -> Result<(), Fail> {
         stamps.push(64 - back)?;
     }
     let records = records_with(rt.alloc(), &stamps)?;
-    let mut rows = Rows::new(rt.alloc());
+    let mut rows = Rows::new();
     for place in 0..64usize {
         let found = rows.next_run(&records, place);
         same(&rt, found == Ok(Some(run(place, place + 1))), true);
@@ -197,7 +197,7 @@ fn stamps_of(alloc: Global, seed: u64, slots: usize) -> Result<Vec<u64>, AllocEr
 
 /// How many files the records with these stamps need, and of how many the stamps fell.
 fn files_of(alloc: Global, stamps: &[u64]) -> Result<(usize, u64), PacketFault> {
-    let mut rows = Rows::new(alloc);
+    let mut rows = Rows::new();
     let mut lasts = [0u64; 64];
     let (mut files, mut fell, mut place) = (0usize, 0u64, 0usize);
     for run in &runs_of(alloc, &mut rows, stamps)? {

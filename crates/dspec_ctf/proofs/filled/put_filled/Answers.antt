@@ -1,8 +1,8 @@
-use Rattle.std.proofs.Common.{rules, ◌≡◌, ◌+◌, ◌++◌, ◌∙◌, List, ℕ, ap, get_or}
-use Rattle.std.specs.Prelude.{slice_range}
-use Rattle.dspec_ctf.specs.Words.{event, filled_packet, filled_packets}
-use Rattle.dspec_ctf.proofs.Filling.{IsFilledTo, filled-anew, filled-on}
-use Rattle.dspec_ctf.proofs.filled.put_filled.Goals.{then-front-len-gt-PACKET_SIZE+in_ok-put_packet+in_ok-put_event-2, else-front-len-gt-PACKET_SIZE}
+use Rattle.std.proofs.Common.{rules, arith, ◌≡◌, ◌<◌, ◌≤◌, ◌+◌, ◌++◌, ◌∙◌, ◌⊎◌, inl, inr, List, ℕ, Bool, true, false, Result, Ok, Err, ap, drop, get_or, length}
+use Rattle.std.specs.Prelude.{slice_range, vec_capacity, vec_len, OnErr}
+use Rattle.dspec_ctf.specs.Words.{event, filled_packet, filled_packets, filled_size, front_by}
+use Rattle.dspec_ctf.proofs.{Filling.IsFilledTo, Filling.filled-anew, Filling.filled-on, FillingRoom.no-room-then}
+use Rattle.dspec_ctf.proofs.{filled.put_filled.Goals.then-front-len-gt-PACKET_SIZE+in_ok-put_packet+in_ok-put_event-2, filled.put_filled.Goals.else-front-len-gt-PACKET_SIZE}
 use Rattle.dspec_ctf.proofs.filled.put_filled.Goals as goal
 
 pub loop-place-preserved : goal.loop-place-preserved
@@ -34,4 +34,55 @@ loop-place-preserved c =
           after.out.items after.body.items after.from same longer w.from-is
           (search rules)
     ] in
-    record { behind = next.behind; body = next.body_is; fits = next.fits; written = next.written }
+    let roomy : vec_capacity c.args.out.now ≤ vec_capacity after.out =
+    elim after.branch [
+      | then-front-len-gt-PACKET_SIZE+in_ok-put_packet+in_ok-put_event-2 w ↦ grind (arith, w.in_ok-put_packet.ensures.capacity, w.out-is, l.invariant.room)
+      | else-front-len-gt-PACKET_SIZE w ↦ grind (arith, w.out-is, l.invariant.room)
+    ] in
+    let body_roomy : vec_capacity c.args.body.now ≤ vec_capacity after.body =
+    elim after.branch [
+      | then-front-len-gt-PACKET_SIZE+in_ok-put_packet+in_ok-put_event-2 w ↦
+          grind (arith, w.body-is, w.in_ok-put_event-2.ensures.capacity, w.clear.ensures.capacity, c.in_ok-put_event.ensures.capacity, l.invariant.body_room)
+      | else-front-len-gt-PACKET_SIZE w ↦ grind (arith, w.body-is, c.in_ok-put_event.ensures.capacity, l.invariant.body_room)
+    ] in
+    record { behind = next.behind; body = next.body_is; fits = next.fits; room = roomy; body_room = body_roomy; written = next.written }
+
+-- an error tells what is so
+on_err : {A E : Type 0} (r : Result A E) (P : Type 0) → P → OnErr r P
+on_err (Ok x) P holds = tt
+on_err (Err e) P holds = holds
+
+err_more : {A E : Type 0} (r : Result A E) (P Q : Type 0) → (P → Q) → OnErr r P → OnErr r Q
+err_more (Ok x) P Q more on = tt
+err_more (Err e) P Q more on = more on
+
+-- what stands before the events has 52 bytes at least
+front-least : (timed : Bool) → 52 ≤ front_by timed
+front-least true = omega arith
+front-least false = omega arith
+
+pub returns-in_err-put_event-clause-full : goal.returns-in_err-put_event-clause-full
+returns-in_err-put_event-clause-full c =
+    let l = c.loop-place in
+    on_err c.from_residual.result _ (inr (omega (arith, c.in_err-put_event.ensures.full, l.invariant.body_room, l.invariant.fits, front-least c.args.timed, l.body.ok)))
+
+pub returns-in_err-put_packet-clause-full : goal.returns-in_err-put_packet-clause-full
+returns-in_err-put_packet-clause-full c =
+    let s = c.args.stream.now in
+    let l = c.loop-place in
+    let full : vec_capacity c.args.out.now < length l.out.items + filled_size = omega (arith, c.in_err-put_packet.ensures.full, l.invariant.room, l.out.ok) in
+    let long : length s.uuid ≡ 16 = search rules in
+    let none = no-room-then c.args.timed s.enablings.now s.uuid s.missed s.cpu l.out.items c.args.out.now.items (filled_packets c.args.timed s.enablings.now s.uuid s.missed s.cpu c.args.recs.now)
+    (slice_range c.args.recs.now l.from l.place) (drop l.place c.args.recs.now) (vec_capacity c.args.out.now) long l.invariant.written full in
+    on_err c.from_residual-in_err-put_packet.result _ (inl (omega (arith, none, c.args.out.now.ok)))
+
+pub returns-clause-full : goal.returns-clause-full
+returns-clause-full c =
+    let s = c.args.stream.now in
+    let l = c.loop-place in
+    let long : length s.uuid ≡ 16 = search rules in
+    err_more c.put_packet-2.result (vec_capacity l.out < vec_len l.out + filled_size) _ (λ last.
+    let full : vec_capacity c.args.out.now < length l.out.items + filled_size = omega (arith, last, l.invariant.room, l.out.ok) in
+    let none = no-room-then c.args.timed s.enablings.now s.uuid s.missed s.cpu l.out.items c.args.out.now.items (filled_packets c.args.timed s.enablings.now s.uuid s.missed s.cpu c.args.recs.now)
+    (slice_range c.args.recs.now l.from l.place) (drop l.place c.args.recs.now) (vec_capacity c.args.out.now) long l.invariant.written full in
+    inl (omega (arith, none, c.args.out.now.ok))) c.put_packet-2.ensures.full
