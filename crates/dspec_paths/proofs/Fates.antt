@@ -1,10 +1,10 @@
 -- What the page says of records.
-use Rattle.std.proofs.Common.{◌≡◌, ◌≢◌, Bool, true, false, ◌||◌, List, [], ◌∷◌, map, Option, Some, None, refl, sym, ap, subst, ◌∙◌, inl, inr, true≢false}
+use Rattle.std.proofs.Common.{◌≡◌, ◌≢◌, Bool, true, false, ◌||◌, List, [], ◌∷◌, map, Some, refl, sym, subst, ◌∙◌, inl, inr, true≢false}
 use Rattle.std.specs.List.{AllByRecursion}
 use Rattle.dspec_deeds.proofs.TestLemmas.{either_way, id_is_itself, or_true}
-use Rattle.dspec_paths.specs.Words.{DecideFate, SpeculateFate, TraceFate, By, Did, traced, speculated, emptied, emptied_fate, handed, HandedRecord, once_emptied, RecordFate, some, speculated_fate}
-use Rattle.dspec_paths.specs.Words.{waits_for, taken, discarded, is_same_id, Speculation, Places, PathState, nobodys, going, keeping, kept, thrown_away, lost, PathBook, Became, FateOf, HasFates}
-use Rattle.dspec_paths.specs.Words.{KeepsPaths, DecidesItself, copies, throws}
+use Rattle.dspec_paths.specs.Words.{DecideFate, SpeculateFate, By, Did, traced, speculated, emptied, emptied_fate, handed, HandedRecord, once_emptied, some, speculated_fate, waits_for, taken}
+use Rattle.dspec_paths.specs.Words.{discarded, is_same_id, Speculation, Places, PathState, nobodys, going, keeping, kept, thrown_away, lost, PathBook, Became, FateOf, HasFates, KeepsPaths}
+use Rattle.dspec_paths.specs.Words.{DecidesItself, copies, throws}
 use Rattle.dspec_deeds.specs.declared.deed.DecideFate.TheVariants.{Copied, Lost, Thrown, Void, Stopped}
 use Rattle.dspec_deeds.specs.declared.deed.SpeculateFate.TheVariants as speculate
 use Rattle.dspec_promise.proofs.Emptying.{emptied_one, emptied_other, waits_tells}

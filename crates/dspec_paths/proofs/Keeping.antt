@@ -1,9 +1,10 @@
 -- Each call keeps the page.
-use Rattle.std.proofs.Common.{◌≡◌, ◌≢◌, ◌+◌, ◌==◌, ℕ, Bool, true, false, List, Option, Some, None, refl, sym, ap, subst, ◌∙◌, ◌⊎◌, inl, inr, true≢false}
-use Rattle.dspec_paths.specs.Words.{CallsMade, Decided, Did, is_same_id, Speculation, Places, path_at, IsNamed, IsUndecided, with_path, without_path, AdoptsPath, Commits, CommitsNewest}
-use Rattle.dspec_paths.specs.Words.{CommitsOlder, CommitsSo, DiscardsPath, DiscardsSo, KeepsRest, KeepsPath, ThrowsAway, IsUnchanged, loses_block, PathState, nobodys, going, keeping, kept}
-use Rattle.dspec_paths.specs.Words.{thrown_away, lost, PathBook, Became, NotCopied, NotThrown, IsHere, KeepsPaths, GoesOnTo, GoesTo, IsOver, IsDecided, open_state}
+use Rattle.std.proofs.Common.{◌≡◌, ◌≢◌, ℕ, Bool, true, false, List, Option, Some, None, refl, sym, ap, subst, ◌∙◌, ◌⊎◌, inl, inr, true≢false}
+use Rattle.dspec_paths.specs.Words.{CallsMade, Decided, Did, is_same_id, Speculation, Places, IsNamed, IsUndecided, with_path, without_path, AdoptsPath, Commits, CommitsNewest, CommitsSo}
+use Rattle.dspec_paths.specs.Words.{CommitsPart, DiscardsPath, DiscardsSo, GoesOnOrLost, KeepsPart, KeepsRest, KeepsPath, ThrowsAway, IsUnchanged, copied_by, loses_block, PathState, going, keeping}
+use Rattle.dspec_paths.specs.Words.{kept, thrown_away, lost, PathBook, Became, NotCopied, NotThrown, IsHere, KeepsPaths, GoesOnTo, GoesTo, IsDecided, open_state}
 use Rattle.dspec_paths.specs.declared.{open_path.OpenPath.OpenPath, path_end.PathEnd.PathEnd, path_key.PathKey.PathKey}
+use Rattle.dspec_paths.specs.declared.path_end.PathEnd.TheVariants as path
 use Rattle.dspec_paths.proofs.Deciding.{other_id, discard_copies_none, discard_throws_none, if_there_copies_none, if_there_throws_none, commit_copies_none, commit_throws_none, lost_copies_none}
 use Rattle.dspec_paths.proofs.Moving.{becomes, changes, moved, state_here}
 
@@ -144,11 +145,11 @@ ends_kept book ps new k p x y keeps named places own others =
     (λ id apart. others id apart (keeps.became id))
 
 -- its last speculation is committed, or waits
-newest_kept : (lacks : Speculation → Type 0) (waits : Bool) (book : PathBook) (ps new : Places) (k : PathKey) (p : OpenPath) (a : PathEnd) (x y : CallsMade)
-    → KeepsPaths book ps x.done → IsNamed k ps p → CommitsNewest lacks waits k p a x y ps new → GoesTo book new y.done
-newest_kept lacks waits book ps new k p a x y keeps named (inl (wait, asked, none, calls, places)) =
+newest_kept : (lacks : Speculation → Type 0) (waits : Bool) (n : ℕ) (book : PathBook) (ps new : Places) (k : PathKey) (p : OpenPath) (a : PathEnd) (x y : CallsMade)
+    → KeepsPaths book ps x.done → IsNamed k ps p → CommitsNewest lacks waits n k p a x y ps new → GoesTo book new y.done
+newest_kept lacks waits n book ps new k p a x y keeps named (inl (wait, asked, none, calls, places)) =
     stays book ps new k p p x y keeps named places refl refl refl (ap (λ (z : CallsMade). z.done) calls)
-newest_kept lacks waits book ps new k p a x y keeps named (inr (d, ended, none, so, places)) =
+newest_kept lacks waits n book ps new k p a x y keeps named (inr (d, ended, none, so, places)) =
     let whole = (keeps.here k.place p named.0).newest in
     ends_kept book ps new k p x y keeps named places (λ id of_it is. still_kept book id p.newest d x y so whole is) (λ id apart is. others_after book id p.newest d x y so apart is)
 
@@ -168,9 +169,10 @@ older_lost book ps new k p j d e x z y keeps named older so lost_block last plac
     (λ id apart. becomes (book.state (book.owner id)) (book.is_cut id) id x.done y.done (copied id) (thrown id apart) (keeps.became id))
 
 -- its older one was committed, and its last waits, or is committed too
-older_kept : (lacks : Speculation → Type 0) (waits : Bool) (book : PathBook) (ps new : Places) (k : PathKey) (p : OpenPath) (a : PathEnd) (j : Speculation) (d : Decided) (x z y : CallsMade)
-    → KeepsPaths book ps x.done → IsNamed k ps p → p.older ≡ Some j → CommitsSo j d x z → CommitsNewest lacks waits k (record p { older = None; is_kept = true }) a z y ps new → GoesTo book new y.done
-older_kept lacks waits book ps new k p a j d x z y keeps named older so (inl (wait, asked, none, calls, places)) =
+older_kept : (lacks : Speculation → Type 0) (waits : Bool) (n : ℕ) (book : PathBook) (ps new : Places) (k : PathKey) (p : OpenPath) (a : PathEnd) (j : Speculation) (d : Decided)
+    (x z y : CallsMade) → KeepsPaths book ps x.done → IsNamed k ps p → p.older ≡ Some j → CommitsSo j d x z → CommitsNewest lacks waits n k (record p { older = None; is_kept = true }) a z y ps new
+    → GoesTo book new y.done
+older_kept lacks waits n book ps new k p a j d x z y keeps named older so (inl (wait, asked, none, calls, places)) =
     let q : OpenPath = record p { older = None; is_kept = true } in
     let here = keeps.here k.place p named.0 in
     let of_older = here.older j older in
@@ -180,26 +182,46 @@ older_kept lacks waits book ps new k p a j d x z y keeps named older so (inl (wa
     (subst (λ (ds : List Did). Became kept (book.is_cut id) id ds) (sym same) (still_kept book id j d x z so of_older.1 (own_kept book ps x.done k p keeps named id of_it))))
     (λ id apart. subst (λ (ds : List Did). Became (book.state (book.owner id)) (book.is_cut id) id ds) (sym same)
     (others_after book id j d x z so (λ e. apart (e ∙ of_older.0)) (keeps.became id)))
-older_kept lacks waits book ps new k p a j d x z y keeps named older so (inr (e, ended, none, last, places)) =
+older_kept lacks waits n book ps new k p a j d x z y keeps named older so (inr (e, ended, none, last, places)) =
     let here = keeps.here k.place p named.0 in
     let of_older = here.older j older in
     ends_kept book ps new k p x y keeps named places
     (λ id of_it is. still_kept book id p.newest e z y last here.newest (still_kept book id j d x z so of_older.1 is))
     (λ id apart is. others_after book id p.newest e z y last apart (others_after book id j d x z so (λ same. apart (same ∙ of_older.0)) is))
 
-goes_by : (lacks : Speculation → Type 0) (waits : Bool) (book : PathBook) (ps new : Places) (k : PathKey) (p : OpenPath) (a : PathEnd) (j : Speculation) (d : Decided) (x z y : CallsMade) (b : Bool)
-    → loses_block d ≡ b → KeepsPaths book ps x.done → IsNamed k ps p → p.older ≡ Some j → CommitsSo j d x z → KeepsRest lacks waits b k (record p { older = None; is_kept = true }) a z y ps new
-    → GoesTo book new y.done
-goes_by lacks waits book ps new k p a j d x z y true is keeps named older so (whole, (e, last), places) = older_lost book ps new k p j d e x z y keeps named older so is last places
-goes_by lacks waits book ps new k p a j d x z y false is keeps named older so newest = older_kept lacks waits book ps new k p a j d x z y keeps named older so newest
+goes_by : (lacks : Speculation → Type 0) (waits : Bool) (book : PathBook) (ps new : Places) (k : PathKey) (p : OpenPath) (a : PathEnd) (j : Speculation) (d : Decided) (x z y : CallsMade)
+    (n : ℕ) (b : Bool) → loses_block d ≡ b → KeepsPaths book ps x.done → IsNamed k ps p → p.older ≡ Some j → CommitsSo j d x z
+    → KeepsRest lacks waits b n k (record p { older = None; is_kept = true }) a z y ps new → GoesTo book new y.done
+goes_by lacks waits book ps new k p a j d x z y n true is keeps named older so (whole, (e, last), places) = older_lost book ps new k p j d e x z y keeps named older so is last places
+goes_by lacks waits book ps new k p a j d x z y n false is keeps named older so newest = older_kept lacks waits n book ps new k p a j d x z y keeps named older so newest
 
 commits : (lacks : Speculation → Type 0) (waits : Bool) (book : PathBook) (ps new : Places) (k : PathKey) (p : OpenPath) (a : PathEnd) (x y : CallsMade) (o : Option Speculation) → p.older ≡ o
     → KeepsPaths book ps x.done → IsNamed k ps p → Commits lacks waits o k p a x y ps new → GoesTo book new y.done
-commits lacks waits book ps new k p a x y None older keeps named newest = newest_kept lacks waits book ps new k p a x y keeps named newest
+commits lacks waits book ps new k p a x y None older keeps named newest = newest_kept lacks waits 0 book ps new k p a x y keeps named newest
 commits lacks waits book ps new k p a x y (Some j) older keeps named (inl (wait, asked, none, calls, places)) = unchanged book ps new x y keeps (calls, places)
-commits lacks waits book ps new k p a x y (Some j) older keeps named (inr (d, z, none, so, on)) = goes_by lacks waits book ps new k p a j d x z y (loses_block d) refl keeps named older so on
+commits lacks waits book ps new k p a x y (Some j) older keeps named (inr (d, z, none, so, on)) =
+    goes_by lacks waits book ps new k p a j d x z y (copied_by d) (loses_block d) refl keeps named older so on
 
 pub keeps_on : (lacks : Speculation → Type 0) (waits : Bool) (book : PathBook) (ps new : Places) (k : PathKey) (a : PathEnd) (x y : CallsMade) → KeepsPaths book ps x.done
     → KeepsPath lacks waits k a x y ps new → GoesTo book new y.done
 keeps_on lacks waits book ps new k a x y keeps (inl (is_over, none, same)) = unchanged book ps new x y keeps same
 keeps_on lacks waits book ps new k a x y keeps (inr (p, named, on)) = commits lacks waits book ps new k p a x y p.older refl keeps named on
+
+goes_on_by : (book : PathBook) (ps new : Places) (k : PathKey) (p : OpenPath) (a : PathEnd) (j : Speculation) (d : Decided) (x z y : CallsMade) (n : ℕ) (b : Bool)
+    → loses_block d ≡ b → KeepsPaths book ps x.done → IsNamed k ps p → p.older ≡ Some j → CommitsSo j d x z
+    → GoesOnOrLost b n k (record p { older = None; is_kept = true }) a z y ps new → GoesTo book new y.done
+goes_on_by book ps new k p a j d x z y n true is keeps named older so (whole, (e, last), places) = older_lost book ps new k p j d e x z y keeps named older so is last places
+goes_on_by book ps new k p a j d x z y n false is keeps named older so (goes, calls, places) =
+    older_kept (λ (id : Speculation). Unit {0}) true n book ps new k p (path.Waits n) j d x z y keeps named older so (inl (refl, refl, tt, calls, places))
+
+commits_part : (lacks : Speculation → Type 0) (waits : Bool) (book : PathBook) (ps new : Places) (k : PathKey) (p : OpenPath) (a : PathEnd) (x y : CallsMade) (o : Option Speculation)
+    → p.older ≡ o → KeepsPaths book ps x.done → IsNamed k ps p → CommitsPart lacks waits o k p a x y ps new → GoesTo book new y.done
+commits_part lacks waits book ps new k p a x y None older keeps named newest = newest_kept lacks waits 0 book ps new k p a x y keeps named newest
+commits_part lacks waits book ps new k p a x y (Some j) older keeps named (inl (wait, asked, none, calls, places)) = unchanged book ps new x y keeps (calls, places)
+commits_part lacks waits book ps new k p a x y (Some j) older keeps named (inr (d, z, none, so, on)) =
+    goes_on_by book ps new k p a j d x z y (copied_by d) (loses_block d) refl keeps named older so on
+
+pub part_keeps_on : (lacks : Speculation → Type 0) (waits : Bool) (book : PathBook) (ps new : Places) (k : PathKey) (a : PathEnd) (x y : CallsMade) → KeepsPaths book ps x.done
+    → KeepsPart lacks waits k a x y ps new → GoesTo book new y.done
+part_keeps_on lacks waits book ps new k a x y keeps (inl (is_over, none, same)) = unchanged book ps new x y keeps same
+part_keeps_on lacks waits book ps new k a x y keeps (inr (p, named, on)) = commits_part lacks waits book ps new k p a x y p.older refl keeps named on

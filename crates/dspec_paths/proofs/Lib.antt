@@ -1,3 +1,4 @@
+mod AtOnce
 mod Deciding
 mod Fates
 mod Keeping

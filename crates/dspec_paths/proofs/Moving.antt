@@ -1,11 +1,11 @@
 -- A book in which one path is something else now.
-use Rattle.std.proofs.Common.{◌≡◌, ◌≢◌, ◌+◌, ◌<◌, ◌≤◌, ◌==◌, ℕ, Bool, true, false, List, length, Option, Some, None, if◌then◌else◌, refl, sym, ap, subst, ◌∙◌, inl, inr, true≢false, arith, ◌⊎◌}
+use Rattle.std.proofs.Common.{◌≡◌, ◌≢◌, ◌+◌, ◌<◌, ◌≤◌, ◌==◌, ℕ, Bool, true, false, List, length, Option, Some, None, if◌then◌else◌, refl, sym, ap, subst, ◌∙◌, inl, inr, arith}
 use Rattle.std.proofs.lemmas.{Bool.Decides.nat_tests, Option.slice_get_within}
 use Rattle.std.specs.Prelude.{slice_get, slice_set}
 use Rattle.dspec_cpu_state.proofs.Places.{got_other, got_set}
 use Rattle.dspec_deeds.proofs.TestLemmas.{either_way, same_number, number_is_itself}
 use Rattle.dspec_paths.specs.Words.{Did, Speculation, Places, at_place, path_at, IsNamed, PathState, nobodys, going, keeping, kept, thrown_away, lost, PathBook, Became, NotCopied, NotThrown, IsHere}
-use Rattle.dspec_paths.specs.Words.{IsItsPart, KeepsPaths, GoesOnTo, GoesTo, IsOver, IsDecided, open_state}
+use Rattle.dspec_paths.specs.Words.{KeepsPaths, GoesOnTo, GoesTo, IsOver, IsDecided, open_state}
 use Rattle.dspec_paths.specs.declared.{open_path.OpenPath.OpenPath, path_key.PathKey.PathKey}
 
 -- what became of a speculation goes on where nothing more was copied or thrown away of it

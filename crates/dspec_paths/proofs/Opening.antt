@@ -1,16 +1,15 @@
 -- A speculation that is given out, and what else a CPU does, keep the page.
-use Rattle.std.proofs.Common.{◌≡◌, ◌≢◌, ◌+◌, ◌<◌, ◌≤◌, ◌==◌, ◌||◌, ℕ, zero, suc, Bool, true, false, List, [], ◌∷◌, length, replicate, Option, Some, None, if◌then◌else◌, refl, sym, ap, subst, ◌∙◌}
-use Rattle.std.proofs.Common.{◌⊎◌, inl, inr, true≢false, arith}
+use Rattle.std.proofs.Common.{◌≡◌, ◌≢◌, ◌+◌, ◌<◌, ◌≤◌, ◌==◌, ℕ, zero, suc, Bool, true, false, List, [], ◌∷◌, length, replicate, Option, Some, None, if◌then◌else◌, refl, sym, ap, subst, ◌∙◌, ◌⊎◌}
+use Rattle.std.proofs.Common.{inl, inr, arith}
 use Rattle.std.proofs.lemmas.{Bool.Decides.nat_tests, Option.slice_get_within}
 use Rattle.std.specs.Prelude.{slice_get, slice_set}
-use Rattle.dspec_paths.specs.Words.{CallsMade, with_speculation, Decided, Opening, Id, Unavailable, Busy, Stopped, Worn, Did, is_same_id, some, Speculation, Places, path_at, IsNamed, IsUndecided}
-use Rattle.dspec_paths.specs.Words.{with_path, begun_with, turned_to, BeginsBy, BeginsIn, DiscardsIfThere, TurnsBy, TurnsTo, PathState, nobodys, going, keeping, PathBook, Became, NotCopied}
-use Rattle.dspec_paths.specs.Words.{NotThrown, IsNobodys, IsHere, KeepsPaths, GoesOnTo, GoesTo, IsOver, IsDecided, Spares, no_paths, copies, open_state, throws}
+use Rattle.dspec_paths.specs.Words.{CallsMade, with_speculation, Opening, Id, Unavailable, Busy, Stopped, Worn, Did, is_same_id, some, Speculation, Places, path_at, with_path, begun_with, BeginsBy}
+use Rattle.dspec_paths.specs.Words.{PathState, nobodys, going, keeping, PathBook, Became, NotCopied, NotThrown, IsNobodys, IsHere, KeepsPaths, GoesOnTo, GoesTo, IsOver, IsDecided, Spares, no_paths}
+use Rattle.dspec_paths.specs.Words.{copies, throws}
 use Rattle.dspec_paths.specs.declared.{open_path.OpenPath.OpenPath, path_key.PathKey.PathKey}
 use Rattle.dspec_deeds.proofs.TestLemmas.{either_way, id_is_itself, same_id_tells, same_number}
-use Rattle.dspec_paths.proofs.Deciding.{discard_copies_none, discard_throws_none, if_there_copies_none, if_there_throws_none, one_more}
-use Rattle.dspec_paths.proofs.Keeping.{goes_as_it_is, not_of, some_inside, state_undecided, unchanged}
-use Rattle.dspec_paths.proofs.Moving.{becomes, is_begun, path_other, path_set, place_within, two_paths}
+use Rattle.dspec_paths.proofs.{Deciding.discard_copies_none, Deciding.discard_throws_none, Deciding.one_more, Keeping.goes_as_it_is, Keeping.not_of, Keeping.some_inside, Moving.becomes}
+use Rattle.dspec_paths.proofs.{Moving.is_begun, Moving.path_other, Moving.path_set}
 
 zero_or : (n : ℕ) → (n ≡ 0) ⊎ (n ≢ 0)
 zero_or n = elim (either_way (n == 0)) [ inl e ↦ inl (same_number n 0 e) | inr e ↦ inr (grind (arith, nat_tests)) ]

@@ -1,10 +1,9 @@
 -- A path that goes on in a new speculation keeps the page.
-use Rattle.std.proofs.Common.{◌≡◌, ◌≢◌, ◌==◌, ◌||◌, ℕ, Bool, true, false, List, Option, Some, None, if◌then◌else◌, refl, sym, ap, subst, ◌∙◌, ◌⊎◌, inl, inr, true≢false, arith}
+use Rattle.std.proofs.Common.{◌≡◌, ◌≢◌, ◌==◌, ◌||◌, ℕ, Bool, true, false, Option, Some, None, if◌then◌else◌, refl, sym, ap, subst, ◌∙◌, inl, inr, true≢false, arith}
 use Rattle.std.proofs.lemmas.Bool.Decides.{nat_tests}
 use Rattle.std.specs.Prelude.{slice_set}
-use Rattle.dspec_paths.specs.Words.{CallsMade, with_speculation, Decided, Opening, Id, Unavailable, Busy, Stopped, Worn, Did, is_same_id, Speculation, Places, path_at, IsUndecided, with_path}
-use Rattle.dspec_paths.specs.Words.{turned_to, DiscardsIfThere, TurnsBy, TurnsTo, PathState, going, keeping, PathBook, Became, NotCopied, NotThrown, IsNobodys, IsHere, KeepsPaths, GoesOnTo, GoesTo}
-use Rattle.dspec_paths.specs.Words.{IsDecided, open_state}
+use Rattle.dspec_paths.specs.Words.{CallsMade, with_speculation, Decided, Opening, Id, Unavailable, Busy, Stopped, Worn, is_same_id, Speculation, Places, path_at, IsUndecided, with_path, turned_to}
+use Rattle.dspec_paths.specs.Words.{DiscardsIfThere, TurnsBy, going, PathBook, Became, NotCopied, IsNobodys, IsHere, KeepsPaths, GoesOnTo, GoesTo, IsDecided}
 use Rattle.dspec_paths.specs.declared.{open_path.OpenPath.OpenPath, path_key.PathKey.PathKey}
 use Rattle.dspec_deeds.proofs.TestLemmas.{either_way, id_is_itself, same_id_tells, same_number}
 use Rattle.dspec_paths.proofs.{Deciding.if_there_copies_none, Deciding.if_there_throws_none, Deciding.other_id, Keeping.some_inside, Keeping.state_undecided, Moving.becomes, Moving.is_begun}

@@ -23,18 +23,13 @@ DiscardsIfMeant whose i x y old new =
     (NoneMeant whose i old × IsUnchanged x y old new)
     ⊎ ((p : OpenPath) × (a : Bool) × (path_at i old ≡ Some p) × (is_meant whose p.thread ≡ true) × DiscardsPath (key_at i p) a x y old new)
 
--- it was kept, or lost where it has no room
-abbrev pub KeepsIfMeant : (Speculation → Type 0) → WhosePaths → ℕ → CallsMade → CallsMade → Places → Places → Type 0
-KeepsIfMeant lacks whose i x y old new =
+-- it was kept, or lost where it has no room: nobody waits for room
+abbrev pub KeepsIfMeant : WhosePaths → ℕ → CallsMade → CallsMade → Places → Places → Type 0
+KeepsIfMeant whose i x y old new =
     (NoneMeant whose i old × IsUnchanged x y old new)
-    ⊎ ((p : OpenPath) × (a : PathEnd) × (path_at i old ≡ Some p) × (is_meant whose p.thread ≡ true) × KeepsPath lacks false (key_at i p) a x y old new)
+    ⊎ ((p : OpenPath) × (a : PathEnd) × (path_at i old ≡ Some p) × (is_meant whose p.thread ≡ true) × KeepsPath (λ (id : Speculation). ⊥) false (key_at i p) a x y old new)
 
 -- one place after another, so many
 abbrev pub EachOf : (ℕ → CallsMade → CallsMade → Places → Places → Type 0) → ℕ → CallsMade → CallsMade → Places → Places → Type 0
 EachOf step zero x y old new = (y ≡ x) × (new ≡ old)
 EachOf step (suc n) x y old new = (z : CallsMade) × (mid : Places) × EachOf step n x z old mid × step n z y mid new
-
--- the same of paths that are kept, on a CPU whose calls did what `made` tells, and which lacks room where `lacks` says so
-abbrev pub EachKept : {B : Type 0} → (B → CallsMade) → (B → Speculation → Type 0) → WhosePaths → ℕ → B → B → Places → Places → Type 0
-EachKept {B = B} made lacks whose zero x y old new = (made y ≡ made x) × (new ≡ old)
-EachKept {B = B} made lacks whose (suc n) x y old new = (z : B) × (mid : Places) × EachKept made lacks whose n x z old mid × KeepsIfMeant (lacks y) whose n (made z) (made y) mid new

@@ -1,8 +1,9 @@
 -- Cited by calls. That each call on a table keeps the page of its paths, and what that says of records.
 use Rattle.std.specs.{List.AllByRecursion, Prelude.ℕ, Prelude.◌≡◌, Prelude.Bool, Prelude.List, Prelude.◌∷◌, Prelude.Option}
-use Rattle.dspec_paths.specs.{PathPage.DecidesItself, PathPage.GoesTo, PathPage.HasFates, PathPage.IsNobodys, PathPage.KeepsPaths, PathPage.PathBook, PathPage.Spares, Table.Places, Table.AdoptsPath}
-use Rattle.dspec_paths.specs.{Table.BeginsBy, Table.DiscardsPath, Table.IsUndecided, Table.KeepsPath, Table.TurnsBy, Words.Outside.CallsMade, Words.Outside.Opening, Words.Outside.Did}
-use Rattle.dspec_paths.specs.{Words.Outside.handed, Words.Outside.Speculation, declared.open_path.OpenPath.OpenPath, declared.path_end.PathEnd.PathEnd, declared.path_key.PathKey.PathKey}
+use Rattle.dspec_paths.specs.PathPage.{DecidesItself, GoesTo, HasFates, IsNobodys, KeepsPaths, PathBook, Spares}
+use Rattle.dspec_paths.specs.Table.{Places, AdoptsPath, BeginsBy, DiscardsPath, IsUndecided, KeepsPart, KeepsPath, TurnsBy}
+use Rattle.dspec_paths.specs.Words.Outside.{CallsMade, Opening, Did, handed, Speculation}
+use Rattle.dspec_paths.specs.declared.{open_path.OpenPath.OpenPath, path_end.PathEnd.PathEnd, path_key.PathKey.PathKey}
 use Rattle.dspec_deeds.specs.declared.calls.Opening.TheVariants as opening
 
 -- what is opened is nobody's before
@@ -23,6 +24,11 @@ DiscardingKeeps = (book : PathBook) (ps new : Places) (k : PathKey) (a : Bool) (
 -- by which speculations a commit would find no room
 abbrev pub KeepingKeeps : (Speculation → Type 0) → Type 0
 KeepingKeeps lacks = (waits : Bool) (book : PathBook) (ps new : Places) (k : PathKey) (a : PathEnd) (x y : CallsMade) → KeepsPaths book ps x.done → KeepsPath lacks waits k a x y ps new
+    → GoesTo book new y.done
+
+-- the same of a part
+abbrev pub KeepingPartKeeps : (Speculation → Type 0) → Type 0
+KeepingPartKeeps lacks = (waits : Bool) (book : PathBook) (ps new : Places) (k : PathKey) (a : PathEnd) (x y : CallsMade) → KeepsPaths book ps x.done → KeepsPart lacks waits k a x y ps new
     → GoesTo book new y.done
 
 abbrev pub AdoptingKeeps : Type 0

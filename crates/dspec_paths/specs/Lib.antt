@@ -1,5 +1,6 @@
 pub mod Every
 pub mod Laws
+pub mod Lent
 pub mod Open
 pub mod PathPage
 pub mod Rooms

@@ -1,9 +1,7 @@
 -- Cited by calls. What a table promises of the paths that began in it: this page, over what its CPU's calls did (the page of dspec_promise).
-use Rattle.std.specs.List.{AllByRecursion}
-use Rattle.std.specs.Prelude.{ℕ, ◌≡◌, ◌≢◌, ◌+◌, ◌≤◌, Bool, true, false, List, [], ◌∷◌, if◌then◌else◌, Option, Some, None}
-use Rattle.dspec_paths.specs.Table.{Places, path_at}
-use Rattle.dspec_paths.specs.Words.Outside.{By, commit, discard, Did, emptied, some, is_same_id, handed, HandedRecord, taken, discarded, Speculation}
-use Rattle.dspec_paths.specs.declared.open_path.OpenPath.{OpenPath}
+use Rattle.std.specs.{List.AllByRecursion, Prelude.ℕ, Prelude.◌≡◌, Prelude.◌≢◌, Prelude.◌+◌, Prelude.◌≤◌, Prelude.Bool, Prelude.true, Prelude.false, Prelude.List, Prelude.Some, Prelude.None}
+use Rattle.dspec_paths.specs.{Table.Places, Table.path_at, Words.Outside.commit, Words.Outside.discard, Words.Outside.Did, Words.Outside.emptied, Words.Outside.some, Words.Outside.is_same_id}
+use Rattle.dspec_paths.specs.{Words.Outside.HandedRecord, Words.Outside.taken, Words.Outside.discarded, Words.Outside.Speculation, declared.open_path.OpenPath.OpenPath}
 use Rattle.dspec_deeds.specs.declared.deed.DecideFate.TheVariants as decide
 
 -- 1. WHAT A PATH IS. Paths are numbered from 1 on in the order in which they began. A path is open at a place of the table, undecided (`going`), or its older

@@ -109,10 +109,24 @@ TurnsPath {B = B} made asked k a x y old new =
     ((a ≡ None) × NoneUndecided k old × (y ≡ x) × (new ≡ old))
     ⊎ ((p : OpenPath) × (o : Opening) × (z : B) × IsUndecided k old p × asked o x z × IfNone a (y ≡ z) × TurnsBy o k p a (made x) (made y) old new)
 
+-- how many records a commit copied
+abbrev pub copied_by : Decided → ℕ
+copied_by (decided.Copied n) = n
+copied_by d = 0
+
 -- the commit lost its block
 abbrev pub loses_block : Decided → Bool
 loses_block (decided.Lost n) = true
 loses_block d = false
+
+-- a path is lost as a whole: its last speculation is discarded
+abbrev pub LosesPath : PathKey → OpenPath → PathEnd → CallsMade → CallsMade → Places → Places → Type 0
+LosesPath k p a x y ps new = (a ≡ path.Lost) × ((d : Decided) × DiscardsSo p.newest d x y) × (new ≡ without_path k ps)
+
+-- Its older one was committed. Where its block was lost the path is lost as a whole; else the path stays, with so many older records copied.
+abbrev pub GoesOnOrLost : Bool → ℕ → PathKey → OpenPath → PathEnd → CallsMade → CallsMade → Places → Places → Type 0
+GoesOnOrLost true n k p a x y ps new = LosesPath k p a x y ps new
+GoesOnOrLost false n k p a x y ps new = (a ≡ path.GoesOn n) × (y ≡ x) × (new ≡ with_path k p ps)
 
 -- By which speculations a commit would find no room, and whether the caller is to wait where one does:
 module _ (lacks : Speculation → Type 0) (waits : Bool) where
@@ -125,28 +139,43 @@ module _ (lacks : Speculation → Type 0) (waits : Bool) where
   CommitsOrWaits id None x y = IsTrue waits × lacks id × (y ≡ x)
   CommitsOrWaits id (Some d) x y = LosesNone d × CommitsSo id d x y
 
-  -- it waits for room for this one, and these are the paths
-  abbrev pub WaitsForRoom : Speculation → PathEnd → CallsMade → CallsMade → Places → Places → Type 0
-  WaitsForRoom id a x y ps new = (a ≡ path.Waits) × IsTrue waits × lacks id × (y ≡ x) × (new ≡ ps)
+  -- it waits for room for this one, so many of its older records were copied by this call, and these are the paths
+  abbrev pub WaitsForRoom : ℕ → Speculation → PathEnd → CallsMade → CallsMade → Places → Places → Type 0
+  WaitsForRoom n id a x y ps new = (a ≡ path.Waits n) × IsTrue waits × lacks id × (y ≡ x) × (new ≡ ps)
 
-  -- the path's last speculation was to be committed
-  abbrev pub CommitsNewest : PathKey → OpenPath → PathEnd → CallsMade → CallsMade → Places → Places → Type 0
-  CommitsNewest k p a x y ps new =
-      WaitsForRoom p.newest a x y (with_path k p ps) new ⊎ ((d : Decided) × (a ≡ path.Ended d) × LosesNone d × CommitsSo p.newest d x y × (new ≡ without_path k ps))
+  -- the path's last speculation was to be committed, after so many older records
+  abbrev pub CommitsNewest : ℕ → PathKey → OpenPath → PathEnd → CallsMade → CallsMade → Places → Places → Type 0
+  CommitsNewest n k p a x y ps new =
+      WaitsForRoom n p.newest a x y (with_path k p ps) new ⊎ ((d : Decided) × (a ≡ path.Ended n d) × LosesNone d × CommitsSo p.newest d x y × (new ≡ without_path k ps))
 
-  -- The one before it was committed, so that the path is decided. Where its block was lost the path is lost as a whole: the last one is discarded.
-  abbrev pub KeepsRest : Bool → PathKey → OpenPath → PathEnd → CallsMade → CallsMade → Places → Places → Type 0
-  KeepsRest true k p a x y ps new = (a ≡ path.Lost) × ((d : Decided) × DiscardsSo p.newest d x y) × (new ≡ without_path k ps)
-  KeepsRest false k p a x y ps new = CommitsNewest k p a x y ps new
+  -- The one before it was committed, so that the path is decided. Where its block was lost the path is lost as a whole.
+  abbrev pub KeepsRest : Bool → ℕ → PathKey → OpenPath → PathEnd → CallsMade → CallsMade → Places → Places → Type 0
+  KeepsRest true n k p a x y ps new = LosesPath k p a x y ps new
+  KeepsRest false n k p a x y ps new = CommitsNewest n k p a x y ps new
 
   -- the one before the last was to be committed, and then the last
   abbrev pub CommitsOlder : Speculation → PathKey → OpenPath → PathEnd → CallsMade → CallsMade → Places → Places → Type 0
   CommitsOlder id k p a x y ps new =
-      WaitsForRoom id a x y ps new ⊎ ((d : Decided) × (z : CallsMade) × LosesNone d × CommitsSo id d x z × KeepsRest (loses_block d) k (record p { older = None; is_kept = true }) a z y ps new)
+      WaitsForRoom 0 id a x y ps new
+      ⊎ ((d : Decided) × (z : CallsMade) × LosesNone d × CommitsSo id d x z × KeepsRest (loses_block d) (copied_by d) k (record p { older = None; is_kept = true }) a z y ps new)
 
   abbrev pub Commits : Option Speculation → PathKey → OpenPath → PathEnd → CallsMade → CallsMade → Places → Places → Type 0
-  Commits None k p a x y ps new = CommitsNewest k p a x y ps new
+  Commits None k p a x y ps new = CommitsNewest 0 k p a x y ps new
   Commits (Some id) k p a x y ps new = CommitsOlder id k p a x y ps new
+
+  -- the same a part a call
+  abbrev pub CommitsOlderPart : Speculation → PathKey → OpenPath → PathEnd → CallsMade → CallsMade → Places → Places → Type 0
+  CommitsOlderPart id k p a x y ps new =
+      WaitsForRoom 0 id a x y ps new
+      ⊎ ((d : Decided) × (z : CallsMade) × LosesNone d × CommitsSo id d x z × GoesOnOrLost (loses_block d) (copied_by d) k (record p { older = None; is_kept = true }) a z y ps new)
+
+  abbrev pub CommitsPart : Option Speculation → PathKey → OpenPath → PathEnd → CallsMade → CallsMade → Places → Places → Type 0
+  CommitsPart None k p a x y ps new = CommitsNewest 0 k p a x y ps new
+  CommitsPart (Some id) k p a x y ps new = CommitsOlderPart id k p a x y ps new
+
+  -- a part of a path was to be kept
+  abbrev pub KeepsPart : PathKey → PathEnd → CallsMade → CallsMade → Places → Places → Type 0
+  KeepsPart k a x y old new = ((a ≡ path.Over) × NoneNamed k old × IsUnchanged x y old new) ⊎ ((p : OpenPath) × IsNamed k old p × CommitsPart p.older k p a x y old new)
 
   -- a path was to be kept
   abbrev pub KeepsPath : PathKey → PathEnd → CallsMade → CallsMade → Places → Places → Type 0

@@ -39,7 +39,8 @@ impl Paths {
         thread: u32,
         stamp: u64,
     ) -> Option<PathKey>
-        ensures { BeginsPath B.made B.asked number thread stamp result cpu.old cpu.new (places_of self.old) (places_of self.new) }
+        ensures same { B.identity cpu.new ≡ B.identity cpu.old }
+        ensures begins { BeginsPath B.made B.asked number thread stamp result cpu.old cpu.new (places_of self.old) (places_of self.new) }
     {
         match cpu.speculation() {
             Opening::Id(id) => self.begin_in(cpu, id, number, thread, stamp),
@@ -56,6 +57,7 @@ impl Paths {
         thread: u32,
         stamp: u64,
     ) -> Option<PathKey>
+        ensures same { B.identity cpu.new ≡ B.identity cpu.old }
         ensures alone { IfSome result (λ _. cpu.new ≡ cpu.old) }
         ensures begins { BeginsIn id number thread stamp result (B.made cpu.old) (B.made cpu.new) (places_of self.old) (places_of self.new) }
     {

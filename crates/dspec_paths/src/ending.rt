@@ -1,6 +1,6 @@
 ghost use Rattle.std.specs.Prelude.{◌≡◌, ◌<◌};
 ghost use Rattle.dspec_paths.specs.Open.{places_of};
-ghost use Rattle.dspec_paths.specs.Table.{CommitsNewest, CommitsOlder, CommitsOrWaits, DiscardsPath, KeepsRest, IsNamed, KeepsPath, loses_block};
+ghost use Rattle.dspec_paths.specs.Table.{CommitsNewest, CommitsOlder, CommitsOlderPart, CommitsOrWaits, copied_by, DiscardsPath, KeepsPart, KeepsRest, IsNamed, KeepsPath, loses_block, LosesPath};
 
 use crate::open_path::OpenPath;
 use crate::path_end::PathEnd;
@@ -13,12 +13,23 @@ use dspec_word::SpecId;
 
 // A commit; None where it is to wait for room.
 fn commit_or_wait<B: SpeculationCalls>(cpu: &mut B, id: SpecId, waits: bool) -> Option<Decided>
-    ensures { CommitsOrWaits (B.lacks_room cpu.new) waits id result (B.made cpu.old) (B.made cpu.new) }
+    ensures same { B.identity cpu.new ≡ B.identity cpu.old }
+    ensures commits { CommitsOrWaits (B.lacks_room cpu.new) waits id result (B.made cpu.old) (B.made cpu.new) }
 {
     if waits {
         return cpu.commit_if_room(id);
     }
     Some(cpu.commit(id))
+}
+
+// How many records a commit copied.
+fn records_copied(answer: Decided) -> u32
+    ensures { result ≡ copied_by answer }
+{
+    match answer {
+        Decided::Copied(count) => count,
+        _ => 0,
+    }
 }
 
 // Whether a commit lost its block.
@@ -33,14 +44,15 @@ impl Paths {
     /// principal buffer has none the path stays open, to be kept later. Else what has no room is lost, and with its older records a
     /// path is lost as a whole, since no end of a path is kept for the path.
     pub fn keep<B: SpeculationCalls>(&mut self, cpu: &mut B, key: &PathKey, waits: bool) -> PathEnd
-        ensures { KeepsPath (B.lacks_room cpu.new) waits key.now result (B.made cpu.old) (B.made cpu.new) (places_of self.old) (places_of self.new) }
+        ensures same { B.identity cpu.new ≡ B.identity cpu.old }
+        ensures keeps { KeepsPath (B.lacks_room cpu.new) waits key.now result (B.made cpu.old) (B.made cpu.new) (places_of self.old) (places_of self.new) }
     {
         let Some(path) = self.named(key) else {
             return PathEnd::Over;
         };
         match path.older {
             Some(older) => self.keep_older(cpu, key, &path, older, waits),
-            None => self.keep_newest(cpu, key, &path, waits),
+            None => self.keep_newest(cpu, key, &path, 0, waits),
         }
     }
 
@@ -54,67 +66,129 @@ impl Paths {
         waits: bool,
     ) -> PathEnd
         requires { IsNamed key.now (places_of self.old) path.now }
-        ensures { CommitsOlder (B.lacks_room cpu.new) waits older key.now path.now result (B.made cpu.old) (B.made cpu.new) (places_of self.old) (places_of self.new) }
+        ensures same { B.identity cpu.new ≡ B.identity cpu.old }
+        ensures keeps { CommitsOlder (B.lacks_room cpu.new) waits older key.now path.now result (B.made cpu.old) (B.made cpu.new) (places_of self.old) (places_of self.new) }
     {
         match commit_or_wait(cpu, older, waits) {
-            None => PathEnd::Waits,
+            None => PathEnd::Waits(0),
             Some(answer) => {
                 let rest = OpenPath {
                     older: None,
                     is_kept: true,
                     ..*path
                 };
-                self.go_on(cpu, key, &rest, is_lost_block(answer), waits)
+                self.go_on(cpu, key, &rest, answer, waits)
             }
         }
     }
 
-    // They were committed, or lost.
+    // They were committed, or lost, with this answer.
     fn go_on<B: SpeculationCalls>(
         &mut self,
         cpu: &mut B,
         key: &PathKey,
         path: &OpenPath,
-        are_lost: bool,
+        answer: Decided,
         waits: bool,
     ) -> PathEnd
         requires { key.now.place < 64 }
-        ensures { KeepsRest (B.lacks_room cpu.new) waits are_lost key.now path.now result (B.made cpu.old) (B.made cpu.new) (places_of self.old) (places_of self.new) }
+        ensures same { B.identity cpu.new ≡ B.identity cpu.old }
+        ensures keeps { KeepsRest (B.lacks_room cpu.new) waits (loses_block answer) (copied_by answer) key.now path.now result (B.made cpu.old) (B.made cpu.new) (places_of self.old) (places_of self.new) }
     {
-        if are_lost {
-            cpu.discard(path.newest);
-            self.put(key.place, None);
-            return PathEnd::Lost;
+        if is_lost_block(answer) {
+            return self.lose(cpu, key, path);
         }
-        self.keep_newest(cpu, key, path, waits)
+        self.keep_newest(cpu, key, path, records_copied(answer), waits)
     }
 
-    // Its last records.
+    // It is lost as a whole, since its older records were.
+    fn lose<B: SpeculationCalls>(&mut self, cpu: &mut B, key: &PathKey, path: &OpenPath) -> PathEnd
+        requires { key.now.place < 64 }
+        ensures same { B.identity cpu.new ≡ B.identity cpu.old }
+        ensures loses { LosesPath key.now path.now result (B.made cpu.old) (B.made cpu.new) (places_of self.old) (places_of self.new) }
+    {
+        cpu.discard(path.newest);
+        self.put(key.place, None);
+        PathEnd::Lost
+    }
+
+    // Its last records, after so many older ones.
     fn keep_newest<B: SpeculationCalls>(
         &mut self,
         cpu: &mut B,
         key: &PathKey,
         path: &OpenPath,
+        before: u32,
         waits: bool,
     ) -> PathEnd
         requires { key.now.place < 64 }
-        ensures { CommitsNewest (B.lacks_room cpu.new) waits key.now path.now result (B.made cpu.old) (B.made cpu.new) (places_of self.old) (places_of self.new) }
+        ensures same { B.identity cpu.new ≡ B.identity cpu.old }
+        ensures keeps { CommitsNewest (B.lacks_room cpu.new) waits before key.now path.now result (B.made cpu.old) (B.made cpu.new) (places_of self.old) (places_of self.new) }
     {
         match commit_or_wait(cpu, path.newest, waits) {
             None => {
                 self.put(key.place, Some(*path));
-                PathEnd::Waits
+                PathEnd::Waits(before)
             }
             Some(answer) => {
                 self.put(key.place, None);
-                PathEnd::Ended(answer)
+                PathEnd::Ended(before, answer)
             }
         }
     }
 
+    /// As `keep`, but one speculation a call, so that a caller may make room or note what was kept in between: the older one, where
+    /// there is one, which is answered by `GoesOn`; else the last one.
+    pub fn keep_part<B: SpeculationCalls>(
+        &mut self,
+        cpu: &mut B,
+        key: &PathKey,
+        waits: bool,
+    ) -> PathEnd
+        ensures same { B.identity cpu.new ≡ B.identity cpu.old }
+        ensures keeps { KeepsPart (B.lacks_room cpu.new) waits key.now result (B.made cpu.old) (B.made cpu.new) (places_of self.old) (places_of self.new) }
+    {
+        let Some(path) = self.named(key) else {
+            return PathEnd::Over;
+        };
+        match path.older {
+            Some(older) => self.keep_older_part(cpu, key, &path, older, waits),
+            None => self.keep_newest(cpu, key, &path, 0, waits),
+        }
+    }
+
+    // Its older records alone.
+    fn keep_older_part<B: SpeculationCalls>(
+        &mut self,
+        cpu: &mut B,
+        key: &PathKey,
+        path: &OpenPath,
+        older: SpecId,
+        waits: bool,
+    ) -> PathEnd
+        requires { IsNamed key.now (places_of self.old) path.now }
+        ensures same { B.identity cpu.new ≡ B.identity cpu.old }
+        ensures keeps { CommitsOlderPart (B.lacks_room cpu.new) waits older key.now path.now result (B.made cpu.old) (B.made cpu.new) (places_of self.old) (places_of self.new) }
+    {
+        let Some(answer) = commit_or_wait(cpu, older, waits) else {
+            return PathEnd::Waits(0);
+        };
+        let rest = OpenPath {
+            older: None,
+            is_kept: true,
+            ..*path
+        };
+        if is_lost_block(answer) {
+            return self.lose(cpu, key, &rest);
+        }
+        self.put(key.place, Some(rest));
+        PathEnd::GoesOn(records_copied(answer))
+    }
+
     /// Throws a path away: its speculations are discarded. Whether one of this name was open and undecided.
     pub fn discard<B: SpeculationCalls>(&mut self, cpu: &mut B, key: &PathKey) -> bool
-        ensures { DiscardsPath key.now result (B.made cpu.old) (B.made cpu.new) (places_of self.old) (places_of self.new) }
+        ensures same { B.identity cpu.new ≡ B.identity cpu.old }
+        ensures discards { DiscardsPath key.now result (B.made cpu.old) (B.made cpu.new) (places_of self.old) (places_of self.new) }
     {
         let Some(path) = self.undecided(key) else {
             return false;

@@ -1,5 +1,5 @@
 ghost use Rattle.std.specs.Prelude.{◌≡◌, length};
-ghost use Rattle.dspec_paths.specs.{Every.DiscardsIfMeant, Every.EachKept, Every.EachOf, Every.KeepsIfMeant, Every.is_meant, Open.places_of};
+ghost use Rattle.dspec_paths.specs.{Every.DiscardsIfMeant, Every.EachOf, Every.KeepsIfMeant, Every.is_meant, Open.places_of};
 
 use crate::path_key::PathKey;
 use crate::paths::Paths;
@@ -19,7 +19,8 @@ fn means(whose: WhosePaths, thread: u32) -> bool
 impl Paths {
     /// Keeps the path at a place, where it is meant.
     fn keep_at<B: SpeculationCalls>(&mut self, cpu: &mut B, place: u32, whose: WhosePaths)
-        ensures { KeepsIfMeant (B.lacks_room cpu.new) whose place (B.made cpu.old) (B.made cpu.new) (places_of self.old) (places_of self.new) }
+        ensures same { B.identity cpu.new ≡ B.identity cpu.old }
+        ensures keeps { KeepsIfMeant whose place (B.made cpu.old) (B.made cpu.new) (places_of self.old) (places_of self.new) }
     {
         let Some(path) = self.open_at(place) else {
             return;
@@ -35,7 +36,8 @@ impl Paths {
 
     /// Throws the path at a place away, where it is meant.
     fn discard_at<B: SpeculationCalls>(&mut self, cpu: &mut B, place: u32, whose: WhosePaths)
-        ensures { DiscardsIfMeant whose place (B.made cpu.old) (B.made cpu.new) (places_of self.old) (places_of self.new) }
+        ensures same { B.identity cpu.new ≡ B.identity cpu.old }
+        ensures discards { DiscardsIfMeant whose place (B.made cpu.old) (B.made cpu.new) (places_of self.old) (places_of self.new) }
     {
         let Some(path) = self.open_at(place) else {
             return;
@@ -51,7 +53,8 @@ impl Paths {
 
     /// Throws away the open paths of a thread, or all, place by place, but those that are decided already.
     pub fn discard_every<B: SpeculationCalls>(&mut self, cpu: &mut B, whose: WhosePaths)
-        ensures { EachOf (DiscardsIfMeant whose) (length (places_of self.old)) (B.made cpu.old) (B.made cpu.new) (places_of self.old) (places_of self.new) }
+        ensures same { B.identity cpu.new ≡ B.identity cpu.old }
+        ensures discards { EachOf (DiscardsIfMeant whose) (length (places_of self.old)) (B.made cpu.old) (B.made cpu.new) (places_of self.old) (places_of self.new) }
     {
         for place in 0..self.places.len() {
             self.discard_at(cpu, place as u32, whose);
@@ -60,7 +63,8 @@ impl Paths {
 
     /// Keeps the open paths of a thread, or all, place by place. What has no room is lost.
     pub fn keep_every<B: SpeculationCalls>(&mut self, cpu: &mut B, whose: WhosePaths)
-        ensures { EachKept B.made B.lacks_room whose (length (places_of self.old)) cpu.old cpu.new (places_of self.old) (places_of self.new) }
+        ensures same { B.identity cpu.new ≡ B.identity cpu.old }
+        ensures keeps { EachOf (KeepsIfMeant whose) (length (places_of self.old)) (B.made cpu.old) (B.made cpu.new) (places_of self.old) (places_of self.new) }
     {
         for place in 0..self.places.len() {
             self.keep_at(cpu, place as u32, whose);

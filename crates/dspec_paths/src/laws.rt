@@ -1,6 +1,6 @@
 //! The laws of the page, each a function without a body.
 ghost use Rattle.std.specs.Prelude.{None, [], replicate};
-ghost use Rattle.dspec_paths.specs.Laws.{AdoptingKeeps, BeginningKeeps, DiscardingKeeps, KeepingKeeps, OthersKeep, RecordsHaveFates, TurningKeeps};
+ghost use Rattle.dspec_paths.specs.Laws.{AdoptingKeeps, BeginningKeeps, DiscardingKeeps, KeepingKeeps, KeepingPartKeeps, OthersKeep, RecordsHaveFates, TurningKeeps};
 ghost use Rattle.dspec_paths.specs.PathPage.{KeepsPaths, no_paths};
 
 use crate::speculation_calls::SpeculationCalls;
@@ -23,6 +23,11 @@ pub fn turning_keeps()
 /// A path that is kept, or waits for room, keeps the page: nothing of it was thrown away but what was cut, and no other path is touched.
 pub fn keeping_keeps<B: SpeculationCalls>()
     ensures { (cpu : B) → KeepingKeeps (B.lacks_room cpu) }
+{}
+
+/// A path of which a part is kept keeps the page.
+pub fn keeping_a_part_keeps<B: SpeculationCalls>()
+    ensures { (cpu : B) → KeepingPartKeeps (B.lacks_room cpu) }
 {}
 
 /// A path that is thrown away keeps the page: nothing of it was copied, and no other path is touched.

@@ -1,5 +1,6 @@
 ghost use Rattle.std.specs.Prelude.{◌≡◌, List};
 ghost use Rattle.dspec_deeds.specs.{Reports.report, declared.deed.Deed.Deed};
+ghost use Rattle.dspec_paths.specs.Lent.{lent_identity};
 ghost use Rattle.dspec_cpu.specs.{Lists.config_of, Lists.number_in, Lists.worn_of, OneCall.OffersValues};
 
 use crate::lent_cpu::LentCpu;
@@ -13,7 +14,8 @@ impl<'a, S: Schema> LentCpu<'a, S> {
     /// eight values, or the schema doesn't accept the record; then nothing was done.
     #[inline]
     pub fn offer(&mut self, id: SpecId, epid: u32, stamp: u64, values: &[u64]) -> Option<Spoken>
-        ensures { OffersValues ⟦<Cpu<S> as Listed>⟧.has_list S.accepted id epid stamp values.now result self.old.cpu.now self.new.cpu.now }
+        ensures same { lent_identity self.new ≡ lent_identity self.old }
+        ensures offers { OffersValues ⟦<Cpu<S> as Listed>⟧.has_list S.accepted id epid stamp values.now result self.old.cpu.now self.new.cpu.now }
     {
         self.cpu.offer(self.shared, id, epid, stamp, values)
     }

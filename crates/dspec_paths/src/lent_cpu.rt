@@ -37,7 +37,11 @@ impl<'a, S: Schema> LentCpu<'a, S> {
 
 impl<'a, S: Schema> SpeculationCalls for LentCpu<'a, S> {
     ghost use Rattle.dspec_cpu.specs.{Called.called, OneCall.OpensOne};
-    ghost use Rattle.dspec_paths.specs.Rooms.{LacksRoom};
+    ghost use Rattle.dspec_paths.specs.{Lent.LentIdentity, Lent.lent_identity, Rooms.LacksRoom};
+
+    ghost Identity = { LentIdentity S };
+
+    ghost identity = { lent_identity };
 
     ghost made = { λ b. called b.cpu.now };
 

@@ -31,8 +31,8 @@ mod turning;
 mod whose;
 
 pub use laws::{
-    adopting_keeps, beginning_keeps, discarding_keeps, keeping_keeps, no_path_keeps, others_keep,
-    records_have_fates, turning_keeps,
+    adopting_keeps, beginning_keeps, discarding_keeps, keeping_a_part_keeps, keeping_keeps,
+    no_path_keeps, others_keep, records_have_fates, turning_keeps,
 };
 pub use lent_cpu::LentCpu;
 pub use open_path::OpenPath;

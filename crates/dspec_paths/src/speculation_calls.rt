@@ -11,6 +11,11 @@ pub trait SpeculationCalls {
     ghost use Rattle.dspec_deeds.specs.declared.calls.Opening.{Opening};
     ghost use Rattle.dspec_word.specs.SpecId.{Speculation};
 
+    // which CPU it is, of which session: no call changes it
+    ghost Identity: { Type 0 };
+
+    ghost identity: { Self → Identity };
+
     // what its calls did, the latest first
     ghost made: { Self → CallsMade };
 
@@ -22,15 +27,18 @@ pub trait SpeculationCalls {
 
     /// Opens a speculation.
     fn speculation(&mut self) -> Opening
+        ensures same { identity self.new ≡ identity self.old }
         ensures asked { asked result self.old self.new }
         ensures tells { made self.new ≡ with_speculation result (made self.old) };
 
     /// Commits a speculation: the block is copied, or lost where it has no room.
     fn commit(&mut self, id: SpecId) -> Decided
-        ensures { CommitsSo id result (made self.old) (made self.new) };
+        ensures same { identity self.new ≡ identity self.old }
+        ensures decided { CommitsSo id result (made self.old) (made self.new) };
 
     /// Commits a speculation, but not where that would lose the block: None, and nothing was done.
     fn commit_if_room(&mut self, id: SpecId) -> Option<Decided>
+        ensures same { identity self.new ≡ identity self.old }
         ensures waits { IfNone result (lacks_room self.new id) }
         ensures refused { IfNone result (made self.new ≡ made self.old) }
         ensures kept { IfSome result (λ d. loses_block d ≡ false) }
@@ -38,5 +46,6 @@ pub trait SpeculationCalls {
 
     /// Discards a speculation.
     fn discard(&mut self, id: SpecId) -> Decided
-        ensures { DiscardsSo id result (made self.old) (made self.new) };
+        ensures same { identity self.new ≡ identity self.old }
+        ensures decided { DiscardsSo id result (made self.old) (made self.new) };
 }

@@ -13,7 +13,8 @@ pub(crate) fn discard_if_there<B: SpeculationCalls>(
     cpu: &mut B,
     id: Option<SpecId>,
 ) -> Option<Decided>
-    ensures { DiscardsIfThere id result (B.made cpu.old) (B.made cpu.new) }
+    ensures same { B.identity cpu.new ≡ B.identity cpu.old }
+    ensures gone { DiscardsIfThere id result (B.made cpu.old) (B.made cpu.new) }
 {
     match id {
         Some(id) => Some(cpu.discard(id)),
@@ -35,7 +36,8 @@ impl Paths {
     /// A path whose speculation is full goes on in a new one, which is the answer and its new name; the one before the full one is
     /// discarded. None: no path of this name is open and undecided, or no speculation was to be had; the path stays as it is.
     pub fn turn<B: SpeculationCalls>(&mut self, cpu: &mut B, key: &PathKey) -> Option<SpecId>
-        ensures { TurnsPath B.made B.asked key.now result cpu.old cpu.new (places_of self.old) (places_of self.new) }
+        ensures same { B.identity cpu.new ≡ B.identity cpu.old }
+        ensures turns { TurnsPath B.made B.asked key.now result cpu.old cpu.new (places_of self.old) (places_of self.new) }
     {
         let path = self.undecided(key)?;
         match cpu.speculation() {
@@ -56,7 +58,8 @@ impl Paths {
         id: SpecId,
     )
         requires { key.now.place < 64 }
-        ensures { TurnsTo key.now path.now id (B.made cpu.old) (B.made cpu.new) (places_of self.old) (places_of self.new) }
+        ensures same { B.identity cpu.new ≡ B.identity cpu.old }
+        ensures turns { TurnsTo key.now path.now id (B.made cpu.old) (B.made cpu.new) (places_of self.old) (places_of self.new) }
     {
         let gone = discard_if_there(cpu, path.older);
         let turned = OpenPath {

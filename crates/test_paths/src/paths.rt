@@ -20,7 +20,7 @@ fn kept_and_thrown_away(rt: HostRuntime) -> Result<(), Fail> {
     same(
         &rt,
         paths.keep(&mut cpu, &one, false),
-        PathEnd::Ended(Decided::Copied(2)),
+        PathEnd::Ended(0, Decided::Copied(2)),
     );
     same(&rt, paths.discard(&mut cpu, &two), true);
     same(&rt, paths.keep(&mut cpu, &one, false), PathEnd::Over);
@@ -54,7 +54,7 @@ fn last_records(rt: HostRuntime) -> Result<(), Fail> {
     same(
         &rt,
         paths.keep(&mut cpu, &third, true),
-        PathEnd::Ended(Decided::Copied(0)),
+        PathEnd::Ended(1, Decided::Copied(0)),
     );
     let report = Report {
         offered: 2,
@@ -63,6 +63,40 @@ fn last_records(rt: HostRuntime) -> Result<(), Fail> {
         ..Report::default()
     };
     same(&rt, cpu.report(), report);
+    Ok(())
+}
+
+/// A path is kept one speculation a call, and the last one can't be thrown away any more.
+#[test]
+fn a_part_a_call(rt: HostRuntime) -> Result<(), Fail> {
+    let Ok((shared, mut cpu)) = session(rt.alloc(), &Config::of(1, 4, 48, 24)) else {
+        return Err("no session".into());
+    };
+    let mut cpu = LentCpu::of(&shared, &mut cpu);
+    let mut paths = Paths::new();
+    let first = paths.begin(&mut cpu, 1, 7, 0).expect(&rt, "a path");
+    same(&rt, cpu.offer(first.newest, 1, 0, &[1]), Some(Spoken::Kept));
+    let newest = paths.turn(&mut cpu, &first).expect(&rt, "a speculation");
+    let second = PathKey { newest, ..first };
+    same(&rt, cpu.offer(newest, 1, 0, &[2]), Some(Spoken::Kept));
+    same(&rt, cpu.offer(newest, 1, 0, &[3]), Some(Spoken::Kept));
+    same(
+        &rt,
+        paths.keep_part(&mut cpu, &second, false),
+        PathEnd::GoesOn(1),
+    );
+    same(&rt, paths.discard(&mut cpu, &second), false);
+    same(
+        &rt,
+        paths.keep_part(&mut cpu, &second, false),
+        PathEnd::Ended(0, Decided::Copied(2)),
+    );
+    same(
+        &rt,
+        paths.keep_part(&mut cpu, &second, false),
+        PathEnd::Over,
+    );
+    same(&rt, cpu.report().accepted, 3);
     Ok(())
 }
 
@@ -82,12 +116,12 @@ fn no_room(rt: HostRuntime) -> Result<(), Fail> {
             Some(Spoken::Kept),
         );
     }
-    same(&rt, paths.keep(&mut cpu, &one, true), PathEnd::Waits);
+    same(&rt, paths.keep(&mut cpu, &one, true), PathEnd::Waits(0));
     same(&rt, paths.adopt(&one, 9), true);
     same(
         &rt,
         paths.keep(&mut cpu, &one, false),
-        PathEnd::Ended(Decided::Lost(3)),
+        PathEnd::Ended(0, Decided::Lost(3)),
     );
     same(&rt, paths.adopt(&one, 9), false);
     same(&rt, cpu.report().lost, 3);

@@ -1,5 +1,6 @@
 -- Serves proofs. Words from the crates below, in one place. Declares nothing.
 pub use Rattle.dspec_record.specs.declared.field.Shape.{Shape}
+pub use Rattle.dspec_record.specs.declared.schema.Schema.{Ghosts}
 pub use Rattle.dspec_word.specs.Words.{Speculation}
 pub use Rattle.dspec_deeds.specs.declared.calls.Decided.{Decided}
 pub use Rattle.dspec_deeds.specs.declared.calls.Decided.TheVariants.{Copied, Lost, Thrown, Void}
@@ -8,8 +9,8 @@ pub use Rattle.dspec_deeds.specs.declared.calls.Opening.TheVariants.{Busy, Id, S
 pub use Rattle.dspec_deeds.specs.declared.deed.DecideFate.{DecideFate}
 pub use Rattle.dspec_deeds.specs.declared.deed.Deed.{Deed}
 pub use Rattle.dspec_deeds.specs.declared.deed.SpeculateFate.{SpeculateFate}
-pub use Rattle.dspec_deeds.specs.declared.deed.TraceFate.{TraceFate}
-pub use Rattle.dspec_promise.specs.Words.{By, commit, Did, discard, discarded, emptied, emptied_fate, handed, HandedRecord, is_same_id, once_emptied, RecordFate, some, speculated, speculated_fate}
-pub use Rattle.dspec_promise.specs.Words.{taken, traced, waits_for}
-pub use Rattle.dspec_cpu.specs.Words.{CallsMade, cpu_block_fits, made_all_calls, schema_of, with_decision, with_speculation}
+pub use Rattle.dspec_promise.specs.Words.{By, commit, Did, discard, discarded, emptied, emptied_fate, handed, HandedRecord, is_same_id, once_emptied, some, speculated, speculated_fate, taken}
+pub use Rattle.dspec_promise.specs.Words.{traced, waits_for}
+pub use Rattle.dspec_cpu.specs.Words.{CallsMade, cpu_block_fits, CpuIdentity, identity, made_all_calls, schema_of, with_decision, with_speculation}
 pub use Rattle.dspec_cpu.specs.declared.parts.CpuParts.{CpuParts as Cpu}
+pub use Rattle.dspec_cpu.specs.declared.shared.Shared.{Shared}

@@ -1,6 +1,10 @@
 -- The places up to this one.
-use Rattle.dspec_paths.specs.Words.{places_of, EachKept}
+use Rattle.std.specs.Prelude.{◌≡◌}
+use Rattle.dspec_paths.specs.Words.{places_of, KeepsIfMeant, EachOf}
 use Rattle.dspec_paths.proofs.paths.Paths.keep_every.Given as goal
 
 abbrev pub invariant-loop-place : goal.invariant-loop-place
-invariant-loop-place g l = EachKept g.B.SpeculationCalls.made g.B.SpeculationCalls.lacks_room l.whose l.place l.initial.cpu l.cpu (places_of l.initial.self) (places_of l.self)
+invariant-loop-place g l = record {
+  same : g.B.SpeculationCalls.identity l.cpu ≡ g.B.SpeculationCalls.identity l.initial.cpu;
+  keeps : EachOf (KeepsIfMeant l.whose) l.place (g.B.SpeculationCalls.made l.initial.cpu) (g.B.SpeculationCalls.made l.cpu) (places_of l.initial.self) (places_of l.self);
+}
