@@ -324,7 +324,7 @@ DSPEC_INLINE uint64_t dspec_folder_part_of_(dspec_folder *folder, const dspec_la
     return records;
 }
 
-/* Writes a batch below a bound, in parts of which each has room where it goes. */
+/* Writes a batch below a bound: as it stands where it has room, and else in parts of which each has room where it goes. Its records are read in parts alone. */
 DSPEC_INLINE bool dspec_folder_takes_(dspec_folder *folder, const dspec_layout *layout, const dspec_batch *batch) DSPEC_NOEXCEPT {
     const uint64_t filled = DSPEC_FOLDER_PACKET - 68 - 75; /* bytes of events in each packet of a run but its last, at the least */
     size_t at = 0;
@@ -332,8 +332,8 @@ DSPEC_INLINE bool dspec_folder_takes_(dspec_folder *folder, const dspec_layout *
     do {
         const bool is_open = folder->is_open && folder->ctf[batch->cpu].held && dspec_folder_left_(folder) > DSPEC_FOLDER_LAST + 1;
         const size_t from = at;
-        uint64_t records, written = 0;
-        dspec_batch part;
+        uint64_t most, records = 0, written = 0;
+        dspec_batch part = *batch;
         if (!is_open && !dspec_folder_turns_(folder, batch->cpu)) {
             const uint64_t missed = dspec_folder_skips_(layout, batch, &at, UINT64_MAX);
             folder->untold[batch->cpu] += missed + (from == 0 ? batch->drops : 0);
@@ -341,7 +341,9 @@ DSPEC_INLINE bool dspec_folder_takes_(dspec_folder *folder, const dspec_layout *
             folder->first.records += missed;
             return false;
         }
-        records = dspec_folder_part_of_(folder, layout, batch, &at, (dspec_folder_left_(folder) - DSPEC_FOLDER_LAST - 1) * filled, &part);
+        most = (dspec_folder_left_(folder) - DSPEC_FOLDER_LAST - 1) * filled;
+        if (from == 0 && batch->len <= most) at = batch->len;
+        else records = dspec_folder_part_of_(folder, layout, batch, &at, most, &part);
         if (records > 0 && part.bytes == NULL) {
             dspec_ctf_miss(&folder->ctf[batch->cpu], records + part.drops);
             whole = dspec_folder_loses_(folder, DSPEC_NO_MEMORY, 0, batch->cpu, 0, records);

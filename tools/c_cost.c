@@ -2,15 +2,17 @@
  * bytes. The ways: traced, dropped (no room is left), speculated, committed (paths of 20 records, each opened and committed), fired (by a
  * typed probe, of 8 and 24 bytes), walked (paths of 20 by a typed probe), and, of no record, service, report, ask, round (ask, service, take, give
  * back), and refused (an empty handle). Those of a typed probe with fields of eight bytes, which have 16 or 40 of them: numbers (two or five), text
- * (one, and a text of 32 bytes that is made of so many as TEXT_BYTES says), texts (the same in paths of 20), and pairs (numbers in paths of 20). It
- * prints how many calls were answered DSPEC_OK. */
+ * (one, and a text of 32 bytes that is made of so many as TEXT_BYTES says), texts (the same in paths of 20), and pairs (numbers in paths of 20). Of a
+ * record with a stamp in a batch of 1,000, which dspec_folder_take writes into a new folder below FOLDER: folder, and bounded (with a bound). It
+ * prints how many calls were answered DSPEC_OK, or how many records were written. */
+#include "dspec_ctf.h"
 #include "dspec_probe.h"
 
 #include <stdio.h>
 #include <stdlib.h>
 #include <string.h>
 
-enum { PATH = 20 };
+enum { PATH = 20, BATCH = 1000 };
 
 typedef struct lane {
     dspec_cpu cpu;
@@ -222,6 +224,42 @@ static long rounds(lane *l, long number) {
     return well;
 }
 
+/* One batch is written again and again, so all its records have one stamp: those of a file may not go back. */
+static long written(lane *l, long number, uint64_t bound) {
+    static const uint8_t widths[] = { 1, 2, 4, 8 };
+    static dspec_folder folder;
+    static dspec_layout layout = { .stamped = true };
+    dspec_schema schema = DSPEC_EMPTY;
+    lane own = { .n = l->n };
+    const dspec_config config = dspec_config_of_cpus(1);
+    char host[DSPEC_HOST_SIZE], path[4096];
+    dspec_identity identity;
+    dspec_session session = DSPEC_EMPTY;
+    dspec_batch batch;
+    bool sealed;
+    uint32_t settled;
+    must(dspec_schema_new(&schema));
+    must(dspec_schema_stamp(&schema));
+    must(dspec_layout_enable(&layout, &schema, l->n == 4 ? widths : widths + 2, l->n, &own.epid));
+    must(dspec_start(&config, &schema, &session));
+    must(dspec_cpu_of(&session, 0, &own.cpu));
+    must(dspec_consumer_of(&session, &own.consumer));
+    if (traced(&own, BATCH) != BATCH || !dspec_identity_of_system(&identity, "c_cost", host)) exit(1);
+    must(dspec_ask(&own.consumer, 0));
+    must(dspec_service(&own.cpu, &sealed, &settled));
+    must(dspec_take(&own.consumer, 0, &batch));
+    snprintf(path, sizeof path, "%s/%ld", getenv("FOLDER"), (long)getpid());
+    if (bound > 0) dspec_folder_limit(&folder, bound, 2);
+    if (!dspec_folder_begin(&folder, path, &schema, 1, &identity, NULL)) exit(1);
+    for (long i = 0; i < number; i += BATCH)
+        if (!dspec_folder_take(&folder, &layout, &batch)) exit(1);
+    return (long)folder.parts[0].records;
+}
+
+static long into_folder(lane *l, long number) { return written(l, number, 0); }
+
+static long into_bounded(lane *l, long number) { return written(l, number, UINT64_C(1) << 30); }
+
 static long refused(lane *l, long number) {
     lane none = { .epid = l->epid, .n = l->n };
     return traced(&none, number);
@@ -234,6 +272,7 @@ static const struct way {
     { "traced", traced }, { "dropped", dropped }, { "speculated", speculated }, { "committed", committed },
     { "fired", fired }, { "walked", walked }, { "numbers", numbers }, { "text", text }, { "pairs", pairs }, { "texts", texts }, { "round", rounds },
     { "service", served }, { "report", reported }, { "ask", asked }, { "refused", refused },
+    { "folder", into_folder }, { "bounded", into_bounded },
 };
 
 int main(int argc, char **argv) {

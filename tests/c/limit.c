@@ -4,6 +4,20 @@
  *
  * The linker's --wrap leads unlinkat, mkdirat and realloc through functions that refuse. */
 #define _GNU_SOURCE
+#include "dspec_reader.h"
+
+#include <string.h>
+
+/* How many records of batches are read, which takes as long as half of a write. */
+static uint64_t read_records;
+
+static dspec_reading read_and_count(const dspec_layout *layout, const uint8_t *bytes, size_t len, size_t *at, dspec_record *record) {
+    const dspec_reading how = dspec_read(layout, bytes, len, at, record);
+    read_records += how == DSPEC_READ;
+    return how;
+}
+#define dspec_read read_and_count
+
 #include "dspec_ctf.h"
 #include "dspec_probe.h"
 
@@ -274,6 +288,22 @@ static void system_that_refuses(const char *path) {
            (unsigned long long)folder.gone);
 }
 
+/* Records are read where they are lost or their batch is cut, and there alone: with a bound and without. */
+static void records_that_are_read(const char *path, uint64_t bytes, uint32_t folders) {
+    const dspec_batch torn = { (const uint8_t *)"\1\0\0\0\1\0\0\0\0\0\0\0\7\0\0\0\7\0\0\0\1\0\0", 23, 0, 0 }; /* a record, and three bytes of another */
+    uint64_t accepted;
+    CHECK(begins(path, bytes, folders));
+    start();
+    read_records = 0;
+    for (int i = 0; i < 20; i++) {
+        record(&cpus[0], 100);
+        CHECK(take(0));
+    }
+    CHECK(read_records == 0);
+    CHECK(!dspec_folder_take(&folder, &layout, &torn) && folder.last.status == DSPEC_BAD_RECORD && folder.last.records == 1 && read_records == 1);
+    CHECK(!end(&accepted) && folder.first.records == 1);
+}
+
 /* A path that isn't from the root is that of the begin, wherever the process goes. */
 static void process_that_moves(const char *path) {
     char here[4200];
@@ -327,6 +357,10 @@ int main(int argc, char **argv) {
     system_that_refuses(path);
     snprintf(path, sizeof path, "%s.moves", argv[1]);
     process_that_moves(path);
+    snprintf(path, sizeof path, "%s.read", argv[1]);
+    records_that_are_read(path, 10000000, 2);
+    snprintf(path, sizeof path, "%s.unbounded", argv[1]);
+    records_that_are_read(path, 0, 0);
     dspec_schema_drop(&schema);
     return check_end();
 }
