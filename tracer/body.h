@@ -215,11 +215,12 @@ bool stack_is_ours(const stack_t *of);
 void word_waits(const uint32_t *word, uint32_t was, uint64_t nanoseconds); /* while the word is this, until it is woken, at the most for so long */
 void word_wakes(const uint32_t *word);
 void sleep_for(uint64_t microseconds);
-/* How long somebody waits: so many microseconds from the first wait on, and for good for some tries too: a process that stood still, stopped or frozen, has its time over and no thread
+/* How long somebody waits: so many microseconds from the first wait on, and for good for some naps too: a process that stood still, stopped or frozen, has its time over and no thread
  * has had a turn. What is waited for is looked at once more when it is over. */
 typedef struct patience {
-    uint64_t most, until;
-    unsigned tries;
+    uint64_t most, began;
+    uint64_t since; /* when it began to wait for what it waits for now; 0: not yet */
+    unsigned naps;
 } patience;
 patience patience_of(uint64_t microseconds);
 bool is_spent(const patience *left);

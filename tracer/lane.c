@@ -168,6 +168,7 @@ lane *lane_for_record(body *of, seat *me) {
 
 bool lane_take(lane *on, uint32_t bits, patience *left) {
     bool is_held = false, alone = false, has;
+    left->since = 0; /* a nap on one lane would keep the thread of the next one waiting */
     for (;;) {
         const bool is_last = is_spent(left);
         if (!is_held) {

@@ -6,9 +6,9 @@
 #include <sys/syscall.h>
 #include <unistd.h>
 
-/* A wait begins with pauses, since a call takes less than a microsecond. Who is waited for may be off its processor, which a thread that spins would keep from it: so naps follow, short
- * ones and then longer ones. */
-enum { SPINS = 100, SHORT_NAPS = 200, SHORT_US = 50, LONG_US = 1000, TRY_US = 5000 };
+/* A wait begins with pauses, for longer than a call or a service takes. Who is waited for longer is off its processor, which a thread that spins would keep from it: so naps follow, short ones and then
+ * longer ones. A nap takes some 60 microseconds more than it says, so a wait for the consumer is to be over before the first one. */
+enum { PAUSES_US = 50, SHORT_NAPS = 200, SHORT_US = 50, LONG_US = 1000, TRY_US = 5000 };
 
 /* The system's numbers for futex(2), as <linux/futex.h> has them, which isn't there beside each C library. */
 enum { WAIT_PRIVATE = 128, WAKE_PRIVATE = 129 };
@@ -38,17 +38,19 @@ void sleep_for(uint64_t microseconds) {
     for (uint64_t now = until - microseconds; now < until; now = micros()) nap(until - now);
 }
 
-patience patience_of(uint64_t microseconds) { return (patience){ microseconds, 0, 0 }; }
+patience patience_of(uint64_t microseconds) { return (patience){ .most = microseconds }; }
 
 bool is_spent(const patience *left) {
     if (left->most == 0) return true;
-    return left->tries >= SPINS + left->most / TRY_US && micros() >= left->until;
+    return left->naps > left->most / TRY_US && micros() - left->began >= left->most;
 }
 
 void wait_on(patience *left) {
-    if (left->until == 0) left->until = micros() + left->most;
-    if (left->tries++ >= SPINS) {
-        nap(left->tries <= SPINS + SHORT_NAPS ? SHORT_US : LONG_US);
+    const uint64_t now = micros();
+    if (left->began == 0) left->began = now;
+    if (left->since == 0) left->since = now;
+    if (now - left->since >= PAUSES_US) {
+        nap(left->naps++ < SHORT_NAPS ? SHORT_US : LONG_US);
         return;
     }
 #if defined(__x86_64__)

@@ -1,5 +1,5 @@
 /* What the files of the tracer promise each other, from inside: the states of a lane by each way into it and out of it, waits, and what a thread has (tracer/lane.c, wait.c, thread.c). Nothing is raced here: each
- * state is made by hand. The linker's --wrap leads system calls through here, so that membarrier(2) is counted, and refused. */
+ * state is made by hand. The linker's --wrap leads system calls through here, so that membarrier(2) and naps are counted, and the former refused; and the clock, so that it can stand still. */
 #define _GNU_SOURCE
 #include "../../tracer/survive.h"
 
@@ -15,7 +15,8 @@ enum { LANES = 3, PATHS = 2, OTHERS = 2 };
 
 static body *of;
 static seat *me;
-static uint32_t barriers;
+static uint32_t barriers, naps;
+static uint64_t stands_at; /* the clock, in microseconds; 0: it goes */
 static bool refuses_barriers;
 
 long __real_syscall(long number, ...);
@@ -27,12 +28,22 @@ long __wrap_syscall(long number, ...) {
     va_start(rest, number);
     for (size_t i = 0; i < 6; i++) words[i] = va_arg(rest, long);
     va_end(rest);
+    naps += number == SYS_futex && words[1] == 128 /* FUTEX_WAIT_PRIVATE */;
     if (number == SYS_membarrier) {
         barriers++;
         errno = EPERM;
         if (refuses_barriers) return -1;
     }
     return __real_syscall(number, words[0], words[1], words[2], words[3], words[4], words[5]);
+}
+
+int __real_clock_gettime(clockid_t clock, struct timespec *at);
+int __wrap_clock_gettime(clockid_t clock, struct timespec *at);
+
+int __wrap_clock_gettime(clockid_t clock, struct timespec *at) {
+    if (stands_at == 0) return __real_clock_gettime(clock, at);
+    *at = (struct timespec){ (time_t)(stands_at / 1000000), (long)(stands_at % 1000000) * 1000 };
+    return 0;
 }
 
 static lane *fresh(uint32_t number, uint32_t state) {
@@ -272,9 +283,9 @@ static void waits(void) {
     CHECK(is_spent(&none) && !is_spent(&some));
     while (!is_spent(&some)) wait_on(&some);
     CHECK(now() - began >= 20000);
-    over.until = 1; /* the process stood still: its time is over, and it hasn't looked yet */
+    over.began = over.since = 1; /* the process stood still: its time is over, and it hasn't napped yet */
     CHECK(!is_spent(&over));
-    for (int i = 0; i < 400; i++) wait_on(&over);
+    wait_on(&over);
     CHECK(is_spent(&over));
     errno = 77;
     began = now();
@@ -291,6 +302,39 @@ static void waits(void) {
     word_wakes(&word);
     for (int i = 0; i < 3; i++) pthread_join(threads[i], NULL);
     CHECK(longest < 20000000);
+}
+
+/* Who waits for a service of the consumer, which takes some microseconds, doesn't sleep; who waits longer does. */
+static void pauses(void) {
+    patience left = patience_of(ENTER_US);
+    uint32_t before;
+    stands_at = 77000000;
+    before = naps;
+    for (int i = 0; i < 100000; i++) wait_on(&left);
+    stands_at += 49;
+    wait_on(&left);
+    CHECK(naps == before && !is_spent(&left));
+    stands_at++;
+    wait_on(&left);
+    CHECK(naps == before + 1 && !is_spent(&left));
+    for (int i = 0; i < 300; i++) wait_on(&left);
+    CHECK(naps == before + 301 && !is_spent(&left)); /* it napped often enough, and its time isn't over */
+    stands_at += ENTER_US;
+    CHECK(is_spent(&left));
+    stands_at = 0;
+}
+
+/* The consumer that napped on one lane pauses again on the next. */
+static void pauses_anew(void) {
+    patience left = patience_of(TAKE_US);
+    begin();
+    stands_at = 77000000;
+    wait_on(&left);
+    stands_at += 50;
+    wait_on(&left);
+    CHECK(left.naps == 1 && left.since == 77000000);
+    CHECK(lane_take(fresh(1, 0), 0, &left) && left.naps == 1 && left.since == 0 && left.began == 77000000);
+    stands_at = 0;
 }
 
 /* ---- What a thread has. ---- */
@@ -363,6 +407,8 @@ int main(void) {
     taken();
     waited_for();
     waits();
+    pauses();
+    pauses_anew();
     seats();
     if (CHECK(pthread_create(&thread, NULL, has_stack, NULL) == 0)) pthread_join(thread, NULL);
     free(of);
