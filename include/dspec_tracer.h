@@ -64,7 +64,7 @@ typedef struct dspec_tracer_options {
     uint32_t lanes;      /* 16; 1 to DSPEC_MAX_LANES */
     uint32_t paths;      /* 32: how many are open on a lane at a time; 1 to 63, with keep_last to 31 */
     uint32_t bufsize;    /* 65536: bytes of a principal buffer, of which each lane has two */
-    uint32_t specsize;   /* 4096: bytes of a path, not above bufsize; each lane has `paths` times so many */
+    uint32_t specsize;   /* 4096: bytes of a path, 56 or more, not above bufsize; each lane has `paths` times so many */
     uint32_t period_ms;  /* 10: the consumer's sleep between two rounds */
     uint32_t crash_ms;   /* 500: how long a crash waits until its paths are written */
     bool by_thread;      /* a lane is a thread's until that ends; else a path's until that is decided */

@@ -34,6 +34,8 @@ enum { MAX_OPEN = 64, MAX_CRASHES = 16 };
 #define REFUSED_PATH UINT64_C(1)
 /* A record's text in words of eight bytes, at most. */
 enum { MOST_WORDS = 9 };
+/* Of the event that tells of a path, in words and in bytes. */
+enum { WORDS_OF_PATH = 6, BYTES_OF_PATH = 56 };
 /* Behind the tracers stand watches (watch.h), which signals know as tracers without lanes. */
 enum { MAX_WATCHES = 64, MAX_SLOTS = DSPEC_MAX_TRACERS + MAX_WATCHES };
 enum { CACHE_LINES = 128 };
@@ -56,6 +58,7 @@ typedef struct open_path {
     bool waits;     /* it is being kept, as soon as there is room */
     bool is_prepared, has_event; /* for its commit, where its event is among its records or had no room there */
     bool has_key, has_first;
+    bool has_part;  /* its older part is kept */
     uint32_t untold; /* where it is prepared: its records that aren't kept with it */
     uint64_t key[2];
     size_t first_words; /* with keep_last its first record */
@@ -73,6 +76,8 @@ typedef struct lane {
     dspec_report latest; /* at the last service */
     uint64_t turned; /* records that one speculation refused and the next one took, and paths' events that had no room in theirs */
     uint64_t own_accepted, own_lost, own_discarded; /* of the counts of its CPU the paths' events, which are no records of the program */
+    uint32_t owes;
+    uint64_t owed_at, owed[WORDS_OF_PATH]; /* the event of a path whose records are kept, where it has had no room after them: the next buffer begins with it */
     dspec_batch out; /* which the folder is getting, where `bringing` says so */
     uint64_t before; /* how many records the folder had in front of it */
     uint32_t bringing;
@@ -89,6 +94,8 @@ typedef struct lane {
 
 /* Of a batch: none is out, the folder is getting it, the folder has it, the library is asked for it. */
 enum { NOT_OUT = 0, IS_BROUGHT = 1, WAS_BROUGHT = 2, IS_TAKEN = 3 };
+/* What a lane owes: nothing, a path's event, or the event of a path whose first part is kept and whose last waits for room. */
+enum { OWES_NOTHING = 0, OWES_EVENT = 1, IS_CLAIMED = 2 };
 /* Of a service: none is made, the library makes it, it has switched. */
 enum { NOT_SERVED = 0, IS_SERVED = 1, HAS_SWITCHED = 2 };
 /* What stands in front of the library's answer; of a whole one no field is as here. */
@@ -248,6 +255,7 @@ void path_throw_left(lane *on); /* the caller has the lane */
 typedef enum room { ANY_ROOM = 0, WAITS_FOR_ROOM = 1, EMPTY_ROOM = 2 } room;
 /* The caller has the lane. Whether the path's last records were kept; DSPEC_BUSY: there is no room yet. */
 dspec_status path_commit(lane *on, open_path *one, uint32_t why, room has);
+bool path_pays(lane *on); /* puts what the lane owes into a buffer that was just begun: whether there was something; the caller has the lane */
 bool path_discard(lane *on, open_path *one);
 
 /* ---- session.c: what a lane has of the library. ---- */

@@ -40,7 +40,7 @@ static bool note(lane *on, dspec_path *path, bool own, uint64_t now) {
         one->mark = path->mark;
         one->thread = dspec_here.thread;
         one->own = own;
-        one->saved = one->waits = one->is_prepared = one->has_event = one->has_key = one->has_first = false;
+        one->saved = one->waits = one->is_prepared = one->has_event = one->has_key = one->has_first = one->has_part = false;
         STORE(&one->token, dspec_tracer_token_4);
         __atomic_store_n(&one->id, path->id, __ATOMIC_RELEASE);
         path->place = (uint16_t)place;
@@ -322,30 +322,64 @@ static dspec_status commit_part(lane *on, uint64_t id, uint32_t *count, room has
     return status;
 }
 
-static size_t words_of_path(const open_path *one, uint32_t why, uint64_t words[6]) {
+static void words_of_path(const open_path *one, uint32_t why, uint64_t words[WORDS_OF_PATH]) {
     words[0] = one->mark;
     words[1] = one->thread | (uint64_t)dspec_here.thread << 32;
     words[2] = one->untold | (uint64_t)why << 32;
     words[3] = one->begun;
     words[4] = one->has_key ? one->key[0] : 0;
     words[5] = one->has_key ? one->key[1] : 0;
-    return 6;
 }
 
 /* Puts a path's event among its records, so that it is kept with them or not at all: whether it had room there. */
 static bool tell_in_path(lane *on, const open_path *one, uint32_t why) {
-    uint64_t words[6];
-    const size_t n = words_of_path(one, why, words);
-    if (dspec_put_in(&on->front.cpu, one->id, on->of->claim_of_path, dspec_monotonic(), words, n) == DSPEC_OK) return true;
+    uint64_t words[WORDS_OF_PATH];
+    words_of_path(one, why, words);
+    if (dspec_put_in(&on->front.cpu, one->id, on->of->claim_of_path, dspec_monotonic(), words, WORDS_OF_PATH) == DSPEC_OK) return true;
     on->turned++;
     return false;
 }
 
-/* A path that had no room for its event has it after its records. */
-RARELY static void tell_after_path(lane *on, const open_path *one, uint32_t why) {
-    uint64_t words[6];
-    const size_t n = words_of_path(one, why, words);
-    on->own_accepted += dspec_tracer_fill_(&on->front, on->of->claim_of_path, dspec_monotonic(), words, n) == DSPEC_OK;
+/* Puts what the lane owes where the buffer has room for it. It goes by a speculation, in the slot that its path has left: a record that finds no room would be told as missed. */
+static void pay_if_room(lane *on) {
+    uint64_t id;
+    uint32_t count;
+    dspec_status status;
+    if (dspec_speculation(&on->front.cpu, &id) != DSPEC_OK) return;
+    status = dspec_put_in(&on->front.cpu, id, on->of->claim_of_path, on->owed_at, on->owed, WORDS_OF_PATH);
+    if (status == DSPEC_OK) status = commit_part(on, id, &count, WAITS_FOR_ROOM);
+    if (status == DSPEC_OK) {
+        on->own_accepted++;
+        STORE(&on->owes, OWES_NOTHING);
+    } else if (dspec_discard(&on->front.cpu, id, &count) == DSPEC_OK) {
+        on->own_discarded += count;
+    }
+}
+
+static void put_after_path(lane *on, uint64_t at, const uint64_t words[WORDS_OF_PATH]) {
+    on->own_accepted += dspec_tracer_fill_(&on->front, on->of->claim_of_path, at, words, WORDS_OF_PATH) == DSPEC_OK;
+}
+
+bool path_pays(lane *on) {
+    if (LIKELY(on->owes != OWES_EVENT)) return false;
+    put_after_path(on, on->owed_at, on->owed);
+    STORE(&on->owes, OWES_NOTHING);
+    return true;
+}
+
+/* A path that had no room for its event has it after its records: at once, or at the begin of the lane's next buffer. */
+RARELY static void tell_after_path(lane *on, const open_path *one, uint32_t why, room has) {
+    uint64_t words[WORDS_OF_PATH];
+    words_of_path(one, why, words);
+    if (has == EMPTY_ROOM) {
+        lane_empty(on->of, on);
+        put_after_path(on, dspec_monotonic(), words);
+        return;
+    }
+    memcpy(on->owed, words, sizeof words);
+    on->owed_at = dspec_monotonic();
+    __atomic_store_n(&on->owes, OWES_EVENT, __ATOMIC_RELEASE);
+    pay_if_room(on);
 }
 
 /* With keep_last a path's first record, which names the request, is put among its last ones again where it was thrown away. */
@@ -365,47 +399,80 @@ static void prepare(lane *on, open_path *one, uint32_t why) {
     one->is_prepared = true;
 }
 
+/* Throws away a part of a path that is lost as a whole. */
+static void lose_part(lane *on, uint64_t id, bool has_event) {
+    uint32_t count;
+    if (id == 0 || dspec_discard(&on->front.cpu, id, &count) != DSPEC_OK) return;
+    on->own_discarded += has_event;
+    STORE(&on->cut_records, on->cut_records + count - has_event);
+}
+
 /* The first part of a path that has two. Where it has no room, the path is lost as a whole: no end of a path is kept for the path. */
 static dspec_status commit_older(lane *on, open_path *one, room has) {
     uint32_t count = 0;
     dspec_status status = commit_part(on, one->older, &count, has);
     if (status == DSPEC_BUSY) return status;
     one->older = 0;
-    if (status == DSPEC_OK) return status;
-    if (dspec_discard(&on->front.cpu, one->id, &count) == DSPEC_OK) {
-        on->own_discarded += one->has_event;
-        STORE(&on->cut_records, on->cut_records + count - one->has_event);
-    }
+    one->has_part = status == DSPEC_OK;
+    if (status != DSPEC_OK) lose_part(on, one->id, one->has_event);
     return status;
 }
 
+/* The path's last records. Where they are lost after its first ones were kept, its event comes after those, and tells of the others as cut. */
 static dspec_status commit_last(lane *on, open_path *one, room has) {
     uint32_t count = 0;
     dspec_status status = commit_part(on, one->id, &count, has);
-    if (status == DSPEC_BUSY || !one->has_event) return status;
-    if (status == DSPEC_OK) on->own_accepted++;
-    else on->own_lost++;
-    return status;
+    if (status == DSPEC_BUSY) return status;
+    if (status == DSPEC_OK) on->own_accepted += one->has_event;
+    else on->own_lost += one->has_event;
+    if (status != DSPEC_LOST || !one->has_part) return status;
+    one->untold += count - one->has_event;
+    one->has_event = false;
+    return DSPEC_OK;
+}
+
+/* Where the lane owes an event already, one of a path that may come after its records has no room either: that path waits, or is lost as a whole. */
+RARELY static dspec_status without_room(lane *on, const open_path *one, room has) {
+    if (has == EMPTY_ROOM) return DSPEC_OK;
+    if (has == WAITS_FOR_ROOM) return DSPEC_BUSY;
+    lose_part(on, one->older, false);
+    lose_part(on, one->id, one->has_event);
+    return DSPEC_LOST;
 }
 
 dspec_status path_commit(lane *on, open_path *one, uint32_t why, room has) {
+    const bool has_claim = one->has_part;
     dspec_status status = DSPEC_OK;
     if (!one->is_prepared) prepare(on, one, why);
-    if (one->older != 0) status = commit_older(on, one, has);
+    if (on->owes != OWES_NOTHING && !has_claim && (one->older != 0 || !one->has_event)) status = without_room(on, one, has);
+    if (status == DSPEC_OK && one->older != 0) status = commit_older(on, one, has);
     if (status == DSPEC_OK) status = commit_last(on, one, has);
     one->waits = status == DSPEC_BUSY;
-    if (one->waits) return status;
+    if (one->waits) {
+        if (one->has_part) STORE(&on->owes, IS_CLAIMED);
+        return status;
+    }
+    if (has_claim) STORE(&on->owes, OWES_NOTHING);
     STORE(&on->cut_records, on->cut_records + one->cut);
     STORE(&on->cut, on->cut + (status == DSPEC_OK && one->untold > 0));
-    if (status == DSPEC_OK && !LIKELY(one->has_event)) tell_after_path(on, one, why);
+    if (status == DSPEC_OK && !LIKELY(one->has_event)) tell_after_path(on, one, why, has);
     return status;
+}
+
+/* A path that was being kept is thrown away after all. Where its first part is kept, its event comes after that. */
+RARELY static void discard_prepared(lane *on, open_path *one, uint32_t count) {
+    on->own_discarded += one->has_event;
+    if (!one->has_part) return;
+    one->untold += count - one->has_event;
+    STORE(&on->owes, OWES_NOTHING);
+    tell_after_path(on, one, DSPEC_WHY_KEPT, WAITS_FOR_ROOM);
 }
 
 bool path_discard(lane *on, open_path *one) {
     uint32_t count;
     if (one->older != 0) dspec_discard(&on->front.cpu, one->older, &count);
     if (dspec_discard(&on->front.cpu, one->id, &count) != DSPEC_OK) return false;
-    on->own_discarded += one->is_prepared && one->has_event;
+    if (!LIKELY(!one->is_prepared)) discard_prepared(on, one, count);
     return true;
 }
 

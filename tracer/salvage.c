@@ -11,6 +11,7 @@ typedef struct salvage {
     dspec_salvaged *told;
     const char *path, *folder;
     uint32_t last_lane, last_place; /* of the open path that was found last */
+    bool is_owed; /* the event that the lane owes wasn't found among its records */
     writing kept, open;
 } salvage;
 
@@ -24,10 +25,39 @@ static bool is_without(salvage *of, const char *what, const char *why) { return 
 
 /* ---- What is found. ---- */
 
+/* The event of a path for which its lane had no room, of the path's number. */
+static uint64_t owed_path(const lane *on) { return on->owed[0] >> 32; }
+
+/* A lane that was paying what it owes may have paid it. */
+static void find_owed(salvage *of, const dspec_batch *batch) {
+    const lane *on = &of->file.us->lanes[batch->cpu];
+    dspec_record one;
+    for (size_t at = 0; of->is_owed && dspec_read(&of->file.layout, batch->bytes, batch->len, &at, &one) == DSPEC_READ;)
+        of->is_owed = one.epid != (uint32_t)of->file.us->claim_of_path || one.stamp != on->owed_at || one.values[0] != owed_path(on);
+}
+
+/* Writes the event that a lane owes, after all of its records: its text is as the library has it. Whether it is the event that the head tells. */
+static bool write_owed(salvage *of, uint32_t number) {
+    const lane *on = &of->file.us->lanes[number];
+    found_batch one = { .kind = FOUND_KEPT, .records = 1 };
+    uint8_t bytes[BYTES_OF_PATH];
+    dspec_record is;
+    size_t at = 0;
+    salvage_put(bytes, (uint32_t)of->file.us->claim_of_path, 4);
+    salvage_put(bytes + 4, on->owed_at, 8);
+    salvage_put(bytes + 12, owed_path(on), 4);
+    for (size_t i = 1; i < WORDS_OF_PATH; i++) salvage_put(bytes + 8 + 8 * i, on->owed[i], 8);
+    one.batch = (dspec_batch){ bytes, sizeof bytes, 0, number };
+    if (dspec_read(&of->file.layout, bytes, sizeof bytes, &at, &is) != DSPEC_READ || at != sizeof bytes) return fail(of, "a lane", "what it owes is no event of a path");
+    writing_kept(&of->kept, &one, 0);
+    return true;
+}
+
 static bool get_kept(salvage *of, found_batch *one) {
     uint64_t unsure = 0, without = one->kind == FOUND_BROUGHT ? written_records(&of->file, of->path, one, &unsure) : 0;
     if (without > one->records) return false;
     of->told->unsure += unsure;
+    find_owed(of, &one->batch);
     writing_kept(&of->kept, one, without);
     return true;
 }
@@ -49,7 +79,10 @@ static bool read_lanes(salvage *of) {
     of->last_lane = of->last_place = UINT32_MAX;
     of->told->lanes = of->file.head->lanes + 1;
     for (uint32_t i = 0; i < of->told->lanes; i++) {
-        const char *why = saved_lane_read(&of->file, i, get, of);
+        const char *why;
+        of->is_owed = of->file.us->lanes[i].owes == OWES_EVENT;
+        why = saved_lane_read(&of->file, i, get, of);
+        if (why == NULL && of->is_owed) is_whole = write_owed(of, i) && is_whole;
         of->told->in_call += saved_lane_is_in_call(&of->file, i) || of->file.us->lanes[i].bringing != NOT_OUT;
         if (why == NULL) continue;
         of->told->unreadable++;

@@ -73,6 +73,7 @@ typedef struct writing {
 
 /* Begins the trace of what was kept, or of the open paths: NULL, or why not. */
 const char *writing_begin(writing *to, const saved_file *of, const char *folder, bool is_open);
+void salvage_put(uint8_t *at, uint64_t number, size_t width); /* the lowest byte first */
 /* Writes a batch without its first records. */
 void writing_kept(writing *to, found_batch *one, uint64_t without);
 /* Writes the records of an open path, after one that tells of it. */

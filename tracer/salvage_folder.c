@@ -83,7 +83,7 @@ void writing_kept(writing *to, found_batch *one, uint64_t without) {
     dspec_folder_take(&to->folder, &to->layout, &one->batch); /* what it loses is told at its end */
 }
 
-static void put_number(uint8_t *at, uint64_t number, size_t width) {
+void salvage_put(uint8_t *at, uint64_t number, size_t width) {
     for (size_t i = 0; i < width; i++) at[i] = (uint8_t)(number >> 8 * i);
 }
 
@@ -97,11 +97,11 @@ static uint8_t *with_event(const writing *to, const found_batch *one) {
         free(bytes);
         return NULL;
     }
-    put_number(bytes, to->epid_of_path, 4);
-    put_number(bytes + 4, first.stamp, 8);
-    put_number(bytes + 12, first.values[0], 4);
-    put_number(bytes + 16, one->batch.cpu, 4);
-    put_number(bytes + 20, one->records, 4);
+    salvage_put(bytes, to->epid_of_path, 4);
+    salvage_put(bytes + 4, first.stamp, 8);
+    salvage_put(bytes + 12, first.values[0], 4);
+    salvage_put(bytes + 16, one->batch.cpu, 4);
+    salvage_put(bytes + 20, one->records, 4);
     memcpy(bytes + EVENT_BYTES, one->batch.bytes, one->batch.len);
     return bytes;
 }

@@ -59,14 +59,15 @@ static void serve_noted(lane *on, bool *sealed, uint32_t *settled) {
     __atomic_store_n(&on->serving, NOT_SERVED, __ATOMIC_RELEASE);
 }
 
-/* is_empty: whether all that it had is on its way. What a service settles comes behind the switch, and is in the buffer that was just begun. */
+/* is_empty: whether all that it had is on its way. What a service settles and what the lane owes come behind the switch, and are in the buffer that was just begun. */
 void lane_serve(lane *on, bool *is_empty) {
-    bool sealed = false;
+    bool sealed = false, has_paid;
     uint32_t settled = 0;
     if (on->buffers[0] != NULL) serve_noted(on, &sealed, &settled);
     else dspec_service(&on->front.cpu, &sealed, &settled);
+    has_paid = sealed && path_pays(on);
     dspec_cpu_report(&on->front.cpu, &on->latest);
-    *is_empty = sealed && settled == 0;
+    *is_empty = sealed && settled == 0 && !has_paid;
 }
 
 /* Takes what was switched out: whether there is something. Where a kill comes after the library's take, what it took is told by `out` alone. */
@@ -116,9 +117,9 @@ bool lanes_wait_for_disk(const body *of) {
     return false;
 }
 
-/* Twice: with one buffer sealed the other may be full. */
+/* Twice: with one buffer sealed the other may be full; and what the lane owes is in the one after these. */
 void lane_empty(body *of, lane *on) {
-    for (int buffer = 0; buffer < 2; buffer++) {
+    for (int buffers = on->owes == OWES_EVENT ? 3 : 2; buffers > 0; buffers--) {
         bool is_empty;
         lane_ask(on);
         lane_serve(on, &is_empty);
@@ -155,6 +156,7 @@ bool lane_end(body *of, lane *on) {
     dspec_report report;
     dspec_batch batch;
     if (LOAD(&on->waits_for_disk)) brings(of, on);
+    if (on->owes == OWES_EVENT) lane_empty(of, on);
     if (dspec_close(&on->session, cpus, 1, &on->consumer, &closed) != DSPEC_OK) return false;
     for (int last = 0; last < 2; last++) {
         if (dspec_rest(&closed, 0, last == 1, &batch) != DSPEC_OK) continue;

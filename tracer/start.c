@@ -176,6 +176,7 @@ static const char *complete(dspec_tracer_options *options) {
     set(&options->crash_ms, 500);
     if (options->lanes > DSPEC_MAX_LANES) return "lanes is not 1 to 63";
     if (options->specsize > options->bufsize) return dspec_status_text(DSPEC_BAD_SPECSIZE);
+    if (options->specsize < BYTES_OF_PATH) return "specsize is below 56, and the event that tells of a path needs room";
     if (options->max_bytes > 0) set(&options->max_folders, 4);
     else if (options->max_folders > 0) return "max_folders stands without max_bytes";
     if (options->max_bytes > 0 && (options->max_folders < 2 || options->max_folders > DSPEC_FOLDER_MOST)) return "max_folders is not 2 to 64";

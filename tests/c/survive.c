@@ -62,6 +62,17 @@ static int how_kept(void) {
     return end_by_kill();
 }
 
+/* Of paths that have no room for their events the last one leaves none in the buffer either, so that its lane owes that. */
+static int how_owes(void) {
+    options.lanes = 1;
+    options.specsize = 160;
+    options.bufsize = 4096;
+    options.period_ms = 1000000;
+    up();
+    printf("kept=%" PRIu64 "\n", keep(0, 19));
+    return end_by_kill();
+}
+
 /* The request that hangs, while another process looks. */
 static int how_hangs(void) {
     up();
@@ -226,7 +237,7 @@ int main(int count, char **all) {
         int (*run)(void);
     } hows[] = {
         { "kept", how_kept }, { "hangs", how_hangs }, { "child", how_child }, { "limit", how_limit }, { "lost", how_lost }, { "full", how_full }, { "writes", how_writes },
-        { "moves", how_moves }, { "closes", how_closes }, { "refused", how_refused }, { "itself", how_itself }, { "crashes", how_crashes },
+        { "moves", how_moves }, { "closes", how_closes }, { "refused", how_refused }, { "itself", how_itself }, { "crashes", how_crashes }, { "owes", how_owes },
     };
     if (count < 3) return 2;
     folder = all[2];

@@ -207,6 +207,71 @@ static void thrown_after_all(void) {
     dspec_tracer_drop(&tracer);
 }
 
+/* ---- The event of a path that has no room for it. ---- */
+
+/* The end of a tracer that had no room for so many records of the program, and kept so many paths: each has its event. others: those of the thread and of the counts; 0: nobody knows. */
+static void stop_full(uint64_t kept, uint64_t lost, uint64_t others) {
+    CHECK(dspec_tracer_stop(&tracer, &report) && report.dropped == 0 && report.stuck_lanes == 0 && report.not_written == 0);
+    CHECK(report.kept == kept && (others == 0 || report.own == kept + others) && report.lost + report.cut_records == lost);
+    dspec_tracer_drop(&tracer);
+}
+
+/* A path of so many records of 40 bytes. */
+static dspec_path wide_path(uint32_t records) {
+    dspec_path path = dspec_path_begin(&tracer);
+    for (uint64_t number = 0; number < records; number++) CHECK(three_in(&path, number, number, number) == DSPEC_OK);
+    return path;
+}
+
+/* An event has 56 bytes, and comes after its path's records where `specsize` has no room for it; with the next buffer where this one has none. */
+static void after_its_path(void) {
+    dspec_path path;
+    for (int flushes_it = 0; flushes_it < 2; flushes_it++) {
+        begin((dspec_tracer_options){ .lanes = 1, .paths = 1, .specsize = 192, .bufsize = 4096 });
+        for (int i = 0; i < 19; i++) { /* the last one leaves 48 bytes */
+            path = wide_path(4);
+            CHECK(dspec_path_keep(&path));
+        }
+        path = wide_path(1);
+        CHECK(flushes_it == 0 || dspec_tracer_flush(&tracer, 60000));
+        CHECK(dspec_path_drop(&path));
+        CHECK(flushes_it == 0 || (dspec_tracer_counts(&tracer, &report) && report.accepted == 19 * 4));
+        stop_full(19, 0, flushes_it == 1 ? 3 : 2);
+    }
+    begin((dspec_tracer_options){ .lanes = 1, .paths = 2, .specsize = 64, .bufsize = 88 });
+    path = wide_path(1);
+    CHECK(dspec_path_keep(&path));
+    path = wide_path(1); /* its record has room, and its event would have none */
+    CHECK(!dspec_path_keep(&path));
+    stop_full(1, 1, 2);
+    begin((dspec_tracer_options){ .lanes = 1, .paths = 2, .specsize = 64, .bufsize = 88, .keep_ms = 60000 });
+    for (int i = 0; i < 3; i++) {
+        path = wide_path(1);
+        CHECK(dspec_path_keep(&path));
+    }
+    stop_full(3, 0, 0);
+}
+
+/* A path of two parts, of which the second has no room after the first: what is kept has its event, at once or with the next buffer. */
+static void first_part(void) {
+    static const uint32_t sizes[] = { 200, 168 };
+    dspec_path path;
+    for (int i = 0; i < 2; i++) {
+        begin((dspec_tracer_options){ .lanes = 1, .paths = 2, .specsize = 128, .bufsize = sizes[i], .keep_last = true });
+        path = wide_path(4);
+        CHECK(dspec_path_keep(&path));
+        CHECK(dspec_tracer_stop(&tracer, &report) && report.kept == 1 && report.own == 3 && report.accepted == 3 && report.lost == 1 && report.cut == 1 && report.dropped == 0);
+        dspec_tracer_drop(&tracer);
+        begin((dspec_tracer_options){ .lanes = 1, .paths = 2, .specsize = 128, .bufsize = sizes[i], .keep_last = true, .keep_ms = 60000 });
+        path = wide_path(4);
+        CHECK(dspec_path_keep(&path));
+        path = wide_path(4);
+        CHECK(dspec_path_keep(&path));
+        stop_full(2, 0, 0);
+        CHECK(report.accepted == 8 && report.cut == 0);
+    }
+}
+
 /* ---- The rule. ---- */
 
 static void ruled(void) {
@@ -470,6 +535,8 @@ int main(int argc, char **argv) {
     without_place();
     cut();
     thrown_after_all();
+    after_its_path();
+    first_part();
     ruled();
     threads();
     events();

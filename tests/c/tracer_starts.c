@@ -151,6 +151,7 @@ static void options(void) {
     refuses(&(dspec_tracer_options){ .bufsize = 4095 }, DSPEC_PROBES(p00), "specsize");
     refuses(&(dspec_tracer_options){ .bufsize = 8193 }, DSPEC_PROBES(p00), "bufsize");
     refuses(&(dspec_tracer_options){ .specsize = 100 + 1 }, DSPEC_PROBES(p00), "specsize");
+    refuses(&(dspec_tracer_options){ .specsize = 48 }, DSPEC_PROBES(p00), "specsize is below 56");
     refuses(&(dspec_tracer_options){ .keep_last = true, .paths = 32 }, DSPEC_PROBES(p00), "paths is not 1 to 31");
     refuses(&(dspec_tracer_options){ .keep_last = true, .specsize = 72 }, DSPEC_PROBES(p00), "specsize is below 80");
     refuses(&(dspec_tracer_options){ .max_folders = 2 }, DSPEC_PROBES(p00), "without max_bytes");
@@ -158,6 +159,7 @@ static void options(void) {
     refuses(&(dspec_tracer_options){ .max_folders = 65, .max_bytes = 10000000 }, DSPEC_PROBES(p00), "max_folders is not 2 to 64");
     refuses(&(dspec_tracer_options){ .max_bytes = 100000 }, DSPEC_PROBES(p00), "the room is too small");
     goes_well(&(dspec_tracer_options){ .keep_last = true, .lanes = 1, .paths = 31, .specsize = 80 }, DSPEC_PROBES(p00));
+    goes_well(&(dspec_tracer_options){ .lanes = 1, .paths = 1, .specsize = 56, .bufsize = 56 }, DSPEC_PROBES(p00));
     goes_well(&(dspec_tracer_options){ .lanes = 63, .paths = 63, .bufsize = 4096 }, DSPEC_PROBES(p00));
     goes_well(&(dspec_tracer_options){ .lanes = 1, .paths = 1, .bufsize = 256, .specsize = 256 }, NULL);
     goes_well(NULL, DSPEC_PROBES(p00, p01));

@@ -43,7 +43,6 @@ static struct truth {
     uint32_t state; /* 1: the tracer is up; 2: the work is done */
     uint32_t crashed_request, crashed_thread, crash_signal, refused_paths_then, refused_records_then;
     uint64_t crashed_at;
-    uint32_t specsize, padding;
     noted_request request[MOST_REQUESTS];
     noted_record record[MOST_RECORDS];
 } *truth;
@@ -242,7 +241,6 @@ static bool starts(const char *folder, bool survives, bool refuses) {
         .lanes = lanes[thrown(5)], .paths = paths[thrown(4)], .specsize = sizes[thrown(4)], .sample = 3, .survive = survives, .whys = &whys, .crash_ms = 60000, .keep_ms = thrown(2) * 1000,
     };
     if (refuses) options.lanes = 1, options.paths = 8;
-    truth->specsize = options.specsize;
     return dspec_tracer_start(&tracer, folder, &options, DSPEC_PROBES(step, said, wide));
 }
 

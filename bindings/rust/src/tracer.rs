@@ -50,7 +50,7 @@ pub struct Options {
     pub paths: u32,
     /// Bytes of a principal buffer, of which each lane has two; 65,536 at first.
     pub bufsize: u32,
-    /// Bytes of a path, not above `bufsize`; each lane has `paths` times so many. 4,096 at first.
+    /// Bytes of a path, 56 or more, not above `bufsize`; each lane has `paths` times so many. 4,096 at first.
     pub specsize: u32,
     /// Milliseconds that the consumer sleeps between two rounds; 10 at first.
     pub period_ms: u32,
