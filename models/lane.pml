@@ -499,7 +499,7 @@ inline go_on(t, p) {
     A_ in = 0; on = NOBODY _A
 }
 
-/* `done` says whether. */
+/* `done` says whether. One that is made once more, in another speculation of its path, is two records here. */
 inline dspec_path_try_(t, p) {
     if
     :: ptok[p] == t+1 && !no_token[t] ->

@@ -241,7 +241,6 @@ way lane_enter_slowly(seat *me, lane *on);
 lane *lane_for_path(body *of, seat *me); /* one more path is on it; NULL where none has room */
 lane *lane_shared(body *of, uint32_t number); /* likewise, on this one */
 lane *lane_for_record(body *of, seat *me);
-void lane_path_off(seat *me, lane *on, bool own);
 /* The consumer's: whether it has the lane, between two calls. With GONE in bits no thread gets in any more. */
 bool lane_take(lane *on, uint32_t bits, patience *left);
 void lane_release(lane *on, uint32_t set);
@@ -397,6 +396,16 @@ static inline void seat_leave(seat *me) {
 static inline void seat_owns(seat *me, dspec_tracer_lane *own) {
     me->own = own;
     STORE(&me->plain, own != NULL ? DSPEC_TRACER_NONE_ : me->run);
+}
+
+/* A path is over: with the last one that its thread began there, a lane is nobody's own. own: whether the path is such a one. */
+static inline void lane_path_off(seat *me, lane *on, bool own) {
+    uint32_t users = 1;
+    if (own && --me->open == 0 && !on->of->by_thread) {
+        seat_owns(me, NULL);
+        users = 2;
+    }
+    __atomic_fetch_sub(&on->front.state, users * USER, __ATOMIC_SEQ_CST);
 }
 
 static inline way lane_enter(seat *me, lane *on) {

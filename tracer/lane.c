@@ -142,16 +142,6 @@ lane *lane_for_path(body *of, seat *me) {
     return lane_shared(of, on == NULL || !has_room(of, on) ? least(of)->number : on->number);
 }
 
-/* A path is over: with the last one that its thread began there, a lane is nobody's own. own: whether the path is such a one. */
-void lane_path_off(seat *me, lane *on, bool own) {
-    uint32_t users = 1;
-    if (own && --me->open == 0 && !on->of->by_thread) {
-        seat_owns(me, NULL);
-        users = 2;
-    }
-    __atomic_fetch_sub(&on->front.state, users * USER, __ATOMIC_SEQ_CST);
-}
-
 lane *lane_for_record(body *of, seat *me) {
     lane *on = lane_of(me->own);
     if (on != NULL || (of->by_thread && (on = claim(of, me, 1)) != NULL)) return on;

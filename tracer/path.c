@@ -28,13 +28,20 @@ static void wants_room(body *of) {
     if (ADD(&of->no_room, 1) % 64 == 0) consumer_wakes(of);
 }
 
+/* A place of a lane, which the compiler finds once. */
+static inline open_path *place_at(lane *on, uint32_t place) {
+    open_path *one = &on->open[place];
+    __asm__("" : "+r"(one));
+    return one;
+}
+
 /* Notes an open path in its lane, which the caller is in: whether there was a place. There are as many as a lane has paths, so that each finds the speculations that it needs. */
 static bool note(lane *on, dspec_path *path, bool own, uint64_t now) {
     const uint32_t places = on->of->options.paths;
     for (uint32_t i = 0, place = (uint32_t)path->id % MAX_OPEN; i < places; i++, place++) {
-        if (place >= places) place = 0;
-        open_path *one = &on->open[place];
-        if (one->id != 0) continue;
+        if (!LIKELY(place < places)) place = 0;
+        open_path *one = place_at(on, place);
+        if (!LIKELY(one->id == 0)) continue;
         one->older = one->cut = 0;
         one->begun = now;
         one->mark = path->mark;
@@ -172,8 +179,7 @@ static dspec_status begin(body *of, seat *me, dspec_path *path, const dspec_even
 }
 
 /* A path is this thread's from now on: whether it is still open. The caller is in its lane. */
-static bool adopt(lane *on, const dspec_path *path) {
-    open_path *one = &on->open[path->place];
+static bool adopt(open_path *one, const dspec_path *path) {
     if (one->id != path->id) return false;
     STORE(&one->token, dspec_tracer_token_4);
     return true;
@@ -185,7 +191,7 @@ static dspec_status go_on(seat *me, dspec_path *path, const dspec_event *event, 
     dspec_status status = DSPEC_VOID;
     const way in = lane_enter(me, on);
     if (in == NOT_IN) return DSPEC_STOPPED;
-    if (adopt(on, path)) {
+    if (adopt(place_at(on, path->place), path)) {
         path->token = path->own && path->lane == me->own ? dspec_tracer_token_4 : 0;
         status = put_on(on, path, event, words, n, dspec_monotonic());
     } else {
@@ -468,20 +474,22 @@ RARELY static void discard_prepared(lane *on, open_path *one, uint32_t count) {
     tell_after_path(on, one, DSPEC_WHY_KEPT, WAITS_FOR_ROOM);
 }
 
-bool path_discard(lane *on, open_path *one) {
+INTO_CALLER bool discard(lane *on, open_path *one) {
     uint32_t count;
-    if (one->older != 0) dspec_discard(&on->front.cpu, one->older, &count);
-    if (dspec_discard(&on->front.cpu, one->id, &count) != DSPEC_OK) return false;
+    if (!LIKELY(one->older == 0)) dspec_discard(&on->front.cpu, one->older, &count);
+    if (!LIKELY(dspec_discard(&on->front.cpu, one->id, &count) == DSPEC_OK)) return false;
     if (!LIKELY(!one->is_prepared)) discard_prepared(on, one, count);
     return true;
 }
 
+bool path_discard(lane *on, open_path *one) { return discard(on, one); }
+
 /* Decides a path in its lane, which the caller is in: DSPEC_OK where it was decided so, DSPEC_BUSY where it waits for room. */
 INTO_CALLER dspec_status decide(lane *on, open_path *one, bool keep, bool waits, uint32_t why) {
     dspec_status status;
-    if (one->saved) return keep ? DSPEC_OK : DSPEC_VOID;
-    status = keep ? path_commit(on, one, why, waits ? WAITS_FOR_ROOM : ANY_ROOM) : path_discard(on, one) ? DSPEC_OK : DSPEC_VOID;
-    if (status != DSPEC_OK) return status;
+    if (!LIKELY(!one->saved)) return keep ? DSPEC_OK : DSPEC_VOID;
+    status = keep ? path_commit(on, one, why, waits ? WAITS_FOR_ROOM : ANY_ROOM) : discard(on, one) ? DSPEC_OK : DSPEC_VOID;
+    if (!LIKELY(status == DSPEC_OK)) return status;
     if (keep) STORE(&on->kept, on->kept + 1);
     else STORE(&on->thrown, on->thrown + 1);
     return status;
@@ -498,7 +506,7 @@ RARELY static bool leave_behind(lane *on, open_path *one, uint64_t mark) {
 /* Ends a path: whether it was decided so. Behind a stop the stop has decided it, and at a thread's end that has. */
 INTO_CALLER bool end(seat *me, dspec_path *path, bool keep, uint32_t why) {
     lane *on = lane_of(path->lane);
-    open_path *one = &on->open[path->place];
+    open_path *const one = place_at(on, path->place);
     const bool own = path->own && path->lane == me->own;
     const uint64_t most = keep ? on->of->options.keep_ms * UINT64_C(1000000) : 0, began = most > 0 ? dspec_monotonic() : 0;
     dspec_status status;
@@ -507,7 +515,7 @@ INTO_CALLER bool end(seat *me, dspec_path *path, bool keep, uint32_t why) {
     for (;;) {
         in = lane_enter(me, on);
         if (in == NOT_IN) return leave_behind(on, one, path->mark);
-        if (!adopt(on, path)) {
+        if (!adopt(one, path)) {
             lane_leave(on, in);
             return false;
         }
@@ -573,7 +581,7 @@ static bool take_over(dspec_path *path, const uint64_t *key) {
     lane *on = lane_of(path->lane);
     const way in = lane_enter(me, on);
     if (in != NOT_IN) {
-        is_open = adopt(on, path);
+        is_open = adopt(place_at(on, path->place), path);
         if (is_open) path->token = path->own && path->lane == me->own ? dspec_tracer_token_4 : 0;
         if (is_open) STORE(&dspec_tracer_recent_4, path->mark);
         if (is_open && key != NULL) set_key(&on->open[path->place], key);

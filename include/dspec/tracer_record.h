@@ -13,6 +13,7 @@ extern "C" {
 
 #define DSPEC_TRACER_APART_ __attribute__((aligned(128)))
 #define DSPEC_TRACER_LIKELY_(IS) __builtin_expect(!!(IS), 1)
+#define DSPEC_TRACER_INTO_CALLER_ __attribute__((always_inline, unused)) DSPEC_INLINE
 
 /* Of a lane's state: six bits, and above them how many paths are on it, and 1 more where it is a thread's own (tracer/body.h). */
 #define DSPEC_TRACER_HELD_ 1u
@@ -54,7 +55,7 @@ extern __thread uint64_t dspec_tracer_recent_4 __attribute__((tls_model("initial
 dspec_status dspec_path_put_slowly_(dspec_path *path, const dspec_event *event, const uint64_t *words, size_t n) DSPEC_NOEXCEPT;
 dspec_status dspec_tracer_put_slowly_(dspec_tracer *tracer, const dspec_event *event, const uint64_t *words, size_t n) DSPEC_NOEXCEPT;
 
-/* After a record that wasn't made. Of one in a path, in the call on its lane: whether it is tried again. */
+/* After a record that wasn't made. Of one in a path, in the call on its lane: whether it is made once more. */
 bool dspec_path_turn(dspec_path *path, const dspec_event *event, dspec_status status) DSPEC_NOEXCEPT;
 void dspec_tracer_missed(dspec_tracer *tracer, const dspec_event *event, dspec_status status) DSPEC_NOEXCEPT;
 
@@ -111,8 +112,19 @@ DSPEC_INLINE bool dspec_tracer_enter_(dspec_tracer_lane *on) DSPEC_NOEXCEPT {
 
 DSPEC_INLINE void dspec_tracer_leave_(dspec_tracer_lane *on) DSPEC_NOEXCEPT { __atomic_store_n(&on->inside, 0, __ATOMIC_RELEASE); }
 
+/* Whether a word is 0, which others may write. A compiler loads an atomic word before it compares it; this compares it where it is. */
+DSPEC_TRACER_INTO_CALLER_ bool dspec_tracer_is_zero_(const uint32_t *word) DSPEC_NOEXCEPT {
+#if defined(__x86_64__)
+    bool is_zero;
+    __asm__ volatile("cmpl $0, %1" : "=@cce"(is_zero) : "m"(*word));
+    return is_zero;
+#else
+    return __atomic_load_n(word, __ATOMIC_RELAXED) == 0;
+#endif
+}
+
 /* Whether each tracer that has an event records it. */
-DSPEC_INLINE bool dspec_event_goes_(const dspec_event *event) DSPEC_NOEXCEPT { return __atomic_load_n(&event->look, __ATOMIC_RELAXED) == 0; }
+DSPEC_TRACER_INTO_CALLER_ bool dspec_event_goes_(const dspec_event *event) DSPEC_NOEXCEPT { return dspec_tracer_is_zero_(&event->look); }
 
 /* What a record of an event claims in a tracer. */
 DSPEC_INLINE uint64_t dspec_tracer_claim_(const dspec_event *event, uint32_t slot) DSPEC_NOEXCEPT { return __atomic_load_n(&event->claims[slot], __ATOMIC_RELAXED); }
@@ -147,26 +159,26 @@ DSPEC_INLINE dspec_status dspec_tracer_fill_(dspec_tracer_lane *on, uint64_t cla
     return status;
 }
 
-#define DSPEC_TRACER_INTO_CALLER_ __attribute__((always_inline, unused)) DSPEC_INLINE
-
-/* Of a path that is open on its thread's own lane: whether it was made, and what came of it. A handler that comes in between finds `inside`. */
+/* Of a path that is open on its thread's own lane: whether it was made, and what came of it. A handler that comes in between finds `inside`. A record that finds room in another speculation is made
+ * once more, with a stamp of its own, so that nothing has to be remembered for that. */
 DSPEC_TRACER_INTO_CALLER_ bool dspec_path_try_(dspec_path *path, const dspec_event *event, const uint64_t *words, size_t n, dspec_status *status) DSPEC_NOEXCEPT {
     dspec_tracer_lane *on;
-    uint64_t now;
+    uint64_t now, mark;
+    bool is_made = true;
     if (!DSPEC_TRACER_LIKELY_(dspec_path_is_here_(path))) return false;
     __asm__ volatile("" : : : "memory"); /* a handler that comes in between may begin this path: its lane is looked at behind its token */
     on = path->lane;
     __asm__("" : "+r"(on)); /* a compiler that sees that a path has no lane yet doesn't know that no thread has its token */
-    if (!DSPEC_TRACER_LIKELY_(__atomic_load_n(&on->inside, __ATOMIC_RELAXED) == 0)) return false;
+    if (!DSPEC_TRACER_LIKELY_(dspec_tracer_is_zero_(&on->inside))) return false;
     dspec_tracer_reach_();
     if (!DSPEC_TRACER_LIKELY_(dspec_tracer_enter_(on))) return false;
-    __atomic_store_n(&dspec_tracer_recent_4, path->mark, __ATOMIC_RELAXED);
     now = dspec_tracer_stamp_();
-    do {
-        *status = dspec_tracer_put_in_(&on->cpu, path->id, dspec_tracer_claim_(event, on->slot), now, words[0] | path->mark, words, n);
-    } while (!DSPEC_TRACER_LIKELY_(*status == DSPEC_OK) && dspec_path_turn(path, event, *status));
+    mark = path->mark;
+    __atomic_store_n(&dspec_tracer_recent_4, mark, __ATOMIC_RELAXED);
+    *status = dspec_tracer_put_in_(&on->cpu, path->id, dspec_tracer_claim_(event, on->slot), now, words[0] | mark, words, n);
+    if (!DSPEC_TRACER_LIKELY_(*status == DSPEC_OK)) is_made = !dspec_path_turn(path, event, *status);
     dspec_tracer_leave_(on);
-    return true;
+    return is_made;
 }
 
 /* Of no path, on the lane that the thread had last, where nobody is on that. A handler that comes in between finds that `plain` is no run. */
