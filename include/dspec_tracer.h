@@ -173,7 +173,7 @@ DSPEC_INLINE bool dspec_tracer_start_among(dspec_tracer *tracer, const char *fol
                                            const dspec_enabling *const *declared, const dspec_enabling *const *end) DSPEC_NOEXCEPT;
 
 /* Starts a tracer by the variable DSPEC_TRACE, as in DSPEC_TRACE=/tmp/trace,slow=5ms,sample=1000,max=64M,off=lookup: its folder, then words that go over the options (docs/C.md has all).
- * Where the variable isn't set, nothing is started. Whether it is up; else tracer->why says why not. */
+ * Where the variable isn't set, or the program has more rights than its user, by setuid say, nothing is started. Whether it is up; else tracer->why says why not. */
 DSPEC_INLINE bool dspec_tracer_start_env(dspec_tracer *tracer, const dspec_tracer_options *options, const dspec_enabling *const *events) DSPEC_NOEXCEPT;
 DSPEC_INLINE bool dspec_tracer_start_env_among(dspec_tracer *tracer, const dspec_tracer_options *options, const dspec_enabling *const *events, const dspec_enabling *const *declared,
                                                const dspec_enabling *const *end) DSPEC_NOEXCEPT;

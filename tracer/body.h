@@ -73,7 +73,7 @@ typedef struct lane {
     uint32_t opened; /* the number of the path that was opened last */
     uint32_t handed; /* how many paths of the thread whose own it is others have ended since that looked */
     uint32_t left;   /* whether one is to be thrown away */
-    dspec_report latest; /* at the last service */
+    dspec_report latest; /* at the last service, of the program's records */
     uint64_t turned; /* records that one speculation refused and the next one took, and paths' events that had no room in theirs */
     uint64_t own_accepted, own_lost, own_discarded; /* of the counts of its CPU the paths' events, which are no records of the program */
     uint32_t owes;

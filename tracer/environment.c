@@ -138,7 +138,7 @@ static void turn_off(dspec_tracer *tracer, const settings *to, const dspec_enabl
 
 bool dspec_tracer_start_env_sized(dspec_tracer *tracer, const dspec_tracer_options *options, size_t size, const dspec_enabling *const *events, const dspec_enabling *const *declared,
                                   const dspec_enabling *const *end) {
-    const char *text = getenv("DSPEC_TRACE");
+    const char *text = secure_getenv("DSPEC_TRACE");
     settings *to = calloc(1, sizeof *to);
     bool started = false;
     tracer->why[0] = 0;
@@ -146,7 +146,8 @@ bool dspec_tracer_start_env_sized(dspec_tracer *tracer, const dspec_tracer_optio
         snprintf(tracer->why, sizeof tracer->why, "%s", dspec_status_text(DSPEC_NO_MEMORY));
         return false;
     }
-    if (text == NULL || text[0] == 0) snprintf(tracer->why, sizeof tracer->why, "DSPEC_TRACE isn't set");
+    if (text == NULL && getenv("DSPEC_TRACE") != NULL) snprintf(tracer->why, sizeof tracer->why, "DSPEC_TRACE isn't heeded by a program that has more rights than its user");
+    else if (text == NULL || text[0] == 0) snprintf(tracer->why, sizeof tracer->why, "DSPEC_TRACE isn't set");
     else if (!options_take(tracer, options, size, &to->options)) started = false;
     else if (!settings_read(to, text) || !are_there(to, events)) snprintf(tracer->why, sizeof tracer->why, "%s", to->why);
     else started = dspec_tracer_start_among(tracer, to->folder, &to->options, events, declared, end);

@@ -56,10 +56,9 @@ static bool note(lane *on, dspec_path *path, bool own, uint64_t now) {
     return false;
 }
 
-/* A number that no open path of the tracer has: each lane has every so many. 0 is no path's. */
+/* A number that no open path of another lane has: each lane has every so many, from the first one on again after the last. 0 is no path's. */
 static uint32_t next_number(lane *on) {
-    on->opened += on->of->count;
-    if (on->opened == 0) on->opened += on->of->count;
+    if (!LIKELY(!__builtin_add_overflow(on->opened, on->of->count, &on->opened))) on->opened = on->number + 1;
     return on->opened;
 }
 

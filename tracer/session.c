@@ -67,6 +67,7 @@ void lane_serve(lane *on, bool *is_empty) {
     else dspec_service(&on->front.cpu, &sealed, &settled);
     has_paid = sealed && path_pays(on);
     dspec_cpu_report(&on->front.cpu, &on->latest);
+    lane_counts(on, &on->latest);
     *is_empty = sealed && settled == 0 && !has_paid;
 }
 

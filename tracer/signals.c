@@ -393,14 +393,16 @@ static void on_end(int signal, siginfo_t *info, void *context) {
 /* What the program ignores stays so: a handler would interrupt calls, and a program that this one executes would be started without it. A system call that is interrupted goes on as the
  * program's handler has it. */
 static void hook(int signal, void (*handler)(int, siginfo_t *, void *), bool only_default) {
-    struct sigaction ours = { .sa_flags = SA_SIGINFO | SA_ONSTACK }, *was = &old[signal];
+    struct sigaction ours = { .sa_flags = SA_SIGINFO | SA_ONSTACK }, was;
     bool is_plain;
     ours.sa_sigaction = handler;
     sigfillset(&ours.sa_mask);
-    if (hooked[signal] || sigaction(signal, NULL, was) != 0) return;
-    is_plain = !(was->sa_flags & SA_SIGINFO) && was->sa_handler == SIG_DFL;
-    if ((only_default && !is_plain) || (!(was->sa_flags & SA_SIGINFO) && was->sa_handler == SIG_IGN)) return;
-    ours.sa_flags |= is_plain ? SA_RESTART : was->sa_flags & SA_RESTART;
+    if (sigaction(signal, NULL, &was) != 0) return;
+    is_plain = !(was.sa_flags & SA_SIGINFO) && was.sa_handler == SIG_DFL;
+    if (hooked[signal] && !is_plain) return; /* a handler over an earlier one of ours calls that; where the default is there nobody does */
+    old[signal] = was;
+    if ((only_default && !is_plain) || (!(was.sa_flags & SA_SIGINFO) && was.sa_handler == SIG_IGN)) return;
+    ours.sa_flags |= is_plain ? SA_RESTART : was.sa_flags & SA_RESTART;
     __atomic_store_n(&is_reset[signal], 0, __ATOMIC_SEQ_CST);
     hooked[signal] = sigaction(signal, &ours, NULL) == 0;
 }

@@ -407,9 +407,7 @@ void dspec_tracer_remove(dspec_tracer *tracer, const dspec_enabling *const *even
 static void counts(const body *of, dspec_tracer_report *report) {
     for (uint32_t i = 0; i < of->count; i++) {
         const lane *on = &of->lanes[i];
-        dspec_report latest = on->latest;
-        lane_counts(on, &latest);
-        lane_add(report, &latest);
+        lane_add(report, &on->latest);
         report->kept += LOAD(&on->kept);
         report->thrown += LOAD(&on->thrown);
         report->cut += LOAD(&on->cut);

@@ -316,13 +316,16 @@ static int unlink_if_ours(const memory_file *of, int parent, const char *name) {
     return unlinkat(parent, name, 0) == 0 ? 0 : errno;
 }
 
-int memory_file_unlink(const memory_file *of, const char *folder) {
+/* In a frame of its own: a handler of a crash, which has no need of it, may have a small stack. */
+__attribute__((noinline)) static int unlink_by_path(const memory_file *of, const char *folder) {
     char path[4400];
-    int code;
-    if (memory_file_is_ours(of->parent, of->parent_device, of->parent_inode)) {
-        code = unlink_if_ours(of, of->parent, of->name);
-        return code == ENOENT ? 0 : code;
-    }
     snprintf(path, sizeof path, "%.4095s" ENDING, folder);
     return unlink_if_ours(of, AT_FDCWD, path);
+}
+
+int memory_file_unlink(const memory_file *of, const char *folder) {
+    int code;
+    if (!memory_file_is_ours(of->parent, of->parent_device, of->parent_inode)) return unlink_by_path(of, folder);
+    code = unlink_if_ours(of, of->parent, of->name);
+    return code == ENOENT ? 0 : code;
 }

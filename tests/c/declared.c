@@ -156,6 +156,12 @@ static void environment(void) {
     CHECK(dspec_tracer_stop(&tracer, &report) && report.kept == 1 && report.accepted == 1);
 }
 
+/* By the variable that the program was started with. */
+static void outside(void) {
+    printf("started %d: %s\n", dspec_tracer_start_env(&tracer, NULL, DSPEC_PROBES(step)), tracer.why);
+    dspec_tracer_stop(&tracer, NULL);
+}
+
 int main(int argc, char **argv) {
     const char *way = argc > 2 ? argv[2] : "";
     if (argc < 3) return 2;
@@ -166,6 +172,7 @@ int main(int argc, char **argv) {
     else if (strcmp(way, "switches") == 0) switches();
     else if (strcmp(way, "rule") == 0) rule();
     else if (strcmp(way, "environment") == 0) environment();
+    else if (strcmp(way, "outside") == 0) outside();
     else return 2;
     return check_end();
 }

@@ -10,6 +10,7 @@
 #include <stdio.h>
 #include <stdlib.h>
 #include <string.h>
+#include <sys/mman.h>
 #include <sys/resource.h>
 #include <sys/stat.h>
 #include <sys/wait.h>
@@ -217,16 +218,35 @@ static void *opens(void *unused) {
     return unused;
 }
 
+/* A stack for handlers of the size that programs give it, at whose end there is nothing. */
+static void make_small_stack(void) {
+    enum { SIZE = 8192, APART = 65536 };
+    char *at = mmap(NULL, APART + SIZE, PROT_NONE, MAP_PRIVATE | MAP_ANONYMOUS, -1, 0);
+    const stack_t small = { .ss_sp = at + APART, .ss_size = SIZE };
+    if (at == MAP_FAILED || mprotect(at + APART, SIZE, PROT_READ | PROT_WRITE) != 0 || sigaltstack(&small, NULL) != 0) exit(5);
+}
+
+/* `again`: with a second tracer, after the program has set the signal to its default. `small`: on a small stack. */
 static int how_crashes(void) {
     static int *volatile nowhere;
+    const bool is_again = words[0] != NULL && strcmp(words[0], "again") == 0, is_small = words[0] != NULL && strcmp(words[0], "small") == 0;
     pthread_t other;
     struct rlimit none = { 0, 0 };
     setrlimit(RLIMIT_CORE, &none);
+    if (is_again) {
+        up();
+        signal(SIGSEGV, SIG_DFL);
+        dspec_tracer_stop(&tracer, NULL);
+        dspec_tracer_drop(&tracer);
+        folder = words[1];
+    }
+    if (is_small) make_small_stack();
     up();
     keep(0, 10);
-    if (words[0] != NULL && pthread_create(&other, NULL, opens, NULL) == 0) sem_wait(&is_open);
+    if (words[0] != NULL && !is_again && !is_small && pthread_create(&other, NULL, opens, NULL) == 0) sem_wait(&is_open);
     dspec_path path = dspec_path_begin(&tracer);
     query_in(&path, 77, 0);
+    if (is_small) abort();
     *nowhere = 1;
     return 5;
 }

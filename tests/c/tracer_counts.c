@@ -69,8 +69,9 @@ static void decided(void) {
     left = path_of(4);
     CHECK(dspec_path_keep(&kept) && dspec_path_keep(&other) && dspec_path_drop(&dropped) && dspec_path_is_open(&left));
     CHECK(tick_now(&tracer, 1) == DSPEC_OK && tick_now(&tracer, 2) == DSPEC_OK);
+    CHECK(dspec_tracer_counts(&tracer, &report) && report.kept == 2 && report.accepted == 0 && report.discarded == 0); /* the lane wasn't served yet */
     CHECK(dspec_tracer_flush(&tracer, 60000));
-    CHECK(dspec_tracer_counts(&tracer, &report) && report.kept == 2 && report.thrown == 1 && report.threads == 1);
+    CHECK(dspec_tracer_counts(&tracer, &report) && report.kept == 2 && report.thrown == 1 && report.threads == 1 && report.accepted == 3 + 1 + 2);
     stop();
     CHECK(report.kept == 2 && report.thrown == 1 && report.undecided == 1 && report.threads == 1);
     CHECK(report.accepted == 3 + 1 + 2 && report.discarded == 2 + 4 && report.specdropped == 0 && report.void_ == 0 && report.refused == 0);
