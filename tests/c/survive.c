@@ -19,7 +19,7 @@
 DSPEC_PROBE(query, uint64_t, request, uint32_t, step);
 
 static dspec_tracer tracer;
-static dspec_tracer_options options = { .survive = true, .lanes = 4, .crash_ms = 5000 };
+static dspec_tracer_options options = { .survive = true, .lanes = 4, .crash_ms = 60000 };
 static const char *folder;
 static char **words;
 

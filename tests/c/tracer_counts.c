@@ -525,7 +525,7 @@ static void masks(void) {
 int main(int argc, char **argv) {
     if (argc != 2) return 2;
     folder = argv[1];
-    alarm(100); /* a lock that stays is a fault and no wait for ever */
+    alarm(1200); /* a lock that stays is a fault and no wait for ever */
     masks();
     starts();
     decided();
