@@ -395,21 +395,18 @@ static void seats(void) {
 
 DSPEC_PROBE(query, uint64_t, request);
 
-/* Each lane has every so many, also after its last one, so that no two lanes have the same. */
-static void numbers(void) {
+/* Each lane has every so many, also after its last one, so that no two lanes have the same. In a thread of its own, which has no seat yet. */
+static void *numbers(void *unused) {
     static const uint32_t last[] = { 0, UINT32_MAX - 5, UINT32_MAX - 4, UINT32_MAX - 3, UINT32_MAX - 2, UINT32_MAX - 1, UINT32_MAX };
     const dspec_tracer_options options = { .lanes = LANES, .paths = PATHS, .no_crash = true, .no_term = true };
     dspec_tracer tracer = { 0 };
     char folder[] = "/tmp/dspec-inside-XXXXXX", words[64];
-    if (!CHECK(mkdtemp(folder) != NULL) || !CHECK(dspec_tracer_start(&tracer, folder, &options, DSPEC_PROBES(query)))) return;
+    if (!CHECK(mkdtemp(folder) != NULL) || !CHECK(dspec_tracer_start(&tracer, folder, &options, DSPEC_PROBES(query)))) return unused;
     for (size_t i = 0; i < sizeof last / sizeof last[0]; i++)
         for (uint32_t number = 0; number < LANES; number++) {
             lane *on = &tracer.body->lanes[number];
-            uint32_t before = last[i] - last[i] % LANES + number + 1;
-            if (before > last[i] || last[i] == 0) before -= LANES;
-            on->opened = before;
-            me->last = &on->front;
-            dspec_seats[0].last = &on->front;
+            on->opened = last[i] - last[i] % LANES - LANES + number + 1;
+            dspec_seats[tracer.body->slot].last = &on->front;
             dspec_path path = dspec_path_begin(&tracer);
             CHECK(query_in(&path, 1) == DSPEC_OK);
             CHECK(path.mark >> 32 != 0 && (path.mark >> 32) % LANES == (lane_of(path.lane)->number + 1) % LANES);
@@ -419,6 +416,7 @@ static void numbers(void) {
     dspec_tracer_drop(&tracer);
     snprintf(words, sizeof words, "rm -rf '%s'", folder);
     CHECK(system(words) == 0);
+    return unused;
 }
 
 int main(void) {
@@ -440,7 +438,7 @@ int main(void) {
     pauses();
     pauses_anew();
     seats();
-    numbers();
+    if (CHECK(pthread_create(&thread, NULL, numbers, NULL) == 0)) pthread_join(thread, NULL);
     if (CHECK(pthread_create(&thread, NULL, has_stack, NULL) == 0)) pthread_join(thread, NULL);
     free(of);
     return check_end();
