@@ -1,4 +1,4 @@
-# Short targets; README.md says what each takes.
+# Short targets; `make help` says what each does.
 SCHEDULE =
 SCHEDULES = $(SCHEDULE)
 OUTPUT =

@@ -1,6 +1,6 @@
 /* How much stack the calls take, as it is measured over this archive: each is made in a thread of its own, on a stack that was filled
  * before; what was written over since is counted, with what the thread itself takes. A start and an end have to get by with
- * 64 KiB, however many CPUs there are, and each other call with 32. `c_stack CPUS ..` measures sessions of so many. */
+ * 128 KiB, however many CPUs there are, what makes a schema with 64, and each other call with 32. `c_stack CPUS ..` measures sessions of so many. */
 #define _GNU_SOURCE
 #define DSPEC_CTF_NO_FOLDER
 #include "dspec_ctf.h"
