@@ -51,10 +51,13 @@ static void serve_noted(lane *on, bool *sealed, uint32_t *settled) {
     dspec_service(&on->front.cpu, sealed, settled);
     if (*sealed) {
         __atomic_store_n(&on->serving, HAS_SWITCHED, __ATOMIC_RELEASE);
+        __atomic_signal_fence(__ATOMIC_SEQ_CST); /* a kill may come between any two of these: what is counted by `switched` is there before that is */
         on->accepted = is.accepted;
         on->sealed = on->standing;
         on->filled ^= 1;
+        __atomic_signal_fence(__ATOMIC_SEQ_CST);
         on->switched++;
+        __atomic_signal_fence(__ATOMIC_SEQ_CST);
     }
     __atomic_store_n(&on->serving, NOT_SERVED, __ATOMIC_RELEASE);
 }
