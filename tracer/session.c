@@ -62,7 +62,7 @@ static void serve_noted(lane *on, bool *sealed, uint32_t *settled) {
     __atomic_store_n(&on->serving, NOT_SERVED, __ATOMIC_RELEASE);
 }
 
-/* is_empty: whether all that it had is on its way. What a service settles and what the lane owes come behind the switch, and are in the buffer that was just begun. */
+/* is_empty: whether all that it had is on its way. What a service settles and what the lane owes come after the switch, and are in the buffer that was just begun. */
 void lane_serve(lane *on, bool *is_empty) {
     bool sealed = false, has_paid;
     uint32_t settled = 0;
