@@ -13,7 +13,7 @@ INTO =
 JOBS =
 PREBUILT = prebuilt/x86_64-linux
 
-.PHONY: help kit no_goal check crates-line quick play test examples ctf-check api edits mutants rows soak fuzz build bench bench-instructions bench-peers bench-waits build-bench picture lib c-check install uninstall dist deb
+.PHONY: help kit no_goal check crates-line quick play test examples ctf-check api edits mutants rows soak fuzz build bench bench-instructions bench-peers bench-tracer bench-waits build-bench picture lib c-check install uninstall dist deb
 
 help:
 	@echo "make play SCHEDULE=FILE         plays a schedule, as examples/tutorial/01-three-traces.schedule"
@@ -121,6 +121,10 @@ bench-instructions: build-bench
 # A kept record beside the same record by others: C, and LTTng-UST where it is installed.
 bench-peers: build-bench
 	@sh tools/peers
+
+# What a path costs in the tracer, beside a ring written by hand, one mutex and, where it is installed, LTTng-UST: nanoseconds and instructions.
+bench-tracer:
+	@sh tools/beside $(SLICES)
 
 # How long a thread that records waits beside a tracer's consumer, of PATHS paths (100,000), beside a control.
 bench-waits:

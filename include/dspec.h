@@ -4,7 +4,7 @@
  * matter. A session has 1 to 64 CPUs, which are lanes of the trace and no processors, and one consumer. Each CPU traces records
  * into its own principal buffer; or it offers them to a speculation, on any CPUs, which is committed or discarded later. The
  * consumer takes the principal buffers, batch by batch. No record of a discarded speculation gets into a batch, and each record
- * that was offered stands in exactly one count of its CPU's report, as does each that the schema refused.
+ * that was offered is in exactly one count of its CPU's report, as does each that the schema refused.
  *
  * HANDLES. A handle is two words of the caller's memory. All zeros is the empty handle, as DSPEC_EMPTY. The kinds have types of
  * their own, so that the compiler tells them apart; a call that is given an empty handle, or by a cast one of another kind,
@@ -88,7 +88,7 @@ typedef enum dspec_status {
     /* A trace (dspec_ctf.h). */
     DSPEC_NO_STAMP = 12,       /* records have no stamps */
     DSPEC_NO_FREQUENCY = 13,   /* a clock of no tick a second */
-    DSPEC_BAD_NAME = 14,       /* a name of an event or of a field that isn't allowed, or stands there twice, or a text that isn't UTF-8 */
+    DSPEC_BAD_NAME = 14,       /* a name of an event or of a field that isn't allowed, or is there twice, or a text that isn't UTF-8 */
     DSPEC_BAD_NAME_COUNT = 15, /* not a name for each event and each field, or not a kind for each field */
 
     /* What was asked can't be asked. */
@@ -115,7 +115,7 @@ typedef enum dspec_status {
     DSPEC_WORN = 34,        /* the CPU has made all its calls */
     DSPEC_VOID = 35,        /* the speculation isn't open: never given out, or decided already */
     DSPEC_UNAVAILABLE = 36, /* no slot is free for a speculation, and none waits for its release */
-    DSPEC_BUSY = 37,        /* what is asked for isn't free yet, and will be */
+    DSPEC_BUSY = 37,        /* the thing that is asked for isn't free yet, and will be */
     DSPEC_LOST = 38         /* a commit whose records had no room in the principal buffer: all of them are lost */
 } dspec_status;
 
@@ -148,7 +148,7 @@ DSPEC_INLINE dspec_config dspec_config_of_cpus(uint32_t cpus) DSPEC_NOEXCEPT {
     return config;
 }
 
-/* A CPU's counts. Each record that was offered stands in exactly one of accepted, dropped, specdropped, lost, discarded, void_
+/* A CPU's counts. Each record that was offered is in exactly one of accepted, dropped, specdropped, lost, discarded, void_
  * and held, and each that the schema refused in refused; the rest counts events. */
 typedef struct dspec_report {
     uint64_t offered;     /* records handed to trace or speculate, by calls that weren't worn */
@@ -157,7 +157,7 @@ typedef struct dspec_report {
     uint64_t specdropped; /* records that a speculative buffer had no room for */
     uint64_t lost;        /* records of commits that the principal buffer had no room for */
     uint64_t discarded;   /* records thrown away by a discard */
-    uint64_t void_;       /* records offered behind a stop, or to a speculation that wasn't open */
+    uint64_t void_;       /* records offered after a stop, or to a speculation that wasn't open */
     uint64_t held;        /* records that wait in speculative buffers */
     uint64_t drops;       /* reservations that the principal buffer refused: one a dropped record, and one a lost commit */
     uint64_t unavailable; /* calls answered DSPEC_UNAVAILABLE */
@@ -167,9 +167,9 @@ typedef struct dspec_report {
     uint64_t refused;     /* calls answered DSPEC_BAD_RECORD, whose records weren't offered; it stays at 2^64 - 1 */
 } dspec_report;
 
-/* A principal buffer: its records, one behind another, all numbers little-endian. A record is its EPID in 4 bytes; with a stamped
+/* A principal buffer: its records, one after another, all numbers little-endian. A record is its EPID in 4 bytes; with a stamped
  * schema, the stamp's low and high halves in 4 bytes each; then each value at the next multiple of its own width from the record's
- * start; and zeros up to a multiple of 4. A record with a field of 8 bytes stands at a multiple of 8, any other at a multiple of 4;
+ * start; and zeros up to a multiple of 4. A record with a field of 8 bytes begins at a multiple of 8, any other at a multiple of 4;
  * where 4 bytes are left out for that, they are zero, so an EPID 0 is to be skipped. */
 typedef struct dspec_batch {
     const uint8_t *bytes; /* they stay where they are until the batch is given back, or its consumer or closed session let go */
@@ -203,7 +203,7 @@ dspec_status dspec_schema_stamp(dspec_schema *schema) DSPEC_NOEXCEPT;
 
 /* ---- A session. One thread at a time, beside its CPUs and its consumer on theirs. ---- */
 
-/* Starts a session over the schema as it is now; the schema stays the caller's, and what is changed of it later is no matter to
+/* Starts a session over the schema as it is now; the schema stays the caller's, and later changes of it are no matter to
  * the session. It takes all memory that the calls of the CPUs and of the consumer need. Takes memory.
  * DSPEC_FULL_HANDLE, DSPEC_BAD_HANDLE (the schema), DSPEC_BAD_POLICY, DSPEC_BAD_CPUS, DSPEC_BAD_NSPEC, DSPEC_BAD_BUFSIZE,
  * DSPEC_BAD_SPECSIZE, DSPEC_BAD_MAX_ISSUES, DSPEC_BAD_MAX_CALLS, DSPEC_NO_MEMORY, looked at in this order. */
@@ -232,9 +232,9 @@ dspec_status dspec_tend(dspec_session *session, uint64_t *settled) DSPEC_NOEXCEP
  * DSPEC_WORN. DSPEC_BAD_RECORD: it was counted as refused, and nothing else was done. DSPEC_BAD_HANDLE: nothing was done. */
 dspec_status dspec_trace(dspec_cpu *cpu, uint32_t epid, uint64_t stamp, const uint64_t *values, size_t n) DSPEC_NOEXCEPT;
 
-/* Traces the record whose text is these words: what a program packs that knows the record's fields when it is compiled. Behind four bytes
- * for the EPID stands each field at the next multiple of its width, the lowest byte first; a word is eight of these bytes, the first the
- * lowest. What stands in the EPID's place and between fields counts for nothing, and so no value is refused. claim is the EPID, and above
+/* Traces the record whose text is these words: what a program packs that knows the record's fields when it is compiled. After four bytes
+ * for the EPID comes each field at the next multiple of its width, the lowest byte first; a word is eight of these bytes, the first the
+ * lowest. Bytes in the EPID's place and between fields count for nothing, and so no value is refused. claim is the EPID, and above
  * 32 bits how many bytes each field has, four bits a field, the first field lowest: (uint64_t)0x48 << 32 | epid is of a field of 8 bytes
  * and one of 4, whose words are three. Where the EPID has other fields, or isn't enabled, or there are more or fewer words than its fields
  * take, it is DSPEC_BAD_RECORD, and counted as refused; so is a record of no fields. dspec_probe.h declares probes whose records are put so.
@@ -266,7 +266,7 @@ dspec_status dspec_put_in(dspec_cpu *cpu, uint64_t id, uint64_t claim, uint64_t 
 dspec_status dspec_commit(dspec_cpu *cpu, uint64_t id, uint32_t *count) DSPEC_NOEXCEPT;
 
 /* Commits a speculation as dspec_commit does, but not where this CPU's records of it would be lost: then it is DSPEC_BUSY, nothing was done
- * or counted, and the speculation is as it was. That is so behind a stop too, and where another CPU has decided it. Room comes where dspec_service hands on a batch; under DSPEC_POLICY_FILL none does. It looks
+ * or counted, and the speculation is as it was. That is so after a stop too, and where another CPU has decided it. Room comes where dspec_service hands on a batch; under DSPEC_POLICY_FILL none does. It looks
  * at this CPU's records alone: those of other CPUs go or are lost as after dspec_commit, at their services. count is the number of this
  * CPU's records, and is written at DSPEC_OK.
  * DSPEC_OK: they were copied. DSPEC_BUSY: they would be lost now. DSPEC_VOID, DSPEC_STOPPED, DSPEC_WORN. DSPEC_BAD_HANDLE. */
@@ -279,7 +279,7 @@ dspec_status dspec_discard(dspec_cpu *cpu, uint64_t id, uint32_t *count) DSPEC_N
 
 /* To be called now and then between the CPU's other calls. Where the consumer asked for a batch and a spare buffer is there, the
  * principal buffer is switched and handed on; and what other CPUs have decided is settled. sealed: whether a batch was handed on;
- * settled: how many speculations were. It is never worn, and works behind a stop too.
+ * settled: how many speculations were. It is never worn, and works after a stop too.
  * DSPEC_OK. DSPEC_BAD_HANDLE. */
 dspec_status dspec_service(dspec_cpu *cpu, bool *sealed, uint32_t *settled) DSPEC_NOEXCEPT;
 
@@ -361,7 +361,7 @@ dspec_status dspec_consumer_home(dspec_consumer *consumer) DSPEC_NOEXCEPT;
 dspec_status dspec_finish(dspec_session *session, dspec_closed *closed) DSPEC_NOEXCEPT;
 
 /* The same in one call, for a program whose threads are joined before the end: sends home the CPUs that these count handles hold and the
- * consumer, and then ends the session as dspec_finish does. No handle stands twice among them. A CPU that is home already, or was never
+ * consumer, and then ends the session as dspec_finish does. No handle is twice among them. A CPU that is home already, or was never
  * handed out, isn't among them; a program that never asked for the consumer calls dspec_finish. Takes no memory.
  * DSPEC_FULL_HANDLE (closed), DSPEC_BAD_HANDLE: the session's handle, the consumer's or one of the CPUs' is empty, or holds another kind,
  * and nothing has changed. Else all handles that were passed are empty but the session's, whatever comes of it. DSPEC_NOT_HOME: a CPU of
@@ -443,7 +443,7 @@ DSPEC_INLINE const char *dspec_status_text(dspec_status status) DSPEC_NOEXCEPT {
 /* The EPID of a row: one that 32 bits don't hold is no EPID, as 0 is none. A row without a stamp's place is refused, and counted, as it is. */
 static inline uint32_t dspec_row_epid(const uint64_t *row) { return row[0] > UINT32_MAX ? 0 : (uint32_t)row[0]; }
 
-/* Of a row with the EPID, and the stamp where there is one, in front of the values. */
+/* Of a row with the EPID, and the stamp where there is one, before the values. */
 static inline dspec_status dspec_trace_row(dspec_cpu *cpu, const uint64_t *row, size_t n) {
     return dspec_trace(cpu, dspec_row_epid(row), 0, row + 1, n - 1);
 }
@@ -457,7 +457,7 @@ static inline dspec_status dspec_speculate_stamped_row(dspec_cpu *cpu, uint64_t 
     return n < 2 ? dspec_speculate(cpu, id, 0, 0, row, 0) : dspec_speculate(cpu, id, dspec_row_epid(row), row[1], row + 2, n - 2);
 }
 
-/* A zero stands behind the row, so that its values never begin past its end. */
+/* A zero follows the row, so that its values never begin past its end. */
 #define DSPEC_ROW_(...) ((const uint64_t[]){__VA_ARGS__, 0})
 #define DSPEC_ROW_LENGTH_(...) (sizeof((const uint64_t[]){__VA_ARGS__}) / sizeof(uint64_t))
 #define DSPEC_TRACE(cpu, ...) dspec_trace_row((cpu), DSPEC_ROW_(__VA_ARGS__), DSPEC_ROW_LENGTH_(__VA_ARGS__))

@@ -53,7 +53,7 @@ template <std::size_t bytes> struct text {
         dspec_text_put(words, bytes / 8, all.data(), all.size());
     }
 
-    /* The bytes in front of its first zero, which are this value's. */
+    /* The bytes before its first zero, which are this value's. */
     std::string_view view() const noexcept {
         const dspec_text in = dspec_text_in(words, bytes / 8);
         return {in.bytes, in.len};
@@ -75,7 +75,7 @@ template <typename T>
 concept field = detail::is_text<T> || ((std::integral<T> || std::is_enum_v<T> || std::floating_point<T>) &&
                                        (sizeof(T) == 1 || sizeof(T) == 2 || sizeof(T) == 4 || sizeof(T) == 8));
 
-/* What the numbers 0, 1, .. of a type are called, which a trace shows beside them: a program says it of an enumeration of its own, in front of the probes that have it as a field.
+/* What the numbers 0, 1, .. of a type are called, which a trace shows beside them: a program says it of an enumeration of its own, before the probes that have it as a field.
  *
  *     enum class outcome : std::uint8_t { done, aborted, slow };
  *     template <> inline constexpr std::array<const char *, 3> dspec::labels<outcome>{"done", "aborted", "slow"};
@@ -104,7 +104,7 @@ template <field T> constexpr T value(const std::uint64_t *at) noexcept {
     else return std::bit_cast<T>(static_cast<unsigned_of<sizeof(T)>>(*at));
 }
 
-/* How many fields of a schema each of these is, and all in front of one. */
+/* How many fields of a schema each of these is, and all before one. */
 template <field T> inline constexpr std::size_t spread = (sizeof(T) + 7) / 8;
 template <field... Fields> inline constexpr std::size_t all_spread = (std::size_t{0} + ... + spread<Fields>);
 template <field... Fields> constexpr auto starts() noexcept {
@@ -139,7 +139,7 @@ template <field... Fields> constexpr std::uint32_t signature() noexcept {
     return word;
 }
 
-/* Where a value of so many bytes stands that comes behind so many. */
+/* The place of a value of this many bytes after that many others. */
 constexpr std::size_t place_from(std::size_t end, std::size_t bytes) noexcept {
     const std::size_t width = bytes < 8 ? bytes : 8;
     return (end + width - 1) / width * width;
@@ -291,7 +291,7 @@ struct decided {
  * with it: they go on on the value that holds the CPU then. */
 class cpu : public detail::owned<dspec_cpu> {
     friend class path;
-    path *paths_ = nullptr; /* those that are open on this value, one behind another */
+    path *paths_ = nullptr; /* those that are open on this value, one after another */
 
     void takes_paths_of(cpu &other) noexcept;
     void ends_paths() noexcept;
@@ -446,7 +446,7 @@ public:
     /* How many of its records this CPU had no room for. */
     std::uint32_t dropped() noexcept { return on_ ? on_->dropped_in(id_) : 0; }
 
-    /* Each decides once; behind it, behind a move, and where its CPU's value has ended, the path takes no step and no decision: DSPEC_VOID. */
+    /* Each decides once; after it, after a move, and where its CPU's value has ended, the path takes no step and no decision: DSPEC_VOID. */
     decided commit() noexcept {
         cpu *on = leave();
         return on ? on->commit(id_) : decided{DSPEC_VOID, 0};
@@ -481,7 +481,7 @@ inline void cpu::ends_paths() noexcept {
 /* The consumer's calls. Where the value ends, the consumer goes home. */
 class consumer : public detail::owned<dspec_consumer> {
 public:
-    /* Asks a CPU for a batch, and hands one that has come to `see`, behind which it goes back; whether one had come. */
+    /* Asks a CPU for a batch, and hands one that has come to `see`, after which it goes back; whether one had come. */
     template <std::invocable<const dspec_batch &> See> bool take(std::uint32_t number, See &&see) {
         check(dspec_ask(get(), number));
         dspec_batch batch;
@@ -652,10 +652,10 @@ public:
     std::uint64_t lost() const noexcept { return folder_->lost ? folder_->first.records : 0; }
     /* How many records went with folders for which the bound had no room. */
     std::uint64_t gone() const noexcept { return folder_->gone_records; }
-    /* Behind the session's end: writes what was left of each CPU, tells what else its reports count as dropped, specdropped or lost, and closes the files;
-     * whether the whole trace is written. No batch is taken behind it. */
+    /* After the session's end: writes what was left of each CPU, tells what else its reports count as dropped, specdropped or lost, and closes the files;
+     * whether the whole trace is written. No batch is taken after it. */
     bool close(closed &ended) noexcept { return dspec_folder_close(folder_.get(), &layout_, ended.get()); }
-    /* For a trace that no session's end stands behind: tells what isn't told yet, and closes the files. */
+    /* For a trace that is closed without a session's end: tells what isn't told yet, and closes the files. */
     bool end() noexcept { return dspec_folder_end(folder_.get()); }
 };
 

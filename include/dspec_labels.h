@@ -1,4 +1,4 @@
-/* dspec_labels.h: what the numbers of a field are called, beside dspec_probe.h and dspec_folder.h. For C11; in C++ dspec.hpp has it.
+/* dspec_labels.h: labels of a field's numbers, beside dspec_probe.h and dspec_folder.h. For C11; in C++ dspec.hpp has it.
  *
  *     DSPEC_PROBE(reply, uint64_t, request, uint8_t, outcome);
  *     DSPEC_LABELS(reply, outcome, "done", "aborted", "slow");            0, 1 and 2 of it, at the top of the same file
@@ -10,7 +10,7 @@
  *     DSPEC_PROBE(step, uint64_t, request, uint32_t, place);
  *     static dspec_literals places;
  *     DSPEC_LITERALS(step, place, places);
- *     here = dspec_literal(&places, "parse.c: no number");                in front of the trace's beginning; the same text has the same number
+ *     here = dspec_literal(&places, "parse.c: no number");                before the trace begins; the same text has the same number
  */
 #ifndef DSPEC_LABELS_H
 #define DSPEC_LABELS_H

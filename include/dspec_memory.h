@@ -1,14 +1,14 @@
-/* dspec_memory.h: sessions in memory of a program's own, such as a file that is mapped and shared, which outlives the process. For C11 and C++17, beside dspec.h. What is told
- * here was tested, and isn't proved.
+/* dspec_memory.h: sessions in memory of a program's own, such as a file that is mapped and shared, which outlives the process. For C11 and C++17, beside dspec.h. All of
+ * this was tested, and isn't proved.
  *
  *     dspec_memory_for(&config, &schema, &bytes)
  *     void *memory = mmap(address, bytes, PROT_READ | PROT_WRITE, MAP_SHARED | MAP_FIXED_NOREPLACE, file, 0);
  *     dspec_start_in(&config, &schema, memory, bytes, &session)
- *     void *before = dspec_memory_turn(memory);                    what is handed out takes memory too
+ *     void *before = dspec_memory_turn(memory);                    handles that are handed out take memory too
  *     dspec_cpu_of(&session, 0, &cpu)
  *     dspec_memory_turn(before);
  *     ..
- *     dspec_memory_end(memory)                                     behind the session's end
+ *     dspec_memory_end(memory)                                     after the session's end
  *
  * Nothing of such a session is in memory of malloc's but the handles, which are the caller's, and nothing that is taken is given back before the end. It has pointers into itself: whoever
  * reads it later, with the same build of this library (dspec_build), maps it at the address where it was. dspec_tracer.h does all this by `survive`, and dspec_salvage reads it.
@@ -29,7 +29,7 @@ extern "C" {
  * As dspec_start. */
 dspec_status dspec_memory_for(const dspec_config *config, dspec_schema *schema, size_t *bytes) DSPEC_NOEXCEPT;
 
-/* Lets the library take from so many bytes of memory, which begin at a multiple of 16, and says so at their beginning.
+/* Lets the library take from these bytes of memory, which begin at a multiple of 16, and says so at their beginning.
  * DSPEC_OK. DSPEC_NO_MEMORY: there are fewer than 64 bytes, they begin elsewhere, or as many memories are begun as may be. */
 dspec_status dspec_memory_begin(void *memory, size_t bytes) DSPEC_NOEXCEPT;
 

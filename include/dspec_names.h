@@ -29,7 +29,7 @@ typedef struct dspec_labels {
     const size_t *count; /* how many they are when the trace begins; NULL: none */
 } dspec_labels;
 
-/* The names of events in the order of their EPIDs, behind each event's those of its fields; what the fields' numbers mean, and what they are called. All zeros at
+/* The names of events in the order of their EPIDs, after each event's those of its fields; the meaning of the fields' numbers, and their labels. All zeros at
  * first. The texts stay the caller's. `over` says that there was no room for one: a schema has at most 64 events of 8 fields. */
 typedef struct dspec_names {
     dspec_text texts[DSPEC_MAX_ENABLINGS * (DSPEC_MAX_FIELDS + 1)];
@@ -70,7 +70,7 @@ DSPEC_INLINE void dspec_names_field(dspec_names *names, const char *field, uint8
     dspec_names_text(names, field, false);
 }
 
-/* The same of a field of a probe, which has so many bytes: a text that is of several words of the schema's has one name. */
+/* The same of a field of a probe, which has this many bytes: a text that is of several words of the schema's has one name. */
 DSPEC_INLINE void dspec_names_wide(dspec_names *names, const char *field, uint8_t kind, size_t bytes) DSPEC_NOEXCEPT {
     dspec_names_field(names, field, kind);
     for (; bytes > 8; bytes -= 8) dspec_names_kind(names, DSPEC_KIND_TEXT_NEXT);

@@ -3,7 +3,7 @@
  *     DSPEC_PROBE(query, uint64_t, request, uint32_t, micros)
  *
  * at the top of a file declares a probe called query with two fields. It has one to eight fields, each an integer, a bool, a float or a
- * double, of 1, 2, 4 or 8 bytes, or a text (dspec_text.h), which counts as so many fields as it has times eight bytes. What there is then:
+ * double, of 1, 2, 4 or 8 bytes, or a text (dspec_text.h), which counts as one field for each eight bytes. Then there are:
  *
  *     query_probe q;                                              the probe; all zeros until it is enabled
  *     query_enable(&q, &layout, &schema)                          answers as dspec_layout_enable
@@ -28,7 +28,7 @@
 #include <assert.h>
 #include <string.h>
 
-/* The bits of a value of so many bytes, at most 8, with zeros above them. The machine is little-endian, as all are that the library is
+/* The bits of a value of this many bytes, at most 8, with zeros above them. The machine is little-endian, as all are that the library is
  * built for. */
 static inline uint64_t dspec_bits_of(const void *value, size_t width) {
     uint64_t bits = 0;
@@ -60,7 +60,7 @@ static inline void dspec_bool_of(void *value, const uint64_t *bits, size_t width
     _Generic(*(TYPE *)0, float: DSPEC_KIND_FLOAT, double: DSPEC_KIND_FLOAT, char: DSPEC_KIND_SIGNED, signed char: DSPEC_KIND_SIGNED, short: DSPEC_KIND_SIGNED, \
         int: DSPEC_KIND_SIGNED, long: DSPEC_KIND_SIGNED, long long: DSPEC_KIND_SIGNED, default: DSPEC_IF_TEXT_(TYPE, DSPEC_KIND_TEXT, DSPEC_KIND_UNSIGNED))
 
-/* What is constant of a probe's packing has to be so for the compiler too. */
+/* The constant part of a probe's packing has to be constant for the compiler too. */
 #if defined(__GNUC__)
 #define DSPEC_PROBE_PACKED_ __attribute__((always_inline)) static inline
 #else
@@ -78,14 +78,14 @@ DSPEC_PROBE_PACKED_ size_t dspec_packed_(uint64_t *words, size_t end, const void
     return at + size;
 }
 
-/* How many bytes each of so many fields has, four bits a field, the first lowest. */
+/* How many bytes each of n fields has, four bits a field, the first lowest. */
 static inline uint32_t dspec_signature_of(const uint8_t *widths, size_t n) {
     uint32_t signature = 0;
     for (size_t i = 0; i < n; i++) signature |= (uint32_t)widths[i] << 4 * i;
     return signature;
 }
 
-/* Enables a probe whose fields have so many bytes, and has what its records claim. */
+/* Enables a probe whose fields have these widths, and has the claim of its records. */
 static inline dspec_status dspec_probe_enable(dspec_layout *layout, dspec_schema *schema, const uint8_t *widths, size_t n, uint32_t *epid, uint32_t *signature) {
     uint8_t fields[DSPEC_MAX_FIELDS];
     const size_t count = dspec_widths_spread(widths, n, fields);
@@ -115,7 +115,7 @@ static inline dspec_status dspec_probe_enable(dspec_layout *layout, dspec_schema
 #define DSPEC_PROBE_8_(S, P, T0, N0, T1, N1, T2, N2, T3, N3, T4, N4, T5, N5, T6, N6, T7, N7) \
     DSPEC_PROBE_7_(S, P, T0, N0, T1, N1, T2, N2, T3, N3, T4, N4, T5, N5, T6, N6) S(P, T7, N7)
 
-/* The step for so many fields: two words each. */
+/* The step for each number of fields: two words each. */
 #define DSPEC_PROBE_PICK_(A1, B1, A2, B2, A3, B3, A4, B4, A5, B5, A6, B6, A7, B7, A8, B8, EACH, ...) EACH
 #define DSPEC_PROBE_EACH_(S, P, ...)                                                                                                           \
     DSPEC_PROBE_PICK_(__VA_ARGS__, DSPEC_PROBE_8_, odd_, DSPEC_PROBE_7_, odd_, DSPEC_PROBE_6_, odd_, DSPEC_PROBE_5_, odd_, DSPEC_PROBE_4_, odd_, \
@@ -126,7 +126,7 @@ static inline dspec_status dspec_probe_enable(dspec_layout *layout, dspec_schema
 #define DSPEC_PROBE_ARGUMENT_(PROBE, TYPE, NAME) , TYPE NAME
 #define DSPEC_PROBE_WIDTH_(PROBE, TYPE, NAME) sizeof(TYPE),
 #define DSPEC_PROBE_COUNT_(PROBE, TYPE, NAME) + DSPEC_PROBE_SPREAD_(TYPE)
-/* Each field at its place behind the EPID's four bytes. A union with the struct was tried: gcc 12 makes narrow stores of it and one wide load. */
+/* Each field at its place after the EPID's four bytes. A union with the struct was tried: gcc 12 makes narrow stores of it and one wide load. */
 #define DSPEC_PROBE_PACK_(PROBE, TYPE, NAME) dspec_end_ = dspec_packed_(dspec_words_, dspec_end_, &NAME, sizeof NAME);
 #define DSPEC_PROBE_BACK_(PROBE, TYPE, NAME)                                                                                                                      \
     _Generic(dspec_values_->NAME, bool: dspec_bool_of, default: dspec_value_of)(&dspec_values_->NAME, &dspec_record_->values[dspec_at_], sizeof(TYPE)); \

@@ -30,15 +30,15 @@ typedef struct dspec_layout {
 typedef struct dspec_record {
     uint32_t epid;
     uint64_t stamp;                    /* 0 where records have none */
-    uint64_t values[DSPEC_MAX_FIELDS]; /* those behind the first `fields` are 0 */
+    uint64_t values[DSPEC_MAX_FIELDS]; /* those after the first `fields` are 0 */
     size_t fields;
 } dspec_record;
 
 /* What reading comes to. */
 typedef enum dspec_reading {
-    DSPEC_READ = 0,       /* a record, and `at` stands behind it */
+    DSPEC_READ = 0,       /* a record, and `at` is after it */
     DSPEC_READ_ALL = 1,   /* none is left */
-    DSPEC_READ_WRONG = 2  /* no record of this layout begins there: padding or a record where none may stand, no such EPID, or no end */
+    DSPEC_READ_WRONG = 2  /* no record of this layout begins there: padding or a record where none may be, no such EPID, or no end */
 } dspec_reading;
 
 /* Enables records as dspec_schema_enable does, and where that isn't refused notes their layout.
@@ -63,31 +63,31 @@ DSPEC_INLINE uint64_t dspec_number_at(const uint8_t *bytes, size_t width) DSPEC_
 /* The least multiple that isn't below `at`. */
 DSPEC_INLINE size_t dspec_multiple_from(size_t at, size_t multiple) DSPEC_NOEXCEPT { return (at + multiple - 1) / multiple * multiple; }
 
-/* Reads the record that begins at byte `at` of these `len`, or behind the one word of padding there, and moves `at` behind it. Where it
+/* Reads the record that begins at byte `at` of these `len`, or after the one word of padding there, and moves `at` past it. Where it
  * answers anything but DSPEC_READ, `at` and `record` are as they were. */
 DSPEC_INLINE dspec_reading dspec_read(const dspec_layout *layout, const uint8_t *bytes, size_t len, size_t *at, dspec_record *record)
     DSPEC_NOEXCEPT {
-    dspec_record one = { 0, 0, { 0 }, 0 };
+    dspec_record found = { 0, 0, { 0 }, 0 };
     size_t start = *at, end = layout->stamped ? 12 : 4;
     if (start == len) return DSPEC_READ_ALL;
     if (start % 8 == 4 && len - start >= 4 && dspec_number_at(bytes + start, 4) == 0) start += 4;
     if (len - start < end) return DSPEC_READ_WRONG;
-    one.epid = DSPEC_AS(uint32_t, dspec_number_at(bytes + start, 4));
-    if (one.epid == 0 || one.epid > layout->enablings) return DSPEC_READ_WRONG;
-    if (layout->stamped) one.stamp = dspec_number_at(bytes + start + 4, 8);
-    one.fields = layout->of[one.epid - 1].fields;
-    for (size_t i = 0; i < one.fields; i++) {
-        size_t width = layout->of[one.epid - 1].widths[i];
+    found.epid = DSPEC_AS(uint32_t, dspec_number_at(bytes + start, 4));
+    if (found.epid == 0 || found.epid > layout->enablings) return DSPEC_READ_WRONG;
+    if (layout->stamped) found.stamp = dspec_number_at(bytes + start + 4, 8);
+    found.fields = layout->of[found.epid - 1].fields;
+    for (size_t i = 0; i < found.fields; i++) {
+        size_t width = layout->of[found.epid - 1].widths[i];
         if (width == 8 && start % 8 != 0) return DSPEC_READ_WRONG;
         end = dspec_multiple_from(end, width);
         if (len - start < end + width) return DSPEC_READ_WRONG;
-        one.values[i] = dspec_number_at(bytes + start + end, width);
+        found.values[i] = dspec_number_at(bytes + start + end, width);
         end += width;
     }
     end = dspec_multiple_from(end, 4);
     if (len - start < end) return DSPEC_READ_WRONG;
     *at = start + end;
-    *record = one;
+    *record = found;
     return DSPEC_READ;
 }
 

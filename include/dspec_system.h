@@ -18,7 +18,7 @@
 extern "C" {
 #endif
 
-/* Room for a machine's name, and the zero behind it. */
+/* Room for a machine's name, and the zero after it. */
 #define DSPEC_HOST_SIZE 256u
 #define DSPEC_NANOSECONDS UINT64_C(1000000000)
 
@@ -44,7 +44,7 @@ DSPEC_INLINE dspec_text dspec_shown(char *text) DSPEC_NOEXCEPT {
 /* This process under this name, with stamps of dspec_monotonic, and a uuid of random bytes: each call gives another. The name stays the caller's, and so does
  * host, which has the machine's from then on. Whether the system told all of it; else errno says why not. */
 DSPEC_INLINE bool dspec_identity_of_system(dspec_identity *identity, const char *name, char host[DSPEC_HOST_SIZE]) DSPEC_NOEXCEPT {
-    uint64_t before, real, after, began;
+    uint64_t least = UINT64_MAX, began = 0;
     memset(identity, 0, sizeof *identity);
     memset(host, 0, DSPEC_HOST_SIZE);
 #ifdef __linux__
@@ -56,10 +56,13 @@ DSPEC_INLINE bool dspec_identity_of_system(dspec_identity *identity, const char 
     /* A random uuid says of itself that it is one. */
     identity->uuid[6] = DSPEC_AS(uint8_t, (identity->uuid[6] & 15) | 64);
     identity->uuid[8] = DSPEC_AS(uint8_t, (identity->uuid[8] & 63) | 128);
-    before = dspec_monotonic();
-    real = dspec_nanoseconds_of_(CLOCK_REALTIME);
-    after = dspec_monotonic();
-    began = real - (before + (after - before) / 2);
+    /* Of several tries the one that took the shortest: a thread may be off its processor between the two clocks. */
+    for (int tries = 0; tries < 8; tries++) {
+        const uint64_t before = dspec_monotonic(), real = dspec_nanoseconds_of_(CLOCK_REALTIME), width = dspec_monotonic() - before;
+        if (width >= least) continue;
+        least = width;
+        began = real - (before + width / 2);
+    }
     identity->pid = DSPEC_AS(uint32_t, getpid());
     identity->hertz = DSPEC_NANOSECONDS;
     identity->seconds = began / DSPEC_NANOSECONDS;

@@ -3,8 +3,8 @@
  *     DSPEC_PROBE(query, uint64_t, request, dspec_text32, sql);
  *     query_in(&path, request, dspec_text32_of(sql, strlen(sql)));
  *
- * A text has 8, 16, 24, 32, 40 or 48 bytes, and is so many fields of eight bytes. Zeros stand behind its end. One that is longer is cut, at a character's border where its bytes are
- * UTF-8; full stops stand behind that, so that the last byte of a text that was cut is never zero. Any bytes may stand in it, but readers take a zero for its end. The trace's
+ * A text has 8, 16, 24, 32, 40 or 48 bytes, and is one field for each eight bytes. Zeros follow its end. One that is longer is cut, at a character's border where its bytes are
+ * UTF-8; full stops follow, so that the last byte of a text that was cut is never zero. It may have any bytes, but readers take a zero for its end. The trace's
  * metadata says of it that it is a text, so that babeltrace2 prints sql = "select ..".
  */
 #ifndef DSPEC_TEXT_H
@@ -20,17 +20,17 @@ extern "C" {
 /* The most bytes of a text: six fields of the eight that a record has. */
 #define DSPEC_MAX_TEXT 48u
 
-/* How many of these bytes are kept of a text that has more of them than `most`, 8 or more: so many, or up to three less, where else a character of UTF-8 would be torn. */
+/* How many of these bytes are kept of a text that has more of them than `most`, 8 or more: that many, or up to three less, where else a character of UTF-8 would be torn. */
 DSPEC_INLINE size_t dspec_text_cut(const char *bytes, size_t most) DSPEC_NOEXCEPT {
     size_t at = most;
     while (at > most - 3 && (DSPEC_AS(uint8_t, bytes[at]) & 0xc0) == 0x80) at--;
     return (DSPEC_AS(uint8_t, bytes[at]) & 0xc0) == 0x80 ? most : at;
 }
 
-/* How many bytes of a text go into the next of several records of a probe, each of which has room for so many: they belong together by what else stands in them. */
+/* How many bytes of a text go into the next of several records of a probe, each of which has room for `most`: they belong together by another field. */
 DSPEC_INLINE size_t dspec_text_piece(const char *bytes, size_t len, size_t most) DSPEC_NOEXCEPT { return len <= most ? len : dspec_text_cut(bytes, most); }
 
-/* Up to seven bytes as a word. Bytes that are read twice stand where they stood. */
+/* Up to seven bytes as a word. Bytes that are read twice go to the same place twice. */
 DSPEC_INLINE uint64_t dspec_text_few_(const char *bytes, size_t len) DSPEC_NOEXCEPT {
     uint32_t low = 0, high = 0;
     if (len >= 4) {
@@ -43,14 +43,14 @@ DSPEC_INLINE uint64_t dspec_text_few_(const char *bytes, size_t len) DSPEC_NOEXC
            DSPEC_AS(uint64_t, DSPEC_AS(uint8_t, bytes[len - 1])) << 8 * (len - 1);
 }
 
-/* Puts a text that fills so many words, or is longer than that. */
+/* Puts a text that fills these words, or is longer than that. */
 DSPEC_INLINE void dspec_text_fill_(uint64_t *words, size_t count, const char *bytes, size_t len) DSPEC_NOEXCEPT {
     memcpy(words, bytes, 8 * count);
     if (len == 8 * count) return;
     for (size_t i = dspec_text_cut(bytes, 8 * count); i < 8 * count; i++) DSPEC_AS(char *, DSPEC_AS(void *, words))[i] = '.';
 }
 
-/* Puts a text into so many words, all of which are zeros. No byte behind its end is read. */
+/* Puts a text into these words, all of which are zeros. No byte after its end is read. */
 DSPEC_INLINE void dspec_text_put(uint64_t *words, size_t count, const char *bytes, size_t len) DSPEC_NOEXCEPT {
     uint64_t last;
     size_t at = 0;
@@ -78,7 +78,7 @@ DSPEC_INLINE void dspec_text_put(uint64_t *words, size_t count, const char *byte
     if (at < len) words[at / 8] = last >> 8 * (8 - len % 8);
 }
 
-/* The bytes in front of a text's first zero, else all. They are the words' own. */
+/* The bytes before a text's first zero, else all. They are the words' own. */
 DSPEC_INLINE dspec_text dspec_text_in(const uint64_t *words, size_t count) DSPEC_NOEXCEPT {
     const char *bytes = DSPEC_AS(const char *, DSPEC_AS(const void *, words));
     const void *end = memchr(bytes, 0, 8 * count);

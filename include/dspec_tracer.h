@@ -1,45 +1,61 @@
-/* dspec_tracer.h: a tracer in a box, for C11 and C++17 on Linux: lanes for any number of threads, a consumer's thread, a trace in a folder, and the paths of
- * a thread that crashes. C++ has dspec_tracer.hpp over it. The calls that it makes of dspec.h are proved; what is told here was tested, and isn't proved.
+/* dspec_tracer.h: a tracer for programs in C11 and C++17 on Linux. It gives lanes to any number of threads, writes the trace into a folder from a thread of
+ * its own, and saves the paths of a thread that crashes. C++ has dspec_tracer.hpp over it. The calls that it makes of dspec.h are proved. What this header
+ * says beside them was tested, and isn't proved.
  *
- *     DSPEC_PROBE(query, uint64_t, request, uint32_t, micros);      as of dspec_probe.h, in a header too: one probe for all files of a program; fields may be texts, and have labels
+ *     DSPEC_PROBE(query, uint64_t, request, uint32_t, micros);      as in dspec_probe.h, also in a header: one probe for all files of a program
  *
  *     dspec_tracer_start(&tracer, "folder", NULL, DSPEC_PROBES(query))
  *     dspec_path path = dspec_path_begin(&tracer);                  on any thread
  *     query_in(&path, request, micros);
  *     failed ? dspec_path_keep(&path) : dspec_path_drop(&path);
- *     query_now(&tracer, request, micros);                          a record that is kept whatever comes
+ *     query_now(&tracer, request, micros);                          a record that is always kept
  *     dspec_tracer_stop(&tracer, &report)
  *
- * THREADS. Any number, and none says that it begins or ends. A lane is a session of one CPU; a path takes a free one, and where none is free it shares one by
- * the lane's lock. A path is in one call at a time and may go to another thread between two; one whose thread ends before another has recorded to it is thrown away.
- * A thread that records waits only for another that is in a call on the same lane, and for a second at the most; with keep_ms one that keeps a path waits for room too.
+ * THREADS. There may be any number, and none says that it begins or ends. A lane is a session of one CPU. A path takes a free lane. Where none is free it shares
+ * one, by that lane's lock. A path is in one call at a time, and may go to another thread between two calls. If the thread of a path ends before another has
+ * recorded to it, the path is thrown away. A thread that records waits only for another that is in a call on the same lane, for a second at most. With
+ * keep_ms a thread that keeps a path waits for room too.
  *
- * CRASHES. SIGSEGV, SIGBUS, SIGFPE, SIGILL and SIGABRT of a thread of this process: its open paths are kept and written, with an event `dspec_crash` and
- * one `dspec_crash_at` for its program counter and each of up to four callers, and then what would have come of the signal comes, with the flags, the mask and the stack of the program's handler. The handler makes no call of the library; the consumer's thread does, and the handler waits for it, crash_ms at the most. A stack that overflows is seen
- * too, on a stack for handlers that each thread gets with its first record. A thread that crashes in the middle of a call loses that lane's open paths. A signal of these that another
- * process sends keeps all open paths, with an event `dspec_signal`. SIGTERM, SIGINT and SIGHUP, where nobody handles them, and exit stop the tracer, and the signal ends the process then. SIGKILL, _exit and
- * quick_exit lose what wasn't written yet: what the last period_ms brought, and all open paths. A handler that the program installs later has to call the one that it found.
- * A signal that is blocked or ignored brings no handler, and nothing is saved then.
- * A signal's handler may record, but it may not end the path that its thread is recording to; where it comes in the middle of a record of the same thread, or of another call on a path, its own may be refused, which is counted.
+ * CRASHES. These are SIGSEGV, SIGBUS, SIGFPE, SIGILL and SIGABRT of a thread of this process. Its open paths are kept and written. An event `dspec_crash` tells
+ * of it, and one `dspec_crash_at` for its program counter and for each of up to four callers. Then the signal does what it would have done, with the flags, the mask
+ * and the stack of the program's handler. Our handler makes no call of the library. The consumer's thread makes them, and the handler waits for it, for crash_ms at
+ * most. A stack that overflows is seen too: each thread gets a stack for handlers with its first record. A thread that crashes in the middle of a call loses the
+ * open paths of that lane.
+ * If another process sends one of these signals, all open paths are kept, with an event `dspec_signal`. SIGTERM, SIGINT and SIGHUP that nobody handles, and exit,
+ * stop the tracer, and then the signal ends the process. SIGKILL, _exit and quick_exit lose what wasn't written yet: what the last period_ms brought, and all
+ * open paths. A handler that the program installs later has to call the one that it found. A signal that is blocked or ignored brings no handler, so nothing is saved.
+ * A signal's handler may record, but it may not end the path to which its thread is recording. If it comes in the middle of a record of the same thread, or of
+ * another call on a path, its own record may be refused, which is counted.
  *
- * THE TRACE. Each record has the number of its path as its first field, `dspec_path`; it is 0 outside of paths. `dspec_kept` ends each path: the thread that began it, the one that decided it (0: the
- * tracer), how many of its records are missing (`cut`), why it is kept, the stamp of its first record, its key. `dspec_crash` has signal, code, thread, address, program counter, how many paths were kept, how
- * many lanes couldn't be had, and the number of the path that crashed; `dspec_crash_at` the file and the offset of the counter (frame 0) and of each caller. `dspec_thread` names a thread, as it was called at
- * its first record. `dspec_counts` and `dspec_refused` tell once a second what was kept, thrown away and refused since the last time; `dspec_signal` a signal from outside; `dspec_unsaved` crashes that
- * weren't saved.
+ * THE TRACE. The first field of each record is the number of its path, `dspec_path`; it is 0 outside paths. `dspec_kept` ends each path. It tells the thread that
+ * began it, the thread that decided it (0: the tracer), how many of its records are missing (`cut`), why it is kept, the stamp of its first record, and its key.
+ * `dspec_crash` tells signal, code, thread, address, program counter, how many paths were kept, how many lanes couldn't be had, and the number of the path that
+ * crashed. `dspec_crash_at` tells the file and the offset of the counter (frame 0) and of each caller. `dspec_thread` names a thread, as it was called at its
+ * first record. `dspec_counts` and `dspec_refused` tell once a second what was kept, thrown away and refused since the last time. `dspec_signal` tells of a signal
+ * from outside, `dspec_unsaved` of crashes that weren't saved.
  *
- * LONG PATHS. A path keeps the records that fit into specsize bytes, its first ones. With keep_last it keeps its last ones: at least specsize bytes, less a record's, and at most twice as many.
- * It takes two speculations of its lane then: paths is 31, and 1 to 31, specsize is 80 or more, and a lane has 2 * paths + 1 times specsize bytes.
+ * LONG PATHS. A path keeps its first records, those that fit into specsize bytes. With keep_last it keeps its last ones: at least specsize bytes less a record's,
+ * and at most twice that. It then takes two speculations of its lane. So paths is 1 to 31, and 31 by default; specsize is 80 or more; and a lane has
+ * 2 * paths + 1 times specsize bytes.
  *
- * A BOUND. With max_bytes the trace stands in folders folder.0, folder.1, .. by age, each a trace of its own, and the oldest goes where all files would have more bytes (dspec_folder_limit).
+ * A BOUND. With max_bytes the trace is in folders folder.0, folder.1, .. by age, each a trace of its own. Where all files would have more bytes than that, the
+ * oldest folder goes (dspec_folder_limit).
  *
- * FORK. The child's tracer is down, and it leaves the folder alone; it may start another. A child by _Fork, vfork or clone(2) may call dspec_tracer_start and nothing else.
+ * CLOCK. A stamp is nanoseconds of the system's monotonic clock. With DSPEC_CLOCK_TSC it is a reading of the processor's time stamp counter, which takes some 15
+ * nanoseconds less. It is refused where the processor doesn't say that the counter is invariant, or where the system doesn't keep its own time by it. Nothing is
+ * converted: the trace says how often the counter ticks and where it began. That is measured from the start on, and told anew each time that the tracer has run
+ * an eighth longer, and at the end. So tools show the time of day within a microsecond of the monotonic clock, unless NTP slews that clock at another rate than
+ * before, or the machine sleeps. After a kill the last measurement counts. What the program asks and sets stays in nanoseconds.
  *
- * CANCELLATION. No call here is a point of cancellation. A thread that may be cancelled at any place (PTHREAD_CANCEL_ASYNCHRONOUS) makes none.
+ * FORK. The child's tracer is down, and leaves the folder alone. The child may start another. A child by _Fork, vfork or clone(2) may call dspec_tracer_start and
+ * nothing else.
  *
- * KILL -9. With survive all that the tracer has is in a file, FOLDER-memory, of mode 0600, which outlives the process: dspec_salvage reads it. A stop takes the file away, and where it can't the
- * report's why says so; a crash takes it away where the folder has all that is in it. A start that finds one which a run left that didn't stop puts it aside as FOLDER-memory-1 .., of which
- * eight stay, and tracer->why says so though the start went well. On a full disk what was kept stays in that memory until there is room, and dspec_tracer_flush answers false.
+ * CANCELLATION. No call here is a cancellation point. A thread that may be cancelled at any place (PTHREAD_CANCEL_ASYNCHRONOUS) makes none of these calls.
+ *
+ * KILL -9. With survive all that the tracer has is in a file that outlives the process, FOLDER-memory, of mode 0600. dspec_salvage reads it. A stop takes the file
+ * away; where it can't, the report's why says so. A crash takes it away if the folder has all that is in it. A start may find such a file of a run that didn't
+ * stop. It puts that aside as FOLDER-memory-1 .., of which eight stay, and tracer->why says so though the start went well. On a full disk what was kept stays in
+ * that memory until there is room, and dspec_tracer_flush answers false.
  */
 #ifndef DSPEC_TRACER_H
 #define DSPEC_TRACER_H
@@ -59,87 +75,93 @@ extern "C" {
 #define DSPEC_MAX_LANES 63u
 #define DSPEC_MAX_TRACERS 8u
 
-/* Zeros are the defaults. */
+/* The clock of the stamps of a tracer's records. */
+#define DSPEC_CLOCK_MONOTONIC 0u /* the system's monotonic one, in nanoseconds */
+#define DSPEC_CLOCK_TSC 1u       /* the processor's time stamp counter (CLOCK) */
+#define DSPEC_CLOCK_AUTO 2u      /* that counter where it can be had, else the monotonic one */
+
+/* A field that is 0 takes its default. */
 typedef struct dspec_tracer_options {
     uint32_t lanes;      /* 16; 1 to DSPEC_MAX_LANES */
-    uint32_t paths;      /* 32: how many are open on a lane at a time; 1 to 63, with keep_last to 31 */
-    uint32_t bufsize;    /* 65536: bytes of a principal buffer, of which each lane has two */
-    uint32_t specsize;   /* 4096: bytes of a path, 56 or more, not above bufsize; each lane has `paths` times so many */
-    uint32_t period_ms;  /* 10: the consumer's sleep between two rounds */
+    uint32_t paths;      /* 32: how many paths are open on a lane at a time; 1 to 63, with keep_last 1 to 31 */
+    uint32_t bufsize;    /* 65536: bytes of a principal buffer; each lane has two */
+    uint32_t specsize;   /* 4096: bytes of a path; 56 or more, at most bufsize; each lane has `paths` times as many */
+    uint32_t period_ms;  /* 10: how long the consumer sleeps between two rounds; where all lanes are empty it sleeps until one has a record */
     uint32_t crash_ms;   /* 500: how long a crash waits until its paths are written */
-    bool by_thread;      /* a lane is a thread's until that ends; else a path's until that is decided */
-    bool no_crash;       /* SIGSEGV and its like are left alone, and there is no event `dspec_crash` */
-    bool no_term;        /* SIGTERM and its like are left alone */
+    bool by_thread;      /* a lane belongs to a thread until that ends; else to a path until that is decided */
+    bool no_crash;       /* SIGSEGV and the other crashes are left alone, and there is no event `dspec_crash` */
+    bool no_term;        /* SIGTERM, SIGINT and SIGHUP are left alone */
     bool keep_all;       /* a crash keeps the open paths of all threads */
     bool keep_open;      /* stop, exit and SIGTERM keep what is undecided; else it is thrown away */
-    bool no_membarrier;  /* each call takes its lane by an exchange, as where the system has no membarrier(2): some nanoseconds more */
-    bool keep_last;      /* a path that has more records than fit keeps its last ones, as told above; else its first */
-    bool survive;        /* the tracer's memory is a file beside the folder, as told above */
-    uint64_t max_bytes;  /* of all files of the trace, which stands in folders below that bound then, as told above; 0: there is none */
+    bool no_membarrier;  /* each call takes its lane by an exchange, as on a system without membarrier(2): some nanoseconds more */
+    bool keep_last;      /* a path that has more records than fit keeps its last ones (LONG PATHS); else its first */
+    bool survive;        /* the tracer's memory is a file beside the folder (KILL -9) */
+    uint64_t max_bytes;  /* a bound for the bytes of all files of the trace, which is in several folders then (A BOUND); 0: none */
     uint32_t max_folders; /* 4, where max_bytes is set; 2 to 64 */
-    uint32_t keep_ms;    /* 0: how long a keep waits for room of its lane, which the consumer makes, before the path's records are lost */
-    const dspec_labels *whys; /* what the program's own reasons are called, DSPEC_WHY_OWN and up (dspec_path_keep_why); NULL: it has none */
-    uint64_t slow_ns;    /* dspec_path_end keeps a path that took so many nanoseconds or more; 0: none */
-    uint32_t sample;     /* and one of so many others, by its number; 0: none */
+    uint32_t keep_ms;    /* 0: how long a keep waits for the consumer to make room, before the path's records are lost */
+    const dspec_labels *whys; /* names of the program's own reasons, DSPEC_WHY_OWN and up (dspec_path_keep_why); NULL: it has none */
+    uint64_t slow_ns;    /* dspec_path_end keeps a path that took this many nanoseconds or more; 0: none */
+    uint32_t sample;     /* and one of this many others, by its number; 0: none */
+    uint64_t clock;      /* DSPEC_CLOCK_MONOTONIC; of 8 bytes, so that it isn't where an older version had padding */
 } dspec_tracer_options;
 
-/* What came of all lanes. */
+/* The counts of all lanes. */
 typedef struct dspec_tracer_report {
-    uint64_t accepted, dropped, specdropped, lost, discarded, void_, refused; /* records, as of dspec_report */
-    uint64_t kept, thrown;      /* paths that were decided so */
+    uint64_t accepted, dropped, specdropped, lost, discarded, void_, refused; /* records, as in dspec_report */
+    uint64_t kept, thrown;      /* paths that were decided that way */
     uint64_t undecided;         /* paths that the stop decided */
     uint64_t crash_paths;       /* paths that crashes kept */
-    uint64_t no_slot;           /* paths for which no lane had a slot; their records were in no count above */
-    uint64_t nested;            /* calls of a signal's handler in the middle of the tracer, refused */
+    uint64_t no_slot;           /* paths for which no lane had a slot; their records are in no count above */
+    uint64_t nested;            /* calls of a signal's handler in the middle of the tracer's code, which were refused */
     uint64_t refused_records;   /* records of those paths, and of threads that came after 4,294,967,294 others */
-    uint64_t missing;           /* records of probes that aren't among the tracer's events; why names the first */
-    uint64_t own;               /* records of the tracer's own events, which are in no other count but not_written and gone_records */
-    uint64_t late;              /* calls behind the stop, refused */
+    uint64_t missing;           /* records of probes that aren't among the tracer's events; `why` names the first */
+    uint64_t own;               /* records of the tracer's own events; only not_written and gone_records count them too */
+    uint64_t late;              /* calls after the stop, which were refused */
     uint64_t waited;            /* calls that gave up waiting for a lane */
-    uint64_t threads;           /* that recorded */
-    uint64_t stuck_lanes;       /* whose thread was in a call for longer than the stop waited, or crashed in one: what they had isn't written */
+    uint64_t threads;           /* threads that recorded */
+    uint64_t stuck_lanes;       /* lanes whose thread was in a call for longer than the stop waited, or crashed in one: what they had isn't written */
     uint64_t not_written;       /* records that the folder misses */
     uint64_t cut;               /* paths that were kept without some of their records: with keep_last the first ones, else the last ones */
-    uint64_t cut_records;       /* with keep_last those that were thrown away so, which the trace tells as missed; they are among discarded */
-    uint64_t gone_folders;      /* folders that went, as max_bytes has it or on a full disk */
+    uint64_t cut_records;       /* with keep_last the records that were thrown away for later ones; the trace tells them as missed, and `discarded` has them too */
+    uint64_t gone_folders;      /* folders that went, by max_bytes or on a full disk */
     uint64_t gone_records;      /* and the records in them, which had been written */
     int code;                   /* the errno of the first loss, or 0 */
     char why[128];              /* the first loss in words, or empty */
 } dspec_tracer_report;
 
-/* All zeros until it is started; it stays where it is, and outlives each thread that records, as a static one does. Nobody writes to it. */
+/* All zeros until it is started. It stays at its place, and outlives each thread that records, as a static one does. The program doesn't write to it. */
 typedef struct dspec_tracer {
     struct dspec_tracer_body *body;
     size_t seat;   /* where a thread has what it needs for this tracer (dspec/tracer_record.h) */
-    uint32_t run;  /* a number that no other tracer of the process has or had; 0: it wasn't started, or is switched off */
+    uint32_t run;  /* a number that no other tracer of the process has or had; 0: not started, or switched off */
     uint32_t up;   /* 1: it was started, and is neither stopped nor switched off */
     char why[256]; /* why the last start answered false */
 } dspec_tracer;
 
-/* A path. Nothing is taken before its first record: one without any costs nothing. Nobody writes to the fields. */
+/* A path. It takes nothing before its first record, so one without records costs nothing. The program doesn't write to the fields. */
 typedef struct dspec_path {
     dspec_tracer *tracer;
     struct dspec_tracer_lane *lane; /* NULL until the first record */
     uint64_t id;                    /* its speculation */
-    uint32_t token;                 /* of the thread whose lane it is, where that recorded last; else 0 */
+    uint32_t token;                 /* of the thread whose lane it is, if that thread recorded last; else 0 */
     uint16_t place;                 /* among the open paths of its lane */
     bool own;                       /* it began on its thread's own lane */
     uint8_t over;                   /* 1: decided, or refused; 2: it began while the tracer wasn't up, or was switched off */
     uint64_t mark;                  /* its number, which each of its records has, in the upper half; 0 until the first one */
-    uint64_t begun;                 /* the stamp of its first record */
+    uint64_t begun;                 /* the stamp of its first record, of its tracer's clock */
 } dspec_path;
 
-/* An event of a program, by what its records claim in each tracer (dspec_put). */
+/* An event of a program. claims: what its records claim in each tracer (dspec_put). */
 typedef struct dspec_event {
     uint64_t claims[DSPEC_MAX_TRACERS]; /* 0: it isn't among the tracer's; 1: it is switched off */
     const char *name;
     uint32_t look;                      /* DSPEC_LOOK_..: 0 where each tracer that has it records it */
 } dspec_event;
-#define DSPEC_LOOK_OFF 1u    /* it is switched off in each tracer that has it */
-#define DSPEC_LOOK_CLOSER 2u /* in one of several */
+#define DSPEC_LOOK_OFF 1u    /* each tracer that has it has switched it off */
+#define DSPEC_LOOK_CLOSER 2u /* one of several has */
 #define DSPEC_LOOK_NONE 3u   /* no tracer has it */
 
-/* What a tracer wants of an event: its name, and of its n fields their names, widths in bytes and kinds (dspec_names.h). A text is one field here, of 8 to 48 bytes. */
+/* What a tracer has to know of an event: its name, and the names, widths in bytes and kinds of its n fields (dspec_names.h). A text is one field here, of 8 to 48 bytes. */
 typedef struct dspec_enabling {
     dspec_event *event;
     const char *name;
@@ -162,50 +184,55 @@ typedef struct dspec_enabling {
 #define DSPEC_WHY_SIGNAL 7u    /* the tracer: another process sent a signal of those of crashes */
 #define DSPEC_WHY_OWN 8u       /* the program's, by options.whys */
 
-/* Starts a tracer into a folder, which is made where it isn't there and may have no trace yet. options may be NULL. events ends with NULL: at most 56, beside
- * the tracer's own. An event or a field that has a word which the trace's metadata keeps for itself (dspec_names.h) gets an underscore in front. Takes memory and makes a thread.
- * Whether it is up; else tracer->why says why not, and all is as it was, but for a folder that was made. */
+/* Starts a tracer that writes into a folder. The folder is made where it isn't there, and may have no trace yet. options may be NULL. events ends with NULL and has
+ * at most 56 beside the tracer's own. An event or a field whose name is a word of the trace's metadata (dspec_names.h) gets an underscore in front. The call takes
+ * memory and makes a thread. It answers whether the tracer is up. If not, tracer->why says why, and everything is as before, but for a folder that was made. */
 DSPEC_INLINE bool dspec_tracer_start(dspec_tracer *tracer, const char *folder, const dspec_tracer_options *options, const dspec_enabling *const *events) DSPEC_NOEXCEPT;
 
-/* The same beside all probes that a program declares, from declared up to end: two of one name and other fields are refused, and those that aren't among the events are named in tracer->why
- * though the start went well. In C dspec_tracer_start does that of the program, or of the shared object, in which it stands. */
+/* The same, beside all probes that a program declares, from declared up to end. Two probes of one name with other fields are refused. Probes that aren't among the
+ * events are named in tracer->why though the start went well. In C dspec_tracer_start does that for the program, or the shared object, that calls it. */
 DSPEC_INLINE bool dspec_tracer_start_among(dspec_tracer *tracer, const char *folder, const dspec_tracer_options *options, const dspec_enabling *const *events,
                                            const dspec_enabling *const *declared, const dspec_enabling *const *end) DSPEC_NOEXCEPT;
 
-/* Starts a tracer by the variable DSPEC_TRACE, as in DSPEC_TRACE=/tmp/trace,slow=5ms,sample=1000,max=64M,off=lookup: its folder, then words that go over the options (docs/C.md has all).
- * Where the variable isn't set, or the program has more rights than its user, by setuid say, nothing is started. Whether it is up; else tracer->why says why not. */
+/* Starts a tracer by the variable DSPEC_TRACE, as in DSPEC_TRACE=/tmp/trace,slow=5ms,sample=1000,max=64M,off=lookup: its folder, then words that change the
+ * options (docs/REFERENCE.md has all). Nothing is started where the variable isn't set, or where the program has more rights than its user, by setuid for
+ * example. It answers whether the tracer is up. If not, tracer->why says why. */
 DSPEC_INLINE bool dspec_tracer_start_env(dspec_tracer *tracer, const dspec_tracer_options *options, const dspec_enabling *const *events) DSPEC_NOEXCEPT;
 DSPEC_INLINE bool dspec_tracer_start_env_among(dspec_tracer *tracer, const dspec_tracer_options *options, const dspec_enabling *const *events, const dspec_enabling *const *declared,
                                                const dspec_enabling *const *end) DSPEC_NOEXCEPT;
 
-/* Has a tracer take the records of a plugin's probes, each of which it has by this name and these fields since its start: DSPEC_PROBES(..) in the plugin. A tracer's events are those of its
- * start. Whether it takes all; else tracer->why says which one not, and none of them is taken. Before the plugin is unloaded, dspec_tracer_remove forgets them. */
+/* Has a tracer take the records of a plugin's probes: DSPEC_PROBES(..) in the plugin. A tracer's events are those of its start, so it has to have each of them
+ * since then, by this name and these fields. It answers whether the tracer takes all. If not, tracer->why names the one that it doesn't take, and none is
+ * taken. Before the plugin is unloaded, dspec_tracer_remove forgets them. */
 bool dspec_tracer_add(dspec_tracer *tracer, const dspec_enabling *const *events) DSPEC_NOEXCEPT;
 void dspec_tracer_remove(dspec_tracer *tracer, const dspec_enabling *const *events) DSPEC_NOEXCEPT;
 
-/* What came of it until now, while it runs: the counts of records are those of each lane's last service. */
+/* The counts until now, while the tracer runs. Those of records are from each lane's last service. */
 DSPEC_INLINE bool dspec_tracer_counts(dspec_tracer *tracer, dspec_tracer_report *report) DSPEC_NOEXCEPT;
 
-/* Off: paths that begin from now on have no records, nor is there one outside a path; what is open goes on. On again: as before. */
+/* Switches a tracer off or on again. Off: paths that begin from now on have no records, and there is none outside a path. Paths that are open go on. */
 void dspec_tracer_switch(dspec_tracer *tracer, bool on) DSPEC_NOEXCEPT;
 
-/* The same of one event, whose records answer DSPEC_VOID meanwhile; query_switch(&tracer, on) of a probe. */
+/* The same for one event. Its records answer DSPEC_VOID while it is off. For a probe there is query_switch(&tracer, on). */
 void dspec_tracer_switch_event(dspec_tracer *tracer, dspec_event *event, bool on) DSPEC_NOEXCEPT;
 
-/* Stops a tracer beside whatever its threads do, writes all, and says what came of it; report may be NULL. A second time the same. A tracer is started once: it
- * starts again only behind dspec_tracer_drop.
- * It waits for the disk. Whether all was written that was accepted, and each lane came home; false of a tracer that is another process's or was never started. */
+/* Stops a tracer while its threads may go on, writes all, and tells the counts; report may be NULL. A second call tells the same. A tracer is started once. It
+ * starts again only after dspec_tracer_drop.
+ * The call waits for the disk. It answers whether all that was accepted was written, and each lane came home. It answers false for a tracer that another process
+ * has, or that was never started. */
 DSPEC_INLINE bool dspec_tracer_stop(dspec_tracer *tracer, dspec_tracer_report *report) DSPEC_NOEXCEPT;
 
-/* Stops a tracer, and gives back what stays of it so that late calls find it down: no thread makes a call with it any more, nor with a path of it. */
+/* Stops a tracer, and gives back its memory, which stays after a stop so that late calls find it down. No thread may make a call with it any more, nor with a path of it. */
 void dspec_tracer_drop(dspec_tracer *tracer) DSPEC_NOEXCEPT;
 
-/* Has what was kept until now written into the folder, and waits for it, timeout_ms at the most: whether all of it is there. False where a thread stayed in a call for so long, and from
- * then on where something that was kept couldn't be written (not_written): a full disk, a limit, descriptors that the program closed. */
+/* Has what was kept until now written into the folder, and waits for that, timeout_ms at most. It answers whether all of it is there. It answers false where a
+ * thread stayed in a call for that long. It answers false from then on where something that was kept couldn't be written (not_written): a full disk, a limit,
+ * descriptors that the program closed. */
 bool dspec_tracer_flush(dspec_tracer *tracer, uint32_t timeout_ms) DSPEC_NOEXCEPT;
 
-/* Options and reports grow from version to version. These take the size that they have in the program, as its header lays them out: of smaller options the others are zeros, and options that this
- * library doesn't know have to be; of a report a smaller one gets its beginning. size is at least that of version 0.1. The calls above are these. */
+/* Options and reports grow from version to version. These calls take the size that they have in the program, by its header. The fields that smaller options don't
+ * have are 0, and those that this library doesn't know have to be 0. A smaller report gets the beginning. size is at least that of version 0.1. The calls above are
+ * inline and make these. */
 bool dspec_tracer_start_sized(dspec_tracer *tracer, const char *folder, const dspec_tracer_options *options, size_t size, const dspec_enabling *const *events,
                               const dspec_enabling *const *declared, const dspec_enabling *const *end) DSPEC_NOEXCEPT;
 bool dspec_tracer_start_env_sized(dspec_tracer *tracer, const dspec_tracer_options *options, size_t size, const dspec_enabling *const *events, const dspec_enabling *const *declared,
@@ -230,39 +257,42 @@ DSPEC_INLINE bool dspec_tracer_start_env(dspec_tracer *tracer, const dspec_trace
 DSPEC_INLINE bool dspec_tracer_counts(dspec_tracer *tracer, dspec_tracer_report *report) DSPEC_NOEXCEPT { return dspec_tracer_counts_sized(tracer, report, sizeof *report); }
 DSPEC_INLINE bool dspec_tracer_stop(dspec_tracer *tracer, dspec_tracer_report *report) DSPEC_NOEXCEPT { return dspec_tracer_stop_sized(tracer, report, sizeof *report); }
 
-/* Whether it was started, isn't stopped and isn't switched off. */
+/* Whether the tracer was started, and is neither stopped nor switched off. */
 DSPEC_INLINE bool dspec_tracer_is_up(const dspec_tracer *tracer) DSPEC_NOEXCEPT { return __atomic_load_n(&tracer->up, __ATOMIC_RELAXED) != 0; }
 
-/* A path begins. One that begins while the tracer isn't up has no records. A dspec_path of zeros is one that never began: it may be ended, and a record of it is refused. One that is open is ended before
- * another is put in its place. */
+/* Begins a path. One that begins while the tracer isn't up has no records. A dspec_path of zeros never began: it may be ended, and a record of it is refused. End a
+ * path that is open before you put another in its place. */
 DSPEC_INLINE dspec_path dspec_path_begin(dspec_tracer *tracer) DSPEC_NOEXCEPT {
     dspec_path path = { tracer, NULL, 0, 0, 0, false, 0, 0, 0 };
     path.over = DSPEC_AS(uint8_t, (__atomic_load_n(&tracer->run, __ATOMIC_RELAXED) == 0) << 1);
     return path;
 }
 
-/* The end of a path. Keep answers whether its records are on their way to the folder: false where there was no slot, no room within keep_ms or none at all, and behind a stop. why is one of DSPEC_WHY_..;
- * keep alone says DSPEC_WHY_KEPT. Drop answers whether none of them is. */
+/* Ends a path. Keep answers whether its records are on their way to the folder. It answers false where there was no slot, where there was no room, within keep_ms or
+ * at all, and after a stop. why is one of DSPEC_WHY_..; keep alone says DSPEC_WHY_KEPT. Drop answers whether none of its records comes out. */
 bool dspec_path_keep(dspec_path *path) DSPEC_NOEXCEPT;
 bool dspec_path_keep_why(dspec_path *path, uint32_t why) DSPEC_NOEXCEPT;
 bool dspec_path_drop(dspec_path *path) DSPEC_NOEXCEPT;
 
-/* Ends a path by the tracer's rule: it is kept if it failed, else if it took slow_ns or more (0: options.slow_ns), else if it is one of options.sample; each with its reason. Whether it is kept. */
+/* Ends a path by the tracer's rule. It is kept if it failed, else if it took slow_ns or more (0: options.slow_ns), else if it is one of options.sample, and its reason
+ * is the first of these that holds. It answers whether the path is kept. */
 bool dspec_path_end(dspec_path *path, bool failed, uint64_t slow_ns) DSPEC_NOEXCEPT;
 
-/* Whether it has records and isn't decided, and how many nanoseconds ago its first record was; 0 of one that has none. */
+/* Whether a path has records and isn't decided; and how many nanoseconds ago its first record was, 0 where it has none. */
 DSPEC_INLINE bool dspec_path_is_open(const dspec_path *path) DSPEC_NOEXCEPT { return path->lane != NULL && !path->over; }
 uint64_t dspec_path_took(const dspec_path *path) DSPEC_NOEXCEPT;
 
-/* The path is this thread's from now on, as it would be with its next record: where this thread crashes, it is kept, and where the one that had it ends, it stays. Whether it is open. */
+/* Makes the path this thread's from now on, as its next record would. If this thread crashes, the path is kept; if the thread that had it ends, it stays. It answers
+ * whether the path is open. */
 bool dspec_path_adopt(dspec_path *path) DSPEC_NOEXCEPT;
 
-/* Sixteen bytes of the program's that stand in the path's event `dspec_kept`, as a trace's number that another service sent. Whether it is open. */
+/* Gives a path a key of sixteen bytes, which its event `dspec_kept` has, such as a trace id that another service sent. It answers whether the path is open. */
 bool dspec_path_key(dspec_path *path, uint64_t high, uint64_t low) DSPEC_NOEXCEPT;
 
-/* A record of an event whose text is these n words (dspec_put), with the time as its stamp. As dspec_put_in and dspec_put. DSPEC_UNAVAILABLE: there is no slot, or no lane. DSPEC_STOPPED: the tracer is down.
- * DSPEC_BUSY: in a signal's handler, in the middle of another call. DSPEC_VOID: the path is decided. query_in and query_now, and dspec_tracer.hpp, call dspec_path_record and dspec_tracer_record, which
- * answer the same, and go into their callers (dspec/tracer_record.h). */
+/* Records an event whose text is these n words (dspec_put), with the time as its stamp. They answer what dspec_put_in and dspec_put answer, and besides:
+ * DSPEC_UNAVAILABLE where there is no slot or no lane, DSPEC_STOPPED where the tracer is down, DSPEC_BUSY in a signal's handler in the middle of another call,
+ * DSPEC_VOID where the path is decided. query_in, query_now and dspec_tracer.hpp call dspec_path_record and dspec_tracer_record. These answer the same, and are
+ * inline (dspec/tracer_record.h). */
 dspec_status dspec_path_put(dspec_path *path, const dspec_event *event, const uint64_t *words, size_t n) DSPEC_NOEXCEPT;
 dspec_status dspec_path_put_1(dspec_path *path, const dspec_event *event, uint64_t w0) DSPEC_NOEXCEPT;
 dspec_status dspec_path_put_2(dspec_path *path, const dspec_event *event, uint64_t w0, uint64_t w1) DSPEC_NOEXCEPT;
@@ -276,25 +306,26 @@ dspec_status dspec_tracer_put_3(dspec_tracer *tracer, const dspec_event *event, 
 typedef struct dspec_salvaged {
     uint64_t kept;        /* records that were kept, and that the run's own folder doesn't have */
     uint64_t paths;       /* paths that were open */
-    uint64_t undecided;   /* and their records */
+    uint64_t undecided;   /* the records of those paths */
     uint32_t lanes;       /* the lanes of the tracer, and its own */
-    uint32_t in_call;     /* lanes whose thread was in a call, or which the consumer had: a record that no call had answered may be missing */
-    uint32_t unreadable;  /* lanes whose memory isn't what a lane's is: what they had is missing */
+    uint32_t in_call;     /* lanes whose thread was in a call, or which the consumer had: a record whose call hadn't answered may be missing */
+    uint32_t unreadable;  /* lanes whose memory can't be that of a lane: what they had is missing */
     uint64_t lost;        /* records that the run itself couldn't write, and that are in no memory: nobody has them */
     uint64_t not_written; /* records that this call couldn't write: the file can be read once more, into another folder */
-    uint64_t unsure;      /* of kept those that may be in the run's own folder too, since that isn't found */
+    uint64_t unsure;      /* those of `kept` that may be in the run's own folder too, since that wasn't found */
     char folder[4096];    /* the run's own folder, its whole path */
     char why[256];        /* why it answered false */
 } dspec_salvaged;
 
-/* Reads the file that a tracer with `survive` left which was killed, and writes what it has and the run's folder hasn't: into `folder`/kept the records that were kept, and where paths were
- * open into `folder`/undecided these, each event by a name that begins with `undecided_`. Both are traces. Nobody may use the file, it has to be this user's, and of the same build of the
- * library (dspec_build). It is read once: it is marked when all of it was read, and what was written is on the disk. A copy of a file that is in use can be read. What a file says isn't
- * believed: what doesn't fit is an error or a shorter trace, whatever its bytes are; each lane is read in a process of its own, which can write what it found and nothing else. Whether all
- * lanes were read and written; else told->why says why not. told may be NULL. */
+/* Reads the file that a tracer with `survive` left when it was killed, and writes what the run's own folder doesn't have: into `folder`/kept the records that were
+ * kept, and into `folder`/undecided those of paths that were open, each event by a name that begins with `undecided_`. Both are traces. Nobody may use the file. It has
+ * to be this user's, and of the same build of the library (dspec_build). It is read once: it is marked when all of it was read and what was written is on the disk. A
+ * copy of a file that is in use can be read. The call believes nothing of what a file says. Whatever its bytes are, what doesn't fit is an error or a shorter trace.
+ * Each lane is read in a process of its own, which can write what it found and nothing else. The call answers whether all lanes were read and written. If not,
+ * told->why says why. told may be NULL. */
 bool dspec_salvage(const char *file, const char *folder, dspec_salvaged *told) DSPEC_NOEXCEPT;
 
-/* The stamps' clock: nanoseconds of the system's monotonic one. */
+/* Nanoseconds of the system's monotonic clock, whatever clock a tracer has. */
 uint64_t dspec_tracer_now(void) DSPEC_NOEXCEPT;
 
 #ifdef __cplusplus
@@ -309,10 +340,10 @@ uint64_t dspec_tracer_now(void) DSPEC_NOEXCEPT;
 #define DSPEC_PROBE_KINDS_(PROBE, TYPE, NAME) DSPEC_KIND_OF(TYPE),
 #define DSPEC_PROBE_ALL_LABELS_(PROBE, TYPE, NAME) &dspec_labels_of_##PROBE##_dspec_##NAME,
 
-/* How many words a record's text takes: its fields stand in it as in a struct behind the EPID. */
+/* How many words a record's text takes: its fields are laid out as in a struct, after the EPID. */
 #define DSPEC_PROBE_WORDS_(...) ((sizeof(struct { uint32_t dspec_epid_, dspec_path_; DSPEC_PROBE_EACH_(DSPEC_PROBE_FIELD_, dspec_, __VA_ARGS__) }) + 7) / 8)
 
-/* Where all probes of a program, or of a shared object, stand together; a linker that throws away what nobody names keeps it. */
+/* The section of all probes of a program or of a shared object. A linker that throws away what nobody names keeps it. */
 #if defined(__has_attribute)
 #if __has_attribute(retain)
 #define DSPEC_PROBE_DECLARED_ __attribute__((section("dspec_probes"), used, retain))
@@ -324,7 +355,7 @@ uint64_t dspec_tracer_now(void) DSPEC_NOEXCEPT;
 
 #define DSPEC_PROBE_PASSED_(PROBE, TYPE, NAME) , NAME
 
-/* With DSPEC_SDT each record is a static probe of systemtap's sys/sdt.h too, dspec:query, which perf, bpftrace and gdb know; a text is handed over by its address. */
+/* With DSPEC_SDT each record is a static probe of systemtap's sys/sdt.h too, dspec:query, which perf, bpftrace and gdb know. A text is passed by its address. */
 #ifdef DSPEC_SDT
 #define SDT_USE_VARIADIC 1
 #include <sys/sdt.h>
@@ -335,13 +366,13 @@ uint64_t dspec_tracer_now(void) DSPEC_NOEXCEPT;
 #define DSPEC_PROBE_SDT_(PROBE, ...)
 #endif
 #define DSPEC_PROBE_SLOW_ __attribute__((noinline, cold, unused)) static
-/* A record's words: its fields from the eighth byte on, where the number of its path goes into the second four. */
+/* A record's words. The number of its path goes into the second four bytes, its fields follow from the eighth byte on. */
 #define DSPEC_PROBE_PACKS_(PROBE, ...)                                       \
     uint64_t dspec_words_[DSPEC_PROBE_WORDS_(__VA_ARGS__)] = { 0 };          \
     size_t dspec_end_ = 8;                                                   \
     DSPEC_PROBE_EACH_(DSPEC_PROBE_PACK_, PROBE, __VA_ARGS__)
 
-/* What DSPEC_PROBE declares beside the rest, where this header stands before it: the event, which is one for all files, and the two functions. */
+/* What DSPEC_PROBE declares besides, where this header is included before it: the event, which is one for all files, and the functions of a tracer. */
 #undef DSPEC_PROBE_MORE_
 #define DSPEC_PROBE_MORE_(PROBE, ...)                                                                                                                                      \
     static_assert((0 DSPEC_PROBE_EACH_(DSPEC_PROBE_COUNT_, PROBE, __VA_ARGS__)) < DSPEC_MAX_FIELDS,                                                                        \
@@ -396,86 +427,26 @@ static inline bool dspec_tracer_start_env_here_(dspec_tracer *tracer, const dspe
 }
 #define dspec_tracer_start_env(TRACER, OPTIONS, EVENTS) dspec_tracer_start_env_here_(TRACER, OPTIONS, EVENTS)
 
-/* The events of so many probes, at most 56, for dspec_tracer_start: DSPEC_PROBES(query, reply). */
-#define DSPEC_PROBES(...) ((const dspec_enabling *const[]){ DSPEC_PROBES_PICK_(__VA_ARGS__, DSPEC_PROBES_64_, DSPEC_PROBES_63_, DSPEC_PROBES_62_, DSPEC_PROBES_61_, DSPEC_PROBES_60_, DSPEC_PROBES_59_, \
-                            DSPEC_PROBES_58_, DSPEC_PROBES_57_, DSPEC_PROBES_56_, DSPEC_PROBES_55_, DSPEC_PROBES_54_, DSPEC_PROBES_53_, \
-                            DSPEC_PROBES_52_, DSPEC_PROBES_51_, DSPEC_PROBES_50_, DSPEC_PROBES_49_, DSPEC_PROBES_48_, DSPEC_PROBES_47_, \
-                            DSPEC_PROBES_46_, DSPEC_PROBES_45_, DSPEC_PROBES_44_, DSPEC_PROBES_43_, DSPEC_PROBES_42_, DSPEC_PROBES_41_, \
-                            DSPEC_PROBES_40_, DSPEC_PROBES_39_, DSPEC_PROBES_38_, DSPEC_PROBES_37_, DSPEC_PROBES_36_, DSPEC_PROBES_35_, \
-                            DSPEC_PROBES_34_, DSPEC_PROBES_33_, DSPEC_PROBES_32_, DSPEC_PROBES_31_, DSPEC_PROBES_30_, DSPEC_PROBES_29_, \
-                            DSPEC_PROBES_28_, DSPEC_PROBES_27_, DSPEC_PROBES_26_, DSPEC_PROBES_25_, DSPEC_PROBES_24_, DSPEC_PROBES_23_, \
-                            DSPEC_PROBES_22_, DSPEC_PROBES_21_, DSPEC_PROBES_20_, DSPEC_PROBES_19_, DSPEC_PROBES_18_, DSPEC_PROBES_17_, \
-                            DSPEC_PROBES_16_, DSPEC_PROBES_15_, DSPEC_PROBES_14_, DSPEC_PROBES_13_, DSPEC_PROBES_12_, DSPEC_PROBES_11_, \
-                            DSPEC_PROBES_10_, DSPEC_PROBES_9_, DSPEC_PROBES_8_, DSPEC_PROBES_7_, DSPEC_PROBES_6_, DSPEC_PROBES_5_, DSPEC_PROBES_4_, \
-                            DSPEC_PROBES_3_, DSPEC_PROBES_2_, DSPEC_PROBES_1_, 0)(__VA_ARGS__) NULL })
-#define DSPEC_PROBES_PICK_(A1, A2, A3, A4, A5, A6, A7, A8, A9, A10, A11, A12, A13, A14, A15, A16, A17, A18, A19, A20, A21, A22, A23, A24, A25, A26, \
-                            A27, A28, A29, A30, A31, A32, A33, A34, A35, A36, A37, A38, A39, A40, A41, A42, A43, A44, A45, A46, A47, A48, A49, A50, \
-                            A51, A52, A53, A54, A55, A56, A57, A58, A59, A60, A61, A62, A63, A64, \
-                            EACH, ...) EACH
-#define DSPEC_PROBES_1_(P) &dspec_enabling_of_##P,
-#define DSPEC_PROBES_2_(P, ...) &dspec_enabling_of_##P, DSPEC_PROBES_1_(__VA_ARGS__)
-#define DSPEC_PROBES_3_(P, ...) &dspec_enabling_of_##P, DSPEC_PROBES_2_(__VA_ARGS__)
-#define DSPEC_PROBES_4_(P, ...) &dspec_enabling_of_##P, DSPEC_PROBES_3_(__VA_ARGS__)
-#define DSPEC_PROBES_5_(P, ...) &dspec_enabling_of_##P, DSPEC_PROBES_4_(__VA_ARGS__)
-#define DSPEC_PROBES_6_(P, ...) &dspec_enabling_of_##P, DSPEC_PROBES_5_(__VA_ARGS__)
-#define DSPEC_PROBES_7_(P, ...) &dspec_enabling_of_##P, DSPEC_PROBES_6_(__VA_ARGS__)
-#define DSPEC_PROBES_8_(P, ...) &dspec_enabling_of_##P, DSPEC_PROBES_7_(__VA_ARGS__)
-#define DSPEC_PROBES_9_(P, ...) &dspec_enabling_of_##P, DSPEC_PROBES_8_(__VA_ARGS__)
-#define DSPEC_PROBES_10_(P, ...) &dspec_enabling_of_##P, DSPEC_PROBES_9_(__VA_ARGS__)
-#define DSPEC_PROBES_11_(P, ...) &dspec_enabling_of_##P, DSPEC_PROBES_10_(__VA_ARGS__)
-#define DSPEC_PROBES_12_(P, ...) &dspec_enabling_of_##P, DSPEC_PROBES_11_(__VA_ARGS__)
-#define DSPEC_PROBES_13_(P, ...) &dspec_enabling_of_##P, DSPEC_PROBES_12_(__VA_ARGS__)
-#define DSPEC_PROBES_14_(P, ...) &dspec_enabling_of_##P, DSPEC_PROBES_13_(__VA_ARGS__)
-#define DSPEC_PROBES_15_(P, ...) &dspec_enabling_of_##P, DSPEC_PROBES_14_(__VA_ARGS__)
-#define DSPEC_PROBES_16_(P, ...) &dspec_enabling_of_##P, DSPEC_PROBES_15_(__VA_ARGS__)
-#define DSPEC_PROBES_17_(P, ...) &dspec_enabling_of_##P, DSPEC_PROBES_16_(__VA_ARGS__)
-#define DSPEC_PROBES_18_(P, ...) &dspec_enabling_of_##P, DSPEC_PROBES_17_(__VA_ARGS__)
-#define DSPEC_PROBES_19_(P, ...) &dspec_enabling_of_##P, DSPEC_PROBES_18_(__VA_ARGS__)
-#define DSPEC_PROBES_20_(P, ...) &dspec_enabling_of_##P, DSPEC_PROBES_19_(__VA_ARGS__)
-#define DSPEC_PROBES_21_(P, ...) &dspec_enabling_of_##P, DSPEC_PROBES_20_(__VA_ARGS__)
-#define DSPEC_PROBES_22_(P, ...) &dspec_enabling_of_##P, DSPEC_PROBES_21_(__VA_ARGS__)
-#define DSPEC_PROBES_23_(P, ...) &dspec_enabling_of_##P, DSPEC_PROBES_22_(__VA_ARGS__)
-#define DSPEC_PROBES_24_(P, ...) &dspec_enabling_of_##P, DSPEC_PROBES_23_(__VA_ARGS__)
-#define DSPEC_PROBES_25_(P, ...) &dspec_enabling_of_##P, DSPEC_PROBES_24_(__VA_ARGS__)
-#define DSPEC_PROBES_26_(P, ...) &dspec_enabling_of_##P, DSPEC_PROBES_25_(__VA_ARGS__)
-#define DSPEC_PROBES_27_(P, ...) &dspec_enabling_of_##P, DSPEC_PROBES_26_(__VA_ARGS__)
-#define DSPEC_PROBES_28_(P, ...) &dspec_enabling_of_##P, DSPEC_PROBES_27_(__VA_ARGS__)
-#define DSPEC_PROBES_29_(P, ...) &dspec_enabling_of_##P, DSPEC_PROBES_28_(__VA_ARGS__)
-#define DSPEC_PROBES_30_(P, ...) &dspec_enabling_of_##P, DSPEC_PROBES_29_(__VA_ARGS__)
-#define DSPEC_PROBES_31_(P, ...) &dspec_enabling_of_##P, DSPEC_PROBES_30_(__VA_ARGS__)
-#define DSPEC_PROBES_32_(P, ...) &dspec_enabling_of_##P, DSPEC_PROBES_31_(__VA_ARGS__)
-#define DSPEC_PROBES_33_(P, ...) &dspec_enabling_of_##P, DSPEC_PROBES_32_(__VA_ARGS__)
-#define DSPEC_PROBES_34_(P, ...) &dspec_enabling_of_##P, DSPEC_PROBES_33_(__VA_ARGS__)
-#define DSPEC_PROBES_35_(P, ...) &dspec_enabling_of_##P, DSPEC_PROBES_34_(__VA_ARGS__)
-#define DSPEC_PROBES_36_(P, ...) &dspec_enabling_of_##P, DSPEC_PROBES_35_(__VA_ARGS__)
-#define DSPEC_PROBES_37_(P, ...) &dspec_enabling_of_##P, DSPEC_PROBES_36_(__VA_ARGS__)
-#define DSPEC_PROBES_38_(P, ...) &dspec_enabling_of_##P, DSPEC_PROBES_37_(__VA_ARGS__)
-#define DSPEC_PROBES_39_(P, ...) &dspec_enabling_of_##P, DSPEC_PROBES_38_(__VA_ARGS__)
-#define DSPEC_PROBES_40_(P, ...) &dspec_enabling_of_##P, DSPEC_PROBES_39_(__VA_ARGS__)
-#define DSPEC_PROBES_41_(P, ...) &dspec_enabling_of_##P, DSPEC_PROBES_40_(__VA_ARGS__)
-#define DSPEC_PROBES_42_(P, ...) &dspec_enabling_of_##P, DSPEC_PROBES_41_(__VA_ARGS__)
-#define DSPEC_PROBES_43_(P, ...) &dspec_enabling_of_##P, DSPEC_PROBES_42_(__VA_ARGS__)
-#define DSPEC_PROBES_44_(P, ...) &dspec_enabling_of_##P, DSPEC_PROBES_43_(__VA_ARGS__)
-#define DSPEC_PROBES_45_(P, ...) &dspec_enabling_of_##P, DSPEC_PROBES_44_(__VA_ARGS__)
-#define DSPEC_PROBES_46_(P, ...) &dspec_enabling_of_##P, DSPEC_PROBES_45_(__VA_ARGS__)
-#define DSPEC_PROBES_47_(P, ...) &dspec_enabling_of_##P, DSPEC_PROBES_46_(__VA_ARGS__)
-#define DSPEC_PROBES_48_(P, ...) &dspec_enabling_of_##P, DSPEC_PROBES_47_(__VA_ARGS__)
-#define DSPEC_PROBES_49_(P, ...) &dspec_enabling_of_##P, DSPEC_PROBES_48_(__VA_ARGS__)
-#define DSPEC_PROBES_50_(P, ...) &dspec_enabling_of_##P, DSPEC_PROBES_49_(__VA_ARGS__)
-#define DSPEC_PROBES_51_(P, ...) &dspec_enabling_of_##P, DSPEC_PROBES_50_(__VA_ARGS__)
-#define DSPEC_PROBES_52_(P, ...) &dspec_enabling_of_##P, DSPEC_PROBES_51_(__VA_ARGS__)
-#define DSPEC_PROBES_53_(P, ...) &dspec_enabling_of_##P, DSPEC_PROBES_52_(__VA_ARGS__)
-#define DSPEC_PROBES_54_(P, ...) &dspec_enabling_of_##P, DSPEC_PROBES_53_(__VA_ARGS__)
-#define DSPEC_PROBES_55_(P, ...) &dspec_enabling_of_##P, DSPEC_PROBES_54_(__VA_ARGS__)
-#define DSPEC_PROBES_56_(P, ...) &dspec_enabling_of_##P, DSPEC_PROBES_55_(__VA_ARGS__)
-#define DSPEC_PROBES_57_(P, ...) &dspec_enabling_of_##P, DSPEC_PROBES_56_(__VA_ARGS__)
-#define DSPEC_PROBES_58_(P, ...) &dspec_enabling_of_##P, DSPEC_PROBES_57_(__VA_ARGS__)
-#define DSPEC_PROBES_59_(P, ...) &dspec_enabling_of_##P, DSPEC_PROBES_58_(__VA_ARGS__)
-#define DSPEC_PROBES_60_(P, ...) &dspec_enabling_of_##P, DSPEC_PROBES_59_(__VA_ARGS__)
-#define DSPEC_PROBES_61_(P, ...) &dspec_enabling_of_##P, DSPEC_PROBES_60_(__VA_ARGS__)
-#define DSPEC_PROBES_62_(P, ...) &dspec_enabling_of_##P, DSPEC_PROBES_61_(__VA_ARGS__)
-#define DSPEC_PROBES_63_(P, ...) &dspec_enabling_of_##P, DSPEC_PROBES_62_(__VA_ARGS__)
-#define DSPEC_PROBES_64_(P, ...) &dspec_enabling_of_##P, DSPEC_PROBES_63_(__VA_ARGS__)
+/* The events of these probes, at most 56, for dspec_tracer_start: DSPEC_PROBES(query, reply). The preprocessor takes one at a time, up to the mark `()()()` after the last of them. */
+#define DSPEC_PROBES(...) ((const dspec_enabling *const[]){ DSPEC_PROBES_ALL_(DSPEC_PROBES_ONE_(__VA_ARGS__, ()()(), ()()(), 0)) NULL })
+/* A macro isn't expanded within itself, so two of them take turns. The text is read 121 times, once for each probe. */
+#define DSPEC_PROBES_ALL_(...) DSPEC_PROBES_40_(DSPEC_PROBES_40_(DSPEC_PROBES_40_(__VA_ARGS__)))
+#define DSPEC_PROBES_40_(...) DSPEC_PROBES_13_(DSPEC_PROBES_13_(DSPEC_PROBES_13_(__VA_ARGS__)))
+#define DSPEC_PROBES_13_(...) DSPEC_PROBES_4_(DSPEC_PROBES_4_(DSPEC_PROBES_4_(__VA_ARGS__)))
+#define DSPEC_PROBES_4_(...) DSPEC_PROBES_READ_(DSPEC_PROBES_READ_(DSPEC_PROBES_READ_(__VA_ARGS__)))
+#define DSPEC_PROBES_READ_(...) __VA_ARGS__
+#define DSPEC_PROBES_ONE_(P, NEXT, ...) &dspec_enabling_of_##P, DSPEC_PROBES_LATER_(DSPEC_PROBES_NEXT_(NEXT, DSPEC_PROBES_OTHER_))(NEXT, __VA_ARGS__)
+#define DSPEC_PROBES_OTHER_(P, NEXT, ...) &dspec_enabling_of_##P, DSPEC_PROBES_LATER_(DSPEC_PROBES_NEXT_(NEXT, DSPEC_PROBES_ONE_))(NEXT, __VA_ARGS__)
+#define DSPEC_PROBES_LATER_(MACRO) MACRO DSPEC_PROBES_NOTHING_()
+#define DSPEC_PROBES_NOTHING_()
+/* The macro for the next one; after the last one DSPEC_PROBES_END_, which leaves nothing. */
+#define DSPEC_PROBES_NEXT_(NEXT, MACRO) DSPEC_PROBES_PICK_(DSPEC_PROBES_MARK_ NEXT, MACRO)
+#define DSPEC_PROBES_PICK_(MARK, MACRO) DSPEC_PROBES_LATER_(DSPEC_PROBES_SECOND_)(MARK, MACRO, 0)
+#define DSPEC_PROBES_SECOND_(FIRST, SECOND, ...) SECOND
+#define DSPEC_PROBES_MARK_(...) DSPEC_PROBES_MARK_2_
+#define DSPEC_PROBES_MARK_2_(...) DSPEC_PROBES_MARK_3_
+#define DSPEC_PROBES_MARK_3_() 0, DSPEC_PROBES_END_
+#define DSPEC_PROBES_END_(...)
 
 #endif
 #endif

@@ -7,6 +7,7 @@
  *   HANDLERS: so many runs of a signal's handler; CRASHES: so many threads may crash
  *   GIVEUP 1: each bounded wait may be over at any time; 0: none is, but where a thread crashed
  *   REFUSED 1: the system may refuse membarrier(2) from any time on; LOCKED: it isn't there at all
+ *   SLEEPS: before each round the consumer sleeps where it would find nothing, until somebody stirs it
  *   USES_END, USES_PLAIN, HANDS: which calls the threads make, so that no other is compiled
  *   F_..: a planted fault
  */
@@ -84,7 +85,8 @@
 /* ---- What is shared. ---- */
 
 short st[NL] = START; bit ins[NL]; bit dat[NL]; /* a lane's state, `inside`, and its memory: one bit that each call turns */
-byte oid[NL*NP]; byte otok[NL*NP]; bit osaved[NL*NP]; bit oown[NL*NP]; /* open[], written by whoever has the lane: a path's number and 1, its thread's and 1, .. */
+byte oid[NL*NP]; byte otok[NL*NP]; bit oown[NL*NP]; /* the table and open[], written by whoever has the lane: a path's number and 1, its thread's and 1, .. */
+bit eend[NP]; byte etok[NP]; bit eown[NP]; /* ended[]: a path that the consumer has ended, and its thread hasn't */
 byte oleft[NL*NP]; bit left[NL]; /* set from outside the lane */
 byte handed[NL]; bit of_locked = IS_LOCKED;
 /* A thread's stores that haven't left: place*4 + value*2 + release; place 1+l: inside, 1+NL+l: the lane's memory. */
@@ -112,6 +114,7 @@ byte way_in[NT];
 bit moved[NP]; /* a path that was handed on */
 byte posted; bit fin[NT]; bit hrun[NT]; bit crashed[NT]; byte hleft = HANDLERS; byte cleft = CRASHES; bit anycrash;
 bit cend; bit stuck[NL];
+bit asleep; bit rung; /* the consumer says that it sleeps; somebody has rung since */
 
 /* ---- What only the assertions look at. ---- */
 
@@ -252,10 +255,26 @@ inline is_left(t, l) {
 #endif
 }
 
+/* ---- consumer.c: who wakes the consumer. ---- */
+
+/* A caller has cleared IDLE before. */
+inline consumer_stirs(t) {
+    if
+    :: asleep -> atomic { DRAIN(t); if :: asleep -> asleep = 0; x2 = 1 :: else fi }; if :: x2 -> rung = 1; x2 = 0 :: else fi
+    :: else
+    fi
+}
+
 #define TAKEN ((s & ~IDLE) | HELD | (alone -> SHARED : 0))
 
 inline enter_alone(t, l) {
+#if defined(SLEEPS) && defined(F_STIRS_FIRST)
+    if :: s & IDLE -> consumer_stirs(t) :: else fi;
+#endif
     if :: s & IDLE -> atomic { DRAIN(t); st[l] = st[l] & ~IDLE } :: else fi;
+#if defined(SLEEPS) && !defined(F_STIRS_FIRST)
+    if :: s & IDLE -> consumer_stirs(t) :: else fi;
+#endif
     dspec_tracer_enter_(t, l)
 }
 
@@ -266,7 +285,13 @@ inline enter_locked(t, l) {
 #endif
     atomic { DRAIN(t);
         alone = (s >= USER && !(s & SHARED));
+#ifdef SLEEPS
+        was_idle = ((s & IDLE) != 0);
+#endif
         if :: st[l] == s -> st[l] = TAKEN; cas = 1; if :: !alone -> in = BY_LOCK; into(t, l) :: else fi :: else -> cas = 0 fi; s = 0 };
+#if defined(SLEEPS) && !defined(F_LOCK_STIRS_NOBODY)
+    if :: cas && was_idle -> consumer_stirs(t) :: else fi;
+#endif
     if
     :: cas && alone ->
         is_left(t, l);
@@ -284,7 +309,7 @@ inline enter_locked(t, l) {
         fi
     :: else
     fi;
-    cas = 0; alone = 0
+    cas = 0; alone = 0; was_idle = 0
 }
 
 inline lane_enter_slowly(t, l) {
@@ -351,7 +376,7 @@ inline assert_open(t) {
     gj = 0; gi = 0;
     if
     :: own[t] != NOBODY ->
-        do :: gj < NP -> if :: oid[own[t]*NP+gj] != 0 && oown[own[t]*NP+gj] -> gi++ :: else fi; gj++ :: else -> break od;
+        do :: gj < NP -> if :: oid[own[t]*NP+gj] != 0 && oown[own[t]*NP+gj] -> gi++ :: else fi; if :: eend[gj] && glane[gj] == own[t] && eown[gj] -> gi++ :: else fi; gj++ :: else -> break od;
         assert(openc[t] == gi + handed[own[t]])
     :: else
     fi; gj = 0; gi = 0
@@ -448,7 +473,7 @@ inline note(t, l, p) {
     do
     :: gj < NP && gj < MAXUSERS ->
         if
-        :: oid[(l)*NP+gj] == 0 -> oid[(l)*NP+gj] = p+1; otok[(l)*NP+gj] = t+1; osaved[(l)*NP+gj] = 0; oown[(l)*NP+gj] = isown; pplace[p] = gj; noted = 1; break
+        :: oid[(l)*NP+gj] == 0 -> oid[(l)*NP+gj] = p+1; otok[(l)*NP+gj] = t+1; oown[(l)*NP+gj] = isown; pplace[p] = gj; noted = 1; break
         :: else -> gj++
         fi
     :: else -> break
@@ -483,6 +508,36 @@ inline begin(t, p) {
     A_ if :: noted -> skip :: else -> pover[p] = 1 fi; noted = 0; tries = 0 _A
 }
 
+/* `done` says whether. */
+inline begin_on_last(t, p) {
+    if
+    :: plane[p] == NOBODY && plain[t] && hands_on[t] == 0 ->
+        on = last[t];
+        atomic { DRAIN(t); if :: st[on] == 0 -> st[on] = 2*USER; cas = 1 :: else -> cas = 0 fi };
+        if
+        :: cas ->
+            A_ cas = 0; handed[on] = 0; seat_owns(t, on); openc[t] = 1; isown = 1; noted = 0; in = NOT_IN _A;
+            dspec_tracer_enter_(t, on);
+            if
+            :: in -> atomic { open_on(t, on, p) }; dspec_tracer_leave_(t, on); done = noted
+            :: else
+            fi;
+#ifndef F_STAYS_ON_LAST
+            if :: done -> skip :: else -> lane_path_off(t, on, 1) fi
+#endif
+        :: else
+        fi;
+        A_ in = 0; isown = 0; noted = 0; on = NOBODY _A
+    :: else
+    fi
+}
+inline begin_quickly(t, p) {
+    if
+    :: !busy[t] -> A_ busy[t] = 1 _A; begin_on_last(t, p); seat_leave(t)
+    :: else
+    fi
+}
+
 inline go_on(t, p) {
     on = plane[p];
     lane_enter(t, on);
@@ -491,7 +546,7 @@ inline go_on(t, p) {
         /* adopt */
         atomic { if
         :: oid[on*NP+pplace[p]] == p+1 -> otok[on*NP+pplace[p]] = t+1; ptok[p] = ((pown[p] && own[t] == on) -> t+1 : 0)
-        :: else -> pover[p] = 1; ptok[p] = 0
+        :: else -> if :: !eend[p] -> pover[p] = 1; ptok[p] = 0 :: else fi
         fi };
         lane_leave(t, on)
     :: else
@@ -512,7 +567,7 @@ inline dspec_path_try_(t, p) {
     :: else
     fi
 }
-inline dspec_path_put_slowly_(t, p) {
+inline put_slowly(t, p) {
     if
     :: !pover[p] ->
         seat_enter(t);
@@ -521,6 +576,10 @@ inline dspec_path_put_slowly_(t, p) {
     :: else
     fi
 }
+inline dspec_path_put_slowly_(t, p) {
+    if :: !pover[p] -> begin_quickly(t, p) :: else fi;
+    if :: !done -> put_slowly(t, p) :: else fi
+}
 inline dspec_path_record(t, p) {
     dspec_path_try_(t, p);
     if :: !done -> dspec_path_put_slowly_(t, p) :: else fi;
@@ -528,7 +587,7 @@ inline dspec_path_record(t, p) {
 }
 
 inline decide(l, at, what) {
-    if :: osaved[(l)*NP+(at)] || oid[(l)*NP+(at)] == 0 -> skip :: else -> assert(fate[oid[(l)*NP+(at)]-1] == OPEN); fate[oid[(l)*NP+(at)]-1] = what fi
+    if :: oid[(l)*NP+(at)] == 0 -> skip :: else -> assert(fate[oid[(l)*NP+(at)]-1] == OPEN); fate[oid[(l)*NP+(at)]-1] = what fi
 }
 
 /* Throws away a path of a lane that the caller has. */
@@ -538,6 +597,8 @@ inline throw_one(l, at) {
     oid[(l)*NP+(at)] = 0
 }
 /* Which one is left says its number: what has its place later isn't it. */
+/* What the consumer has ended is in its list no longer. */
+inline take_ended(l, p) { eend[p] = 0; if :: eown[p] -> handed[l]++ :: else fi }
 inline leave_behind(l, p) {
     if
     :: st[l] & GONE
@@ -565,7 +626,11 @@ inline path_throw_left(l) {
 #ifdef F_LEFT_BY_PLACE
             atomic { if :: mark != 0 && oid[(l)*NP+k] != 0 -> assert(gleft[oid[(l)*NP+k]-1]); throw_one(l, k); users++ :: else fi; mark = 0; k++ }
 #else
-            atomic { if :: mark != 0 && oid[(l)*NP+k] == mark -> assert(gleft[mark-1]); throw_one(l, k); users++ :: else fi; mark = 0; k++ }
+            atomic { if
+                :: mark != 0 && oid[(l)*NP+k] == mark -> assert(gleft[mark-1]); throw_one(l, k); users++
+                :: mark != 0 && oid[(l)*NP+k] != mark && eend[mark-1] -> take_ended(l, mark-1); users++
+                :: else
+                fi; mark = 0; k++ }
 #endif
         :: else -> k = 0; break
         od;
@@ -588,19 +653,58 @@ inline end(t, p) {
             lane_path_off(t, on, isown);
 #endif
             lane_path_off(t, on, isown)
-        :: else -> lane_leave(t, on)
+        :: else ->
+            /* end_late */
+            atomic { x = eend[p]; if :: x -> eend[p] = 0; if :: eown[p] != isown -> handed[on]++ :: else fi :: else fi };
+            lane_leave(t, on);
+            if :: x -> lane_path_off(t, on, isown) :: else fi
         fi
     :: else -> leave_behind(on, p)
     fi;
     A_ x = 0; in = 0; isown = 0; on = NOBODY _A
 }
+inline end_slowly(t, p) {
+    seat_enter(t);
+    if :: x == 0 -> end(t, p); seat_leave(t) :: else fi;
+    x = 0
+}
+/* `done` says whether. */
+inline end_on_own(t, p) {
+    if
+    :: own[t] == plane[p] ->
+        A_ on = plane[p]; in = NOT_IN; ld_inside(t, on, x) _A;
+        if :: x == 0 -> dspec_tracer_enter_(t, on) :: else fi;
+        if
+        :: in ->
+            atomic { x = 0; if :: oid[on*NP+pplace[p]] == p+1 -> decide(on, pplace[p], KEPT); x = 1 :: else fi };
+            if
+            :: x ->
+                A_ pover[p] = 1; ptok[p] = 0 _A;
+                if :: st[on] & SERVE -> atomic { DRAIN(t); st[on] = st[on] & ~SERVE } :: else fi;
+                atomic { if :: !oown[on*NP+pplace[p]] -> handed[on]++ :: else fi; oid[on*NP+pplace[p]] = 0 }
+            :: else
+            fi;
+            dspec_tracer_leave_(t, on);
+#ifdef F_OFF_TWICE
+            if :: x -> lane_path_off(t, on, 1) :: else fi;
+#endif
+            if :: x -> lane_path_off(t, on, 1); done = 1 :: else fi
+        :: else
+        fi;
+        A_ x = 0; in = 0; on = NOBODY _A
+    :: else
+    fi
+}
+inline end_quickly(t, p) {
+    if
+    :: ptok[p] == t+1 && !no_token[t] && !busy[t] -> A_ busy[t] = 1 _A; end_on_own(t, p); seat_leave(t)
+    :: else
+    fi
+}
 inline ends(t, p) {
     if
     :: plane[p] == NOBODY -> pover[p] = 1
-    :: plane[p] != NOBODY && !pover[p] ->
-        seat_enter(t);
-        if :: x == 0 -> end(t, p); seat_leave(t) :: else fi;
-        x = 0
+    :: plane[p] != NOBODY && !pover[p] -> end_quickly(t, p); if :: !done -> end_slowly(t, p) :: else fi; done = 0
     :: else
     fi
 }
@@ -652,12 +756,14 @@ inline dspec_tracer_record(t) {
 /* ---- The end of a thread. ---- */
 
 inline has_path_of(t, l) {
-    atomic { gj = 0; has = 0; do :: gj < NP -> if :: oid[(l)*NP+gj] != 0 && otok[(l)*NP+gj] == t+1 -> has = 1 :: else fi; gj++ :: else -> break od; gj = 0 }
+    atomic { gj = 0; has = 0; do :: gj < NP -> if :: (oid[(l)*NP+gj] != 0 && otok[(l)*NP+gj] == t+1) || (eend[gj] && glane[gj] == (l)) -> has = 1 :: else fi; gj++ :: else -> break od; gj = 0 }
 }
 inline throw_away(t, l) {
     atomic { gj = 0; users = 0;
         do
-        :: gj < NP -> if :: oid[(l)*NP+gj] != 0 && otok[(l)*NP+gj] == t+1 -> throw_one(l, gj); users++ :: else fi; gj++
+        :: gj < NP ->
+            if :: eend[gj] && glane[gj] == (l) && etok[gj] == t+1 -> take_ended(l, gj); users++ :: else fi;
+            if :: oid[(l)*NP+gj] != 0 && otok[(l)*NP+gj] == t+1 -> throw_one(l, gj); users++ :: else fi; gj++
         :: else -> break
         od; gj = 0 }
 }
@@ -692,7 +798,7 @@ inline detach(t) {
     atomic { seat_owns(t, NOBODY); plain[t] = 0; no_token[t] = 1; busy[t] = 1; x = 0 }
 }
 
-#define LOCALS byte on = NOBODY; byte i = 0; byte bi = 0; byte users = 0; short s = 0; byte in = NOT_IN; byte how = NOT_IN; bit out = 0; bit ok = 0; bit cas = 0; bit alone = 0; bit x = 0; bit d = 0; \
+#define LOCALS byte on = NOBODY; byte i = 0; byte bi = 0; byte users = 0; short s = 0; byte in = NOT_IN; byte how = NOT_IN; bit out = 0; bit ok = 0; bit cas = 0; bit alone = 0; bit x = 0; bit x2 = 0; bit was_idle = 0; bit d = 0; \
     byte pre = 2; bit done = 0; bit noted = 0; bit isown = 0; bit has = 0; bit spent = 0; byte tries = 0; byte was_own = NOBODY OWN_SEATS OWN_PATHS
 
 #if HANDLERS > 0
@@ -876,14 +982,12 @@ inline keep_paths(l, token) {
         do
         :: gj < NP ->
             if
-#ifdef F_SAVED_TWICE
             :: oid[(l)*NP+gj] != 0 && otok[(l)*NP+gj] == token ->
-#else
-            :: oid[(l)*NP+gj] != 0 && otok[(l)*NP+gj] == token && !osaved[(l)*NP+gj] ->
-#endif
                 assert(fate[oid[(l)*NP+gj]-1] == OPEN); fate[oid[(l)*NP+gj]-1] = SAVED;
-#ifndef F_SAVED_UNNOTED
-                osaved[(l)*NP+gj] = 1
+                /* leave_ended */
+                eend[oid[(l)*NP+gj]-1] = 1; etok[oid[(l)*NP+gj]-1] = otok[(l)*NP+gj]; eown[oid[(l)*NP+gj]-1] = oown[(l)*NP+gj];
+#ifndef F_SAVED_TWICE
+                oid[(l)*NP+gj] = 0
 #endif
             :: else
             fi; gj++
@@ -938,7 +1042,7 @@ inline end_all() {
 /* So many users as paths are open: no thread has a lane of its own any more. */
 inline assert_users(l) {
     gj = 0; c = 0;
-    do :: gj < NP -> if :: oid[(l)*NP+gj] != 0 -> c++ :: else fi; gj++ :: else -> break od;
+    do :: gj < NP -> if :: oid[(l)*NP+gj] != 0 -> c++ :: else fi; if :: eend[gj] && glane[gj] == (l) -> c++ :: else fi; gj++ :: else -> break od;
     gj = 0; assert(st[l]/USER == c); c = 0
 }
 /* Nobody is on the lanes, the consumer gets each at once, and what was left behind is thrown away. */
@@ -966,10 +1070,35 @@ inline assert_ended() {
 #define ALL_QUIET (QUIET(0) && QUIET(1))
 #endif
 
+#define IS_IDLE(l) ((st[l] & IDLE) != 0)
+#if NL > 1
+#define ALL_IDLE (IS_IDLE(0) && IS_IDLE(1))
+#else
+#define ALL_IDLE IS_IDLE(0)
+#endif
+
+inline idle_for() {
+    atomic { w = 1; l = 0 };
+    do :: l < NL -> if :: !IS_IDLE(l) -> w = 0 :: else fi; l++ :: else -> break od; l = 0
+}
+/* Once all threads are over, nobody stirs it any more: then it has seen all that they did. */
+inline sleep_idle() {
+#ifdef F_SLEEPS_UNSEEN
+    idle_for(); asleep = 1;
+#else
+    asleep = 1; idle_for();
+#endif
+    if :: w -> if :: rung :: ALL_QUIET -> atomic { assert(rung || ALL_IDLE) } fi :: else fi;
+    atomic { asleep = 0; rung = 0; w = 0 }
+}
+
 active proctype C() {
     byte r = 0; bit got = 0; bit held = 0; bit alone = 0; bit over = 0; byte l = 0; byte bi = 0; byte w = 0; byte c = 0; byte pass = 0; byte users = 0; short was = 0; byte token = 0; byte k = 0; byte mark = 0;
     do
     :: r < ROUNDS -> r++;
+#ifdef SLEEPS
+        sleep_idle();
+#endif
 #if CRASHES > 0
         save_crashes();
 #endif

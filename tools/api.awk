@@ -49,7 +49,7 @@ function is_public(name) { return name in named || where == "" || where in opene
 
 function tell_wanting(what) { if (doc == "") print FILENAME ": `" what "` has no doc comment" >> wanting }
 
-# The names of a list such as `{A, B}` or `A`, behind a path.
+# The names of a list such as `{A, B}` or `A`, after a path.
 function take_names(text, path, count, names, i) {
     sub(/^pub use /, "", text); sub(/;.*$/, "", text)
     path = text; sub(/::.*/, "", path)

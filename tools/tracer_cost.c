@@ -1,6 +1,6 @@
 /* What a tracer's calls cost beside the library's own: `tracer_cost FOLDER WAY NUMBER [CPUS]` makes so many paths, or records, for a tool that counts instructions;
  * `tracer_cost FOLDER times [CPUS]` takes all ways by turns, in slices shorter than a turn on a processor, and prints the 5th percentile of each, in nanoseconds. raw is a session of so many CPUs (1),
- * with the same clock, with a service a path; boxed is the tracer. */
+ * with the monotonic clock, with a service a path; boxed is the tracer, with CLOCK=tsc by the time stamp counter. */
 #include "dspec_system.h"
 #include "dspec_tracer.h"
 
@@ -30,17 +30,24 @@ static void boxed_path(uint32_t records) {
     dspec_path_drop(&path);
 }
 
+static void keep_path(uint32_t records) {
+    dspec_path path = dspec_path_begin(&tracer);
+    for (uint32_t i = 0; i < records; i++) query_in(&path, 1, i);
+    dspec_path_keep(&path);
+}
+
 static void raw20(void) { raw_path(20); }
 static void boxed20(void) { boxed_path(20); }
 static void raw3(void) { raw_path(3); }
 static void boxed3(void) { boxed_path(3); }
+static void kept3(void) { keep_path(3); }
 static void raw(void) { query_trace(&query, &cpu, dspec_monotonic(), 1, 1); }
 static void boxed(void) { query_now(&tracer, 1, 1); }
 
 static const struct {
     const char *name;
     void (*run)(void);
-} ways[] = { { "raw20", raw20 }, { "boxed20", boxed20 }, { "raw3", raw3 }, { "boxed3", boxed3 }, { "raw", raw }, { "boxed", boxed } };
+} ways[] = { { "raw20", raw20 }, { "boxed20", boxed20 }, { "raw3", raw3 }, { "boxed3", boxed3 }, { "kept3", kept3 }, { "raw", raw }, { "boxed", boxed } };
 
 enum { WAYS = sizeof ways / sizeof ways[0], SLICES = 2000, IN_A_SLICE = 20 };
 
@@ -88,6 +95,7 @@ int main(int argc, char **argv) {
     const char *way = argc > 2 ? argv[2] : "", *cpus = "1";
     if (argc > 3 && strcmp(way, "times") == 0) cpus = argv[3];
     if (argc > 4) cpus = argv[4];
+    if (getenv("CLOCK") != NULL && strcmp(getenv("CLOCK"), "tsc") == 0) options.clock = DSPEC_CLOCK_TSC;
     if (!dspec_tracer_start(&tracer, argv[1], &options, DSPEC_PROBES(query))) {
         fprintf(stderr, "tracer_cost: %s\n", tracer.why);
         return 1;

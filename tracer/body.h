@@ -12,16 +12,21 @@
 #define _GNU_SOURCE
 #endif
 
-#include "dspec_ctf.h"
 #include "dspec_tracer.h"
+#include "folder.h"
+#include "paths.h"
 
+#include <errno.h>
 #include <pthread.h>
 #include <signal.h>
+#include <stdio.h>
+#include <stdlib.h>
+#include <string.h>
 
 #pragma GCC visibility push(hidden)
 
 typedef struct dspec_tracer_body body;
-typedef struct dspec_tracer_seat seat;
+
 
 /* Of a lane's state: six bits, and above them how many paths are on it, and 1 more where it is a thread's own. WANTED has threads that share a lane hold back, so that the consumer gets
  * its turn. */
@@ -29,48 +34,52 @@ enum { HELD = DSPEC_TRACER_HELD_, GONE = 2, SERVE = 4, IDLE = 8, SHARED = 16, WA
 static_assert((HELD | GONE | IDLE | SHARED | WANTED) == DSPEC_TRACER_LOOK_, "the header's LOOK is these");
 /* Within these bounds somebody waits for lanes, in microseconds: a thread for one, the consumer in a turn of a flush and at the end for all; in a round for none. */
 enum { ENTER_US = 1000000, TAKE_US = 20000, CLOSE_US = 5000000 };
-enum { MAX_OPEN = 64, MAX_CRASHES = 16 };
-/* What stands for the number of the path to which a thread recorded last, where that got no slot. */
+enum { MAX_CRASHES = 16 };
+/* In place of the number of the path to which a thread recorded last, where that path got no slot. */
 #define REFUSED_PATH UINT64_C(1)
 /* A record's text in words of eight bytes, at most. */
 enum { MOST_WORDS = 9 };
 /* Of the event that tells of a path, in words and in bytes. */
 enum { WORDS_OF_PATH = 6, BYTES_OF_PATH = 56 };
-/* Behind the tracers stand watches (watch.h), which signals know as tracers without lanes. */
+/* After the tracers stand watches (watch.h), which signals know as tracers without lanes. */
 enum { MAX_WATCHES = 64, MAX_SLOTS = DSPEC_MAX_TRACERS + MAX_WATCHES };
 enum { CACHE_LINES = 128 };
 
 #define APART __attribute__((aligned(CACHE_LINES)))
 static_assert(_Alignof(dspec_tracer_lane) == CACHE_LINES, "what a record looks at has lines of its own");
 
-/* An open path, written by whoever has the lane. */
+/* What a lane has of an open path beside its table, at the same place; whoever has the lane writes it. Others may look at `mark` and `token` at any time. */
 typedef struct open_path {
-    uint64_t id;    /* 0: none */
-    uint64_t older; /* with keep_last its records before those, in a speculation that is full; 0: none */
-    uint64_t cut;   /* its records before those again, which are thrown away */
-    uint64_t begun; /* the stamp of its first record */
-    uint64_t mark;  /* its number, in the upper half */
-    uint64_t left;  /* the mark of a path whose end couldn't get into its lane, and which is to be thrown away; set from outside the lane */
-    uint32_t token; /* of the thread that recorded last */
+    uint64_t mark;   /* its number, in the upper half; 0: none is open here */
+    uint64_t left;   /* the mark of a path whose end couldn't get into its lane, and which is to be thrown away; set from outside the lane */
+    uint32_t token;  /* of the thread that recorded last, as the table has it */
     uint32_t thread; /* the system's number of the thread in which it began */
-    bool own;       /* it began on its thread's own lane */
-    bool saved;     /* a crash has kept it */
-    bool waits;     /* it is being kept, as soon as there is room */
-    bool is_prepared, has_event; /* for its commit, where its event is among its records or had no room there */
-    bool has_key, has_first;
-    bool has_part;  /* its older part is kept */
     uint32_t untold; /* where it is prepared: its records that aren't kept with it */
+    uint32_t cut;    /* and those of them that were thrown away for later ones */
+    bool own;        /* it began on its thread's own lane */
+    bool waits;      /* it is being kept, as soon as there is room */
+    bool is_prepared, has_event; /* for its commit, where its event is among its records or had no room there */
+    bool has_part;   /* its older records are kept */
+    bool has_key, has_first;
+    uint8_t first_words; /* with keep_last its first record */
     uint64_t key[2];
-    size_t first_words; /* with keep_last its first record */
     uint64_t first_claim, first[MOST_WORDS];
 } open_path;
 
-typedef struct lane {
+/* A path that the consumer has ended, and whose thread has still to do that. */
+typedef struct ended_path {
+    uint64_t mark;
+    uint32_t token;
+    bool own, is_kept;
+} ended_path;
+
+struct lane {
     dspec_tracer_lane front; /* first: what the header knows of a lane is at the same place */
     uint32_t number;
-    body *of;
-    uint64_t kept, thrown, cut, cut_records;
     uint32_t opened; /* the number of the path that was opened last */
+    body *tracer;
+    dspec_paths paths;
+    uint64_t kept, thrown, cut, cut_records;
     uint32_t handed; /* how many paths of the thread whose own it is others have ended since that looked */
     uint32_t left;   /* whether one is to be thrown away */
     dspec_report latest; /* at the last service, of the program's records */
@@ -79,18 +88,20 @@ typedef struct lane {
     uint32_t owes;
     uint64_t owed_at, owed[WORDS_OF_PATH]; /* the event of a path whose records are kept, where it has had no room after them: the next buffer begins with it */
     dspec_batch out; /* which the folder is getting, where `bringing` says so */
-    uint64_t before; /* how many records the folder had in front of it */
+    uint64_t before; /* how many records the folder had before it */
     uint32_t bringing;
     bool waits_for_disk; /* with `survive`: it is taken, and stays here until the disk has room */
     /* With `survive`: whether a service is made, where the two buffers are and which one is filled, how many batches were switched out, taken and given back, what the CPU
-     * had accepted at the last switch and how many records that switched out, and how many stood in the buffer in front of the service. */
+     * had accepted at the last switch and how many records that switched out, and how many were in the buffer before the service. */
     uint32_t serving, filled;
     const uint8_t *buffers[2];
     uint64_t switched, taken, given, accepted, sealed, standing;
+    uint32_t ended_count;
+    ended_path ended[MAX_OPEN];
     APART open_path open[MAX_OPEN];
     dspec_session session;
     dspec_consumer consumer;
-} lane;
+};
 
 /* Of a batch: none is out, the folder is getting it, the folder has it, the library is asked for it. */
 enum { NOT_OUT = 0, IS_BROUGHT = 1, WAS_BROUGHT = 2, IS_TAKEN = 3 };
@@ -98,7 +109,7 @@ enum { NOT_OUT = 0, IS_BROUGHT = 1, WAS_BROUGHT = 2, IS_TAKEN = 3 };
 enum { OWES_NOTHING = 0, OWES_EVENT = 1, IS_CLAIMED = 2 };
 /* Of a service: none is made, the library makes it, it has switched. */
 enum { NOT_SERVED = 0, IS_SERVED = 1, HAS_SWITCHED = 2 };
-/* What stands in front of the library's answer; of a whole one no field is as here. */
+/* What a batch is before the library's answer: no field of a whole one is like these. */
 static const dspec_batch nothing_out = { NULL, SIZE_MAX, UINT64_MAX, 0 };
 
 /* Who sent a signal, and which thread got it. */
@@ -110,7 +121,7 @@ typedef struct sender {
 
 /* What a handler tells the consumer of a thread that crashed. */
 typedef enum crash_state { CRASH_FREE = 0, CRASH_FILLING = 1, CRASH_READY = 2 } crash_state;
-typedef struct crash {
+struct crash {
     uint32_t state;
     int32_t signal, code;
     uint64_t address, at, pc;
@@ -121,7 +132,7 @@ typedef struct crash {
     bool is_last;         /* the signal ends the process */
     sender by;
     uint64_t here[2]; /* what a watch asked of the thread */
-} crash;
+};
 
 /* A consumer that has ended hears of no signal. */
 #define NO_MORE_SIGNALS UINT32_MAX
@@ -142,11 +153,17 @@ typedef struct memory_file {
     char name[288];
 } memory_file;
 
+/* What the time stamp counter and the system's monotonic clock showed at one moment. */
+typedef struct moment {
+    uint64_t ticks, nanoseconds;
+} moment;
+
 struct dspec_tracer_body {
     uint32_t slot; /* among the process's tracers */
     uint32_t run;  /* which no other tracer of the process has or had */
     uint32_t count;
     bool by_thread;
+    uint32_t clock; /* of its stamps: DSPEC_CLOCK_MONOTONIC, which a watch has, or DSPEC_CLOCK_TSC */
     uint32_t locked; /* each lane is taken by its lock, since there is no membarrier(2) */
     uint32_t up;
     pid_t pid;
@@ -163,6 +180,10 @@ struct dspec_tracer_body {
     bool whole, joined, is_pressed; /* is_pressed: somebody rang, so that the next round waits for nothing */
     uint32_t epid_of_crash, epid_of_place, epid_of_signal, epid_of_unsaved;
     uint64_t told_unsaved; /* the consumer's, of dspec_unsaved */
+    moment started;       /* where the stamps are the counter's: when it was looked at first, */
+    uint64_t origin;      /* where the monotonic clock began, in nanoseconds since 1970, */
+    uint64_t hertz;       /* what the metadata says, for threads that ask how long something took, */
+    uint64_t measured;    /* and the consumer's: how many ticks after the start that was measured */
     uint64_t quiet_until;  /* the consumer's: it makes no rounds until then */
     sender sent; /* who sent the signal that `deferred` is */
     uint64_t claim_of_path, claim_of_thread, claim_of_counts, claim_of_refused;
@@ -177,24 +198,24 @@ struct dspec_tracer_body {
     dspec_labels whys;
     const dspec_labels *labels[7];
     seen_thread seen[MAX_SEEN];
-    crash crashes[MAX_CRASHES];
+    struct crash crashes[MAX_CRASHES];
     void (*here)(uint64_t *); /* a watch's */
     struct saved_head *saved; /* where the tracer's memory is a file (survive.h) */
     void *memory;
     memory_file file;
-    APART uint32_t stop, rings, deferring, deferred, ended; /* deferred: the signal that is left to the consumer; 0: none yet */
+    APART uint32_t stop, rings, asleep, deferring, deferred, ended; /* asleep: the consumer makes no rounds until it is stirred; deferred: the signal that is left to it; 0: none yet */
     uint32_t unsaved, never_saved; /* threads that crashed: whose handler waits, and those whose handler waited in vain */
     uint32_t asked, served, flushing; /* tickets of flushes: the last one that was asked for and that was served; and how many threads wait for one */
     uint32_t flushed;                 /* the ticket that is being served, */
     uint64_t undrained;               /* and the lanes that stay for it */
     uint32_t misses;                  /* whether the folder misses something that was kept */
     APART uint64_t no_slot, no_room, nested, late, waited, threads, refused_records, missing;
-    lane lanes[]; /* `count`, and one more of the consumer's own */
+    struct lane lanes[]; /* `count`, and one more of the consumer's own */
 };
 
 /* ---- thread.c: what a thread has in each tracer. ---- */
 
-typedef struct here {
+struct here {
     void *stack;
     bool consumer;
     uint32_t thread; /* the system's number */
@@ -202,24 +223,26 @@ typedef struct here {
     uint64_t mask;
     stack_t other;
     uint32_t hands_on; /* so many paths are begun on a lane that isn't its own, since others end them */
-} here;
+};
 /* A handler may look at these, as at the token (dspec/tracer_record.h). */
-extern __thread here dspec_here __attribute__((tls_model("initial-exec")));
-extern __thread seat dspec_seats[DSPEC_MAX_TRACERS] __attribute__((tls_model("initial-exec")));
+extern __thread struct here dspec_here __attribute__((tls_model("initial-exec")));
+extern __thread dspec_tracer_seat dspec_seats[DSPEC_MAX_TRACERS] __attribute__((tls_model("initial-exec")));
 
 /* No thread has this token, and a thread has it that has none yet. */
 #define NO_TOKEN UINT32_MAX
 
-dspec_status seat_take_slowly(body *of, seat *me); /* makes it where it isn't there; else counted: DSPEC_BUSY in a handler, DSPEC_STOPPED where the tracer is down */
+dspec_status seat_take_slowly(body *tracer, dspec_tracer_seat *seat); /* makes it where it isn't there; else counted: DSPEC_BUSY in a handler, DSPEC_STOPPED where the tracer is down */
 void threads_begin(void);  /* once a process */
 void threads_in_child(void);
 void stack_on(void);
 void stack_off(void);
-bool stack_is_ours(const stack_t *of);
+bool stack_is_ours(const stack_t *stack);
 
 /* ---- wait.c ---- */
 
-void word_waits(const uint32_t *word, uint32_t was, uint64_t nanoseconds); /* while the word is this, until it is woken, at the most for so long */
+/* While the word is this, until it is woken, at the most for so long. */
+#define FOREVER UINT64_MAX
+void word_waits(const uint32_t *word, uint32_t was, uint64_t nanoseconds);
 void word_wakes(const uint32_t *word);
 void sleep_for(uint64_t microseconds);
 /* How long somebody waits: so many microseconds from the first wait on, and for good for some naps too: a process that stood still, stopped or frozen, has its time over and no thread
@@ -237,50 +260,65 @@ void wait_on(patience *left);
 
 /* How a thread is in a call: as the one whose lane it is, or by the lane's lock. */
 typedef enum way { NOT_IN = 0, ALONE = 1, BY_LOCK = 2 } way;
-way lane_enter_slowly(seat *me, lane *on);
-lane *lane_for_path(body *of, seat *me); /* one more path is on it; NULL where none has room */
-lane *lane_shared(body *of, uint32_t number); /* likewise, on this one */
-lane *lane_for_record(body *of, seat *me);
+way lane_enter_slowly(dspec_tracer_seat *seat, struct lane *lane);
+struct lane *lane_for_path(body *tracer, dspec_tracer_seat *seat); /* one more path is on it; NULL where none has room */
+struct lane *lane_shared(body *tracer, uint32_t number); /* likewise, on this one */
+struct lane *lane_for_record(body *tracer, dspec_tracer_seat *seat);
 /* The consumer's: whether it has the lane, between two calls. With GONE in bits no thread gets in any more. */
-bool lane_take(lane *on, uint32_t bits, patience *left);
-void lane_release(lane *on, uint32_t set);
+bool lane_take(struct lane *lane, uint32_t bits, patience *left);
+void lane_release(struct lane *lane, uint32_t set);
 bool barrier_is_there(void);
 
 /* ---- path.c ---- */
 
-void path_ends_with_thread(body *of, seat *me, uint32_t token); /* token: of the thread, which has none any more */
-void path_throw_left(lane *on); /* the caller has the lane */
+void path_ends_with_thread(body *tracer, dspec_tracer_seat *seat, uint32_t token); /* token: of the thread, which has none any more */
+void path_throw_left(struct lane *lane); /* the caller has the lane */
+
+/* ---- keep.c: what a path that is kept needs beside the table's call. The caller has the lane. ---- */
+
 /* Whether a path's records may be lost, wait for room, or find their buffer empty, as where the consumer commits them. */
 typedef enum room { ANY_ROOM = 0, WAITS_FOR_ROOM = 1, EMPTY_ROOM = 2 } room;
-/* The caller has the lane. Whether the path's last records were kept; DSPEC_BUSY: there is no room yet. */
-dspec_status path_commit(lane *on, open_path *one, uint32_t why, room has);
-bool path_pays(lane *on); /* puts what the lane owes into a buffer that was just begun: whether there was something; the caller has the lane */
-bool path_discard(lane *on, open_path *one);
+/* Keeps the path of a place and a speculation: DSPEC_OK where its last records were kept; DSPEC_BUSY: there is no room yet; DSPEC_VOID: it isn't open. Else it is lost. */
+dspec_status path_commit(struct lane *lane, uint32_t place, uint64_t id, uint32_t why, room has);
+bool path_pays(struct lane *lane); /* puts what the lane owes into a buffer that was just begun: whether there was something */
 
 /* ---- session.c: what a lane has of the library. ---- */
 
 /* A program's options, of a header that may be older and knows fewer; false where it is newer and sets one that isn't known here. */
 bool options_take(dspec_tracer *tracer, const dspec_tracer_options *options, size_t size, dspec_tracer_options *taken);
 dspec_config lane_config(const dspec_tracer_options *options);
-dspec_status lane_start(lane *on, const dspec_tracer_options *options, dspec_schema *schema);
-void lane_ask(lane *on);
-void lane_serve(lane *on, bool *is_empty);
-void lane_write(body *of, lane *on);
-void lane_empty(body *of, lane *on); /* both buffers; the caller has the lane */
-void lane_clean(lane *on);
-bool lanes_wait_for_disk(const body *of);
-bool lane_end(body *of, lane *on);
-void lane_add(dspec_tracer_report *sum, const dspec_report *one);
-void lane_counts(const lane *on, dspec_report *report); /* takes out what is no record of the program */
-void lane_drop(lane *on);
+dspec_status lane_start(struct lane *lane, const dspec_tracer_options *options, dspec_schema *schema);
+void lane_ask(struct lane *lane);
+void lane_serve(struct lane *lane, bool *is_empty);
+void lane_write(body *tracer, struct lane *lane);
+void lane_empty(body *tracer, struct lane *lane); /* both buffers; the caller has the lane */
+void lane_clean(struct lane *lane);
+bool lanes_wait_for_disk(const body *tracer);
+bool lane_end(body *tracer, struct lane *lane);
+void lane_add(dspec_tracer_report *sum, const dspec_report *report);
+void lane_counts(const struct lane *lane, dspec_report *report); /* takes out what is no record of the program */
+void lane_drop(struct lane *lane);
+
+/* ---- clock.c ---- */
+
+/* Puts a clock that can be had in the place of DSPEC_CLOCK_AUTO: NULL, or why the one that is wanted can't be had. */
+const char *clock_choose(dspec_tracer_options *options);
+void clock_start(body *tracer);
+/* Has the trace's identity say of which clock its stamps are; before that it has the system's. Where that is the counter it waits until some milliseconds of its start are over. */
+void clock_identify(body *tracer, dspec_identity *identity);
+/* The consumer's: where it is due, or the end, has the metadata say what was measured until now: 0, or the errno where the one that is there stays as it was. */
+int clock_tell(body *tracer, bool is_end);
+uint64_t clock_nanoseconds(const body *tracer, uint64_t ticks); /* so many ticks of its stamps' clock */
 
 /* ---- consumer.c ---- */
 
 void *consumer_runs(void *of);
-void consumer_wakes(body *of);
-void consumer_ends_by_signal(body *of);
-void tell_counts(const body *of, dspec_tracer_report *report);
-bool consumer_served(body *of, uint32_t ticket, uint32_t timeout_ms);
+void consumer_wakes(body *tracer);
+/* Wakes a consumer that makes no rounds, after something that they are for: a lane that was found empty gets a call, or there is something to tell. */
+void consumer_stirs(body *tracer);
+void consumer_ends_by_signal(body *tracer);
+void tell_counts(const body *tracer, dspec_tracer_report *report);
+bool consumer_served(body *tracer, uint32_t ticket, uint32_t timeout_ms);
 
 /* ---- place.c ---- */
 
@@ -292,13 +330,13 @@ typedef struct code_place {
 } code_place;
 bool place_of(uint64_t address, code_place *found);
 /* To where the code returns in which a thread crashed, and the code there, and so on: by frame pointers, as far as there are any. The thread waits meanwhile. */
-size_t callers_of(const crash *of_thread, uint64_t callers[MOST_CALLERS]);
+size_t callers_of(const struct crash *of_thread, uint64_t callers[MOST_CALLERS]);
 
 /* ---- signals.c ---- */
 
 void signals_hook(const dspec_tracer_options *options);
 void signals_unhook(const dspec_tracer_options *options);
-void crash_is_saved(body *of, crash *of_thread); /* its handler goes on */
+void crash_is_saved(body *tracer, struct crash *of_thread); /* its handler goes on */
 void signals_end(int signal); /* does what the signal would have done; the last tracer that it closes ends the process */
 bool signal_is_crash(int signal);
 void signals_in_child(void);
@@ -307,7 +345,7 @@ bool signals_are_over(void); /* whether no handler looks at a tracer that is dow
 /* ---- start.c ---- */
 
 body *tracer_at(uint32_t slot); /* the tracer that is up there; a handler may call it */
-void tracer_set(uint32_t slot, body *of);
+void tracer_set(uint32_t slot, body *tracer);
 void tracers_begin(void); /* once a process */
 bool process_is_ours(void); /* whether this is the process whose tracers these are, and no child by _Fork or vfork */
 void tracers_lock(void);        /* none begins or ends meanwhile, and no cancellation ends the thread */
@@ -316,18 +354,18 @@ void tracers_unlock(void);
 /* ---- identity.c ---- */
 
 struct naming;
-typedef struct whose {
+struct whose {
     dspec_identity identity;
     char host[DSPEC_HOST_SIZE], name[256];
-} whose;
-bool identify(whose *of);
+};
+bool identify(body *tracer, struct whose *whose);
 void event_claims(dspec_event *event, uint32_t slot, uint64_t claim);
-bool event_adds(body *of, dspec_event *event, uint64_t claim); /* a plugin's, where the tracer doesn't have it; whether there is memory */
-void event_goes(body *of, dspec_event *event);
-void events_forget(body *of);
-void enabling_widths(const dspec_enabling *one, uint8_t widths[DSPEC_MAX_FIELDS + 1], size_t *n); /* with the path's number as the first */
+bool event_adds(body *tracer, dspec_event *event, uint64_t claim); /* a plugin's, where the tracer doesn't have it; whether there is memory */
+void event_goes(body *tracer, dspec_event *event);
+void events_forget(body *tracer);
+void enabling_widths(const dspec_enabling *enabling, uint8_t widths[DSPEC_MAX_FIELDS + 1], size_t *n); /* with the path's number as the first */
 extern const dspec_enabling *const own_events[]; /* the tracer's */
-dspec_status enable_all(body *of, const dspec_enabling *const *events, struct naming *naming);
+dspec_status enable_all(body *tracer, const dspec_enabling *const *events, struct naming *naming);
 struct naming *naming_new(void);
 const dspec_names *naming_names(const struct naming *naming);
 
@@ -339,84 +377,124 @@ const dspec_names *naming_names(const struct naming *naming);
 #define STORE(AT, VALUE) __atomic_store_n((AT), (VALUE), __ATOMIC_RELAXED)
 #define ADD(AT, N) __atomic_fetch_add((AT), (N), __ATOMIC_RELAXED)
 
-static inline uint32_t state_of(const lane *on) { return __atomic_load_n(&on->front.state, __ATOMIC_SEQ_CST); }
-static inline uint32_t state_set(lane *on, uint32_t bits) { return __atomic_fetch_or(&on->front.state, bits, __ATOMIC_SEQ_CST); }
-static inline uint32_t state_clear(lane *on, uint32_t bits) { return __atomic_fetch_and(&on->front.state, ~bits, __ATOMIC_SEQ_CST); }
-static inline bool state_becomes(lane *on, uint32_t *was, uint32_t is) {
-    return __atomic_compare_exchange_n(&on->front.state, was, is, false, __ATOMIC_SEQ_CST, __ATOMIC_SEQ_CST);
+static inline uint32_t state_of(const struct lane *lane) { return __atomic_load_n(&lane->front.state, __ATOMIC_SEQ_CST); }
+static inline uint32_t state_set(struct lane *lane, uint32_t bits) { return __atomic_fetch_or(&lane->front.state, bits, __ATOMIC_SEQ_CST); }
+static inline uint32_t state_clear(struct lane *lane, uint32_t bits) { return __atomic_fetch_and(&lane->front.state, ~bits, __ATOMIC_SEQ_CST); }
+static inline bool state_becomes(struct lane *lane, uint32_t *was, uint32_t is) {
+    return __atomic_compare_exchange_n(&lane->front.state, was, is, false, __ATOMIC_SEQ_CST, __ATOMIC_SEQ_CST);
 }
 
 #define LIKELY(IS) __builtin_expect(!!(IS), 1)
 #define RARELY __attribute__((noinline, cold))
 #define INTO_CALLER __attribute__((always_inline)) static inline
 
+static inline uint64_t stamp_of(const body *tracer) { return dspec_tracer_stamp_(&tracer->clock); }
+
+/* ---- A path of a lane, which the caller has. ---- */
+
+/* A place of a lane, which the compiler finds once. */
+static inline open_path *place_at(struct lane *lane, uint32_t place) {
+    open_path *path = &lane->open[place];
+    __asm__("" : "+r"(path));
+    return path;
+}
+
+/* Throws away the path of a place and a speculation: DSPEC_VOID where it isn't open, or a part of it is kept. */
+static inline dspec_status path_discard(struct lane *lane, uint32_t place, uint64_t id) {
+    const open_path *path = place_at(lane, place);
+    const dspec_status status = dspec_paths_discard(&lane->paths, &lane->front.cpu, place, id);
+    if (!LIKELY(!path->has_event)) lane->own_discarded += status == DSPEC_OK;
+    return status;
+}
+
+/* A place whose path is over is nobody's. */
+static inline void place_clear(open_path *path) {
+    STORE(&path->token, 0);
+    STORE(&path->mark, 0);
+}
+
 /* ---- Into the tracer, into a call on a lane, out of both. ---- */
 
-static inline lane *lane_of(dspec_tracer_lane *front) { return (lane *)front; }
+static inline struct lane *lane_of(dspec_tracer_lane *front) { return (struct lane *)front; }
 
-static inline seat *seat_at(uint32_t slot) {
-    seat *me = &dspec_seats[slot];
-    __asm__("" : "+r"(me)); /* where it stands is found once a call */
-    return me;
+static inline dspec_tracer_seat *seat_at(uint32_t slot) {
+    dspec_tracer_seat *seat = &dspec_seats[slot];
+    __asm__("" : "+r"(seat)); /* its place is found once a call */
+    return seat;
 }
 
 /* Whether the thread is in the middle of this tracer, as a handler's may be: between these calls, in one on its own lane, or in a record that is in no path. A handler that comes in between may
  * begin a path or end one, so a yes is looked at again where the thread has another lane by then. */
-static inline bool seat_is_in(const seat *me) {
-    while (!me->busy) {
-        dspec_tracer_lane *const own = LOAD(&me->own);
-        const bool is_in = own != NULL ? LOAD(&own->inside) != 0 : LOAD(&me->plain) == DSPEC_TRACER_NONE_;
+static inline bool seat_is_in(const dspec_tracer_seat *seat) {
+    while (!seat->busy) {
+        dspec_tracer_lane *const own = LOAD(&seat->own);
+        const bool is_in = own != NULL ? LOAD(&own->inside) != 0 : LOAD(&seat->plain) == DSPEC_TRACER_NONE_;
         if (LIKELY(!is_in)) return false;
         __atomic_signal_fence(__ATOMIC_SEQ_CST);
-        if (LOAD(&me->own) == own) return true;
+        if (LOAD(&seat->own) == own) return true;
     }
     return true;
 }
 
-static inline bool seat_enter(seat *me) {
+/* Into the tracer, of which the thread isn't in the middle. */
+static inline void seat_sits(dspec_tracer_seat *seat) {
     dspec_tracer_reach_();
-    if (!LIKELY(!seat_is_in(me))) return false;
-    me->busy = true;
+    seat->busy = true;
     __atomic_signal_fence(__ATOMIC_SEQ_CST);
+}
+
+static inline bool seat_enter(dspec_tracer_seat *seat) {
+    if (!LIKELY(!seat_is_in(seat))) return false;
+    seat_sits(seat);
     return true;
 }
 
 /* Into the tracer: DSPEC_OK, and where the thread's seat is. */
-static inline dspec_status seat_take(body *of, seat **me) {
-    *me = seat_at(of->slot);
-    return LIKELY((*me)->run == of->run) && seat_enter(*me) ? DSPEC_OK : seat_take_slowly(of, *me);
+static inline dspec_status seat_take(body *tracer, dspec_tracer_seat **seat) {
+    *seat = seat_at(tracer->slot);
+    return LIKELY((*seat)->run == tracer->run) && seat_enter(*seat) ? DSPEC_OK : seat_take_slowly(tracer, *seat);
 }
 
-static inline void seat_leave(seat *me) {
+static inline void seat_leave(dspec_tracer_seat *seat) {
     __atomic_signal_fence(__ATOMIC_SEQ_CST);
-    me->busy = false;
+    seat->busy = false;
 }
 
 /* Which lane is the thread's own now; NULL: none. */
-static inline void seat_owns(seat *me, dspec_tracer_lane *own) {
-    me->own = own;
-    STORE(&me->plain, own != NULL ? DSPEC_TRACER_NONE_ : me->run);
+static inline void seat_owns(dspec_tracer_seat *seat, dspec_tracer_lane *own) {
+    seat->own = own;
+    STORE(&seat->plain, own != NULL ? DSPEC_TRACER_NONE_ : seat->run);
 }
 
 /* A path is over: with the last one that its thread began there, a lane is nobody's own. own: whether the path is such a one. */
-static inline void lane_path_off(seat *me, lane *on, bool own) {
+static inline void lane_path_off(dspec_tracer_seat *seat, struct lane *lane, bool own) {
     uint32_t users = 1;
-    if (own && --me->open == 0 && !on->of->by_thread) {
-        seat_owns(me, NULL);
+    if (own && --seat->open == 0 && !lane->tracer->by_thread) {
+        seat_owns(seat, NULL);
         users = 2;
     }
-    __atomic_fetch_sub(&on->front.state, users * USER, __ATOMIC_SEQ_CST);
+    __atomic_fetch_sub(&lane->front.state, users * USER, __ATOMIC_SEQ_CST);
 }
 
-static inline way lane_enter(seat *me, lane *on) {
-    return LIKELY(&on->front == me->own) && dspec_tracer_enter_(&on->front) ? ALONE : lane_enter_slowly(me, on);
+/* Makes the lane that a thread had last its own, for a path, where nobody is on it and none of its bits is set: whether it is. */
+static inline bool lane_claim_last(dspec_tracer_seat *seat, struct lane *lane) {
+    uint32_t state = 0;
+    if (!LIKELY(state_becomes(lane, &state, 2 * USER))) return false;
+    STORE(&lane->handed, 0);
+    seat->own = &lane->front;
+    STORE(&seat->plain, DSPEC_TRACER_NONE_);
+    return true;
 }
 
-static inline void lane_leave_locked(lane *on) { state_clear(on, HELD); }
+static inline way lane_enter(dspec_tracer_seat *seat, struct lane *lane) {
+    return LIKELY(&lane->front == seat->own) && dspec_tracer_enter_(&lane->front) ? ALONE : lane_enter_slowly(seat, lane);
+}
 
-static inline void lane_leave(lane *on, way in) {
-    if (in == BY_LOCK) lane_leave_locked(on);
-    else dspec_tracer_leave_(&on->front);
+static inline void lane_leave_locked(struct lane *lane) { state_clear(lane, HELD); }
+
+static inline void lane_leave(struct lane *lane, way in) {
+    if (in == BY_LOCK) lane_leave_locked(lane);
+    else dspec_tracer_leave_(&lane->front);
 }
 
 #endif

@@ -4,7 +4,7 @@
 #include <errno.h>
 
 /* A word of the variable, and what its value is. */
-typedef enum kind { IS_FLAG, IS_COUNT, IS_BYTES, IS_BYTES_32, IS_NANOSECONDS, IS_MILLISECONDS, IS_PROBE } kind;
+typedef enum kind { IS_FLAG, IS_COUNT, IS_BYTES, IS_BYTES_32, IS_NANOSECONDS, IS_MILLISECONDS, IS_CLOCK, IS_PROBE } kind;
 typedef struct known_word {
     const char *name;
     kind kind;
@@ -16,9 +16,10 @@ static const known_word known[] = {
     { "slow", IS_NANOSECONDS, AT(slow_ns) },     { "sample", IS_COUNT, AT(sample) },         { "max", IS_BYTES, AT(max_bytes) },         { "folders", IS_COUNT, AT(max_folders) },
     { "lanes", IS_COUNT, AT(lanes) },            { "paths", IS_COUNT, AT(paths) },           { "bufsize", IS_BYTES_32, AT(bufsize) },    { "specsize", IS_BYTES_32, AT(specsize) },
     { "period", IS_MILLISECONDS, AT(period_ms) }, { "keep", IS_MILLISECONDS, AT(keep_ms) },  { "crash", IS_MILLISECONDS, AT(crash_ms) }, { "survive", IS_FLAG, AT(survive) },
-    { "keep_last", IS_FLAG, AT(keep_last) },     { "keep_all", IS_FLAG, AT(keep_all) },      { "keep_open", IS_FLAG, AT(keep_open) },    { "off", IS_PROBE, 0 },
+    { "keep_last", IS_FLAG, AT(keep_last) },     { "keep_all", IS_FLAG, AT(keep_all) },      { "keep_open", IS_FLAG, AT(keep_open) },    { "clock", IS_CLOCK, AT(clock) },
+    { "off", IS_PROBE, 0 },
 };
-#define WORDS "slow, sample, max, folders, lanes, paths, bufsize, specsize, period, keep, crash, survive, keep_last, keep_all, keep_open, off"
+#define WORDS "slow, sample, max, folders, lanes, paths, bufsize, specsize, period, keep, crash, survive, keep_last, keep_all, keep_open, clock, off"
 
 typedef struct unit {
     const char *name;
@@ -51,6 +52,15 @@ static bool read_number(const char *text, size_t len, const unit *units, uint64_
     return false;
 }
 
+/* Whether it is the name of a clock, by which the options know it. */
+static bool read_clock(const char *name, size_t len, uint64_t *clock) {
+    static const char *const names[] = { "monotonic", "tsc", "auto" };
+    static_assert(DSPEC_CLOCK_MONOTONIC == 0 && DSPEC_CLOCK_TSC == 1 && DSPEC_CLOCK_AUTO == 2, "each by its place");
+    for (*clock = 0; *clock < sizeof names / sizeof names[0]; ++*clock)
+        if (strlen(names[*clock]) == len && memcmp(names[*clock], name, len) == 0) return true;
+    return false;
+}
+
 static bool set_probe_off(settings *to, const char *name, size_t len) {
     if (to->off_count == MAX_OFF || len == 0 || len >= sizeof to->off[0]) return false;
     memcpy(to->off[to->off_count], name, len);
@@ -65,6 +75,10 @@ static const char *set_value(settings *to, const known_word *word, const char *v
     switch (word->kind) {
     case IS_FLAG: return "this word has no value";
     case IS_PROBE: return set_probe_off(to, value, len) ? NULL : "off=PROBE names a probe, and there are at most 16 of these words";
+    case IS_CLOCK:
+        if (!read_clock(value, len, &number)) return "a clock is monotonic, tsc or auto";
+        memcpy(at, &number, sizeof number);
+        return NULL;
     case IS_BYTES:
         if (!read_number(value, len, sizes, UINT64_MAX, &number)) return "a size is a number, or one with K, M or G";
         memcpy(at, &number, sizeof number);

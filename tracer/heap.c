@@ -1,23 +1,24 @@
 /* heap.c: where the library takes memory: of malloc, or of a memory of the caller's (dspec_memory.h). The three calls stand in the place of those of the kit's `heap`. */
 #include "dspec.h"
 #include "dspec_memory.h"
+#include "paths.h"
 
 #include <assert.h>
 #include <stdlib.h>
 #include <string.h>
 
 /* At the beginning of a memory: how many bytes there are, and how many are taken. */
-typedef struct front {
+struct front {
     uint64_t size, used;
-} front;
+};
 
-/* In front of what is taken: how many bytes. */
+/* Before what is taken: how many bytes. */
 typedef struct taken {
     uint64_t size, unused;
 } taken;
 
 enum { STEP = 16 };
-static_assert(sizeof(front) == STEP && sizeof(taken) == STEP, "what is taken begins at a multiple of 16");
+static_assert(sizeof(struct front) == STEP && sizeof(taken) == STEP, "what is taken begins at a multiple of 16");
 
 #ifndef DSPEC_LIBRARY_TEXT
 #define DSPEC_LIBRARY_TEXT DSPEC_VERSION_STRING
@@ -25,8 +26,8 @@ static_assert(sizeof(front) == STEP && sizeof(taken) == STEP, "what is taken beg
 
 const char *dspec_version_text(void) { return DSPEC_LIBRARY_TEXT; }
 
-static front *memories[DSPEC_MAX_MEMORIES];
-static __thread front *from __attribute__((tls_model("initial-exec")));
+static struct front *memories[DSPEC_MAX_MEMORIES];
+static __thread struct front *from __attribute__((tls_model("initial-exec")));
 static __thread size_t *counted __attribute__((tls_model("initial-exec")));
 
 /* What a call of these answers: whether there is memory, and where. */
@@ -45,22 +46,22 @@ static given answer(void *at) {
 
 static size_t room_for(size_t size) { return sizeof(taken) + (size + STEP - 1) / STEP * STEP; }
 
-static void *take(front *of, size_t size) {
+static void *take(struct front *front, size_t size) {
     taken *at;
-    if (size > of->size || room_for(size) > of->size - of->used) return NULL;
-    at = (taken *)(void *)((char *)of + of->used);
+    if (size > front->size || room_for(size) > front->size - front->used) return NULL;
+    at = (taken *)(void *)((char *)front + front->used);
     at->size = size;
-    of->used += room_for(size);
+    front->used += room_for(size);
     return at + 1;
 }
 
-static bool is_in(const front *of, const void *at) { return (const char *)at >= (const char *)of && (size_t)((const char *)at - (const char *)of) < of->size; }
+static bool is_in(const struct front *front, const void *at) { return (const char *)at >= (const char *)front && (size_t)((const char *)at - (const char *)front) < front->size; }
 
 /* The memory that has this; NULL: it is malloc's. */
-static front *memory_of(const void *at) {
+static struct front *memory_of(const void *at) {
     for (size_t i = 0; i < DSPEC_MAX_MEMORIES; i++) {
-        front *of = __atomic_load_n(&memories[i], __ATOMIC_ACQUIRE);
-        if (of != NULL && is_in(of, at)) return of;
+        struct front *front = __atomic_load_n(&memories[i], __ATOMIC_ACQUIRE);
+        if (front != NULL && is_in(front, at)) return front;
     }
     return NULL;
 }
@@ -77,13 +78,13 @@ given rattle_alloc(size_t size, size_t align) {
 
 given rattle_realloc(void *at, size_t had, size_t size, size_t align) {
     const size_t least = size > 0 ? size : align;
-    const front *of = memory_of(at);
+    const struct front *front = memory_of(at);
     void *more;
     (void)had;
     if (counted != NULL) *counted += room_for(least);
-    if (of == NULL && from == NULL) return answer(realloc(at, least));
-    if (of == NULL) return answer(NULL); /* nothing that malloc gave grows into a memory */
-    more = take(from != NULL ? from : (front *)of, least);
+    if (front == NULL && from == NULL) return answer(realloc(at, least));
+    if (front == NULL) return answer(NULL); /* nothing that malloc gave grows into a memory */
+    more = take(from != NULL ? from : (struct front *)front, least);
     if (more != NULL) memcpy(more, at, ((taken *)at - 1)->size < least ? (size_t)((taken *)at - 1)->size : least);
     return answer(more);
 }
@@ -93,27 +94,27 @@ void rattle_dealloc(void *at) {
 }
 
 dspec_status dspec_memory_begin(void *memory, size_t bytes) {
-    front *of = memory;
+    struct front *front = memory;
     if (bytes < 4 * STEP || (uintptr_t)memory % STEP != 0) return DSPEC_NO_MEMORY;
-    of->size = bytes;
-    of->used = sizeof *of;
+    front->size = bytes;
+    front->used = sizeof *front;
     for (size_t i = 0; i < DSPEC_MAX_MEMORIES; i++) {
-        front *none = NULL;
-        if (__atomic_compare_exchange_n(&memories[i], &none, of, false, __ATOMIC_SEQ_CST, __ATOMIC_SEQ_CST)) return DSPEC_OK;
+        struct front *none = NULL;
+        if (__atomic_compare_exchange_n(&memories[i], &none, front, false, __ATOMIC_SEQ_CST, __ATOMIC_SEQ_CST)) return DSPEC_OK;
     }
     return DSPEC_NO_MEMORY;
 }
 
 void *dspec_memory_turn(void *memory) {
-    front *before = from;
+    struct front *before = from;
     from = memory;
     return before;
 }
 
 void dspec_memory_end(void *memory) {
     for (size_t i = 0; i < DSPEC_MAX_MEMORIES; i++) {
-        front *of = memory;
-        if (__atomic_compare_exchange_n(&memories[i], &of, NULL, false, __ATOMIC_SEQ_CST, __ATOMIC_SEQ_CST)) return;
+        struct front *front = memory;
+        if (__atomic_compare_exchange_n(&memories[i], &front, NULL, false, __ATOMIC_SEQ_CST, __ATOMIC_SEQ_CST)) return;
     }
 }
 
@@ -133,7 +134,7 @@ dspec_status dspec_memory_for(const dspec_config *config, dspec_schema *schema, 
     dspec_consumer consumer = DSPEC_EMPTY;
     dspec_cpu cpus[DSPEC_MAX_CPUS];
     void *before = dspec_memory_turn(NULL);
-    size_t sum = sizeof(front), *outer = counted;
+    size_t sum = sizeof(struct front), *outer = counted;
     dspec_status status;
     memset(cpus, 0, sizeof cpus);
     counted = &sum;
@@ -144,6 +145,20 @@ dspec_status dspec_memory_for(const dspec_config *config, dspec_schema *schema, 
     for (uint32_t i = 0; i < DSPEC_MAX_CPUS; i++) dspec_cpu_drop(&cpus[i]);
     dspec_consumer_drop(&consumer);
     dspec_session_drop(&session);
+    dspec_memory_turn(before);
+    if (status == DSPEC_OK) *bytes = sum;
+    return status;
+}
+
+dspec_status paths_memory(size_t *bytes) {
+    dspec_paths paths = DSPEC_EMPTY;
+    void *before = dspec_memory_turn(NULL);
+    size_t sum = 0, *outer = counted;
+    dspec_status status;
+    counted = &sum;
+    status = dspec_paths_new(&paths);
+    counted = outer;
+    dspec_drop(&paths);
     dspec_memory_turn(before);
     if (status == DSPEC_OK) *bytes = sum;
     return status;

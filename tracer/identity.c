@@ -3,10 +3,11 @@
 
 #include <errno.h>
 
-bool identify(whose *of) {
-    if (!dspec_identity_of_system(&of->identity, program_invocation_short_name, of->host)) return false;
-    snprintf(of->name, sizeof of->name, "%s", program_invocation_short_name);
-    of->identity.name = dspec_shown(of->name);
+bool identify(body *tracer, struct whose *whose) {
+    if (!dspec_identity_of_system(&whose->identity, program_invocation_short_name, whose->host)) return false;
+    clock_identify(tracer, &whose->identity);
+    snprintf(whose->name, sizeof whose->name, "%s", program_invocation_short_name);
+    whose->identity.name = dspec_shown(whose->name);
     return true;
 }
 
@@ -60,55 +61,55 @@ void event_claims(dspec_event *event, uint32_t slot, uint64_t claim) {
     pthread_mutex_unlock(&claiming);
 }
 
-bool event_adds(body *of, dspec_event *event, uint64_t claim) {
+bool event_adds(body *tracer, dspec_event *event, uint64_t claim) {
     bool is_there = true;
     pthread_mutex_lock(&claiming);
-    if (event->claims[of->slot] == 0) {
-        dspec_event **grown = realloc(of->added, (of->added_count + 1) * sizeof *grown);
+    if (event->claims[tracer->slot] == 0) {
+        dspec_event **grown = realloc(tracer->added, (tracer->added_count + 1) * sizeof *grown);
         is_there = grown != NULL;
         if (is_there) {
-            of->added = grown;
-            of->added[of->added_count++] = event;
-            set_claim(event, of->slot, claim);
+            tracer->added = grown;
+            tracer->added[tracer->added_count++] = event;
+            set_claim(event, tracer->slot, claim);
         }
     }
     pthread_mutex_unlock(&claiming);
     return is_there;
 }
 
-void event_goes(body *of, dspec_event *event) {
+void event_goes(body *tracer, dspec_event *event) {
     pthread_mutex_lock(&claiming);
-    for (size_t at = of->added_count; at-- > 0;) {
-        if (of->added[at] != event) continue;
-        set_claim(event, of->slot, 0);
-        of->added[at] = of->added[--of->added_count];
+    for (size_t at = tracer->added_count; at-- > 0;) {
+        if (tracer->added[at] != event) continue;
+        set_claim(event, tracer->slot, 0);
+        tracer->added[at] = tracer->added[--tracer->added_count];
     }
     pthread_mutex_unlock(&claiming);
 }
 
-void events_forget(body *of) {
+void events_forget(body *tracer) {
     pthread_mutex_lock(&claiming);
-    for (uint32_t i = 0; of->events != NULL && of->events[i] != NULL; i++) set_claim(of->events[i]->event, of->slot, 0);
-    for (size_t i = 0; i < of->added_count; i++) set_claim(of->added[i], of->slot, 0);
-    of->added_count = 0;
+    for (uint32_t i = 0; tracer->events != NULL && tracer->events[i] != NULL; i++) set_claim(tracer->events[i]->event, tracer->slot, 0);
+    for (size_t i = 0; i < tracer->added_count; i++) set_claim(tracer->added[i], tracer->slot, 0);
+    tracer->added_count = 0;
     pthread_mutex_unlock(&claiming);
 }
 
 /* claim: what its records claim (dspec_put). */
-static dspec_status enable(body *of, const dspec_enabling *one, uint64_t *claim, struct naming *naming) {
+static dspec_status enable(body *tracer, const dspec_enabling *enabling, uint64_t *claim, struct naming *naming) {
     uint32_t epid, signature;
     uint8_t widths[DSPEC_MAX_FIELDS + 1];
     size_t n;
     dspec_status status;
-    enabling_widths(one, widths, &n);
-    status = dspec_probe_enable(&of->layout, &of->schema, widths, n, &epid, &signature);
+    enabling_widths(enabling, widths, &n);
+    status = dspec_probe_enable(&tracer->layout, &tracer->schema, widths, n, &epid, &signature);
     if (status != DSPEC_OK) return status;
     *claim = (uint64_t)signature << 32 | epid;
-    dspec_names_event(&naming->names, escaped(naming, one->name, false));
+    dspec_names_event(&naming->names, escaped(naming, enabling->name, false));
     dspec_names_wide(&naming->names, "dspec_path", DSPEC_KIND_UNSIGNED, 4);
-    for (size_t i = 0; i < one->n; i++) {
-        dspec_names_wide(&naming->names, escaped(naming, one->fields[i], true), one->kinds[i], one->widths[i]);
-        if (one->labels != NULL) dspec_names_labels(&naming->names, one->labels[i]);
+    for (size_t i = 0; i < enabling->n; i++) {
+        dspec_names_wide(&naming->names, escaped(naming, enabling->fields[i], true), enabling->kinds[i], enabling->widths[i]);
+        if (enabling->labels != NULL) dspec_names_labels(&naming->names, enabling->labels[i]);
     }
     return DSPEC_OK;
 }
@@ -139,55 +140,55 @@ static const dspec_enabling own[] = {
 };
 const dspec_enabling *const own_events[] = { &own[0], &own[1], &own[2], &own[3], &own[4], &own[5], &own[6], &own[7], NULL };
 
-void enabling_widths(const dspec_enabling *one, uint8_t widths[DSPEC_MAX_FIELDS + 1], size_t *n) {
+void enabling_widths(const dspec_enabling *enabling, uint8_t widths[DSPEC_MAX_FIELDS + 1], size_t *n) {
     size_t count = 0;
     widths[count++] = 4;
-    for (size_t i = 0; i < one->n && count <= DSPEC_MAX_FIELDS; i++) widths[count++] = one->widths[i];
+    for (size_t i = 0; i < enabling->n && count <= DSPEC_MAX_FIELDS; i++) widths[count++] = enabling->widths[i];
     *n = count;
 }
 
 /* What the numbers of `why` are called: the tracer's, and after them the program's. */
-static void name_whys(body *of) {
-    const dspec_labels *more = of->options.whys;
-    for (of->why_count = 0; of->why_count < DSPEC_WHY_OWN; of->why_count++) of->why_texts[of->why_count] = why_texts[of->why_count];
-    for (size_t i = 0; more != NULL && more->count != NULL && i < *more->count && of->why_count < MAX_WHYS; i++) of->why_texts[of->why_count++] = more->texts[i];
-    of->whys = (dspec_labels){ of->why_texts, &of->why_count };
+static void name_whys(body *tracer) {
+    const dspec_labels *more = tracer->options.whys;
+    for (tracer->why_count = 0; tracer->why_count < DSPEC_WHY_OWN; tracer->why_count++) tracer->why_texts[tracer->why_count] = why_texts[tracer->why_count];
+    for (size_t i = 0; more != NULL && more->count != NULL && i < *more->count && tracer->why_count < MAX_WHYS; i++) tracer->why_texts[tracer->why_count++] = more->texts[i];
+    tracer->whys = (dspec_labels){ tracer->why_texts, &tracer->why_count };
 }
 
-static dspec_status enable_own(body *of, struct naming *naming) {
+static dspec_status enable_own(body *tracer, struct naming *naming) {
     uint64_t claims[sizeof own / sizeof own[0]] = { 0 };
     dspec_status status = DSPEC_OK;
-    name_whys(of);
-    of->labels[3] = &of->whys;
+    name_whys(tracer);
+    tracer->labels[3] = &tracer->whys;
     for (size_t i = 0; own_events[i] != NULL && status == DSPEC_OK; i++) {
-        dspec_enabling one = own[i];
-        if (i == OWN_PATH) one.labels = of->labels;
-        status = enable(of, &one, &claims[i], naming);
+        dspec_enabling enabling = own[i];
+        if (i == OWN_PATH) enabling.labels = tracer->labels;
+        status = enable(tracer, &enabling, &claims[i], naming);
     }
-    of->epid_of_crash = (uint32_t)claims[OWN_CRASH];
-    of->epid_of_place = (uint32_t)claims[OWN_PLACE];
-    of->epid_of_signal = (uint32_t)claims[OWN_SIGNAL];
-    of->epid_of_unsaved = (uint32_t)claims[OWN_UNSAVED];
-    of->claim_of_path = claims[OWN_PATH];
-    of->claim_of_thread = claims[OWN_THREAD];
-    of->claim_of_counts = claims[OWN_COUNTS];
-    of->claim_of_refused = claims[OWN_REFUSED];
+    tracer->epid_of_crash = (uint32_t)claims[OWN_CRASH];
+    tracer->epid_of_place = (uint32_t)claims[OWN_PLACE];
+    tracer->epid_of_signal = (uint32_t)claims[OWN_SIGNAL];
+    tracer->epid_of_unsaved = (uint32_t)claims[OWN_UNSAVED];
+    tracer->claim_of_path = claims[OWN_PATH];
+    tracer->claim_of_thread = claims[OWN_THREAD];
+    tracer->claim_of_counts = claims[OWN_COUNTS];
+    tracer->claim_of_refused = claims[OWN_REFUSED];
     return status;
 }
 
 /* The events that the tracer was handed, each with what its records claim in this tracer. */
-dspec_status enable_all(body *of, const dspec_enabling *const *events, struct naming *naming) {
-    dspec_status status = dspec_schema_new(&of->schema);
-    if (status == DSPEC_OK) status = dspec_schema_stamp(&of->schema);
-    of->layout.stamped = true;
+dspec_status enable_all(body *tracer, const dspec_enabling *const *events, struct naming *naming) {
+    dspec_status status = dspec_schema_new(&tracer->schema);
+    if (status == DSPEC_OK) status = dspec_schema_stamp(&tracer->schema);
+    tracer->layout.stamped = true;
     for (size_t i = 0; status == DSPEC_OK && events[i] != NULL; i++) {
         uint64_t claim = 0;
-        status = enable(of, events[i], &claim, naming);
+        status = enable(tracer, events[i], &claim, naming);
         if (status != DSPEC_OK) break;
-        of->events[i] = events[i];
-        of->claims[i] = claim;
-        event_claims(events[i]->event, of->slot, claim);
+        tracer->events[i] = events[i];
+        tracer->claims[i] = claim;
+        event_claims(events[i]->event, tracer->slot, claim);
     }
-    if (status == DSPEC_OK) status = enable_own(of, naming);
+    if (status == DSPEC_OK) status = enable_own(tracer, naming);
     return status;
 }

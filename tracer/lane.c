@@ -21,24 +21,24 @@ bool barrier_is_there(void) {
 
 /* Has each thread of the process come to an order with what this one did before. A system that refuses that since the start, as by a filter of system calls, has lanes taken by their locks from
  * now on; for the threads that are on one without its lock, time brings the order. */
-static void order(body *of) {
+static void order(body *tracer) {
     const int saved = errno;
-    if (LOAD(&of->locked) || syscall(SYS_membarrier, MEMBARRIER_PRIVATE_EXPEDITED, 0, 0) != 0) {
-        STORE(&of->locked, 1);
+    if (LOAD(&tracer->locked) || syscall(SYS_membarrier, MEMBARRIER_PRIVATE_EXPEDITED, 0, 0) != 0) {
+        STORE(&tracer->locked, 1);
         sleep_for(STORED_US);
     }
     errno = saved;
 }
 
-static bool is_inside(const lane *on) { return __atomic_load_n(&on->front.inside, __ATOMIC_ACQUIRE) != 0; }
+static bool is_inside(const struct lane *lane) { return __atomic_load_n(&lane->front.inside, __ATOMIC_ACQUIRE) != 0; }
 
 /* Whether a lane of this state has an owner, who takes no lock. */
 static bool is_alone(uint32_t state) { return state >= USER && !(state & SHARED); }
 
 /* Whether the thread whose lane this is has left its call; the caller has set HELD. */
-static bool is_left(const lane *on, patience *left) {
-    order(on->of);
-    while (is_inside(on)) {
+static bool is_left(const struct lane *lane, patience *left) {
+    order(lane->tracer);
+    while (is_inside(lane)) {
         if (is_spent(left)) return false;
         wait_on(left);
     }
@@ -46,137 +46,149 @@ static bool is_left(const lane *on, patience *left) {
 }
 
 /* Into a call on the thread's own lane, once more: whether nobody was in the way. */
-static bool enter_alone(lane *on, uint32_t state) {
-    if (state & IDLE) state_clear(on, IDLE); /* the consumer has to look again */
-    return dspec_tracer_enter_(&on->front);
+static bool enter_alone(struct lane *lane, uint32_t state) {
+    if (state & IDLE) {
+        state_clear(lane, IDLE); /* the consumer has to look again */
+        consumer_stirs(lane->tracer);
+    }
+    return dspec_tracer_enter_(&lane->front);
 }
 
 /* Into a call by the lane's lock: whether it was free. Where the lane was one thread's alone, that one takes the lock from now on. */
-static bool enter_locked(lane *on, uint32_t state, patience *left) {
+static bool enter_locked(struct lane *lane, uint32_t state, patience *left) {
     const bool was_alone = is_alone(state);
-    if (!state_becomes(on, &state, (state & ~(uint32_t)IDLE) | HELD | (was_alone ? SHARED : 0u))) return false;
-    if (!was_alone || is_left(on, left)) return true;
-    state_clear(on, HELD | SHARED);
+    if (!state_becomes(lane, &state, (state & ~(uint32_t)IDLE) | HELD | (was_alone ? SHARED : 0u))) return false;
+    if (state & IDLE) consumer_stirs(lane->tracer);
+    if (!was_alone || is_left(lane, left)) return true;
+    state_clear(lane, HELD | SHARED);
     return false;
 }
 
-way lane_enter_slowly(seat *me, lane *on) {
+way lane_enter_slowly(dspec_tracer_seat *seat, struct lane *lane) {
     patience left = patience_of(ENTER_US);
     for (;;) {
-        const uint32_t state = state_of(on);
+        const uint32_t state = state_of(lane);
         if (state & GONE) {
-            ADD(&on->of->late, 1);
+            ADD(&lane->tracer->late, 1);
             return NOT_IN;
         }
         if (!(state & (HELD | WANTED))) {
-            const way how = &on->front != me->own || state & SHARED ? BY_LOCK : ALONE;
-            if (how == BY_LOCK ? enter_locked(on, state, &left) : enter_alone(on, state)) return how;
+            const way how = &lane->front != seat->own || state & SHARED ? BY_LOCK : ALONE;
+            if (how == BY_LOCK ? enter_locked(lane, state, &left) : enter_alone(lane, state)) return how;
         }
         if (is_spent(&left)) break;
         wait_on(&left);
     }
-    ADD(&on->of->waited, 1);
+    ADD(&lane->tracer->waited, 1);
+    consumer_stirs(lane->tracer);
     return NOT_IN;
 }
 
 /* ---- Which lane. ---- */
 
-/* The lane so many behind the one that the thread had last. */
-static lane *lane_behind(body *of, const seat *me, uint32_t many) {
-    uint32_t at = lane_of(me->last)->number + many;
-    return &of->lanes[at < of->count ? at : at - of->count];
+/* The lane so many after the one that the thread had last. */
+static struct lane *lane_behind(body *tracer, const dspec_tracer_seat *seat, uint32_t many) {
+    uint32_t at = lane_of(seat->last)->number + many;
+    return &tracer->lanes[at < tracer->count ? at : at - tracer->count];
 }
 
-/* Makes a lane that nobody is on the thread's own, the one that it had last before others. users: its own claim, and that of a path where it is for one. */
-static lane *claim(body *of, seat *me, uint32_t users) {
-    for (uint32_t i = 0; i < of->count; i++) {
-        lane *on = lane_behind(of, me, i);
-        uint32_t state = LOAD(&on->front.state);
-        while (state < USER && !(state & GONE)) {
-            uint32_t is = (LOAD(&of->locked) ? state : state & ~(uint32_t)SHARED) + users * USER;
-            if (!state_becomes(on, &state, is)) continue;
-            STORE(&on->handed, 0);
-            me->last = &on->front;
-            seat_owns(me, &on->front);
-            return on;
-        }
+/* Makes a lane that nobody is on the thread's own: whether it is. users: its own claim, and that of a path where it is for one. */
+INTO_CALLER bool claims(const body *tracer, dspec_tracer_seat *seat, struct lane *lane, uint32_t users) {
+    uint32_t state = LOAD(&lane->front.state);
+    while (state < USER && !(state & GONE)) {
+        const uint32_t is = (LOAD(&tracer->locked) ? state : state & ~(uint32_t)SHARED) + users * USER;
+        if (!LIKELY(state_becomes(lane, &state, is))) continue;
+        STORE(&lane->handed, 0);
+        seat->last = &lane->front;
+        seat_owns(seat, &lane->front);
+        return true;
+    }
+    return false;
+}
+
+/* Of any lane, the one that the thread had last before others; NULL: somebody is on each. */
+static struct lane *claim(body *tracer, dspec_tracer_seat *seat, uint32_t users) {
+    for (uint32_t i = 0; i < tracer->count; i++) {
+        struct lane *lane = lane_behind(tracer, seat, i);
+        if (claims(tracer, seat, lane, users)) return lane;
     }
     return NULL;
 }
 
 /* The lane that the fewest are on. */
-static lane *least(body *of) {
-    lane *found = &of->lanes[0];
-    for (uint32_t i = 1; i < of->count; i++)
-        if (LOAD(&of->lanes[i].front.state) / USER < LOAD(&found->front.state) / USER) found = &of->lanes[i];
+static struct lane *least(body *tracer) {
+    struct lane *found = &tracer->lanes[0];
+    for (uint32_t i = 1; i < tracer->count; i++)
+        if (LOAD(&tracer->lanes[i].front.state) / USER < LOAD(&found->front.state) / USER) found = &tracer->lanes[i];
     return found;
 }
 
-static bool has_room(const body *of, const lane *on) { return LOAD(&on->front.state) / USER <= of->options.paths; }
+static bool has_room(const body *tracer, const struct lane *lane) { return LOAD(&lane->front.state) / USER <= tracer->options.paths; }
 
-lane *lane_shared(body *of, uint32_t number) {
-    lane *on = &of->lanes[number];
-    if (!has_room(of, on)) return NULL;
-    __atomic_fetch_add(&on->front.state, USER, __ATOMIC_SEQ_CST);
-    return on;
+struct lane *lane_shared(body *tracer, uint32_t number) {
+    struct lane *lane = &tracer->lanes[number];
+    if (!has_room(tracer, lane)) return NULL;
+    __atomic_fetch_add(&lane->front.state, USER, __ATOMIC_SEQ_CST);
+    return lane;
 }
 
 /* What other threads ended of this one's paths is counted now. A lane that they ended the last path of is nobody's own, and a thread that hands its paths on claims none for the next ones: it
  * would keep it while it waits for work. */
-RARELY static void take_back(seat *me, lane *on) {
-    me->open = (uint16_t)(me->open - __atomic_exchange_n(&on->handed, 0, __ATOMIC_RELAXED));
-    if (me->open != 0 || on->of->by_thread) return;
-    seat_owns(me, NULL);
-    __atomic_fetch_sub(&on->front.state, USER, __ATOMIC_SEQ_CST);
+RARELY static void take_back(dspec_tracer_seat *seat, struct lane *lane) {
+    seat->open = (uint16_t)(seat->open - __atomic_exchange_n(&lane->handed, 0, __ATOMIC_RELAXED));
+    if (seat->open != 0 || lane->tracer->by_thread) return;
+    seat_owns(seat, NULL);
+    __atomic_fetch_sub(&lane->front.state, USER, __ATOMIC_SEQ_CST);
     dspec_here.hands_on = HANDS_ON;
 }
 
-lane *lane_for_path(body *of, seat *me) {
-    lane *on = lane_of(me->own);
-    if (on != NULL && !LIKELY(LOAD(&on->handed) == 0)) {
-        take_back(me, on);
-        on = lane_of(me->own);
+struct lane *lane_for_path(body *tracer, dspec_tracer_seat *seat) {
+    struct lane *lane = lane_of(seat->own);
+    if (lane == NULL && LIKELY(dspec_here.hands_on == 0) && LIKELY(claims(tracer, seat, lane_of(seat->last), 2))) return lane_of(seat->last);
+    if (lane != NULL && !LIKELY(LOAD(&lane->handed) == 0)) {
+        take_back(seat, lane);
+        lane = lane_of(seat->own);
     }
-    if (on == NULL && !LIKELY(dspec_here.hands_on == 0)) dspec_here.hands_on--;
-    else if (on == NULL && (on = claim(of, me, 2)) != NULL) return on;
-    return lane_shared(of, on == NULL || !has_room(of, on) ? least(of)->number : on->number);
+    if (lane == NULL && !LIKELY(dspec_here.hands_on == 0)) dspec_here.hands_on--;
+    else if (lane == NULL && (lane = claim(tracer, seat, 2)) != NULL) return lane;
+    return lane_shared(tracer, lane == NULL || !has_room(tracer, lane) ? least(tracer)->number : lane->number);
 }
 
-lane *lane_for_record(body *of, seat *me) {
-    lane *on = lane_of(me->own);
-    if (on != NULL || (of->by_thread && (on = claim(of, me, 1)) != NULL)) return on;
-    for (uint32_t i = 0; i < of->count; i++) {
+struct lane *lane_for_record(body *tracer, dspec_tracer_seat *seat) {
+    struct lane *lane = lane_of(seat->own);
+    if (lane != NULL || (tracer->by_thread && (lane = claim(tracer, seat, 1)) != NULL)) return lane;
+    for (uint32_t i = 0; i < tracer->count; i++) {
         uint32_t state;
-        on = lane_behind(of, me, i);
-        state = LOAD(&on->front.state);
-        if (state < USER && !(state & (HELD | WANTED))) return me->last = &on->front, on;
+        lane = lane_behind(tracer, seat, i);
+        state = LOAD(&lane->front.state);
+        if (state < USER && !(state & (HELD | WANTED))) return seat->last = &lane->front, lane;
     }
-    return lane_of(me->last);
+    return lane_of(seat->last);
 }
 
 /* ---- The consumer. ---- */
 
-bool lane_take(lane *on, uint32_t bits, patience *left) {
+bool lane_take(struct lane *lane, uint32_t bits, patience *left) {
     bool is_held = false, alone = false, has;
     left->since = 0; /* a nap on one lane would keep the thread of the next one waiting */
     for (;;) {
         const bool is_last = is_spent(left);
         if (!is_held) {
-            const uint32_t was = state_set(on, HELD | WANTED | bits);
+            const uint32_t was = state_set(lane, HELD | WANTED | bits);
             is_held = !(was & HELD);
             alone = is_held && is_alone(was);
-            if (alone) order(on->of);
+            if (alone) order(lane->tracer);
         }
-        has = is_held && !(alone && is_inside(on));
+        has = is_held && !(alone && is_inside(lane));
         if (has || is_last) break;
         wait_on(left);
     }
-    if (has && alone && LOAD(&on->of->locked)) state_set(on, SHARED);
-    state_clear(on, is_held && !has ? WANTED | HELD : WANTED);
+    if (has && alone && LOAD(&lane->tracer->locked)) state_set(lane, SHARED);
+    state_clear(lane, is_held && !has ? WANTED | HELD : WANTED);
     return has;
 }
 
-void lane_release(lane *on, uint32_t set) {
-    if (set != 0) state_set(on, set);
-    state_clear(on, HELD | SERVE);
+void lane_release(struct lane *lane, uint32_t set) {
+    if (set != 0) state_set(lane, set);
+    state_clear(lane, HELD | SERVE);
 }

@@ -12,81 +12,53 @@ static void is_over(dspec_path *path) {
     path->token = 0;
 }
 
-RARELY static void serve(lane *on) {
+RARELY static void serve(struct lane *lane) {
     bool is_empty;
-    state_clear(on, SERVE);
-    lane_serve(on, &is_empty);
+    state_clear(lane, SERVE);
+    lane_serve(lane, &is_empty);
 }
 
 /* What the consumer asked for, where this thread comes by: so it never waits for the consumer. */
-static inline void serve_if_asked(lane *on) {
-    if (!LIKELY(!(LOAD(&on->front.state) & SERVE))) serve(on);
+static inline void serve_if_asked(struct lane *lane) {
+    if (!LIKELY(!(LOAD(&lane->front.state) & SERVE))) serve(lane);
 }
 
 /* Each 64th that finds no room wakes the consumer, whose round makes some. */
-static void wants_room(body *of) {
-    if (ADD(&of->no_room, 1) % 64 == 0) consumer_wakes(of);
+static void wants_room(body *tracer) {
+    if (ADD(&tracer->no_room, 1) % 64 == 0) consumer_wakes(tracer);
+    else consumer_stirs(tracer);
 }
 
-/* A place of a lane, which the compiler finds once. */
-static inline open_path *place_at(lane *on, uint32_t place) {
-    open_path *one = &on->open[place];
-    __asm__("" : "+r"(one));
-    return one;
-}
-
-/* Notes an open path in its lane, which the caller is in: whether there was a place. There are as many as a lane has paths, so that each finds the speculations that it needs. */
-static bool note(lane *on, dspec_path *path, bool own, uint64_t now) {
-    const uint32_t places = on->of->options.paths;
-    for (uint32_t i = 0, place = (uint32_t)path->id % MAX_OPEN; i < places; i++, place++) {
-        if (!LIKELY(place < places)) place = 0;
-        open_path *one = place_at(on, place);
-        if (!LIKELY(one->id == 0)) continue;
-        one->older = one->cut = 0;
-        one->begun = now;
-        one->mark = path->mark;
-        one->thread = dspec_here.thread;
-        one->own = own;
-        one->saved = one->waits = one->is_prepared = one->has_event = one->has_key = one->has_first = one->has_part = false;
-        STORE(&one->token, dspec_tracer_token_4);
-        __atomic_store_n(&one->id, path->id, __ATOMIC_RELEASE);
-        path->place = (uint16_t)place;
-        return true;
-    }
-    return false;
+/* What a lane has of a path beside the table. */
+INTO_CALLER void note(struct lane *lane, uint32_t place, const dspec_path *path, uint32_t token, bool own) {
+    open_path *opened = place_at(lane, place);
+    opened->thread = dspec_here.thread;
+    opened->own = own;
+    opened->waits = opened->is_prepared = opened->has_event = opened->has_part = opened->has_key = opened->has_first = false;
+    opened->first_words = 0;
+    STORE(&opened->token, token);
+    __atomic_store_n(&opened->mark, path->mark, __ATOMIC_RELEASE);
 }
 
 /* A number that no open path of another lane has: each lane has every so many, from the first one on again after the last. 0 is no path's. */
-static uint32_t next_number(lane *on) {
-    if (!LIKELY(!__builtin_add_overflow(on->opened, on->of->count, &on->opened))) on->opened = on->number + 1;
-    return on->opened;
+static uint32_t next_number(struct lane *lane) {
+    if (!LIKELY(!__builtin_add_overflow(lane->opened, lane->tracer->count, &lane->opened))) lane->opened = lane->number + 1;
+    return lane->opened;
 }
 
 /* Opens a path on a lane, which the caller is in: whether there is a slot. own: whether it is the thread's own. */
-static bool open_on(lane *on, dspec_path *path, bool own, uint64_t now) {
-    uint32_t count;
-    if (dspec_speculation(&on->front.cpu, &path->id) != DSPEC_OK) return false;
-    path->mark = (uint64_t)next_number(on) << 32;
-    if (!note(on, path, own, now)) {
-        dspec_discard(&on->front.cpu, path->id, &count);
-        return false;
-    }
-    path->lane = &on->front;
+INTO_CALLER bool open_on(struct lane *lane, dspec_path *path, bool own, uint64_t now) {
+    const uint32_t token = dspec_tracer_token_5;
+    uint32_t place;
+    path->mark = (uint64_t)next_number(lane) << 32;
+    if (dspec_paths_begin(&lane->paths, &lane->front.cpu, (uint32_t)(path->mark >> 32), token, now, &place, &path->id) != DSPEC_OK) return false;
+    note(lane, place, path, token, own);
+    path->place = (uint16_t)place;
+    path->lane = &lane->front;
     path->begun = now;
     path->own = own;
-    path->token = own ? dspec_tracer_token_4 : 0;
+    path->token = own ? token : 0;
     return true;
-}
-
-/* With keep_last a path's first record stands aside, for the case that it is thrown away: it names the request. */
-RARELY static void note_first(lane *on, const dspec_path *path, uint64_t claim, uint64_t first, const uint64_t *words, size_t n) {
-    open_path *one = &on->open[path->place];
-    if (one->has_first || n > MOST_WORDS) return;
-    one->has_first = true;
-    one->first_words = n;
-    one->first_claim = claim;
-    memcpy(one->first, words, 8 * n);
-    one->first[0] = first;
 }
 
 RARELY dspec_status dspec_tracer_put_long(dspec_cpu *cpu, uint64_t id, uint64_t claim, uint64_t now, uint64_t first, const uint64_t *words, size_t n) {
@@ -97,133 +69,214 @@ RARELY dspec_status dspec_tracer_put_long(dspec_cpu *cpu, uint64_t id, uint64_t 
     return dspec_put_in(cpu, id, claim, now, all, n);
 }
 
-/* A record of a path on its lane, which the caller is in. */
-static inline dspec_status put_on(lane *on, dspec_path *path, const dspec_event *event, const uint64_t *words, size_t n, uint64_t now) {
-    const uint64_t claim = dspec_tracer_claim_(event, on->front.slot), first = words[0] | path->mark;
+/* A record of a path, into the speculation that it has on its lane, which the caller is in. */
+INTO_CALLER dspec_status put_once(struct lane *lane, const dspec_path *path, uint64_t claim, const uint64_t *words, size_t n, uint64_t now) {
+    STORE(&dspec_tracer_recent_5, path->mark);
+    return dspec_tracer_put_in_(&lane->front.cpu, path->id, claim, now, words[0] | path->mark, words, n);
+}
+
+/* The same, in a further speculation where one is full. */
+static dspec_status put_on(struct lane *lane, dspec_path *path, const dspec_event *event, const uint64_t *words, size_t n, uint64_t now) {
     dspec_status status;
-    STORE(&dspec_tracer_recent_4, path->mark);
-    if (!LIKELY(!on->of->options.keep_last)) note_first(on, path, claim, first, words, n);
     do {
-        status = dspec_tracer_put_in_(&on->front.cpu, path->id, claim, now, first, words, n);
+        status = put_once(lane, path, dspec_tracer_claim_(event, lane->front.slot), words, n, now);
     } while (!LIKELY(status == DSPEC_OK) && dspec_path_turn(path, event, status));
     return status;
 }
 
 /* A record of an event that the tracer wasn't handed is counted, and the first such event is named. */
-RARELY static void count_missing(body *of, const dspec_event *event) {
+RARELY static void count_missing(body *tracer, const dspec_event *event) {
     uint32_t none = 0;
-    ADD(&of->missing, 1);
-    if (!__atomic_compare_exchange_n(&of->missing_state, &none, 1, false, __ATOMIC_RELAXED, __ATOMIC_RELAXED)) return;
-    if (event->name != NULL) memcpy(of->missing_name, event->name, strnlen(event->name, sizeof of->missing_name - 1));
-    __atomic_store_n(&of->missing_state, 2, __ATOMIC_RELEASE);
+    ADD(&tracer->missing, 1);
+    consumer_stirs(tracer);
+    if (!__atomic_compare_exchange_n(&tracer->missing_state, &none, 1, false, __ATOMIC_RELAXED, __ATOMIC_RELAXED)) return;
+    if (event->name != NULL) memcpy(tracer->missing_name, event->name, strnlen(event->name, sizeof tracer->missing_name - 1));
+    __atomic_store_n(&tracer->missing_state, 2, __ATOMIC_RELEASE);
 }
 
 /* A record of an event that is switched off, or that the tracer doesn't have. */
-RARELY static dspec_status not_enabled(body *of, const dspec_event *event) {
-    if (!LOAD(&of->up)) return DSPEC_STOPPED;
-    if (dspec_tracer_claim_(event, of->slot) == DSPEC_TRACER_OFF_) return DSPEC_VOID;
-    count_missing(of, event);
+RARELY static dspec_status not_enabled(body *tracer, const dspec_event *event) {
+    if (!LOAD(&tracer->up)) return DSPEC_STOPPED;
+    if (dspec_tracer_claim_(event, tracer->slot) == DSPEC_TRACER_OFF_) return DSPEC_VOID;
+    count_missing(tracer, event);
     return DSPEC_BAD_RECORD;
 }
 
-/* With keep_last a path whose speculation is full goes on in a new one, and the one before the full one is thrown away. */
-static bool turn(lane *on, dspec_path *path) {
-    open_path *one = &on->open[path->place];
-    uint64_t id;
-    uint32_t count;
-    if (!on->of->options.keep_last || dspec_speculation(&on->front.cpu, &id) != DSPEC_OK) return false;
-    if (one->older != 0 && dspec_discard(&on->front.cpu, one->older, &count) == DSPEC_OK) one->cut += count;
-    one->older = path->id;
-    path->id = id;
-    STORE(&one->id, id);
-    on->turned++;
+/* With keep_last a path whose speculation is full goes on in a new one. */
+static bool turn(struct lane *lane, dspec_path *path) {
+    if (!lane->tracer->options.keep_last || dspec_paths_turn(&lane->paths, &lane->front.cpu, path->place, path->id, &path->id) != DSPEC_OK) return false;
+    lane->turned++;
     return true;
 }
 
 RARELY bool dspec_path_turn(dspec_path *path, const dspec_event *event, dspec_status status) {
-    lane *on = lane_of(path->lane);
-    if (status == DSPEC_DROPPED) return turn(on, path);
-    if (status == DSPEC_BAD_RECORD && dspec_tracer_claim_(event, on->front.slot) <= DSPEC_TRACER_OFF_) count_missing(on->of, event);
+    struct lane *lane = lane_of(path->lane);
+    if (status == DSPEC_DROPPED) return turn(lane, path);
+    if (status == DSPEC_BAD_RECORD && dspec_tracer_claim_(event, lane->front.slot) <= DSPEC_TRACER_OFF_) count_missing(lane->tracer, event);
+    return false;
+}
+
+/* With keep_last as many paths are open as find the speculations that they may need. */
+static bool is_full(const struct lane *lane) {
+    uint32_t open = 0;
+    for (uint32_t place = 0; place < MAX_OPEN; place++) open += lane->open[place].mark != 0;
+    return open >= lane->tracer->options.paths;
+}
+
+/* With keep_last a path's first record is set aside, in case it is thrown away: it names the request. */
+static void note_first(struct lane *lane, const dspec_path *path, const dspec_event *event, const uint64_t *words, size_t n) {
+    open_path *opened = &lane->open[path->place];
+    if (n > MOST_WORDS) return;
+    opened->has_first = true;
+    opened->first_words = (uint8_t)n;
+    opened->first_claim = dspec_tracer_claim_(event, lane->front.slot);
+    memcpy(opened->first, words, 8 * n);
+    opened->first[0] |= path->mark;
+}
+
+RARELY static dspec_status begin_keeping_last(struct lane *lane, dspec_path *path, bool own, const dspec_event *event, const uint64_t *words, size_t n) {
+    const uint64_t now = dspec_tracer_stamp_(&lane->front.clock);
+    if (is_full(lane) || !open_on(lane, path, own, now)) return DSPEC_UNAVAILABLE;
+    note_first(lane, path, event, words, n);
+    return put_on(lane, path, event, words, n, now);
+}
+
+/* A path's first record, in the call on a lane that it is counted on. own: it is the thread's own lane. DSPEC_UNAVAILABLE: there is no slot, so that it didn't begin. */
+INTO_CALLER dspec_status begin_in(struct lane *lane, dspec_path *path, bool own, const dspec_event *event, uint64_t claim, const uint64_t *words, size_t n) {
+    if (!LIKELY(!lane->tracer->options.keep_last)) return begin_keeping_last(lane, path, own, event, words, n);
+    const uint64_t now = dspec_tracer_stamp_(&lane->front.clock);
+    return LIKELY(open_on(lane, path, own, now)) ? put_once(lane, path, claim, words, n, now) : DSPEC_UNAVAILABLE;
+}
+
+/* The same from outside the lane: whether it began there. status: of the record, or why it didn't. */
+INTO_CALLER bool begin_on(struct lane *lane, dspec_tracer_seat *seat, dspec_path *path, const dspec_event *event, const uint64_t *words, size_t n, dspec_status *status) {
+    const bool own = &lane->front == seat->own;
+    const way in = lane_enter(seat, lane);
+    bool has_begun = false;
+    seat->open += own;
+    *status = DSPEC_STOPPED;
+    if (LIKELY(in != NOT_IN)) {
+        *status = begin_in(lane, path, own, event, dspec_tracer_claim_(event, lane->front.slot), words, n);
+        has_begun = *status != DSPEC_UNAVAILABLE;
+        lane_leave(lane, in);
+    }
+    if (!LIKELY(has_begun)) lane_path_off(seat, lane, own);
+    return has_begun;
+}
+
+/* A path's first record of a thread that has no lane, on the one that it had last, where nobody is on that. DSPEC_UNAVAILABLE: it didn't begin, and all is as it was. The thread is in the tracer. */
+INTO_CALLER dspec_status begin_on_last(dspec_tracer_seat *seat, dspec_path *path, const dspec_event *event, const uint64_t *words, size_t n) {
+    dspec_status status = DSPEC_UNAVAILABLE;
+    if (!LIKELY(path->lane == NULL)) return status;
+    if (!LIKELY(seat->plain == LOAD(&path->tracer->run)) || !LIKELY(dspec_here.hands_on == 0)) return status;
+    struct lane *lane = lane_of(seat->last);
+    const uint64_t claim = dspec_tracer_claim_(event, lane->front.slot);
+    if (!LIKELY(claim > DSPEC_TRACER_OFF_) || !LIKELY(lane_claim_last(seat, lane))) return status;
+    seat->open = 1;
+    if (LIKELY(dspec_tracer_enter_(&lane->front))) {
+        status = begin_in(lane, path, true, event, claim, words, n);
+        dspec_tracer_leave_(&lane->front);
+    }
+    if (!LIKELY(status != DSPEC_UNAVAILABLE)) lane_path_off(seat, lane, true);
+    return status;
+}
+
+/* The same from outside the tracer. */
+INTO_CALLER dspec_status begin_quickly(dspec_path *path, const dspec_event *event, const uint64_t *words, size_t n) {
+    dspec_tracer_seat *seat = dspec_tracer_seat_of_(path->tracer);
+    if (!LIKELY(!seat->busy)) return DSPEC_UNAVAILABLE;
+    seat_sits(seat);
+    const dspec_status status = begin_on_last(seat, path, event, words, n);
+    seat_leave(seat);
+    return status;
+}
+
+/* On any lane, where the one that the thread would take has no slot. */
+RARELY static bool begin_elsewhere(body *tracer, dspec_tracer_seat *seat, dspec_path *path, const dspec_event *event, const uint64_t *words, size_t n, dspec_status *status) {
+    for (uint32_t number = 0; number < tracer->count && *status == DSPEC_UNAVAILABLE; number++) {
+        struct lane *lane = lane_shared(tracer, number);
+        if (lane != NULL && begin_on(lane, seat, path, event, words, n, status)) return true;
+    }
     return false;
 }
 
 /* The first record of a path opens its speculation. Where there is none to be had, the path is refused as a whole. */
-static dspec_status begin(body *of, seat *me, dspec_path *path, const dspec_event *event, const uint64_t *words, size_t n) {
+static dspec_status begin(body *tracer, dspec_tracer_seat *seat, dspec_path *path, const dspec_event *event, const uint64_t *words, size_t n) {
     dspec_status status = DSPEC_UNAVAILABLE;
-    const uint64_t now = dspec_monotonic();
-    for (uint32_t tries = 0; tries <= of->count && status == DSPEC_UNAVAILABLE; tries++) {
-        lane *on = tries == 0 ? lane_for_path(of, me) : lane_shared(of, tries - 1);
-        if (on == NULL) continue;
-        const bool own = &on->front == me->own;
-        me->open += own;
-        const way in = lane_enter(me, on);
-        if (in == NOT_IN) {
-            status = DSPEC_STOPPED;
-        } else if (open_on(on, path, own, now)) {
-            status = put_on(on, path, event, words, n, now);
-            lane_leave(on, in);
-            return status;
-        } else {
-            lane_leave(on, in);
-        }
-        lane_path_off(me, on, own);
-    }
+    struct lane *lane = lane_for_path(tracer, seat);
+    if (LIKELY(lane != NULL) && LIKELY(begin_on(lane, seat, path, event, words, n, &status))) return status;
+    if (begin_elsewhere(tracer, seat, path, event, words, n, &status)) return status;
     is_over(path);
-    STORE(&dspec_tracer_recent_4, REFUSED_PATH);
-    if (!LOAD(&of->up)) return DSPEC_STOPPED;
-    ADD(&of->no_slot, 1);
-    ADD(&of->refused_records, 1);
-    wants_room(of);
+    STORE(&dspec_tracer_recent_5, REFUSED_PATH);
+    if (!LOAD(&tracer->up)) return DSPEC_STOPPED;
+    ADD(&tracer->no_slot, 1);
+    ADD(&tracer->refused_records, 1);
+    wants_room(tracer);
     return DSPEC_UNAVAILABLE;
 }
 
 /* A path is this thread's from now on: whether it is still open. The caller is in its lane. */
-static bool adopt(open_path *one, const dspec_path *path) {
-    if (one->id != path->id) return false;
-    STORE(&one->token, dspec_tracer_token_4);
+static bool adopt(struct lane *lane, const dspec_path *path) {
+    if (dspec_paths_adopt(&lane->paths, path->place, path->id, dspec_tracer_token_5) != DSPEC_OK) return false;
+    STORE(&lane->open[path->place].token, dspec_tracer_token_5);
     return true;
 }
 
+/* Whether the consumer has ended a path, and its thread hasn't. */
+RARELY static bool is_ended(const struct lane *lane, uint64_t mark) {
+    for (uint32_t i = 0; i < lane->ended_count; i++)
+        if (lane->ended[i].mark == mark) return true;
+    return false;
+}
+
 /* A further record of a path: one that comes from another thread, or whose lane several share or the consumer has. */
-static dspec_status go_on(seat *me, dspec_path *path, const dspec_event *event, const uint64_t *words, size_t n) {
-    lane *on = lane_of(path->lane);
+static dspec_status go_on(dspec_tracer_seat *seat, dspec_path *path, const dspec_event *event, const uint64_t *words, size_t n) {
+    struct lane *lane = lane_of(path->lane);
     dspec_status status = DSPEC_VOID;
-    const way in = lane_enter(me, on);
+    const way in = lane_enter(seat, lane);
     if (in == NOT_IN) return DSPEC_STOPPED;
-    if (adopt(place_at(on, path->place), path)) {
-        path->token = path->own && path->lane == me->own ? dspec_tracer_token_4 : 0;
-        status = put_on(on, path, event, words, n, dspec_monotonic());
-    } else {
+    if (adopt(lane, path)) {
+        path->token = path->own && path->lane == seat->own ? dspec_tracer_token_5 : 0;
+        status = put_on(lane, path, event, words, n, dspec_tracer_stamp_(&lane->front.clock));
+    } else if (!is_ended(lane, path->mark)) {
         is_over(path);
     }
-    lane_leave(on, in);
+    lane_leave(lane, in);
     return status;
 }
 
 /* The tracer that a path is of; NULL: none is up, or the path is over. */
 static body *body_of_path(const dspec_path *path) {
     if (path->over) return NULL;
-    return path->lane != NULL ? lane_of(path->lane)->of : body_of(path->tracer);
+    return path->lane != NULL ? lane_of(path->lane)->tracer : body_of(path->tracer);
 }
 
 /* A further record of a path that got no slot is counted; one of a path that began while the tracer was off isn't. */
 RARELY static dspec_status refused(const dspec_path *path) {
-    body *of = path->over == 1 ? body_of(path->tracer) : NULL;
-    STORE(&dspec_tracer_recent_4, REFUSED_PATH);
-    if (of != NULL && LOAD(&of->up)) ADD(&of->refused_records, 1);
+    body *tracer = path->over == 1 ? body_of(path->tracer) : NULL;
+    STORE(&dspec_tracer_recent_5, REFUSED_PATH);
+    if (tracer != NULL && LOAD(&tracer->up)) {
+        ADD(&tracer->refused_records, 1);
+        consumer_stirs(tracer);
+    }
     return DSPEC_UNAVAILABLE;
 }
 
-dspec_status dspec_path_put_slowly_(dspec_path *path, const dspec_event *event, const uint64_t *words, size_t n) {
-    body *of = body_of_path(path);
-    seat *me;
+static dspec_status put_slowly(dspec_path *path, const dspec_event *event, const uint64_t *words, size_t n) {
+    body *tracer = body_of_path(path);
+    dspec_tracer_seat *seat;
     dspec_status status;
-    if (of == NULL) return path->lane != NULL ? DSPEC_VOID : refused(path);
-    if (!LIKELY(dspec_tracer_claim_(event, of->slot) > DSPEC_TRACER_OFF_)) return not_enabled(of, event);
-    if ((status = seat_take(of, &me)) != DSPEC_OK) return status;
-    status = path->lane == NULL ? begin(of, me, path, event, words, n) : go_on(me, path, event, words, n);
-    seat_leave(me);
+    if (tracer == NULL) return path->lane != NULL ? DSPEC_VOID : refused(path);
+    if (!LIKELY(dspec_tracer_claim_(event, tracer->slot) > DSPEC_TRACER_OFF_)) return not_enabled(tracer, event);
+    if ((status = seat_take(tracer, &seat)) != DSPEC_OK) return status;
+    status = path->lane == NULL ? begin(tracer, seat, path, event, words, n) : go_on(seat, path, event, words, n);
+    seat_leave(seat);
     return status;
+}
+
+dspec_status dspec_path_put_slowly_(dspec_path *path, const dspec_event *event, const uint64_t *words, size_t n) {
+    const dspec_status status = LIKELY(path->tracer != NULL && !path->over) ? begin_quickly(path, event, words, n) : DSPEC_UNAVAILABLE;
+    return LIKELY(status != DSPEC_UNAVAILABLE) ? status : put_slowly(path, event, words, n);
 }
 
 INTO_CALLER dspec_status put(dspec_path *path, const dspec_event *event, const uint64_t *words, size_t n) {
@@ -246,46 +299,46 @@ dspec_status dspec_path_put_3(dspec_path *path, const dspec_event *event, uint64
 }
 
 RARELY void dspec_tracer_missed(dspec_tracer *tracer, const dspec_event *event, dspec_status status) {
-    body *of = tracer->body;
-    if (status == DSPEC_DROPPED) wants_room(of);
-    if (status == DSPEC_BAD_RECORD && dspec_tracer_claim_(event, of->slot) <= DSPEC_TRACER_OFF_) count_missing(of, event);
+    body *run = tracer->body;
+    if (status == DSPEC_DROPPED) wants_room(run);
+    if (status == DSPEC_BAD_RECORD && dspec_tracer_claim_(event, run->slot) <= DSPEC_TRACER_OFF_) count_missing(run, event);
 }
 
 /* A record that is in no path, on its thread's own lane, where nobody is in its way: whether it was made. */
 INTO_CALLER bool record_on_own(dspec_tracer *tracer, const dspec_event *event, const uint64_t *words, size_t n, dspec_status *status) {
-    seat *me = dspec_tracer_seat_of_(tracer);
+    dspec_tracer_seat *seat = dspec_tracer_seat_of_(tracer);
     bool is_made = false;
-    if (!LIKELY(me->run == LOAD(&tracer->run) && seat_enter(me))) return false;
-    lane *on = lane_of(me->own);
-    if (LIKELY(on != NULL) && dspec_tracer_enter_(&on->front)) {
-        *status = dspec_tracer_fill_(&on->front, dspec_tracer_claim_(event, on->front.slot), dspec_monotonic(), words, n);
-        serve_if_asked(on);
-        dspec_tracer_leave_(&on->front);
-        if (!LIKELY(*status != DSPEC_DROPPED)) wants_room(on->of);
+    if (!LIKELY(seat->run == LOAD(&tracer->run) && seat_enter(seat))) return false;
+    struct lane *lane = lane_of(seat->own);
+    if (LIKELY(lane != NULL) && dspec_tracer_enter_(&lane->front)) {
+        *status = dspec_tracer_fill_(&lane->front, dspec_tracer_claim_(event, lane->front.slot), dspec_tracer_stamp_(&lane->front.clock), words, n);
+        serve_if_asked(lane);
+        dspec_tracer_leave_(&lane->front);
+        if (!LIKELY(*status != DSPEC_DROPPED)) wants_room(lane->tracer);
         is_made = true;
     }
-    seat_leave(me);
+    seat_leave(seat);
     return is_made;
 }
 
 /* On a lane that has to be served, on another than the one that the thread had last, or where others are in the way. */
 static dspec_status record_slowly(dspec_tracer *tracer, const dspec_event *event, const uint64_t *words, size_t n) {
-    body *of = body_of(tracer);
-    seat *me;
+    body *run = body_of(tracer);
+    dspec_tracer_seat *seat;
     dspec_status status;
-    if (of == NULL || LOAD(&tracer->run) == 0) return DSPEC_UNAVAILABLE;
-    if (!LIKELY(dspec_tracer_claim_(event, of->slot) > DSPEC_TRACER_OFF_)) return not_enabled(of, event);
-    if ((status = seat_take(of, &me)) != DSPEC_OK) return status;
-    lane *on = lane_for_record(of, me);
+    if (run == NULL || LOAD(&tracer->run) == 0) return DSPEC_UNAVAILABLE;
+    if (!LIKELY(dspec_tracer_claim_(event, run->slot) > DSPEC_TRACER_OFF_)) return not_enabled(run, event);
+    if ((status = seat_take(run, &seat)) != DSPEC_OK) return status;
+    struct lane *lane = lane_for_record(run, seat);
     status = DSPEC_STOPPED;
-    const way in = lane_enter(me, on);
+    const way in = lane_enter(seat, lane);
     if (in != NOT_IN) {
-        status = dspec_tracer_fill_(&on->front, dspec_tracer_claim_(event, of->slot), dspec_monotonic(), words, n);
-        serve_if_asked(on);
-        lane_leave(on, in);
-        if (status == DSPEC_DROPPED) wants_room(of);
+        status = dspec_tracer_fill_(&lane->front, dspec_tracer_claim_(event, run->slot), stamp_of(run), words, n);
+        serve_if_asked(lane);
+        lane_leave(lane, in);
+        if (status == DSPEC_DROPPED) wants_room(run);
     }
-    seat_leave(me);
+    seat_leave(seat);
     return status;
 }
 
@@ -314,233 +367,142 @@ dspec_status dspec_tracer_put_3(dspec_tracer *tracer, const dspec_event *event, 
     return record(tracer, event, words, 3);
 }
 
-/* Commits one part of a path. count: its records. A kill in its middle finds that it was made. */
-static dspec_status commit_part(lane *on, uint64_t id, uint32_t *count, room has) {
-    dspec_status status;
-    if (has == EMPTY_ROOM) lane_empty(on->of, on);
-    STORE(&on->front.commits, 1);
-    __atomic_signal_fence(__ATOMIC_SEQ_CST);
-    status = has == WAITS_FOR_ROOM ? dspec_commit_if_room(&on->front.cpu, id, count) : dspec_commit(&on->front.cpu, id, count);
-    __atomic_signal_fence(__ATOMIC_SEQ_CST);
-    if (LIKELY(status == DSPEC_OK)) STORE(&on->front.answered, on->front.answered + *count);
-    STORE(&on->front.commits, 0);
-    return status;
-}
-
-static void words_of_path(const open_path *one, uint32_t why, uint64_t words[WORDS_OF_PATH]) {
-    words[0] = one->mark;
-    words[1] = one->thread | (uint64_t)dspec_here.thread << 32;
-    words[2] = one->untold | (uint64_t)why << 32;
-    words[3] = one->begun;
-    words[4] = one->has_key ? one->key[0] : 0;
-    words[5] = one->has_key ? one->key[1] : 0;
-}
-
-/* Puts a path's event among its records, so that it is kept with them or not at all: whether it had room there. */
-static bool tell_in_path(lane *on, const open_path *one, uint32_t why) {
-    uint64_t words[WORDS_OF_PATH];
-    words_of_path(one, why, words);
-    if (dspec_put_in(&on->front.cpu, one->id, on->of->claim_of_path, dspec_monotonic(), words, WORDS_OF_PATH) == DSPEC_OK) return true;
-    on->turned++;
-    return false;
-}
-
-/* Puts what the lane owes where the buffer has room for it. It goes by a speculation, in the slot that its path has left: a record that finds no room would be told as missed. */
-static void pay_if_room(lane *on) {
-    uint64_t id;
-    uint32_t count;
-    dspec_status status;
-    if (dspec_speculation(&on->front.cpu, &id) != DSPEC_OK) return;
-    status = dspec_put_in(&on->front.cpu, id, on->of->claim_of_path, on->owed_at, on->owed, WORDS_OF_PATH);
-    if (status == DSPEC_OK) status = commit_part(on, id, &count, WAITS_FOR_ROOM);
-    if (status == DSPEC_OK) {
-        on->own_accepted++;
-        STORE(&on->owes, OWES_NOTHING);
-    } else if (dspec_discard(&on->front.cpu, id, &count) == DSPEC_OK) {
-        on->own_discarded += count;
-    }
-}
-
-static void put_after_path(lane *on, uint64_t at, const uint64_t words[WORDS_OF_PATH]) {
-    on->own_accepted += dspec_tracer_fill_(&on->front, on->of->claim_of_path, at, words, WORDS_OF_PATH) == DSPEC_OK;
-}
-
-bool path_pays(lane *on) {
-    if (LIKELY(on->owes != OWES_EVENT)) return false;
-    put_after_path(on, on->owed_at, on->owed);
-    STORE(&on->owes, OWES_NOTHING);
-    return true;
-}
-
-/* A path that had no room for its event has it after its records: at once, or at the begin of the lane's next buffer. */
-RARELY static void tell_after_path(lane *on, const open_path *one, uint32_t why, room has) {
-    uint64_t words[WORDS_OF_PATH];
-    words_of_path(one, why, words);
-    if (has == EMPTY_ROOM) {
-        lane_empty(on->of, on);
-        put_after_path(on, dspec_monotonic(), words);
-        return;
-    }
-    memcpy(on->owed, words, sizeof words);
-    on->owed_at = dspec_monotonic();
-    __atomic_store_n(&on->owes, OWES_EVENT, __ATOMIC_RELEASE);
-    pay_if_room(on);
-}
-
-/* With keep_last a path's first record, which names the request, is put among its last ones again where it was thrown away. */
-static void put_first_again(lane *on, open_path *one) {
-    if (one->cut == 0 || !one->has_first) return;
-    if (dspec_put_in(&on->front.cpu, one->id, one->first_claim, one->begun, one->first, one->first_words) == DSPEC_OK) one->cut--;
-    else on->turned++;
-}
-
-/* What a path's records need before they are committed. */
-static void prepare(lane *on, open_path *one, uint32_t why) {
-    uint32_t dropped = 0;
-    put_first_again(on, one);
-    if (!on->of->options.keep_last) dspec_dropped_in(&on->front.cpu, one->id, &dropped);
-    one->untold = (uint32_t)one->cut + dropped;
-    one->has_event = tell_in_path(on, one, why);
-    one->is_prepared = true;
-}
-
-/* Throws away a part of a path that is lost as a whole. */
-static void lose_part(lane *on, uint64_t id, bool has_event) {
-    uint32_t count;
-    if (id == 0 || dspec_discard(&on->front.cpu, id, &count) != DSPEC_OK) return;
-    on->own_discarded += has_event;
-    STORE(&on->cut_records, on->cut_records + count - has_event);
-}
-
-/* The first part of a path that has two. Where it has no room, the path is lost as a whole: no end of a path is kept for the path. */
-static dspec_status commit_older(lane *on, open_path *one, room has) {
-    uint32_t count = 0;
-    dspec_status status = commit_part(on, one->older, &count, has);
-    if (status == DSPEC_BUSY) return status;
-    one->older = 0;
-    one->has_part = status == DSPEC_OK;
-    if (status != DSPEC_OK) lose_part(on, one->id, one->has_event);
-    return status;
-}
-
-/* The path's last records. Where they are lost after its first ones were kept, its event comes after those, and tells of the others as cut. */
-static dspec_status commit_last(lane *on, open_path *one, room has) {
-    uint32_t count = 0;
-    dspec_status status = commit_part(on, one->id, &count, has);
-    if (status == DSPEC_BUSY) return status;
-    if (status == DSPEC_OK) on->own_accepted += one->has_event;
-    else on->own_lost += one->has_event;
-    if (status != DSPEC_LOST || !one->has_part) return status;
-    one->untold += count - one->has_event;
-    one->has_event = false;
-    return DSPEC_OK;
-}
-
-/* Where the lane owes an event already, one of a path that may come after its records has no room either: that path waits, or is lost as a whole. */
-RARELY static dspec_status without_room(lane *on, const open_path *one, room has) {
-    if (has == EMPTY_ROOM) return DSPEC_OK;
-    if (has == WAITS_FOR_ROOM) return DSPEC_BUSY;
-    lose_part(on, one->older, false);
-    lose_part(on, one->id, one->has_event);
-    return DSPEC_LOST;
-}
-
-dspec_status path_commit(lane *on, open_path *one, uint32_t why, room has) {
-    const bool has_claim = one->has_part;
-    dspec_status status = DSPEC_OK;
-    if (!one->is_prepared) prepare(on, one, why);
-    if (on->owes != OWES_NOTHING && !has_claim && (one->older != 0 || !one->has_event)) status = without_room(on, one, has);
-    if (status == DSPEC_OK && one->older != 0) status = commit_older(on, one, has);
-    if (status == DSPEC_OK) status = commit_last(on, one, has);
-    one->waits = status == DSPEC_BUSY;
-    if (one->waits) {
-        if (one->has_part) STORE(&on->owes, IS_CLAIMED);
-        return status;
-    }
-    if (has_claim) STORE(&on->owes, OWES_NOTHING);
-    STORE(&on->cut_records, on->cut_records + one->cut);
-    STORE(&on->cut, on->cut + (status == DSPEC_OK && one->untold > 0));
-    if (status == DSPEC_OK && !LIKELY(one->has_event)) tell_after_path(on, one, why, has);
-    return status;
-}
-
-/* A path that was being kept is thrown away after all. Where its first part is kept, its event comes after that. */
-RARELY static void discard_prepared(lane *on, open_path *one, uint32_t count) {
-    on->own_discarded += one->has_event;
-    if (!one->has_part) return;
-    one->untold += count - one->has_event;
-    STORE(&on->owes, OWES_NOTHING);
-    tell_after_path(on, one, DSPEC_WHY_KEPT, WAITS_FOR_ROOM);
-}
-
-INTO_CALLER bool discard(lane *on, open_path *one) {
-    uint32_t count;
-    if (!LIKELY(one->older == 0)) dspec_discard(&on->front.cpu, one->older, &count);
-    if (!LIKELY(dspec_discard(&on->front.cpu, one->id, &count) == DSPEC_OK)) return false;
-    if (!LIKELY(!one->is_prepared)) discard_prepared(on, one, count);
-    return true;
-}
-
-bool path_discard(lane *on, open_path *one) { return discard(on, one); }
-
-/* Decides a path in its lane, which the caller is in: DSPEC_OK where it was decided so, DSPEC_BUSY where it waits for room. */
-INTO_CALLER dspec_status decide(lane *on, open_path *one, bool keep, bool waits, uint32_t why) {
-    dspec_status status;
-    if (!LIKELY(!one->saved)) return keep ? DSPEC_OK : DSPEC_VOID;
-    status = keep ? path_commit(on, one, why, waits ? WAITS_FOR_ROOM : ANY_ROOM) : discard(on, one) ? DSPEC_OK : DSPEC_VOID;
+/* Decides a path in its lane, which the caller is in: DSPEC_OK where it was decided so, DSPEC_BUSY where it waits for room, DSPEC_VOID where it isn't open. */
+INTO_CALLER dspec_status decide(struct lane *lane, uint32_t place, uint64_t id, bool keep, bool waits, uint32_t why) {
+    const dspec_status status = keep ? path_commit(lane, place, id, why, waits ? WAITS_FOR_ROOM : ANY_ROOM) : path_discard(lane, place, id);
     if (!LIKELY(status == DSPEC_OK)) return status;
-    if (keep) STORE(&on->kept, on->kept + 1);
-    else STORE(&on->thrown, on->thrown + 1);
+    if (keep) STORE(&lane->kept, lane->kept + 1);
+    else STORE(&lane->thrown, lane->thrown + 1);
     return status;
+}
+
+/* Takes one from the list of what the consumer has ended, for whoever has the lane: its last one gets this place. The consumer may look at `mark` and `token` at any time. */
+RARELY static void remove_ended(struct lane *lane, uint32_t i) {
+    const ended_path last = lane->ended[lane->ended_count - 1];
+    STORE(&lane->ended[i].mark, last.mark);
+    STORE(&lane->ended[i].token, last.token);
+    lane->ended[i].own = last.own;
+    lane->ended[i].is_kept = last.is_kept;
+    STORE(&lane->ended_count, lane->ended_count - 1);
+}
+
+/* What the consumer has ended meanwhile, and is taken from its list: whether it is there. */
+RARELY static bool take_ended(struct lane *lane, uint64_t mark, ended_path *found) {
+    for (uint32_t i = 0; i < lane->ended_count; i++) {
+        if (lane->ended[i].mark != mark) continue;
+        *found = lane->ended[i];
+        remove_ended(lane, i);
+        return true;
+    }
+    return false;
 }
 
 /* A path whose end can't get into its lane is thrown away by the next one that has it. */
-RARELY static bool leave_behind(lane *on, open_path *one, uint64_t mark) {
-    if (state_of(on) & GONE) return false;
-    STORE(&one->left, mark);
-    __atomic_store_n(&on->left, 1, __ATOMIC_RELEASE);
+RARELY static bool leave_behind(struct lane *lane, open_path *path, uint64_t mark) {
+    if (state_of(lane) & GONE) return false;
+    STORE(&path->left, mark);
+    __atomic_store_n(&lane->left, 1, __ATOMIC_RELEASE);
     return false;
 }
 
-/* Ends a path: whether it was decided so. Behind a stop the stop has decided it, and at a thread's end that has. */
-INTO_CALLER bool end(seat *me, dspec_path *path, bool keep, uint32_t why) {
-    lane *on = lane_of(path->lane);
-    open_path *const one = place_at(on, path->place);
-    const bool own = path->own && path->lane == me->own;
-    const uint64_t most = keep ? on->of->options.keep_ms * UINT64_C(1000000) : 0, began = most > 0 ? dspec_monotonic() : 0;
+/* Counts for whoever has the lane as its own that others have ended a path of it. */
+static inline void hand_back(struct lane *lane, bool was_own, bool own) {
+    if (!LIKELY(was_own == own)) ADD(&lane->handed, 1);
+}
+
+/* The end of a path that isn't open, in its lane, which it leaves: whether the consumer has kept it. */
+RARELY static bool end_late(dspec_tracer_seat *seat, struct lane *lane, way in, const dspec_path *path, bool keep, bool own) {
+    ended_path found;
+    const bool is_found = take_ended(lane, path->mark, &found);
+    if (is_found) hand_back(lane, found.own, own);
+    lane_leave(lane, in);
+    if (is_found) lane_path_off(seat, lane, own);
+    return is_found && keep && found.is_kept;
+}
+
+/* A path that waits for room, in its lane, which it leaves for a moment. */
+RARELY static void wait_for_room(struct lane *lane, way in, const dspec_path *path) {
+    adopt(lane, path); /* where the thread that had it ends meanwhile, it stays */
+    lane_leave(lane, in);
+    consumer_wakes(lane->tracer);
+    sleep_for(1000);
+}
+
+/* Ends a path: whether it was decided so. After a stop the stop has decided it, and at a thread's end that has. */
+INTO_CALLER bool end(dspec_tracer_seat *seat, dspec_path *path, bool keep, uint32_t why) {
+    struct lane *lane = lane_of(path->lane);
+    open_path *const opened = place_at(lane, path->place);
+    const bool own = path->own && path->lane == seat->own;
+    const uint64_t most = keep ? lane->tracer->options.keep_ms * UINT64_C(1000000) : 0, began = most > 0 ? dspec_monotonic() : 0;
     dspec_status status;
     way in;
     is_over(path);
     for (;;) {
-        in = lane_enter(me, on);
-        if (in == NOT_IN) return leave_behind(on, one, path->mark);
-        if (!adopt(one, path)) {
-            lane_leave(on, in);
-            return false;
-        }
-        status = decide(on, one, keep, most > 0 && dspec_monotonic() - began < most, why);
-        serve_if_asked(on);
+        in = lane_enter(seat, lane);
+        if (in == NOT_IN) return leave_behind(lane, opened, path->mark);
+        status = decide(lane, path->place, path->id, keep, most > 0 && dspec_monotonic() - began < most, why);
+        if (!LIKELY(status != DSPEC_VOID)) return end_late(seat, lane, in, path, keep, own);
+        serve_if_asked(lane);
         if (status != DSPEC_BUSY) break;
-        lane_leave(on, in);
-        consumer_wakes(on->of);
-        sleep_for(1000);
+        wait_for_room(lane, in, path);
     }
-    if (!LIKELY(one->own == own)) ADD(&on->handed, 1);
-    STORE(&one->id, 0);
-    lane_leave(on, in);
-    lane_path_off(me, on, own);
-    if (status != DSPEC_OK) wants_room(on->of);
+    hand_back(lane, opened->own, own);
+    place_clear(opened);
+    lane_leave(lane, in);
+    lane_path_off(seat, lane, own);
+    if (status != DSPEC_OK) wants_room(lane->tracer);
     return status == DSPEC_OK;
 }
 
-INTO_CALLER bool ends(dspec_path *path, bool keep, uint32_t why) {
-    body *of = body_of_path(path);
-    seat *me;
+static bool end_slowly(dspec_path *path, bool keep, uint32_t why) {
+    body *tracer = body_of_path(path);
+    dspec_tracer_seat *seat;
     bool done;
-    if (of == NULL || seat_take(of, &me) != DSPEC_OK) return false;
-    done = end(me, path, keep, why);
-    seat_leave(me);
+    if (tracer == NULL || seat_take(tracer, &seat) != DSPEC_OK) return false;
+    done = end(seat, path, keep, why);
+    seat_leave(seat);
     return done;
+}
+
+/* The end of a path in the call on its thread's own lane: whether it came to one. */
+INTO_CALLER bool end_in(struct lane *lane, dspec_path *path, bool keep, uint32_t why, dspec_status *status) {
+    open_path *const opened = place_at(lane, path->place);
+    *status = decide(lane, path->place, path->id, keep, lane->tracer->options.keep_ms > 0, why);
+    if (!LIKELY(*status == DSPEC_OK) && *status != DSPEC_LOST) return false;
+    is_over(path);
+    serve_if_asked(lane);
+    hand_back(lane, opened->own, true);
+    place_clear(opened);
+    return true;
+}
+
+/* The end of a path of its thread's own lane, where nobody is in the way: whether it came to one, and what came of it. The thread is in the tracer. */
+INTO_CALLER bool end_on_own(dspec_tracer_seat *seat, dspec_path *path, bool keep, uint32_t why, dspec_status *status) {
+    struct lane *lane = lane_of(path->lane);
+    if (!LIKELY(seat->own == &lane->front) || !LIKELY(dspec_tracer_is_zero_(&lane->front.inside)) || !LIKELY(dspec_tracer_enter_(&lane->front))) return false;
+    const bool is_done = end_in(lane, path, keep, why, status);
+    dspec_tracer_leave_(&lane->front);
+    if (LIKELY(is_done)) lane_path_off(seat, lane, true);
+    return is_done;
+}
+
+/* The same from outside the tracer. */
+INTO_CALLER bool end_quickly(dspec_path *path, bool keep, uint32_t why, dspec_status *status) {
+    dspec_tracer_seat *seat;
+    if (!LIKELY(dspec_path_is_here_(path))) return false;
+    seat = dspec_tracer_seat_of_(path->tracer);
+    if (!LIKELY(!seat->busy)) return false;
+    seat_sits(seat);
+    const bool is_done = end_on_own(seat, path, keep, why, status);
+    seat_leave(seat);
+    return is_done;
+}
+
+INTO_CALLER bool ends(dspec_path *path, bool keep, uint32_t why) {
+    dspec_status status;
+    if (!LIKELY(end_quickly(path, keep, why, &status))) return end_slowly(path, keep, why);
+    if (!LIKELY(status == DSPEC_OK)) wants_room(lane_of(path->lane)->tracer);
+    return status == DSPEC_OK;
 }
 
 bool dspec_path_keep(dspec_path *path) { return path->lane != NULL && ends(path, true, DSPEC_WHY_KEPT); }
@@ -556,7 +518,7 @@ static bool is_sampled(const dspec_path *path, uint32_t sample) {
 bool dspec_path_end(dspec_path *path, bool failed, uint64_t slow_ns) {
     const dspec_tracer_options *options;
     if (path->lane == NULL || path->over) return !dspec_path_drop(path) && false;
-    options = &lane_of(path->lane)->of->options;
+    options = &lane_of(path->lane)->tracer->options;
     if (slow_ns == 0) slow_ns = options->slow_ns;
     if (failed) return ends(path, true, DSPEC_WHY_FAILED);
     if (slow_ns > 0 && dspec_path_took(path) >= slow_ns) return ends(path, true, DSPEC_WHY_SLOW);
@@ -564,30 +526,34 @@ bool dspec_path_end(dspec_path *path, bool failed, uint64_t slow_ns) {
     return !ends(path, false, 0) && false;
 }
 
-uint64_t dspec_path_took(const dspec_path *path) { return path->lane != NULL ? dspec_monotonic() - path->begun : 0; }
+uint64_t dspec_path_took(const dspec_path *path) {
+    const body *tracer = path->lane != NULL ? lane_of(path->lane)->tracer : NULL;
+    const uint64_t now = tracer != NULL ? stamp_of(tracer) : 0;
+    return now > path->begun ? clock_nanoseconds(tracer, now - path->begun) : 0; /* two processors' counters may differ by some ticks */
+}
 
-static void set_key(open_path *one, const uint64_t *key) {
-    memcpy(one->key, key, sizeof one->key);
-    one->has_key = true;
+static void set_key(open_path *path, const uint64_t *key) {
+    memcpy(path->key, key, sizeof path->key);
+    path->has_key = true;
 }
 
 /* Makes a path this thread's, in its lane, and has the key noted where there is one: whether it is open. */
 static bool take_over(dspec_path *path, const uint64_t *key) {
-    body *of = path->lane != NULL ? body_of_path(path) : NULL;
+    body *tracer = path->lane != NULL ? body_of_path(path) : NULL;
     bool is_open = false;
-    seat *me;
-    if (of == NULL || seat_take(of, &me) != DSPEC_OK) return false;
-    lane *on = lane_of(path->lane);
-    const way in = lane_enter(me, on);
+    dspec_tracer_seat *seat;
+    if (tracer == NULL || seat_take(tracer, &seat) != DSPEC_OK) return false;
+    struct lane *lane = lane_of(path->lane);
+    const way in = lane_enter(seat, lane);
     if (in != NOT_IN) {
-        is_open = adopt(place_at(on, path->place), path);
-        if (is_open) path->token = path->own && path->lane == me->own ? dspec_tracer_token_4 : 0;
-        if (is_open) STORE(&dspec_tracer_recent_4, path->mark);
-        if (is_open && key != NULL) set_key(&on->open[path->place], key);
-        lane_leave(on, in);
-        if (!is_open) is_over(path);
+        is_open = adopt(lane, path);
+        if (is_open) path->token = path->own && path->lane == seat->own ? dspec_tracer_token_5 : 0;
+        if (is_open) STORE(&dspec_tracer_recent_5, path->mark);
+        if (is_open && key != NULL) set_key(&lane->open[path->place], key);
+        if (!is_open && !is_ended(lane, path->mark)) is_over(path);
+        lane_leave(lane, in);
     }
-    seat_leave(me);
+    seat_leave(seat);
     return is_open;
 }
 
@@ -604,53 +570,73 @@ bool dspec_path_drop(dspec_path *path) {
     return true;
 }
 
-/* Throws away a path of a lane that the caller has. */
-static void throw_one(lane *on, open_path *one) {
-    decide(on, one, false, false, 0);
-    if (one->own) ADD(&on->handed, 1);
-    STORE(&one->id, 0);
+/* Throws away a path of a lane that the caller has; one of which a part is kept is kept as a whole, or what has no room of it is lost. */
+static void throw_one(struct lane *lane, uint32_t place, uint64_t id) {
+    open_path *path = &lane->open[place];
+    if (decide(lane, place, id, false, false, 0) != DSPEC_OK) decide(lane, place, id, true, false, DSPEC_WHY_KEPT);
+    if (path->own) ADD(&lane->handed, 1);
+    place_clear(path);
 }
 
 /* Throws away the paths of a thread on one lane, which the caller is in: how many there were. */
-static uint32_t throw_away(lane *on, uint32_t token) {
+static uint32_t throw_away(struct lane *lane, uint32_t token) {
     uint32_t found = 0;
-    for (uint32_t i = 0; i < MAX_OPEN; i++) {
-        open_path *one = &on->open[i];
-        if (one->id == 0 || one->token != token) continue;
-        throw_one(on, one);
+    dspec_open_path path;
+    for (uint32_t i = lane->ended_count; i-- > 0;) {
+        if (lane->ended[i].token != token) continue;
+        if (lane->ended[i].own) ADD(&lane->handed, 1);
+        remove_ended(lane, i);
+        found++;
+    }
+    for (uint32_t place = 0; place < MAX_OPEN; place++) {
+        if (dspec_paths_open_of(&lane->paths, place, token, &path) != DSPEC_OK) continue;
+        throw_one(lane, place, path.newest);
         found++;
     }
     return found;
 }
 
-void path_throw_left(lane *on) {
-    uint32_t found = 0;
-    if (LIKELY(__atomic_exchange_n(&on->left, 0, __ATOMIC_ACQUIRE) == 0)) return;
-    for (uint32_t i = 0; i < MAX_OPEN; i++) {
-        open_path *one = &on->open[i];
-        const uint64_t mark = __atomic_exchange_n(&one->left, 0, __ATOMIC_RELAXED); /* the path that has this place now may be left at any time */
-        if (mark == 0 || one->id == 0 || one->mark != mark) continue;               /* its thread's end has thrown it away since */
-        throw_one(on, one);
-        found++;
+/* A path whose end couldn't get into the lane: whether it was open, or ended by the consumer. Else its thread's end has thrown it away since. */
+static bool throw_marked(struct lane *lane, uint32_t place, uint64_t mark) {
+    dspec_open_path path;
+    ended_path ended;
+    if (lane->open[place].mark != mark) {
+        const bool is_ended = take_ended(lane, mark, &ended);
+        if (is_ended && ended.own) ADD(&lane->handed, 1);
+        return is_ended;
     }
-    __atomic_fetch_sub(&on->front.state, found * USER, __ATOMIC_SEQ_CST);
+    if (dspec_paths_open_of(&lane->paths, place, 0, &path) != DSPEC_OK) return false;
+    throw_one(lane, place, path.newest);
+    return true;
 }
 
-static bool has_path_of(const lane *on, uint32_t token) {
-    for (uint32_t i = 0; i < MAX_OPEN; i++)
-        if (LOAD(&on->open[i].id) != 0 && LOAD(&on->open[i].token) == token) return true;
+void path_throw_left(struct lane *lane) {
+    uint32_t found = 0;
+    if (LIKELY(__atomic_exchange_n(&lane->left, 0, __ATOMIC_ACQUIRE) == 0)) return;
+    for (uint32_t place = 0; place < MAX_OPEN; place++) {
+        const uint64_t mark = __atomic_exchange_n(&lane->open[place].left, 0, __ATOMIC_RELAXED); /* the path that has this place now may be left at any time */
+        if (mark != 0 && throw_marked(lane, place, mark)) found++;
+    }
+    __atomic_fetch_sub(&lane->front.state, found * USER, __ATOMIC_SEQ_CST);
+}
+
+/* A look without the lane: whether it may have a path of a thread. */
+static bool has_path_of(const struct lane *lane, uint32_t token) {
+    if (LOAD(&lane->ended_count) > 0) return true;
+    for (uint32_t place = 0; place < MAX_OPEN; place++)
+        if (LOAD(&lane->open[place].mark) != 0 && LOAD(&lane->open[place].token) == token) return true;
     return false;
 }
 
-void path_ends_with_thread(body *of, seat *me, uint32_t token) {
-    for (uint32_t i = 0; i < of->count; i++) {
-        lane *on = &of->lanes[i];
+void path_ends_with_thread(body *tracer, dspec_tracer_seat *seat, uint32_t token) {
+    for (uint32_t i = 0; i < tracer->count; i++) {
+        struct lane *lane = &tracer->lanes[i];
         uint32_t found;
-        const way in = has_path_of(on, token) ? lane_enter(me, on) : NOT_IN;
+        const way in = has_path_of(lane, token) ? lane_enter(seat, lane) : NOT_IN;
         if (in == NOT_IN) continue;
-        found = throw_away(on, token);
-        lane_leave(on, in);
-        __atomic_fetch_sub(&on->front.state, found * USER, __ATOMIC_SEQ_CST);
+        found = throw_away(lane, token);
+        lane_leave(lane, in);
+        __atomic_fetch_sub(&lane->front.state, found * USER, __ATOMIC_SEQ_CST);
     }
-    if (me->own != NULL) __atomic_fetch_sub(&me->own->state, USER, __ATOMIC_SEQ_CST);
+    if (seat->own != NULL) __atomic_fetch_sub(&seat->own->state, USER, __ATOMIC_SEQ_CST);
 }

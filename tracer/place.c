@@ -125,7 +125,7 @@ static uint64_t target_of(int memory, uint64_t address) {
 
 /* Where a library that keeps no frame pointers, as the C library, was called from: the first address on the stack that is another file's and returns from a call into this one. Its caller's frame
  * pointer is the word below it or still in the register. How many were found. */
-static size_t scan(int memory, const crash *of_thread, const code_place *library, uint64_t *found, size_t most) {
+static size_t scan(int memory, const struct crash *of_thread, const code_place *library, uint64_t *found, size_t most) {
     uint64_t words[MOST_OF_A_LIBRARY];
     code_place in, to;
     const ssize_t got = pread(memory, words, sizeof words, (off_t)of_thread->stack);
@@ -141,13 +141,13 @@ static size_t scan(int memory, const crash *of_thread, const code_place *library
     return 0;
 }
 #else
-static size_t scan(int memory, const crash *of_thread, const code_place *library, uint64_t *found, size_t most) {
+static size_t scan(int memory, const struct crash *of_thread, const code_place *library, uint64_t *found, size_t most) {
     (void)memory, (void)of_thread, (void)library, (void)found, (void)most;
     return 0;
 }
 #endif
 
-size_t callers_of(const crash *of_thread, uint64_t callers[MOST_CALLERS]) {
+size_t callers_of(const struct crash *of_thread, uint64_t callers[MOST_CALLERS]) {
     const int memory = dspec_folder_above_(open("/proc/self/mem", O_RDONLY | O_CLOEXEC));
     uint64_t scanned[MOST_CALLERS];
     size_t count, more = 0;

@@ -17,9 +17,10 @@ typedef struct saved_file {
     int at;
     uint64_t device, inode;
     saved_head *head;
-    body *us;
+    body *tracer;
     dspec_schema schema;
     dspec_layout layout;     /* of the events that the head tells */
+    uint64_t latest;         /* the last stamp that a reader can place in time */
     dspec_folder scratch;    /* for a part of a batch (dspec_folder_part_of_) */
     const char *texts[SURVIVE_LABELS]; /* the labels that the head tells, */
     size_t counts[DSPEC_MAX_ENABLINGS * DSPEC_MAX_FIELDS];
@@ -27,10 +28,10 @@ typedef struct saved_file {
 } saved_file;
 
 /* Reads the file of a descriptor, which stays the caller's: NULL, or why it can't be read. */
-const char *saved_file_read(saved_file *of, int file);
-void saved_file_drop(saved_file *of);
+const char *saved_file_read(saved_file *saved, int file);
+void saved_file_drop(saved_file *file);
 /* The events that the head tells, in a schema and its layout. */
-dspec_status saved_file_enable(const saved_file *of, dspec_schema *schema, dspec_layout *layout);
+dspec_status saved_file_enable(const saved_file *file, dspec_schema *schema, dspec_layout *layout);
 
 /* ---- salvage_lane.c ---- */
 
@@ -47,14 +48,14 @@ typedef struct found_batch {
 typedef bool (*found_call)(void *to, found_batch *one);
 
 /* Hands out what a lane has: NULL, or why not all of it could be read. */
-const char *saved_lane_read(saved_file *of, uint32_t number, found_call get, void *to);
+const char *saved_lane_read(saved_file *file, uint32_t number, found_call get, void *to);
 /* Whether a thread was in a call of the lane, or the consumer had it. */
-bool saved_lane_is_in_call(const saved_file *of, uint32_t number);
+bool saved_lane_is_in_call(const saved_file *file, uint32_t number);
 
 /* ---- salvage_written.c ---- */
 
 /* How many records of the batch that the run's folder was getting of a lane it has. unsure: how many of the others may be there too, since the folder isn't found. */
-uint64_t written_records(const saved_file *of, const char *file, const found_batch *one, uint64_t *unsure);
+uint64_t written_records(const saved_file *saved, const char *file, const found_batch *batch, uint64_t *unsure);
 
 /* ---- salvage_folder.c ---- */
 
@@ -66,18 +67,18 @@ typedef struct writing {
     dspec_names names;
     char texts[DSPEC_MAX_ENABLINGS][280];
     uint32_t epid_of_path;
-    uint64_t path_events; /* the records that are no run's */
+    uint64_t path_events, lost_events; /* the records that are no run's: those that were written, and that weren't */
     bool is_begun;
     const char *name; /* in the folder of both */
 } writing;
 
 /* Begins the trace of what was kept, or of the open paths: NULL, or why not. */
-const char *writing_begin(writing *to, const saved_file *of, const char *folder, bool is_open);
+const char *writing_begin(writing *to, const saved_file *file, const char *folder, bool is_open);
 void salvage_put(uint8_t *at, uint64_t number, size_t width); /* the lowest byte first */
 /* Writes a batch without its first records. */
-void writing_kept(writing *to, found_batch *one, uint64_t without);
+void writing_kept(writing *to, found_batch *batch, uint64_t without);
 /* Writes the records of an open path, after one that tells of it. */
-bool writing_path(writing *to, const found_batch *one);
+bool writing_path(writing *to, const found_batch *batch);
 /* Ends the trace, and has it on the disk with its folder: NULL, or why not. records, lost: how many were written, and how many weren't. */
 const char *writing_end(writing *to, const char *folder, uint64_t *records, uint64_t *lost);
 

@@ -8,8 +8,8 @@
 
 /* ---- Its events. ---- */
 
-static void name_fields(const saved_file *of, dspec_names *names, uint32_t at) {
-    const saved_event *event = &of->head->events[at];
+static void name_fields(const saved_file *file, dspec_names *names, uint32_t at) {
+    const saved_event *event = &file->head->events[at];
     uint32_t named = 0;
     for (uint32_t i = 0; i < event->words; i++) {
         if (event->kinds[i] == DSPEC_KIND_TEXT_NEXT) {
@@ -17,15 +17,15 @@ static void name_fields(const saved_file *of, dspec_names *names, uint32_t at) {
             continue;
         }
         dspec_names_field(names, event->fields[named], event->kinds[i]);
-        dspec_names_labels(names, &of->labels[at * DSPEC_MAX_FIELDS + named++]);
+        dspec_names_labels(names, &file->labels[at * DSPEC_MAX_FIELDS + named++]);
     }
 }
 
-static void name_events(writing *to, const saved_file *of, const char *prefix) {
-    for (uint32_t i = 0; i < of->head->events_count; i++) {
-        snprintf(to->texts[i], sizeof to->texts[i], "%s%.200s", prefix, of->head->events[i].name);
+static void name_events(writing *to, const saved_file *file, const char *prefix) {
+    for (uint32_t i = 0; i < file->head->events_count; i++) {
+        snprintf(to->texts[i], sizeof to->texts[i], "%s%.200s", prefix, file->head->events[i].name);
         dspec_names_event(&to->names, to->texts[i]);
-        name_fields(of, &to->names, i);
+        name_fields(file, &to->names, i);
     }
 }
 
@@ -44,43 +44,44 @@ static void enable_path(writing *to) {
 /* The run's identity with a number of its own. */
 static bool identify_as(dspec_identity *identity, const saved_head *head) {
     char host[DSPEC_HOST_SIZE];
+    const saved_clock *clock = &head->clocks[head->clock];
     dspec_identity own;
     if (!dspec_identity_of_system(&own, "dspec", host)) return false;
-    *identity = (dspec_identity){ .pid = head->pid, .hertz = head->hertz, .seconds = head->seconds, .ticks = head->ticks, .host = { head->host, strlen(head->host) },
+    *identity = (dspec_identity){ .pid = head->pid, .hertz = clock->hertz, .seconds = clock->seconds, .ticks = clock->ticks, .host = { head->host, strlen(head->host) },
                                   .name = { head->program, strlen(head->program) } };
     memcpy(identity->uuid, own.uuid, sizeof own.uuid);
     return true;
 }
 
-const char *writing_begin(writing *to, const saved_file *of, const char *folder, bool is_open) {
+const char *writing_begin(writing *to, const saved_file *file, const char *folder, bool is_open) {
     char path[4200];
     dspec_identity identity;
-    dspec_status status = saved_file_enable(of, &to->schema, &to->layout);
+    dspec_status status = saved_file_enable(file, &to->schema, &to->layout);
     to->name = is_open ? "undecided" : "kept";
     if (status != DSPEC_OK) return dspec_status_text(status);
-    if (!identify_as(&identity, of->head)) return strerror(errno);
-    name_events(to, of, is_open ? "undecided_" : "");
+    if (!identify_as(&identity, file->head)) return strerror(errno);
+    name_events(to, file, is_open ? "undecided_" : "");
     if (is_open) enable_path(to);
     snprintf(path, sizeof path, "%.4000s/%s", folder, to->name);
-    to->is_begun = dspec_folder_begin(&to->folder, path, &to->schema, of->head->lanes + 1, &identity, &to->names);
+    to->is_begun = dspec_folder_begin(&to->folder, path, &to->schema, file->head->lanes + 1, &identity, &to->names);
     return to->is_begun ? NULL : dspec_folder_why(&to->folder);
 }
 
 /* ---- Its records. ---- */
 
-void writing_kept(writing *to, found_batch *one, uint64_t without) {
-    const dspec_batch all = one->batch;
+void writing_kept(writing *to, found_batch *batch, uint64_t without) {
+    const dspec_batch all = batch->batch;
     size_t at = 0;
     if (without > 0) {
         dspec_folder_skips_(&to->layout, &all, &at, without);
         if (at == all.len) return;
-        dspec_folder_part_of_(&to->folder, &to->layout, &all, &at, UINT64_MAX, &one->batch);
-        if (one->batch.bytes == NULL) {
-            dspec_folder_loses_(&to->folder, DSPEC_NO_MEMORY, 0, all.cpu, 0, one->records - without);
+        dspec_folder_part_of_(&to->folder, &to->layout, &all, &at, UINT64_MAX, &batch->batch);
+        if (batch->batch.bytes == NULL) {
+            dspec_folder_loses_(&to->folder, DSPEC_NO_MEMORY, 0, all.cpu, 0, batch->records - without);
             return;
         }
     }
-    dspec_folder_take(&to->folder, &to->layout, &one->batch); /* what it loses is told at its end */
+    dspec_folder_take(&to->folder, &to->layout, &batch->batch); /* what it loses is told at its end */
 }
 
 void salvage_put(uint8_t *at, uint64_t number, size_t width) {
@@ -88,52 +89,69 @@ void salvage_put(uint8_t *at, uint64_t number, size_t width) {
 }
 
 /* A batch of the path's event, with the stamp and the path's number of its first record, and its records; NULL: no memory. The event has a multiple of 8 bytes, so that they are as they were. */
-static uint8_t *with_event(const writing *to, const found_batch *one) {
+static uint8_t *with_event(const writing *to, const found_batch *batch) {
     enum { EVENT_BYTES = 24 };
     dspec_record first;
     size_t at = 0;
-    uint8_t *bytes = malloc(EVENT_BYTES + one->batch.len);
-    if (bytes == NULL || dspec_read(&to->layout, one->batch.bytes, one->batch.len, &at, &first) != DSPEC_READ) {
+    uint8_t *bytes = malloc(EVENT_BYTES + batch->batch.len);
+    if (bytes == NULL || dspec_read(&to->layout, batch->batch.bytes, batch->batch.len, &at, &first) != DSPEC_READ) {
         free(bytes);
         return NULL;
     }
     salvage_put(bytes, to->epid_of_path, 4);
     salvage_put(bytes + 4, first.stamp, 8);
     salvage_put(bytes + 12, first.values[0], 4);
-    salvage_put(bytes + 16, one->batch.cpu, 4);
-    salvage_put(bytes + 20, one->records, 4);
-    memcpy(bytes + EVENT_BYTES, one->batch.bytes, one->batch.len);
+    salvage_put(bytes + 16, batch->batch.cpu, 4);
+    salvage_put(bytes + 20, batch->records, 4);
+    memcpy(bytes + EVENT_BYTES, batch->batch.bytes, batch->batch.len);
     return bytes;
 }
 
-bool writing_path(writing *to, const found_batch *one) {
-    dspec_batch all = one->batch;
+bool writing_path(writing *to, const found_batch *batch) {
+    const uint64_t before = to->folder.parts[0].records;
+    dspec_batch all = batch->batch;
     uint8_t *bytes = NULL;
     if (to->epid_of_path != 0) {
-        bytes = with_event(to, one);
+        bytes = with_event(to, batch);
         if (bytes == NULL) return false;
         all.bytes = bytes;
         all.len += 24;
     }
-    to->path_events += to->epid_of_path != 0;
     dspec_folder_take(&to->folder, &to->layout, &all);
     free(bytes);
+    if (to->epid_of_path == 0) return true;
+    if (to->folder.parts[0].records > before) to->path_events++;
+    else to->lost_events++;
     return true;
 }
 
 /* ---- Its end. ---- */
 
-/* Has what a descriptor has on the disk, and closes it: 0 or the errno. Some file systems can't, and have nothing to do. */
+/* Whether a file that can't be opened is none of the trace's: a link, a socket, or what this user may not read, as perhaps the folder above. */
+static bool is_of_others(int code) { return code == EACCES || code == ELOOP || code == ENXIO; }
+
+/* Has what a descriptor has on the disk, and closes it: 0 or the errno; of -1 that of its open. Some file systems can't, and have nothing to do. */
 static int sync_closing(int file) {
-    const int code = file < 0 || fsync(file) == 0 || errno == EINVAL || errno == EROFS ? 0 : errno;
-    if (file >= 0) close(file);
+    int code;
+    if (file < 0) return is_of_others(errno) ? 0 : errno;
+    code = fsync(file) == 0 || errno == EINVAL || errno == EROFS ? 0 : errno;
+    close(file);
     return code;
+}
+
+/* The next name of a folder; NULL at its end, or where it can't be read, which is in the errno. */
+static const struct dirent *next_name(DIR *names, int *code) {
+    const struct dirent *one;
+    errno = 0;
+    one = readdir(names);
+    if (one == NULL) *code = errno;
+    return one;
 }
 
 static int sync_files(const char *path) {
     DIR *names = opendir(path);
     int code = names == NULL ? errno : 0;
-    for (struct dirent *one; names != NULL && code == 0 && (one = readdir(names)) != NULL;)
+    for (const struct dirent *one; names != NULL && code == 0 && (one = next_name(names, &code)) != NULL;)
         if (one->d_name[0] != '.') code = sync_closing(openat(dirfd(names), one->d_name, O_RDONLY | O_NOFOLLOW | O_NONBLOCK | O_CLOEXEC));
     if (names != NULL) closedir(names);
     return code;
@@ -158,7 +176,7 @@ const char *writing_end(writing *to, const char *folder, uint64_t *records, uint
     const dspec_loss *first = &to->folder.first;
     int code = 0;
     *records = to->is_begun ? to->folder.parts[0].records - to->path_events : 0;
-    *lost = to->is_begun ? first->records : 0;
+    *lost = to->is_begun ? first->records - to->lost_events : 0;
     dspec_schema_drop(&to->schema);
     if (!is_whole) return first->code != 0 ? strerror(first->code) : dspec_status_text(first->status);
     if (to->is_begun) code = sync_all(folder, to->name);

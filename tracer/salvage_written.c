@@ -6,7 +6,7 @@
 #include <sys/stat.h>
 #include <unistd.h>
 
-enum { PACKET_HEAD = 68, EVENT_HEAD = 12, CONTENT_AT = 40, LEAST_EVENTS = DSPEC_FOLDER_PACKET - PACKET_HEAD - 75, MORE_PACKETS = 8 };
+enum { PACKET_HEAD = 68, EVENT_HEAD = 12, CONTENT_AT = 40, LEAST_EVENTS = DSPEC_CTF_FILLED_, MORE_PACKETS = 8 };
 
 static const dspec_folder_part *newest_of(const dspec_folder *folder) { return &folder->parts[(folder->oldest + folder->kept - 1) % DSPEC_FOLDER_MOST]; }
 
@@ -26,53 +26,53 @@ static uint64_t events_of(const dspec_layout *layout, const uint8_t packet[DSPEC
 /* ---- The folder. ---- */
 
 /* A line of the metadata of the folder of a number, which no other trace has. */
-static void line_of(const saved_file *of, uint64_t number, char line[64]) {
-    dspec_folder one = { .identity = of->us->folder.identity };
+static void line_of(const saved_file *file, uint64_t number, char line[64]) {
+    dspec_folder folder = { .identity = file->tracer->folder.identity };
     snprintf(line, 64, "uuid = \"00000000-0000-0000-0000-000000000000\"");
-    one.text = line;
-    dspec_folder_identity_(&one, number);
+    folder.text = line;
+    dspec_folder_identity_(&folder, number);
 }
 
 /* Whether a folder is the run's; another run may have its name since. */
-static bool is_of_run(const saved_file *of, int folder, uint64_t number) {
+static bool is_of_run(const saved_file *saved, int folder, uint64_t number) {
     const int file = openat(folder, "metadata", O_RDONLY | O_NOFOLLOW | O_NONBLOCK | O_CLOEXEC);
     char text[4096], line[64];
     const ssize_t count = file < 0 ? -1 : read(file, text, sizeof text);
     if (file >= 0) close(file);
-    line_of(of, number, line);
+    line_of(saved, number, line);
     return count > 0 && memmem(text, (size_t)count, line, strlen(line)) != NULL;
 }
 
 /* The folder of a name: its descriptor, or -1 where it isn't the run's. */
-static int open_run(const saved_file *of, const char *name) {
-    const uint64_t number = newest_of(&of->us->folder)->number;
+static int open_run(const saved_file *file, const char *name) {
+    const uint64_t number = newest_of(&file->tracer->folder)->number;
     char path[8400];
     int folder;
-    if (of->head->max_folders == 0) snprintf(path, sizeof path, "%s", name);
+    if (file->head->max_folders == 0) snprintf(path, sizeof path, "%s", name);
     else snprintf(path, sizeof path, "%s.%llu", name, (unsigned long long)number);
     folder = open(path, O_RDONLY | O_DIRECTORY | O_CLOEXEC);
-    if (folder < 0 || is_of_run(of, folder, number)) return folder;
+    if (folder < 0 || is_of_run(file, folder, number)) return folder;
     close(folder);
     return -1;
 }
 
 /* The run's folder, where it was or beside the memory's file, where both were moved. */
-static int find_run(const saved_file *of, const char *file) {
-    const char *slash = strrchr(file, '/'), *name = strrchr(of->head->folder, '/') + 1;
+static int find_run(const saved_file *saved, const char *file) {
+    const char *slash = strrchr(file, '/'), *name = strrchr(saved->head->folder, '/') + 1;
     char beside[8300];
-    const int folder = open_run(of, of->head->folder);
+    const int folder = open_run(saved, saved->head->folder);
     if (folder >= 0) return folder;
     snprintf(beside, sizeof beside, "%.*s%.4095s", slash == NULL ? 0 : (int)(slash + 1 - file), file, name);
-    return open_run(of, beside);
+    return open_run(saved, beside);
 }
 
 /* ---- What it has. ---- */
 
 /* The events of the packets that were being written, of which there are so many at the most. */
-static uint64_t events_written(const saved_file *of, int folder, uint32_t cpu, uint64_t packets) {
-    const dspec_packet *under_way = &of->us->folder.writing;
+static uint64_t events_written(const saved_file *saved, int folder, uint32_t cpu, uint64_t packets) {
+    const dspec_packet *under_way = &saved->tracer->folder.writing;
     uint8_t packet[DSPEC_FOLDER_PACKET];
-    uint64_t records = 0, at = of->us->folder.writing_at;
+    uint64_t records = 0, at = saved->tracer->folder.writing_at;
     struct stat is;
     char name[32];
     int file;
@@ -81,27 +81,27 @@ static uint64_t events_written(const saved_file *of, int folder, uint32_t cpu, u
     if (file < 0) return 0;
     if (packets > under_way->size / sizeof packet) packets = under_way->size / sizeof packet;
     if (fstat(file, &is) == 0 && S_ISREG(is.st_mode))
-        for (; packets > 0 && pread(file, packet, sizeof packet, (off_t)at) == (ssize_t)sizeof packet; packets--, at += sizeof packet) records += events_of(&of->layout, packet);
+        for (; packets > 0 && pread(file, packet, sizeof packet, (off_t)at) == (ssize_t)sizeof packet; packets--, at += sizeof packet) records += events_of(&saved->layout, packet);
     close(file);
     return records;
 }
 
-uint64_t written_records(const saved_file *of, const char *file, const found_batch *one, uint64_t *unsure) {
-    const dspec_folder *folder = &of->us->folder;
-    const uint32_t cpu = one->batch.cpu;
+uint64_t written_records(const saved_file *saved, const char *file, const found_batch *batch, uint64_t *unsure) {
+    const dspec_folder *folder = &saved->tracer->folder;
+    const uint32_t cpu = batch->batch.cpu;
     uint64_t records;
     int run;
     *unsure = 0;
     if (folder->kept > DSPEC_FOLDER_MOST || folder->oldest >= DSPEC_FOLDER_MOST) return UINT64_MAX;
-    records = survive_brought(folder) - of->us->lanes[cpu].before;
+    records = survive_brought(folder) - saved->tracer->lanes[cpu].before;
     if (folder->writing.size == 0 || folder->writing_cpu != cpu || folder->writing.file >= DSPEC_CTF_MAX_FILES || folder->kept == 0) return records;
     records -= newest_of(folder)->records - folder->writing_records;
-    run = find_run(of, file);
+    run = find_run(saved, file);
     if (run >= 0) {
-        records += events_written(of, run, cpu, one->batch.len / LEAST_EVENTS + MORE_PACKETS);
+        records += events_written(saved, run, cpu, batch->batch.len / LEAST_EVENTS + MORE_PACKETS);
         close(run);
-    } else if (records < one->records) {
-        *unsure = one->records - records < folder->writing.records ? one->records - records : folder->writing.records;
+    } else if (records < batch->records) {
+        *unsure = batch->records - records < folder->writing.records ? batch->records - records : folder->writing.records;
     }
     return records;
 }

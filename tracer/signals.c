@@ -89,11 +89,11 @@ static bool is_on_other_stack(int signal, const stack_t *other) { return (old[si
 
 /* Puts back what was changed for the second time. */
 APART_STACK static void put_back(int signal, ucontext_t *at) {
-    here *me = &dspec_here;
-    me->again = 0;
-    set_bits(&at->uc_sigmask, me->mask);
-    at->uc_stack = me->other;
-    if (!is_on_other_stack(signal, &me->other)) sigaltstack(&me->other, NULL);
+    struct here *here = &dspec_here;
+    here->again = 0;
+    set_bits(&at->uc_sigmask, here->mask);
+    at->uc_stack = here->other;
+    if (!is_on_other_stack(signal, &here->other)) sigaltstack(&here->other, NULL);
 }
 
 /* Turns the stack for handlers off: whether that is known of the machine. The kernel refuses it to a thread that is on that stack, which it tells by the stack's pointer. So this shows it the
@@ -117,11 +117,11 @@ static bool turn_stack_off(ucontext_t *at) {
 
 /* The program's handler comes when this one returns: whether it does. */
 APART_STACK static bool ask_again(int signal, siginfo_t *info, ucontext_t *at) {
-    here *me = &dspec_here;
-    me->mask = bits_of(&at->uc_sigmask);
-    me->other = at->uc_stack;
-    if (!is_on_other_stack(signal, &me->other) && !turn_stack_off(at)) return false;
-    me->again = signal;
+    struct here *here = &dspec_here;
+    here->mask = bits_of(&at->uc_sigmask);
+    here->other = at->uc_stack;
+    if (!is_on_other_stack(signal, &here->other) && !turn_stack_off(at)) return false;
+    here->again = signal;
     set_bits(&at->uc_sigmask, ~bit_of(signal));
     if (comes_once_more(signal, info)) return true;
     put_back(signal, at);
@@ -170,35 +170,35 @@ APART_STACK static bool is_installed(int signal, void (*handler)(int, siginfo_t 
 
 /* ---- What the consumers do. ---- */
 
-static bool is_wanted(const body *of, pid_t process, bool is_crash) {
-    return of->pid == process && __atomic_load_n(&of->ended, __ATOMIC_SEQ_CST) == 0 && !(is_crash ? of->options.no_crash : of->options.no_term);
+static bool is_wanted(const body *tracer, pid_t process, bool is_crash) {
+    return tracer->pid == process && __atomic_load_n(&tracer->ended, __ATOMIC_SEQ_CST) == 0 && !(is_crash ? tracer->options.no_crash : tracer->options.no_term);
 }
 
 static bool is_sent(const siginfo_t *info) { return info->si_code == SI_USER || info->si_code == SI_TKILL || info->si_code == SI_QUEUE; }
 
 /* Who sent a signal: 0 where no process did. */
-static void note_sender(sender *by, const siginfo_t *info) {
+static void note_sender(sender *by, const siginfo_t *info, uint64_t at) {
     by->process = is_sent(info) ? info->si_pid : 0;
     by->user = is_sent(info) ? info->si_uid : 0;
     by->code = info->si_code;
     by->thread = (uint32_t)syscall(SYS_gettid);
-    by->at = dspec_tracer_now();
+    by->at = at;
 }
 
 /* Tracers, a bit each: a handler may have a small stack. */
-typedef struct slots {
+struct slots {
     uint64_t bits[(MAX_SLOTS + 63) / 64];
-} slots;
-static bool has_slot(const slots *of, uint32_t slot) { return of->bits[slot / 64] >> slot % 64 & 1; }
-static void add_slot(slots *to, uint32_t slot) { to->bits[slot / 64] |= UINT64_C(1) << slot % 64; }
+};
+static bool has_slot(const struct slots *slots, uint32_t slot) { return slots->bits[slot / 64] >> slot % 64 & 1; }
+static void add_slot(struct slots *to, uint32_t slot) { to->bits[slot / 64] |= UINT64_C(1) << slot % 64; }
 
 /* Tells a tracer's consumer of a signal that is left to it: whether that hears of it, and hasn't ended since it was counted. */
-static bool hears(body *of, int signal, const siginfo_t *info) {
+static bool hears(body *tracer, int signal, const siginfo_t *info) {
     uint32_t none = 0;
-    if (of == NULL) return false;
-    note_sender(&of->sent, info);
-    if (!__atomic_compare_exchange_n(&of->deferred, &none, (uint32_t)signal, false, __ATOMIC_SEQ_CST, __ATOMIC_SEQ_CST)) return false;
-    consumer_wakes(of);
+    if (tracer == NULL) return false;
+    note_sender(&tracer->sent, info, stamp_of(tracer));
+    if (!__atomic_compare_exchange_n(&tracer->deferred, &none, (uint32_t)signal, false, __ATOMIC_SEQ_CST, __ATOMIC_SEQ_CST)) return false;
+    consumer_wakes(tracer);
     return true;
 }
 
@@ -206,13 +206,13 @@ static bool hears(body *of, int signal, const siginfo_t *info) {
  * since, nobody does it but this handler. */
 static bool defer(int signal, const siginfo_t *info, bool is_crash) {
     const pid_t process = getpid();
-    slots told = { { 0 } };
+    struct slots told = { { 0 } };
     uint32_t count = 0, taken = 0;
     for (uint32_t slot = 0; slot < MAX_SLOTS; slot++) {
-        body *of = tracer_at(slot);
-        if (of == NULL || !is_wanted(of, process, is_crash)) continue;
+        body *tracer = tracer_at(slot);
+        if (tracer == NULL || !is_wanted(tracer, process, is_crash)) continue;
         taken++;
-        if (__atomic_exchange_n(&of->deferring, 1, __ATOMIC_SEQ_CST) != 0) continue; /* another handler tells it */
+        if (__atomic_exchange_n(&tracer->deferring, 1, __ATOMIC_SEQ_CST) != 0) continue; /* another handler tells it */
         add_slot(&told, slot);
         count++;
     }
@@ -226,60 +226,60 @@ static bool defer(int signal, const siginfo_t *info, bool is_crash) {
 }
 
 void signals_end(int signal) {
-    sigset_t one;
+    sigset_t set;
     if (__atomic_sub_fetch(&to_end, 1, __ATOMIC_SEQ_CST) != 0) return;
     make_default(signal);
-    sigemptyset(&one);
-    sigaddset(&one, signal);
-    pthread_sigmask(SIG_UNBLOCK, &one, NULL);
+    sigemptyset(&set);
+    sigaddset(&set, signal);
+    pthread_sigmask(SIG_UNBLOCK, &set, NULL);
     kill(getpid(), signal);
 }
 
 /* Where the thread was; zeros where that isn't known of the machine. */
-static void note_registers(crash *one, const void *context) {
+static void note_registers(struct crash *crash, const void *context) {
     const ucontext_t *at = context;
 #if defined(__x86_64__)
-    one->pc = (uint64_t)at->uc_mcontext.gregs[REG_RIP];
-    one->stack = (uint64_t)at->uc_mcontext.gregs[REG_RSP];
-    one->frame = (uint64_t)at->uc_mcontext.gregs[REG_RBP];
+    crash->pc = (uint64_t)at->uc_mcontext.gregs[REG_RIP];
+    crash->stack = (uint64_t)at->uc_mcontext.gregs[REG_RSP];
+    crash->frame = (uint64_t)at->uc_mcontext.gregs[REG_RBP];
 #elif defined(__aarch64__)
-    one->pc = at->uc_mcontext.pc;
-    one->stack = at->uc_mcontext.sp;
-    one->frame = at->uc_mcontext.regs[29];
+    crash->pc = at->uc_mcontext.pc;
+    crash->stack = at->uc_mcontext.sp;
+    crash->frame = at->uc_mcontext.regs[29];
 #else
     (void)at;
-    one->pc = one->stack = one->frame = 0;
+    crash->pc = crash->stack = crash->frame = 0;
 #endif
 }
 
 /* Tells a tracer's consumer of this thread's crash, or of a signal that another process sent: whether there was a place for it. */
-static bool post(body *of, int signal, const siginfo_t *info, const void *context, bool is_from_outside, bool is_last) {
+static bool post(body *tracer, int signal, const siginfo_t *info, const void *context, bool is_from_outside, bool is_last) {
     for (uint32_t i = 0; i < MAX_CRASHES; i++) {
-        crash *one = &of->crashes[i];
+        struct crash *crash = &tracer->crashes[i];
         uint32_t none = CRASH_FREE;
-        if (!__atomic_compare_exchange_n(&one->state, &none, CRASH_FILLING, false, __ATOMIC_SEQ_CST, __ATOMIC_SEQ_CST)) continue;
-        one->signal = signal;
-        one->code = info->si_code;
-        one->address = info->si_code > 0 ? (uint64_t)(uintptr_t)info->si_addr : 0;
-        one->at = dspec_tracer_now();
-        note_registers(one, context);
-        one->token = dspec_tracer_token_4;
-        one->recent = LOAD(&dspec_tracer_recent_4);
-        one->is_from_outside = is_from_outside;
-        one->is_last = is_last;
-        note_sender(&one->by, info);
-        if (of->here != NULL) of->here(one->here);
-        one->thread = (uint32_t)syscall(SYS_gettid);
-        __atomic_store_n(&one->state, CRASH_READY, __ATOMIC_RELEASE);
-        consumer_wakes(of);
+        if (!__atomic_compare_exchange_n(&crash->state, &none, CRASH_FILLING, false, __ATOMIC_SEQ_CST, __ATOMIC_SEQ_CST)) continue;
+        crash->signal = signal;
+        crash->code = info->si_code;
+        crash->address = info->si_code > 0 ? (uint64_t)(uintptr_t)info->si_addr : 0;
+        crash->at = stamp_of(tracer);
+        note_registers(crash, context);
+        crash->token = dspec_tracer_token_5;
+        crash->recent = LOAD(&dspec_tracer_recent_5);
+        crash->is_from_outside = is_from_outside;
+        crash->is_last = is_last;
+        note_sender(&crash->by, info, crash->at);
+        if (tracer->here != NULL) tracer->here(crash->here);
+        crash->thread = (uint32_t)syscall(SYS_gettid);
+        __atomic_store_n(&crash->state, CRASH_READY, __ATOMIC_RELEASE);
+        consumer_wakes(tracer);
         return true;
     }
     return false;
 }
 
-void crash_is_saved(body *of, crash *of_thread) {
+void crash_is_saved(body *tracer, struct crash *of_thread) {
     uint32_t ready = CRASH_READY;
-    if (__atomic_compare_exchange_n(&of_thread->state, &ready, CRASH_FREE, false, __ATOMIC_SEQ_CST, __ATOMIC_SEQ_CST)) __atomic_fetch_sub(&of->unsaved, 1, __ATOMIC_SEQ_CST);
+    if (__atomic_compare_exchange_n(&of_thread->state, &ready, CRASH_FREE, false, __ATOMIC_SEQ_CST, __ATOMIC_SEQ_CST)) __atomic_fetch_sub(&tracer->unsaved, 1, __ATOMIC_SEQ_CST);
 }
 
 /* Waits a millisecond, where the time from `began` isn't over. */
@@ -290,16 +290,16 @@ static bool has_time(uint64_t began, uint32_t most_ms) {
 }
 
 /* Waits for a consumer that was told, and for the crashes of other threads too, since the process may end after this one. */
-static void wait_until_saved(body *of, uint64_t began) {
-    while (__atomic_load_n(&of->unsaved, __ATOMIC_SEQ_CST) != 0 && has_time(began, of->options.crash_ms)) {}
+static void wait_until_saved(body *tracer, uint64_t began) {
+    while (__atomic_load_n(&tracer->unsaved, __ATOMIC_SEQ_CST) != 0 && has_time(began, tracer->options.crash_ms)) {}
 }
 
 /* The process ends now: threads that crash at the same time and were kept from their processors have a moment yet. */
-static void wait_for_others(body *of, uint64_t began) {
+static void wait_for_others(body *tracer, uint64_t began) {
     for (uint64_t quiet = dspec_tracer_now(); has_time(quiet, LAST_CRASH_MS);) {
-        if (__atomic_load_n(&of->unsaved, __ATOMIC_SEQ_CST) == 0) continue;
-        wait_until_saved(of, began);
-        if (!has_time(began, of->options.crash_ms)) return;
+        if (__atomic_load_n(&tracer->unsaved, __ATOMIC_SEQ_CST) == 0) continue;
+        wait_until_saved(tracer, began);
+        if (!has_time(began, tracer->options.crash_ms)) return;
         quiet = dspec_tracer_now();
     }
 }
@@ -309,25 +309,25 @@ static void save_all(int signal, const siginfo_t *info, const void *context, boo
     const uint64_t began = dspec_tracer_now();
     const pid_t process = getpid();
     const bool is_last = is_default(signal);
-    slots told = { { 0 } }, posted = { { 0 } };
+    struct slots told = { { 0 } }, posted = { { 0 } };
     for (uint32_t slot = 0; slot < MAX_SLOTS; slot++) {
-        body *of = tracer_at(slot);
-        if (of == NULL || !is_wanted(of, process, true)) continue;
-        __atomic_fetch_add(&of->unsaved, 1, __ATOMIC_SEQ_CST);
-        if (post(of, signal, info, context, is_from_outside, is_last)) add_slot(&posted, slot);
+        body *tracer = tracer_at(slot);
+        if (tracer == NULL || !is_wanted(tracer, process, true)) continue;
+        __atomic_fetch_add(&tracer->unsaved, 1, __ATOMIC_SEQ_CST);
+        if (post(tracer, signal, info, context, is_from_outside, is_last)) add_slot(&posted, slot);
         add_slot(&told, slot);
     }
     for (uint32_t slot = 0; slot < MAX_SLOTS; slot++) {
-        body *of = has_slot(&told, slot) ? tracer_at(slot) : NULL;
+        body *tracer = has_slot(&told, slot) ? tracer_at(slot) : NULL;
         bool is_posted = has_slot(&posted, slot);
-        if (of == NULL) continue;
-        while (!is_posted && has_time(began, of->options.crash_ms)) is_posted = post(of, signal, info, context, is_from_outside, is_last);
+        if (tracer == NULL) continue;
+        while (!is_posted && has_time(began, tracer->options.crash_ms)) is_posted = post(tracer, signal, info, context, is_from_outside, is_last);
         if (is_posted) {
-            wait_until_saved(of, began);
-            if (is_last && LOAD(&of->threads) > 1) wait_for_others(of, began);
+            wait_until_saved(tracer, began);
+            if (is_last && LOAD(&tracer->threads) > 1) wait_for_others(tracer, began);
         } else {
-            __atomic_fetch_add(&of->never_saved, 1, __ATOMIC_SEQ_CST);
-            __atomic_fetch_sub(&of->unsaved, 1, __ATOMIC_SEQ_CST);
+            __atomic_fetch_add(&tracer->never_saved, 1, __ATOMIC_SEQ_CST);
+            __atomic_fetch_sub(&tracer->unsaved, 1, __ATOMIC_SEQ_CST);
         }
     }
 }

@@ -16,7 +16,7 @@ static uint32_t runs = DSPEC_TRACER_NONE_;
 
 body *tracer_at(uint32_t slot) { return __atomic_load_n(&tracers[slot], __ATOMIC_SEQ_CST); }
 
-void tracer_set(uint32_t slot, body *of) { __atomic_store_n(&tracers[slot], of, __ATOMIC_SEQ_CST); }
+void tracer_set(uint32_t slot, body *tracer) { __atomic_store_n(&tracers[slot], tracer, __ATOMIC_SEQ_CST); }
 
 bool process_is_ours(void) { return process == getpid(); }
 
@@ -51,14 +51,14 @@ static void in_child(void) {
 }
 
 /* Stops the consumer, who ends all; the caller has the lock. */
-static void stop(body *of) {
-    if (of->joined) return;
-    __atomic_store_n(&of->stop, 1, __ATOMIC_RELEASE);
-    consumer_wakes(of);
-    pthread_join(of->thread, NULL);
-    of->joined = true;
-    tracer_set(of->slot, NULL);
-    signals_unhook(&of->options);
+static void stop(body *tracer) {
+    if (tracer->joined) return;
+    __atomic_store_n(&tracer->stop, 1, __ATOMIC_RELEASE);
+    consumer_wakes(tracer);
+    pthread_join(tracer->thread, NULL);
+    tracer->joined = true;
+    tracer_set(tracer->slot, NULL);
+    signals_unhook(&tracer->options);
 }
 
 /* A child by _Fork has no consumer to stop. */
@@ -98,60 +98,62 @@ static size_t events_of(const dspec_enabling *const *events) {
     return count;
 }
 
-static void free_body(body *of) {
-    free(of->events);
-    free(of->added);
-    if (of->saved != NULL) survive_free(of);
-    else free(of);
+static void free_body(body *tracer) {
+    free(tracer->events);
+    free(tracer->added);
+    if (tracer->saved != NULL) survive_free(tracer);
+    else free(tracer);
 }
 
 /* Lets go what a tracer has that never came up. */
-static void unmake(body *of) {
-    events_forget(of);
-    for (uint32_t i = 0; i <= of->count; i++) lane_drop(&of->lanes[i]);
-    dspec_schema_drop(&of->schema);
-    free_body(of);
+static void unmake(body *tracer) {
+    events_forget(tracer);
+    for (uint32_t i = 0; i <= tracer->count; i++) lane_drop(&tracer->lanes[i]);
+    dspec_schema_drop(&tracer->schema);
+    free_body(tracer);
 }
 
 /* Room for a tracer, in memory of malloc's. */
 static body *room_for(const dspec_tracer_options *options) {
-    const size_t size = sizeof(body) + (options->lanes + 1) * sizeof(lane);
+    const size_t size = sizeof(body) + (options->lanes + 1) * sizeof(struct lane);
     void *at;
     if (posix_memalign(&at, CACHE_LINES, size) != 0) return NULL;
     memset(at, 0, size);
     return at;
 }
 
-static body *body_in(body *of, const dspec_tracer_options *options, size_t events) {
-    of->options = *options;
-    of->count = options->lanes;
-    of->by_thread = options->by_thread;
-    of->locked = options->no_membarrier || !barrier_is_there();
-    of->pid = getpid();
-    of->events = calloc(events + 1, sizeof *of->events);
-    for (uint32_t i = 0; i <= of->count; i++) {
-        of->lanes[i].number = i;
-        of->lanes[i].of = of;
-        of->lanes[i].opened = i + 1 - options->lanes;
-        of->lanes[i].front.state = of->locked ? IDLE | SHARED : IDLE;
+static body *body_in(body *tracer, const dspec_tracer_options *options, size_t events) {
+    tracer->options = *options;
+    tracer->count = options->lanes;
+    tracer->by_thread = options->by_thread;
+    tracer->locked = options->no_membarrier || !barrier_is_there();
+    tracer->pid = getpid();
+    clock_start(tracer);
+    tracer->events = calloc(events + 1, sizeof *tracer->events);
+    for (uint32_t i = 0; i <= tracer->count; i++) {
+        tracer->lanes[i].number = i;
+        tracer->lanes[i].tracer = tracer;
+        tracer->lanes[i].opened = i + 1 - options->lanes;
+        tracer->lanes[i].front.state = tracer->locked ? IDLE | SHARED : IDLE;
+        tracer->lanes[i].front.clock = tracer->clock;
     }
-    if (of->events != NULL) return of;
-    free_body(of);
+    if (tracer->events != NULL) return tracer;
+    free_body(tracer);
     return NULL;
 }
 
 /* A tracer that isn't up; NULL, and tracer->why says why not. */
 static body *body_new(dspec_tracer *tracer, const char *folder, const dspec_tracer_options *options, const dspec_enabling *const *events) {
-    body *of = options->survive ? survive_make(folder, options, events, tracer->why, sizeof tracer->why) : room_for(options);
-    if (of != NULL) of = body_in(of, options, events_of(events));
-    if (of == NULL && (!options->survive || tracer->why[0] == 0)) fail(tracer, "the tracer", dspec_status_text(DSPEC_NO_MEMORY));
-    return of;
+    body *run = options->survive ? survive_make(folder, options, events, tracer->why, sizeof tracer->why) : room_for(options);
+    if (run != NULL) run = body_in(run, options, events_of(events));
+    if (run == NULL && (!options->survive || tracer->why[0] == 0)) fail(tracer, "the tracer", dspec_status_text(DSPEC_NO_MEMORY));
+    return run;
 }
 
-static dspec_status start_lanes(body *of) {
-    void *before = dspec_memory_turn(of->memory);
+static dspec_status start_lanes(body *tracer) {
+    void *before = dspec_memory_turn(tracer->memory);
     dspec_status status = DSPEC_OK;
-    for (uint32_t i = 0; status == DSPEC_OK && i <= of->count; i++) status = lane_start(&of->lanes[i], &of->options, &of->schema);
+    for (uint32_t i = 0; status == DSPEC_OK && i <= tracer->count; i++) status = lane_start(&tracer->lanes[i], &tracer->options, &tracer->schema);
     dspec_memory_turn(before);
     return status;
 }
@@ -182,25 +184,25 @@ static const char *complete(dspec_tracer_options *options) {
     if (options->max_bytes > 0 && (options->max_folders < 2 || options->max_folders > DSPEC_FOLDER_MOST)) return "max_folders is not 2 to 64";
     if (keep_last && options->paths > 31) return "paths is not 1 to 31, of which each has two speculations by keep_last";
     if (keep_last && options->specsize < MOST_OF_A_RECORD) return "specsize is below 80, and keep_last needs room for each record";
-    return NULL;
+    return clock_choose(options);
 }
 
 /* The folder with its names, which stay no longer than that takes. */
-static bool begin_folder(dspec_tracer *tracer, body *of, const char *folder, const dspec_enabling *const *events) {
+static bool begin_folder(dspec_tracer *tracer, body *run, const char *folder, const dspec_enabling *const *events) {
     static const dspec_enabling *const none[] = { NULL };
-    whose us = { 0 };
+    struct whose whose = { 0 };
     struct naming *naming = naming_new();
     bool begun = false;
-    dspec_status status = naming == NULL ? DSPEC_NO_MEMORY : enable_all(of, events != NULL ? events : none, naming);
-    if (status == DSPEC_OK) status = start_lanes(of);
-    dspec_folder_limit(&of->folder, of->options.max_bytes, of->options.max_folders);
-    dspec_folder_reserve(&of->folder, of->options.bufsize); /* a crash in malloc has its lock: what is saved takes no memory */
+    dspec_status status = naming == NULL ? DSPEC_NO_MEMORY : enable_all(run, events != NULL ? events : none, naming);
+    if (status == DSPEC_OK) status = start_lanes(run);
+    dspec_folder_limit(&run->folder, run->options.max_bytes, run->options.max_folders);
+    dspec_folder_reserve(&run->folder, run->options.bufsize); /* a crash in malloc has its lock: what is saved takes no memory */
     if (status != DSPEC_OK) fail(tracer, "the session", dspec_status_text(status));
-    else if (!identify(&us)) fail(tracer, "the trace's number", strerror(errno));
-    else if (!dspec_folder_begin(&of->folder, folder, &of->schema, of->count + 1, &us.identity, naming_names(naming)))
-        fail(tracer, folder, dspec_folder_why(&of->folder));
+    else if (!identify(run, &whose)) fail(tracer, "the trace's number", strerror(errno));
+    else if (!dspec_folder_begin(&run->folder, folder, &run->schema, run->count + 1, &whose.identity, naming_names(naming)))
+        fail(tracer, folder, dspec_folder_why(&run->folder));
     else begun = true;
-    if (begun) survive_tell(of, &us, naming_names(naming));
+    if (begun) survive_tell(run, &whose, naming_names(naming));
     free(naming);
     return begun;
 }
@@ -218,13 +220,13 @@ static int add_of_object(struct dl_phdr_info *object, size_t unused, void *sum) 
 #define MOST_STACK ((size_t)1 << 28)
 
 /* Makes the consumer's thread with a stack of at least so many bytes. A C library that takes more than is known of it says that the stack is too small. */
-static int make_thread_with(body *of, size_t stack) {
+static int make_thread_with(body *tracer, size_t stack) {
     pthread_attr_t attributes;
     int code = pthread_attr_init(&attributes);
     if (code != 0) return code;
     do {
         code = pthread_attr_setstacksize(&attributes, stack);
-        if (code == 0) code = pthread_create(&of->thread, &attributes, consumer_runs, of);
+        if (code == 0) code = pthread_create(&tracer->thread, &attributes, consumer_runs, tracer);
         stack *= 2;
     } while (code == EINVAL && stack <= MOST_STACK);
     pthread_attr_destroy(&attributes);
@@ -233,7 +235,7 @@ static int make_thread_with(body *of, size_t stack) {
 
 /* The consumer gets no signal, and a fault of its own ends the process: no handler of the program's is meant for this thread, and a signal that the program's threads block waits for them.
  * SIGXFSZ is among those that it doesn't get, so a limit on files is an error of a write. */
-static int make_thread(body *of) {
+static int make_thread(body *tracer) {
     static const size_t page = 65536; /* as the machines have it whose pages are the largest */
     sigset_t all, before;
     size_t stack = STACK_SIZE;
@@ -241,18 +243,18 @@ static int make_thread(body *of) {
     dl_iterate_phdr(add_of_object, &stack);
     sigfillset(&all);
     pthread_sigmask(SIG_SETMASK, &all, &before);
-    code = make_thread_with(of, (stack + page - 1) / page * page);
+    code = make_thread_with(tracer, (stack + page - 1) / page * page);
     pthread_sigmask(SIG_SETMASK, &before, NULL);
     return code;
 }
 
-static bool make(dspec_tracer *tracer, body *of, const char *folder, const dspec_enabling *const *events) {
+static bool make(dspec_tracer *tracer, body *run, const char *folder, const dspec_enabling *const *events) {
     int code;
-    if (!begin_folder(tracer, of, folder, events)) return false;
-    code = make_thread(of);
+    if (!begin_folder(tracer, run, folder, events)) return false;
+    code = make_thread(run);
     if (code == 0) return true;
-    dspec_folder_undoes_(&of->folder);
-    dspec_folder_fails_(&of->folder, DSPEC_OK, code, NULL);
+    dspec_folder_undoes_(&run->folder);
+    dspec_folder_fails_(&run->folder, DSPEC_OK, code, NULL);
     return fail(tracer, "the consumer's thread", strerror(code));
 }
 
@@ -285,48 +287,48 @@ static bool start(dspec_tracer *tracer, const char *folder, const dspec_tracer_o
     dspec_tracer_options all = *options;
     const char *why = complete(&all);
     uint32_t slot = 0;
-    body *of;
+    body *run;
     if (tracer->body != NULL) return fail(tracer, "the tracer", "it was started before");
     while (slot < DSPEC_MAX_TRACERS && tracers[slot] != NULL) slot++;
     if (slot == DSPEC_MAX_TRACERS) return fail(tracer, "the tracer", "as many are up as can be");
     if (why != NULL) return fail(tracer, "the options", why);
     if (!has_parent(tracer, folder)) return false;
-    of = body_new(tracer, folder, &all, events);
-    if (of == NULL) return false;
-    of->slot = slot;
-    of->front = tracer;
-    for (uint32_t i = 0; i <= of->count; i++) of->lanes[i].front.slot = slot;
-    of->run = ++runs;
-    of->up = 1;
-    if (!make(tracer, of, folder, events)) {
-        unmake(of);
+    run = body_new(tracer, folder, &all, events);
+    if (run == NULL) return false;
+    run->slot = slot;
+    run->front = tracer;
+    for (uint32_t i = 0; i <= run->count; i++) run->lanes[i].front.slot = slot;
+    run->run = ++runs;
+    run->up = 1;
+    if (!make(tracer, run, folder, events)) {
+        unmake(run);
         return false;
     }
-    survive_is_whole(of, tracer->why, sizeof tracer->why);
-    tracer_set(slot, of);
+    survive_is_whole(run, tracer->why, sizeof tracer->why);
+    tracer_set(slot, run);
     STORE(&tracer->seat, (size_t)((const char *)&dspec_seats[slot] - dspec_tracer_thread_()));
-    STORE(&tracer->run, of->run);
+    STORE(&tracer->run, run->run);
     STORE(&tracer->up, 1);
-    __atomic_store_n(&tracer->body, of, __ATOMIC_RELEASE);
-    signals_hook(&of->options);
+    __atomic_store_n(&tracer->body, run, __ATOMIC_RELEASE);
+    signals_hook(&run->options);
     return true;
 }
 
 /* ---- The probes that a program declares. ---- */
 
-static bool is_same(const dspec_enabling *one, const dspec_enabling *other) {
-    if (one->n != other->n || memcmp(one->widths, other->widths, one->n) != 0 || memcmp(one->kinds, other->kinds, one->n) != 0) return false;
-    for (size_t i = 0; i < one->n; i++)
-        if (strcmp(one->fields[i], other->fields[i]) != 0) return false;
+static bool is_same(const dspec_enabling *enabling, const dspec_enabling *other) {
+    if (enabling->n != other->n || memcmp(enabling->widths, other->widths, enabling->n) != 0 || memcmp(enabling->kinds, other->kinds, enabling->n) != 0) return false;
+    for (size_t i = 0; i < enabling->n; i++)
+        if (strcmp(enabling->fields[i], other->fields[i]) != 0) return false;
     return true;
 }
 
 /* A probe is one event for all files of a program, so that all have to say the same of it. */
 static bool are_same(dspec_tracer *tracer, const dspec_enabling *const *declared, const dspec_enabling *const *end) {
-    for (const dspec_enabling *const *one = declared; one != end; one++)
-        for (const dspec_enabling *const *other = declared; other != one; other++) {
-            if ((*one)->event != (*other)->event || is_same(*one, *other)) continue;
-            snprintf(tracer->why, sizeof tracer->why, "probe `%s`: %s declares it with other fields than %s", (*one)->name, (*one)->file, (*other)->file);
+    for (const dspec_enabling *const *enabling = declared; enabling != end; enabling++)
+        for (const dspec_enabling *const *other = declared; other != enabling; other++) {
+            if ((*enabling)->event != (*other)->event || is_same(*enabling, *other)) continue;
+            snprintf(tracer->why, sizeof tracer->why, "probe `%s`: %s declares it with other fields than %s", (*enabling)->name, (*enabling)->file, (*other)->file);
             return false;
         }
     return true;
@@ -335,12 +337,12 @@ static bool are_same(dspec_tracer *tracer, const dspec_enabling *const *declared
 /* Names the probes that are declared and aren't among the events. */
 static void tell_missing(dspec_tracer *tracer, const dspec_enabling *const *events, const dspec_enabling *const *declared, const dspec_enabling *const *end) {
     size_t len = strlen(tracer->why), many = 0;
-    for (const dspec_enabling *const *one = declared; one != end; one++) {
+    for (const dspec_enabling *const *enabling = declared; enabling != end; enabling++) {
         bool is_there = false;
-        for (size_t i = 0; events != NULL && events[i] != NULL; i++) is_there |= events[i]->event == (*one)->event;
-        for (const dspec_enabling *const *other = declared; other != one; other++) is_there |= (*other)->event == (*one)->event;
+        for (size_t i = 0; events != NULL && events[i] != NULL; i++) is_there |= events[i]->event == (*enabling)->event;
+        for (const dspec_enabling *const *other = declared; other != enabling; other++) is_there |= (*other)->event == (*enabling)->event;
         if (is_there || len >= sizeof tracer->why) continue;
-        const int put = snprintf(tracer->why + len, sizeof tracer->why - len, "%s%s", many++ > 0 ? ", " : len > 0 ? "; declared, but not among the events: " : "declared, but not among the events: ", (*one)->name);
+        const int put = snprintf(tracer->why + len, sizeof tracer->why - len, "%s%s", many++ > 0 ? ", " : len > 0 ? "; declared, but not among the events: " : "declared, but not among the events: ", (*enabling)->name);
         len += put > 0 ? (size_t)put : 0;
     }
 }
@@ -364,57 +366,57 @@ bool dspec_tracer_start_sized(dspec_tracer *tracer, const char *folder, const ds
 /* ---- Probes of plugins. ---- */
 
 /* The place of the tracer's event of this name and these fields; -1: it has none. */
-static int place_of_event(const body *of, const dspec_enabling *one) {
-    for (int i = 0; of->events[i] != NULL; i++)
-        if (strcmp(of->events[i]->name, one->name) == 0 && is_same(of->events[i], one)) return i;
+static int place_of_event(const body *tracer, const dspec_enabling *enabling) {
+    for (int i = 0; tracer->events[i] != NULL; i++)
+        if (strcmp(tracer->events[i]->name, enabling->name) == 0 && is_same(tracer->events[i], enabling)) return i;
     return -1;
 }
 
 /* The caller has the lock. */
-static bool add(dspec_tracer *tracer, body *of, const dspec_enabling *const *events) {
-    if (!LOAD(&of->up)) return fail(tracer, "the tracer", "it isn't up");
+static bool add(dspec_tracer *tracer, body *run, const dspec_enabling *const *events) {
+    if (!LOAD(&run->up)) return fail(tracer, "the tracer", "it isn't up");
     for (size_t i = 0; events[i] != NULL; i++)
-        if (place_of_event(of, events[i]) < 0) return fail(tracer, events[i]->name, "a tracer's events are those of its start, and it has none of this name and these fields");
+        if (place_of_event(run, events[i]) < 0) return fail(tracer, events[i]->name, "a tracer's events are those of its start, and it has none of this name and these fields");
     for (size_t i = 0; events[i] != NULL; i++) {
-        if (event_adds(of, events[i]->event, of->claims[place_of_event(of, events[i])])) continue;
-        while (i-- > 0) event_goes(of, events[i]->event);
+        if (event_adds(run, events[i]->event, run->claims[place_of_event(run, events[i])])) continue;
+        while (i-- > 0) event_goes(run, events[i]->event);
         return fail(tracer, "the tracer", dspec_status_text(DSPEC_NO_MEMORY));
     }
     return true;
 }
 
 bool dspec_tracer_add(dspec_tracer *tracer, const dspec_enabling *const *events) {
-    body *of = __atomic_load_n(&tracer->body, __ATOMIC_ACQUIRE);
+    body *run = __atomic_load_n(&tracer->body, __ATOMIC_ACQUIRE);
     bool is_taken;
-    if (of == NULL || of->pid != getpid()) return fail(tracer, "the tracer", "it isn't up");
+    if (run == NULL || run->pid != getpid()) return fail(tracer, "the tracer", "it isn't up");
     tracers_lock();
     tracer->why[0] = 0;
-    is_taken = add(tracer, of, events);
+    is_taken = add(tracer, run, events);
     tracers_unlock();
     return is_taken;
 }
 
 void dspec_tracer_remove(dspec_tracer *tracer, const dspec_enabling *const *events) {
-    body *of = __atomic_load_n(&tracer->body, __ATOMIC_ACQUIRE);
-    if (of == NULL || of->pid != getpid()) return;
+    body *run = __atomic_load_n(&tracer->body, __ATOMIC_ACQUIRE);
+    if (run == NULL || run->pid != getpid()) return;
     tracers_lock();
-    for (size_t i = 0; events[i] != NULL; i++) event_goes(of, events[i]->event);
+    for (size_t i = 0; events[i] != NULL; i++) event_goes(run, events[i]->event);
     tracers_unlock();
 }
 
 /* ---- While it runs. ---- */
 
-static void counts(const body *of, dspec_tracer_report *report) {
-    for (uint32_t i = 0; i < of->count; i++) {
-        const lane *on = &of->lanes[i];
-        lane_add(report, &on->latest);
-        report->kept += LOAD(&on->kept);
-        report->thrown += LOAD(&on->thrown);
-        report->cut += LOAD(&on->cut);
-        report->cut_records += LOAD(&on->cut_records);
+static void counts(const body *tracer, dspec_tracer_report *report) {
+    for (uint32_t i = 0; i < tracer->count; i++) {
+        const struct lane *lane = &tracer->lanes[i];
+        lane_add(report, &lane->latest);
+        report->kept += LOAD(&lane->kept);
+        report->thrown += LOAD(&lane->thrown);
+        report->cut += LOAD(&lane->cut);
+        report->cut_records += LOAD(&lane->cut_records);
     }
-    report->crash_paths = LOAD(&of->report.crash_paths);
-    tell_counts(of, report);
+    report->crash_paths = LOAD(&tracer->report.crash_paths);
+    tell_counts(tracer, report);
 }
 
 /* As much of a report as the program has room for; what it has more is zeros. */
@@ -424,59 +426,59 @@ static void report_give(const dspec_tracer_report *from, dspec_tracer_report *re
 }
 
 bool dspec_tracer_counts_sized(dspec_tracer *tracer, dspec_tracer_report *report, size_t size) {
-    const body *of = __atomic_load_n(&tracer->body, __ATOMIC_ACQUIRE);
+    const body *run = __atomic_load_n(&tracer->body, __ATOMIC_ACQUIRE);
     dspec_tracer_report all = { 0 };
-    const bool is_up = of != NULL && of->pid == getpid() && LOAD(&of->up);
-    if (is_up) counts(of, &all);
+    const bool is_up = run != NULL && run->pid == getpid() && LOAD(&run->up);
+    if (is_up) counts(run, &all);
     report_give(&all, report, size);
     return is_up;
 }
 
 /* No seat has run 0, so that each record outside a path takes the closer look. */
 void dspec_tracer_switch(dspec_tracer *tracer, bool on) {
-    body *of = __atomic_load_n(&tracer->body, __ATOMIC_ACQUIRE);
-    if (of == NULL) return;
-    STORE(&tracer->run, on ? of->run : 0);
-    STORE(&tracer->up, on && LOAD(&of->up));
+    body *run = __atomic_load_n(&tracer->body, __ATOMIC_ACQUIRE);
+    if (run == NULL) return;
+    STORE(&tracer->run, on ? run->run : 0);
+    STORE(&tracer->up, on && LOAD(&run->up));
 }
 
 void dspec_tracer_switch_event(dspec_tracer *tracer, dspec_event *event, bool on) {
-    body *of = __atomic_load_n(&tracer->body, __ATOMIC_ACQUIRE);
-    for (uint32_t i = 0; of != NULL && LOAD(&of->up) && of->events[i] != NULL; i++)
-        if (of->events[i]->event == event) event_claims(event, of->slot, on ? of->claims[i] : DSPEC_TRACER_OFF_);
+    body *run = __atomic_load_n(&tracer->body, __ATOMIC_ACQUIRE);
+    for (uint32_t i = 0; run != NULL && LOAD(&run->up) && run->events[i] != NULL; i++)
+        if (run->events[i]->event == event) event_claims(event, run->slot, on ? run->claims[i] : DSPEC_TRACER_OFF_);
 }
 
 /* ---- The end. ---- */
 
 bool dspec_tracer_stop_sized(dspec_tracer *tracer, dspec_tracer_report *report, size_t size) {
-    body *of = __atomic_load_n(&tracer->body, __ATOMIC_ACQUIRE);
+    body *run = __atomic_load_n(&tracer->body, __ATOMIC_ACQUIRE);
     if (report != NULL) memset(report, 0, size);
-    if (of == NULL || of->pid != getpid()) return false;
+    if (run == NULL || run->pid != getpid()) return false;
     tracers_lock();
-    stop(of);
+    stop(run);
     tracers_unlock();
-    if (report != NULL) report_give(&of->report, report, size);
-    return of->whole;
+    if (report != NULL) report_give(&run->report, report, size);
+    return run->whole;
 }
 
 void dspec_tracer_drop(dspec_tracer *tracer) {
-    body *of = __atomic_load_n(&tracer->body, __ATOMIC_ACQUIRE);
-    if (of != NULL && of->pid == getpid()) {
+    body *run = __atomic_load_n(&tracer->body, __ATOMIC_ACQUIRE);
+    if (run != NULL && run->pid == getpid()) {
         dspec_tracer_stop(tracer, NULL);
-        if (signals_are_over()) free_body(of);
+        if (signals_are_over()) free_body(run);
     }
     memset(tracer, 0, sizeof *tracer);
 }
 
 bool dspec_tracer_flush(dspec_tracer *tracer, uint32_t timeout_ms) {
-    body *of = __atomic_load_n(&tracer->body, __ATOMIC_ACQUIRE);
+    body *run = __atomic_load_n(&tracer->body, __ATOMIC_ACQUIRE);
     uint32_t ticket;
     bool is_there;
-    if (of == NULL || of->pid != getpid() || !LOAD(&of->up)) return false;
-    __atomic_fetch_add(&of->flushing, 1, __ATOMIC_SEQ_CST);
-    ticket = __atomic_add_fetch(&of->asked, 1, __ATOMIC_SEQ_CST);
-    consumer_wakes(of);
-    is_there = consumer_served(of, ticket, timeout_ms) && !LOAD(&of->misses) && !lanes_wait_for_disk(of);
-    __atomic_fetch_sub(&of->flushing, 1, __ATOMIC_SEQ_CST);
+    if (run == NULL || run->pid != getpid() || !LOAD(&run->up)) return false;
+    __atomic_fetch_add(&run->flushing, 1, __ATOMIC_SEQ_CST);
+    ticket = __atomic_add_fetch(&run->asked, 1, __ATOMIC_SEQ_CST);
+    consumer_wakes(run);
+    is_there = consumer_served(run, ticket, timeout_ms) && !LOAD(&run->misses) && !lanes_wait_for_disk(run);
+    __atomic_fetch_sub(&run->flushing, 1, __ATOMIC_SEQ_CST);
     return is_there;
 }

@@ -15,7 +15,7 @@ enum { PAGE = 4096 };
 
 static uint64_t pages(uint64_t bytes) { return (bytes + PAGE - 1) / PAGE * PAGE; }
 
-uint64_t saved_body_size(uint32_t lanes) { return pages(sizeof(body) + (lanes + 1) * sizeof(lane)); }
+uint64_t saved_body_size(uint32_t lanes) { return pages(sizeof(body) + (lanes + 1) * sizeof(struct lane)); }
 
 /* FNV-1a of all before the sum but the magic. */
 uint64_t saved_sum(const saved_head *head) {
@@ -36,7 +36,7 @@ static dspec_status bytes_of(const dspec_tracer_options *options, const dspec_en
     dspec_schema schema = DSPEC_EMPTY;
     dspec_status status = dspec_schema_new(&schema);
     dspec_layout layout = { .stamped = true };
-    size_t each = 0;
+    size_t each = 0, table = 0;
     uint32_t epid, signature;
     if (status == DSPEC_OK) status = dspec_schema_stamp(&schema);
     for (int which = 0; which < 2; which++) {
@@ -50,7 +50,8 @@ static dspec_status bytes_of(const dspec_tracer_options *options, const dspec_en
     }
     if (status == DSPEC_OK) status = dspec_memory_for(&config, &schema, &each);
     dspec_schema_drop(&schema);
-    *bytes = 64 + (uint64_t)each * (options->lanes + 1);
+    if (status == DSPEC_OK) status = paths_memory(&table);
+    *bytes = 64 + ((uint64_t)each + table) * (options->lanes + 1);
     return status;
 }
 
@@ -66,16 +67,16 @@ static void *map_at_a_place(int file, uint64_t size) {
 }
 
 /* Takes away what was made of a file, and gives the name back. */
-static void unmake(memory_file *of, const char *folder) {
-    if (of->is_made) memory_file_unlink(of, folder);
-    memory_file_puts_back(of);
-    memory_file_close(of);
+static void unmake(memory_file *file, const char *folder) {
+    if (file->is_made) memory_file_unlink(file, folder);
+    memory_file_puts_back(file);
+    memory_file_close(file);
 }
 
 /* The head of a memory that has nothing yet. */
 static void begin_head(saved_head *head, const dspec_tracer_options *options, const memory_file *file, const char *folder, uint64_t size) {
     const uint64_t head_size = pages(sizeof *head), body_size = saved_body_size(options->lanes);
-    *head = (saved_head){ .version = SURVIVE_VERSION, .head_size = (uint32_t)head_size, .body_size = (uint32_t)body_size, .lane_size = sizeof(lane), .address = (uintptr_t)head, .size = size,
+    *head = (saved_head){ .version = SURVIVE_VERSION, .head_size = (uint32_t)head_size, .body_size = (uint32_t)body_size, .lane_size = sizeof(struct lane), .address = (uintptr_t)head, .size = size,
                           .body_at = head_size, .memory_at = head_size + body_size, .lanes = options->lanes, .paths = options->paths, .bufsize = options->bufsize,
                           .specsize = options->specsize, .max_folders = options->max_folders, .device = file->device, .inode = file->inode };
     snprintf(head->build, sizeof head->build, "%s", dspec_build());
@@ -86,25 +87,25 @@ static void begin_head(saved_head *head, const dspec_tracer_options *options, co
 static body *body_in_file(const memory_file *file, const dspec_tracer_options *options, const char *folder, uint64_t sessions, uint64_t size) {
     const uint64_t memory_at = size - pages(sessions);
     saved_head *head = map_at_a_place(file->at, size);
-    body *of;
+    body *tracer;
     if (head == NULL) return NULL;
     if (dspec_memory_begin((char *)head + memory_at, sessions) != DSPEC_OK) {
         munmap(head, size);
         return NULL;
     }
     begin_head(head, options, file, folder, size);
-    of = (body *)(void *)((char *)head + head->body_at);
-    of->saved = head;
-    of->memory = (char *)head + head->memory_at;
-    of->file = *file;
-    return of;
+    tracer = (body *)(void *)((char *)head + head->body_at);
+    tracer->saved = head;
+    tracer->memory = (char *)head + head->memory_at;
+    tracer->file = *file;
+    return tracer;
 }
 
 body *survive_make(const char *folder, const dspec_tracer_options *options, const dspec_enabling *const *events, char *why, size_t size) {
     char whole[4096];
     uint64_t sessions = 0, all;
     memory_file file;
-    body *of = NULL;
+    body *tracer = NULL;
     dspec_status status = bytes_of(options, events, &sessions);
     int code;
     if (status != DSPEC_OK) return fail(why, size, "the session", dspec_status_text(status));
@@ -120,8 +121,8 @@ body *survive_make(const char *folder, const dspec_tracer_options *options, cons
         return NULL;
     }
     code = memory_file_make(&file, all);
-    if (code == 0) of = body_in_file(&file, options, whole, sessions, all);
-    if (of != NULL) return of;
+    if (code == 0) tracer = body_in_file(&file, options, whole, sessions, all);
+    if (tracer != NULL) return tracer;
     unmake(&file, whole);
     if (code != 0 && snprintf(why, size, "%s: %s, for %llu bytes", file.name, code == EFBIG ? "RLIMIT_FSIZE (ulimit -f) is too low" : strerror(code), (unsigned long long)all) > 0) return NULL;
     return fail(why, size, file.name, "none of the addresses that it may have is free");
@@ -156,64 +157,71 @@ static void tell_name(saved_head *head, const dspec_names *names, size_t at, siz
     while (*kinds < names->kind_count && names->kinds[*kinds] == DSPEC_KIND_TEXT_NEXT);
 }
 
-void survive_tell(body *of, const struct whose *us, const dspec_names *names) {
-    saved_head *head = of->saved;
+void survive_tell(body *tracer, const struct whose *whose, const dspec_names *names) {
+    saved_head *head = tracer->saved;
     size_t kinds = 0, bytes = 0;
     if (head == NULL) return;
     for (size_t i = 0; i < names->count; i++) tell_name(head, names, i, &kinds, &bytes);
-    for (uint32_t i = 0; i < head->events_count; i++) memcpy(head->events[i].widths, of->layout.of[i].widths, sizeof head->events[i].widths);
-    head->pid = us->identity.pid;
-    head->hertz = us->identity.hertz;
-    head->seconds = us->identity.seconds;
-    head->ticks = us->identity.ticks;
-    snprintf(head->host, sizeof head->host, "%.*s", (int)us->identity.host.len, us->identity.host.bytes);
-    snprintf(head->program, sizeof head->program, "%s", us->name);
+    for (uint32_t i = 0; i < head->events_count; i++) memcpy(head->events[i].widths, tracer->layout.of[i].widths, sizeof head->events[i].widths);
+    head->pid = whose->identity.pid;
+    snprintf(head->host, sizeof head->host, "%.*s", (int)whose->identity.host.len, whose->identity.host.bytes);
+    snprintf(head->program, sizeof head->program, "%s", whose->name);
     head->process = memory_file_process(head->pid);
     head->sum = saved_sum(head);
+    survive_tell_clock(tracer, &whose->identity);
 }
 
-void survive_is_whole(body *of, char *why, size_t size) {
+void survive_tell_clock(body *tracer, const dspec_identity *identity) {
+    saved_head *head = tracer->saved;
+    uint64_t next;
+    if (head == NULL) return;
+    next = head->clock ^ 1;
+    head->clocks[next] = (saved_clock){ identity->hertz, identity->seconds, identity->ticks };
+    __atomic_store_n(&head->clock, next, __ATOMIC_RELEASE);
+}
+
+void survive_is_whole(body *tracer, char *why, size_t size) {
     uint32_t unread;
     size_t len;
-    if (of->saved == NULL) return;
-    __atomic_store_n(&of->saved->magic, SURVIVE_MAGIC, __ATOMIC_RELEASE);
-    unread = of->file.aside == 0 ? 0 : memory_file_prunes(&of->file);
-    of->file.aside = 0;
+    if (tracer->saved == NULL) return;
+    __atomic_store_n(&tracer->saved->magic, SURVIVE_MAGIC, __ATOMIC_RELEASE);
+    unread = tracer->file.aside == 0 ? 0 : memory_file_prunes(&tracer->file);
+    tracer->file.aside = 0;
     len = strlen(why);
     if (unread > 0) snprintf(why + len, size - len, "; the oldest of more than %d went, which nobody had read", SURVIVE_MOST_ASIDE);
 }
 
-void survive_over(body *of) {
+void survive_over(body *tracer) {
     int code;
-    if (of->saved == NULL || of->file.at < 0) return;
-    code = memory_file_unlink(&of->file, of->saved->folder);
-    if (code != 0 && of->report.why[0] == 0) snprintf(of->report.why, sizeof of->report.why, "the memory's file stays, %.80s: %s", of->file.name, strerror(code));
-    memory_file_close(&of->file);
+    if (tracer->saved == NULL || tracer->file.at < 0) return;
+    code = memory_file_unlink(&tracer->file, tracer->saved->folder);
+    if (code != 0 && tracer->report.why[0] == 0) snprintf(tracer->report.why, sizeof tracer->report.why, "the memory's file stays, %.80s: %s", tracer->file.name, strerror(code));
+    memory_file_close(&tracer->file);
 }
 
 /* Whether the folder has all that the memory has. No thread gets into a lane any more; the consumer found each empty after its last call, and has written what it took. */
-static bool is_settled(body *of) {
+static bool is_settled(body *tracer) {
     bool is = true;
-    for (uint32_t i = 0; i <= of->count; i++) {
-        lane *on = &of->lanes[i];
-        const uint32_t state = state_set(on, GONE);
-        is = is && (state & (IDLE | HELD)) == IDLE && LOAD(&on->front.inside) == 0 && LOAD(&on->bringing) == NOT_OUT && LOAD(&on->given) == LOAD(&on->switched);
-        for (uint32_t k = 0; k < MAX_OPEN; k++) is = is && (LOAD(&on->open[k].id) == 0 || LOAD(&on->open[k].saved));
+    for (uint32_t i = 0; i <= tracer->count; i++) {
+        struct lane *lane = &tracer->lanes[i];
+        const uint32_t state = state_set(lane, GONE);
+        is = is && (state & (IDLE | HELD)) == IDLE && LOAD(&lane->front.inside) == 0 && LOAD(&lane->bringing) == NOT_OUT && LOAD(&lane->given) == LOAD(&lane->switched);
+        for (uint32_t k = 0; k < MAX_OPEN; k++) is = is && LOAD(&lane->open[k].mark) == 0;
     }
     return is;
 }
 
-void survive_dies(body *of) {
-    const memory_file *file = &of->file;
-    if (of->saved == NULL || !memory_file_is_ours(file->parent, file->parent_device, file->parent_inode)) return;
-    if (is_settled(of)) memory_file_unlink(file, of->saved->folder);
+void survive_dies(body *tracer) {
+    const memory_file *file = &tracer->file;
+    if (tracer->saved == NULL || !memory_file_is_ours(file->parent, file->parent_device, file->parent_inode)) return;
+    if (is_settled(tracer)) memory_file_unlink(file, tracer->saved->folder);
 }
 
-void survive_free(body *of) {
-    saved_head *head = of->saved;
-    memory_file file = of->file;
+void survive_free(body *tracer) {
+    saved_head *head = tracer->saved;
+    memory_file file = tracer->file;
     if (file.at >= 0) unmake(&file, head->folder);
-    dspec_memory_end(of->memory);
+    dspec_memory_end(tracer->memory);
     munmap(head, head->size);
 }
 
@@ -226,13 +234,13 @@ static void copy_in_place(saved_head *head, size_t size) {
 }
 
 /* What the child does to the memory is its own from now on; the lock is the parent's alone. */
-void survive_in_child(body *of) {
-    saved_head *head = of->saved;
-    if (head == NULL || of->file.at < 0) return;
-    if (!memory_file_is_ours(of->file.at, of->file.device, of->file.inode) ||
-        mmap(head, head->size, PROT_READ | PROT_WRITE, MAP_PRIVATE | MAP_FIXED, of->file.at, 0) == MAP_FAILED)
+void survive_in_child(body *tracer) {
+    saved_head *head = tracer->saved;
+    if (head == NULL || tracer->file.at < 0) return;
+    if (!memory_file_is_ours(tracer->file.at, tracer->file.device, tracer->file.inode) ||
+        mmap(head, head->size, PROT_READ | PROT_WRITE, MAP_PRIVATE | MAP_FIXED, tracer->file.at, 0) == MAP_FAILED)
         copy_in_place(head, head->size);
-    memory_file_close(&of->file);
+    memory_file_close(&tracer->file);
 }
 
 uint64_t survive_brought(const dspec_folder *folder) {

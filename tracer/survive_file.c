@@ -38,9 +38,9 @@ static void close_ours(int *file, uint64_t device, uint64_t inode) {
     *file = -1;
 }
 
-void memory_file_close(memory_file *of) {
-    close_ours(&of->at, of->device, of->inode);
-    close_ours(&of->parent, of->parent_device, of->parent_inode);
+void memory_file_close(memory_file *file) {
+    close_ours(&file->at, file->device, file->inode);
+    close_ours(&file->parent, file->parent_device, file->parent_inode);
 }
 
 /* ---- Who has the file. ---- */
@@ -99,8 +99,8 @@ static bool is_used(int file, const struct stat *is) {
 /* Whether a tracer of this process has the file, whose lock the process would lose by opening and closing it once more; the caller has the tracers' lock. */
 static bool is_of_this_process(const struct stat *is) {
     for (uint32_t slot = 0; slot < DSPEC_MAX_TRACERS; slot++) {
-        const body *of = tracer_at(slot);
-        if (of != NULL && of->saved != NULL && of->file.at >= 0 && of->file.device == is->st_dev && of->file.inode == is->st_ino) return true;
+        const body *tracer = tracer_at(slot);
+        if (tracer != NULL && tracer->saved != NULL && tracer->file.at >= 0 && tracer->file.device == is->st_dev && tracer->file.inode == is->st_ino) return true;
     }
     return false;
 }
@@ -117,7 +117,7 @@ bool memory_file_is_this_process(const char *path) {
 /* ---- Its name. ---- */
 
 /* Opens the folder, and notes which one it is: 0 or the errno. */
-static int open_parent(memory_file *of, const char *path) {
+static int open_parent(memory_file *file, const char *path) {
     const int folder = above_streams(open(path, O_RDONLY | O_DIRECTORY | O_CLOEXEC));
     struct stat is;
     if (folder < 0) return errno;
@@ -126,17 +126,17 @@ static int open_parent(memory_file *of, const char *path) {
         close(folder);
         return code;
     }
-    of->parent = folder;
-    of->parent_device = is.st_dev;
-    of->parent_inode = is.st_ino;
+    file->parent = folder;
+    file->parent_device = is.st_dev;
+    file->parent_inode = is.st_ino;
     return 0;
 }
 
-int memory_file_place(memory_file *of, const char *folder, char whole[4096]) {
+int memory_file_place(memory_file *file, const char *folder, char whole[4096]) {
     const size_t length = strlen(folder);
     char given[4096], parent[PATH_MAX];
     size_t end = length, name;
-    *of = (memory_file){ .at = -1, .parent = -1 };
+    *file = (memory_file){ .at = -1, .parent = -1 };
     if (length == 0) return ENOENT;
     if (length >= sizeof given) return ENAMETOOLONG;
     while (end > 1 && folder[end - 1] == '/') end--;
@@ -145,19 +145,19 @@ int memory_file_place(memory_file *of, const char *folder, char whole[4096]) {
     snprintf(given, sizeof given, "%.*s", (int)name, folder);
     if (realpath(name == 0 ? "." : given, parent) == NULL) return errno;
     if (snprintf(whole, 4096, "%s/%.*s", strcmp(parent, "/") == 0 ? "" : parent, (int)(end - name), folder + name) >= 4096) return ENAMETOOLONG;
-    snprintf(of->name, sizeof of->name, "%.*s" ENDING, (int)(end - name), folder + name);
-    return open_parent(of, parent);
+    snprintf(file->name, sizeof file->name, "%.*s" ENDING, (int)(end - name), folder + name);
+    return open_parent(file, parent);
 }
 
 /* ---- What earlier runs left. ---- */
 
-static void name_aside(const memory_file *of, uint32_t number, char name[304]) { snprintf(name, 304, "%s-%u", of->name, number); }
+static void name_aside(const memory_file *file, uint32_t number, char name[304]) { snprintf(name, 304, "%s-%u", file->name, number); }
 
 /* The number of a name that was put aside; 0: it is none. */
-static uint32_t number_of(const memory_file *of, const char *name) {
-    const size_t length = strlen(of->name);
+static uint32_t number_of(const memory_file *file, const char *name) {
+    const size_t length = strlen(file->name);
     const char *digits = name + length + 1;
-    if (strncmp(name, of->name, length) != 0 || name[length] != '-' || digits[0] < '1' || digits[0] > '9') return 0;
+    if (strncmp(name, file->name, length) != 0 || name[length] != '-' || digits[0] < '1' || digits[0] > '9') return 0;
     return strlen(digits) <= 9 && strspn(digits, "0123456789") == strlen(digits) ? (uint32_t)strtoul(digits, NULL, 10) : 0;
 }
 
@@ -167,8 +167,8 @@ typedef struct earlier {
 } earlier;
 
 /* Whether it is a file of this user's; and whether it was salvaged. */
-static bool is_earlier(const memory_file *of, const char *name, bool *is_salvaged) {
-    const int file = openat(of->parent, name, O_RDONLY | O_NOFOLLOW | O_NONBLOCK | O_CLOEXEC);
+static bool is_earlier(const memory_file *memory, const char *name, bool *is_salvaged) {
+    const int file = openat(memory->parent, name, O_RDONLY | O_NOFOLLOW | O_NONBLOCK | O_CLOEXEC);
     uint64_t salvaged = 0;
     struct stat is;
     const bool is_file = file >= 0 && fstat(file, &is) == 0 && S_ISREG(is.st_mode) && is.st_uid == geteuid();
@@ -184,74 +184,74 @@ static void note_earlier(earlier *all, uint32_t number, bool is_salvaged) {
     if (is_salvaged && (all->oldest_salvaged == 0 || number < all->oldest_salvaged)) all->oldest_salvaged = number;
 }
 
-static earlier find_earlier(const memory_file *of) {
+static earlier find_earlier(const memory_file *file) {
     earlier all = { 0 };
-    const int again = openat(of->parent, ".", O_RDONLY | O_DIRECTORY | O_CLOEXEC);
+    const int again = openat(file->parent, ".", O_RDONLY | O_DIRECTORY | O_CLOEXEC);
     DIR *names = again < 0 ? NULL : fdopendir(again);
     if (names == NULL && again >= 0) close(again);
-    for (struct dirent *one; names != NULL && (one = readdir(names)) != NULL;) {
-        const uint32_t number = number_of(of, one->d_name);
+    for (struct dirent *entry; names != NULL && (entry = readdir(names)) != NULL;) {
+        const uint32_t number = number_of(file, entry->d_name);
         bool is_salvaged;
-        if (number != 0 && is_earlier(of, one->d_name, &is_salvaged)) note_earlier(&all, number, is_salvaged);
+        if (number != 0 && is_earlier(file, entry->d_name, &is_salvaged)) note_earlier(&all, number, is_salvaged);
     }
     if (names != NULL) closedir(names);
     return all;
 }
 
-static bool refuse(const memory_file *of, char *why, size_t size, const char *reason) {
-    if (snprintf(why, size, "%s: %s", of->name, reason) < 0) why[0] = 0;
+static bool refuse(const memory_file *file, char *why, size_t size, const char *reason) {
+    if (snprintf(why, size, "%s: %s", file->name, reason) < 0) why[0] = 0;
     return false;
 }
 
 /* Some file systems can't rename onto nothing, but make a second name. */
-static int move_to_free(const memory_file *of, const char *from, const char *to) {
-    if (syscall(SYS_renameat2, of->parent, from, of->parent, to, RENAME_ONTO_NOTHING) == 0) return 0;
+static int move_to_free(const memory_file *file, const char *from, const char *to) {
+    if (syscall(SYS_renameat2, file->parent, from, file->parent, to, RENAME_ONTO_NOTHING) == 0) return 0;
     if (errno != EINVAL && errno != ENOSYS) return errno;
-    return linkat(of->parent, from, of->parent, to, 0) == 0 && unlinkat(of->parent, from, 0) == 0 ? 0 : errno;
+    return linkat(file->parent, from, file->parent, to, 0) == 0 && unlinkat(file->parent, from, 0) == 0 ? 0 : errno;
 }
 
 /* Gives a file that nobody has the next number. */
-static bool puts_aside(memory_file *of, char *why, size_t size) {
+static bool puts_aside(memory_file *file, char *why, size_t size) {
     char name[304];
-    const uint32_t number = find_earlier(of).newest + 1;
+    const uint32_t number = find_earlier(file).newest + 1;
     int code;
-    name_aside(of, number, name);
-    code = move_to_free(of, of->name, name);
-    if (code != 0) return refuse(of, why, size, strerror(code));
-    of->aside = number;
+    name_aside(file, number, name);
+    code = move_to_free(file, file->name, name);
+    if (code != 0) return refuse(file, why, size, strerror(code));
+    file->aside = number;
     if (snprintf(why, size, "%s: a run that didn't stop left it; dspec-salvage reads it", name) < 0) why[0] = 0;
     return true;
 }
 
-bool memory_file_frees_name(memory_file *of, char *why, size_t size) {
+bool memory_file_frees_name(memory_file *memory, char *why, size_t size) {
     struct stat is;
     bool is_free;
     int file;
-    if (fstatat(of->parent, of->name, &is, AT_SYMLINK_NOFOLLOW) == 0 && is_of_this_process(&is)) return refuse(of, why, size, "another tracer of this process uses it");
-    file = above_streams(openat(of->parent, of->name, O_RDWR | O_NOFOLLOW | O_NONBLOCK | O_CLOEXEC));
+    if (fstatat(memory->parent, memory->name, &is, AT_SYMLINK_NOFOLLOW) == 0 && is_of_this_process(&is)) return refuse(memory, why, size, "another tracer of this process uses it");
+    file = above_streams(openat(memory->parent, memory->name, O_RDWR | O_NOFOLLOW | O_NONBLOCK | O_CLOEXEC));
     if (file < 0 && errno == ENOENT) return true;
-    if (file < 0) return refuse(of, why, size, errno == ELOOP ? "a link has this name" : strerror(errno));
-    if (fstat(file, &is) != 0 || !S_ISREG(is.st_mode) || is.st_uid != geteuid()) is_free = refuse(of, why, size, "what has this name is no file of this user's");
-    else if (is_used(file, &is)) is_free = refuse(of, why, size, "another process uses it");
-    else is_free = puts_aside(of, why, size);
+    if (file < 0) return refuse(memory, why, size, errno == ELOOP ? "a link has this name" : strerror(errno));
+    if (fstat(file, &is) != 0 || !S_ISREG(is.st_mode) || is.st_uid != geteuid()) is_free = refuse(memory, why, size, "what has this name is no file of this user's");
+    else if (is_used(file, &is)) is_free = refuse(memory, why, size, "another process uses it");
+    else is_free = puts_aside(memory, why, size);
     close(file);
     return is_free;
 }
 
-void memory_file_puts_back(memory_file *of) {
+void memory_file_puts_back(memory_file *file) {
     char name[304];
-    if (of->aside == 0) return;
-    name_aside(of, of->aside, name);
-    move_to_free(of, name, of->name);
-    of->aside = 0;
+    if (file->aside == 0) return;
+    name_aside(file, file->aside, name);
+    move_to_free(file, name, file->name);
+    file->aside = 0;
 }
 
-uint32_t memory_file_prunes(const memory_file *of) {
+uint32_t memory_file_prunes(const memory_file *file) {
     uint32_t unread = 0;
-    for (earlier all = find_earlier(of); all.count > SURVIVE_MOST_ASIDE; all = find_earlier(of)) {
+    for (earlier all = find_earlier(file); all.count > SURVIVE_MOST_ASIDE; all = find_earlier(file)) {
         char name[304];
-        name_aside(of, all.oldest_salvaged != 0 ? all.oldest_salvaged : all.oldest, name);
-        if (unlinkat(of->parent, name, 0) != 0) break;
+        name_aside(file, all.oldest_salvaged != 0 ? all.oldest_salvaged : all.oldest, name);
+        if (unlinkat(file->parent, name, 0) != 0) break;
         unread += all.oldest_salvaged == 0;
     }
     return unread;
@@ -261,22 +261,22 @@ uint32_t memory_file_prunes(const memory_file *of) {
 
 held_limit limit_hold(void) {
     held_limit held;
-    sigset_t one, pending;
-    sigemptyset(&one);
-    sigaddset(&one, SIGXFSZ);
+    sigset_t set, pending;
+    sigemptyset(&set);
+    sigaddset(&set, SIGXFSZ);
     sigpending(&pending);
     held.is_pending = sigismember(&pending, SIGXFSZ) == 1;
-    pthread_sigmask(SIG_BLOCK, &one, &held.before);
+    pthread_sigmask(SIG_BLOCK, &set, &held.before);
     return held;
 }
 
 void limit_release(const held_limit *held) {
     const struct timespec at_once = { 0, 0 };
-    sigset_t one;
-    sigemptyset(&one);
-    sigaddset(&one, SIGXFSZ);
+    sigset_t set;
+    sigemptyset(&set);
+    sigaddset(&set, SIGXFSZ);
     if (!held->is_pending)
-        while (sigtimedwait(&one, NULL, &at_once) < 0 && errno == EINTR) {}
+        while (sigtimedwait(&set, NULL, &at_once) < 0 && errno == EINTR) {}
     pthread_sigmask(SIG_SETMASK, &held->before, NULL);
 }
 
@@ -289,43 +289,43 @@ static int reserve(int file, uint64_t size) {
     return code;
 }
 
-int memory_file_make(memory_file *of, uint64_t size) {
-    int file = openat(of->parent, of->name, O_RDWR | O_CREAT | O_EXCL | O_NOFOLLOW | O_CLOEXEC, 0600), code;
+int memory_file_make(memory_file *memory, uint64_t size) {
+    int file = openat(memory->parent, memory->name, O_RDWR | O_CREAT | O_EXCL | O_NOFOLLOW | O_CLOEXEC, 0600), code;
     struct stat is;
     if (file < 0) return errno;
     file = above_streams(file);
     if (file < 0 || fstat(file, &is) != 0) {
         code = errno;
-        unlinkat(of->parent, of->name, 0);
+        unlinkat(memory->parent, memory->name, 0);
         if (file >= 0) close(file);
         return code;
     }
-    of->at = file;
-    of->device = is.st_dev;
-    of->inode = is.st_ino;
-    of->is_made = true;
+    memory->at = file;
+    memory->device = is.st_dev;
+    memory->inode = is.st_ino;
+    memory->is_made = true;
     code = memory_file_lock(file) ? 0 : errno;
     return code != 0 ? code : reserve(file, size);
 }
 
 /* Takes a name away where it is the file's; a name that somebody has taken away or given to another file isn't. */
-static int unlink_if_ours(const memory_file *of, int parent, const char *name) {
+static int unlink_if_ours(const memory_file *file, int parent, const char *name) {
     struct stat is;
     if (fstatat(parent, name, &is, AT_SYMLINK_NOFOLLOW) != 0) return errno;
-    if (is.st_dev != of->device || is.st_ino != of->inode) return ENOENT;
+    if (is.st_dev != file->device || is.st_ino != file->inode) return ENOENT;
     return unlinkat(parent, name, 0) == 0 ? 0 : errno;
 }
 
 /* In a frame of its own: a handler of a crash, which has no need of it, may have a small stack. */
-__attribute__((noinline)) static int unlink_by_path(const memory_file *of, const char *folder) {
+__attribute__((noinline)) static int unlink_by_path(const memory_file *file, const char *folder) {
     char path[4400];
     snprintf(path, sizeof path, "%.4095s" ENDING, folder);
-    return unlink_if_ours(of, AT_FDCWD, path);
+    return unlink_if_ours(file, AT_FDCWD, path);
 }
 
-int memory_file_unlink(const memory_file *of, const char *folder) {
+int memory_file_unlink(const memory_file *file, const char *folder) {
     int code;
-    if (!memory_file_is_ours(of->parent, of->parent_device, of->parent_inode)) return unlink_by_path(of, folder);
-    code = unlink_if_ours(of, of->parent, of->name);
+    if (!memory_file_is_ours(file->parent, file->parent_device, file->parent_inode)) return unlink_by_path(file, folder);
+    code = unlink_if_ours(file, file->parent, file->name);
     return code == ENOENT ? 0 : code;
 }

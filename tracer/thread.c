@@ -13,12 +13,12 @@ enum { STACK_SIZE = 65536, GUARD_SIZE = 4096 };
 #define DSPEC_MOST_TOKENS (NO_TOKEN - 1)
 #endif
 
-__thread here dspec_here __attribute__((tls_model("initial-exec")));
+__thread struct here dspec_here __attribute__((tls_model("initial-exec")));
 #define FREE_SEAT { .run = DSPEC_TRACER_NONE_, .plain = DSPEC_TRACER_NONE_ }
-__thread seat dspec_seats[DSPEC_MAX_TRACERS] __attribute__((tls_model("initial-exec"))) = { FREE_SEAT, FREE_SEAT, FREE_SEAT, FREE_SEAT, FREE_SEAT, FREE_SEAT, FREE_SEAT, FREE_SEAT };
+__thread dspec_tracer_seat dspec_seats[DSPEC_MAX_TRACERS] __attribute__((tls_model("initial-exec"))) = { FREE_SEAT, FREE_SEAT, FREE_SEAT, FREE_SEAT, FREE_SEAT, FREE_SEAT, FREE_SEAT, FREE_SEAT };
 static_assert(DSPEC_MAX_TRACERS == 8, "a free seat for each");
-__thread uint32_t dspec_tracer_token_4 __attribute__((tls_model("initial-exec"))) = NO_TOKEN;
-__thread uint64_t dspec_tracer_recent_4 __attribute__((tls_model("initial-exec")));
+__thread uint32_t dspec_tracer_token_5 __attribute__((tls_model("initial-exec"))) = NO_TOKEN;
+__thread uint64_t dspec_tracer_recent_5 __attribute__((tls_model("initial-exec")));
 
 static pthread_key_t key;
 static bool has_key;
@@ -48,33 +48,33 @@ void stack_off(void) {
     munmap(at, STACK_SIZE + GUARD_SIZE);
 }
 
-bool stack_is_ours(const stack_t *of) { return dspec_here.stack != NULL && of->ss_sp == (char *)dspec_here.stack + GUARD_SIZE; }
+bool stack_is_ours(const stack_t *stack) { return dspec_here.stack != NULL && stack->ss_sp == (char *)dspec_here.stack + GUARD_SIZE; }
 
 /* The thread has no seat, and is none that has been. A handler that comes in between finds a seat that is busy or no run's. */
 static void forget(void) {
-    dspec_tracer_token_4 = NO_TOKEN;
-    dspec_tracer_recent_4 = 0;
+    dspec_tracer_token_5 = NO_TOKEN;
+    dspec_tracer_recent_5 = 0;
     for (uint32_t slot = 0; slot < DSPEC_MAX_TRACERS; slot++) {
-        seat *me = &dspec_seats[slot];
-        me->run = DSPEC_TRACER_NONE_;
-        seat_owns(me, NULL);
-        seat_leave(me);
+        dspec_tracer_seat *seat = &dspec_seats[slot];
+        seat->run = DSPEC_TRACER_NONE_;
+        seat_owns(seat, NULL);
+        seat_leave(seat);
     }
 }
 
 /* The thread ends: what it left undecided is thrown away, and its lanes are others'. It is in each tracer meanwhile, and has no token, so that a handler's call finds nothing of it. */
 static void detach(void *unused) {
-    const uint32_t token = dspec_tracer_token_4;
+    const uint32_t token = dspec_tracer_token_5;
     bool is_in[DSPEC_MAX_TRACERS];
     (void)unused;
     tracers_lock();
     /* A seat that is in a call still was thrown out of it by a signal's handler: its lane stays as it is. */
     for (uint32_t slot = 0; slot < DSPEC_MAX_TRACERS; slot++) is_in[slot] = seat_enter(&dspec_seats[slot]);
-    dspec_tracer_token_4 = NO_TOKEN;
+    dspec_tracer_token_5 = NO_TOKEN;
     for (uint32_t slot = 0; slot < DSPEC_MAX_TRACERS; slot++) {
-        seat *me = &dspec_seats[slot];
-        body *of = tracer_at(slot);
-        if (of != NULL && me->run == of->run && LOAD(&of->up) && is_in[slot]) path_ends_with_thread(of, me, token);
+        dspec_tracer_seat *seat = &dspec_seats[slot];
+        body *tracer = tracer_at(slot);
+        if (tracer != NULL && seat->run == tracer->run && LOAD(&tracer->up) && is_in[slot]) path_ends_with_thread(tracer, seat, token);
     }
     forget();
     tracers_unlock();
@@ -94,54 +94,56 @@ void threads_in_child(void) {
 }
 
 /* Has the consumer tell what the thread is called. */
-static void see(body *of) {
-    seen_thread *at = &of->seen[ADD(&of->threads, 1) % MAX_SEEN];
+static void see(body *tracer) {
+    seen_thread *at = &tracer->seen[ADD(&tracer->threads, 1) % MAX_SEEN];
     prctl(PR_GET_NAME, at->name, 0, 0, 0);
     __atomic_store_n(&at->thread, dspec_here.thread, __ATOMIC_RELEASE);
+    consumer_stirs(tracer);
 }
 
 /* Whether the thread has a number that no other has or had; one is taken where it has none. */
 static bool has_token(void) {
     uint32_t given = LOAD(&tokens);
-    if (dspec_tracer_token_4 != NO_TOKEN) return true;
+    if (dspec_tracer_token_5 != NO_TOKEN) return true;
     do {
         if (given == DSPEC_MOST_TOKENS) return false;
     } while (!__atomic_compare_exchange_n(&tokens, &given, given + 1, false, __ATOMIC_RELAXED, __ATOMIC_RELAXED));
-    dspec_tracer_token_4 = given + 1;
+    dspec_tracer_token_5 = given + 1;
     return true;
 }
 
 /* The thread is in the tracer meanwhile, so that no handler comes in between. */
-static void attach(body *of, seat *me) {
-    me->open = 0;
-    me->last = &of->lanes[dspec_tracer_token_4 % of->count].front;
-    if (!of->options.no_crash) stack_on();
+static void attach(body *tracer, dspec_tracer_seat *seat) {
+    seat->open = 0;
+    seat->last = &tracer->lanes[dspec_tracer_token_5 % tracer->count].front;
+    if (!tracer->options.no_crash) stack_on();
     if (has_key) pthread_setspecific(key, &dspec_here);
     if (dspec_here.thread == 0) dspec_here.thread = (uint32_t)syscall(SYS_gettid);
-    see(of);
-    me->run = of->run;
-    seat_owns(me, NULL);
+    see(tracer);
+    seat->run = tracer->run;
+    seat_owns(seat, NULL);
 }
 
-RARELY dspec_status seat_take_slowly(body *of, seat *me) {
-    const bool is_new = me->run != of->run;
-    if (is_new && !LOAD(&of->up)) {
-        ADD(&of->late, 1);
+RARELY dspec_status seat_take_slowly(body *tracer, dspec_tracer_seat *seat) {
+    const bool is_new = seat->run != tracer->run;
+    if (is_new && !LOAD(&tracer->up)) {
+        ADD(&tracer->late, 1);
         return DSPEC_STOPPED;
     }
     /* What an earlier tracer left in the seat says nothing of this one, but for `busy`: the thread may be making the seat. */
-    if (!is_new || me->busy) {
-        ADD(&of->nested, 1);
+    if (!is_new || seat->busy) {
+        ADD(&tracer->nested, 1);
         return DSPEC_BUSY;
     }
     dspec_tracer_reach_();
-    me->busy = true;
+    seat->busy = true;
     __atomic_signal_fence(__ATOMIC_SEQ_CST);
     if (!has_token()) {
-        seat_leave(me);
-        ADD(&of->refused_records, 1);
+        seat_leave(seat);
+        ADD(&tracer->refused_records, 1);
+        consumer_stirs(tracer);
         return DSPEC_UNAVAILABLE;
     }
-    attach(of, me);
+    attach(tracer, seat);
     return DSPEC_OK;
 }

@@ -16,7 +16,7 @@ enum { WAIT_PRIVATE = 128, WAKE_PRIVATE = 129 };
 void word_waits(const uint32_t *word, uint32_t was, uint64_t nanoseconds) {
     const struct timespec most = { (time_t)(nanoseconds / DSPEC_NANOSECONDS), (long)(nanoseconds % DSPEC_NANOSECONDS) };
     const int saved = errno;
-    syscall(SYS_futex, word, WAIT_PRIVATE, was, &most, NULL, 0);
+    syscall(SYS_futex, word, WAIT_PRIVATE, was, nanoseconds == FOREVER ? NULL : &most, NULL, 0);
     errno = saved;
 }
 

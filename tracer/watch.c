@@ -17,48 +17,48 @@ static body *unused(void) {
 }
 
 dspec_watch *dspec_watch_begin(uint32_t crash_ms, void (*tells)(uint64_t *)) {
-    body *of;
+    body *tracer;
     tracers_begin();
     tracers_lock();
-    of = unused();
-    if (of != NULL) {
-        of->options = (dspec_tracer_options){ .crash_ms = crash_ms, .no_term = true };
-        of->here = tells;
-        of->pid = getpid();
-        of->deferring = of->deferred = of->ended = of->unsaved = of->never_saved = 0;
-        for (uint32_t i = 0; i < MAX_CRASHES; i++) of->crashes[i].state = CRASH_FREE;
-        tracer_set(of->slot, of);
-        signals_hook(&of->options);
+    tracer = unused();
+    if (tracer != NULL) {
+        tracer->options = (dspec_tracer_options){ .crash_ms = crash_ms, .no_term = true };
+        tracer->here = tells;
+        tracer->pid = getpid();
+        tracer->deferring = tracer->deferred = tracer->ended = tracer->unsaved = tracer->never_saved = 0;
+        for (uint32_t i = 0; i < MAX_CRASHES; i++) tracer->crashes[i].state = CRASH_FREE;
+        tracer_set(tracer->slot, tracer);
+        signals_hook(&tracer->options);
     }
     tracers_unlock();
-    return of;
+    return tracer;
 }
 
-void dspec_watch_sleep(dspec_watch *of, uint64_t nanoseconds) {
-    if (__atomic_load_n(&of->rings, __ATOMIC_ACQUIRE) == of->heard) word_waits(&of->rings, of->heard, nanoseconds);
-    of->heard = __atomic_load_n(&of->rings, __ATOMIC_ACQUIRE);
+void dspec_watch_sleep(dspec_watch *watch, uint64_t nanoseconds) {
+    if (__atomic_load_n(&watch->rings, __ATOMIC_ACQUIRE) == watch->heard) word_waits(&watch->rings, watch->heard, nanoseconds);
+    watch->heard = __atomic_load_n(&watch->rings, __ATOMIC_ACQUIRE);
 }
 
-void dspec_watch_ring(dspec_watch *of) { consumer_wakes(of); }
+void dspec_watch_ring(dspec_watch *watch) { consumer_wakes(watch); }
 
-bool dspec_watch_next(dspec_watch *of, dspec_watched *told) {
+bool dspec_watch_next(dspec_watch *watch, dspec_watched *told) {
     for (uint32_t i = 0; i < MAX_CRASHES; i++) {
-        const crash *one = &of->crashes[i];
-        if (__atomic_load_n(&one->state, __ATOMIC_ACQUIRE) != CRASH_READY) continue;
-        *told = (dspec_watched){ one->signal, one->code, one->address, one->at, one->pc, { one->here[0], one->here[1] }, one->thread, i };
+        const struct crash *crash = &watch->crashes[i];
+        if (__atomic_load_n(&crash->state, __ATOMIC_ACQUIRE) != CRASH_READY) continue;
+        *told = (dspec_watched){ crash->signal, crash->code, crash->address, crash->at, crash->pc, { crash->here[0], crash->here[1] }, crash->thread, i };
         return true;
     }
     return false;
 }
 
-void dspec_watch_saved(dspec_watch *of, uint32_t place) { crash_is_saved(of, &of->crashes[place]); }
+void dspec_watch_saved(dspec_watch *watch, uint32_t place) { crash_is_saved(watch, &watch->crashes[place]); }
 
-bool dspec_watch_place(dspec_watch *of, uint32_t place, uint32_t frame, uint64_t *offset, char file[DSPEC_WATCH_FILE]) {
-    const crash *one = &of->crashes[place];
-    uint64_t address = one->pc, callers[MOST_CALLERS];
+bool dspec_watch_place(dspec_watch *watch, uint32_t place, uint32_t frame, uint64_t *offset, char file[DSPEC_WATCH_FILE]) {
+    const struct crash *crash = &watch->crashes[place];
+    uint64_t address = crash->pc, callers[MOST_CALLERS];
     code_place at;
     if (frame > 0) {
-        if (callers_of(one, callers) < frame) return false;
+        if (callers_of(crash, callers) < frame) return false;
         address = callers[frame - 1] - 1; /* in the call */
     }
     if (!place_of(address, &at)) return false;
@@ -68,13 +68,13 @@ bool dspec_watch_place(dspec_watch *of, uint32_t place, uint32_t frame, uint64_t
     return true;
 }
 
-int32_t dspec_watch_signal(dspec_watch *of) { return (int32_t)__atomic_load_n(&of->deferred, __ATOMIC_ACQUIRE); }
+int32_t dspec_watch_signal(dspec_watch *watch) { return (int32_t)__atomic_load_n(&watch->deferred, __ATOMIC_ACQUIRE); }
 
-void dspec_watch_end(dspec_watch *of) {
-    if (of->pid != getpid()) return;
-    consumer_ends_by_signal(of);
+void dspec_watch_end(dspec_watch *watch) {
+    if (watch->pid != getpid()) return;
+    consumer_ends_by_signal(watch);
     tracers_lock();
-    tracer_set(of->slot, NULL);
-    signals_unhook(&of->options);
+    tracer_set(watch->slot, NULL);
+    signals_unhook(&watch->options);
     tracers_unlock();
 }

@@ -4,11 +4,11 @@
  *     cc -std=c11 -shared -fPIC files.c $(pkg-config --cflags --libs dspec) -ldl -lpthread -o files.so
  *     FILES_SLOW=2000 FILES_OUT=kept LD_PRELOAD=./files.so tar -cf archive.tar folder; cat kept.*
  *
- * FILES_SLOW is in microseconds; without it no operation is slow. What is printed goes to FILES_OUT with the process's number behind it,
+ * FILES_SLOW is in microseconds; without it no operation is slow. What is printed goes to FILES_OUT with the process's number after it,
  * or else to standard error; where FILES_TRACE names a folder, what was kept is written to one of that name and the number too, for
  * babeltrace2. An error that asks to try again is none. For Linux with glibc.
  *
- * Threads share LANES CPUs, each behind a lock: any CPU may record for any path, so a file may be opened by one thread and closed by
+ * Threads share LANES CPUs, each under a lock: any CPU may record for any path, so a file may be opened by one thread and closed by
  * another. Who closes a file makes a round over all CPUs, those of threads that sleep or have ended among them. What a signal's handler opens while
  * its thread is in the tracer is counted, not traced; a child of fork traces nothing before it is another program.
  */
@@ -178,7 +178,7 @@ static void record_text(lane *l, uint64_t path, uint64_t begun, const char *text
     }
 }
 
-/* A file's name, behind that of the folder where it is told from there. */
+/* A file's name, after that of the folder where it is told from there. */
 static void record_name(lane *l, uint64_t path, uint64_t begun, int folder, const char *name) {
     if (folder != AT_FDCWD && name[0] != '/') {
         char link[32], of[4096];
@@ -248,7 +248,7 @@ static void closed(uint64_t path, bool keep, int result, uint64_t begun) {
 
 /* ---- What the program calls. ---- */
 
-/* The mode, where there is one behind the flags. */
+/* The mode, where there is one after the flags. */
 #define MODE(flags, mode)                                                   \
     mode_t mode = 0;                                                        \
     if (((flags) & O_CREAT) != 0 || ((flags) & O_TMPFILE) == O_TMPFILE) {   \

@@ -18,7 +18,7 @@
 /* The one probe: a step of a request. */
 DSPEC_PROBE(step, uint32_t, request, uint32_t, number);
 
-/* A request's steps go to a speculation, which is committed or discarded behind the last of them. */
+/* A request's steps go to a speculation, which is committed or discarded after the last of them. */
 static void serve(dspec_cpu *cpu, const step_probe *step, uint32_t request, bool fails) {
     uint64_t id;
     uint32_t count;

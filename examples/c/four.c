@@ -40,7 +40,7 @@ typedef struct worker {
     dspec_report own;
 } worker;
 
-/* What the consumer, and main behind it, found in the batches of a CPU. */
+/* What the consumer, and main after it, found in the batches of a CPU. */
 typedef struct reading {
     uint64_t records, drops, last_round, last_path;
 } reading;

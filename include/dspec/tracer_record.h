@@ -1,5 +1,5 @@
-/* dspec/tracer_record.h: what a record of dspec_tracer.h does in its caller, where nobody is in its thread's way; else it is dspec_path_put's or dspec_tracer_put's. No program
- * includes it, or uses what stands here but dspec_path_record and dspec_tracer_record. How a lane is taken is told in tracer/body.h. */
+/* dspec/tracer_record.h: what a record of dspec_tracer.h does in its caller, when nobody is in its thread's way; else dspec_path_put or dspec_tracer_put does it. No program
+ * includes it, or uses anything of it but dspec_path_record and dspec_tracer_record. tracer/body.h tells how a lane is taken. */
 #ifndef DSPEC_TRACER_RECORD_H
 #define DSPEC_TRACER_RECORD_H
 
@@ -14,6 +14,15 @@ extern "C" {
 #define DSPEC_TRACER_APART_ __attribute__((aligned(128)))
 #define DSPEC_TRACER_LIKELY_(IS) __builtin_expect(!!(IS), 1)
 #define DSPEC_TRACER_INTO_CALLER_ __attribute__((always_inline, unused)) DSPEC_INLINE
+/* A function of another library is called without a jump in between, where the compiler knows how. */
+#if defined(__has_attribute)
+#if __has_attribute(noplt)
+#define DSPEC_TRACER_NO_PLT_ __attribute__((noplt))
+#endif
+#endif
+#ifndef DSPEC_TRACER_NO_PLT_
+#define DSPEC_TRACER_NO_PLT_
+#endif
 
 /* Of a lane's state: six bits, and above them how many paths are on it, and 1 more where it is a thread's own (tracer/body.h). */
 #define DSPEC_TRACER_HELD_ 1u
@@ -27,6 +36,7 @@ typedef struct dspec_tracer_lane {
     uint32_t commits;  /* the call that is made is a commit */
     uint64_t answered; /* records in the principal buffer whose calls have come back; both are for dspec_salvage */
     dspec_cpu cpu;
+    uint32_t clock; /* of its stamps: DSPEC_CLOCK_MONOTONIC or DSPEC_CLOCK_TSC */
 } dspec_tracer_lane;
 
 /* And of its thread in a tracer. */
@@ -45,11 +55,11 @@ typedef struct dspec_tracer_seat {
 /* What records of an event claim that is switched off. */
 #define DSPEC_TRACER_OFF_ 1u
 
-/* A number that no other thread has or had, and not 0. A handler may look at it: it stands where the thread's memory is, and is never made at its first use. That room is scarce where a library is loaded
+/* A number that no other thread has or had, and not 0. A handler may look at it: it is where the thread's memory is, and is never made at its first use. That room is scarce where a library is loaded
  * late. The number in the name goes up with each change of what is laid out here or in dspec_tracer.h, so that a program which was compiled with another one finds no library. */
-extern __thread uint32_t dspec_tracer_token_4 __attribute__((tls_model("initial-exec")));
+extern __thread uint32_t dspec_tracer_token_5 __attribute__((tls_model("initial-exec")));
 /* The number of the path to which the thread recorded last, in the upper half. */
-extern __thread uint64_t dspec_tracer_recent_4 __attribute__((tls_model("initial-exec")));
+extern __thread uint64_t dspec_tracer_recent_5 __attribute__((tls_model("initial-exec")));
 
 /* A record that isn't made in its caller: the first of a path, one on another thread, or one that somebody is in the way of. */
 dspec_status dspec_path_put_slowly_(dspec_path *path, const dspec_event *event, const uint64_t *words, size_t n) DSPEC_NOEXCEPT;
@@ -60,16 +70,9 @@ bool dspec_path_turn(dspec_path *path, const dspec_event *event, dspec_status st
 void dspec_tracer_missed(dspec_tracer *tracer, const dspec_event *event, dspec_status status) DSPEC_NOEXCEPT;
 
 /* clock_gettime, which <time.h> shows only to programs that ask for POSIX. */
-int dspec_tracer_clock_(int clock, struct timespec *at) DSPEC_NOEXCEPT __asm__("clock_gettime");
+int dspec_tracer_clock_(int clock, struct timespec *at) DSPEC_NOEXCEPT __asm__("clock_gettime") DSPEC_TRACER_NO_PLT_;
 
-/* As dspec_tracer_now. */
-DSPEC_INLINE uint64_t dspec_tracer_stamp_(void) DSPEC_NOEXCEPT {
-    struct timespec at;
-    dspec_tracer_clock_(1 /* CLOCK_MONOTONIC */, &at);
-    return DSPEC_AS(uint64_t, at.tv_sec) * 1000000000u + DSPEC_AS(uint64_t, at.tv_nsec);
-}
-
-/* A commit takes some 3,600 bytes of stack (docs/C.md), and a stack that ends here ends before the call, where a crash can still keep the path, and not in the middle of it. */
+/* A commit takes some 3,600 bytes of stack (docs/REFERENCE.md), and a stack that ends here ends before the call, where a crash can still keep the path, and not in the middle of it. */
 DSPEC_INLINE void dspec_tracer_reach_(void) DSPEC_NOEXCEPT {
 #if defined(__x86_64__)
     __asm__ volatile("testb $0, -6144(%%rsp)" : : : "cc");
@@ -78,23 +81,23 @@ DSPEC_INLINE void dspec_tracer_reach_(void) DSPEC_NOEXCEPT {
 #endif
 }
 
-/* A thread's seats are as far behind this place in each thread. */
+/* A thread's seats have the same distance from this place in each thread. */
 DSPEC_INLINE char *dspec_tracer_thread_(void) DSPEC_NOEXCEPT {
     char *at;
 #if defined(__x86_64__)
     __asm__("movq %%fs:0, %0" : "=r"(at));
 #else
-    at = DSPEC_AS(char *, DSPEC_AS(void *, &dspec_tracer_token_4));
+    at = DSPEC_AS(char *, DSPEC_AS(void *, &dspec_tracer_token_5));
 #endif
     return at;
 }
 
 DSPEC_INLINE dspec_tracer_seat *dspec_tracer_seat_of_(const dspec_tracer *tracer) DSPEC_NOEXCEPT {
-    return DSPEC_AS(dspec_tracer_seat *, DSPEC_AS(void *, dspec_tracer_thread_() + __atomic_load_n(&tracer->seat, __ATOMIC_RELAXED)));
+    return DSPEC_AS(dspec_tracer_seat *, DSPEC_AS(void *, dspec_tracer_thread_() + DSPEC_AS(ptrdiff_t, __atomic_load_n(&tracer->seat, __ATOMIC_RELAXED))));
 }
 
 /* Whether a path is open on its thread's own lane, and this is its thread. */
-DSPEC_INLINE bool dspec_path_is_here_(const dspec_path *path) DSPEC_NOEXCEPT { return path->token == dspec_tracer_token_4; }
+DSPEC_INLINE bool dspec_path_is_here_(const dspec_path *path) DSPEC_NOEXCEPT { return path->token == dspec_tracer_token_5; }
 
 /* Whether the thread's record that is in no path can be tried on the lane that it had last. */
 DSPEC_INLINE bool dspec_tracer_is_plain_(const dspec_tracer *tracer) DSPEC_NOEXCEPT {
@@ -102,15 +105,15 @@ DSPEC_INLINE bool dspec_tracer_is_plain_(const dspec_tracer *tracer) DSPEC_NOEXC
 }
 
 /* Into a call on the thread's own lane, where nobody wants it: whether it is in. */
-DSPEC_INLINE bool dspec_tracer_enter_(dspec_tracer_lane *on) DSPEC_NOEXCEPT {
-    __atomic_store_n(&on->inside, 1, __ATOMIC_RELAXED);
+DSPEC_INLINE bool dspec_tracer_enter_(dspec_tracer_lane *lane) DSPEC_NOEXCEPT {
+    __atomic_store_n(&lane->inside, 1, __ATOMIC_RELAXED);
     __atomic_signal_fence(__ATOMIC_SEQ_CST);
-    if (DSPEC_TRACER_LIKELY_(!(__atomic_load_n(&on->state, __ATOMIC_ACQUIRE) & DSPEC_TRACER_LOOK_))) return true;
-    __atomic_store_n(&on->inside, 0, __ATOMIC_RELEASE);
+    if (DSPEC_TRACER_LIKELY_(!(__atomic_load_n(&lane->state, __ATOMIC_ACQUIRE) & DSPEC_TRACER_LOOK_))) return true;
+    __atomic_store_n(&lane->inside, 0, __ATOMIC_RELEASE);
     return false;
 }
 
-DSPEC_INLINE void dspec_tracer_leave_(dspec_tracer_lane *on) DSPEC_NOEXCEPT { __atomic_store_n(&on->inside, 0, __ATOMIC_RELEASE); }
+DSPEC_INLINE void dspec_tracer_leave_(dspec_tracer_lane *lane) DSPEC_NOEXCEPT { __atomic_store_n(&lane->inside, 0, __ATOMIC_RELEASE); }
 
 /* Whether a word is 0, which others may write. A compiler loads an atomic word before it compares it; this compares it where it is. */
 DSPEC_TRACER_INTO_CALLER_ bool dspec_tracer_is_zero_(const uint32_t *word) DSPEC_NOEXCEPT {
@@ -121,6 +124,18 @@ DSPEC_TRACER_INTO_CALLER_ bool dspec_tracer_is_zero_(const uint32_t *word) DSPEC
 #else
     return __atomic_load_n(word, __ATOMIC_RELAXED) == 0;
 #endif
+}
+
+/* A stamp of the clock that this word says. */
+DSPEC_TRACER_INTO_CALLER_ uint64_t dspec_tracer_stamp_(const uint32_t *clock) DSPEC_NOEXCEPT {
+    struct timespec at;
+#if defined(__x86_64__)
+    if (!DSPEC_TRACER_LIKELY_(dspec_tracer_is_zero_(clock))) return __builtin_ia32_rdtsc();
+#else
+    (void)clock;
+#endif
+    dspec_tracer_clock_(1 /* CLOCK_MONOTONIC */, &at);
+    return DSPEC_AS(uint64_t, at.tv_sec) * 1000000000u + DSPEC_AS(uint64_t, at.tv_nsec);
 }
 
 /* Whether each tracer that has an event records it. */
@@ -152,55 +167,55 @@ DSPEC_INLINE dspec_status dspec_tracer_put_(dspec_cpu *cpu, uint64_t claim, uint
 }
 
 /* A record, in the call on a lane, that is in no path. */
-DSPEC_INLINE dspec_status dspec_tracer_fill_(dspec_tracer_lane *on, uint64_t claim, uint64_t now, const uint64_t *words, size_t n) DSPEC_NOEXCEPT {
-    const dspec_status status = dspec_tracer_put_(&on->cpu, claim, now, words, n);
+DSPEC_INLINE dspec_status dspec_tracer_fill_(dspec_tracer_lane *lane, uint64_t claim, uint64_t now, const uint64_t *words, size_t n) DSPEC_NOEXCEPT {
+    const dspec_status status = dspec_tracer_put_(&lane->cpu, claim, now, words, n);
     __atomic_signal_fence(__ATOMIC_SEQ_CST);
-    __atomic_store_n(&on->answered, on->answered + (status == DSPEC_OK), __ATOMIC_RELAXED);
+    __atomic_store_n(&lane->answered, lane->answered + (status == DSPEC_OK), __ATOMIC_RELAXED);
     return status;
 }
 
 /* Of a path that is open on its thread's own lane: whether it was made, and what came of it. A handler that comes in between finds `inside`. A record that finds room in another speculation is made
  * once more, with a stamp of its own, so that nothing has to be remembered for that. */
 DSPEC_TRACER_INTO_CALLER_ bool dspec_path_try_(dspec_path *path, const dspec_event *event, const uint64_t *words, size_t n, dspec_status *status) DSPEC_NOEXCEPT {
-    dspec_tracer_lane *on;
+    dspec_tracer_lane *lane;
     uint64_t now, mark;
     bool is_made = true;
     if (!DSPEC_TRACER_LIKELY_(dspec_path_is_here_(path))) return false;
-    __asm__ volatile("" : : : "memory"); /* a handler that comes in between may begin this path: its lane is looked at behind its token */
-    on = path->lane;
-    __asm__("" : "+r"(on)); /* a compiler that sees that a path has no lane yet doesn't know that no thread has its token */
-    if (!DSPEC_TRACER_LIKELY_(dspec_tracer_is_zero_(&on->inside))) return false;
+    __asm__ volatile("" : : : "memory"); /* a handler that comes in between may begin this path: its lane is looked at after its token */
+    lane = path->lane;
+    __asm__("" : "+r"(lane)); /* a compiler that sees that a path has no lane yet doesn't know that no thread has its token */
+    if (!DSPEC_TRACER_LIKELY_(dspec_tracer_is_zero_(&lane->inside))) return false;
     dspec_tracer_reach_();
-    if (!DSPEC_TRACER_LIKELY_(dspec_tracer_enter_(on))) return false;
-    now = dspec_tracer_stamp_();
+    if (!DSPEC_TRACER_LIKELY_(dspec_tracer_enter_(lane))) return false;
+    now = dspec_tracer_stamp_(&lane->clock);
     mark = path->mark;
-    __atomic_store_n(&dspec_tracer_recent_4, mark, __ATOMIC_RELAXED);
-    *status = dspec_tracer_put_in_(&on->cpu, path->id, dspec_tracer_claim_(event, on->slot), now, words[0] | mark, words, n);
+    __atomic_store_n(&dspec_tracer_recent_5, mark, __ATOMIC_RELAXED);
+    *status = dspec_tracer_put_in_(&lane->cpu, path->id, dspec_tracer_claim_(event, lane->slot), now, words[0] | mark, words, n);
     if (!DSPEC_TRACER_LIKELY_(*status == DSPEC_OK)) is_made = !dspec_path_turn(path, event, *status);
-    dspec_tracer_leave_(on);
+    dspec_tracer_leave_(lane);
     return is_made;
 }
 
 /* Of no path, on the lane that the thread had last, where nobody is on that. A handler that comes in between finds that `plain` is no run. */
 DSPEC_TRACER_INTO_CALLER_ bool dspec_tracer_try_(dspec_tracer *tracer, const dspec_event *event, const uint64_t *words, size_t n, dspec_status *status) DSPEC_NOEXCEPT {
-    dspec_tracer_seat *me = dspec_tracer_seat_of_(tracer);
-    dspec_tracer_lane *on;
+    dspec_tracer_seat *seat = dspec_tracer_seat_of_(tracer);
+    dspec_tracer_lane *lane;
     const uint32_t run = __atomic_load_n(&tracer->run, __ATOMIC_RELAXED);
     uint32_t state = 0;
     bool is_in;
-    if (!DSPEC_TRACER_LIKELY_(me->plain == run)) return false;
-    on = me->last;
+    if (!DSPEC_TRACER_LIKELY_(seat->plain == run)) return false;
+    lane = seat->last;
     dspec_tracer_reach_();
-    __atomic_store_n(&me->plain, DSPEC_TRACER_NONE_, __ATOMIC_RELAXED);
+    __atomic_store_n(&seat->plain, DSPEC_TRACER_NONE_, __ATOMIC_RELAXED);
     __atomic_signal_fence(__ATOMIC_SEQ_CST);
-    is_in = __atomic_compare_exchange_n(&on->state, &state, DSPEC_TRACER_HELD_, false, __ATOMIC_SEQ_CST, __ATOMIC_SEQ_CST);
+    is_in = __atomic_compare_exchange_n(&lane->state, &state, DSPEC_TRACER_HELD_, false, __ATOMIC_SEQ_CST, __ATOMIC_SEQ_CST);
     if (DSPEC_TRACER_LIKELY_(is_in)) {
-        const uint64_t now = dspec_tracer_stamp_();
-        *status = dspec_tracer_fill_(on, dspec_tracer_claim_(event, on->slot), now, words, n);
-        __atomic_fetch_and(&on->state, ~DSPEC_TRACER_HELD_, __ATOMIC_SEQ_CST);
+        const uint64_t now = dspec_tracer_stamp_(&lane->clock);
+        *status = dspec_tracer_fill_(lane, dspec_tracer_claim_(event, lane->slot), now, words, n);
+        __atomic_fetch_and(&lane->state, ~DSPEC_TRACER_HELD_, __ATOMIC_SEQ_CST);
     }
     __atomic_signal_fence(__ATOMIC_SEQ_CST);
-    __atomic_store_n(&me->plain, run, __ATOMIC_RELAXED);
+    __atomic_store_n(&seat->plain, run, __ATOMIC_RELAXED);
     if (is_in && !DSPEC_TRACER_LIKELY_(*status == DSPEC_OK)) dspec_tracer_missed(tracer, event, *status);
     return is_in;
 }

@@ -4,8 +4,10 @@
 
 #include "check.h"
 
+#include <errno.h>
 #include <signal.h>
 #include <sys/resource.h>
+#include <sys/stat.h>
 #include <time.h>
 
 static const uint8_t FOUR[] = { 4 };
@@ -266,10 +268,36 @@ static void batch_that_is_none(const char *path) {
     CHECK(dspec_folder_begin(&folder, path, &schema, 4, &identity, NULL));
     CHECK(!dspec_folder_take(&folder, &layout, &other) && folder.last.status == DSPEC_NO_SUCH_CPU && folder.last.records == 2);
     CHECK(!dspec_folder_take(&folder, &layout, &batch) && folder.last.status == DSPEC_BAD_RECORD && folder.last.records == 1);
-    CHECK(!dspec_folder_end(&folder));
+    CHECK(!dspec_folder_end(&folder) && folder.first.status == DSPEC_NO_SUCH_CPU && folder.first.records == 3);
     packet(&due, 0, 0, 0, NULL, 0);
     packet(&due, 0, 0, 5, NULL, 0);
     has(path, "cpu_3_0", &due);
+}
+
+/* How many bytes of the disk a file takes. */
+static uint64_t taken_by(const char *folder, const char *name) {
+    char path[4200];
+    struct stat of = { 0 };
+    snprintf(path, sizeof path, "%s/%s", folder, name);
+    CHECK(stat(path, &of) == 0);
+    return (uint64_t)of.st_blocks * 512;
+}
+
+/* A file takes no more of the disk at the end than one with the same bytes that was written at once: the room that the system kept for its last packet is given back. */
+static void room_that_was_kept(const char *path) {
+    static dspec_folder folder;
+    const uint64_t stamps[] = { 7, 8 };
+    bytes due = { .len = 0 };
+    char same[4200];
+    FILE *file;
+    packet(&due, 7, 8, 0, stamps, 2);
+    CHECK(dspec_folder_begin(&folder, path, &schema, 4, &identity, NULL) && takes(&folder, 0, stamps, 2) && dspec_folder_end(&folder));
+    has(path, "cpu_3_0", &due);
+    snprintf(same, sizeof same, "%s/same", path);
+    file = fopen(same, "wb");
+    if (file == NULL || fwrite(due.of, 1, due.len, file) != due.len || fclose(file) != 0) exit(2);
+    const uint64_t least = taken_by(path, "same");
+    CHECK(taken_by(path, "cpu_3_0") <= (least > 4096 ? least : 4096));
 }
 
 /* What the system says of this process, and of its clock. */
@@ -306,6 +334,8 @@ int main(int argc, char **argv) {
     writes_that_fail(argv[1]);
     snprintf(path, sizeof path, "%s.none", argv[1]);
     batch_that_is_none(path);
+    snprintf(path, sizeof path, "%s.room", argv[1]);
+    room_that_was_kept(path);
     dspec_schema_drop(&schema);
     return check_end();
 }

@@ -141,6 +141,7 @@ static void environment(void) {
     refuses("x,slow=", "`slow=`: a time");
     refuses("x,slow=99999999999s", "`slow=99999999999s`: a time");
     refuses("x,max=64X", "`max=64X`: a size is a number, or one with K, M or G");
+    refuses("x,max=18446744073709551617", "`max=18446744073709551617`: a size is a number");
     refuses("x,sample=-1", "`sample=-1`: this is no count");
     refuses("x,sample", "`sample`: this word has a value");
     refuses("x,survive=1", "`survive=1`: this word has no value");

@@ -12,6 +12,7 @@
 #include <stdio.h>
 #include <stdlib.h>
 #include <string.h>
+#include <sys/wait.h>
 #include <unistd.h>
 
 DSPEC_PROBE(query, uint64_t, request, uint32_t, step);
@@ -70,6 +71,12 @@ static int threads_but(int others) {
     return found;
 }
 
+/* What stays of so many blocks, descriptors and threads, and whether there is a child that nobody has waited for. */
+static void tell_what_stays(long held, int files, int tasks) {
+    const bool has_child = waitpid(-1, NULL, WNOHANG) >= 0;
+    printf("stays %ld blocks %d files %d threads %d children\n", blocks - held, entries("/proc/self/fd") - files, threads_but(tasks), has_child);
+}
+
 static void counts_begin(void) { close(-777); }
 static void counts_end(void) { close(-778); }
 
@@ -122,7 +129,7 @@ static int salvages(const char *folder, const char *memory) {
     const bool is_whole = dspec_salvage(memory, folder, &told);
     counts_end();
     printf("whole %d unreadable %u why %s\n", is_whole, told.unreadable, told.why);
-    printf("stays %ld blocks %d files %d threads\n", blocks - held, entries("/proc/self/fd") - files, threads_but(tasks));
+    tell_what_stays(held, files, tasks);
     return 0;
 }
 
@@ -145,6 +152,6 @@ int main(int argc, char **argv) {
     }
     dspec_tracer_drop(&tracer);
     counts_end();
-    printf("stays %ld blocks %d files %d threads\n", blocks - held, entries("/proc/self/fd") - files, threads_but(tasks));
+    tell_what_stays(held, files, tasks);
     return 0;
 }

@@ -3,12 +3,14 @@
 #include "dspec_ctf.h"
 #include "dspec_labels.h"
 #include "dspec_text.h"
+#include "dspec_traceparent.h"
 #include "dspec_tracer.h"
 
 #include "dspec.h"
 #include "dspec_ctf.h"
 #include "dspec_labels.h"
 #include "dspec_text.h"
+#include "dspec_traceparent.h"
 #include "dspec_tracer.h"
 
 #include <stdio.h>

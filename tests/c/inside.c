@@ -14,7 +14,7 @@
 enum { LANES = 3, PATHS = 2, OTHERS = 2 };
 
 static body *of;
-static seat *me;
+static dspec_tracer_seat *me;
 static uint32_t barriers, naps;
 static uint64_t stands_at; /* the clock, in microseconds; 0: it goes */
 static bool refuses_barriers;
@@ -46,14 +46,14 @@ int __wrap_clock_gettime(clockid_t clock, struct timespec *at) {
     return 0;
 }
 
-static lane *fresh(uint32_t number, uint32_t state) {
-    lane *on = &of->lanes[number];
-    on->front.state = state;
-    on->front.inside = 0;
-    on->handed = 0;
-    on->number = number;
-    on->of = of;
-    return on;
+static struct lane *fresh(uint32_t number, uint32_t state) {
+    struct lane *lane = &of->lanes[number];
+    lane->front.state = state;
+    lane->front.inside = 0;
+    lane->handed = 0;
+    lane->number = number;
+    lane->tracer = of;
+    return lane;
 }
 
 /* A tracer whose lanes nobody is on, and a thread that has none. */
@@ -65,74 +65,74 @@ static void begin(void) {
     of->options.paths = PATHS;
     of->locked = of->by_thread = 0;
     of->late = of->waited = of->nested = 0;
-    *me = (seat){ .last = &of->lanes[0].front, .run = of->run, .plain = of->run };
+    *me = (dspec_tracer_seat){ .last = &of->lanes[0].front, .run = of->run, .plain = of->run };
     dspec_here.hands_on = 0;
     refuses_barriers = false;
     barriers = 0;
 }
 
-static bool is(const lane *on, uint32_t state) { return on->front.state == state; }
+static bool is(const struct lane *lane, uint32_t state) { return lane->front.state == state; }
 
 static uint64_t now(void) { return dspec_monotonic() / 1000; }
 
 /* ---- Into a call. ---- */
 
 static void enters_by_lock(void) {
-    lane *on;
+    struct lane *lane;
     begin();
-    on = fresh(0, IDLE);
-    CHECK(lane_enter_slowly(me, on) == BY_LOCK && is(on, HELD) && barriers == 0);
-    lane_leave(on, BY_LOCK);
-    CHECK(is(on, 0));
-    on = fresh(1, OTHERS * USER);
-    CHECK(lane_enter_slowly(me, on) == BY_LOCK && is(on, OTHERS * USER | HELD | SHARED) && barriers == 1);
-    lane_leave(on, BY_LOCK);
-    CHECK(is(on, OTHERS * USER | SHARED));
-    CHECK(lane_enter_slowly(me, on) == BY_LOCK && barriers == 1);
-    lane_leave(on, BY_LOCK);
+    lane = fresh(0, IDLE);
+    CHECK(lane_enter_slowly(me, lane) == BY_LOCK && is(lane, HELD) && barriers == 0);
+    lane_leave(lane, BY_LOCK);
+    CHECK(is(lane, 0));
+    lane = fresh(1, OTHERS * USER);
+    CHECK(lane_enter_slowly(me, lane) == BY_LOCK && is(lane, OTHERS * USER | HELD | SHARED) && barriers == 1);
+    lane_leave(lane, BY_LOCK);
+    CHECK(is(lane, OTHERS * USER | SHARED));
+    CHECK(lane_enter_slowly(me, lane) == BY_LOCK && barriers == 1);
+    lane_leave(lane, BY_LOCK);
 }
 
 static void enters_its_own(void) {
-    lane *on;
+    struct lane *lane;
     begin();
-    on = fresh(2, USER | IDLE);
-    me->own = &on->front;
-    CHECK(lane_enter_slowly(me, on) == ALONE && is(on, USER) && on->front.inside == 1 && barriers == 0);
-    lane_leave(on, ALONE);
-    CHECK(is(on, USER) && on->front.inside == 0);
-    on->front.state |= SHARED;
-    CHECK(lane_enter_slowly(me, on) == BY_LOCK && is(on, USER | SHARED | HELD) && on->front.inside == 0);
+    lane = fresh(2, USER | IDLE);
+    me->own = &lane->front;
+    CHECK(lane_enter_slowly(me, lane) == ALONE && is(lane, USER) && lane->front.inside == 1 && barriers == 0);
+    lane_leave(lane, ALONE);
+    CHECK(is(lane, USER) && lane->front.inside == 0);
+    lane->front.state |= SHARED;
+    CHECK(lane_enter_slowly(me, lane) == BY_LOCK && is(lane, USER | SHARED | HELD) && lane->front.inside == 0);
 }
 
 /* Whether a lane isn't to be had, within a second or so, and is as it was. */
-static bool waits_in_vain(lane *on) {
-    const uint32_t was = on->front.state;
+static bool waits_in_vain(struct lane *lane) {
+    const uint32_t was = lane->front.state;
     const uint64_t waited = of->waited, began = now();
-    return lane_enter_slowly(me, on) == NOT_IN && is(on, was) && of->waited == waited + 1 && now() - began >= ENTER_US / 2;
+    return lane_enter_slowly(me, lane) == NOT_IN && is(lane, was) && of->waited == waited + 1 && now() - began >= ENTER_US / 2;
 }
 
 static void does_not_enter(void) {
-    lane *on;
+    struct lane *lane;
     begin();
     CHECK(lane_enter_slowly(me, fresh(0, GONE)) == NOT_IN && of->late == 1 && of->waited == 0);
     CHECK(waits_in_vain(fresh(0, HELD)));
     CHECK(waits_in_vain(fresh(0, WANTED)));
     CHECK(of->late == 1);
-    on = fresh(2, USER | HELD);
-    CHECK(!dspec_tracer_enter_(&on->front) && on->front.inside == 0);
-    on = fresh(1, USER);
-    on->front.inside = 1;
-    CHECK(waits_in_vain(on) && barriers > 0);
+    lane = fresh(2, USER | HELD);
+    CHECK(!dspec_tracer_enter_(&lane->front) && lane->front.inside == 0);
+    lane = fresh(1, USER);
+    lane->front.inside = 1;
+    CHECK(waits_in_vain(lane) && barriers > 0);
 }
 
 /* A system that refuses to bring the order since the start has all lanes taken by their locks. */
 static void without_barrier(void) {
-    lane *on;
+    struct lane *lane;
     begin();
     refuses_barriers = true;
-    on = fresh(0, USER);
+    lane = fresh(0, USER);
     errno = 77;
-    CHECK(lane_enter_slowly(me, on) == BY_LOCK && of->locked && errno == 77);
+    CHECK(lane_enter_slowly(me, lane) == BY_LOCK && of->locked && errno == 77);
     barriers = 0;
     CHECK(lane_enter_slowly(me, fresh(1, USER)) == BY_LOCK && barriers == 0);
     CHECK(!barrier_is_there());
@@ -198,6 +198,26 @@ static void paths_go(void) {
     CHECK(me->own == &of->lanes[0].front && is(&of->lanes[0], USER));
 }
 
+/* The end of a path that the consumer ended: it is answered what came of that, and the lane is let go. Of two in the list the other one stays. */
+static void ended_before(void) {
+    for (int round = 0; round < 2; round++) {
+        const bool is_kept = round == 0;
+        dspec_path path = { .own = true, .mark = UINT64_C(5) << 32 };
+        struct lane *lane;
+        begin();
+        lane = lane_for_path(of, me);
+        me->open = 1;
+        path.lane = &lane->front;
+        lane->ended[0] = (ended_path){ .mark = path.mark, .token = 3, .own = true, .is_kept = is_kept };
+        lane->ended[1] = (ended_path){ .mark = UINT64_C(6) << 32, .token = 4, .own = false, .is_kept = true };
+        lane->ended_count = 2;
+        CHECK(is(lane, 2 * USER | IDLE) && dspec_path_keep(&path) == is_kept && path.over);
+        CHECK(lane->ended_count == 1 && lane->ended[0].mark == UINT64_C(6) << 32 && lane->ended[0].token == 4 && !lane->ended[0].own && lane->ended[0].is_kept);
+        CHECK(is(lane, 0) && me->own == NULL && me->open == 0 && lane->handed == 0);
+        lane->ended_count = 0;
+    }
+}
+
 static void for_record(void) {
     begin();
     fresh(0, USER);
@@ -215,38 +235,38 @@ static void for_record(void) {
 
 /* ---- The consumer. ---- */
 
-static bool takes(lane *on, uint32_t bits) {
+static bool takes(struct lane *lane, uint32_t bits) {
     patience none = patience_of(0);
-    return lane_take(on, bits, &none);
+    return lane_take(lane, bits, &none);
 }
 
 static void taken(void) {
-    lane *on;
+    struct lane *lane;
     begin();
-    on = fresh(0, SERVE | IDLE);
-    CHECK(takes(on, 0) && is(on, SERVE | IDLE | HELD) && barriers == 0);
-    CHECK(!takes(on, 0) && is(on, SERVE | IDLE | HELD));
-    lane_release(on, 0);
-    CHECK(is(on, IDLE));
-    on = fresh(0, SERVE);
-    CHECK(takes(on, GONE) && is(on, SERVE | HELD | GONE));
-    lane_release(on, IDLE);
-    CHECK(is(on, IDLE | GONE));
-    on = fresh(1, USER);
-    CHECK(takes(on, 0) && is(on, USER | HELD) && barriers == 1);
-    lane_release(on, 0);
-    on->front.inside = 1;
-    CHECK(!takes(on, 0) && is(on, USER));
-    on->front.state |= SHARED; /* its thread takes the lock too, and `inside` says nothing */
-    CHECK(takes(on, 0) && is(on, USER | SHARED | HELD));
-    on = fresh(2, USER);
+    lane = fresh(0, SERVE | IDLE);
+    CHECK(takes(lane, 0) && is(lane, SERVE | IDLE | HELD) && barriers == 0);
+    CHECK(!takes(lane, 0) && is(lane, SERVE | IDLE | HELD));
+    lane_release(lane, 0);
+    CHECK(is(lane, IDLE));
+    lane = fresh(0, SERVE);
+    CHECK(takes(lane, GONE) && is(lane, SERVE | HELD | GONE));
+    lane_release(lane, IDLE);
+    CHECK(is(lane, IDLE | GONE));
+    lane = fresh(1, USER);
+    CHECK(takes(lane, 0) && is(lane, USER | HELD) && barriers == 1);
+    lane_release(lane, 0);
+    lane->front.inside = 1;
+    CHECK(!takes(lane, 0) && is(lane, USER));
+    lane->front.state |= SHARED; /* its thread takes the lock too, and `inside` says nothing */
+    CHECK(takes(lane, 0) && is(lane, USER | SHARED | HELD));
+    lane = fresh(2, USER);
     of->locked = 1;
-    CHECK(takes(on, 0) && is(on, USER | HELD | SHARED));
+    CHECK(takes(lane, 0) && is(lane, USER | HELD | SHARED));
 }
 
 static void *leaves(void *on) {
     usleep(20000);
-    dspec_tracer_leave_(&((lane *)on)->front);
+    dspec_tracer_leave_(&((struct lane *)on)->front);
     return NULL;
 }
 
@@ -254,12 +274,12 @@ static void *leaves(void *on) {
 static void waited_for(void) {
     patience most = patience_of(60000000);
     pthread_t thread;
-    lane *on;
+    struct lane *lane;
     begin();
-    on = fresh(0, USER);
-    on->front.inside = 1;
-    if (!CHECK(pthread_create(&thread, NULL, leaves, on) == 0)) return;
-    CHECK(lane_take(on, 0, &most) && __atomic_load_n(&on->front.inside, __ATOMIC_ACQUIRE) == 0);
+    lane = fresh(0, USER);
+    lane->front.inside = 1;
+    if (!CHECK(pthread_create(&thread, NULL, leaves, lane) == 0)) return;
+    CHECK(lane_take(lane, 0, &most) && __atomic_load_n(&lane->front.inside, __ATOMIC_ACQUIRE) == 0);
     pthread_join(thread, NULL);
 }
 
@@ -369,7 +389,7 @@ static void *has_stack(void *unused) {
 }
 
 static void seats(void) {
-    seat *mine = me;
+    dspec_tracer_seat *mine = me;
     begin();
     mine->run = 0;
     of->up = 0;
@@ -404,15 +424,102 @@ static void *numbers(void *unused) {
     if (!CHECK(mkdtemp(folder) != NULL) || !CHECK(dspec_tracer_start(&tracer, folder, &options, DSPEC_PROBES(query)))) return unused;
     for (size_t i = 0; i < sizeof last / sizeof last[0]; i++)
         for (uint32_t number = 0; number < LANES; number++) {
-            lane *on = &tracer.body->lanes[number];
-            on->opened = last[i] - last[i] % LANES - LANES + number + 1;
-            dspec_seats[tracer.body->slot].last = &on->front;
+            struct lane *lane = &tracer.body->lanes[number];
+            lane->opened = last[i] - last[i] % LANES - LANES + number + 1;
+            dspec_seats[tracer.body->slot].last = &lane->front;
             dspec_path path = dspec_path_begin(&tracer);
             CHECK(query_in(&path, 1) == DSPEC_OK);
             CHECK(path.mark >> 32 != 0 && (path.mark >> 32) % LANES == (lane_of(path.lane)->number + 1) % LANES);
             CHECK(dspec_path_drop(&path));
         }
     CHECK(dspec_tracer_stop(&tracer, NULL));
+    dspec_tracer_drop(&tracer);
+    snprintf(words, sizeof words, "rm -rf '%s'", folder);
+    CHECK(system(words) == 0);
+    return unused;
+}
+
+/* What a lane owes at its end is in the folder. The consumer sleeps meanwhile, and this thread ends the lane by itself. */
+static void *owes(void *unused) {
+    const dspec_tracer_options options = { .lanes = 1, .paths = PATHS, .period_ms = 1000000, .no_crash = true, .no_term = true };
+    dspec_tracer tracer = { 0 };
+    char folder[] = "/tmp/dspec-inside-XXXXXX", words[64];
+    uint64_t before;
+    if (!CHECK(mkdtemp(folder) != NULL) || !CHECK(dspec_tracer_start(&tracer, folder, &options, DSPEC_PROBES(query)))) return unused;
+    struct lane *lane = &tracer.body->lanes[0];
+    before = tracer.body->folder.parts[0].records;
+    lane->owes = OWES_EVENT;
+    lane->owed_at = dspec_tracer_now();
+    lane->owed[0] = UINT64_C(7) << 32;
+    CHECK(lane_end(tracer.body, lane) && lane->own_accepted == 1 && tracer.body->folder.parts[0].records == before + 1);
+    CHECK(!dspec_tracer_stop(&tracer, NULL)); /* the lane's session has ended before */
+    dspec_tracer_drop(&tracer);
+    snprintf(words, sizeof words, "rm -rf '%s'", folder);
+    CHECK(system(words) == 0);
+    return unused;
+}
+
+/* ---- Paths that begin and end at once. ---- */
+
+/* A lane that nobody is on, with a tracer's thread that has none. */
+static struct lane *quiet(dspec_tracer *tracer, dspec_tracer_seat *mine, uint32_t state) {
+    struct lane *lane = lane_of(mine->last);
+    CHECK(dspec_tracer_flush(tracer, 5000));
+    lane->front.state = state;
+    return lane;
+}
+
+static bool has_none(const dspec_tracer_seat *mine, const struct lane *lane) {
+    return mine->own == NULL && mine->open == 0 && mine->plain == mine->run && !mine->busy && lane->front.inside == 0 && lane->handed == 0 && lane->front.state < USER;
+}
+
+static void begins_and_ends(dspec_tracer *tracer, dspec_tracer_seat *mine, uint32_t state) {
+    struct lane *lane = quiet(tracer, mine, state);
+    dspec_path path = dspec_path_begin(tracer), second = dspec_path_begin(tracer);
+    CHECK(query_in(&path, 1) == DSPEC_OK && path.lane == &lane->front && path.own && path.token == dspec_tracer_token_5);
+    CHECK(mine->own == &lane->front && mine->open == 1 && mine->plain == DSPEC_TRACER_NONE_ && !mine->busy && lane->front.inside == 0 && is(lane, 2 * USER | (state & SERVE)));
+    CHECK(query_in(&second, 1) == DSPEC_OK && second.lane == &lane->front && mine->open == 2 && is(lane, 3 * USER | (state & SERVE)));
+    CHECK(dspec_path_drop(&path) && path.over && path.token == 0 && mine->own == &lane->front && mine->open == 1 && !mine->busy && lane->front.inside == 0 && is(lane, 2 * USER));
+    CHECK(dspec_path_keep(&second) && second.over && has_none(mine, lane));
+    CHECK(!dspec_path_drop(&path) && !dspec_path_keep(&path) && query_in(&path, 1) == DSPEC_VOID && has_none(mine, lane));
+}
+
+/* A thread that hands its paths on takes none for its own; in the middle of the tracer a path neither begins nor ends; and a path whose lane isn't its thread's own ends by the lock. */
+static void neither_begins_nor_ends(dspec_tracer *tracer, dspec_tracer_seat *mine) {
+    struct lane *lane = quiet(tracer, mine, 0);
+    dspec_path path = dspec_path_begin(tracer);
+    dspec_here.hands_on = 1;
+    CHECK(query_in(&path, 1) == DSPEC_OK && !path.own && path.token == 0 && mine->own == NULL && dspec_here.hands_on == 0);
+    CHECK(dspec_path_drop(&path) && has_none(mine, lane));
+    path = dspec_path_begin(tracer);
+    mine->busy = true;
+    CHECK(query_in(&path, 1) == DSPEC_BUSY && path.lane == NULL && mine->busy);
+    mine->busy = false;
+    CHECK(query_in(&path, 1) == DSPEC_OK);
+    mine->busy = true;
+    CHECK(!dspec_path_drop(&path) && !path.over && mine->busy && mine->open == 1);
+    mine->busy = false;
+    mine->own = NULL;
+    mine->plain = mine->run;
+    CHECK(dspec_path_drop(&path) && path.over && mine->open == 1 && lane->handed == 1 && is(lane, USER | SHARED));
+    mine->open = 0;
+    lane->handed = 0;
+    lane->front.state = 0;
+}
+
+static void *at_once(void *unused) {
+    const dspec_tracer_options options = { .lanes = LANES, .no_crash = true, .no_term = true, .period_ms = 1000 };
+    static const uint32_t states[] = { 0, IDLE, SHARED, SERVE };
+    dspec_tracer tracer = { 0 };
+    dspec_tracer_report report;
+    char folder[] = "/tmp/dspec-inside-XXXXXX", words[64];
+    if (!CHECK(mkdtemp(folder) != NULL) || !CHECK(dspec_tracer_start(&tracer, folder, &options, DSPEC_PROBES(query)))) return unused;
+    dspec_tracer_seat *mine = &dspec_seats[tracer.body->slot];
+    CHECK(query_now(&tracer, 1) == DSPEC_OK);
+    for (size_t i = 0; i < sizeof states / sizeof states[0]; i++) begins_and_ends(&tracer, mine, states[i]);
+    neither_begins_nor_ends(&tracer, mine);
+    CHECK(dspec_tracer_stop(&tracer, &report));
+    CHECK(report.kept == 4 && report.thrown == 6 && report.nested == 2 && report.no_slot == 0 && report.accepted == 5);
     dspec_tracer_drop(&tracer);
     snprintf(words, sizeof words, "rm -rf '%s'", folder);
     CHECK(system(words) == 0);
@@ -431,6 +538,7 @@ int main(void) {
     claims();
     shares();
     paths_go();
+    ended_before();
     for_record();
     taken();
     waited_for();
@@ -439,6 +547,8 @@ int main(void) {
     pauses_anew();
     seats();
     if (CHECK(pthread_create(&thread, NULL, numbers, NULL) == 0)) pthread_join(thread, NULL);
+    if (CHECK(pthread_create(&thread, NULL, owes, NULL) == 0)) pthread_join(thread, NULL);
+    if (CHECK(pthread_create(&thread, NULL, at_once, NULL) == 0)) pthread_join(thread, NULL);
     if (CHECK(pthread_create(&thread, NULL, has_stack, NULL) == 0)) pthread_join(thread, NULL);
     free(of);
     return check_end();

@@ -18,7 +18,12 @@ static dspec_reading read_and_count(const dspec_layout *layout, const uint8_t *b
 }
 #define dspec_read read_and_count
 
-#include "dspec_ctf.h"
+/* With the files of a trace's folder in this program, it is their reading that is counted. */
+#include "../../tracer/folder.c"
+#include "../../tracer/folder_batch.c"
+#include "../../tracer/folder_files.c"
+#include "../../tracer/folder_labels.c"
+
 #include "dspec_probe.h"
 
 #include "check.h"
@@ -123,6 +128,13 @@ static void record(dspec_cpu *cpu, uint32_t rounds) {
     }
 }
 
+/* So many runs of two records, each of which is older than the run before it: each takes a packet in a file of its own. */
+static void record_runs(dspec_cpu *cpu, uint32_t runs) {
+    for (uint32_t run = runs; run > 0; run--)
+        for (uint32_t i = 0; i < 2; i++) four_trace(&four, cpu, stamp + 2 * run + i, run, i);
+    stamp += 2 * runs + 2;
+}
+
 static bool take(uint32_t number) {
     dspec_batch batch;
     bool sealed, well = true;
@@ -181,6 +193,21 @@ static void bound(const char *path, uint64_t bytes, uint32_t folders, uint32_t r
     found = look(path);
     CHECK(found.bytes <= bytes && found.folders == folders && folder.gone == found.first && folder.gone_records > 0 && folder.gone_records < accepted);
     printf("%llu bytes in %u folders: at the most %llu\n", (unsigned long long)bytes, folders, (unsigned long long)most);
+    tell(path, accepted);
+}
+
+/* Batches of few bytes and many runs: the bound is kept before each packet of a batch, and nothing is lost. */
+static void runs_beyond_a_bound(const char *path) {
+    enum { BATCHES = 20, RUNS = 40 };
+    uint64_t accepted;
+    CHECK(begins(path, 100000, 4));
+    start();
+    for (uint32_t i = 0; i < BATCHES; i++) {
+        record_runs(&cpus[i % CPUS], RUNS);
+        CHECK(take(i % CPUS));
+        if (!CHECK(look(path).bytes <= 100000 && look(path).folders <= 4)) break;
+    }
+    CHECK(end(&accepted) && !folder.lost && accepted == 2 * BATCHES * RUNS && look(path).bytes <= 100000);
     tell(path, accepted);
 }
 
@@ -246,9 +273,23 @@ static void names_that_are_taken(const char *path) {
     tell(path, 0);
 }
 
+/* How many records the newest folder tells as missed by the first CPU: the count in the last packet of its first file. */
+static uint64_t missed_told(const char *path) {
+    uint8_t packet[DSPEC_FOLDER_PACKET] = { 0 };
+    char name[4300];
+    uint64_t count = UINT64_MAX;
+    FILE *file;
+    snprintf(name, sizeof name, "%s.%llu/cpu_0_0", path, (unsigned long long)look(path).last);
+    file = fopen(name, "rb");
+    if (file == NULL) exit(2);
+    while (fread(packet, sizeof packet, 1, file) == 1) count = dspec_number_at(packet + 56, 8);
+    fclose(file);
+    return count;
+}
+
 /* Folders that can't be taken away, or not be begun: what can't be written is told, the bound holds, and it goes on where it can again. */
 static void system_that_refuses(const char *path) {
-    uint64_t accepted;
+    uint64_t accepted, missed = 0;
     CHECK(begins(path, 100000, 4));
     start();
     for (int i = 0; i < 100 && folder.last.status == DSPEC_OK; i++) {
@@ -263,7 +304,10 @@ static void system_that_refuses(const char *path) {
     refused_unlink = EACCES;
     for (int i = 0; i < 200; i++) {
         record(&cpus[0], 30);
-        if (!take(0) && !CHECK(folder.last.code == EACCES && folder.last.records > 0)) break;
+        if (!take(0)) {
+            if (!CHECK(folder.last.code == EACCES && folder.last.records > 0)) break;
+            missed += folder.last.records;
+        }
         if (!CHECK(look(path).bytes <= 100000 && look(path).folders <= 4)) break;
     }
     CHECK(!folder.is_open && look(path).first == before.first);
@@ -271,6 +315,7 @@ static void system_that_refuses(const char *path) {
     refused_unlink = 0;
     record(&cpus[0], 2);
     CHECK(take(0) && folder.is_open && folder.gone == gone + 1);
+    CHECK(missed > 0 && missed_told(path) == missed);
     refused_mkdir = ENOENT;
     for (int i = 0; i < 100; i++) {
         record(&cpus[0], 30);
@@ -351,6 +396,8 @@ int main(int argc, char **argv) {
     bound(path, 1000000, 3, 250, 4);
     snprintf(path, sizeof path, "%s.small", argv[1]);
     bound(path, 2 * 11000, 2, 250, 10);
+    snprintf(path, sizeof path, "%s.runs", argv[1]);
+    runs_beyond_a_bound(path);
     snprintf(path, sizeof path, "%s.taken", argv[1]);
     names_that_are_taken(path);
     snprintf(path, sizeof path, "%s.refused", argv[1]);

@@ -1,6 +1,7 @@
 /* A tracer whose memory outlives its process, in all that may become of it: `survive HOW FOLDER [WORD ..]`, which tests/c/tracer plays and looks at. Most of them kill themselves. */
 #define _GNU_SOURCE
-#include "dspec_tracer.h"
+#include "dspec/tracer_record.h"
+#include "forbid.h"
 
 #include <fcntl.h>
 #include <inttypes.h>
@@ -17,13 +18,15 @@
 #include <unistd.h>
 
 DSPEC_PROBE(query, uint64_t, request, uint32_t, step);
+DSPEC_PROBE(said, dspec_text16, what, float, share, uint8_t, outcome);
+DSPEC_LABELS(said, outcome, "done", "aborted [2]");
 
 static dspec_tracer tracer;
 static dspec_tracer_options options = { .survive = true, .lanes = 4, .crash_ms = 60000 };
 static const char *folder;
 static char **words;
 
-static bool starts(void) { return dspec_tracer_start(&tracer, folder, &options, DSPEC_PROBES(query)); }
+static bool starts(void) { return dspec_tracer_start(&tracer, folder, &options, DSPEC_PROBES(query, said)); }
 
 static void up(void) {
     if (!starts()) {
@@ -74,6 +77,23 @@ static int how_owes(void) {
     return end_by_kill();
 }
 
+/* Two lanes with all that a memory may have: paths that the folder has, that it doesn't have, and that are open, one of them with texts and labels, and records of no path. */
+static int how_full_of_kinds(void) {
+    dspec_path path;
+    options = (dspec_tracer_options){ .survive = true, .lanes = 2, .paths = 4, .bufsize = 1024, .specsize = 256, .period_ms = 1000000, .keep_last = true };
+    up();
+    keep(0, 7);
+    if (!dspec_tracer_flush(&tracer, 60000)) return 5;
+    keep(7, 4);
+    query_now(&tracer, 20, 0);
+    for (uint64_t request = 30; request < 32; request++) {
+        path = dspec_path_begin(&tracer);
+        for (uint32_t step = 0; step < 20; step++) query_in(&path, request, step);
+        said_in(&path, dspec_text16_of("a text", 6), 0.5F, 1);
+    }
+    return end_by_kill();
+}
+
 /* The request that hangs, while another process looks. */
 static int how_hangs(void) {
     up();
@@ -86,19 +106,33 @@ static int how_hangs(void) {
     return 0;
 }
 
-/* A child outlives the process. */
+static void *keeps_more(void *unused) {
+    if (keep(100, 100) != 100) _exit(5);
+    return unused;
+}
+
+/* A child outlives the process, in which another thread comes after the fork. */
 static int how_child(void) {
     pid_t child;
+    pthread_t thread;
+    int ends[2];
+    char byte;
     options.period_ms = 1000000;
     up();
     keep(0, 100);
+    if (pipe2(ends, O_CLOEXEC) != 0) return 5;
     child = strcmp(words[0], "_Fork") == 0 ? _Fork() : strcmp(words[0], "vfork") == 0 ? vfork() : fork();
     if (child == 0) {
         close_range(1, 2, 0); /* who reads what this prints doesn't wait for the child */
+        close(ends[1]);
         execlp(strcmp(words[0], "vfork") == 0 ? "sleep" : "", "sleep", "60", (char *)NULL);
         pause();
         _exit(0);
     }
+    close(ends[1]);
+    if (read(ends[0], &byte, 1) != 0) return 5; /* what the child does at the fork is done */
+    close(ends[0]);
+    if (pthread_create(&thread, NULL, keeps_more, NULL) != 0 || pthread_join(thread, NULL) != 0) return 5;
     printf("child=%d\n", (int)child);
     return end_by_kill();
 }
@@ -154,6 +188,50 @@ ssize_t __wrap_write(int file, const void *bytes, size_t len) {
     return count;
 }
 
+/* It is killed in its start, when the head of its memory is there, and the consumer isn't. */
+int __real_pthread_create(pthread_t *thread, const pthread_attr_t *attributes, void *(*run)(void *), void *with);
+int __wrap_pthread_create(pthread_t *thread, const pthread_attr_t *attributes, void *(*run)(void *), void *with);
+static bool dies_in_start;
+
+int __wrap_pthread_create(pthread_t *thread, const pthread_attr_t *attributes, void *(*run)(void *), void *with) {
+    if (dies_in_start) kill(getpid(), SIGKILL);
+    return __real_pthread_create(thread, attributes, run, with);
+}
+
+static int how_unmade(void) {
+    dies_in_start = true;
+    up();
+    return 5;
+}
+
+/* The first address that the memory may have is another's, and the system is one that maps it elsewhere then. */
+void *__real_mmap(void *at, size_t size, int protection, int flags, int file, off_t from);
+void *__wrap_mmap(void *at, size_t size, int protection, int flags, int file, off_t from);
+static uint32_t elsewhere, given_back;
+static void *stray;
+
+void *__wrap_mmap(void *at, size_t size, int protection, int flags, int file, off_t from) {
+    if (elsewhere == 0 || !(flags & MAP_FIXED_NOREPLACE)) return __real_mmap(at, size, protection, flags, file, from);
+    elsewhere--;
+    stray = __real_mmap(NULL, size, protection, flags & ~MAP_FIXED_NOREPLACE, file, from);
+    return stray;
+}
+
+int __real_munmap(void *at, size_t size);
+int __wrap_munmap(void *at, size_t size);
+
+int __wrap_munmap(void *at, size_t size) {
+    given_back += at == stray;
+    return __real_munmap(at, size);
+}
+
+static int how_elsewhere(void) {
+    elsewhere = 1;
+    up();
+    printf("elsewhere=%d given_back=%u kept=%" PRIu64 "\n", stray != NULL, given_back, keep(0, 10));
+    return end_by_kill();
+}
+
 static int how_writes(void) {
     options.lanes = 1;
     up();
@@ -174,6 +252,20 @@ static int how_moves(void) {
     if (strcmp(words[0], "chroot") == 0 && (chroot("/var") != 0 || chdir("/") != 0)) return 5;
     if (strcmp(words[0], "setuid") == 0 && (setgid(65534) != 0 || setuid(65534) != 0)) return 5;
     if (strcmp(words[0], "close") == 0) close_range(3, ~0U, 0);
+    return stop();
+}
+
+/* Another file has the memory's name meanwhile. */
+static int how_replaced(void) {
+    char name[4200], moved[4200];
+    int file;
+    snprintf(name, sizeof name, "%s-memory", folder);
+    snprintf(moved, sizeof moved, "%s-moved", folder);
+    up();
+    if (rename(name, moved) != 0) return 5;
+    file = open(name, O_CREAT | O_EXCL | O_WRONLY, 0600);
+    if (file < 0 || write(file, "mine", 4) != 4) return 5;
+    close(file);
     return stop();
 }
 
@@ -201,7 +293,7 @@ static int how_itself(void) {
     snprintf(file, sizeof file, "%s-memory", folder);
     snprintf(out, sizeof out, "%s.out", folder);
     printf("salvage=%d %s\n", dspec_salvage(file, out, &told), told.why);
-    printf("start=%d", dspec_tracer_start(&other, folder, &options, DSPEC_PROBES(query)));
+    printf("start=%d", dspec_tracer_start(&other, folder, &options, DSPEC_PROBES(query, said)));
     printf(" %s\nup\n", other.why);
     fflush(stdout);
     pause();
@@ -216,6 +308,51 @@ static void *opens(void *unused) {
     sem_post(&is_open);
     pause();
     return unused;
+}
+
+/* A thread that stays in a record of no path, by the lock of its lane, from the moment on in which a signal finds it there. */
+static sem_t is_there, stays;
+
+static void stay(int signal) {
+    const dspec_tracer_lane *last = dspec_tracer_seat_of_(&tracer)->last;
+    int value;
+    (void)signal;
+    if (sem_getvalue(&is_there, &value) != 0 || value > 0 || last == NULL || !(__atomic_load_n(&last->state, __ATOMIC_SEQ_CST) & DSPEC_TRACER_HELD_) || query_now(&tracer, 1, 1) != DSPEC_BUSY) return;
+    sem_post(&is_there);
+    while (sem_wait(&stays) != 0) {}
+}
+
+static void *records(void *unused) {
+    for (;;) query_now(&tracer, 1, 0);
+    return unused;
+}
+
+/* A crash beside such a thread, whose record isn't in the folder. */
+static int how_held(void) {
+    const struct sigaction action = { .sa_handler = stay };
+    const struct rlimit none = { 0, 0 };
+    static int *volatile nowhere;
+    pthread_t other;
+    int value = 0;
+    if (!forbid_barriers()) {
+        printf("no system call can be forbidden here: left out\n");
+        return 5;
+    }
+    setrlimit(RLIMIT_CORE, &none);
+    sem_init(&is_there, 0, 0);
+    sem_init(&stays, 0, 0);
+    sigaction(SIGUSR1, &action, NULL);
+    up();
+    if (pthread_create(&other, NULL, records, NULL) != 0) return 5;
+    while (sem_getvalue(&is_there, &value) == 0 && value == 0) {
+        pthread_kill(other, SIGUSR1);
+        usleep(100);
+    }
+    dspec_path path = dspec_path_begin(&tracer);
+    query_in(&path, 77, 0);
+    fflush(stdout);
+    *nowhere = 1;
+    return 5;
 }
 
 /* A stack for handlers of the size that programs give it, at whose end there is nothing. */
@@ -257,7 +394,8 @@ int main(int count, char **all) {
         int (*run)(void);
     } hows[] = {
         { "kept", how_kept }, { "hangs", how_hangs }, { "child", how_child }, { "limit", how_limit }, { "lost", how_lost }, { "full", how_full }, { "writes", how_writes },
-        { "moves", how_moves }, { "closes", how_closes }, { "refused", how_refused }, { "itself", how_itself }, { "crashes", how_crashes }, { "owes", how_owes },
+        { "moves", how_moves }, { "closes", how_closes }, { "refused", how_refused }, { "itself", how_itself }, { "crashes", how_crashes }, { "owes", how_owes }, { "kinds", how_full_of_kinds },
+        { "unmade", how_unmade }, { "elsewhere", how_elsewhere }, { "replaced", how_replaced }, { "held", how_held },
     };
     if (count < 3) return 2;
     folder = all[2];

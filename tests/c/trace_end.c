@@ -4,6 +4,8 @@
 
 #include "check.h"
 
+#include <errno.h>
+
 #define CPUS 3u
 
 static const uint8_t FOUR[] = { 4 };

@@ -450,19 +450,26 @@ static int mode_handler(void) {
 static sigjmp_buf back;
 static void jump(int signal) { siglongjmp(back, signal); }
 
-/* A program that lives on after its faults. */
+/* The end of a path that a crash kept. */
+static void end_kept(dspec_path *path, bool keep) {
+    if (keep != (keep ? dspec_path_keep(path) : dspec_path_drop(path))) fail("a path that a crash kept was thrown away");
+}
+
+/* A program that lives on after its faults, of which each path has two. It ends that path before it begins another one, which gets its place, or after it. */
 static int mode_recover(void) {
     signal(SIGSEGV, jump);
     begin();
     for (uint64_t i = 0; i < 20; i++) {
-        dspec_path path = dspec_path_begin(&tracer);
+        dspec_path path = dspec_path_begin(&tracer), next;
         query_in(&path, i, 0);
-        if (sigsetjmp(back, 1) == 0) *nowhere = 1;
+        for (volatile int again = 0; again < 2; again++)
+            if (sigsetjmp(back, 1) == 0) *nowhere = 1;
         if (query_in(&path, i, 1) != DSPEC_VOID) fail("a path that a crash kept goes on");
-        if (!(i % 2 == 0 ? dspec_path_keep(&path) : !dspec_path_drop(&path))) fail("a path that a crash kept was thrown away");
-        path = dspec_path_begin(&tracer);
-        query_in(&path, 1000 + i, 0);
-        if (!dspec_path_drop(&path)) fail("no path behind a crash");
+        if (i % 4 < 2) end_kept(&path, i % 2 == 0);
+        next = dspec_path_begin(&tracer);
+        query_in(&next, 1000 + i, 0);
+        if (i % 4 >= 2) end_kept(&path, i % 2 == 0);
+        if (!dspec_path_drop(&next)) fail("no path behind a crash");
     }
     return end(&tracer);
 }

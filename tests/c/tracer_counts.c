@@ -5,11 +5,15 @@
 
 #include "check.h"
 
+#include "../../tracer/watch.h"
+
 #include <dirent.h>
+#include <errno.h>
 #include <fcntl.h>
 #include <pthread.h>
 #include <setjmp.h>
 #include <signal.h>
+#include <sys/mman.h>
 #include <sys/stat.h>
 #include <unistd.h>
 
@@ -297,6 +301,11 @@ static void ruled(void) {
     }
     stop();
     CHECK(report.kept == 0 && report.thrown == 100);
+    begin((dspec_tracer_options){ .lanes = 1, .paths = 2, .slow_ns = 1 });
+    path = path_of(1);
+    CHECK(dspec_path_end(&path, false, 0));
+    stop();
+    CHECK(report.kept == 1);
 }
 
 /* ---- Threads. ---- */
@@ -329,6 +338,19 @@ static void threads(void) {
     CHECK(dspec_path_keep(&path));
     stop();
     CHECK(report.kept == 2 && report.thrown == 41 && report.threads == 23 && report.accepted == 3 && report.discarded == 60 + 2 && report.no_slot == 0);
+}
+
+/* A thread records to a path that is over: the path that has its place since isn't that thread's, and doesn't go with it. */
+static void places(void) {
+    dspec_path path, over;
+    begin((dspec_tracer_options){ .lanes = 1, .paths = 2 });
+    path = path_of(1);
+    over = path;
+    CHECK(dspec_path_keep(&path));
+    path = path_of(2);
+    CHECK(in_thread(records, &over) == NULL && dspec_path_keep(&path));
+    stop();
+    CHECK(report.kept == 2 && report.accepted == 3 && report.thrown == 0);
 }
 
 /* ---- Events. ---- */
@@ -415,6 +437,8 @@ static void values(void) {
 
 /* ---- Crashes that the program recovers from. ---- */
 
+enum { LONG_MS = 600000 };
+
 static sigjmp_buf back;
 static _Atomic int stage;
 
@@ -446,7 +470,7 @@ static void crashes(void) {
     pthread_t other;
     volatile int before = 0;
     sigaction(SIGFPE, &ours, NULL);
-    begin((dspec_tracer_options){ .lanes = 1, .paths = 4, .crash_ms = 20000 });
+    begin((dspec_tracer_options){ .lanes = 1, .paths = 4, .crash_ms = LONG_MS }); /* whoever waits for all of that is seen by the time that this takes */
     stage = 0;
     if (!CHECK(pthread_create(&other, NULL, holds_a_path, &other_is_kept) == 0)) return;
     while (stage != 1) usleep(1000);
@@ -466,6 +490,69 @@ static void crashes(void) {
     stop();
     CHECK(report.crash_paths == 6 && report.kept == 1 && report.accepted == 6 * 2 + 2 && report.thrown == 0 && report.undecided == 0);
     signal(SIGFPE, SIG_DFL);
+}
+
+/* A record by the name of a path that is over doesn't make the path that has its place since its thread's: a crash saves that. */
+static void crashes_after_another(void) {
+    const struct sigaction ours = { .sa_handler = recovers };
+    static dspec_path path, over;
+    sigaction(SIGFPE, &ours, NULL);
+    begin((dspec_tracer_options){ .lanes = 1, .paths = 2, .crash_ms = LONG_MS });
+    path = path_of(1);
+    over = path;
+    CHECK(dspec_path_keep(&path));
+    path = path_of(2);
+    CHECK(in_thread(records, &over) == NULL);
+    if (sigsetjmp(back, 1) == 0) raise(SIGFPE);
+    CHECK(dspec_path_keep(&path));
+    stop();
+    CHECK(report.crash_paths == 1 && report.kept == 1 && report.accepted == 3 && report.undecided == 0);
+    signal(SIGFPE, SIG_DFL);
+}
+
+static char *page;
+static _Atomic bool is_watched;
+
+static void mends(int signal) {
+    (void)signal;
+    CHECK(errno == EDOM && mprotect(page, 4096, PROT_READ | PROT_WRITE) == 0);
+}
+
+static void changes_errno(uint64_t *where) {
+    where[0] = where[1] = 7;
+    errno = EIO;
+}
+
+/* Saves what a watch tells, as the layer for Rust does. */
+static void *watches(void *of) {
+    dspec_watched told = { 0 };
+    while (!is_watched) {
+        dspec_watch_sleep(of, UINT64_C(1000000000));
+        for (dspec_watched next; dspec_watch_next(of, &next); dspec_watch_saved(of, told.place)) told = next;
+    }
+    CHECK(told.signal == SIGSEGV && told.address == (uintptr_t)page && told.here[0] == 7 && told.here[1] == 7);
+    return NULL;
+}
+
+/* A program that mends a fault goes on with the errno that it had, whatever a watch's call did. */
+static void errors(void) {
+    const struct sigaction ours = { .sa_handler = mends }, plain = { .sa_handler = SIG_DFL };
+    dspec_watch *watch;
+    pthread_t consumer;
+    page = mmap(NULL, 4096, PROT_NONE, MAP_PRIVATE | MAP_ANONYMOUS, -1, 0);
+    sigaction(SIGSEGV, &ours, NULL);
+    watch = dspec_watch_begin(LONG_MS, changes_errno);
+    if (!CHECK(page != MAP_FAILED && watch != NULL && pthread_create(&consumer, NULL, watches, watch) == 0)) return;
+    errno = EDOM;
+    *(volatile char *)page = 1;
+    CHECK(errno == EDOM && *page == 1);
+    is_watched = true;
+    dspec_watch_ring(watch);
+    pthread_join(consumer, NULL);
+    CHECK(dspec_watch_signal(watch) == 0);
+    dspec_watch_end(watch);
+    sigaction(SIGSEGV, &plain, NULL);
+    munmap(page, 4096);
 }
 
 /* ---- What the program has. ---- */
@@ -508,6 +595,18 @@ static void starts(void) {
     CHECK(is_default(SIGSEGV) && is_default(SIGTERM));
 }
 
+/* A handler that the program installs over the tracer's stays after it. */
+static void handlers(void) {
+    const struct sigaction ours = { .sa_handler = recovers }, plain = { .sa_handler = SIG_DFL };
+    struct sigaction is;
+    begin((dspec_tracer_options){ .lanes = 1, .paths = 2 });
+    sigaction(SIGFPE, &ours, NULL);
+    sigaction(SIGHUP, &ours, NULL);
+    stop();
+    CHECK(sigaction(SIGFPE, &plain, &is) == 0 && is.sa_handler == recovers);
+    CHECK(sigaction(SIGHUP, &plain, &is) == 0 && is.sa_handler == recovers);
+}
+
 /* The consumer's thread has all signals blocked, and the program's as it had them. */
 static void masks(void) {
     const uint64_t some = UINT64_C(1) << (SIGTERM - 1) | UINT64_C(1) << (SIGUSR1 - 1) | UINT64_C(1) << (SIGSEGV - 1) | UINT64_C(1) << (SIGXFSZ - 1);
@@ -528,6 +627,7 @@ int main(int argc, char **argv) {
     alarm(1200); /* a lock that stays is a fault and no wait for ever */
     masks();
     starts();
+    handlers();
     decided();
     open_paths();
     over();
@@ -540,11 +640,14 @@ int main(int argc, char **argv) {
     first_part();
     ruled();
     threads();
+    places();
     events();
     flushes();
     two_tracers();
     values();
     crashes();
+    crashes_after_another();
+    errors();
     without_folder();
     return check_end();
 }

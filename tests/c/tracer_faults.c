@@ -111,6 +111,17 @@ static void mode_flush(void) {
     raise(SIGKILL);
 }
 
+/* A stop beside such a thread gives its lane up, and tells so; what other lanes have is whole. */
+static void mode_stuck(void) {
+    dspec_tracer_report report;
+    begin((dspec_tracer_options){ .period_ms = 100000 });
+    make_caller_stay();
+    CHECK(keeps(100));
+    report = ended(false);
+    CHECK(report.stuck_lanes == 1 && report.kept == 1 && report.not_written == 0);
+    let_caller_leave();
+}
+
 static _Atomic bool are_flushed;
 
 static void *flushes(void *unused) {
@@ -170,6 +181,62 @@ static void mode_left(void) {
     let_caller_leave();
     report = ended(true);
     CHECK(report.no_slot == 0 && report.kept == 1 && report.undecided == 0);
+}
+
+/* ---- A write that stands still: the linker's --wrap leads each one through here. ---- */
+
+ssize_t __real_write(int file, const void *bytes, size_t len);
+ssize_t __wrap_write(int file, const void *bytes, size_t len);
+static _Atomic bool writes_stand, is_writing;
+
+ssize_t __wrap_write(int file, const void *bytes, size_t len) {
+    while (writes_stand && len >= 1024) {
+        is_writing = true;
+        usleep(1000);
+    }
+    return __real_write(file, bytes, len);
+}
+
+enum { PART = 8 }; /* records of a speculation, which is full then */
+static _Atomic bool has_answer, is_kept;
+
+static void *keeps_half(void *unused) {
+    dspec_path path = dspec_path_begin(&tracer);
+    for (uint32_t step = 0; step < 2 * PART - 4; step++) query_in(&path, 5, step);
+    is_kept = dspec_path_keep(&path);
+    has_answer = true;
+    while (!is_over) usleep(1000); /* nothing is thrown away by its end */
+    return unused;
+}
+
+/* The older records of a path are kept, its last ones wait for room, and it can't get into its lane again: the path is kept, what has no room of it is lost, and its place is another's. */
+static void mode_half(void) {
+    dspec_tracer_report report;
+    dspec_path others[2];
+    uint64_t before;
+    pthread_t keeper;
+    begin((dspec_tracer_options){ .lanes = 1, .paths = 2, .bufsize = 512, .specsize = 256, .keep_last = true, .keep_ms = 600000, .period_ms = 1000000 });
+    start_caller();
+    writes_stand = true;
+    CHECK(tick_now(&tracer, 1) == DSPEC_OK && !dspec_tracer_flush(&tracer, 1));
+    while (!is_writing) usleep(1000); /* one buffer is out now */
+    for (uint64_t i = 0; i < 5; i++) CHECK(tick_now(&tracer, i) == DSPEC_OK);
+    before = __atomic_load_n(&callers.lane->answered, __ATOMIC_RELAXED);
+    pthread_create(&keeper, NULL, keeps_half, NULL);
+    while (__atomic_load_n(&callers.lane->answered, __ATOMIC_RELAXED) < before + PART) usleep(1000);
+    make_caller_stay();
+    while (!has_answer) usleep(1000);
+    CHECK(!is_kept);
+    let_caller_leave();
+    pthread_join(keeper, NULL);
+    writes_stand = false;
+    CHECK(dspec_tracer_flush(&tracer, 60000));
+    CHECK(dspec_tracer_counts(&tracer, &report) && report.kept == 1);
+    for (size_t i = 0; i < 2; i++) others[i] = dspec_path_begin(&tracer);
+    for (uint32_t step = 0; step < 2 * PART - 4; step++) CHECK(query_in(&others[0], 6, step) == DSPEC_OK && query_in(&others[1], 7, step) == DSPEC_OK);
+    CHECK(dspec_path_drop(&others[0]) && dspec_path_drop(&others[1]));
+    report = ended(true);
+    CHECK(report.undecided == 0 && report.kept == 1 && report.thrown == 3 && report.no_slot == 0);
 }
 
 /* ---- Threads that hand their paths on. ---- */
@@ -280,6 +347,7 @@ static void closes(dspec_tracer_options options) {
 static void mode_closed(void) { closes((dspec_tracer_options){ .lanes = 4 }); }
 
 static void mode_closed_bound(void) { closes((dspec_tracer_options){ .lanes = 4, .max_bytes = 200000 }); }
+static void mode_closed_survive(void) { closes((dspec_tracer_options){ .lanes = 4, .survive = true }); }
 
 static _Atomic int kept_paths;
 
@@ -349,8 +417,9 @@ static const struct {
     const char *name;
     void (*run)(void);
 } modes[] = {
-    { "flush", mode_flush }, { "others", mode_others }, { "waits", mode_waits }, { "left", mode_left }, { "handed", mode_handed }, { "limit", mode_limit },
-    { "without", mode_without }, { "closed", mode_closed }, { "closed_bound", mode_closed_bound }, { "forbidden", mode_forbidden }, { "thread", mode_thread },
+    { "flush", mode_flush }, { "others", mode_others }, { "waits", mode_waits }, { "left", mode_left }, { "half", mode_half }, { "handed", mode_handed }, { "limit", mode_limit },
+    { "stuck", mode_stuck }, { "without", mode_without }, { "closed", mode_closed }, { "closed_bound", mode_closed_bound }, { "closed_survive", mode_closed_survive },
+    { "forbidden", mode_forbidden }, { "thread", mode_thread },
 };
 
 int main(int argc, char **argv) {

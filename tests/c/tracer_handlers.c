@@ -3,6 +3,7 @@
  *     tracer_handlers FOLDER MODE */
 #define _GNU_SOURCE
 #include "dspec_tracer.h"
+#include "../../tracer/paths.h"
 
 #include <errno.h>
 #include <pthread.h>
@@ -191,14 +192,16 @@ static dspec_path handed;
 static __thread bool is_ending;
 static _Atomic int answers[2][3], came;
 
-/* The tracer throws away the paths of a thread that ends: the linker's --wrap leads that through here, and a signal comes. */
-dspec_status __real_dspec_discard(dspec_cpu *cpu, uint64_t id, uint32_t *count);
-dspec_status __wrap_dspec_discard(dspec_cpu *cpu, uint64_t id, uint32_t *count);
+/* The tracer throws away the paths of a thread that ends: the linker's --wrap leads that through here, and a signal comes. The shared object doesn't show that call. */
+#ifndef SHARED
+dspec_status __real_dspec_paths_discard(dspec_paths *paths, dspec_cpu *cpu, uint32_t place, uint64_t id);
+dspec_status __wrap_dspec_paths_discard(dspec_paths *paths, dspec_cpu *cpu, uint32_t place, uint64_t id);
 
-dspec_status __wrap_dspec_discard(dspec_cpu *cpu, uint64_t id, uint32_t *count) {
+dspec_status __wrap_dspec_paths_discard(dspec_paths *paths, dspec_cpu *cpu, uint32_t place, uint64_t id) {
     if (is_ending && came < 2) raise(SIGUSR2);
-    return __real_dspec_discard(cpu, id, count);
+    return __real_dspec_paths_discard(paths, cpu, place, id);
 }
+#endif
 
 static void makes_path(int signal) {
     const int time = came++;

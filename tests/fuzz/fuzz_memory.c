@@ -12,7 +12,7 @@ static void without(const char *name) {
         DIR *names;
         snprintf(path, sizeof path, "%s/%s/%s", fuzz_top, name, parts[part]);
         names = opendir(path);
-        for (struct dirent *one; names != NULL && (one = readdir(names)) != NULL;) unlinkat(dirfd(names), one->d_name, 0);
+        for (struct dirent *entry; names != NULL && (entry = readdir(names)) != NULL;) unlinkat(dirfd(names), entry->d_name, 0);
         if (names != NULL) closedir(names);
         rmdir(path);
     }

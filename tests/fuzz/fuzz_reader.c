@@ -1,7 +1,7 @@
-/* fuzz_reader.c: records of a batch by their layout (dspec_reader.h), and parts of a batch (dspec_folder.h). The input says which layout it is, and has the batch. */
+/* fuzz_reader.c: records of a batch by their layout (dspec_reader.h), and parts of a batch (tracer/folder.h). The input says which layout it is, and has the batch. */
 #include "fuzz.h"
 
-#include "dspec_ctf.h"
+#include "../../tracer/folder.h"
 
 int LLVMFuzzerInitialize(int *count, char ***words) { return (void)count, (void)words, 0; }
 
@@ -17,49 +17,49 @@ static dspec_layout layout_of(input *from) {
     return layout;
 }
 
-static void is_record_of(const dspec_layout *layout, const dspec_record *one) {
-    MUST(one->epid >= 1 && one->epid <= layout->enablings && one->fields == layout->of[one->epid - 1].fields);
-    MUST(layout->stamped || one->stamp == 0);
+static void is_record_of(const dspec_layout *layout, const dspec_record *record) {
+    MUST(record->epid >= 1 && record->epid <= layout->enablings && record->fields == layout->of[record->epid - 1].fields);
+    MUST(layout->stamped || record->stamp == 0);
     for (size_t i = 0; i < DSPEC_MAX_FIELDS; i++) {
-        const uint32_t width = i < one->fields ? layout->of[one->epid - 1].widths[i] : 0;
-        MUST(width == 8 || one->values[i] >> 8 * width == 0);
+        const uint32_t width = i < record->fields ? layout->of[record->epid - 1].widths[i] : 0;
+        MUST(width == 8 || record->values[i] >> 8 * width == 0);
     }
 }
 
 /* Reads all records of a batch: how many there are. */
 static uint64_t read_all(const dspec_layout *layout, const uint8_t *bytes, size_t len) {
-    dspec_record one, before;
+    dspec_record record, before;
     size_t at = 0;
     uint64_t count = 0;
     dspec_reading how;
-    memset(&one, 0x5a, sizeof one);
+    memset(&record, 0x5a, sizeof record);
     for (;; count++) {
         const size_t was = at;
-        before = one;
-        how = dspec_read(layout, bytes, len, &at, &one);
+        before = record;
+        how = dspec_read(layout, bytes, len, &at, &record);
         if (how != DSPEC_READ) {
-            MUST(at == was && memcmp(&one, &before, sizeof one) == 0);
+            MUST(at == was && memcmp(&record, &before, sizeof record) == 0);
             break;
         }
         MUST(at > was && at <= len);
-        is_record_of(layout, &one);
+        is_record_of(layout, &record);
     }
     MUST((how == DSPEC_READ_ALL) == (at == len));
     return count;
 }
 
-static bool is_same(const dspec_record *one, const dspec_record *other) {
-    return one->epid == other->epid && one->stamp == other->stamp && one->fields == other->fields && memcmp(one->values, other->values, sizeof one->values) == 0;
+static bool is_same(const dspec_record *record, const dspec_record *other) {
+    return record->epid == other->epid && record->stamp == other->stamp && record->fields == other->fields && memcmp(record->values, other->values, sizeof record->values) == 0;
 }
 
 /* Whether a part has so many records, which are the next ones of the batch. */
 static void has_next(const dspec_layout *layout, const dspec_batch *batch, size_t *at, const dspec_batch *part, uint64_t records) {
     size_t from = 0;
     for (uint64_t i = 0; i < records; i++) {
-        dspec_record one, other;
-        MUST(dspec_read(layout, batch->bytes, batch->len, at, &one) == DSPEC_READ);
+        dspec_record record, other;
+        MUST(dspec_read(layout, batch->bytes, batch->len, at, &record) == DSPEC_READ);
         MUST(dspec_read(layout, part->bytes, part->len, &from, &other) == DSPEC_READ);
-        MUST(is_same(&one, &other));
+        MUST(is_same(&record, &other));
     }
     MUST(from == part->len);
 }

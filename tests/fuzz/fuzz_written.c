@@ -12,8 +12,8 @@ int LLVMFuzzerInitialize(int *count, char ***words) {
     (void)words;
     top_begin();
     of.head = calloc(1, sizeof *of.head);
-    of.us = calloc(1, sizeof *of.us + 2 * sizeof(lane));
-    MUST(of.head != NULL && of.us != NULL);
+    of.tracer = calloc(1, sizeof *of.tracer + 2 * sizeof(struct lane));
+    MUST(of.head != NULL && of.tracer != NULL);
     snprintf(path, sizeof path, "%s/run", fuzz_top);
     snprintf(of.head->folder, sizeof of.head->folder, "%s", path);
     MUST(mkdir(path, 0700) == 0);
@@ -29,7 +29,7 @@ static void write_file(int file, const void *bytes, size_t size) { MUST(ftruncat
 
 /* The layout, what the memory says of the folder, and whether that folder is the run's. */
 static void folder_of(input *from) {
-    dspec_folder *folder = &of.us->folder;
+    dspec_folder *folder = &of.tracer->folder;
     char line[64] = "";
     of.layout = (dspec_layout){ .stamped = true, .enablings = (uint32_t)take(from, 1) % 4 };
     for (uint32_t event = 0; event < of.layout.enablings; event++) {
@@ -46,7 +46,7 @@ static void folder_of(input *from) {
     folder->oldest = (uint32_t)take(from, 1);
     folder->kept = (uint32_t)take(from, 1);
     for (size_t i = 0; i < DSPEC_FOLDER_MOST; i++) folder->parts[i].records = i;
-    of.us->lanes[0].before = take(from, 8);
+    of.tracer->lanes[0].before = take(from, 8);
     of.head->max_folders = (uint32_t)take(from, 1) & 1;
     line_of(&of, folder->kept > 0 && folder->kept <= DSPEC_FOLDER_MOST && folder->oldest < DSPEC_FOLDER_MOST ? newest_of(folder)->number : 0, line);
     write_file(metadata_at, line, take(from, 1) & 1 ? 0 : strlen(line));
@@ -54,13 +54,16 @@ static void folder_of(input *from) {
 
 int LLVMFuzzerTestOneInput(const uint8_t *data, size_t size) {
     input from = { data, size };
-    found_batch one = { FOUND_BROUGHT, 0, { NULL, 0, 0, 0 }, 0 };
-    uint64_t unsure;
+    found_batch batch = { FOUND_BROUGHT, 0, { NULL, 0, 0, 0 }, 0 };
+    const dspec_folder *folder = &of.tracer->folder;
+    uint64_t unsure, records;
     folder_of(&from);
-    one.batch.len = take(&from, 3);
-    one.records = take(&from, 2);
+    batch.batch.len = take(&from, 3);
+    batch.records = take(&from, 2);
     write_file(files_at, from.at, from.left);
-    written_records(&of, "/nowhere/run-memory", &one, &unsure);
-    MUST(unsure <= one.records);
+    records = written_records(&of, "/nowhere/run-memory", &batch, &unsure);
+    MUST(unsure <= batch.records);
+    MUST(records == UINT64_MAX || (folder->kept <= DSPEC_FOLDER_MOST && folder->oldest < DSPEC_FOLDER_MOST));
+    MUST(unsure == 0 || folder->writing.file < DSPEC_CTF_MAX_FILES);
     return 0;
 }

@@ -3,7 +3,7 @@
 //!
 //! `none`: no subscriber. `registry`: a registry and a layer that does nothing. `ring`: the last 256 events of each thread, as values.
 //! `fmt`: lines of text, thrown away. `channel`: lines of text to a thread by a bounded channel, as tracing-appender has it.
-//! `dspec-none`, `dspec-1`, `dspec-all`: this layer, of which none, one in a hundred, and all paths are kept; `-noclock` behind it: without reading a clock.
+//! `dspec-none`, `dspec-1`, `dspec-all`: this layer, of which none, one in a hundred, and all paths are kept; `-noclock` after it: without reading a clock.
 
 use std::cell::RefCell;
 use std::collections::VecDeque;

@@ -22,7 +22,7 @@ use tracing_core::{dispatcher, Dispatch, Metadata};
 /// The counts at the end.
 #[derive(Clone, Debug, Default)]
 pub struct Report {
-    /// Of all lanes and sessions together. Each record that was offered stands in exactly one of the seven counts behind `offered`.
+    /// Of all lanes and sessions together. Each record that was offered stands in exactly one of the seven counts after `offered`.
     pub sum: dspec::Report,
     /// Of each lane, session by session.
     pub lanes: Vec<dspec::Report>,
@@ -183,8 +183,8 @@ pub(crate) struct Paths<K> {
     pub(crate) report: Report,
 }
 
-/// A lane's part of a path is copied by the service behind the commit, and the buffer that it is copied to is sealed by the next: with
-/// the visit that the consumer may be in when it learns of the commit, a path is whole three visits behind.
+/// A lane's part of a path is copied by the service after the commit, and the buffer that it is copied to is sealed by the next: with
+/// the visit that the consumer may be in when it learns of the commit, a path is whole three visits later.
 const VISITS: u64 = 3;
 
 /// Beside paths the counts are told so often, in nanoseconds.
@@ -477,7 +477,7 @@ struct Reading {
     path: PathId,
     line: Line,
     shape: u32,
-    /// Those behind its path, its shape and its span.
+    /// Those after its path, its shape and its span.
     words: Vec<u64>,
     /// How many records it is of.
     records: u64,

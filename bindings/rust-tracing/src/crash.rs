@@ -161,7 +161,7 @@ impl<K: Sink> Paths<K> {
         self.flush();
     }
 
-    /// Whether a signal that another process sent ends the layer, and this process behind it.
+    /// Whether a signal that another process sent ends the layer, and this process after it.
     pub(crate) fn is_killed(&self) -> bool {
         self.core.watch.as_ref().is_some_and(Watch::is_killed)
     }

@@ -39,11 +39,11 @@ const MAGIC: u32 = 0xc1fc_1fc1;
 /// code 0 ends a text there, so U+2400 is written for it. Each pair of a callsite and its fields' types is a class of its own.
 ///
 /// Of a name each letter but A to Z, a to z, digits and `_` becomes `_`: `log.target` is `log_target`. What then begins with a digit or with `_`, or is a word
-/// of the format's language, gets a `_` before it, which babeltrace2 takes away again from a field's name. It is cut behind 240 letters. Where a name is
-/// taken, by another class or another field of the same class, `_2`, `_3`, .. stands behind it.
+/// of the format's language, gets a `_` before it, which babeltrace2 takes away again from a field's name. It is cut after 240 letters. Where a name is
+/// taken, by another class or another field of the same class, `_2`, `_3`, .. stands after it.
 ///
 /// `metadata` is there from the beginning. It is written anew, to another file that then gets its name, before a packet with a class that it hasn't yet: so the
-/// folder is a whole trace behind each path. A write that fails is cut back to the last whole packet.
+/// folder is a whole trace after each path. A write that fails is cut back to the last whole packet.
 #[derive(Debug)]
 pub struct Ctf {
     folder: PathBuf,
@@ -334,7 +334,7 @@ fn last_of_each<'p>(values: &[(&'static str, &'p Value)]) -> Vec<(&'static str, 
 /// How many bytes stand before a packet's events.
 const FRONT: usize = 4 + 16 + 4 + 5 * 8;
 
-/// A page of a file. A write that a kill cuts off is cut off behind a whole page, so a packet that is one page is there or not.
+/// A page of a file. A write that a kill cuts off is cut off after a whole page, so a packet that is one page is there or not.
 const PAGE: usize = 4096;
 
 /// Adds a packet of these events, each with its stamp, and zeros up to the end of its last page.

@@ -1,4 +1,4 @@
-//! A word where the process ends: of a layer that nobody ended, and of what was recorded behind the end of one whose guard was dropped too early.
+//! A word where the process ends: of a layer that nobody ended, and of what was recorded after the end of one whose guard was dropped too early.
 
 use crate::layer::{Core, DROPPED};
 use std::io::{self, Write};

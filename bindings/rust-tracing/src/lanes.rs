@@ -1,4 +1,4 @@
-//! The lanes: each has one CPU of every session, behind a lock that no traced thread waits for. A thread has a lane that it tries first;
+//! The lanes: each has one CPU of every session, under a lock that no traced thread waits for. A thread has a lane that it tries first;
 //! where somebody is in it, it takes the next one, since any CPU may record for a speculation. So there may be more threads than lanes, a thread
 //! may end at any time, and the consumer makes the services of threads that sleep.
 
@@ -18,7 +18,7 @@ thread_local! {
 
 static THREADS: AtomicUsize = AtomicUsize::new(0);
 
-/// How often the consumer tries a lane in one round: so often at once, and so often behind a yield.
+/// How often the consumer tries a lane in one round: so often at once, and so often after a yield.
 const TRIES: usize = 32;
 const YIELDS: usize = 8;
 
@@ -32,7 +32,7 @@ pub(crate) struct Kept {
     pub(crate) why: Why,
     /// Whether it was open where the layer ended.
     pub(crate) open: bool,
-    /// Records that stood in speculative buffers, and those that stand in the stream behind the commit.
+    /// Records that stood in speculative buffers, and those that stand in the stream after the commit.
     pub(crate) records: u64,
     /// Records that had no room in speculative buffers.
     pub(crate) cut: u64,
@@ -203,7 +203,7 @@ impl Lanes {
         self.places[first].attempt().unwrap_or_else(|| self.another(first))
     }
 
-    /// A lane that nobody is in, behind one where somebody was.
+    /// A lane that nobody is in, after one where somebody was.
     #[cold]
     fn another(&self, first: usize) -> MutexGuard<'_, Lane> {
         let mut at = first;

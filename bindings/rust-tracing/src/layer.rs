@@ -410,7 +410,7 @@ impl Core {
             let (parts, in_tail) = self.parts(path);
             let (records, cut) = (slot.records.load(Ordering::Relaxed) + in_tail, slot.cut.load(Ordering::Relaxed));
             parts.for_each(|part| lane.commit(path.session(), part));
-            // What failed stands behind the commit, where nothing of the path can have taken its room; the consumer gets it beside the
+            // What failed stands after the commit, where nothing of the path can have taken its room; the consumer gets it beside the
             // stream where that is full.
             let before = lane.traced;
             let held = held.and_then(|mut held| {
@@ -619,7 +619,7 @@ where
             let Some(at) = stack.iter().rposition(|one| (one.0, one.1) == entered) else { return };
             let (_, _, outside) = stack.remove(at);
             match stack.get_mut(at) {
-                // Left out of order: what was entered behind it now stands outside of what this one stood in.
+                // Left out of order: what was entered after it now stands outside of what this one stood in.
                 Some(later) => later.2 = outside,
                 None => NOW.with(|now| now.set(outside)),
             }

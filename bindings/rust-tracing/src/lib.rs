@@ -29,7 +29,7 @@
 //! # What is kept of a path
 //!
 //! Its spans with their fields, its events with theirs, and the times of all, as far as its bytes go ([`Builder::bytes_a_path`]). The
-//! first ERROR is held back and stands behind the rest, so that it is there however long the path was. What had no room is counted
+//! first ERROR is held back and stands after the rest, so that it is there however long the path was. What had no room is counted
 //! in [`Path::cut`] and [`Path::lost`]. An event has up to 12 fields and 240 bytes of texts that the program made; a text that was cut says how long it was.
 //!
 //! # What stays of a path that isn't kept

@@ -90,7 +90,7 @@ impl Core {
         }
     }
 
-    /// The same of what is more than one record, or has no slot, or several parts. What belongs to one record stands in one part, behind it.
+    /// The same of what is more than one record, or has no slot, or several parts. What belongs to one record stands in one part, after it.
     #[inline(never)]
     fn put_parts(&self, values: &Values, path: PathId, epid: u32, stamp: u64) {
         self.offer_until(path, |lane, part| {

@@ -32,7 +32,7 @@ pub(crate) const BOOL: u64 = 3;
 pub(crate) const F64: u64 = 4;
 /// A text that the program made. The value is its length in bytes, above 16 bits of how many of them are there.
 pub(crate) const TEXT: u64 = 5;
-/// The first literal of the callsite; types from here on are those behind it. It has no value.
+/// The first literal of the callsite; types from here on are those after it. It has no value.
 pub(crate) const LITERAL: u64 = 8;
 
 pub(crate) fn schema() -> Result<Schema, Error> {

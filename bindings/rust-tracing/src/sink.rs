@@ -355,7 +355,7 @@ pub trait Sink: Send {
         Ok(())
     }
 
-    /// Behind each round in which something was handed on, and at the end.
+    /// After each round in which something was handed on, and at the end.
     ///
     /// # Errors
     ///
@@ -364,7 +364,7 @@ pub trait Sink: Send {
         Ok(())
     }
 
-    /// Behind the last.
+    /// After the last.
     ///
     /// # Errors
     ///

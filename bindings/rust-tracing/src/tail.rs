@@ -1,4 +1,4 @@
-//! The last records of a path that has more than its bytes have room for. Its first ones stay in its own speculation; those behind them go to a second one, and
+//! The last records of a path that has more than its bytes have room for. Its first ones stay in its own speculation; those after them go to a second one, and
 //! where that is full to a third, and so on: the last two of these are kept with the path, and what stood in the ones before is thrown away.
 
 use crate::layer::{locked, Core};
@@ -50,7 +50,7 @@ enum Turn {
 }
 
 impl Tail {
-    /// A path begins. It is told of by its slot behind that.
+    /// A path begins. It is told of by its slot after that.
     pub(crate) fn begins(&self, path: PathId) {
         *locked(&self.parts) = Parts { path, older: NONE, newer: NONE };
         self.now.store(0, Ordering::Release);

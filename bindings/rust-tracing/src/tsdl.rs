@@ -257,7 +257,7 @@ const RESERVED: [&str; 33] = [
     "why_t",
 ];
 
-/// A name that is longer is cut, so that there is room for a number behind it in the 255 bytes that a name may have.
+/// A name that is longer is cut, so that there is room for a number after it in the 255 bytes that a name may have.
 const LONGEST: usize = 240;
 
 /// A name that the format allows: each letter but A to Z, a to z, digits and `_` becomes `_`; what then begins with a digit or `_`, or is reserved, gets
@@ -274,7 +274,7 @@ fn allowed(name: &str) -> String {
     out
 }
 
-/// The name, with `_2`, `_3`, .. behind it where it is taken.
+/// The name, with `_2`, `_3`, .. after it where it is taken.
 fn told_apart(name: &str, taken: &mut HashSet<String>) -> String {
     let mut one = name.to_owned();
     let mut number = 1;

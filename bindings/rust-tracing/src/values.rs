@@ -31,7 +31,7 @@ struct Texts {
     count: usize,
     bytes: [u8; BYTES],
     used: usize,
-    /// Where the bytes behind the last text begin.
+    /// Where the bytes after the last text begin.
     begun: usize,
 }
 
@@ -125,7 +125,7 @@ impl<'a> Gathering<'a> {
         Gathering { callsites, callsite, metadata, keep: false, values }
     }
 
-    /// Behind the last field.
+    /// After the last field.
     #[inline]
     pub(crate) fn end(&mut self) {
         self.values.shape |= self.callsite.map_or(NO_SHAPE, |callsite| callsite.shape(self.values.types));
@@ -191,13 +191,13 @@ fn has_word(kind: u64) -> bool {
 }
 
 impl Values {
-    /// Whether a field is recorded, and stands behind all that have a value.
+    /// Whether a field is recorded, and stands after all that have a value.
     #[inline]
     fn is_next(&self, at: usize) -> bool {
         at < FIELDS && self.types >> (4 * at) == 0
     }
 
-    /// The value of a field behind all that have one.
+    /// The value of a field after all that have one.
     #[inline]
     fn push(&mut self, at: usize, kind: u64, value: u64) {
         self.types |= kind << (4 * at);
@@ -227,7 +227,7 @@ impl Values {
         self.types |= unnumbered;
     }
 
-    /// A field comes behind a later one, or once more.
+    /// A field comes after a later one, or once more.
     #[cold]
     fn set_again(&mut self, at: usize, kind: u64, value: u64) {
         let mut all = [(0, 0); FIELDS];
@@ -241,7 +241,7 @@ impl Values {
         }
     }
 
-    /// The bytes behind the last text are one of so many bytes, of which some may not have had room.
+    /// The bytes after the last text are one of so many bytes, of which some may not have had room.
     #[allow(clippy::cast_possible_truncation)] // there are fewer fields and bytes than 256
     fn end_text(&mut self, at: usize, length: usize) {
         let mut kept = 0;
@@ -266,7 +266,7 @@ impl Values {
         self.row[1] = u64::from(self.shape) << 32 | u64::from(span);
     }
 
-    /// The word behind those, of a span that begins.
+    /// The word after those, of a span that begins.
     pub(crate) fn parent(&mut self, span: u32) {
         self.row[HEAD] = span.into();
     }
@@ -278,7 +278,7 @@ impl Values {
         alone.then(|| (nth(first, self.used - HEAD), &self.row[..self.used]))
     }
 
-    /// Puts the record, and behind it on the same lane what belongs to it; where one of them has no room the next aren't offered. True: all
+    /// Puts the record, and after it on the same lane what belongs to it; where one of them has no room the next aren't offered. True: all
     /// had. `put` answers whether one had, by its EPID and its words.
     #[inline(never)]
     pub(crate) fn put(&self, epid: u32, put: &mut dyn FnMut(u32, &[u64]) -> bool) -> bool {
@@ -295,7 +295,7 @@ impl Values {
         put(nth(epid, first - HEAD), &words[..first]) && words[first..used].chunks(WORDS).all(|part| put(nth(MORE, part.len() - 1), part))
     }
 
-    /// The texts' bytes, one behind the other in the order of their fields. How many words they are.
+    /// The texts' bytes, one after the other in the order of their fields. How many words they are.
     fn put_texts(&self, words: &mut [u64]) -> usize {
         let Some(texts) = &self.texts else { return 0 };
         let mut bytes = 0;
@@ -413,7 +413,7 @@ impl Room<'_, '_> {
         let none = || Texts { places: [Text::default(); TEXTS], count: 0, bytes: [0; BYTES], used: 0, begun: 0 };
         let texts = self.gathering.values.texts.get_or_insert_with(none);
         let used = texts.used;
-        // Once a piece was cut, nothing stands behind it.
+        // Once a piece was cut, nothing stands after it.
         let cut = self.length > used - texts.begun;
         let mut count = if cut { 0 } else { text.len().min(BYTES - used) };
         while !text.is_char_boundary(count) {
@@ -467,7 +467,7 @@ impl Visit for Gathering<'_> {
     }
 }
 
-/// The EPID that many behind the first of its kind.
+/// The EPID that many after the first of its kind.
 #[inline]
 #[allow(clippy::cast_possible_truncation)] // there are 64 at most
 fn nth(first: u32, behind: usize) -> u32 {
@@ -550,7 +550,7 @@ mod tests {
         let due = |first: usize, second: usize| {
             vec![(0, text(&"x".repeat(first), 100)), (1, Value::I64(-1)), (3, text(&"y".repeat(second), 200))]
         };
-        // Three words are values, three of the first record and eight of each behind it texts.
+        // Three words are values, three of the first record and eight of each after it texts.
         assert_eq!(read_again(&callsites, &mut gathering.values, 9), (due(100, 140), 5));
         assert_eq!(read_again(&callsites, &mut gathering.values, 2), (due(88, 0), 5));
         assert_eq!(read_again(&callsites, &mut gathering.values, 1), (due(24, 0), 5));

@@ -56,7 +56,7 @@ fn crash(way: &str) {
     }
 }
 
-/// A program that crashes in this way, while a second thread is in a path too. It is run by the tests behind it, in a process of its own.
+/// A program that crashes in this way, while a second thread is in a path too. It is run by the tests after it, in a process of its own.
 #[test]
 fn a_program_of_its_own() {
     let (Ok(way), Ok(folder)) = (env::var("DSPEC_CRASH"), env::var("DSPEC_FOLDER")) else { return };
@@ -133,7 +133,7 @@ impl Drop for Left {
     }
 }
 
-/// The lines of a path of the text behind its times and before its lane, and why it was kept.
+/// The lines of a path of the text after its times and before its lane, and why it was kept.
 fn path(text: &str, request: u64) -> Option<(String, Vec<String>)> {
     let lines: Vec<_> = text.lines().collect();
     let at = lines.iter().position(|line| line.contains(&format!("{{ request={request} @")))?;
@@ -167,7 +167,7 @@ fn a_crash_keeps_the_path_of_its_thread() {
         assert_eq!(why, "crashed, open still", "{way}");
         let due = ["request { request=5", "DEBUG crash: stepped step=1", "part { table=orders", "DEBUG crash: stepped step=2"];
         assert_eq!(lines[..4], due, "{way}: {}", left.text);
-        // The second crash stands behind the path, or behind request 3, where that was handed on later. A crash has up to five places.
+        // The second crash stands after the path, or after request 3, where that was handed on later. A crash has up to five places.
         assert!(
             (6..=4 + 6 * signals.len()).contains(&lines.len())
                 && lines[5].starts_with("ERROR dspec_crash_at: frame=0 offset=")
@@ -177,7 +177,7 @@ fn a_crash_keeps_the_path_of_its_thread() {
         );
         assert_eq!(path(&left.text, 3).map(|told| told.0).as_deref(), Some("failed"), "{way}");
         assert!([1, 2, 4].iter().all(|&request| path(&left.text, request).is_none()), "{way}: {}", left.text);
-        // A stack that ends is a fault, of which the runtime of Rust makes an abort; it comes behind the path, which is kept already.
+        // A stack that ends is a fault, of which the runtime of Rust makes an abort; it comes after the path, which is kept already.
         assert_eq!(left.text.matches("ERROR dspec_crash: signal=").count(), signals.len(), "{way}: {}", left.text);
         assert!(left.text.matches(" took ").count() == 2 && !left.text.contains("records had no room"), "{way}: {}", left.text);
         let Ok(told) = Command::new("babeltrace2").arg(left.folder.join("ctf")).output() else { continue };

@@ -131,7 +131,7 @@ fn is_name(name: &str) -> bool {
         && name.chars().all(|letter| letter.is_ascii_alphanumeric() || letter == '_')
 }
 
-/// What stands behind `NAME = ` in a line.
+/// What stands after `NAME = ` in a line.
 fn told<'m>(metadata: &'m str, name: &str) -> &'m str {
     let find = format!("\t{name} = ");
     let line = metadata.lines().find(|line| line.starts_with(&find)).unwrap_or_else(|| panic!("no {name} in {metadata}"));
@@ -193,7 +193,7 @@ fn packets(mut bytes: &[u8], uuid: &str, classes: &[Class]) -> Vec<Packet> {
         let of_packet: String = taken::<16>(&mut bytes).iter().map(|byte| format!("{byte:02x}")).collect();
         assert_eq!((of_packet.as_str(), half(&mut bytes)), (uuid, 0));
         let [begin, end, content, size, discarded] = [(); 5].map(|()| word(&mut bytes));
-        // Whole pages: events, and zeros behind them.
+        // Whole pages: events, and zeros after them.
         assert!(content % 8 == 0 && content <= size && size % (8 * 4096) == 0 && begin >= last);
         let front = whole - bytes.len();
         let (packet, behind) = bytes.split_at(usize::try_from(size / 8).unwrap() - front);
@@ -244,7 +244,7 @@ fn is_kept(event: &Event, path: &Path) {
     }
 }
 
-/// A path's events are its lines, and behind them those that say what the path is; names and values by themselves.
+/// A path's events are its lines, and after them those that say what the path is; names and values by themselves.
 fn same(events: &[&Event], path: &Path) {
     let [lines @ .., ended, kept] = events else { panic!("{events:?}") };
     is_kept(kept, path);
@@ -294,7 +294,7 @@ fn a_folder_read_back() {
     let now = std::time::SystemTime::now().duration_since(std::time::UNIX_EPOCH).unwrap().as_nanos();
     assert_eq!((all.paths.len(), report.failures), (2, 0));
     let trace = read(&folder);
-    // One behind the other, so one file has both.
+    // One after the other, so one file has both.
     assert_eq!((trace.files.len(), trace.files["stream_0"].len()), (1, 2));
     for path in &all.paths {
         let events = trace.of_path(path.number);
@@ -376,7 +376,7 @@ fn a_class_for_each_callsite_and_types() {
     fs::remove_dir_all(folder).unwrap();
 }
 
-/// Paths that overlap are in files of their own; one behind both goes to the file that ended last.
+/// Paths that overlap are in files of their own; one after both goes to the file that ended last.
 #[test]
 fn overlapping_paths_in_two_files() {
     let folder = folder("overlap");
@@ -398,7 +398,7 @@ fn overlapping_paths_in_two_files() {
     fs::remove_dir_all(folder).unwrap();
 }
 
-/// More paths that overlap than there may be files: one is told as a failure, and beside the path behind it.
+/// More paths that overlap than there may be files: one is told as a failure, and beside the path after it.
 #[test]
 fn sixty_four_files() {
     let folder = folder("files");
@@ -578,7 +578,7 @@ fn below_a_limit() {
     println!("{count} packets below the limit");
 }
 
-/// A file that the system lets grow no further keeps its whole packets, and nothing behind them.
+/// A file that the system lets grow no further keeps its whole packets, and nothing after them.
 #[test]
 fn a_failed_write_leaves_whole_packets() {
     let folder = folder("limited");

@@ -64,7 +64,7 @@ fn a_path_without_a_slot_that_is_open_at_the_end() {
     drop(spans);
 }
 
-/// A path that closes behind the end was decided there: it isn't decided again.
+/// A path that closes after the end was decided there: it isn't decided again.
 #[test]
 fn a_path_is_decided_once() {
     let (dispatch, guard) = made(Builder::new());
@@ -152,7 +152,7 @@ fn what_text_tells_besides() {
 
 static GUARD: Mutex<Option<Guard<Text<io::Sink>>>> = Mutex::new(None);
 
-/// A program that ends its layer in this way, or doesn't. It is run by the test behind it, in a process of its own.
+/// A program that ends its layer in this way, or doesn't. It is run by the test after it, in a process of its own.
 #[test]
 fn a_program_of_its_own() {
     let Ok(way) = env::var("DSPEC_ENDING") else { return };

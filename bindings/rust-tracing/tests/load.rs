@@ -199,7 +199,7 @@ fn more_open_paths_than_slots() {
     runs("more than slots", more_than_slots);
 }
 
-/// Requests that panic at any depth, that are slow, that are asked for, that are dropped before they were entered, and events behind.
+/// Requests that panic at any depth, that are slow, that are asked for, that are dropped before they were entered, and events after.
 fn panics_and_drops() -> String {
     const REQUESTS: u64 = 2000;
     let builder = Builder::new().lanes(2).slow(Duration::from_secs(3)).wait_at_most(Duration::from_secs(60));

@@ -149,7 +149,7 @@ fn chrome_without_a_path() {
     assert_eq!(trace["traceEvents"].as_array().unwrap().len(), 1);
 }
 
-/// The members that the published messages have, in their JSON form, and of which kind each is: a `?` stands behind one that may be
+/// The members that the published messages have, in their JSON form, and of which kind each is: a `?` stands after one that may be
 /// absent. From the field names of opentelemetry/proto/trace/v1, common/v1 and resource/v1.
 const REQUEST: &[(&str, &str)] = &[("resourceSpans", "[ResourceSpans")];
 const RESOURCE_SPANS: &[(&str, &str)] = &[("resource", "Resource"), ("scopeSpans", "[ScopeSpans"), ("schemaUrl", "text?")];

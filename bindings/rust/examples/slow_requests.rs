@@ -35,7 +35,7 @@ impl Worker {
         u32::try_from((self.dice >> 33) % u64::from(below)).expect("below 32 bits")
     }
 
-    /// Each step goes to the request's path; what becomes of it stands in the report. Behind the last step it is known whether the path
+    /// Each step goes to the request's path; what becomes of it stands in the report. After the last step it is known whether the path
     /// matters. Where a `?` leaves early, it is thrown away.
     fn answer(&mut self, cpu: &mut Cpu, request: u64) -> Result<(), dspec::Error> {
         let probes = self.probes;

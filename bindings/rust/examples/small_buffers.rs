@@ -38,7 +38,7 @@ fn serve(probes: Probes, cpu: &mut Cpu, number: u64) -> Result<(), dspec::Error>
     Ok(())
 }
 
-/// A worker's requests, then more records than a principal buffer has room for, and behind those paths that are kept.
+/// A worker's requests, then more records than a principal buffer has room for, and after those paths that are kept.
 fn work(probes: Probes, cpu: &mut Cpu, worker: u32) -> Result<(), dspec::Error> {
     for number in 0..REQUESTS {
         serve(probes, cpu, number)?;

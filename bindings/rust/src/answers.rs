@@ -119,7 +119,7 @@ pub struct Served {
     pub settled: u32,
 }
 
-/// A CPU's counts. Each record that was offered stands in exactly one of the seven counts behind `offered`.
+/// A CPU's counts. Each record that was offered stands in exactly one of the seven counts after `offered`.
 #[repr(C)]
 #[derive(Clone, Copy, Debug, Default, PartialEq, Eq, Hash)]
 pub struct Report {
@@ -135,7 +135,7 @@ pub struct Report {
     pub lost: u64,
     /// Records thrown away by a discard.
     pub discarded: u64,
-    /// Records offered behind a stop, or to a speculation that wasn't open.
+    /// Records offered after a stop, or to a speculation that wasn't open.
     pub void: u64,
     /// Records that wait in speculative buffers.
     pub held: u64,

@@ -5,7 +5,7 @@ use std::ffi::c_void;
 use std::sync::atomic::{AtomicBool, Ordering};
 use std::time::Duration;
 
-/// A stack that ends here ends before a lock is taken, and not in a call behind that. A commit takes some 3,600 bytes of stack (docs/C.md).
+/// A stack that ends here ends before a lock is taken, and not in a call after that. A commit takes some 3,600 bytes of stack (docs/REFERENCE.md).
 #[allow(clippy::inline_always)] // it is one instruction
 #[inline(always)]
 pub fn reach_down() {

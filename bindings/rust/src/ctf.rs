@@ -88,7 +88,7 @@ impl CtfPackets {
         unsafe { raw::dspec_ctf_put(self.handle.at(), self.room.as_mut_ptr(), self.room.len(), packet) }
     }
 
-    /// Says that the packet that was put last wasn't written, and that those behind it won't be: how many records are missed by that. The next batch's packets
+    /// Says that the packet that was put last wasn't written, and that those after it won't be: how many records are missed by that. The next batch's packets
     /// tell it.
     pub fn lose(&mut self) -> u64 {
         let mut records = 0;

@@ -42,7 +42,7 @@ impl fmt::Display for CtfLoss {
 
 impl std::error::Error for CtfLoss {}
 
-/// Has the system keep room behind a file's end, for so many bytes and the last packet behind them. Where the system can't keep any, the write itself
+/// Has the system keep room after a file's end, for so many bytes and the last packet after them. Where the system can't keep any, the write itself
 /// will tell.
 #[cfg(target_os = "linux")]
 fn keep(file: &File, size: u64, bytes: usize) -> io::Result<()> {
@@ -97,7 +97,7 @@ impl Packets {
         Ok(())
     }
 
-    /// As `add`, for a file that tells what is missed: room for its last packet stays behind its end, so that a full disk doesn't take it.
+    /// As `add`, for a file that tells what is missed: room for its last packet stays after its end, so that a full disk doesn't take it.
     fn add_and_keep(&mut self, bytes: &[u8]) -> io::Result<()> {
         keep(&self.file, self.size, bytes.len())?;
         let added = self.add(bytes);
@@ -111,7 +111,7 @@ impl Packets {
 
 /// A trace of the Common Trace Format in a folder, which is written while a session runs and which other tools open. The file `cpu_N_K`
 /// has some of CPU N's records, with stamps that don't fall. What can't be written is counted, told by the trace itself, and by
-/// [`CtfFolder::lost`]; the next batch is tried. On Linux room for the last packet, which tells what is missed, is kept behind each CPU's first file, so that
+/// [`CtfFolder::lost`]; the next batch is tried. On Linux room for the last packet, which tells what is missed, is kept after each CPU's first file, so that
 /// a full disk doesn't take it.
 #[derive(Debug)]
 pub struct CtfFolder {
@@ -165,7 +165,7 @@ impl CtfFolder {
         Ok(())
     }
 
-    /// Closes the files, and gives back the room that was kept behind them; a file without a packet goes.
+    /// Closes the files, and gives back the room that was kept after them; a file without a packet goes.
     fn close_files(&mut self) {
         for (cpu, (_, files)) in self.cpus.iter_mut().enumerate() {
             for (number, packets) in files.drain(..).enumerate() {
@@ -212,7 +212,7 @@ impl CtfFolder {
         self.lost
     }
 
-    /// Behind the session's end: writes what was left of each CPU, tells what else its reports count as dropped, specdropped or lost, and closes the
+    /// After the session's end: writes what was left of each CPU, tells what else its reports count as dropped, specdropped or lost, and closes the
     /// files. So where each batch was handed to [`CtfFolder::take`], the trace tells these three counts, and what wasn't written, which is the answer: how many
     /// records in all.
     pub fn close(mut self, closed: &Closed) -> u64 {
@@ -231,7 +231,7 @@ impl CtfFolder {
         self.end()
     }
 
-    /// For a trace that no session's end stands behind: tells what isn't told yet of what CPUs missed, and closes the files. How many records weren't written
+    /// For a trace that is closed without a session's end: tells what isn't told yet of what CPUs missed, and closes the files. How many records weren't written
     /// in all.
     pub fn end(mut self) -> u64 {
         self.ending = true;

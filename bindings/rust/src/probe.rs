@@ -35,7 +35,7 @@ pub(crate) mod private {
         const BYTES: &'static [u8];
         const FIRST_KINDS: &'static [u8];
         const LABELS: &'static [&'static [&'static str]];
-        /// The numbers of the fields, with zeros behind them.
+        /// The numbers of the fields, with zeros after them.
         fn row(self) -> [u64; 8];
         /// The fields of as many numbers as there are widths; none where they are no values.
         fn of_row(row: &[u64]) -> Option<Self>;
@@ -158,14 +158,14 @@ macro_rules! fields_of_tuple {
             const FIRST_KINDS: &'static [u8] = &[$($name::KIND),*];
             const LABELS: &'static [&'static [&'static str]] = &[$($name::LABELS),*];
             #[inline]
-            #[allow(unused_mut, unused_variables, unused_assignments)] // of no fields, and behind the last
+            #[allow(unused_mut, unused_variables, unused_assignments)] // of no fields, and after the last
             fn row(self) -> [u64; 8] {
                 let mut row = [0; 8];
                 let mut at = 0;
                 $(self.$place.put(&mut row[at..]); at += $name::SPREAD;)*
                 row
             }
-            #[allow(unused_mut, unused_variables, unused_assignments, clippy::unused_unit)] // of no fields, and behind the last
+            #[allow(unused_mut, unused_variables, unused_assignments, clippy::unused_unit)] // of no fields, and after the last
             fn of_row(row: &[u64]) -> Option<Self> {
                 let mut at = 0;
                 let mut next = |count: usize| { at += count; &row[at - count..at] };

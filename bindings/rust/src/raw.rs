@@ -190,6 +190,7 @@ pub(crate) struct TracerOptions {
     pub(crate) whys: *const Labels,
     pub(crate) slow_ns: u64,
     pub(crate) sample: u32,
+    pub(crate) clock: u64,
 }
 
 #[repr(C)]

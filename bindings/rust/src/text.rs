@@ -3,7 +3,7 @@ use std::fmt;
 
 /// A text as a field of a probe: `N` is 8, 16, 24, 32, 40 or 48 bytes, and it counts as `N / 8` of a record's eight fields.
 ///
-/// Zeros stand behind its end. One that is longer is cut at a character's border, and full stops stand behind that. Any bytes may stand in it, but readers take a
+/// Zeros stand after its end. One that is longer is cut at a character's border, and full stops stand after that. Any bytes may stand in it, but readers take a
 /// zero for its end. The trace's metadata says of it that it is a text, so that babeltrace2 prints `sql = "select .."`.
 ///
 /// ```
@@ -74,7 +74,7 @@ impl<const N: usize> Text<N> {
     }
 }
 
-/// Puts a longer text: up to a character's border, and full stops behind that.
+/// Puts a longer text: up to a character's border, and full stops after that.
 #[cold]
 fn fill(all: &mut [u8], bytes: &[u8]) {
     let most = all.len();

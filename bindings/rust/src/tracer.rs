@@ -86,12 +86,14 @@ pub struct Options {
     pub slow_ns: u64,
     /// And one of so many others, by its number; 0: none.
     pub sample: u32,
+    /// Which clock the stamps of its records are of; the system's monotonic one at first.
+    pub clock: Clock,
 }
 
 impl Options {
     fn raw(&self, whys: *const raw::Labels) -> raw::TracerOptions {
         let Options { lanes, paths, bufsize, specsize, period_ms, crash_ms, by_thread, no_crash, no_term, .. } = *self;
-        let Options { keep_all, keep_open, no_membarrier, keep_last, survive, max_bytes, max_folders, keep_ms, slow_ns, sample, .. } =
+        let Options { keep_all, keep_open, no_membarrier, keep_last, survive, max_bytes, max_folders, keep_ms, slow_ns, sample, clock, .. } =
             *self;
         raw::TracerOptions {
             lanes,
@@ -114,8 +116,22 @@ impl Options {
             whys,
             slow_ns,
             sample,
+            clock: clock as u64,
         }
     }
+}
+
+/// Which clock the stamps of a tracer's records are of. What a program asks and sets stays in nanoseconds.
+#[derive(Clone, Copy, Debug, Default, PartialEq, Eq, Hash)]
+#[repr(u64)]
+pub enum Clock {
+    /// The system's monotonic one, in nanoseconds.
+    #[default]
+    Monotonic = 0,
+    /// The processor's time stamp counter, which takes some 15 nanoseconds less. A start is refused where the processor doesn't say that it is invariant, or the system doesn't keep its own time by it.
+    Tsc = 1,
+    /// That counter where it can be had, else the monotonic one.
+    Auto = 2,
 }
 
 /// Why a path is kept, as the trace tells it in the path's event `dspec_kept`.
@@ -163,7 +179,7 @@ pub struct Report {
     pub lost: u64,
     /// Records of paths that were thrown away.
     pub discarded: u64,
-    /// Records offered behind a stop, or to a path that wasn't open.
+    /// Records offered after a stop, or to a path that wasn't open.
     pub void: u64,
     /// Records of an event that the tracer wasn't started with.
     pub refused: u64,
@@ -185,7 +201,7 @@ pub struct Report {
     pub missing: u64,
     /// Records of the tracer's own events, which are in no other count but `not_written` and `gone_records`.
     pub own: u64,
-    /// Calls behind the stop, refused.
+    /// Calls after the stop, refused.
     pub late: u64,
     /// Calls that gave up waiting for a lane.
     pub waited: u64,
@@ -462,7 +478,7 @@ impl<'a> Path<'a> {
         recorded(unsafe { raw::dspec_path_put(&mut self.raw, event.at(), words.as_ptr(), count) })
     }
 
-    /// Keeps it: whether its records are on their way to the folder. False where there was no slot, no room or no record, and behind a stop.
+    /// Keeps it: whether its records are on their way to the folder. False where there was no slot, no room or no record, and after a stop.
     pub fn keep(mut self) -> bool {
         // SAFETY: as in `record`.
         unsafe { raw::dspec_path_keep(&mut self.raw) }

@@ -9,7 +9,7 @@ fn identity() -> CtfIdentity {
     CtfIdentity { uuid, host: "here".into(), name: "server".into(), pid: 77, hertz: 1000, seconds: 5, ticks: 6, clock: None }
 }
 
-/// A packet of CPU 0 with these stamps, whose records have their stamps as values: zeros behind them, up to 1,024 bytes.
+/// A packet of CPU 0 with these stamps, whose records have their stamps as values: zeros after them, up to 1,024 bytes.
 fn packet(begin: u64, end: u64, missed: u64, stamps: &[u32]) -> Vec<u8> {
     let bits = 8 * (68 + 16 * stamps.len() as u64);
     let mut bytes = 0xC1FC_1FC1_u32.to_le_bytes().to_vec();

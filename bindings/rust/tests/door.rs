@@ -523,7 +523,7 @@ fn texts_and_labels_come_back() {
     assert_eq!((query.read(&records[1]), query.read(&records[2]), query.read(&records[3])), (None, None, None));
 }
 
-/// Each length, and each character across the end: as many bytes as fit, up to a character's border, full stops behind.
+/// Each length, and each character across the end: as many bytes as fit, up to a character's border, full stops after.
 #[test]
 fn texts_are_cut() {
     for letter in ["a", "ä", "€", "🙂"] {

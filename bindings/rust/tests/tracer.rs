@@ -1,12 +1,12 @@
 //! The tracer in a box: its counts, its refusals, and what stays of a process that crashes.
 
-use dspec::tracer::{Event, Options, Path, Recorded, Why};
+use dspec::tracer::{Clock, Event, Options, Path, Recorded, Why};
 use dspec::{Text, Tracer};
 use std::path::PathBuf;
 use std::process::Command;
 use std::sync::atomic::{AtomicBool, AtomicU32, Ordering};
 use std::sync::Arc;
-use std::time::Duration;
+use std::time::{Duration, Instant};
 use std::{env, fs, mem, process, thread};
 
 static STEP: Event<(u64, i8)> = Event::new("step", &["request", "number"]);
@@ -36,7 +36,7 @@ impl Folder {
         Tracer::start(&self.0, options, &[&STEP, &WIDE]).unwrap()
     }
 
-    /// The lines of babeltrace2, each behind its time and its machine; none where it isn't installed.
+    /// The lines of babeltrace2, each after its time and its machine; none where it isn't installed.
     fn lines(&self) -> Option<Vec<String>> {
         self.lines_without(0)
     }
@@ -297,7 +297,7 @@ fn deep(at: u64) -> u64 {
     }
 }
 
-/// Crashes in this way in request 777, in a process of its own, which the test behind it makes.
+/// Crashes in this way in request 777, in a process of its own, which the test after it makes.
 #[test]
 fn a_program_that_crashes() {
     let Ok(way) = env::var("DSPEC_CRASH") else { return };
@@ -365,6 +365,31 @@ fn a_tracer_that_is_forgotten_is_written() {
     program.args(["--exact", "a_program_that_forgets_its_tracer"]).env("DSPEC_FORGETS", &folder.0);
     assert!(program.output().unwrap().status.success());
     shows(&folder, "step", &["{ request = 5, number = 1 }"]);
+}
+
+/// How long a path took lies between the inner and the outer ends by the system's clock, but for a thousandth and a microsecond, whatever clock its tracer has.
+#[test]
+fn a_path_took_so_long_by_each_clock() {
+    let most = |time: Duration| time + time / 1000 + Duration::from_micros(1);
+    for clock in [Clock::Monotonic, Clock::Auto, Clock::Tsc] {
+        let folder = Folder::new();
+        let tracer = match Tracer::start(&folder.0, &Options { clock, ..Options::default() }, &[&STEP, &WIDE]) {
+            Ok(tracer) => tracer,
+            Err(fault) => {
+                assert!(clock == Clock::Tsc && fault.to_string().contains("clock: "), "{fault}");
+                continue;
+            }
+        };
+        let mut path = tracer.path();
+        let outer = Instant::now();
+        assert_eq!(path.record(&STEP, (1, 1)), Recorded::Kept);
+        let inner = Instant::now();
+        thread::sleep(Duration::from_millis(5));
+        let least = inner.elapsed();
+        let took = path.took();
+        assert!(least <= most(took) && took <= most(outer.elapsed()), "{least:?} {took:?}");
+        assert!(path.keep() && tracer.stop().whole);
+    }
 }
 
 #[test]

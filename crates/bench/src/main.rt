@@ -41,7 +41,7 @@ fn check_all<R: Threads + Wait + Sync>(threads: &R, rt: &HostRuntime) -> io::Res
     together::check(threads, rt)
 }
 
-/// What the words behind the program's name ask for, if it's something that the program does.
+/// What the words after the program's name ask for, if it's something that the program does.
 fn run<R: Threads + Wait + Sync>(
     threads: &R,
     rt: &HostRuntime,

@@ -18,7 +18,7 @@ module _ (e : EnabledRows) where
   abbrev pub Hold : List Passed → List Record → Type 0
   Hold xs seen = HoldRecords (table_shape e.header (enabled e.rows)) (table_accepts e.header (enabled e.rows)) (table_text e.header (enabled e.rows)) (passed_from 0 xs) seen
 
-  -- behind a fault nothing changes
+  -- after a fault nothing changes
   fault_stays : (xs : List Passed) (k l : SinkRecords) (fault : RecordSinkFault) → k.fault ≡ Some fault → GotAll (KeepsBatch e) k xs l → l ≡ k
   fault_stays [] k l fault is got = sym got
   fault_stays (x ∷ xs) k l fault is (m, keeps, rest) =

@@ -84,7 +84,7 @@ module _ {K : Type 0} (gets : K → Batch → K → Type 0) where
   got_both [] ys k m l e more = subst (λ j. GotAll gets j ys l) (sym e) more
   got_both (x ∷ xs) ys k m l got more = (got.0, got.1, got_both xs ys got.0 m l got.2 more)
 
-  -- the last buffer of a CPU, behind the batch that it had sealed
+  -- the last buffer of a CPU, after the batch that it had sealed
   pub got_rest : (n : ℕ) (l : Left) (k m : K) → l.rest ≡ None → gets k l.last m → GotAll gets k (rests_passed n (l ∷ [])) m
   got_rest n l k m none g = subst (λ o. GotAll gets k (each_from n (waiting o ++ l.last ∷ []) ++ []) m) (sym none) (m, g, refl)
 

@@ -1,4 +1,4 @@
--- Services behind a work: one more, and what all of them settled.
+-- Services after a work: one more, and what all of them settled.
 use Rattle.std.proofs.Common.{◌≡◌, ℕ, zero, suc, List, [], ◌++◌, refl, sym, ap, ◌∙◌, append_assoc}
 use Rattle.std.proofs.lemmas.List.{map-append}
 use Rattle.dspec.specs.Words.{Speculation, emptied, service, CallsMade, settled_did, ServedOn, ServedOnce, ServedTimes, DecideFate}
@@ -17,7 +17,7 @@ pub record Settled (x y : CallsMade) : Type 0 where
   pub done : y.done ≡ settled_did settled ++ x.done
   pub worn : y.worn ≡ x.worn
 
--- more settlements, and those behind them
+-- more settlements, and those after them
 pub settled_behind : (more : List (Speculation × DecideFate)) (x y : CallsMade) (s : Settled x y)
     → settled_did more ++ y.done ≡ settled_did (more ++ s.settled) ++ x.done
 settled_behind more x y s =

@@ -26,7 +26,7 @@ abbrev pub records_of_cpu : ℕ → SinkRecords → List Record
 records_of_cpu cpu kept = flat_map (record_of_cpu cpu kept.cpus) (enumerate_from 0 kept.records)
 
 module _ (e : EnabledRows) where
-  -- the records of the text came behind those before
+  -- the records of the text came after those before
   pub record AddsText (text : List ℕ) (before after : List Record) : Type 0 where
     pub added : List Record
     pub is_text : BufferText (table_shape e.header (enabled e.rows)) (table_accepts e.header (enabled e.rows)) (table_text e.header (enabled e.rows)) 0 text added
@@ -38,7 +38,7 @@ module _ (e : EnabledRows) where
       (cpu ≡ b.cpu) × StopsAt (table_shape e.header (enabled e.rows)) (table_accepts e.header (enabled e.rows)) (table_text e.header (enabled e.rows)) b.buffer.text fault
   IsRecordSinkFault b Memory = Unit
 
-  -- All records of the batch are kept, or why not; behind a fault nothing more is.
+  -- All records of the batch are kept, or why not; after a fault nothing more is.
   pub record KeepsBatch (old : SinkRecords) (b : Batch) (new : SinkRecords) : Type 0 where
     pub stopped : (fault : RecordSinkFault) → old.fault ≡ Some fault → new ≡ old
     pub kept : old.fault ≡ None → new.fault ≡ None → AddsText b.buffer.text old.records new.records

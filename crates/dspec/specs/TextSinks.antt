@@ -40,7 +40,7 @@ module _ {W : Type 0} (writes : W → Option (List ℕ) → W → Type 0) where
       × BufferText (table_shape e.header (enabled e.rows)) (table_accepts e.header (enabled e.rows)) (table_text e.header (enabled e.rows)) 0 b.buffer.text records
       × ToldInTurn (λ w r v. writes w (told_line probes e.header b.cpu r) v) old records new
 
-  -- All records of the batch are told, or why not; behind a fault nothing more is.
+  -- All records of the batch are told, or why not; after a fault nothing more is.
   pub record TellsWhole (e : EnabledRows) (old : TextSink W) (b : Batch) (new : TextSink W) : Type 0 where
     pub probes : new.probes.now ≡ old.probes.now
     pub stopped : (fault : TextSinkFault) → old.fault ≡ Some fault → new ≡ old

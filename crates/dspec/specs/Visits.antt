@@ -28,7 +28,7 @@ module _ {K : Type 0} (gets : K → Batch → K → Type 0) where
     pub cleans : Cleaned released (view_of visited) (view_of y)
     pub ends : y.ends ≡ visited.ends
 
-  -- some rounds, one behind the other
+  -- some rounds, one after the other
   pub data MakesRounds (count : ℕ) (x : Consuming) (k : K) : Consuming → K → Type 0 where
     no_rounds : MakesRounds count x k x k
     rounds_more : {y : Consuming} {l : K} (z : Consuming) (m : K) → MakesRounds count x k y l → MakesRound count y l z m → MakesRounds count x k z m

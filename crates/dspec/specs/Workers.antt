@@ -7,7 +7,7 @@ use Rattle.dspec.specs.{Words.Outside.Config, Words.Outside.Cpu, declared.worker
 abbrev pub with_cpus : ℕ → Config → Config
 with_cpus n k = record k { cpus = n }
 
--- The worker at this place, as it was before, did that on the CPU with this number, and this is the worker behind it.
+-- The worker at this place, as it was before, did that on the CPU with this number, and this is the worker after it.
 pub record WorkedBy {W : Type 0} (does : ℕ → W → CallsMade → W → CallsMade → Type 0) (old new : List W) (c : ℕ) (x y : CallsMade) : Type 0 where
   pub before : W
   pub was : slice_get old c ≡ Some before

@@ -47,7 +47,7 @@ impl<S: Schema, K: Sink<S>> Sink<S> for Option<K> {
     }
 }
 
-/// What follows of a sink that may be left out, over all batches of a session: one that is there is there behind them, and got each; one
+/// What follows of a sink that may be left out, over all batches of a session: one that is there is there after them, and got each; one
 /// that was left out stays so.
 pub fn sink_stays<S: Schema, K: Sink<S>>(_schema: &S)
     ensures there { (k : K) (passed : List Passed) (new : Option K) → GotAll (GetsIfThere (K.gets _schema.now)) (Some k) passed new

@@ -64,7 +64,7 @@ impl Path {
     /// none was given, none is: `opening` answers Unavailable then, whatever the reason was, and all calls with the path are void.
     ///
     /// What each lane offered stays in that lane's own buffer. The lane that keeps the path copies its own part at once, every other
-    /// one copies its part in its next `service`; so each lane has to go on calling that. The slot is released behind the services of
+    /// one copies its part in its next `service`; so each lane has to go on calling that. The slot is released after the services of
     /// all lanes by the consumer's `clean`, which `trace` calls once a round.
     #[inline]
     #[tactic(auto, using(crate::proofs::TakenUp::none_of_zero))]

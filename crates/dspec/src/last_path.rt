@@ -39,7 +39,7 @@ impl LastPath {
         self.newer
     }
 
-    /// How many records at its beginning were thrown away for those behind them, as the answers to the discards tell.
+    /// How many records at its beginning were thrown away for those after them, as the answers to the discards tell.
     #[inline]
     pub fn cut(&self) -> u32
         ensures { result ≡ self.now.cut }
@@ -156,7 +156,7 @@ impl LastPath {
 
     /// Keeps its last records: the newer speculation is committed, and then the older where there is one, so that where the principal
     /// buffer has room for one alone the path's last records are kept. Both answers, the older one's first. In the trace the older
-    /// records stand behind the newer.
+    /// records stand after the newer.
     #[inline]
     pub fn commit<S: Schema>(self, lane: &mut Lane<'_, S>) -> (Option<Decided>, Decided)
         ensures same { place_of lane.new ≡ place_of lane.old }

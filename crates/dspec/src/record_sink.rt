@@ -40,7 +40,7 @@ impl From<AllocError> for RecordSinkFault {
     }
 }
 
-/// A sink that keeps every record, in the order in which they come, in memory that grows with them. Behind the first batch of which
+/// A sink that keeps every record, in the order in which they come, in memory that grows with them. After the first batch of which
 /// it can't keep all records it keeps no more. Contracts see its records and that fault.
 #[derive(Drop)]
 pub struct RecordSink {
@@ -57,7 +57,7 @@ impl Model for RecordSink {
     ghost view = { λ i. record { records = i.records.items; cpus = i.cpus.items; fault = i.fault } };
 }
 
-// All of these records come behind those that are kept, and with each its CPU.
+// All of these records come after those that are kept, and with each its CPU.
 fn keep_all(
     kept: &mut Vec<Rec>,
     cpus: &mut Vec<u32>,

@@ -177,7 +177,7 @@ pub fn pass_rests<K: Sink<Enablings>>(closed: &Closed, schema: &Enablings, count
 /// A whole session: its CPUs work in threads of their own while a further one hands their batches to the sink. A lane whose work has
 /// returned makes services until every work has returned, so that no slot waits for it; where some works have not begun, it makes at most
 /// 2^20, since they may wait for its thread. Then the session is closed, and what nobody had taken goes to the sink too, CPU by CPU: the
-/// batch that was sealed, and the last buffer. Each CPU is promised, of what its work did, of the services behind it and of what the sink
+/// batch that was sealed, and the last buffer. Each CPU is promised, of what its work did, of the services after it and of what the sink
 /// got of it, what `dspec_promise` has on its page. Where there is no session the sink is as it was.
 pub fn trace<R: Threads + Sync, W: Work<Enablings>, K: Sink<Enablings>>(
     rt: &R,

@@ -20,7 +20,7 @@ use dspec_record::Enablings;
 ///     let path = lane.path().hand();
 ///     let mut steps = Steps { lane, clock: &clock, path };
 ///
-/// Like a path it can't be let go: it is ended, or handed on. What is behind its lane is known again once it was.
+/// Like a path it can't be let go: it is ended, or handed on. What is after its lane is known again once it was.
 pub struct Steps<'l, 'a, C> {
     /// The lane on which it goes on.
     pub lane: &'l mut Lane<'a, Enablings>,

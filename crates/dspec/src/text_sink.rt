@@ -62,7 +62,7 @@ impl fmt::Display for ToldLine<'_> {
 }
 
 /// A sink that writes a line for each record, in the order in which they come, to whatever takes text: a `String`, or `ErrorOutput`.
-/// It tells records by the probes' declaration (`ToldLine`). Behind the first batch that can't be told whole it tells no more.
+/// It tells records by the probes' declaration (`ToldLine`). After the first batch that can't be told whole it tells no more.
 #[derive(Drop)]
 pub struct TextSink<'p, 'n, W: Drop> {
     probes: &'p Probes<'n>,

@@ -13,17 +13,17 @@ pub trait Work<S: Schema>: Sync {
     ghost use Rattle.dspec_cpu.specs.Called.{CallsMade};
 
     // What the work does on the CPU with this number, whose records are of this schema: what its calls did before, and what they have
-    // done behind it. Whoever promises nothing of it leaves it out.
+    // done after it. Whoever promises nothing of it leaves it out.
     ghost does: { S → Self → ℕ → CallsMade → CallsMade → Type 0 } = { λ _ _ _ _ _. Unit {0} };
 
-    /// Calls the lane as often as it likes, and leaves it the one that it was. Behind it the lane makes services until every work has
+    /// Calls the lane as often as it likes, and leaves it the one that it was. After it the lane makes services until every work has
     /// returned.
     fn work(&self, lane: &mut Lane<'_, S>)
         ensures same { place_of lane.new ≡ place_of lane.old }
         ensures did { does (schema_of lane.old.cpu.now) self.now (number_in lane.old.cpu.now) (called lane.old.cpu.now) (called lane.new.cpu.now) };
 }
 
-/// Who gets the batches of a session: while it runs, and behind its close what nobody had taken.
+/// Who gets the batches of a session: while it runs, and after its close what nobody had taken.
 pub trait Sink<S: Schema>: Send + Drop {
     ghost use Rattle.dspec_ring.specs.declared.batch.Batch.{Batch};
 

@@ -172,7 +172,7 @@ fn run_workers<R: Threads + Sync, W: Worker<Enablings>, K: Sink<Enablings>>(
     part_again(pairs, &mut session.cpus, workers);
 }
 
-/// As `trace`, with a worker for each CPU, which is called by `&mut` in a thread of its own, and stands at its place again behind the
+/// As `trace`, with a worker for each CPU, which is called by `&mut` in a thread of its own, and stands at its place again after the
 /// close, as its work left it. There are as many CPUs as workers: the configuration's own number isn't read. Each CPU is promised what
 /// `trace` promises, of what its worker did on it. Where there is no session workers and sink are as they were.
 pub fn trace_workers<R: Threads + Sync, W: Worker<Enablings>, K: Sink<Enablings>>(

@@ -1,4 +1,4 @@
--- How far a reader has come: the bytes behind it are the text of the records that it has read.
+-- How far a reader has come: the bytes before it are the text of the records that it has read.
 use Rattle.std.proofs.Common.{◌≡◌, ◌+◌, ◌++◌, ℕ, Bool, Option, List, [], ◌∷◌, length, take, drop, refl, sym, ap, subst, ◌∙◌, arith, length-append, append_assoc}
 use Rattle.std.proofs.lemmas.{Bool.Decides.nat_tests, List.append-nil, List.take-append-drop, List.length-take-le, List.take_at, List.take_all}
 use Rattle.dspec_buffer.specs.{Words.Record, Words.BufferText, Words.StopsAt, Words.StopsBehind, Words.HasRead, Words.NextIs, Words.FaultIs, Words.Shape, declared.read_fault.ReadFault.ReadFault}

@@ -5,7 +5,7 @@ use Rattle.dspec_buffer.specs.{Words.Record, Words.IsGap, Words.BufferText, Word
 use Rattle.dspec_buffer.proofs.{NoRecord.fault_long, NoRecord.fault_excludes, OneReading.goes_on, SchemaLaws.SchemaLaws}
 
 module _ (shape : ℕ → Option Shape) (accepted : Record → Bool) (text : Record → List ℕ) (laws : SchemaLaws shape accepted text) where
-  -- behind a gap with a fault there is no text
+  -- after a gap with a fault there is no text
   pub no_text_here : (k : ReadKind) (o : ℕ) (b gap left : List ℕ) (qs : List Record) → IsGap o gap → b ≡ gap ++ left → FaultHere shape accepted text k (o + length gap) left
       → BufferText shape accepted text o b qs → ⊥
   no_text_here k o b gap left [] i e f t = grind (arith, nat_tests, fault_long)

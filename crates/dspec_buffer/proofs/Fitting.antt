@@ -36,7 +36,7 @@ pub record IsPlaced (o a n p : ℕ) : Type 0 where
 pub placed : (o a n p : ℕ) → o % 4 ≡ 0 → (a ≡ 4) ⊎ (a ≡ 8) → n % 4 ≡ 0 → n ≢ 0 → p ≡ rounded_up o a → IsPlaced o a n p
 placed o a n p h k w m e = grind (arith, nat_tests, rounded, reserved_some)
 
--- bytes behind the padding, written into a slice: up to their end the slice has what it had, the padding and the bytes
+-- bytes after the padding, written into a slice: up to their end the slice has what it had, the padding and the bytes
 pub laid : (o a p n : ℕ) (items xs out : List ℕ) → o % 4 ≡ 0 → (a ≡ 4) ⊎ (a ≡ 8) → p ≡ rounded_up o a → n ≢ 0 → length out ≡ n → p ≤ length xs
     → take p xs ≡ take o items ++ replicate (p - o) 0 → take (p + n) (put_mid p (p + n - p) xs out) ≡ take o items ++ padded o a out
 laid o a p n items xs [] h k e m l within pad = absurd (m (sym l))

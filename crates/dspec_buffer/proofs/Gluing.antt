@@ -1,4 +1,4 @@
--- Texts put together: one behind another, one moved by a multiple of eight, one behind a gap.
+-- Texts put together: one after another, one moved by a multiple of eight, one after a gap.
 use Rattle.std.proofs.Common.{◌≡◌, ◌+◌, ◌%◌, ◌⊎◌, ◌++◌, ℕ, Bool, IsTrue, Option, List, [], ◌∷◌, length, inl, inr, ap, subst, ◌∙◌, arith, ⊎_elim, append_assoc}
 use Rattle.std.proofs.lemmas.{Bool.Decides.nat_tests, List.append-nil}
 use Rattle.dspec_buffer.specs.Words.{Record, align_of, IsGap, BufferText, Shape}
@@ -11,7 +11,7 @@ moved_gap : (o k : ℕ) (g : List ℕ) → k % 8 ≡ 0 → IsGap o g → IsGap (
 moved_gap o k g h i = ⊎_elim inl (λ p. inr (p.0, let q : o % 8 ≡ 4 = p.1 in omega arith)) i
 
 module _ (shape : ℕ → Option Shape) (accepted : Record → Bool) (text : Record → List ℕ) (laws : SchemaLaws shape accepted text) where
-  -- one text behind another
+  -- one text after another
   pub glued : (o : ℕ) (x y : List ℕ) (rs qs : List Record) → BufferText shape accepted text o x rs → BufferText shape accepted text (o + length x) y qs
       → BufferText shape accepted text o (x ++ y) (rs ++ qs)
   glued o x y [] qs h k = grind (arith, nat_tests)
@@ -52,7 +52,7 @@ module _ (shape : ℕ → Option Shape) (accepted : Record → Bool) (text : Rec
         ),
       )
 
-  -- a text of some records may stand behind a gap
+  -- a text of some records may stand after a gap
   pub behind_gap : (o : ℕ) (gap x : List ℕ) (r : Record) (rs : List Record) → IsGap o gap → BufferText shape accepted text (o + length gap) x (r ∷ rs)
       → BufferText shape accepted text o (gap ++ x) (r ∷ rs)
   behind_gap = grind (arith, nat_tests)

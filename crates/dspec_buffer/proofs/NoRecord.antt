@@ -35,7 +35,7 @@ module _ (shape : ℕ → Option Shape) (accepted : Record → Bool) (text : Rec
   no_record Misaligned at left q x f s = grind (arith, nat_tests, same_shape)
   no_record GapNotZero at left q x f s = grind (arith, nat_tests, same_shape, take_at)
 
-  -- a fault at a place where a padding word could stand isn't one with a padding word and something behind it
+  -- a fault at a place where a padding word could stand isn't one with a padding word and something after it
   no_gap : (k : ReadKind) (at : ℕ) (left y : List ℕ) → FaultHere shape accepted text k at left → left ≡ padding_word ++ y → at % 8 ≡ 4 → 0 < length y → ⊥
   no_gap = grind (arith, nat_tests, front_epid-padding)
 
@@ -43,7 +43,7 @@ module _ (shape : ℕ → Option Shape) (accepted : Record → Bool) (text : Rec
   pub fault_long : (k : ReadKind) (at : ℕ) (left : List ℕ) → FaultHere shape accepted text k at left → 0 < length left
   fault_long = grind (arith, nat_tests)
 
-  -- behind a gap there is either a fault or a next record
+  -- after a gap there is either a fault or a next record
   pub fault_excludes : (k : ReadKind) (o : ℕ) (b gap left g : List ℕ) (q : Record) (x : List ℕ) → IsGap o gap → b ≡ gap ++ left
       → FaultHere shape accepted text k (o + length gap) left → StandsNext shape accepted text o b g q x → ⊥
   fault_excludes k o b gap left g q x i e f s = grind (arith, nat_tests, text_facts, no_record, no_gap, text_no_padding, append_cancel_left)

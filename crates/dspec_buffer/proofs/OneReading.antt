@@ -1,4 +1,4 @@
--- No bytes are the text of two lists of records; and a text that goes on behind another is read on from there.
+-- No bytes are the text of two lists of records; and a text that goes on after another is read on from there.
 use Rattle.std.proofs.Common.{◌≡◌, ◌+◌, ◌++◌, ℕ, Bool, Option, List, [], ◌∷◌, length, refl, ap, subst, ◌∙◌, arith, append_assoc}
 use Rattle.std.proofs.lemmas.Bool.Decides.{nat_tests}
 use Rattle.dspec_buffer.specs.Words.{Record, StandsNext, BufferText, Shape}
@@ -22,7 +22,7 @@ module _ (shape : ℕ → Option Shape) (accepted : Record → Bool) (text : Rec
       let first = same.same_record in
       cc
 
-  -- the records that stand behind a text
+  -- the records that stand after a text
   pub record GoesOn (o : ℕ) (left : List ℕ) (rs qs : List Record) : Type 0 where
     pub others : List Record
     pub all : qs ≡ rs ++ others

@@ -1,4 +1,4 @@
--- Texts one behind another: what is read at a place where the records behind it are known.
+-- Texts one after another: what is read at a place where the records after it are known.
 use Rattle.std.proofs.Common.{◌≡◌, ◌+◌, ◌++◌, ℕ, Bool, IsTrue, Option, Some, None, Ok, Err, List, [], ◌∷◌, length, drop, sym, ap, subst, ◌∙◌, arith, length-append, length-drop}
 use Rattle.std.proofs.lemmas.{Bool.Decides.nat_tests, List.take-append-drop, List.take_at, List.drop-drop, List.append_cancel_left}
 use Rattle.std.specs.List.{flat_map}

@@ -25,7 +25,7 @@ pub padding_facts : (o a : ℕ) → o % 4 ≡ 0 → (a ≡ 4) ⊎ (a ≡ 8) → 
 padding_facts o a h k =
     ⊎_elim (λ p. rw p.1 (padding_none o a (rounded o a h k) p.0)) (λ p. rw p.1 (padding_one o a (rounded o a h k) p.0)) (padding_cases o a)
 
--- a reservation of some bytes goes behind the padding; one of none goes nowhere
+-- a reservation of some bytes goes after the padding; one of none goes nowhere
 pub reserved_some : (o a n : ℕ) → n ≢ 0 → reserved o a n ≡ rounded_up o a + n
 reserved_some o a n h = ⊎_elim (λ p. absurd (h p.1)) (λ p. rw p.0 refl) (eqb_tells n 0)
 

@@ -8,7 +8,7 @@ use Rattle.dspec_buffer.proofs.{Extents.pieces_extent, Extents.piece_facts, Glui
 use Rattle.dspec_buffer.proofs.{SchemaLaws.SchemaLaws, Texts.text_facts}
 
 module _ (shape : ℕ → Option Shape) (accepted : Record → Bool) (text : Record → List ℕ) (laws : SchemaLaws shape accepted text) where
-  -- a text behind the padding that its place needs
+  -- a text after the padding that its place needs
   padded_text : (o a : ℕ) (x : List ℕ) (rs : List Record) → IsPadding o a (padding o a) → BufferText shape accepted text (o + length (padding o a)) x rs
       → BufferText shape accepted text o (padded o a x) rs
   padded_text o a [] [] p h = refl

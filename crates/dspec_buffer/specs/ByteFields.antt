@@ -6,7 +6,7 @@ use Rattle.dspec_buffer.specs.{Stored.Stored, declared.byte_buffer.ByteBuffer.Th
 abbrev pub stored_of : Inside → Stored
 stored_of b = record { text = take b.offset b.bytes.items; count = b.count; size = b.size }
 
--- the offset is a whole number of words within the size, behind which there are sixteen bytes more, and no record is smaller than a word
+-- the offset is a whole number of words within the size, after which there are sixteen bytes more, and no record is smaller than a word
 pub record IsInside (b : Inside) : Type 0 where
   pub within : b.offset ≤ b.size
   pub words : b.offset % 4 ≡ 0

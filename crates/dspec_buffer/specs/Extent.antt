@@ -18,7 +18,7 @@ abbrev pub records : List Piece → List Record
 records [] = []
 records (p ∷ ps) = records_of p ++ records ps
 
--- how far a buffer reaches once `n` bytes at a multiple of `a` are reserved behind `o`; no bytes reserve nothing
+-- how far a buffer reaches once `n` bytes at a multiple of `a` are reserved after `o`; no bytes reserve nothing
 abbrev pub reserved : ℕ → ℕ → ℕ → ℕ
 reserved o a n = if n == 0 then o else after o a n
 
@@ -47,7 +47,7 @@ module _ (shape : ℕ → Option Shape) where
   extent [] = 0
   extent (p ∷ ps) = reserved (extent ps) (piece_align p) (piece_size p)
 
-  -- whether a piece fits behind these into a buffer of so many bytes
+  -- whether a piece fits after these into a buffer of so many bytes
   abbrev pub piece_fits : List Piece → Piece → ℕ → Bool
   piece_fits ps p size = nat_le (extent (p ∷ ps)) size
 
@@ -58,7 +58,7 @@ padding_word = 0 ∷ 0 ∷ 0 ∷ 0 ∷ []
 abbrev pub padding : ℕ → ℕ → List ℕ
 padding o a = if o % a == 0 then [] else padding_word
 
--- the bytes of a piece, behind the padding word that place `o` needs for it
+-- the bytes of a piece, after the padding word that place `o` needs for it
 abbrev pub padded : ℕ → ℕ → List ℕ → List ℕ
 padded o a [] = []
 padded o a (b ∷ bytes) = padding o a ++ b ∷ bytes

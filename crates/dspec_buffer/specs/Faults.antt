@@ -13,7 +13,7 @@ module _ (shape : ℕ → Option Shape) (accepted : Record → Bool) (text : Rec
   abbrev pub FaultHere : ReadKind → ℕ → List ℕ → Type 0
   FaultHere Truncated at bytes =
       ((0 < length bytes) × (length bytes < 4)) ⊎ ((h : Shape) × (NamesAligned at bytes h × (length bytes < h.size)))
-  -- a padding word may not stand here, or nothing stands behind it
+  -- a padding word may not stand here, or nothing stands after it
   FaultHere Padding at bytes =
       (4 ≤ length bytes) × (front_epid bytes ≡ 0) × ((at % 8 ≢ 4) ⊎ (length bytes ≡ 4))
   FaultHere UnknownEpid at bytes =
@@ -21,7 +21,7 @@ module _ (shape : ℕ → Option Shape) (accepted : Record → Bool) (text : Rec
   FaultHere Misaligned at bytes = (h : Shape) × (NamesShape shape bytes h × (at % h.align ≢ 0))
   FaultHere GapNotZero at bytes = (h : Shape) × (NamesAligned at bytes h × HasNoText accepted text bytes h)
 
-  -- reading these bytes comes as far as this fault: behind whole records and perhaps a padding word
+  -- reading these bytes comes as far as this fault: after whole records and perhaps a padding word
   pub record StopsAt (bytes : List ℕ) (fault : ReadFault) : Type 0 where
     pub before : List ℕ
     pub gap : List ℕ

@@ -2,7 +2,7 @@
 use Rattle.std.specs.{List.flat_map, Prelude.◌≡◌, Prelude.◌≤◌, Prelude.ℕ, Prelude.Bool, Prelude.IsTrue, Prelude.All, Prelude.List, Prelude.length, Prelude.drop, Prelude.reverse, Prelude.Option}
 use Rattle.dspec_buffer.specs.{Extent.Piece, Extent.records, Extent.extent, Words.Outside.Record, Words.Outside.Shape}
 
--- the texts of its records one behind another, how many there are, how far they would reach, and its size in bytes
+-- the texts of its records one after another, how many there are, how far they would reach, and its size in bytes
 pub record ListView : Type 0 where
   pub texts : List ℕ
   pub count : ℕ

@@ -7,7 +7,7 @@ use Rattle.dspec_buffer.specs.{declared.read_fault.ReadFault.ReadFault}
 abbrev pub NoGapAt : ℕ → List ℕ → Type 0
 NoGapAt at bytes = 4 ≤ length bytes → front_epid bytes ≡ 0 → (at % 8 ≢ 4) ⊎ (length bytes ≡ 4)
 
--- between these two places there is a gap, and no more of it behind
+-- between these two places there is a gap, and no more of it after
 pub record SkipsGap (bytes : List ℕ) (place at : ℕ) : Type 0 where
   pub gap : List ℕ
   pub is_gap : IsGap place gap
@@ -30,14 +30,14 @@ module _ (shape : ℕ → Option Shape) (accepted : Record → Bool) (text : Rec
   ReadsHere bytes at (Ok (r, next)) = StandsHere bytes at r next
   ReadsHere bytes at (Err fault) = (fault.at ≡ at) × FaultHere shape accepted text fault.kind at (drop at bytes)
 
-  -- behind a gap this record stands, up to `next`
+  -- after a gap this record stands, up to `next`
   pub record NextIs (bytes : List ℕ) (place : ℕ) (r : Record) (next : ℕ) : Type 0 where
     pub gap : List ℕ
     pub stands : StandsNext shape accepted text place (drop place bytes) gap r (drop next bytes)
     pub next_is : next ≡ place + length gap + length (text r)
     pub within : next ≤ length bytes
 
-  -- behind a gap there is this fault
+  -- after a gap there is this fault
   pub record FaultIs (bytes : List ℕ) (place : ℕ) (fault : ReadFault) : Type 0 where
     pub gap : List ℕ
     pub left : List ℕ

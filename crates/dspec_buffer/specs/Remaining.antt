@@ -8,7 +8,7 @@ module _ (shape : ℕ → Option Shape) (accepted : Record → Bool) (text : Rec
   IsOneText bytes place rs =
       ∥ HasAhead shape accepted text bytes place rs ∥₁ × ((qs : List Record) → HasAhead shape accepted text bytes place qs → qs ≡ rs)
 
-  -- of each list of records that the bytes from this place on are the text of, this is the first, with the place behind it; None at its end
+  -- of each list of records that the bytes from this place on are the text of, this is the first, with the place after it; None at its end
   abbrev pub StepsOn : List ℕ → ℕ → Option (Record × ℕ) → Type 0
   StepsOn bytes place step = (rs : List Record) → HasAhead shape accepted text bytes place rs → StepsAhead (HasAhead shape accepted text bytes) rs step
 

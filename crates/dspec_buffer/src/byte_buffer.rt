@@ -6,10 +6,10 @@ use std::alloc::{AllocError, Global};
 use std::fmt;
 use std::marker::Model;
 
-/// How many bytes there are behind the size: a record may be written in whole words of eight bytes.
+/// How many bytes there are after the size: a record may be written in whole words of eight bytes.
 const SLACK: usize = 16;
 
-/// A buffer of bytes, as a consumer reads it: the text of its pieces up to the offset. Bytes behind the offset are
+/// A buffer of bytes, as a consumer reads it: the text of its pieces up to the offset. Bytes after the offset are
 /// left over from before, and never read.
 #[derive(Drop)]
 pub struct ByteBuffer {

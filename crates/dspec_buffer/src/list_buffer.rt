@@ -9,8 +9,8 @@ use std::marker::Model;
 const LONGEST: usize = 128;
 
 /// A buffer of records that are never laid out: it answers as a `ByteBuffer` of its size, but keeps the texts of its
-/// records one behind another, without the padding that they would stand behind, so that reading them back knows
-/// nothing of padding. A walk's place is how many bytes of these texts are behind it. For models and tests.
+/// records one after another, without the padding that comes before them in a text, so that reading them back knows
+/// nothing of padding. A walk's place is how many bytes of these texts are before it. For models and tests.
 #[derive(Drop)]
 pub struct ListBuffer {
     texts: Vec<u8>,

@@ -7,7 +7,7 @@ use std::fmt;
 pub struct ReadFault {
     /// Why no record can be read there.
     pub kind: ReadKind,
-    /// In bytes from the text's start, behind a padding word that may stand there.
+    /// In bytes from the text's start, after a padding word that may stand there.
     pub at: usize,
 }
 

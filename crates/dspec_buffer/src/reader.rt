@@ -17,7 +17,7 @@ fn epid_of(bytes: &[u8]) -> Option<u32>
     Some(u32::from_le_bytes([bytes[0], bytes[1], bytes[2], bytes[3]]))
 }
 
-/// The place behind the padding word that stands at `place`, if one may stand there and something follows it.
+/// The place after the padding word that stands at `place`, if one may stand there and something follows it.
 #[inline(always)]
 fn skip_padding(text: &[u8], place: usize) -> usize
     requires { place ≤ length text.now }
@@ -53,7 +53,7 @@ fn is_misaligned<S: Schema>(schema: &S, bytes: &[u8], at: usize) -> bool
     }
 }
 
-/// The record at a place that no padding word stands at, and the place behind it.
+/// The record at a place that no padding word stands at, and the place after it.
 #[inline(always)]
 fn read_record<S: Schema>(schema: &S, text: &[u8], at: usize) -> Result<(Rec, usize), ReadFault>
     requires within { at < length text.now }
@@ -74,7 +74,7 @@ fn read_record<S: Schema>(schema: &S, text: &[u8], at: usize) -> Result<(Rec, us
     Ok((rec, at + size))
 }
 
-/// The next record from a place on, which may stand behind a padding word, and the place behind it; None at the end.
+/// The next record from a place on, which may stand after a padding word, and the place after it; None at the end.
 ///
 /// It is inlined into each loop that calls it, so that the check of a text, which keeps no record, makes none.
 #[inline(always)]
@@ -93,7 +93,7 @@ pub(crate) fn read_next<S: Schema>(
     Ok(Some(read_record(schema, text, at)?))
 }
 
-/// The next record of bytes that are known to be a text from this place on, and the place behind it; None at the end.
+/// The next record of bytes that are known to be a text from this place on, and the place after it; None at the end.
 #[inline]
 pub(crate) fn next_of_text<S: Schema>(schema: &S, text: &[u8], place: usize) -> Option<(Rec, usize)>
     ensures { StepsOn (S.shape_of schema.now) (S.accepted schema.now) (S.text schema.now) text.now place result }

@@ -6,7 +6,7 @@ use dspec_record::{Recorded, Schema, Shape};
 /// The bytes of a padding word.
 const PADDING: [u8; 4] = [0; 4];
 
-/// The first place behind `offset` that is a multiple of the alignment.
+/// The first place after `offset` that is a multiple of the alignment.
 #[inline(always)]
 pub(crate) fn aligned(offset: u32, align: u32) -> u32
     requires aligned { (align ≡ 4) ⊎ (align ≡ 8) }
@@ -19,7 +19,7 @@ pub(crate) fn aligned(offset: u32, align: u32) -> u32
     offset + (offset & (align - 4))
 }
 
-/// Where a piece stands that is reserved behind `offset`, if it ends within `limit`.
+/// Where a piece stands that is reserved after `offset`, if it ends within `limit`.
 pub(crate) fn place_for(offset: u32, limit: u32, align: u32, size: u32) -> Option<u32>
     requires aligned { (align ≡ 4) ⊎ (align ≡ 8) }
     requires whole_words { offset % 4 ≡ 0 }

@@ -84,7 +84,7 @@ pub trait TraceBuffer<S: Schema>: Drop {
     fn is_empty(&self) -> bool
         ensures { (s : S) (ps : List Piece) → has self.now s ps → IsTrue result ↔ (records ps ≡ []) };
 
-    /// The record at a place and the place behind it, by the schema of the pushes. A walk begins at place 0, goes
+    /// The record at a place and the place after it, by the schema of the pushes. A walk begins at place 0, goes
     /// on from the place answered, and ends at None.
     fn next(&self, schema: &S, place: usize) -> Option<(Rec, usize)>
         ensures { (rs : List Record) → has_ahead self.now schema.now place rs

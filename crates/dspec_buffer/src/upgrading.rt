@@ -26,7 +26,7 @@ impl fmt::Display for UpgradeFault {
     }
 }
 
-/// Reads a text of records without a stamp and writes each of them, with this stamp, behind the others into an
+/// Reads a text of records without a stamp and writes each of them, with this stamp, after the others into an
 /// empty buffer. Answers how many there are. The buffer is empty where the answer is a fault. Takes no memory.
 pub fn upgrade(
     old: &Enablings,

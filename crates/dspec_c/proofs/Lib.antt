@@ -9,7 +9,8 @@ mod Ending
 pub mod Finishing
 pub mod Handing
 pub mod Homes
-pub mod Looking
+pub mod LentPaths
+mod Looking
 pub mod Putting
 mod Options
 pub mod Taken

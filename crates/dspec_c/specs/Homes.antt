@@ -37,7 +37,7 @@ module _ {A : Type 0} (Same : A → A → Type 0) where
     pub was : sent ≡ first ∷ []
     pub same : Same first side
 
--- It has gone home: it went through its ring as it was held, behind what went through when it was made.
+-- It has gone home: it went through its ring as it was held, after what went through when it was made.
 pub record HasGone {A : Type 0} (side : A) (sent : List A) : Type 0 where
   pub first : A
   pub went : sent ≡ first ∷ side ∷ []

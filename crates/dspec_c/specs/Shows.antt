@@ -1,6 +1,7 @@
--- Cited by calls. What C reads of reports and batches.
+-- Cited by calls. What C reads of reports, batches and open paths.
 use Rattle.std.specs.Prelude.{ℕ, ◌≡◌, length}
-use Rattle.dspec_c.specs.{Words.Outside.Report, Words.Outside.Batch, declared.batches.CBatch.CBatch, declared.reports.CReport.CReport}
+use Rattle.dspec_c.specs.{Statuses.id_or_zero, Words.Outside.id_number, Words.Outside.Report, Words.Outside.Batch, Words.Outside.OpenPath, declared.batches.CBatch.CBatch}
+use Rattle.dspec_c.specs.{declared.open_path.COpenPath.COpenPath, declared.reports.CReport.CReport}
 
 -- the same counts, each at its name, and how many records were refused
 pub record TellsReport (c : CReport) (r : Report) (n : ℕ) : Type 0 where
@@ -24,3 +25,13 @@ pub record TellsBatch (c : CBatch) (b : Batch) : Type 0 where
   pub cpu : c.cpu ≡ b.cpu
   pub drops : c.drops ≡ b.drops
   pub len : c.len ≡ length b.buffer.text
+
+-- an open path, field by field
+pub record TellsOpenPath (c : COpenPath) (p : OpenPath) : Type 0 where
+  pub newest : c.newest ≡ id_number p.newest
+  pub older : c.older ≡ id_or_zero p.older
+  pub begun : c.begun ≡ p.begun
+  pub number : c.number ≡ p.number
+  pub thread : c.thread ≡ p.thread
+  pub cut : c.cut ≡ p.cut
+  pub is_kept : c.is_kept ≡ p.is_kept

@@ -24,7 +24,7 @@ enable_fault ws e =
     if nat_lt 8 (length ws) then Some 10
     else option_map_or (λ (_ : List Field). if nat_le 64 (length e.rows) then Some 11 else None) (fields_of_widths ws) (Some 9)
 
--- they are enabled behind those that were, and have the number of all enablings
+-- they are enabled after those that were, and have the number of all enablings
 pub record Enables (widths : List ℕ) (epid : ℕ) (old new : EnabledRows) : Type 0 where
   pub fine : enable_fault widths old ≡ None
   pub fields : List Field

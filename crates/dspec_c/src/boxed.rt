@@ -29,6 +29,15 @@ impl<T> Boxed<T> {
     }
 }
 
+impl<T> Boxed<T> {
+    /// What is in a box already.
+    pub fn of_box(inner: Box<T>) -> Boxed<T>
+        ensures { result ≡ inner.value }
+    {
+        Boxed { inner }
+    }
+}
+
 impl<T: Drop> Boxed<T> {
     /// The value, which goes into a box.
     pub fn new(alloc: Global, value: T) -> Result<Boxed<T>, AllocError>

@@ -4,6 +4,7 @@ use crate::ended::EndedSession;
 use crate::out_cpu::OutCpu;
 use crate::under_way::UnderWay;
 use dspec_ctf::CpuPackets;
+use dspec_paths::Paths;
 use dspec_record::Enablings;
 
 /// What a handle can hold. It can't be let go as it is: a CPU or the consumer that was handed out has to go home.
@@ -22,6 +23,8 @@ pub enum HandleValue {
     Closed(EndedSession),
     /// The files of a CPU in a trace.
     Files(Boxed<CpuPackets>),
+    /// The open paths of a CPU.
+    Paths(Boxed<Paths>),
 }
 
 impl HandleValue {
@@ -35,6 +38,7 @@ impl HandleValue {
             HandleValue::Consumer(side) => drop(side.go_home()),
             HandleValue::Closed(ended) => drop(ended),
             HandleValue::Files(files) => drop(files),
+            HandleValue::Paths(paths) => drop(paths),
         }
     }
 }

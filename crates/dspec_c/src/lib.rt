@@ -11,11 +11,12 @@
 //! | `statuses.rt`, `configs.rt`, `reports.rt`, `batches.rt` | what crosses |
 //! | `schema_calls.rt`, `session_calls.rt`, `cpu_calls.rt`, `put_calls.rt`, `consumer_calls.rt`, `home_calls.rt`, `rest_calls.rt` | the exports |
 //! | `ctf_calls.rt`, `ctf_statuses.rt` | the exports of a trace that C writes, and what they answer (`specs/CtfCalls`, `specs/CtfStatuses`) |
+//! | `path_calls.rt`, `out_paths.rt`, `open_path.rt` | the exports of a table of a CPU's open paths, the CPU's calls on it, and what C reads of a path (`specs/PathCalls`) |
 //! | `word_counts.rt` | how many words an export takes, as a type |
 //! | `specs/`: Homes, Statuses, Shows, Handles, Lending | that a call leaves the same CPU of the same session; which number an answer is, and what goes out; what C reads, field by field; which handles are full, and of what; what lending keeps |
 //! | `specs/`: Answered, CpuCalls, ConsumerCalls | what a status and an out parameter tell of an answer; what each call of a CPU and of the consumer did, by what its handle held before and after |
 //! | `specs/`: SessionCalls, Widths, Configs, ClosedCalls | the same of schemas, sessions and what is left; fields by their widths; a configuration in C's memory |
-//! | `../include`, `../examples/c`, `../examples/cpp`, `../bindings/rust` | `dspec.h`, `dspec_probe.h` (typed probes), `dspec_reader.h` (the records of a batch), `dspec.hpp` (C++20), the pkg-config file; `first` (the program of docs/C.md), `four`, `slow_sql`, `files` (preloaded); `requests`, a server in C++; the Cargo package `dspec` |
+//! | `../include`, `../examples/c`, `../examples/cpp`, `../bindings/rust` | `dspec.h`, `dspec_probe.h` (typed probes), `dspec_reader.h` (the records of a batch), `dspec.hpp` (C++20), the pkg-config file; `first` (the first program of docs/LIBRARY.md), `four`, `slow_sql`, `files` (preloaded); `requests`, a server in C++; the Cargo package `dspec` |
 //! | `../bindings/rust-tracing` | the Cargo package `tracing-dspec`, a layer for `tracing` over `dspec`: `lanes.rs` lends CPUs, `consumer.rs` puts paths together |
 #![tactic(auto)]
 
@@ -40,9 +41,12 @@ mod held;
 mod home_calls;
 mod home_cpu;
 mod homing;
+mod open_path;
 mod out_consumer;
 mod out_cpu;
+mod out_paths;
 mod parts;
+mod path_calls;
 mod places;
 mod put_calls;
 mod reports;
@@ -57,4 +61,5 @@ mod word_counts;
 pub use batches::CBatch;
 pub use configs::CConfig;
 pub use handle::Handle;
+pub use open_path::COpenPath;
 pub use reports::CReport;

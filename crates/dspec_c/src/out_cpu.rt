@@ -17,8 +17,8 @@ use std::sync::Arc;
 /// are those of C, each with its status.
 pub struct OutCpu {
     way: Producer<Homing, Global, HomingProtocol>,
-    shared: Arc<Shared, Global>,
-    cpu: Box<Cpu<Enablings>>,
+    pub(crate) shared: Arc<Shared, Global>,
+    pub(crate) cpu: Box<Cpu<Enablings>>,
     refused: u64,
 }
 
@@ -100,7 +100,7 @@ impl OutCpu {
         ensures { TraceTold epid stamp values.now result self.old self.new }
     {
         match self.cpu.record(&self.shared, epid, stamp, values) {
-            Some(answer) => of_traced(Some(answer)),
+            Some(answer) => of_traced(answer),
             None => self.refuse(),
         }
     }
@@ -115,7 +115,7 @@ impl OutCpu {
             .schema()
             .packed::<Worded<N, Unstamped>>(claim, stamp, words)
         {
-            return of_traced(Some(cpu.trace_recorded(shared, rec)));
+            return of_traced(cpu.trace_recorded(shared, rec));
         }
         self.put_stamped::<N>(claim, stamp, words)
     }
@@ -131,7 +131,7 @@ impl OutCpu {
             .schema()
             .packed::<Worded<N, Stamped>>(claim, stamp, words)
         {
-            return of_traced(Some(cpu.trace_recorded(shared, stamped)));
+            return of_traced(cpu.trace_recorded(shared, stamped));
         }
         self.refuse()
     }
@@ -150,7 +150,7 @@ impl OutCpu {
     {
         let id = SpecId::from_raw(id);
         match self.cpu.offer(&self.shared, id, epid, stamp, values) {
-            Some(answer) => of_spoken(Some(answer)),
+            Some(answer) => of_spoken(answer),
             None => self.refuse(),
         }
     }
@@ -166,7 +166,7 @@ impl OutCpu {
             .schema()
             .packed::<Worded<N, Unstamped>>(claim, stamp, words)
         {
-            return of_spoken(Some(cpu.speculate_packed(shared, id, rec)));
+            return of_spoken(cpu.speculate_packed(shared, id, rec));
         }
         self.put_in_stamped::<N>(id, claim, stamp, words)
     }
@@ -182,7 +182,7 @@ impl OutCpu {
             .schema()
             .packed::<Worded<N, Stamped>>(claim, stamp, words)
         {
-            return of_spoken(Some(cpu.speculate_packed(shared, id, stamped)));
+            return of_spoken(cpu.speculate_packed(shared, id, stamped));
         }
         self.refuse()
     }

@@ -18,7 +18,7 @@ pub struct CReport {
     pub lost: u64,
     /// Records thrown away.
     pub discarded: u64,
-    /// Records behind a stop, or of no open speculation.
+    /// Records after a stop, or of no open speculation.
     pub void: u64,
     /// Records that wait for a decision.
     pub held: u64,
@@ -28,7 +28,7 @@ pub struct CReport {
     pub unavailable: u64,
     /// Openings where a slot waited for its release.
     pub busy: u64,
-    /// Calls behind a stop.
+    /// Calls after a stop.
     pub stopped: u64,
     /// Calls beyond the most.
     pub worn: u64,

@@ -1,6 +1,6 @@
 //! What every call answers, as a number; `dspec.h` has their names.
 
-ghost use Rattle.std.specs.Prelude.{◌≡◌};
+ghost use Rattle.std.specs.Prelude.{◌≡◌, Some};
 ghost use Rattle.dspec_c.specs.Statuses.{asked_status, bad_handle, committed_number, committed_status, decided_number, decided_status, id_or_zero, opened_number, opening_status, spoken_status};
 ghost use Rattle.dspec_c.specs.Statuses.{start_status, traced_status};
 
@@ -47,6 +47,10 @@ pub const BUSY: u32 = 37;
 
 pub const LOST: u32 = 38;
 
+pub const GOES_ON: u32 = 39;
+
+pub const PATH_LOST: u32 = 40;
+
 /// What a call of a CPU answers where its handle holds none: a call of its own, by which the compiler knows that this is rare.
 #[cold]
 #[inline(never)]
@@ -71,32 +75,30 @@ pub fn of_start(fault: StartFault) -> u32
     }
 }
 
-/// What a trace answered; None: it wasn't a record of the schema.
+/// What a trace of a record of the schema answered.
 #[inline(always)]
-pub fn of_traced(answer: Option<Traced>) -> u32
-    ensures { result ≡ traced_status answer }
+pub fn of_traced(answer: Traced) -> u32
+    ensures { result ≡ traced_status (Some answer) }
 {
     match answer {
-        Some(Traced::Kept) => OK,
-        Some(Traced::Dropped) => DROPPED,
-        Some(Traced::Stopped) => STOPPED,
-        Some(Traced::Worn) => WORN,
-        None => BAD_RECORD,
+        Traced::Kept => OK,
+        Traced::Dropped => DROPPED,
+        Traced::Stopped => STOPPED,
+        Traced::Worn => WORN,
     }
 }
 
-/// What a record offered to a speculation was answered; None: it wasn't a record of the schema.
+/// What a record of the schema that was offered to a speculation was answered.
 #[inline(always)]
-pub fn of_spoken(answer: Option<Spoken>) -> u32
-    ensures { result ≡ spoken_status answer }
+pub fn of_spoken(answer: Spoken) -> u32
+    ensures { result ≡ spoken_status (Some answer) }
 {
     match answer {
-        Some(Spoken::Kept) => OK,
-        Some(Spoken::Dropped) => DROPPED,
-        Some(Spoken::Void) => VOID,
-        Some(Spoken::Stopped) => STOPPED,
-        Some(Spoken::Worn) => WORN,
-        None => BAD_RECORD,
+        Spoken::Kept => OK,
+        Spoken::Dropped => DROPPED,
+        Spoken::Void => VOID,
+        Spoken::Stopped => STOPPED,
+        Spoken::Worn => WORN,
     }
 }
 

@@ -117,7 +117,7 @@ impl<'a> ExitFault for CommandFault<'a> {
 }
 
 /// The status by which a program ends: 0 where all is well, 1 where something isn't, and that of a fault, of which one line of standard
-/// error tells behind the program's name, which no clause can say. A line that can't be written changes nothing.
+/// error tells after the program's name, which no clause can say. A line that can't be written changes nothing.
 pub fn ended<R: Eprint, F: ExitFault + Display + Drop>(
     rt: &R,
     program: &str,

@@ -1,5 +1,5 @@
 //! What the programs' command lines have in common: the words, what is found in them, the inputs that they name, and how a fault is
-//! told: one line of standard error, behind the program's name, and a status by its kind.
+//! told: one line of standard error, after the program's name, and a status by its kind.
 //!
 //! | File | What is in it |
 //! |---|---|

@@ -13,7 +13,7 @@ contents_append : (os more : List Offer) → contents (os ++ more) ≡ contents 
 contents_append [] more = refl
 contents_append (o ∷ os) more = ap (λ rs. o.content ∷ rs) (contents_append os more)
 
--- records that are accepted, or not, go behind the stream
+-- records that are accepted, or not, go after the stream
 pub stream_more : (c : ℕ) (b : Bool) (os : List Offer) (h : List Deed)
     → stream c h ++ (if b then reverse (contents os) else []) ≡ reverse (contents ((if b then os else []) ++ accepted c h))
 stream_more c true os h = sym (ap reverse (contents_append os (accepted c h)) ∙ reverse-append (contents os) (contents (accepted c h)))

@@ -62,7 +62,7 @@ module _ (k : Config) (c : ℕ) (h : List Deed) (id : Speculation) (r : Record) 
   way = let kept = (as_kept k c id r f h granted comes).0 in
       record { in_range = granted_in_range k h fine c id r f granted comes; scans_not = kept.1.1.0; early = kept.1.1.1.0 }
 
-  -- the word behind it
+  -- the word after it
   pub spoken_left : (w : SlotState) (mine : Bool) → w ≡ word_at id.slot h → mine ≡ is_among c (callers id h) → word_left w (speculate_at w id mine) ≡ word_at id.slot (Speculate c id r f ∷ h)
   spoken_left w mine is tells =
       ap (λ (v : SlotState). word_left v (speculate_at v id mine)) is ∙ (ap (λ b. word_left (word_at id.slot h) (speculate_at (word_at id.slot h) id b)) tells
@@ -75,7 +75,7 @@ module _ (k : Config) (c : ℕ) (h : List Deed) (id : Speculation) (r : Record) 
       go Idle e = absurd (speculate_not_idle (word_at id.slot h) id (is_among c (callers id h)) e)
 
 module _ (k : Config) (c : ℕ) (h : List Deed) (id : Speculation) (f : DecideFate) where
-  -- the word behind a commit
+  -- the word after a commit
   committed_left : is_commit f ≡ true → IsSound k (Commit c id f ∷ h)
       → word_left (word_at id.slot h) (commit_at (word_at id.slot h) id (is_among c (callers id h))) ≡ word_at id.slot (Commit c id f ∷ h)
   committed_left decides comes = go (commit_at (word_at id.slot h) id (is_among c (callers id h))) refl
@@ -86,7 +86,7 @@ module _ (k : Config) (c : ℕ) (h : List Deed) (id : Speculation) (f : DecideFa
       go (Attempt to) e = (commit_attempt k h id c to comes.0 e).2 ∙ sym (committed_word k c id f h comes decides)
       go Idle e = not_plain _ Idle (commit_plain (word_at id.slot h) id (is_among c (callers id h))) e refl
 
-  -- and behind a call that decides
+  -- and after a call that decides
   pub decision_left : (x : Decision) (w : SlotState) (mine : Bool) → decides x f ≡ true → IsSound k (deed_of x c id f ∷ h) → w ≡ word_at id.slot h → mine ≡ is_among c (callers id h)
       → decided_left x w id mine ≡ word_at id.slot (deed_of x c id f ∷ h)
   decision_left x w mine h1 h2 h3 h4 = grind (arith, nat_tests, committed_left, discarded_word)

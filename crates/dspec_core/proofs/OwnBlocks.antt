@@ -102,7 +102,7 @@ module _ {S B : Type 0} {has : B → S → List Piece → Type 0} {capacity : B 
     pub word_released : {w : SlotState} → start_fault m.config ≡ None → w ≡ get_or m.words.items (n - 1) w → CanBeReleased w
     word_released {w = w} fine e = read_released m block.shown fine block.sound id.slot n w block.slot named e
 
-    -- where the records of the slot's buffer go behind the stream, those of the block do
+    -- where the records of the slot's buffer go after the stream, those of the block do
     pub block_streams : {b : B} (f : DecideFate) {rs : List Record} → b ≡ get_or own.side.speculative.items (n - 1) b
         → ((xs : List Record) → has b m.schema (map one xs) → rs ≡ own.accepted ++ (if is_copied f then reverse xs else []))
         → rs ≡ stream c (history m) ++ (if is_copied f then reverse (contents (held c id (history m))) else [])

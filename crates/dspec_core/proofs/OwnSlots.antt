@@ -38,21 +38,21 @@ own_test : (c : ℕ) (b : Bool) → (b && (c == c)) ≡ b
 own_test c true = number_is_itself c
 own_test c false = refl
 
--- the stream behind a commit, and behind a settlement: a copied block is behind it
+-- the stream after a commit, and after a settlement: a copied block is after it
 pub stream_commits : (c : ℕ) (id : Speculation) (f : DecideFate) (h : List Deed) → stream c h ++ (if is_copied f then reverse (contents (held c id h)) else []) ≡ stream c (Commit c id f ∷ h)
 stream_commits c id f h = stream_more c (is_copied f) (held c id h) h ∙ ap (λ b. reverse (contents ((if b then held c id h else []) ++ accepted c h))) (sym (own_test c (is_copied f)))
 
 pub stream_settles : (c : ℕ) (id : Speculation) (f : DecideFate) (h : List Deed) → stream c h ++ (if is_copied f then reverse (contents (held c id h)) else []) ≡ stream c (Settle c id f ∷ h)
 stream_settles c id f h = stream_more c (is_copied f) (held c id h) h ∙ ap (λ b. reverse (contents ((if b then held c id h else []) ++ accepted c h))) (sym (own_test c (is_copied f)))
 
--- and behind a discard, which copies nothing
+-- and after a discard, which copies nothing
 pub stream_discards : (c : ℕ) (id : Speculation) (f : DecideFate) (h : List Deed) → is_discard f ≡ true
     → stream c h ++ (if is_copied f then reverse (contents (held c id h)) else []) ≡ stream c (Discard c id f ∷ h)
 stream_discards c id (decided.Thrown n) h e = append-nil (stream c h)
 stream_discards c id (decided.Copied n) h e = absurd (true≢false (sym e))
 stream_discards c id f h e = append-nil (stream c h)
 
--- the stream behind a traced record: one that is kept is behind it
+-- the stream after a traced record: one that is kept is after it
 pub stream_traces : (c : ℕ) (r : Record) (f : TraceFate) (h : List Deed) (rs : List Record) → rs ≡ stream c h → rs ++ (if trace_kept f then r ∷ [] else []) ≡ stream c (Trace c r f ∷ h)
 stream_traces c r traced.Kept h rs e = rw (number_is_itself c, e) (sym (reverse-append (r ∷ []) (contents (accepted c h))))
 stream_traces c r traced.Dropped h rs e = append-nil rs ∙ e

@@ -27,7 +27,7 @@ busy_there a st e = is_busy (is_actor st.config a) (is_idle a st) e
 pub idle_there : (a : Actor) (st : PlayState) → fault (is_actor st.config a) (is_idle a st) ≡ Some IdleStep → is_idle a st ≡ true
 idle_there a st e = rests (is_actor st.config a) (is_idle a st) e
 
--- behind a step with an answer no call of the actor is in flight
+-- after a step with an answer no call of the actor is in flight
 pub ends_idle : (shape : ℕ → Option Shape) (st now : PlayState) (a : Actor) (x : Answer) → IsCoherent shape st → is_actor st.config a ≡ true → is_idle a st ≡ false
     → now ≡ (step shape a st).state → Some x ≡ (step shape a st).answer → is_idle a now ≡ true
 ends_idle shape st now a x ok there busy is told = ⊎_elim
@@ -48,7 +48,7 @@ more_runs shape_of old schema a total done st before now new answers after same 
     runs_on (shape_of old) a total done st before now new answers after lt (busy_there a now may)
     (subst (λ s. (p : Playing) → IsPlayingAt now answers p → IsPlayingAt new after (stepped (shape_of s) a p)) same next) runs
 
--- what holds behind what wasn't refused
+-- what holds after what wasn't refused
 pub not_refused : {T E P : Type 0} (r : Result T E) → is_err r ≡ false → OnOk r P → P
 not_refused (Ok x) e p = p
 not_refused (Err x) e p = absurd (cc (e))

@@ -14,12 +14,12 @@ abbrev pub decides : Decision → DecideFate → Bool
 decides Commit f = is_commit f
 decides Discard f = is_discard f
 
--- the word behind a table's act: the one that it attempts, or the one that stands
+-- the word after a table's act: the one that it attempts, or the one that stands
 abbrev pub word_left : SlotState → Act → SlotState
 word_left w (Attempt to) = to
 word_left w act = w
 
--- the word behind a call that decides, and releases nothing
+-- the word after a call that decides, and releases nothing
 abbrev pub decided_left : Decision → SlotState → Speculation → Bool → SlotState
 decided_left Commit w id mine = word_left w (commit_at w id mine)
 decided_left Discard w id mine = record { issue = w.issue; code = Discarding }

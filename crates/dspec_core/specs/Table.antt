@@ -82,7 +82,7 @@ pub record TellsAt (k : Config) (c : ℕ) (h : List Deed) (id : Speculation) (se
   pub missed : seen.missed_busy ≡ missed_busy c h
   pub sealed : seen.seals ≡ seals c h
 
--- whether the CPU is a caller of a speculation, and whether a record fits behind what it holds of it
+-- whether the CPU is a caller of a speculation, and whether a record fits after what it holds of it
 pub record TellsRoom (shape : ℕ → Option Shape) (k : Config) (c : ℕ) (h : List Deed) (id : Speculation) (r : Record) (seen : Seen) : Type 0 where
   pub mine : seen.mine ≡ is_among c (callers id h)
   pub fits : seen.fits ≡ fits_speculative shape k c id r h

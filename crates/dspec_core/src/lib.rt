@@ -16,11 +16,11 @@
 //! | `machine/`: `seen.rt`, `measuring.rt`, `showing.rt` | what a step sees, and what it makes of its CPU; how that is read off the machine |
 //! | `machine/`: `table.rt` | the one table of steps: what a step makes of what it sees |
 //! | `machine/`: `entering.rt`, `entering/`, `decision.rt` | which deeds a step enters; what one deed makes of a machine; commit and discard as one, and the words that steps leave |
-//! | `machine/`: `stepping.rt`, `consuming.rt`, `walking.rt` | the driver of a CPU's steps; those of the consumer; the records of a buffer, behind others |
+//! | `machine/`: `stepping.rt`, `consuming.rt`, `walking.rt` | the driver of a CPU's steps; those of the consumer; the records of a buffer, after others |
 //! | `machine/`: `starting.rt`, `beginning.rt`, `reporting.rt`, `finishing.rt` | the start, a begin, a report, the close |
 //! | `specs/`: Shown, Machines, Standing, Closings | `ShowsCpu`: the side shows the list of all; the machine; where the consumer's call stands; what can be closed, and what the close makes of it |
 //! | `specs/`: Worlds, Table, Steps, Decisions, WorldViews | `WorldInvariant`, with `IsWithin` and what deeds may come; the table by what is seen; the steps; decisions; what a world keeps |
-//! | `proofs/`, of a CPU | KeptCpus (behind its own deed, another's, a release, a slot given out, a seal, a worn call), OwnSlots, OwnBlocks, OwnDeeds, AckReads, DecidedCpus, Rooms, Within, Batches, WordsShown, OneMore, SlotReads |
+//! | `proofs/`, of a CPU | KeptCpus (after its own deed, another's, a release, a slot given out, a seal, a worn call), OwnSlots, OwnBlocks, OwnDeeds, AckReads, DecidedCpus, Rooms, Within, Batches, WordsShown, OneMore, SlotReads |
 //! | `proofs/`, of a step | Seeing, StepRecords, Entries, Driving |
 //! | `proofs/`, of a machine, a world and the player | Makings, CleanMakings, MachineReads, SoloDiscards, TakenBatches; Starts, Keepings, PromiseKept, Settlings, Collected; PlayerSteps |
 #![tactic(auto)]

@@ -9,7 +9,7 @@ use std::alloc::AllocError;
 
 /// Who looks on at a play. It can only be refused a growth.
 pub trait Onlooker<S: Schema, B: TraceBuffer<S>> {
-    /// What the actor's next step finds, in the turn of that number, counted from 1; 0 behind the last turn.
+    /// What the actor's next step finds, in the turn of that number, counted from 1; 0 after the last turn.
     fn before(&mut self, world: &World<S, B>, turn: u64, actor: Actor) -> Result<(), AllocError>
         requires there { is_actor world.now.state.config actor ≡ true }
         requires busy { is_idle actor world.now.state ≡ false };

@@ -210,7 +210,7 @@ pub fn play<S: Schema>(
     play_shown(alloc, config, schema, turns, &mut Nobody)
 }
 
-/// As `play`, and shows the world to an onlooker before each step and behind it. A growth that it was refused ends the play too.
+/// As `play`, and shows the world to an onlooker before each step and after it. A growth that it was refused ends the play too.
 pub fn play_shown<S: Schema, O: Onlooker<S, ListBuffer>>(
     alloc: Global,
     config: &Config,

@@ -1,4 +1,4 @@
--- A CPU behind the deeds of a call that has ended.
+-- A CPU after the deeds of a call that has ended.
 use Rattle.std.proofs.Common.{◌≡◌, ℕ, Bool, false, true, List, [], ◌∷◌, ◌++◌, Option, None, if◌then◌else◌, refl, sym, ap, ◌∙◌}
 use Rattle.dspec_cpu.specs.Words.{Record, Stored, HasPieces, scan, is_seal, CpuRow, is_of, bare, flight_after, known, IsAt, cpu_of, ShowsList, Goes, HasList, IsReady, IsShown, Stands, Shape, Deed}
 use Rattle.dspec_cpu.specs.Words.{CpuSeat, CpuState}

@@ -11,7 +11,7 @@ module _ (shape : ℕ → Option Shape) (k : Config) (c : ℕ) (words : List ℕ
   abbrev closed : ℕ → List Deed
   closed n = own_closed shape k shown c n p
 
-  -- behind the first n slots
+  -- after the first n slots
   record Came (n : ℕ) (q : List Deed) : Type 0 where
     pub now : List Deed
     pub part_is : IsPartOf k c now q

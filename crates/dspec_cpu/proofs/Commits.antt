@@ -1,4 +1,4 @@
--- A call of commit that decided: the list and the deeds behind it.
+-- A call of commit that decided: the list and the deeds after it.
 use Rattle.std.proofs.Common.{◌≡◌, ◌≢◌, ℕ, ◌+◌, ◌==◌, Bool, true, false, List, [], ◌∷◌, length, Option, refl, sym, ap, ◌∙◌, subst, inl, true≢false}
 use Rattle.dspec_cpu.specs.Words.{Record, Stored, HasPieces, Speculation, SlotState, is_commit, CpuLegal, fits_principal, mark, contents, held, known, set_up, IsAt, cpu_of, ReleasedWord, IsCaller}
 use Rattle.dspec_cpu.specs.Words.{ShowsList, committed_fate, steps, decision, decided_deeds, HasList, IsReady, IsShown, Reached, OwnsCommit, Shape, Committing, Attempt, Decided, DecideFate, Deed}

@@ -1,4 +1,4 @@
--- A call of commit: what its exchange tells, and the lists behind its answers.
+-- A call of commit: what its exchange tells, and the lists after its answers.
 use Rattle.std.proofs.Common.{arith, ◌≡◌, ◌≢◌, ◌⊎◌, ℕ, Bool, true, false, List, ◌∷◌, Option, None, if◌then◌else◌, refl, sym, ◌∙◌, subst, ⊎_elim, inl, inr, add-zero}
 use Rattle.std.proofs.lemmas.Bool.Decides.{nat_tests}
 use Rattle.dspec_cpu.specs.Words.{Record, Speculation, SlotState, awaits, commit_act, commit_at, is_commit, is_copied, count_of, issue, owed, solo, word_at, IsSound, sealed_last, CommitsNow}
@@ -47,7 +47,7 @@ pub commits_now : (k : Config) (c slot : ℕ) (id : Speculation) (w : View) (to 
     → OwnsCommit k c id.slot w (Attempt to) → CommitsNow k w c slot (op.Commit id)
 commits_now k c slot id w to at word is owns = grind (arith, nat_tests)
 
--- behind an exchange that waits for others, no CPU decided alone
+-- after an exchange that waits for others, no CPU decided alone
 pub waits_at : (k : Config) (id : Speculation) (h : List Deed) (to : SlotState) (c : Code) → IsSound k h → owed h ≡ 0 → word_at id.slot h ≡ to → to.issue ≡ id.issue
     → to.code ≡ c → awaits c ≡ true → solo id h ≡ None
 waits_at k id h to c sound rests now same is waits = grind (arith, nat_tests, present_is, awaiting)

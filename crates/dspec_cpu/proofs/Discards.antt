@@ -1,4 +1,4 @@
--- A call of discard that decided: the list and the deeds behind it.
+-- A call of discard that decided: the list and the deeds after it.
 use Rattle.std.proofs.Common.{arith, ◌≡◌, ℕ, ◌+◌, ◌==◌, Bool, true, false, List, ◌∷◌, ◌++◌, length, Option, None, refl, sym, ap, subst, true≢false}
 use Rattle.std.proofs.lemmas.Bool.Decides.{nat_tests}
 use Rattle.dspec_cpu.specs.Words.{Record, Stored, HasPieces, Speculation, SlotState, is_inactive, discard_act, discard_at, scan, is_discard, CpuLegal, mark, held, bare, flight_after, known, set_up}
@@ -52,7 +52,7 @@ module _ (shape : ℕ → Option Shape) (accepted : Record → Bool) (text : Rec
   bare_too p true = refl
   bare_too p false = refl
 
-  -- no scan is under way behind them, nor is a call in flight
+  -- no scan is under way after them, nor is a call in flight
   still_idle : (b : Bool) → scan cpu.config cpu.cpu (decision b id.slot d ++ v.own) ≡ 0
   still_idle true = ready.steady.idle
   still_idle false = ready.steady.idle

@@ -1,4 +1,4 @@
--- The settlement of one slot that is due: the step, the list and the CPU behind it.
+-- The settlement of one slot that is due: the step, the list and the CPU after it.
 use Rattle.std.proofs.Common.{arith, ◌≡◌, ℕ, ◌≤◌, ◌<◌, ◌^◌, Bool, true, List, [], ◌∷◌, Option, refl, sym, ap, ◌∙◌, subst, inl}
 use Rattle.std.proofs.lemmas.Bool.Decides.{nat_tests}
 use Rattle.dspec_cpu.specs.Words.{Record, Stored, Speculation, SlotState, settle_at, is_granted, ack, word_at, settled_fate, MaySettle, known, IsAt, cpu_of, number_of, ack_place, Entered}

@@ -43,7 +43,7 @@ module _ {S : Type 0} (cpu : Cpu S) (fewer : cpu.side.calls < cpu.config.max_cal
       → k ≡ cpu.config → CallLeaves false (is_stopped_reach r) most (of_slot cpu.config id) cpu (record cpu { seat = seat; side = side })
   reached_leaves = grind (arith, nat_tests, unworn_leaves)
 
-  -- and released the slot behind its exchange
+  -- and released the slot after its exchange
   pub released_leaves : {k : Config} {c : ℕ} {doing : Doing} {id : Speculation} (to : SlotState) (w : View) (slot most : ℕ) → Reached k c doing id (known cpu.seat) (reach.Done to) w
       → to.code ≡ Committing → ReleasedWord slot w (known seat) → most ≡ 1 + turns doing.op → k ≡ cpu.config → slot ≡ id.slot
       → CallLeaves false false most (of_slot cpu.config id) cpu (record cpu { seat = seat; side = side })

@@ -1,4 +1,4 @@
--- What shows a CPU's list behind a call of speculation.
+-- What shows a CPU's list after a call of speculation.
 use Rattle.std.proofs.Common.{◌≡◌, ℕ, ◌+◌, ◌<◌, ◌≤◌, ◌==◌, Bool, true, false, List, [], ◌∷◌, ◌++◌, length, Option, if◌then◌else◌, refl, sym, ap, ◌∙◌, subst, ⊎_elim, arith, add-zero, true≢false}
 use Rattle.std.proofs.lemmas.Bool.Decides.{nat_tests}
 use Rattle.dspec_cpu.specs.Words.{Record, calls, growing, CpuRow, is_of, missed_busy, bare, counts_of, with_opening, IsShown, misses, any_busy, opening_deeds, IsOpening, is_worn_opening, Shape}

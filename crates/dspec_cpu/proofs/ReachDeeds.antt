@@ -10,7 +10,7 @@ use Rattle.dspec_interleaving.proofs.StepDeeds.{by_test, spoken_deeds, committed
 use Rattle.dspec_cpu.specs.declared.reaching.Reach.TheVariants as reach
 use Rattle.dspec_cpu.proofs.Retries.{here_or_void, attempt_is}
 
--- steps behind steps
+-- steps after steps
 pub goes_on : {v u w : View} {ds es : List Deed} → Goes v ds u → Goes u es w → Goes v (es ++ ds) w
 goes_on g rests = g
 goes_on {ds = ds} g (steps {ds = es} w new all log h f e q) = steps w new (all ++ ds) log (goes_on g h) f e (ap (λ l. l ++ ds) q ∙ append_assoc new es ds)

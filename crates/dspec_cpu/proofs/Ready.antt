@@ -9,11 +9,11 @@ use Rattle.dspec_table.specs.declared.seats.Words.{Words}
 use Rattle.dspec_cpu_state.proofs.Tallies.{drops_since}
 use Rattle.dspec_cpu.proofs.Limits.{limits}
 
--- behind the last of them
+-- after the last of them
 pub stands_behind : {place : ℕ} (k : Config) (c : ℕ) (v w : View) (log ds : List Deed) → v.config ≡ k → v.who ≡ of_cpu c → Entered place v log ds w → Stands k c v ds w
 stands_behind k c v w log ds config who entered = grind (arith, nat_tests)
 
--- the same behind a load of activity, which had its call in flight
+-- the same after a load of activity, which had its call in flight
 pub stands_called : (k : Config) (c : ℕ) (o : CpuOp) (v w : View) (ds : List Deed) → Stands k c (calling o v) ds w → flight_after k (Some o) ds ≡ flight_after k v.flight ds → Stands k c v ds w
 stands_called k c o v w ds s same = record { sound = s.sound; part_is = s.part_is; own = s.own; config = s.config; who = s.who; rests = s.rests; flight = s.flight ∙ same }
 
@@ -45,7 +45,7 @@ module _ (shape : ℕ → Option Shape) (accepted : Record → Bool) (text : Rec
   pub set_up_is : (known cpu.seat).config ≡ cpu.config
   set_up_is = was.at.1 ∙ was.config
 
-  -- no call of it is under way behind steps that end its call
+  -- no call of it is under way after steps that end its call
   pub ready_after : (new : Cpu S) (ds : List Deed) → cpu.cpu ≡ new.cpu → cpu.config ≡ new.config → IsAt words new.seat → cpu_of new.seat ≡ cpu_of cpu.seat
       → Stands cpu.config cpu.cpu (known cpu.seat) ds (known new.seat)
       → scan cpu.config cpu.cpu (ds ++ (known cpu.seat).own) ≡ 0 → flight_after cpu.config (known cpu.seat).flight ds ≡ None → ((b : Stored) → new.spare ≡ Some b → b.size ≡ new.config.bufsize)

@@ -101,7 +101,7 @@ module _ (k : Config) (c : ℕ) (v : View) where
   ends n true w all came a e = grind (arith, nat_tests, stops)
   ends n false w all came a e = grind (arith, nat_tests, stops)
 
--- the slot that the call has come to behind so many Misses
+-- the slot that the call has come to after so many Misses
 come_to : (k : Config) (c : ℕ) (own : List Deed) (bs : List Bool) → length bs < k.nspec → scan k c ((misses c bs ++ Scan c true ∷ []) ++ own) ≡ length bs + 1
 come_to k c own [] lt = rw (number_is_itself c) refl
 come_to k c own (b ∷ bs) lt =
@@ -124,7 +124,7 @@ misses_fly k c f (b ∷ bs) lt = grind (arith, nat_tests, other_number)
 pub next_flight : (k : Config) (c n : ℕ) (busy : Bool) (v w : View) → n < k.nspec → Came k c v n busy w → w.flight ≡ Some op.Speculation
 next_flight k c n busy v w lt came = let is = came.count in came.stands.flight ∙ misses_fly k c v.flight came.missed (omega arith)
 
--- no call is under way behind the answer
+-- no call is under way after the answer
 all_missed : (k : Config) (c : ℕ) (own : List Deed) (bs : List Bool) → 1 ≤ k.nspec → length bs ≡ k.nspec → scan k c ((misses c bs ++ Scan c true ∷ []) ++ own) ≡ 0
 all_missed k c own [] one all = absurd (omega arith)
 all_missed k c own (b ∷ bs) one all = grind (arith, nat_tests, come_to, number_is_itself)

@@ -1,4 +1,4 @@
--- How many batches a CPU's own list seals, and the list behind one Seal more.
+-- How many batches a CPU's own list seals, and the list after one Seal more.
 use Rattle.std.proofs.Common.{◌≡◌, ℕ, ◌+◌, ◌<◌, ◌≤◌, ◌^◌, Bool, false, List, [], ◌∷◌, ◌++◌, length, reverse, if◌then◌else◌, Option, None, refl, sym, ap, ◌∙◌, subst, arith, add-zero}
 use Rattle.std.proofs.lemmas.Bool.Decides.{nat_tests}
 use Rattle.dspec_cpu.specs.Words.{Record, Stored, CpuKnows, scan, active, seals, IsOwn, is_fill, known, counts_of, HasList, IsReady, batches_of, HasSized, AreSealed, waiting, batch_of, buffers_of}

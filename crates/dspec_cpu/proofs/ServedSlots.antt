@@ -1,4 +1,4 @@
--- The slots of a service, one behind the other.
+-- The slots of a service, one after the other.
 use Rattle.std.proofs.Common.{◌≡◌, ℕ, zero, suc, ◌+◌, ◌≤◌, Bool, true, false, List, [], ◌++◌, length, if◌then◌else◌, refl, sym, ap, subst, arith, append_assoc, length-append}
 use Rattle.std.proofs.lemmas.Bool.Decides.{nat_tests}
 use Rattle.dspec_cpu.specs.Words.{Deed, SlotState, rests, Settled, SettledBehind, SettledSlot, SettledSlots, SlotDone, View}

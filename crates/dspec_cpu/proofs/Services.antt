@@ -34,7 +34,7 @@ module _ (shape : ℕ → Option Shape) (accepted : Record → Bool) (text : Rec
   abbrev u : View
   u = known seat
 
-  -- the CPU behind the load
+  -- the CPU after the load
   abbrev pub looking : Cpu S
   looking = record cpu { seat = seat }
 

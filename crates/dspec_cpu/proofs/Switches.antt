@@ -1,4 +1,4 @@
--- A CPU behind a switch: its batches, its spare and its lists.
+-- A CPU after a switch: its batches, its spare and its lists.
 use Rattle.std.proofs.Common.{◌≡◌, ℕ, ◌+◌, ◌≤◌, Bool, false, List, [], ◌∷◌, ◌++◌, length, reverse, Option, Some, None, refl, sym, ap, ◌∙◌, subst, arith, rules}
 use Rattle.std.proofs.lemmas.{Bool.Decides.nat_tests, List.length_push, List.reverse-append}
 use Rattle.dspec_cpu.specs.Words.{Record, Stored, CpuKnows, is_fill, LoadedAsk, of_cpu, known, IsAt, cpu_of, HasList, IsReady, IsSameCpu, batches_of, spare_count, Stands, HasSized, waiting, Buffers}
@@ -33,7 +33,7 @@ one_more xs ys b e = ap length e ∙ length_push xs b
 pub found : (size : ℕ) (e : CpuKnows) (x : Option Stored) (f : CpuKnows) (y : Option Stored) → FindsSpare size e x f y → IsFound size e x f y
 found = grind (arith, nat_tests, one_more, same_inside)
 
--- behind a load of the ask the seat's list is as it was
+-- after a load of the ask the seat's list is as it was
 pub stands_asked : (k : Config) (c n : ℕ) (v w : View) → v.config ≡ k → v.who ≡ of_cpu c → LoadedAsk c v n w → Stands k c v [] w
 stands_asked k c n v w config who loaded = grind (arith, nat_tests)
 

@@ -29,7 +29,7 @@ module _ {S : Type 0} (has : Cpu S → List Deed → Type 0) (old new : Cpu S) (
       → Opens (config_of old) (number_in old) a (has old) (known (seat_of old)) (has new) (known (seat_of new)) → OpensOne has a old new
   opens_one a k o = record { tells = tells [] _ _ (goes_own o.did) k.wears (opening_told (number_in old) o.missed a); leaves = k; opens = o }
 
--- settlements, one behind the other
+-- settlements, one after the other
 settles_append : (c : ℕ) (ss ts : List (Speculation × DecideFate)) → settles c (ss ++ ts) ≡ settles c ss ++ settles c ts
 settles_append c [] ts = refl
 settles_append c (s ∷ ss) ts = ap (λ ds. Settle c s.0 s.1 ∷ ds) (settles_append c ss ts)

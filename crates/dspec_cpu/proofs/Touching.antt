@@ -1,4 +1,4 @@
--- The words that steps touch, one behind the other.
+-- The words that steps touch, one after the other.
 use Rattle.std.proofs.Common.{◌≡◌, ℕ, zero, suc, ◌+◌, ◌≤◌, Bool, true, false, List, [], ◌∷◌, ◌++◌, get_or, refl, sym, ap, ◌∙◌, subst, inl, inr, arith, append_assoc}
 use Rattle.std.proofs.lemmas.{Bool.Decides.nat_tests, List.Elements.All-nil, List.Elements.All-cons, List.Elements.All-append}
 use Rattle.dspec_cpu.specs.Words.{SlotState, of_cpu, number_of, ack_place, slot_place, Serves, SettledBehind, SettledSlot, SettledSlots, Buffers, Switches, Touches, at_slot, of_service, of_slots}
@@ -18,7 +18,7 @@ touched_more within v u w place was is here = record {
 pub touched_one : (within : ℕ → Type 0) (v w : View) (place : ℕ) → w.touched ≡ place ∷ v.touched → within place → Touches within v w
 touched_one within v w place is here = touched_more within v v w place (none_touched within v) is here
 
--- steps behind steps
+-- steps after steps
 pub touched_on : (within : ℕ → Type 0) (v u w : View) → Touches within v u → Touches within u w → Touches within v w
 touched_on within v u w was more = record {
   places = more.places ++ was.places;
@@ -38,7 +38,7 @@ slot_touched n v u w was here = touched_on (of_slots (n + 1)) v u w (touched_wid
     up p (inl e) = inl e
     up p (inr (slot, one, le, e)) = inr (slot, one, omega arith, e)
 
--- steps of a service, behind which the seat is the same CPU's
+-- steps of a service, after which the seat is the same CPU's
 record ServesWithin (k : Config) (c : ℕ) (v w : View) : Type 0 where
   pub touches : Touches (of_service k c) v w
   pub config : w.config ≡ k

@@ -1,4 +1,4 @@
--- Cited by calls. What a part of a call did, said of the CPU before it and of the CPU behind it.
+-- Cited by calls. What a part of a call did, said of the CPU before it and of the CPU after it.
 use Rattle.std.specs.Prelude.{ℕ, Bool, List, Option}
 use Rattle.dspec_cpu.specs.{Calls.Decides, Lists.config_of, Lists.number_in, Lists.seat_of, Scans.Opens, Serving.Serves, Settled.BlockSettled, Settled.CanSettle, Settled.Settled}
 use Rattle.dspec_cpu.specs.{Switching.buffers_of, Words.Outside.Record, Words.Outside.block, Words.Outside.Stored, Words.Outside.Speculation, Words.Outside.fits_principal, Words.Outside.contents}

@@ -8,8 +8,8 @@ use Rattle.dspec_deeds.specs.declared.deed.DecideFate.TheVariants as decide_fate
 use Rattle.dspec_deeds.specs.declared.deed.SpeculateFate.TheVariants as speculate_fate
 use Rattle.dspec_deeds.specs.declared.deed.TraceFate.TheVariants as trace_fate
 
--- steps of a seat, one behind the other, that entered these deeds, the latest first: each found a legal list, of which the
--- seat's list was its part, and left a legal one; the deeds of a call, but for settlements and releases, behind a load of activity of that
+-- steps of a seat, one after the other, that entered these deeds, the latest first: each found a legal list, of which the
+-- seat's list was its part, and left a legal one; the deeds of a call, but for settlements and releases, after a load of activity of that
 -- very call that was running, or with it
 pub data Goes (v : View) : List Deed → View → Type 0 where
   rests : Goes v [] v
@@ -44,7 +44,7 @@ abbrev pub is_worn_spoken : Spoken → Bool
 is_worn_spoken spoken.Worn = true
 is_worn_spoken a = false
 
--- a decision, behind which the CPU released the slot itself where it decided alone
+-- a decision, after which the CPU released the slot itself where it decided alone
 abbrev pub decision : Bool → ℕ → Deed → List Deed
 decision alone slot d = if alone then Release slot ∷ d ∷ [] else d ∷ []
 

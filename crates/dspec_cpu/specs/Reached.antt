@@ -1,11 +1,11 @@
--- Serves proofs. What stands behind the steps of a call.
+-- Serves proofs. What stands after the steps of a call.
 use Rattle.std.specs.Prelude.{ℕ, ◌≡◌, ◌≤◌, ◌+◌, true, false, List, ◌++◌}
 use Rattle.dspec_cpu.specs.{Calls.Goes, Reaching.IsPresentAt, Reaching.act_of, Reaching.act_reached, Reaching.is_reached, Reaching.reached_deeds, Reaching.releases_next, Reaching.turns}
 use Rattle.dspec_cpu.specs.{Stops.StopsWhereMet, Stops.is_stopped_reach, Touching.Touches, Touching.of_slot, Words.Outside.Speculation, Words.Outside.SlotState, Words.Outside.in_range}
 use Rattle.dspec_cpu.specs.{Words.Outside.owed, Words.Outside.part, Words.Outside.IsSound, Words.Outside.flight_after, Words.Outside.Config, Words.Outside.CpuActor, Words.Outside.Deed}
 use Rattle.dspec_cpu.specs.{Words.Outside.View, Words.Outside.Doing, declared.reaching.Reach.Reach}
 
--- behind the steps of a call that entered these deeds: what the seat has seen is legal, its list is its part of that, and in
+-- after the steps of a call that entered these deeds: what the seat has seen is legal, its list is its part of that, and in
 -- flight is what the deeds leave
 pub record Stands (k : Config) (c : ℕ) (v : View) (ds : List Deed) (w : View) : Type 0 where
   pub sound : IsSound k w.seen

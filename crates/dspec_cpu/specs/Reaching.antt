@@ -50,7 +50,7 @@ abbrev pub releases_next : Act → ℕ
 releases_next (Attempt w) = if is_committing w.code then 1 else 0
 releases_next a = 0
 
--- the last step, behind some on the same word that entered nothing: it found this word, and entered its deeds by it
+-- the last step, after some on the same word that entered nothing: it found this word, and entered its deeds by it
 pub record Shown (k : Config) (c : ℕ) (doing : Doing) (id : Speculation) (slot : ℕ) (v : View) (word : SlotState) (hit : Bool) (w : View) : Type 0 where
   pub before : View
   pub waited : Goes v [] before
@@ -68,7 +68,7 @@ pub record EndsAtWord (k : Config) (c : ℕ) (doing : Doing) (id : Speculation) 
   pub last : Shown k c doing id slot v word (is_attempt act) w
   pub bounded : w.steps + releases_next act ≤ v.steps + turns doing.op
 
--- behind an exchange its word stands, and one to Committing is the seat's own commit, which is to be released
+-- after an exchange its word stands, and one to Committing is the seat's own commit, which is to be released
 abbrev pub OwnsCommit : Config → ℕ → ℕ → View → Act → Type 0
 OwnsCommit k c slot w (Attempt to) = (word_at slot w.seen ≡ to) × IfCommitting to.code (OwnCommit k w c record { issue = to.issue; slot = slot })
 OwnsCommit k c slot w a = Unit {0}

@@ -8,7 +8,7 @@ module _ (shape : ℕ → Option Shape) (accepted : Record → Bool) (text : Rec
   abbrev pub HasSized : ℕ → List Piece → Stored → Type 0
   HasSized = CpuStates.IsFilledWith (λ b. HasPieces shape accepted text b) (λ b. b.size)
 
-  -- a batch that was sealed behind the list: its buffer has the pieces that were in the active buffer then
+  -- a batch that was sealed after the list: its buffer has the pieces that were in the active buffer then
   pub record IsSealed (k : Config) (c : ℕ) (p : List Deed) (b : Batch) : Type 0 where
     pub of_cpu : b.cpu ≡ c
     pub drops : b.drops ≡ (growing c p).drops

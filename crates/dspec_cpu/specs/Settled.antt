@@ -16,14 +16,14 @@ shown_at slot word = record { issue = word.issue; slot = slot }
 abbrev pub serving : Bool → ℕ → Bool → Doing
 serving fit n mine = record { op = op.Service; fits = fit; count = n; mine = mine }
 
--- behind the load of a slot's word: the speculation that it shows was settled, or nothing was done
+-- after the load of a slot's word: the speculation that it shows was settled, or nothing was done
 abbrev pub SettledBehind : Bool → ℕ → ℕ → SlotState → View → List Deed → View → Type 0
 SettledBehind false c slot shown v ds w = (ds ≡ []) × (v ≡ w)
 SettledBehind true c slot shown v ds w =
     (doing : Doing) × (doing.op ≡ op.Service) × (ds ≡ Settle c (shown_at slot shown) (settled_fate shown.code doing.fits doing.count) ∷ [])
     × SettledWord doing (shown_at slot shown) shown.code v w
 
--- behind the load of a slot's word, which can be released: no release is owed, and the table grants to the CPU's own
+-- after the load of a slot's word, which can be released: no release is owed, and the table grants to the CPU's own
 -- acknowledgement that what the word shows is settled
 pub record IsDueAt (c slot : ℕ) (shown : SlotState) (v : View) : Type 0 where
   pub rests : owed v.seen ≡ 0

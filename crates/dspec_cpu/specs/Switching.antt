@@ -65,7 +65,7 @@ emptied b = record { text = []; count = 0; size = b.size }
 abbrev pub batch_of : ℕ → Buffers → Batch
 batch_of c x = record { cpu = c; drops = x.drops; buffer = x.active }
 
--- What a CPU does about an ask that it was shown: whether it seals, and the buffers behind that. It seals where the ask is above
+-- What a CPU does about an ask that it was shown: whether it seals, and the buffers after that. It seals where the ask is above
 -- its Seals, these are below the most, and a spare is found; but never while a batch is held back, which can be only where more
 -- spares came than batches were handed.
 pub data Heeds (k : Config) (c ask : ℕ) (x : Buffers) : Bool → Buffers → Type 0 where

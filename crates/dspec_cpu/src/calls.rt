@@ -25,7 +25,7 @@ impl<S: Schema> Cpu<S> {
 
     /// Opens a speculation, in the first slot that is shown free. Worn: the CPU had made all its calls. Stopped: the session was
     /// stopped. Busy: every slot was missed, and one of them was decided and isn't released yet. Unavailable: every slot was
-    /// missed, and none was. It takes at most one step, and two for each slot, and touches the word of no slot behind the one that
+    /// missed, and none was. It takes at most one step, and two for each slot, and touches the word of no slot after the one that
     /// it gives out.
     #[inline]
     pub fn speculation(&mut self, shared: &Shared) -> Opening
@@ -65,7 +65,7 @@ impl<S: Schema> Cpu<S> {
     /// Discards a speculation: the CPU's own block of it is thrown away, with the number of its records. Worn: the CPU had made
     /// all its calls. Stopped: the session was stopped. Void: the identifier isn't open. Where the CPU is the one caller, the
     /// exchange releases the slot. It touches activity and the word of the identifier's slot.
-    #[inline]
+    #[inline(always)]
     pub fn discard(&mut self, shared: &Shared, id: SpecId) -> Decided
         requires of { Belongs (words_of shared.now) (identity self.old) }
         ensures same { identity self.new ≡ identity self.old }

@@ -19,7 +19,7 @@
 //! | `specs/`: Lists, Keeping | `HasList`, `IsShown`, `IsSteady` (the invariant); `CallLeaves`, what each call that counts keeps; what stays of a CPU that is worn, or met the consumer |
 //! | `specs/`: Calls, Reaching, Reached, Stops, Scans | `Goes`, a chain of a seat's steps; `Does`; a call on an identifier, while it runs and where it ended; that a stop is heeded; a call of speculation |
 //! | `specs/`: Switching, Settled, Serving, Sealed, Rests, Dropped, OpenAt | a switch; one slot and all slots; both together; batches by a list; the close; how many drops are told; of which speculation of a slot a CPU has records |
-//! | `proofs/` | Limits, Makes, Behind, Shown, Ready, Traces, Mine, Outside, Retries, ReachDeeds, Reaches, Marked, Speculates, Decisions, Decided, Leaves, Commits, Discards; Slots, Scans, OpeningCounts, Openings; Seals, Switches, Heeding; OwnBlocks, Settlements, Services, ServedSlots; Closes, Rests, LegalParts, Stopping; OpenAts, Rooms (what is asked without a call); Told, Telling (deeds told in the words of the page) |
+//! | `proofs/` | Limits, Makes, After, Shown, Ready, Traces, Mine, Outside, Retries, ReachDeeds, Reaches, Marked, Speculates, Decisions, Decided, Leaves, Commits, Discards; Slots, Scans, OpeningCounts, Openings; Seals, Switches, Heeding; OwnBlocks, Settlements, Services, ServedSlots; Closes, Rests, LegalParts, Stopping; OpenAts, Rooms (what is asked without a call); Told, Telling (deeds told in the words of the page) |
 //!
 //! How a call is proved: its steps give a chain, the seat's new list and a legal list with that as its part (`Stands`); the operation
 //! on the side says that it shows the list with the new deed in front, and so the CPU shows it (Shown); `ready_after` joins both.

@@ -1,4 +1,4 @@
--- What was dropped from each slot's buffer, behind a record that was granted.
+-- What was dropped from each slot's buffer, after a record that was granted.
 use Rattle.std.proofs.Common.{◌≡◌, ◌≢◌, ℕ, ◌+◌, ◌-◌, ◌==◌, ◌≤◌, ◌<◌, ◌^◌, Bool, true, false, List, ◌∷◌, length, Some, if◌then◌else◌, refl, sym, ap, ◌∙◌, ⊎_elim, arith, length-set}
 use Rattle.std.proofs.lemmas.Bool.Decides.{nat_tests}
 use Rattle.std.specs.Prelude.{slice_get, slice_set}
@@ -61,7 +61,7 @@ module _ {k : Config} {c : ℕ} (p : List Deed) (id : Speculation) (low : 1 ≤ 
         let le = dropped_called c id p in
         written between new (dropped_in c id p + 1) b.count b.others (told (dropped_in c id p) b.here (omega arith))
 
-  -- behind a record that was granted
+  -- after a record that was granted
   module _ (r : Record) (f : SpeculateFate) (drops : List ℕ) (granted : spoken_granted f ≡ true)
       (but : AreBut k c id (dropped_in c id p + (if spoken_dropped f then 1 else 0)) drops p) where
     abbrev now : List Deed

@@ -1,4 +1,4 @@
--- A block that was copied, lost or thrown away: what the side shows behind the deed that ended it.
+-- A block that was copied, lost or thrown away: what the side shows after the deed that ended it.
 use Rattle.std.proofs.Common.{◌≡◌, ◌≢◌, ℕ, suc, ◌+◌, ◌-◌, ◌==◌, ◌≤◌, Bool, true, false, ◌&&◌, ◌||◌, List, [], ◌∷◌, length, map, get_or, Option, Some, if◌then◌else◌, refl, sym, ap, ◌∙◌, subst}
 use Rattle.std.proofs.Common.{⊎_elim, arith, length-set, add-zero, true≢false}
 use Rattle.std.proofs.Math.Bool.{and-true}
@@ -69,7 +69,7 @@ module _ {B : Type 0} (keeps : B → List Piece → Type 0) (capacity : B → �
     pub missing : missed_busy c (deed ∷ p) ≡ missed_busy c p
     pub room : fit ≡ true → piece_fits shape (active c p) (extent.block have) k.bufsize ≡ true
 
-  -- the numbers, and the counts, behind it
+  -- the numbers, and the counts, after it
   record AreNumbers (deed : Deed) (n_calls : ℕ) (acked : List ℕ) (n_drops : ℕ) (now : Counts) : Type 0 where
     pub called : n_calls ≡ calls c (deed ∷ p)
     pub ack_count : length acked ≡ k.nspec

@@ -5,7 +5,7 @@ use Rattle.dspec_cpu_state.specs.Words.{Record, Piece, reserved, one, piece_fits
 use Rattle.dspec_deeds.proofs.TestLemmas.{same_number}
 
 module _ (shape : ℕ → Option Shape) (r : Record) (h : Shape) (n : ℕ) (is : shape r.epid ≡ Some h) where
-  -- behind these pieces
+  -- after these pieces
   pub behind_fits : (ps : List Piece) → nat_le (reserved (extent shape ps) h.align h.size) n ≡ piece_fits shape ps (one r) n
   behind_fits ps = rw is refl
 

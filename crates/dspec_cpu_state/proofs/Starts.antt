@@ -35,7 +35,7 @@ zero_there n i xs e lt =
 pub zero_count : (n : ℕ) (xs : List ℕ) → xs ≡ replicate n 0 → length xs ≡ n
 zero_count n xs e = ap length e ∙ length-replicate n 0
 
--- at each place of a list of zeros stands 0, and behind it too
+-- at each place of a list of zeros stands 0, and after it too
 pub zero_everywhere : (n s : ℕ) → get_or (replicate {A = ℕ} n 0) s 0 ≡ 0
 zero_everywhere (suc n) (suc s) = zero_everywhere n s
 zero_everywhere n s = refl

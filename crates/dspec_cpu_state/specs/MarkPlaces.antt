@@ -6,7 +6,7 @@ use Rattle.dspec_cpu_state.specs.declared.marks.Marks.TheInside.{Inside}
 abbrev pub marks_of : Inside → List ℕ
 marks_of m = take m.count (drop 1 m.held)
 
--- there are 64 places, and 0 stands at the first one and behind the slots
+-- there are 64 places, and 0 stands at the first one and after the slots
 pub record AreMarks (m : Inside) : Type 0 where
   pub places : length m.held ≡ 64
   pub few : m.count ≤ 63

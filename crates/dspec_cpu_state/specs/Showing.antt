@@ -23,11 +23,11 @@ ends_block f = is_commit f || is_discard f
 abbrev pub own_only : {A : Type 0} → Bool → List A → List A
 own_only mine xs = if mine then xs else []
 
--- the block that ends a CPU's buffer of a speculation fits behind these pieces
+-- the block that ends a CPU's buffer of a speculation fits after these pieces
 abbrev pub block_fits : (ℕ → Option Shape) → List Piece → Bool → List Record → ℕ → Bool
 block_fits shape ps mine rs size = piece_fits shape ps (block (own_only mine rs)) size
 
--- a side behind a decision, but for its buffers, which are as they are behind it
+-- a side after a decision, but for its buffers, which are as they are after it
 abbrev pub decided_side : {B : Type 0} → DecideFate → CpuState B → CpuState B → CpuState B
 decided_side fate before behind = record before {
   calls = before.calls + 1;
@@ -37,7 +37,7 @@ decided_side fate before behind = record before {
   counts = with_decided fate before.counts;
 }
 
--- a side behind a settlement, but for its buffers and acknowledgements, which are as they are behind it
+-- a side after a settlement, but for its buffers and acknowledgements, which are as they are after it
 abbrev pub settled_side : {B : Type 0} → DecideFate → CpuState B → CpuState B → CpuState B
 settled_side fate before behind = record before {
   acks = behind.acks;
@@ -66,23 +66,23 @@ module _ {B : Type 0} (keeps : B → List Piece → Type 0) (capacity : B → �
       (ps : List Piece) (rs : List Record) (b : B) → slice_get buffers place ≡ Some b → keeps before ps → keeps b (map one rs)
       → (fit ≡ true → block_fits shape ps mine rs (capacity before) ≡ true) → keeps behind (if fit then block (own_only mine rs) ∷ ps else ps)
 
-  -- a buffer of a speculation keeps a record where that fits behind what the CPU has there, and still has what the CPU has there
+  -- a buffer of a speculation keeps a record where that fits after what the CPU has there, and still has what the CPU has there
   abbrev pub KeepsRecord : (ℕ → Option Shape) → Bool → Record → Bool → B → B → Type 0
   KeepsRecord shape mine r kept before behind =
       (ps : List Piece) → keeps before ps → (kept ≡ piece_fits shape (own_only mine ps) (one r) (capacity before))
       × keeps behind (if kept then one r ∷ own_only mine ps else own_only mine ps)
 
   module _ (k : Config) (c : ℕ) (p : List Deed) where
-    -- behind the deed, a side that showed this list shows it with the deed in front
+    -- after the deed, a side that showed this list shows it with the deed in front
     abbrev pub ShowsNext : Deed → CpuState B → CpuState B → Type 0
     ShowsNext d before behind = ShowsList keeps capacity k c p before → ShowsList keeps capacity k c (d ∷ p) behind
 
-    -- behind a Seal, where the buffer that was to be the active one is empty
+    -- after a Seal, where the buffer that was to be the active one is empty
     abbrev pub ShowsSeal : B → CpuState B → CpuState B → Type 0
     ShowsSeal next before behind =
         ShowsList keeps capacity k c p before → IsFilledWith keeps capacity k.bufsize [] next → ShowsList keeps capacity k c (Seal c ∷ p) behind
 
-    -- behind a record that was granted to a speculation, of which the CPU was a caller before or not, and kept or not
+    -- after a record that was granted to a speculation, of which the CPU was a caller before or not, and kept or not
     abbrev pub ShowsGrant : Speculation → Bool → Record → Bool → CpuState B → CpuState B → Type 0
     ShowsGrant id mine r kept before behind =
         ShowsList keeps capacity k c p before → IsCaller c id mine p → ShowsList keeps capacity k c (Speculate c id r (kept_grant kept) ∷ p) behind

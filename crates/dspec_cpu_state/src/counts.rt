@@ -28,9 +28,9 @@ pub struct Counts {
     pub unavailable: u64,
     /// Calls of speculation that were given no slot, where one waited to be released.
     pub busy: u64,
-    /// Calls behind the stop of the session.
+    /// Calls after the stop of the session.
     pub stopped: u64,
-    /// Calls behind the most that the CPU may make.
+    /// Calls after the most that the CPU may make.
     pub worn: u64,
 }
 

@@ -78,7 +78,7 @@ timed-long uuid e missed cpu told ps x =
     let front : List ℕ = front_bytes uuid (Some (span_of ps)) n n told cpu in
     omega (arith, length-append (front ++ events e ps) x, length-append front (events e ps), front-long uuid (Some (span_of ps)) n n told cpu)
 
--- a list from this place on is so many records and the list behind them
+-- a list from this place on is so many records and the list after them
 rejoin : (d w n : ℕ) (rs : List Record) → n ≡ d + w → drop d rs ≡ take w (drop d rs) ++ drop n rs
 rejoin d w n rs is = sym (take-append-drop w (drop d rs)) ∙ ap (λ more. take w (drop d rs) ++ more) (drop-drop w d rs ∙ ap (λ k. drop k rs) (sym is))
 

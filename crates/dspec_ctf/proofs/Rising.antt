@@ -36,7 +36,7 @@ goes-longer : (lasts mid : List ℕ) (stamp file : ℕ) → GoesToFile lasts sta
 goes-longer lasts mid stamp file (inl goes) few = grind (arith, nat_tests, length-set)
 goes-longer lasts mid stamp file (inr goes) few = grind (arith, nat_tests, length_push)
 
--- records that don't fall, behind one that is before them
+-- records that don't fall, after one that is before them
 cons-at : (r : Record) (rs : List Record) → All (λ q. r.stamp ≤ q.stamp) rs → IsNonDecreasingBy (λ q. q.stamp) rs → (i j : ℕ) (d : Record) → i ≤ j → j < length (r ∷ rs)
     → (get_or (r ∷ rs) i d).stamp ≤ (get_or (r ∷ rs) j d).stamp
 cons-at r rs low rise zero zero d below within = omega arith

@@ -10,7 +10,7 @@ rows = record { header = header.One; rows = [] ∷ (Eight ∷ []) ∷ (One ∷ T
 abbrev stamped : EnabledRows
 stamped = record { header = header.Two; rows = rows.rows }
 
--- no gap between the two values, and none behind them
+-- no gap between the two values, and none after them
 event-of-two : event rows (record { epid = 3; stamp = 0; values = 171 ∷ 4660 ∷ [] }) ≡ 3 ∷ 0 ∷ 0 ∷ 0 ∷ 171 ∷ 52 ∷ 18 ∷ []
 event-of-two = refl
 

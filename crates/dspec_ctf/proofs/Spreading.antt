@@ -13,7 +13,7 @@ Spreads-push lasts mid new [] (f ∷ fs) r file is goes = elim is [ ]
 Spreads-push lasts mid new (q ∷ rs) [] r file is goes = elim is [ ]
 Spreads-push lasts mid new (q ∷ rs) (f ∷ fs) r file (at, (first, rest)) goes = (at, (first, Spreads-push at mid new rs fs r file rest goes))
 
--- records behind others
+-- records after others
 pub Spreads-append : (lasts mid new : List ℕ) (rs qs : List Record) (files more : List ℕ) → Spreads lasts rs files mid → Spreads mid qs more new
     → Spreads lasts (rs ++ qs) (files ++ more) new
 Spreads-append lasts mid new [] qs [] more is then = subst (λ l. Spreads l qs more new) is then
@@ -38,7 +38,7 @@ run-more lasts mid new rs from place file r behind within is so_far goes =
     let files = subst (λ fs. Spreads lasts (take (k + 1) front) fs new) (replicate_more k file) records in
     subst (λ n. Spreads lasts (take n front) (replicate n file) new) sum files
 
--- a record goes to a file, and those behind it
+-- a record goes to a file, and those after it
 pub run-first : (lasts mid new : List ℕ) (rs : List Record) (place end file : ℕ) → place < length rs → place < end
     → ((r : Record) → slice_get rs place ≡ Some r → GoesToFile lasts r.stamp file mid)
     → Spreads mid (slice_range rs (place + 1) end) (replicate (end - (place + 1)) file) new
@@ -63,7 +63,7 @@ range-joined rs from mid to below above =
     let behind : drop mid rs ≡ drop n (drop from rs) = ap (λ k. drop k rs) (sym whole) ∙ sym (drop-drop n from rs) in
     ap (λ xs. take n (drop from rs) ++ take m xs) behind ∙ sym (take-add n m (drop from rs)) ∙ ap (λ k. take k (drop from rs)) sum
 
--- runs one behind another have each record once
+-- runs one after another have each record once
 pub record Covers (lasts : List ℕ) (rs : List Record) (from : ℕ) (runs : List Run) (to : ℕ) (new : List ℕ) : Type 0 where
   pub forward : from ≤ to
   pub records : run_records rs from runs ≡ slice_range rs from to

@@ -41,7 +41,7 @@ module _ (uuid : List ℕ) (e : EnabledRows) (missed cpu : ℕ) where
       flat_map (packet_at rs (packet_count missed (length rs))) (range_with_len 0 (packet_count missed (length rs)))
 
 module _ (e : EnabledRows) where
-  -- the records of these texts, one text's behind another's
+  -- the records of these texts, one text's after another's
   abbrev pub AreTexts : List (List ℕ) → List Record → Type 0
   AreTexts [] rs = rs ≡ []
   AreTexts (text ∷ texts) rs =
@@ -63,7 +63,7 @@ module _ (e : EnabledRows) where
     pub by_stamp : IsByStamp rs sorted
     pub bytes_are : bytes ≡ timed_packets uuid e missed cpu sorted
 
-  -- the records of this text were added behind others
+  -- the records of this text were added after others
   pub record IsAdded (text : List ℕ) (before after : List Record) : Type 0 where
     pub added : List Record
     pub is_text : IsText e text added

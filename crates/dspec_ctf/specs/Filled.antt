@@ -25,7 +25,7 @@ LacksRoomAnew out body packets = LacksBytes (vec_capacity out) (vec_capacity bod
 abbrev pub LacksRoomAfter : {Z : Type 0} → Vec ℕ Z → Vec ℕ Z → List ℕ → Type 0
 LacksRoomAfter out body packets = LacksBytes (vec_capacity out) (vec_capacity body) (vec_len out + length packets)
 
--- a packet of that size around the bytes of its events, with zeros behind them
+-- a packet of that size around the bytes of its events, with zeros after them
 unfoldable pub filled_around : List ℕ → Option (ℕ × ℕ) → ℕ → ℕ → List ℕ → List ℕ
 filled_around uuid span missed cpu body =
     front_bytes uuid span (front_size span + length body) filled_size missed cpu ++ (body ++ replicate (filled_size - (front_size span + length body)) 0)
@@ -60,7 +60,7 @@ module _ (timed : Bool) (e : EnabledRows) where
     unfoldable pub filled_packet : List Record → List ℕ
     filled_packet rs = filled_around uuid (span_by timed rs) missed cpu (events e rs)
 
-    -- the packets of all these records, one behind another
+    -- the packets of all these records, one after another
     unfoldable pub filled_packets : List Record → List ℕ
     filled_packets rs = flat_map filled_packet (portions rs)
 

@@ -16,7 +16,7 @@ hex_byte b = digit_glyph false (b / 16) ∷ digit_glyph false (b % 16) ∷ []
 unfoldable pub hex : List ℕ → List ℕ
 hex bytes = flat_map hex_byte bytes
 
--- the same behind a hyphen
+-- the same after a hyphen
 unfoldable pub hyphened : List ℕ → List ℕ
 hyphened bytes = codes "-" ++ hex bytes
 
@@ -35,7 +35,7 @@ types_text = codes "/* CTF 1.8 */\n\ntypealias integer { size = 8; align = 8; si
 unfoldable pub trace_front : List ℕ
 trace_front = codes "\ntrace {\n\tmajor = 1;\n\tminor = 8;\n\tuuid = \""
 
--- the trace behind its uuid, with the header of packets
+-- the trace after its uuid, with the header of packets
 unfoldable pub trace_back : List ℕ
 trace_back =
     codes "\";\n\tbyte_order = le;\n\tpacket.header := struct {\n\t\tuint32_t magic;\n\t\tuint8_t uuid[16];\n\t\tuint32_t stream_id;\n\t};\n};\n\nenv {\n"

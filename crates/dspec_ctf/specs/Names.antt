@@ -55,7 +55,7 @@ abbrev pub first_found : {A : Type 0} → (ℕ → Option A) → List ℕ → Op
 first_found f [] = None
 first_found f (place ∷ places) = earlier (f place) (first_found f places)
 
--- why a name can't stand behind these; `stamp` may be taken
+-- why a name can't stand after these; `stamp` may be taken
 unfoldable pub bad_name : Bool → List (List ℕ) → List ℕ → Option NameKind
 bad_name stamped before name =
     earlier (unfit name)

@@ -43,7 +43,7 @@ unfoldable pub context_bytes : ℕ → ℕ → ℕ → ℕ → List ℕ
 context_bytes content bits missed cpu =
     little_endian 8 content ++ (little_endian 8 bits ++ (little_endian 8 missed ++ little_endian 4 cpu))
 
--- what stands before the events of a packet of so many bytes, whose events end behind so many of them
+-- what stands before the events of a packet of so many bytes, whose events end after so many of them
 unfoldable pub front_bytes : List ℕ → Option (ℕ × ℕ) → ℕ → ℕ → ℕ → ℕ → List ℕ
 front_bytes uuid span content size missed cpu = header_bytes uuid ++ (span_bytes span ++ context_bytes (8 * content) (8 * size) missed cpu)
 

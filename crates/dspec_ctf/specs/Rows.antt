@@ -24,7 +24,7 @@ IsFoundOf lasts n stamp (Some file) = IsLatestOf lasts n stamp file
 IsFoundOf lasts n stamp None = AreAbove lasts n stamp
 
 -- Where a record with this stamp goes, and the last stamps then: of the files whose last stamp isn't above its own, to that with the
--- greatest; where there is none, to a new one behind those that are there, of which there are 64 at most.
+-- greatest; where there is none, to a new one after those that are there, of which there are 64 at most.
 abbrev pub GoesToFile : List ℕ → ℕ → ℕ → List ℕ → Type 0
 GoesToFile lasts stamp file new =
     (IsLatestOf lasts (length lasts) stamp file × (new ≡ slice_set lasts file stamp))
@@ -65,12 +65,12 @@ HasNoRun lasts rs place Missed = ⊥
 HasNoRun lasts rs place TooLong = ⊥
 HasNoRun lasts rs place Memory = ⊥
 
--- these are the runs of these records from one place to another, each behind the one before it
+-- these are the runs of these records from one place to another, each after the one before it
 abbrev pub AreRuns : List ℕ → List Record → ℕ → List Run → ℕ → List ℕ → Type 0
 AreRuns lasts rs from [] to new = (to ≡ from) × (new ≡ lasts)
 AreRuns lasts rs from (run ∷ runs) to new = (mid : List ℕ) × (IsFileRun lasts rs from run mid × AreRuns mid rs run.end runs to new)
 
--- the records of runs from a place on, one run's behind another's
+-- the records of runs from a place on, one run's after another's
 abbrev pub run_records : List Record → ℕ → List Run → List Record
 run_records rs from [] = []
 run_records rs from (run ∷ runs) = slice_range rs from run.end ++ run_records rs run.end runs

@@ -36,7 +36,7 @@ impl From<AllocError> for TimeFault {
     }
 }
 
-/// Adds records behind these.
+/// Adds records after these.
 pub(crate) fn add_records(
     recs: &mut Vec<Rec>,
     records: Records<'_, Enablings>,

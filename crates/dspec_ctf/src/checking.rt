@@ -119,7 +119,7 @@ fn unfit(name: &str) -> Option<NameKind>
     None
 }
 
-/// Why a name can't stand behind these. `stamp` may be taken.
+/// Why a name can't stand after these. `stamp` may be taken.
 #[tactic(auto, using(crate::proofs::Lines::list_any_map), unfolding(crate::specs::Names::bad_name))]
 fn bad_name(stamped: bool, before: &[&str], name: &str) -> Option<NameKind>
     ensures { result ≡ bad_name stamped (map (λ other. other.now) before.now) name.now }

@@ -29,7 +29,7 @@ fn put_zeros(out: &mut Vec<u8>, count: usize) -> Result<(), AllocError>
     out.extend_from_slice(&[0; PACKET_SIZE][..count])
 }
 
-/// Adds a packet around the bytes of its events, with zeros behind them. It tells the first stamp and the last in a trace by time.
+/// Adds a packet around the bytes of its events, with zeros after them. It tells the first stamp and the last in a trace by time.
 #[tactic(auto, unfolding(crate::specs::Filled::filled_around))]
 pub(crate) fn put_filled_around(
     out: &mut Vec<u8>,

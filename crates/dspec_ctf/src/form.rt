@@ -1,4 +1,4 @@
-/// The two forms of a trace. Records of a committed block stand behind others that were offered later, and tools that merge
+/// The two forms of a trace. Records of a committed block stand after others that were offered later, and tools that merge
 /// streams by a clock refuse a clock that goes back, so that only a sorted trace has one.
 #[derive(Debug, Clone, Copy, PartialEq, Eq)]
 pub enum Form {

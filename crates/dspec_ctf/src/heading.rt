@@ -37,7 +37,7 @@ fn print_hex(text: &mut String, bytes: &[u8]) -> Result<(), AllocError>
     Ok(())
 }
 
-/// The same behind a hyphen.
+/// The same after a hyphen.
 #[tactic(auto, unfolding(crate::specs::Metadata::hyphened))]
 fn print_hyphened(text: &mut String, bytes: &[u8]) -> Result<(), AllocError>
     ensures { OnOk result (string_bytes text.new ≡ string_bytes text.old ++ hyphened bytes.now) }

@@ -38,14 +38,14 @@ pub fn files_have_all()
         → AreFiled rs files (length new) }
 {}
 
-/// Runs from one place to another, one behind another, have all the records between, in their order, each once; and each record goes to
+/// Runs from one place to another, one after another, have all the records between, in their order, each once; and each record goes to
 /// the file of its run.
 pub fn runs_have_all()
     ensures { (lasts new : List ℕ) (rs : List Record) (from to : ℕ) (runs : List Run) → AreRuns lasts rs from runs to new
         → HaveAllBetween lasts rs from runs to new }
 {}
 
-/// Records of one batch behind those of another go to files as those of a single batch.
+/// Records of one batch after those of another go to files as those of a single batch.
 pub fn batches_go_on()
     ensures { (lasts mid new : List ℕ) (rs qs : List Record) (files more : List ℕ)
         → Spreads lasts rs files mid → Spreads mid qs more new → Spreads lasts (rs ++ qs) (files ++ more) new }

@@ -24,7 +24,7 @@ pub struct Process<'a> {
 pub struct ClockStart {
     /// Whole seconds.
     pub seconds: u64,
-    /// Ticks of the clock behind them.
+    /// Ticks of the clock after them.
     pub ticks: u64,
     /// The clock's own uuid, where several processes read one clock.
     pub clock: Option<[u8; 16]>,

@@ -84,7 +84,7 @@ pub(crate) fn put_events(
     Ok(())
 }
 
-/// The events of these records, one behind another.
+/// The events of these records, one after another.
 pub(crate) fn events_of(
     alloc: Global,
     enablings: &Enablings,

@@ -135,7 +135,7 @@ fn next_in_front(kinds: &[Kind]) -> usize
     next
 }
 
-/// How many of them stand behind a place, in front of other kinds.
+/// How many of them stand after a place, in front of other kinds.
 fn next_behind(kinds: &[Kind], place: usize) -> usize
     ensures next { result ≡ next_in_front (drop (place + 1) kinds.now) }
     ensures few { result ≤ length kinds.now }

@@ -19,12 +19,12 @@ use std::marker::Model;
 /// The most files of a CPU.
 pub const MOST_FILES: usize = 64;
 
-/// Records of a CPU that stand one behind another and go to one file: those from a place on up to this one.
+/// Records of a CPU that stand one after another and go to one file: those from a place on up to this one.
 #[derive(Debug, Clone, Copy, PartialEq, Eq)]
 pub struct Run {
     /// The number of the file.
     pub file: usize,
-    /// The place behind the last of them.
+    /// The place after the last of them.
     pub end: usize,
 }
 

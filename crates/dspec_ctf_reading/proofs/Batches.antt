@@ -1,11 +1,11 @@
--- A CPU's file of batches, whose packets stand one behind another: it tells all their records, and what was missed up to the last.
+-- A CPU's file of batches, whose packets stand one after another: it tells all their records, and what was missed up to the last.
 use Rattle.std.proofs.Common.{◌≡◌, ◌<◌, ◌++◌, ℕ, Bool, List, [], ◌∷◌, length, map, Some, refl, ap, sym, ◌∙◌, arith, All}
 use Rattle.std.proofs.lemmas.{Grind.flat_map-append, List.map-append, List.Elements.All-append, List.Elements.All-head, List.Elements.All-tail, List.Elements.All-nil, List.Elements.All-weaker}
 use Rattle.std.specs.List.{flat_map}
 use Rattle.dspec_ctf_reading.specs.Words.{Record, EnabledRows, Layout, EventRead, PacketRead, read_file, events_of, loss_of, Naming, event_read, layout_by, FileTells, PartTells, last_missed}
 use Rattle.dspec_ctf_reading.proofs.Joining.{join}
 
--- bytes behind others are read behind them
+-- bytes after others are read after them
 pub both-read : (layout : Layout) (a b : List ℕ) (ps qs : List PacketRead) (es fs : List EventRead) → read_file layout a ≡ Some ps → read_file layout b ≡ Some qs
     → events_of ps ≡ es → events_of qs ≡ fs → (read_file layout (a ++ b) ≡ Some (ps ++ qs)) × (events_of (ps ++ qs) ≡ es ++ fs)
 both-read layout a b ps qs es fs first second of_first of_second = (

@@ -1,5 +1,5 @@
 -- Each event and each packet takes some bytes: so the number that shows that reading ends changes nothing, from the number of bytes on. Nor is a packet
--- changed by what stands behind it.
+-- changed by what stands after it.
 use Rattle.std.proofs.Common.{◌≡◌, ◌≤◌, ◌<◌, ◌+◌, ◌-◌, ◌*◌, ◌/◌, ◌==◌, ◌++◌, ℕ, zero, suc, Bool, true, false, cond, leb, List, [], ◌∷◌, length, take, drop, Option, Some, None, option_map, refl, ap}
 use Rattle.std.proofs.Common.{sym, subst, ◌∙◌, arith, length-drop, length-append}
 use Rattle.std.proofs.lemmas.{Bool.leb-true, Bool.le-leb, Bool.cond-true, List.take-append-le, List.drop-append-le}
@@ -9,7 +9,7 @@ use Rattle.dspec_ctf_reading.specs.Words.{read_event_body, read_event, read_even
 use Rattle.dspec_ctf_reading.specs.Words.{read_packet, read_packets_within, read_file}
 use Rattle.dspec_ctf_reading.proofs.Agreeing.{Agrees, agree, agrees}
 
--- behind the part, if there is one, there are so many bytes at most; and where more bytes stand behind all, the other part is the same, and leaves them too
+-- after the part, if there is one, there are so many bytes at most; and where more bytes stand after all, the other part is the same, and leaves them too
 unfoldable pub Goes : {A : Type 0} → List ℕ → ℕ → PartRead A → PartRead A → Type 0
 Goes more m None other = Unit
 Goes more m (Some p) other = (length p.1 ≤ m) × (other ≡ Some (p.0, p.1 ++ more))
@@ -178,7 +178,7 @@ unfolding Goes
 rest-same n None other f g goes same = refl
 rest-same n (Some p) other f g goes same = ap (option_map (λ more. p.0 ∷ more)) (same p.1 goes.0)
 
--- parts that each take some bytes, one behind another, of so many at most
+-- parts that each take some bytes, one after another, of so many at most
 module _ {A : Type 0} (one : List ℕ → PartRead A) (within : ℕ → List ℕ → Option (List A)) (goes : (bytes : List ℕ) → Goes [] (length bytes - 4) (one bytes) (one (bytes ++ [])))
     (none : (most : ℕ) → within most [] ≡ Some [])
     (some : (most b : ℕ) (bytes : List ℕ) → within (suc most) (b ∷ bytes) ≡ option_and_then (λ p. option_map (λ more. p.0 ∷ more) (within most p.1)) (one (b ∷ bytes))) where

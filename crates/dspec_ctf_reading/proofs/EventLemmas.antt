@@ -1,4 +1,4 @@
--- Events and their values, one behind another, as loops read them.
+-- Events and their values, one after another, as loops read them.
 use Rattle.std.proofs.Common.{◌≡◌, ◌<◌, ◌+◌, ◌==◌, ℕ, zero, suc, true, false, cond, List, [], ◌∷◌, ◌++◌, map, length, drop, get_or, Option, Some, None, option_map, refl, ap, sym, ◌∙◌, arith}
 use Rattle.std.proofs.Common.{add-one}
 use Rattle.std.proofs.lemmas.{Bool.Decides.nat_tests, List.append-nil, List.drop_all, List.get_or-map, List.length-map}
@@ -51,7 +51,7 @@ zip-push [] values v d below = absurd (omega (arith, below))
 zip-push (n ∷ names) [] v d below = ap (λ more. (n, v) ∷ more) (zip-none names [] refl)
 zip-push (n ∷ names) (w ∷ values) v d below = ap (λ more. (n, w) ∷ more) (zip-push names values v d (omega (arith, below)))
 
--- the values so far under their names, and what is read behind them
+-- the values so far under their names, and what is read after them
 abbrev pub under_names : List FieldText → List ℕ → PartRead (List (List ℕ × ℕ)) → PartRead (List (List ℕ × ℕ))
 under_names fields values part = option_map (λ p. (zip (names_of (map told_field fields)) values ++ p.0, p.1)) part
 

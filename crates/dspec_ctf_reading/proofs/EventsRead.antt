@@ -34,7 +34,7 @@ unfolding HasStamps
 stamps-with-two header.One is = absurd (cc)
 stamps-with-two header.Two is = tt
 
--- the stamp behind the number, or as the first field
+-- the stamp after the number, or as the first field
 body-back : (timed : Bool) (h : Header) (id stamp : ℕ) (name : List ℕ) (fields : List FieldLayout) (vs : List (List ℕ × ℕ)) (bytes rest : List ℕ)
     → HasStamps timed h → IsTrue (stamp_fits h stamp) → read_payload fields bytes ≡ Some (vs, rest)
     → read_event_body timed (record { id = id; name = name; fields = stamp_field timed h ++ fields }) (stamp_bytes h stamp ++ bytes)

@@ -1,4 +1,4 @@
--- Files of packets that were written one behind another.
+-- Files of packets that were written one after another.
 use Rattle.std.proofs.Common.{◌≡◌, ◌≤◌, ◌<◌, ◌+◌, ◌-◌, ◌^◌, ◌++◌, ℕ, zero, suc, Bool, true, false, cond, IsTrue, List, [], ◌∷◌, length, map, replicate, Option, Some, option_map, refl, ap, sym, ◌∙◌}
 use Rattle.std.proofs.Common.{arith, All}
 use Rattle.std.proofs.lemmas.Bool.{ltb-true, eqb-true, Decides.nat_tests}
@@ -18,7 +18,7 @@ one-read : (layout : Layout) (bytes : List ℕ) (p : PacketRead) → 0 < length 
 one-read layout bytes p some is =
     packets-on-bytes layout bytes some ∙ ap (λ part. option_and_then (λ q. option_map (λ packets. q.0 ∷ packets) (read_file layout q.1)) part) is
 
--- packets that are files are one file, one behind another
+-- packets that are files are one file, one after another
 pub flat-read : {A : Type 0} (layout : Layout) (P : A → Type 0) (f : A → List ℕ) (g : A → PacketRead) → ((x : A) → P x → read_file layout (f x) ≡ Some (g x ∷ []))
     → (xs : List A) → All P xs → read_file layout (flat_map f xs) ≡ Some (map g xs)
 flat-read layout P f g each [] of_xs = refl

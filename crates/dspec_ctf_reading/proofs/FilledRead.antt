@@ -1,4 +1,4 @@
--- Packets of 1,024 bytes, one behind another: each is read as the records that it has.
+-- Packets of 1,024 bytes, one after another: each is read as the records that it has.
 use Rattle.std.proofs.Common.{◌≡◌, ◌≤◌, ◌<◌, ◌+◌, ◌^◌, ◌++◌, ℕ, Bool, true, false, List, [], ◌∷◌, length, map, Some, refl, ap, subst, sym, arith, ◌∙◌, All}
 use Rattle.std.specs.List.{flat_map}
 use Rattle.dspec_ctf_reading.specs.Words.{Record, EnabledRows, events, Accepts, filled_packet, filled_packets, filled_size, portions, portions_from, span_by, takes_another, PacketRead, read_file}

@@ -145,7 +145,7 @@ clock-back start (ByTime frequency) rest ticking of_u low few =
     ∙ ap (λ part. then_rest part second) (decimal-back frequency (codes ";\n" ++ tail) ticking refl)
     ∙ start-back start more of_u low few
 
--- the streams, and the events behind them
+-- the streams, and the events after them
 streams-back : (form : Form) (events : List ℕ) (shapes : List EventLayout) → read_event_texts (length events) events ≡ Some shapes
     → read_streams (is_timed form) (stream_text form ++ events) ≡ Some (record { timed = is_timed form; events = shapes })
 streams-back AsTaken events shapes is = ap (option_map (λ more. record { timed = false; events = more })) is

@@ -1,4 +1,4 @@
--- What a file has isn't changed by what is written behind it.
+-- What a file has isn't changed by what is written after it.
 use Rattle.std.proofs.Common.{◌≡◌, ◌≤◌, ◌-◌, ◌++◌, ℕ, zero, suc, List, [], ◌∷◌, length, Option, Some, None, option_map, refl, ap, sym, ◌∙◌, arith}
 use Rattle.std.specs.Prelude.{option_and_then}
 use Rattle.dspec_ctf_reading.specs.Words.{Layout, PacketRead, PartRead, read_packet, read_file}

@@ -1,10 +1,10 @@
--- Loops that read one part behind another.
+-- Loops that read one part after another.
 use Rattle.std.proofs.Common.{◌≡◌, ◌<◌, ◌+◌, ◌-◌, ◌==◌, ℕ, zero, suc, false, List, [], ◌∷◌, ◌++◌, map, length, Option, Some, None, option_map, refl, ap, sym, ◌∙◌, arith, append_assoc}
 use Rattle.std.proofs.lemmas.{Bool.Decides.nat_tests, List.map-append, List.append-nil}
 use Rattle.std.specs.Prelude.{option_and_then}
 use Rattle.dspec_ctf_reading.specs.Words.{PartRead, then_read, EventLayout, rest_past, past_or, read_event_text, read_event_texts}
 
--- what is read on, behind what was found before
+-- what is read on, after what was found before
 abbrev pub found_before : {A : Type 0} → List A → PartRead (List A) → PartRead (List A)
 found_before before part = option_map (λ p. (before ++ p.0, p.1)) part
 
@@ -16,7 +16,7 @@ pub one-more : {A : Type 0} (before : List A) (x : A) (part : PartRead (List A))
 one-more before x None = refl
 one-more before x (Some p) = ap (λ xs. Some (xs, p.1)) (sym (append_assoc before (x ∷ []) p.0))
 
--- all that is read in one go, behind what was found before
+-- all that is read in one go, after what was found before
 pub one-after : {X A : Type 0} (f : X → A) (found : List X) (x : X) (part : Option (List A)) → option_map (λ more. map f found ++ more) (option_map (λ more. f x ∷ more) part)
     ≡ option_map (λ more. map f (found ++ x ∷ []) ++ more) part
 one-after f found x None = refl

@@ -82,7 +82,7 @@ front-few : (span : Option (ℕ × ℕ)) → front_size span ≤ 68
 front-few None = omega arith
 front-few (Some span) = omega arith
 
--- the events behind the front, and what fills the packet up
+-- the events after the front, and what fills the packet up
 body-back : (layout : Layout) (head body fill rest : List ℕ) (front : FrontRead) (n : ℕ) (es : List EventRead) → n ≡ length head + length body → front.content_size ≡ 8 * n
     → front.packet_size ≡ 8 * (n + length fill) → read_events layout body ≡ Some es
     → read_body layout (head ++ (body ++ (fill ++ rest))) front (body ++ (fill ++ rest))

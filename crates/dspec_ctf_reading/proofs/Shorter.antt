@@ -1,4 +1,4 @@
--- Behind a front there are no more bytes than there were; and a packet that is read is one that is split.
+-- After a front there are no more bytes than there were; and a packet that is read is one that is split.
 use Rattle.std.proofs.Common.{◌≡◌, ◌≤◌, ◌-◌, ◌/◌, ℕ, Bool, true, false, cond, List, [], ◌++◌, length, take, drop, Option, Some, None, option_map, refl, sym, subst, arith}
 use Rattle.std.specs.Prelude.{option_and_then}
 use Rattle.dspec_ctf_reading.specs.Words.{Layout, PacketRead, FrontRead, PartRead, read_front, sizes_agree, with_events, read_body, read_packet, PacketSplit, split_behind, split_packet}

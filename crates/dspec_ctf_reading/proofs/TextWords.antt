@@ -69,7 +69,7 @@ module _ (ks : List Kind) (name : ℕ → List ℕ) where
   abbrev pub piece_at : ℕ × Field → List FieldLayout
   piece_at p = piece_by (kind_of ks p.0) p
 
-  -- a field that can mean what it means, and what stands behind it
+  -- a field that can mean what it means, and what stands after it
   unfoldable pub AreFit : ℕ → List Field → Type 0
   AreFit k [] = is_next (kind_of ks k) ≡ false
   AreFit k (f ∷ fs) = ((is_text (kind_of ks k) ≡ true → width f ≡ 8) × (is_next (kind_of ks (k + 1)) ≡ true → is_text (kind_of ks k) ≡ true)) × AreFit (k + 1) fs

@@ -36,12 +36,12 @@ EventDue layout bytes (Unknown id) = (option_map (λ p. p.0) (read_number 4 byte
 EventDue layout bytes Cut = HasKnown layout bytes × (read_event layout bytes ≡ None)
 EventDue layout bytes no_memory = Unit
 
--- the bytes behind so many events
+-- the bytes after so many events
 abbrev pub behind_events : ℕ → Layout → List ℕ → Option (List ℕ)
 behind_events zero layout bytes = Some bytes
 behind_events (suc n) layout bytes = option_and_then (λ p. behind_events n layout p.1) (read_event layout bytes)
 
--- the fault is due behind so many events as it tells, at the byte that it tells
+-- the fault is due after so many events as it tells, at the byte that it tells
 abbrev pub EventsDue : Layout → List ℕ → EventsFault → Type 0
 EventsDue layout body told =
     IsSomeAnd (behind_events told.before layout body) (λ rest. (told.at + length rest ≡ length body) × EventDue layout rest told.fault)

@@ -1,4 +1,4 @@
--- Cited by calls. A packet split into its front, the bytes of its events and what is behind it, before any event is read. What fills it up behind its
+-- Cited by calls. A packet split into its front, the bytes of its events and what is after it, before any event is read. What fills it up after its
 -- events is left out.
 use Rattle.std.specs.Option.{option_and_then}
 use Rattle.std.specs.Prelude.{ℕ, ◌-◌, ◌/◌, Bool, List, length, take, drop, Option, Some, None, if◌then◌else◌}
@@ -20,7 +20,7 @@ pub record PacketSplit : Type 0 where
   pub body : List ℕ
   pub behind : List ℕ
 
--- of a packet whose sizes agree with the bytes, of which those behind its front are given besides
+-- of a packet whose sizes agree with the bytes, of which those after its front are given besides
 abbrev pub split_behind : List ℕ → FrontRead → List ℕ → Option PacketSplit
 split_behind bytes front rest =
     if sizes_agree front (length bytes - length rest) (length bytes)

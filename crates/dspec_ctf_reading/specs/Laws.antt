@@ -10,11 +10,11 @@ use Rattle.dspec_ctf_reading.specs.Words.Outside.{Record, EnabledRows, events, p
 use Rattle.dspec_ctf_reading.specs.Words.Outside.{run_files, run_packets, run_records, told_by, origin_text, Header, ProbeNames, Form, AsTaken, ByTime, Names, Origin, Run}
 use Rattle.dspec_record.specs.declared.header.Header.TheVariants as header
 
--- what was read first, and behind it the others, which this reading gives of the rest
+-- what was read first, and after it the others, which this reading gives of the rest
 abbrev pub then_others : {A : Type 0} → (List ℕ → Option (List A)) → Option (A × List ℕ) → Option (List A)
 then_others read first = option_and_then (λ p. option_map (λ others. p.0 ∷ others) (read p.1)) first
 
--- a packet that was split, with its events, and what is behind it
+-- a packet that was split, with its events, and what is after it
 abbrev pub with_its_events : Layout → PacketSplit → Option (PacketRead × List ℕ)
 with_its_events layout s = option_map (λ packet. (packet, s.behind)) (with_events layout s.front s.body)
 
@@ -38,13 +38,13 @@ abbrev pub MetadataTells : Origin → Form → EnabledRows → Names → Type 0
 MetadataTells origin form e names = read_metadata (origin_text origin form e names) ≡ Some (layout_of e names form)
 
 module _ (e : EnabledRows) (names : Names) where
-  -- the packet of records as they were taken is read as those records, and what stands behind it is left
+  -- the packet of records as they were taken is read as those records, and what stands after it is left
   abbrev pub TakenPacketsReadBack : Type 0
   TakenPacketsReadBack = (uuid : List ℕ) (missed cpu : ℕ) (rs : List Record) (rest : List ℕ)
       → length uuid ≡ 16 → missed < 2 ^ 64 → cpu < 2 ^ 32 → length (events e rs) < 2 ^ 60 → All (Accepts e) rs
       → read_packet (layout_of e names AsTaken) (packet uuid e missed cpu rs ++ rest) ≡ Some (packet_of e names AsTaken uuid None missed cpu rs, rest)
 
-  -- the packet of records by time is read as those records, and what stands behind it is left
+  -- the packet of records by time is read as those records, and what stands after it is left
   abbrev pub TimedPacketsReadBack : Type 0
   TimedPacketsReadBack = (frequency : ℕ) (uuid : List ℕ) (span : ℕ × ℕ) (missed cpu : ℕ) (rs : List Record) (rest : List ℕ)
       → e.header ≡ header.Two → length uuid ≡ 16 → span.0 < 2 ^ 64 → span.1 < 2 ^ 64 → missed < 2 ^ 64 → cpu < 2 ^ 32

@@ -28,6 +28,6 @@ abbrev pub read_enumeration : List ℕ → PartRead ℕ
 read_enumeration bytes =
     then_read (read_type_of whole_types bytes) (λ width rest. past (codes " { ") rest (λ rest. option_map (λ p. (width, p.1)) (read_labels (length rest) rest)))
 
--- what is behind the types and the trace, up to the environment
+-- what is after the types and the trace, up to the environment
 abbrev pub read_trace : List ℕ → Option (List ℕ)
 read_trace bytes = past types_lines bytes (λ rest. past trace_lines rest (λ rest. then_rest (read_quoted rest) (rest_past header_lines)))

@@ -1,5 +1,5 @@
 -- Cited by calls. What the bytes of a trace's files say, in the Common Trace Format, version 1.8, by what its metadata tells of them. Numbers are
--- little-endian, and nothing stands between two parts. A packet may be longer than what it has: the bytes behind its events say nothing, whatever they
+-- little-endian, and nothing stands between two parts. A packet may be longer than what it has: the bytes after its events say nothing, whatever they
 -- are. What is none of this is refused.
 use Rattle.std.specs.List.{flat_map}
 use Rattle.std.specs.Option.{option_map, option_and_then}
@@ -44,11 +44,11 @@ pub record PacketRead : Type 0 where
 
 -- ---- the parts
 
--- a part that was read from the front of the bytes, and the bytes behind it; or nothing, where they don't begin with such a part
+-- a part that was read from the front of the bytes, and the bytes after it; or nothing, where they don't begin with such a part
 abbrev pub PartRead : Type 0 → Type 0
 PartRead A = Option (A × List ℕ)
 
--- goes on behind a part
+-- goes on after a part
 abbrev pub then_read : {A B : Type 0} → PartRead A → (A → List ℕ → PartRead B) → PartRead B
 then_read part f = option_and_then (λ p. f p.0 p.1) part
 
@@ -79,19 +79,19 @@ abbrev pub find_event : ℕ → List EventLayout → Option EventLayout
 find_event id [] = None
 find_event id (event ∷ events) = if event.id == id then Some event else find_event id events
 
--- a value for each field, one behind another
+-- a value for each field, one after another
 abbrev pub read_payload : List FieldLayout → List ℕ → PartRead (List (List ℕ × ℕ))
 read_payload [] bytes = Some ([], bytes)
 read_payload (field ∷ fields) bytes =
     then_read (read_number field.width bytes) (λ value rest. option_map (λ p. ((field.name, value) ∷ p.0, p.1)) (read_payload fields rest))
 
--- what stands behind an event's number: its stamp, then its values
+-- what stands after an event's number: its stamp, then its values
 abbrev pub read_event_body : Bool → EventLayout → List ℕ → PartRead EventRead
 read_event_body timed event bytes =
     then_read (read_stamp timed bytes) (λ stamp rest.
     option_map (λ p. (record { id = event.id; name = event.name; stamp = stamp; values = p.0 }, p.1)) (read_payload event.fields rest))
 
--- an event: a number that the metadata knows, in four bytes, and what stands behind it
+-- an event: a number that the metadata knows, in four bytes, and what stands after it
 abbrev pub read_event : Layout → List ℕ → PartRead EventRead
 read_event layout bytes =
     then_read (read_number 4 bytes) (λ id rest. option_and_then (λ event. read_event_body layout.timed event rest) (find_event id layout.events))
@@ -129,7 +129,7 @@ read_header bytes =
     then_read (read_this 4 3254525889 bytes) (λ _ rest.
     then_read (read_bytes 16 rest) (λ uuid rest. option_map (λ p. (uuid, p.1)) (read_this 4 0 rest)))
 
--- behind the stamps: the size of what the packet has, its front and its events, its own size, how many events were missed so far, and the CPU
+-- after the stamps: the size of what the packet has, its front and its events, its own size, how many events were missed so far, and the CPU
 abbrev pub read_counts : List ℕ → Option (ℕ × ℕ) → List ℕ → PartRead FrontRead
 read_counts uuid span bytes =
     then_read (read_number 8 bytes) (λ content_size rest.
@@ -138,7 +138,7 @@ read_counts uuid span bytes =
     option_map (λ p. (record { uuid = uuid; span = span; content_size = content_size; packet_size = packet_size; discarded = discarded; cpu = p.0 }, p.1))
     (read_number 4 rest))))
 
--- the header, and the context behind it
+-- the header, and the context after it
 abbrev pub read_front : Bool → List ℕ → PartRead FrontRead
 read_front timed bytes =
     then_read (read_header bytes) (λ uuid rest. then_read (read_span timed rest) (λ span rest. read_counts uuid span rest))
@@ -157,8 +157,8 @@ with_events layout front body =
     option_map (λ events. record { uuid = front.uuid; cpu = front.cpu; discarded = front.discarded; span = front.span; events = events })
     (read_events layout body)
 
--- A packet: its front, then events up to the end of its content. What is behind them up to its own end is passed over. All bytes are given besides
--- those behind the front, for the sizes.
+-- A packet: its front, then events up to the end of its content. What is after them up to its own end is passed over. All bytes are given besides
+-- those after the front, for the sizes.
 abbrev pub read_body : Layout → List ℕ → FrontRead → List ℕ → PartRead PacketRead
 read_body layout bytes front rest =
     if sizes_agree front (length bytes - length rest) (length bytes)
@@ -169,7 +169,7 @@ read_body layout bytes front rest =
 abbrev pub read_packet : Layout → List ℕ → PartRead PacketRead
 read_packet layout bytes = then_read (read_front layout.timed bytes) (λ front rest. read_body layout bytes front rest)
 
--- packets one behind another up to the end of the bytes, of so many at most; as with events, as many as there are bytes are enough
+-- packets one after another up to the end of the bytes, of so many at most; as with events, as many as there are bytes are enough
 abbrev pub read_packets_within : ℕ → Layout → List ℕ → Option (List PacketRead)
 read_packets_within most layout [] = Some []
 read_packets_within zero layout (b ∷ bytes) = None

@@ -7,26 +7,26 @@ use Rattle.dspec_ctf_reading.specs.Reading.{FieldLayout, EventLayout, Layout, Pa
 
 -- ---- the parts of a text
 
--- what stands behind this text, where the bytes begin with it
+-- what stands after this text, where the bytes begin with it
 abbrev pub rest_past : List ℕ → List ℕ → Option (List ℕ)
 rest_past [] bytes = Some bytes
 rest_past (c ∷ text) [] = None
 rest_past (c ∷ text) (b ∷ bytes) = if b == c then rest_past text bytes else None
 
--- goes on behind this text
+-- goes on after this text
 abbrev pub past : {A : Type 0} → List ℕ → List ℕ → (List ℕ → Option A) → Option A
 past text bytes f = option_and_then f (rest_past text bytes)
 
--- goes on behind this text where it is there, and else in another way
+-- goes on after this text where it is there, and else in another way
 abbrev pub past_or : {A : Type 0} → Option (List ℕ) → (List ℕ → A) → A → A
 past_or None f other = other
 past_or (Some rest) f other = f rest
 
--- goes on behind a part, which tells nothing of the layout
+-- goes on after a part, which tells nothing of the layout
 abbrev pub then_rest : {A B : Type 0} → PartRead A → (List ℕ → Option B) → Option B
 then_rest part f = option_and_then (λ p. f p.1) part
 
--- goes on with a part and what is behind it
+-- goes on with a part and what is after it
 abbrev pub with_part : {A B : Type 0} → PartRead A → (A → List ℕ → Option B) → Option B
 with_part part f = option_and_then (λ p. f p.0 p.1) part
 
@@ -57,7 +57,7 @@ is_word b = ((nat_le 65 b && nat_le b 90) || ((nat_le 97 b && nat_le b 122) || b
 abbrev pub read_word : List ℕ → PartRead (List ℕ)
 read_word bytes = read_run is_word bytes
 
--- a text in quotes, behind the first of them: printable ASCII without quotes and backslashes
+-- a text in quotes, after the first of them: printable ASCII without quotes and backslashes
 unfoldable pub is_quoted : ℕ → Bool
 is_quoted b = (nat_le 32 b && nat_le b 126) && not (b == 34 || b == 92)
 
@@ -90,7 +90,7 @@ read_label bytes =
     past (codes "\" = ") rest (λ rest.
     then_read (read_decimal rest) (λ number rest. past (codes ", ") rest (λ rest. Some ((label, number), rest))))))
 
--- labels up to the brace behind them, of so many at most; a label takes some bytes, so as many as there are bytes are enough
+-- labels up to the brace after them, of so many at most; a label takes some bytes, so as many as there are bytes are enough
 abbrev pub read_labels : ℕ → List ℕ → PartRead (List (List ℕ × ℕ))
 read_labels zero bytes = None
 read_labels (suc most) bytes =

@@ -15,7 +15,7 @@ use std::alloc::{AllocError, Global};
 /// What stands before a text's name.
 const TEXT_FRONT: &str = "integer { size = 8; align = 8; signed = false; encoding = UTF8; } ";
 
-/// A field of numbers, and the bytes behind its line.
+/// A field of numbers, and the bytes after its line.
 fn number_field<'t>(alloc: Global, bytes: &'t [u8]) -> Result<(FieldText<'t>, &'t [u8]), ReadStop>
     ensures { Gives result (λ p. (told_field p.0, p.1.now)) (read_number_field bytes.now) }
 {
@@ -71,7 +71,7 @@ fn words<'t>(
     Ok(Some(some_words(alloc, name, size / 8)?))
 }
 
-/// A text, from its name on: its words, and the bytes behind its line.
+/// A text, from its name on: its words, and the bytes after its line.
 fn text_field<'t>(
     alloc: Global,
     bytes: &'t [u8],
@@ -91,7 +91,7 @@ fn text_field<'t>(
     }
 }
 
-/// A line: the field that it tells, or the words of a text, and the bytes behind it.
+/// A line: the field that it tells, or the words of a text, and the bytes after it.
 fn field<'t>(alloc: Global, bytes: &'t [u8]) -> Result<(Vec<FieldText<'t>>, &'t [u8]), ReadStop>
     ensures { Gives result (λ p. (map told_field p.0.items, p.1.now)) (read_field bytes.now) }
 {
@@ -105,7 +105,7 @@ fn field<'t>(alloc: Global, bytes: &'t [u8]) -> Result<(Vec<FieldText<'t>>, &'t 
     Ok((fields, rest))
 }
 
-/// Fields up to the end of their event, and the bytes behind it.
+/// Fields up to the end of their event, and the bytes after it.
 fn fields<'t>(alloc: Global, bytes: &'t [u8]) -> Result<(Vec<FieldText<'t>>, &'t [u8]), ReadStop>
     ensures { Gives result (λ p. (map told_field p.0.items, p.1.now)) (read_fields (length bytes.now) bytes.now) }
 {
@@ -125,7 +125,7 @@ fn fields<'t>(alloc: Global, bytes: &'t [u8]) -> Result<(Vec<FieldText<'t>>, &'t
     })
 }
 
-/// An event, and the bytes behind it.
+/// An event, and the bytes after it.
 fn event<'t>(alloc: Global, bytes: &'t [u8]) -> Result<(EventText<'t>, &'t [u8]), ReadStop>
     ensures { Gives result (λ p. (told_event p.0, p.1.now)) (read_event_text bytes.now) }
 {

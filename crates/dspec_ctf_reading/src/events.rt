@@ -36,7 +36,7 @@ fn find<'m, 't>(events: &'m [EventText<'t>], id: u32) -> Option<(usize, &'m Even
     None
 }
 
-/// The text of the event with which these bytes begin, its place, and the bytes behind the event's number.
+/// The text of the event with which these bytes begin, its place, and the bytes after the event's number.
 fn heading<'m, 't, 'b>(
     metadata: &'m Metadata<'t>,
     bytes: &'b [u8],
@@ -58,7 +58,7 @@ fn heading<'m, 't, 'b>(
     }
 }
 
-/// A number for each field, and the bytes behind them.
+/// A number for each field, and the bytes after them.
 fn payload<'b>(
     alloc: Global,
     fields: &[FieldText<'_>],
@@ -82,7 +82,7 @@ fn payload<'b>(
     Ok((values, rest))
 }
 
-/// The bytes behind the numbers of the fields.
+/// The bytes after the numbers of the fields.
 fn behind_payload<'b>(fields: &[FieldText<'_>], bytes: &'b [u8]) -> Option<&'b [u8]>
     ensures read { option_map (λ rest. rest.now) result ≡ option_map (λ p. p.1) (read_payload (map told_field fields.now) bytes.now) }
     ensures within { IfSome result (λ rest. length rest.now ≤ length bytes.now) }
@@ -97,7 +97,7 @@ fn behind_payload<'b>(fields: &[FieldText<'_>], bytes: &'b [u8]) -> Option<&'b [
     Some(rest)
 }
 
-/// The event with which these bytes begin, and those behind it.
+/// The event with which these bytes begin, and those after it.
 pub fn read_event<'b>(
     alloc: Global,
     metadata: &Metadata<'_>,
@@ -124,7 +124,7 @@ pub fn read_event<'b>(
     ))
 }
 
-/// The bytes behind the event with which these begin.
+/// The bytes after the event with which these begin.
 fn behind_event<'b>(metadata: &Metadata<'_>, bytes: &'b [u8]) -> Result<&'b [u8], EventFault>
     ensures read { IfOk result (λ rest. option_map (λ p. p.1) (event_from (told_layout metadata.now) bytes.now) ≡ Some rest.now) }
     ensures shorter { IfOk result (λ rest. length rest.now < length bytes.now) }

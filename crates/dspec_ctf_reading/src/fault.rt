@@ -146,11 +146,11 @@ pub enum PacketReadFault {
     /// The content ends before the events begin.
     #[error("content of {0} bits ends before the events")]
     BeforeEvents(u64),
-    /// The content ends behind the packet.
-    #[error("content of {content} bits ends behind its packet of {packet}")]
+    /// The content ends after the packet.
+    #[error("content of {content} bits ends after its packet of {packet}")]
     BehindPacket { content: u64, packet: u64 },
-    /// The packet ends behind the bytes.
-    #[error("a packet of {0} bits ends behind the file")]
+    /// The packet ends after the bytes.
+    #[error("a packet of {0} bits ends after the file")]
     BehindFile(u64),
 }
 

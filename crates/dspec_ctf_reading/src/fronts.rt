@@ -21,18 +21,18 @@ pub struct Front {
     pub cpu: u32,
 }
 
-/// A packet, and what stands behind it.
+/// A packet, and what stands after it.
 #[derive(Debug, Clone, Copy)]
 pub struct SplitPacket<'b> {
     /// What it tells before its events.
     pub front: Front,
     /// The bytes of its events, up to the end of its content.
     pub body: &'b [u8],
-    /// The bytes behind it.
+    /// The bytes after it.
     pub behind: &'b [u8],
 }
 
-/// A number of four bytes, and those behind it.
+/// A number of four bytes, and those after it.
 fn four(bytes: &[u8]) -> Option<(u32, &[u8])>
     ensures { option_map (λ p. (p.0, p.1.now)) result ≡ read_number 4 bytes.now }
 {
@@ -40,7 +40,7 @@ fn four(bytes: &[u8]) -> Option<(u32, &[u8])>
     Some((u32::from_le_bytes(*number), rest))
 }
 
-/// A number of eight bytes, and those behind it.
+/// A number of eight bytes, and those after it.
 fn eight(bytes: &[u8]) -> Option<(u64, &[u8])>
     ensures { option_map (λ p. (p.0, p.1.now)) result ≡ read_number 8 bytes.now }
 {
@@ -48,7 +48,7 @@ fn eight(bytes: &[u8]) -> Option<(u64, &[u8])>
     Some((u64::from_le_bytes(*number), rest))
 }
 
-/// Two stamps, where there is a clock, and the bytes behind them.
+/// Two stamps, where there is a clock, and the bytes after them.
 fn span_at(timed: bool, bytes: &[u8]) -> Option<(Option<(u64, u64)>, &[u8])>
     ensures { option_map (λ p. (p.0, p.1.now)) result ≡ read_span timed bytes.now }
 {
@@ -60,7 +60,7 @@ fn span_at(timed: bool, bytes: &[u8]) -> Option<(Option<(u64, u64)>, &[u8])>
     Some((Some((begin, end)), rest))
 }
 
-/// The uuid of a packet's header, and the bytes behind the header.
+/// The uuid of a packet's header, and the bytes after the header.
 fn header_at(bytes: &[u8]) -> Option<([u8; 16], &[u8])>
     ensures { option_map (λ p. (p.0, p.1.now)) result ≡ read_header bytes.now }
 {
@@ -76,7 +76,7 @@ fn header_at(bytes: &[u8]) -> Option<([u8; 16], &[u8])>
     Some((*uuid, rest))
 }
 
-/// What stands behind the stamps, with what was read before, and the bytes behind.
+/// What stands after the stamps, with what was read before, and the bytes after.
 fn counts_at(uuid: [u8; 16], span: Option<(u64, u64)>, bytes: &[u8]) -> Option<(Front, &[u8])>
     ensures { option_map (λ p. (front_of p.0, p.1.now)) result ≡ read_counts uuid span bytes.now }
 {
@@ -97,7 +97,7 @@ fn counts_at(uuid: [u8; 16], span: Option<(u64, u64)>, bytes: &[u8]) -> Option<(
     ))
 }
 
-/// The front of the packet with which these bytes begin, of a trace with a clock or without, and the bytes behind it; None where they
+/// The front of the packet with which these bytes begin, of a trace with a clock or without, and the bytes after it; None where they
 /// begin with no front.
 pub fn read_front(timed: bool, bytes: &[u8]) -> Option<(Front, &[u8])>
     ensures { option_map (λ p. (front_of p.0, p.1.now)) result ≡ front_read timed bytes.now }
@@ -107,7 +107,7 @@ pub fn read_front(timed: bool, bytes: &[u8]) -> Option<(Front, &[u8])>
     counts_at(uuid, span, rest)
 }
 
-/// The packet with which these bytes begin: its front, and the bytes of its events up to the end of its content. What fills it up behind
+/// The packet with which these bytes begin: its front, and the bytes of its events up to the end of its content. What fills it up after
 /// them is passed over. None where the bytes begin with no front, and where its sizes don't agree with each other and with the bytes.
 pub fn split_packet(timed: bool, bytes: &[u8]) -> Option<SplitPacket<'_>>
     ensures { option_map (λ p. record { front = front_of p.front; body = p.body.now; behind = p.behind.now }) result ≡ packet_split timed bytes.now }

@@ -19,7 +19,7 @@ const TRACE: &str = "\ntrace {\n\tmajor = 1;\n\tminor = 8;\n\tuuid = \"";
 const HEADER: &str =
     "\";\n\tbyte_order = le;\n\tpacket.header := struct {\n\t\tuint32_t magic;\n\t\tuint8_t uuid[16];\n\t\tuint32_t stream_id;\n\t};\n};\n\nenv {\n";
 
-/// The type of the clock's stamps, behind the clock.
+/// The type of the clock's stamps, after the clock.
 const CLOCK_END: &str =
     "};\n\ntypealias integer { size = 64; align = 8; signed = false; map = clock.stamp.value; } := stamp_t;\n";
 
@@ -31,7 +31,7 @@ const STREAM: &str =
 const TIMED_STREAM: &str =
     "\nstream {\n\tid = 0;\n\tpacket.context := struct {\n\t\tstamp_t timestamp_begin;\n\t\tstamp_t timestamp_end;\n\t\tuint64_t content_size;\n\t\tuint64_t packet_size;\n\t\tuint64_t events_discarded;\n\t\tuint32_t cpu_id;\n\t};\n\tevent.header := struct {\n\t\tuint32_t id;\n\t\tstamp_t timestamp;\n\t};\n};\n";
 
-/// The text of the trace's uuid, and the bytes behind the lines in which it stands.
+/// The text of the trace's uuid, and the bytes after the lines in which it stands.
 pub(crate) fn trace(bytes: &[u8]) -> Result<(&str, &[u8]), ReadStop>
     ensures { Gives result (λ p. p.1.now) (read_trace bytes.now) }
 {
@@ -42,7 +42,7 @@ pub(crate) fn trace(bytes: &[u8]) -> Result<(&str, &[u8]), ReadStop>
     Ok((uuid, rest))
 }
 
-/// The process, where it is told, and the bytes behind it.
+/// The process, where it is told, and the bytes after it.
 pub(crate) fn process(bytes: &[u8]) -> Result<(Option<ToldProcess<'_>>, &[u8]), ReadStop>
     ensures { Gives result (λ p. p.1.now) (read_process bytes.now) }
 {
@@ -58,7 +58,7 @@ pub(crate) fn process(bytes: &[u8]) -> Result<(Option<ToldProcess<'_>>, &[u8]), 
     Ok((Some(ToldProcess { host, name, pid }), rest))
 }
 
-/// The text of the clock's uuid, where it is told, and the bytes behind it.
+/// The text of the clock's uuid, where it is told, and the bytes after it.
 fn clock_uuid(bytes: &[u8]) -> Result<(Option<&str>, &[u8]), ReadStop>
     ensures { Gives result (λ p. p.1.now) (read_clock_uuid bytes.now) }
 {
@@ -70,7 +70,7 @@ fn clock_uuid(bytes: &[u8]) -> Result<(Option<&str>, &[u8]), ReadStop>
     Ok((Some(uuid), rest))
 }
 
-/// Where the clock began, where it is told, and the bytes behind it.
+/// Where the clock began, where it is told, and the bytes after it.
 fn clock_start(bytes: &[u8]) -> Result<(Option<(u64, u64)>, &[u8]), ReadStop>
     ensures { Gives result (λ p. p.1.now) (read_clock_start bytes.now) }
 {
@@ -84,7 +84,7 @@ fn clock_start(bytes: &[u8]) -> Result<(Option<(u64, u64)>, &[u8]), ReadStop>
     Ok((Some((seconds, ticks)), rest))
 }
 
-/// The clock, where there is one, and the bytes behind it.
+/// The clock, where there is one, and the bytes after it.
 pub(crate) fn clock(bytes: &[u8]) -> Result<(Option<ClockText<'_>>, &[u8]), ReadStop>
     ensures { Gives result (λ p. (is_some p.0, p.1.now)) (read_clock bytes.now) }
 {
@@ -106,7 +106,7 @@ pub(crate) fn clock(bytes: &[u8]) -> Result<(Option<ClockText<'_>>, &[u8]), Read
     ))
 }
 
-/// What is behind the streams of a trace with a clock or without.
+/// What is after the streams of a trace with a clock or without.
 pub(crate) fn streams(timed: bool, bytes: &[u8]) -> Result<&[u8], ReadStop>
     ensures { Gives result (λ rest. rest.now) (rest_past (stream_lines timed) bytes.now) }
 {

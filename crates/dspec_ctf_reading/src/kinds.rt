@@ -12,7 +12,7 @@ use dspec_probe::Kind;
 use dspec_record::Field;
 use std::alloc::Global;
 
-/// The type of numbers with this text, and the bytes behind it.
+/// The type of numbers with this text, and the bytes after it.
 fn unsigned(bytes: &[u8]) -> Option<(Field, &[u8])>
     ensures { option_map (λ p. (bytes_of p.0, p.1.now)) result ≡ read_type_of (take 4 whole_types) bytes.now }
 {
@@ -63,7 +63,7 @@ fn float(bytes: &[u8]) -> Option<(Field, &[u8])>
     Some((Field::Eight, rest))
 }
 
-/// A type of whole numbers: how wide they are and what they mean, and the bytes behind it.
+/// A type of whole numbers: how wide they are and what they mean, and the bytes after it.
 fn whole(bytes: &[u8]) -> Option<(Field, Kind, &[u8])>
     ensures { option_map (λ p. (bytes_of p.0, p.2.now)) result ≡ read_type_of whole_types bytes.now }
 {
@@ -93,7 +93,7 @@ fn no_type(bytes: &[u8]) -> ReadStop {
     }
 }
 
-/// A label, and the bytes behind it.
+/// A label, and the bytes after it.
 fn label(bytes: &[u8]) -> Result<(Label<'_>, &[u8]), ReadStop>
     ensures { Gives result (λ p. (told_label p.0, p.1.now)) (read_label bytes.now) }
 {
@@ -105,7 +105,7 @@ fn label(bytes: &[u8]) -> Result<(Label<'_>, &[u8]), ReadStop>
     Ok((Label { text, number }, rest))
 }
 
-/// Labels up to the brace behind them, and the bytes behind it.
+/// Labels up to the brace after them, and the bytes after it.
 fn labels<'t>(alloc: Global, bytes: &'t [u8]) -> Result<(Vec<Label<'t>>, &'t [u8]), ReadStop>
     ensures { Gives result (λ p. (map told_label p.0.items, p.1.now)) (read_labels (length bytes.now) bytes.now) }
 {
@@ -136,7 +136,7 @@ pub(crate) struct Numbers<'t> {
     pub(crate) labels: Vec<Label<'t>>,
 }
 
-/// An enumeration, from the type of its numbers on, and the bytes behind it.
+/// An enumeration, from the type of its numbers on, and the bytes after it.
 fn enumeration<'t>(alloc: Global, bytes: &'t [u8]) -> Result<(Numbers<'t>, &'t [u8]), ReadStop>
     ensures { Gives result (λ p. (bytes_of p.0.width, p.1.now)) (read_enumeration bytes.now) }
 {
@@ -155,7 +155,7 @@ fn enumeration<'t>(alloc: Global, bytes: &'t [u8]) -> Result<(Numbers<'t>, &'t [
     ))
 }
 
-/// A field's type, and the bytes behind it.
+/// A field's type, and the bytes after it.
 pub(crate) fn field_type<'t>(
     alloc: Global,
     bytes: &'t [u8],

@@ -31,13 +31,13 @@ pub fn packet_is_split()
     ensures { (layout : Layout) (bytes : List ℕ) → read_packet layout bytes ≡ option_and_then (λ s. with_its_events layout s) (split_packet layout.timed bytes) }
 {}
 
-/// What is written behind a file changes nothing of what the file has, and is read behind it.
+/// What is written after a file changes nothing of what the file has, and is read after it.
 pub fn files_join()
     ensures { (layout : Layout) (a b : List ℕ) (ps qs : List PacketRead) → read_file layout a ≡ Some ps → read_file layout b ≡ Some qs
         → read_file layout (a ++ b) ≡ Some (ps ++ qs) }
 {}
 
-/// Two packets by hand say what they were made to say, alone and one behind another; and one that is filled up says the same.
+/// Two packets by hand say what they were made to say, alone and one after another; and one that is filled up says the same.
 pub fn worked_packets()
     ensures taken { read_packet (sample_layout false) sample_bytes ≡ Some (sample_packet, []) }
     ensures timed { read_packet (sample_layout true) (stamped_bytes ++ 255 ∷ []) ≡ Some (stamped_packet, 255 ∷ []) }
@@ -46,7 +46,7 @@ pub fn worked_packets()
 {}
 
 /// What is no packet is refused: bytes that are cut short, that begin late or are of a trace of the other form; another magic number, another
-/// stream; content that ends within a byte, before the events or behind its packet; a packet that ends within a byte or behind the file; an
+/// stream; content that ends within a byte, before the events or after its packet; a packet that ends within a byte or after the file; an
 /// event that nobody knows, and one that is cut.
 pub fn worked_refusals()
     ensures short { read_packet (sample_layout false) (take 74 sample_bytes) ≡ None }
@@ -65,13 +65,13 @@ pub fn worked_refusals()
 {}
 
 /// What is read of a packet that was written is the records that were written, each with its values under its names, in order, with what
-/// was missed, the CPU and the trace; and what stands behind the packet is left.
+/// was missed, the CPU and the trace; and what stands after the packet is left.
 pub fn packet_reads_back()
     ensures taken { (e : EnabledRows) (names : Names) → TakenPacketsReadBack e names }
     ensures timed { (e : EnabledRows) (names : Names) → TimedPacketsReadBack e names }
 {}
 
-/// What is read of the packets of 1,024 bytes of records, in a trace of either form, is those records, each packet's behind another's.
+/// What is read of the packets of 1,024 bytes of records, in a trace of either form, is those records, each packet's after another's.
 pub fn filled_packets_read_back()
     ensures { (e : EnabledRows) (names : Names) (form : Form) → FilledPacketsReadBack e names form }
 {}
@@ -98,7 +98,7 @@ pub fn timed_file_reads_back()
 
 /// What a batch adds to a CPU's files while it runs. By time each file tells those of the records that go to it, in order, and the first alone
 /// what was missed; two packets without events tell what was missed where no records come. As taken the CPU's file tells all records of its
-/// batches in order, and what was missed up to the last. What is added to a file is read behind what it has (`files_join`).
+/// batches in order, and what was missed up to the last. What is added to a file is read after what it has (`files_join`).
 pub fn live_file_reads_back()
     ensures runs { (e : EnabledRows) (names : Names) → RunsReadBack e names }
     ensures missed { (e : EnabledRows) (names : Names) → MissedReadsBack e names }

@@ -6,7 +6,7 @@ ghost use Rattle.dspec_ctf_reading.specs.Reading.{read_number, read_stamp};
 
 use dspec_record::Field;
 
-/// A number of one byte, and the bytes behind it.
+/// A number of one byte, and the bytes after it.
 fn one(bytes: &[u8]) -> Option<(u8, &[u8])>
     ensures read { option_map (λ p. (p.0, p.1.now)) result ≡ read_number 1 bytes.now }
     ensures shorter { IfSome result (λ p. length p.1.now < length bytes.now) }
@@ -15,7 +15,7 @@ fn one(bytes: &[u8]) -> Option<(u8, &[u8])>
     Some((chunk[0], rest))
 }
 
-/// A number of two bytes, and those behind it.
+/// A number of two bytes, and those after it.
 fn two(bytes: &[u8]) -> Option<(u16, &[u8])>
     ensures read { option_map (λ p. (p.0, p.1.now)) result ≡ read_number 2 bytes.now }
     ensures shorter { IfSome result (λ p. length p.1.now < length bytes.now) }
@@ -24,7 +24,7 @@ fn two(bytes: &[u8]) -> Option<(u16, &[u8])>
     Some((u16::from_le_bytes(*chunk), rest))
 }
 
-/// A number of four bytes, and those behind it.
+/// A number of four bytes, and those after it.
 pub(crate) fn four(bytes: &[u8]) -> Option<(u32, &[u8])>
     ensures read { option_map (λ p. (p.0, p.1.now)) result ≡ read_number 4 bytes.now }
     ensures shorter { IfSome result (λ p. length p.1.now < length bytes.now) }
@@ -33,7 +33,7 @@ pub(crate) fn four(bytes: &[u8]) -> Option<(u32, &[u8])>
     Some((u32::from_le_bytes(*chunk), rest))
 }
 
-/// A number of eight bytes, and those behind it.
+/// A number of eight bytes, and those after it.
 fn eight(bytes: &[u8]) -> Option<(u64, &[u8])>
     ensures read { option_map (λ p. (p.0, p.1.now)) result ≡ read_number 8 bytes.now }
     ensures shorter { IfSome result (λ p. length p.1.now < length bytes.now) }
@@ -42,7 +42,7 @@ fn eight(bytes: &[u8]) -> Option<(u64, &[u8])>
     Some((u64::from_le_bytes(*chunk), rest))
 }
 
-/// A number of the field's width, and the bytes behind it.
+/// A number of the field's width, and the bytes after it.
 pub(crate) fn number(width: Field, bytes: &[u8]) -> Option<(u64, &[u8])>
     ensures read { option_map (λ p. (p.0, p.1.now)) result ≡ read_number (bytes_of width) bytes.now }
     ensures shorter { IfSome result (λ p. length p.1.now < length bytes.now) }
@@ -64,7 +64,7 @@ pub(crate) fn number(width: Field, bytes: &[u8]) -> Option<(u64, &[u8])>
     }
 }
 
-/// A stamp, where there is a clock, and the bytes behind it.
+/// A stamp, where there is a clock, and the bytes after it.
 pub(crate) fn stamp(timed: bool, bytes: &[u8]) -> Option<(Option<u64>, &[u8])>
     ensures read { option_map (λ p. (p.0, p.1.now)) result ≡ read_stamp timed bytes.now }
     ensures within { IfSome result (λ p. length p.1.now ≤ length bytes.now) }

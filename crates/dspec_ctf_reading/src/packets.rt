@@ -69,7 +69,7 @@ fn size_fault(front: &Front, read: usize, there: usize) -> PacketReadFault
     PacketReadFault::BehindFile(front.packet_size)
 }
 
-/// The packet with which these bytes begin: its front, the bytes of its events, and those behind it. `timed` says whether the trace has a
+/// The packet with which these bytes begin: its front, the bytes of its events, and those after it. `timed` says whether the trace has a
 /// clock.
 pub fn next_packet(timed: bool, bytes: &[u8]) -> Result<SplitPacket<'_>, PacketReadFault>
     ensures read { IfOk result (λ packet. packet_split timed bytes.now ≡ Some (told_packet packet)) }

@@ -7,7 +7,7 @@ ghost use Rattle.dspec_ctf_reading.specs.ReadingMetadata.{digits_number, read_de
 
 use crate::fault::{Expected, ReadStop};
 
-/// What is behind this text, where the bytes begin with it.
+/// What is after this text, where the bytes begin with it.
 pub(crate) fn behind<'t>(bytes: &'t [u8], text: &str) -> Option<&'t [u8]>
     ensures { option_map (λ rest. rest.now) result ≡ rest_past text.now bytes.now }
 {
@@ -24,7 +24,7 @@ fn left_from(bytes: &[u8], text: &str) -> usize {
     bytes.len().saturating_sub(text.len())
 }
 
-/// What is behind this text, with which the bytes have to begin.
+/// What is after this text, with which the bytes have to begin.
 pub(crate) fn past<'t>(
     bytes: &'t [u8],
     text: &'static str,
@@ -41,7 +41,7 @@ pub(crate) fn past<'t>(
     }
 }
 
-/// What is behind a short text, with which the bytes have to begin.
+/// What is after a short text, with which the bytes have to begin.
 pub(crate) fn past_text<'t>(bytes: &'t [u8], text: &'static str) -> Result<&'t [u8], ReadStop>
     ensures { Gives result (λ rest. rest.now) (rest_past text.now bytes.now) }
 {
@@ -86,7 +86,7 @@ fn run_len(set: Set, bytes: &[u8]) -> usize
     bytes.len()
 }
 
-/// The bytes of the set with which the bytes begin, one or more, as text, and those behind them.
+/// The bytes of the set with which the bytes begin, one or more, as text, and those after them.
 pub(crate) fn run<'t>(set: Set, bytes: &'t [u8]) -> Option<(&'t str, &'t [u8])>
     ensures { option_map (λ p. (p.0.now, p.1.now)) result ≡ read_run (test_of set) bytes.now }
 {
@@ -101,7 +101,7 @@ pub(crate) fn run<'t>(set: Set, bytes: &'t [u8]) -> Option<(&'t str, &'t [u8])>
     Some((text, rest))
 }
 
-/// A word, and the bytes behind it.
+/// A word, and the bytes after it.
 pub(crate) fn word(bytes: &[u8]) -> Result<(&str, &[u8]), ReadStop>
     ensures { Gives result (λ p. (p.0.now, p.1.now)) (read_word bytes.now) }
 {
@@ -114,7 +114,7 @@ pub(crate) fn word(bytes: &[u8]) -> Result<(&str, &[u8]), ReadStop>
     }
 }
 
-/// A text that stands in quotes, behind the first of them, and the bytes behind it.
+/// A text that stands in quotes, after the first of them, and the bytes after it.
 pub(crate) fn quoted(bytes: &[u8]) -> Result<(&str, &[u8]), ReadStop>
     ensures { Gives result (λ p. (p.0.now, p.1.now)) (read_quoted bytes.now) }
 {
@@ -150,7 +150,7 @@ fn number_of(digits: &[u8]) -> Option<u64>
     Some(number)
 }
 
-/// A number by its digits, and the bytes behind it.
+/// A number by its digits, and the bytes after it.
 pub(crate) fn decimal(bytes: &[u8]) -> Result<(u64, &[u8]), ReadStop>
     ensures { Gives result (λ p. (p.0, p.1.now)) (read_decimal bytes.now) }
 {

@@ -54,7 +54,7 @@ pub struct ClockText<'t> {
     pub frequency: u64,
     /// Its own uuid's text, where it is told.
     pub uuid: Option<&'t str>,
-    /// Where it began, where that is told: whole seconds from the beginning of 1970 on, and ticks behind them.
+    /// Where it began, where that is told: whole seconds from the beginning of 1970 on, and ticks after them.
     pub start: Option<(u64, u64)>,
 }
 

@@ -1,4 +1,4 @@
--- Bytes that are written behind others, in part or whole, and cut off again.
+-- Bytes that are written after others, in part or whole, and cut off again.
 use Rattle.std.proofs.{Common.◌≡◌, Common.◌≤◌, Common.◌+◌, Common.◌-◌, Common.◌++◌, Common.List, Common.[], Common.ℕ, Common.ap, Common.sym, Common.◌∙◌, Common.append_assoc, Common.arith}
 use Rattle.std.proofs.{Common.take, Common.drop, Math.Seq.take-add, lemmas.List.take_at, lemmas.List.append-nil}
 use Rattle.std.specs.{Io.KnownBytes.Appends, Io.KnownBytes.Keeps, Prelude.Option, Prelude.Some, Prelude.None}
@@ -9,7 +9,7 @@ split bs at to below =
     let sum : to ≡ at + (to - at) = omega (arith, below) in
     ap (λ n. take n bs) sum ∙ take-add at (to - at) bs
 
--- some more bytes are written behind the first of them
+-- some more bytes are written after the first of them
 pub appends-more : (old mid new : Option (List ℕ)) (bs : List ℕ) (at to : ℕ) → at ≤ to → Appends old mid (take at bs) → Appends mid new (take (to - at) (drop at bs))
     → Appends old new (take to bs)
 appends-more None mid new bs at to below first more = record {}
@@ -18,7 +18,7 @@ appends-more (Some xs) (Some ys) None bs at to below first more = elim more [ ]
 appends-more (Some xs) (Some ys) (Some zs) bs at to below first more =
     more ∙ ap (λ front. front ++ take (to - at) (drop at bs)) first ∙ append_assoc xs (take at bs) (take (to - at) (drop at bs)) ∙ ap (λ rest. xs ++ rest) (sym (split bs at to below))
 
--- what was written behind known bytes is cut off
+-- what was written after known bytes is cut off
 pub cut-back : (old mid new : Option (List ℕ)) (bs : List ℕ) (n : ℕ) → IsLong old n → Appends old mid bs → IsCut mid new n → Keeps old new
 cut-back None mid new bs n long begun cut = record {}
 cut-back (Some xs) None new bs n long begun cut = elim begun [ ]

@@ -11,7 +11,7 @@ abbrev pub of_cpu : ℕ → Option ℕ → FolderFault → ℕ → Loss
 of_cpu cpu row fault records = record { cpu = cpu; row = row; fault = fault; records = records }
 
 module _ (uuid : List ℕ) (e : EnabledRows) (missed cpu : ℕ) (rs : List Record) where
-  -- a run's packet, and then those of the runs behind it
+  -- a run's packet, and then those of the runs after it
   pub adds-more : (from to : ℕ) (lasts mid after : List ℕ) (old at new : Option (List FileWrite)) → AddsRun uuid e missed cpu rs from lasts old mid at to
       → AddsAll uuid e missed cpu rs to mid at after new → AddsAll uuid e missed cpu rs from lasts old after new
   adds-more from to lasts mid after old at new one more = record {
@@ -20,7 +20,7 @@ module _ (uuid : List ℕ) (e : EnabledRows) (missed cpu : ℕ) (rs : List Recor
     taken = (at, (one.taken, more.taken));
   }
 
-  -- what stops behind a run stops before it
+  -- what stops after a run stops before it
   pub stops-more : (from to : ℕ) (lasts mid after : List ℕ) (old at new : Option (List FileWrite)) (loss : Loss) → AddsRun uuid e missed cpu rs from lasts old mid at to
       → StopsRuns uuid e missed cpu rs to mid at after new loss → StopsRuns uuid e missed cpu rs from lasts old after new loss
   stops-more from to lasts mid after old at new loss one more = record {

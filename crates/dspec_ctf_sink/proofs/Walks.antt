@@ -1,4 +1,4 @@
--- A step that the proofs by hand of `jotted.rt` share.
+-- A step that the proofs by hand of `file_log.rt` share.
 use Rattle.std.proofs.Common.{List, [], ◌∷◌, refl}
 use seplogic.Ra.Ura.{Ura}
 use mir.Val.{Val, vstruct, vnil}

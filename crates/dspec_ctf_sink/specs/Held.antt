@@ -22,7 +22,7 @@ IsCut None new n = ⊤
 IsCut (Some xs) None n = ⊥
 IsCut (Some xs) (Some ys) n = ys ≡ take n xs
 
--- known bytes stay in front, and some are behind them that nobody answers for
+-- known bytes stay in front, and some are after them that nobody answers for
 abbrev pub KeepsInFront : Option (List ℕ) → Option (List ℕ) → Type 0
 KeepsInFront old new = (more : List ℕ) × Appends old new more
 

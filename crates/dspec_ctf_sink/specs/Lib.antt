@@ -2,7 +2,7 @@ pub mod Accounts
 pub mod Ending
 pub mod Faults
 pub mod Held
-pub mod Jottings
+pub mod FileLogs
 pub mod Losses
 pub mod Places
 pub mod Writes

@@ -52,7 +52,7 @@ IsTimedFault written origin hertz e names old (Cpu cpu) = ⊥
 abbrev pub row_name : ℕ → ℕ → List ℕ
 row_name cpu file = codes "cpu_" ++ (decimal cpu ++ (codes "_" ++ decimal file))
 
--- a place took these packets one after another, each behind those of its file
+-- a place took these packets one after another, each after those of its file
 abbrev pub TakesAll : ℕ → Option (List FileWrite) → List (ℕ × List ℕ) → Option (List FileWrite) → Type 0
 TakesAll cpu old [] new = new ≡ old
 TakesAll cpu old (p ∷ ps) new = (mid : Option (List FileWrite)) × (Takes old (row_name cpu p.0) p.1 mid × TakesAll cpu mid ps new)
@@ -105,7 +105,7 @@ module _ (uuid : List ℕ) (e : EnabledRows) (missed cpu : ℕ) (rs : List Recor
     pub are_runs : AreRuns lasts rs from runs (length rs) after
     pub taken : TakesAll cpu old (run_packets uuid e missed cpu rs from runs) new
 
-  -- the place took the packets of some runs from a place on, one behind another, and not the next: what stands behind them is lost
+  -- the place took the packets of some runs from a place on, one after another, and not the next: what stands after them is lost
   pub record StopsRuns (from : ℕ) (lasts : List ℕ) (old : Option (List FileWrite)) (after : List ℕ) (new : Option (List FileWrite)) (loss : Loss) : Type 0 where
     pub runs : List Run
     pub to : ℕ
@@ -160,7 +160,7 @@ module _ (uuid : List ℕ) (e : EnabledRows) (before : ℕ) (b : Batch) (old : C
     pub has : HasSoManyRecords e b loss.records
     pub loss_is : loss ≡ record { cpu = b.cpu; row = Some 0; fault = fault; records = loss.records }
 
-  -- what was missed by now was told, and the packets of some runs were taken: the records behind them are lost
+  -- what was missed by now was told, and the packets of some runs were taken: the records after them are lost
   pub record LosesRest (new : CpuFiles) (loss : Loss) : Type 0 where
     pub read : List Record
     pub is_text : IsText e b.buffer.text read

@@ -3,8 +3,8 @@ pub mod Outside
 unfoldable pub use Outside.*
 pub use Rattle.dspec_ctf_sink.specs.Accounts.{Accounts, missed_on, TimedAccounts}
 pub use Rattle.dspec_ctf_sink.specs.Ending.{GetsTelling, GetsTellings, IsBare, IsTelling, TellsUntold, untold}
+pub use Rattle.dspec_ctf_sink.specs.FileLogs.{log_then}
 pub use Rattle.dspec_ctf_sink.specs.Held.{FilesHave, HasWritten, HaveBesides, Held, IsCut, IsFileAt, IsLong, IsNotAmong, KeepsInFront, LeavesFile}
-pub use Rattle.dspec_ctf_sink.specs.Jottings.{jotted_then}
 pub use Rattle.dspec_ctf_sink.specs.Losses.{capped, HasSoManyRecords, lost_more, missed_more}
 pub use Rattle.dspec_ctf_sink.specs.Places.{written_in}
 pub use Rattle.dspec_ctf_sink.specs.Timed.{AddsAll, AddsBatch, AddsRun, AddsRuns, ChangesFiles, CpuFiles, GetsRuns, HasFiles, HasNoCpu, HasNoRuns, IsBatchLoss, IsTimedBegun, LosesAll, LosesBatch}

@@ -3,13 +3,13 @@ use Rattle.std.specs.List.{flat_map}
 use Rattle.std.specs.Prelude.{ℕ, ◌≡◌, ◌≢◌, ◌⊎◌, ◌&&◌, if◌then◌else◌, is_none, bytes_eq, List, [], ◌∷◌, ◌++◌, Option, Some, None}
 use Rattle.dspec_ctf_sink.specs.{Faults.IsWriteFault, declared.fault.FolderFault.FolderFault, declared.fault.FolderFault.TheVariants.Memory}
 
--- one write: a file's name, the bytes that are to come behind those that it has, and why they weren't taken whole, where they weren't
+-- one write: a file's name, the bytes that are to come after those that it has, and why they weren't taken whole, where they weren't
 pub record FileWrite : Type 0 where
   pub name : List ℕ
   pub bytes : List ℕ
   pub refused : Option FolderFault
 
--- where it is known what a place was asked for, this write comes behind
+-- where it is known what a place was asked for, this write comes after
 abbrev pub AddsWrite : Option (List FileWrite) → Option (List FileWrite) → FileWrite → Type 0
 AddsWrite None new w = Unit {0}
 AddsWrite (Some xs) None w = ⊥
@@ -32,7 +32,7 @@ IsNotTaken old name bytes new fault = ((fault ≡ Memory) × (new ≡ old)) ⊎ 
 abbrev pub brought_to : List ℕ → FileWrite → List ℕ
 brought_to name w = if (is_none w.refused && bytes_eq w.name name) then w.bytes else []
 
--- what these writes leave of the file of this name: the bytes of those that were taken, one behind another
+-- what these writes leave of the file of this name: the bytes of those that were taken, one after another
 abbrev pub file_of : List ℕ → List FileWrite → List ℕ
 file_of name writes = flat_map (brought_to name) writes
 

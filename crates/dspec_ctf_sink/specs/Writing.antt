@@ -46,7 +46,7 @@ abbrev pub TellsFirst : ℕ → ℕ → Type 0
 TellsFirst told missed = (told ≡ 0) × (missed ≢ 0)
 
 module _ (e : EnabledRows) (uuid : List ℕ) (missed cpu : ℕ) (text : List ℕ) where
-  -- the bytes are the packet of no records, which tells of none missed, and the packets of this text behind it
+  -- the bytes are the packet of no records, which tells of none missed, and the packets of this text after it
   pub record AreBehindSilent (bytes : List ℕ) : Type 0 where
     pub packets : List ℕ
     pub are_packets : AreFilledOf e uuid missed cpu text packets
@@ -75,7 +75,7 @@ pub record AddsPacket (e : EnabledRows) (old : Tracing) (b : Batch) (new : Traci
   pub lost : new.lost ≡ old.lost
   pub last : new.last ≡ None
 
--- the place refused the batch's packets for that, behind which it was asked for these writes
+-- the place refused the batch's packets for that, after which it was asked for these writes
 pub record RefusesPacket (e : EnabledRows) (old : Tracing) (b : Batch) (written : Option (List FileWrite)) (fault : FolderFault) : Type 0 where
   pub total : ℕ
   pub bytes : List ℕ

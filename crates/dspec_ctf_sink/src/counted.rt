@@ -4,8 +4,8 @@ ghost use Rattle.std.specs.Prelude.{◌≡◌, [], length, IfErr, IfOk, Some, st
 ghost use Rattle.dspec_ctf_sink.specs.Faults.{IsWriteFault};
 
 use crate::fault::FolderFault;
+use crate::file_log::{FileLog, LogEntry};
 use crate::held::Cuttable;
-use crate::jotted::{Jotted, Jotting};
 use crate::made::make_file;
 use std::fs::File;
 use std::io;
@@ -17,7 +17,7 @@ pub(crate) struct CountedFile {
     path: String,
     file: File,
     size: u64,
-    told: Jotted,
+    told: FileLog,
     ghost long: { length told.bytes ≡ size },
 }
 
@@ -36,7 +36,7 @@ impl CountedFile {
             path,
             file,
             size: 0,
-            told: Jotted::none(),
+            told: FileLog::none(),
         })
     }
 }
@@ -50,7 +50,7 @@ impl Write for CountedFile {
             return Err(io::Error::from(io::ErrorKind::FileTooLarge));
         }
         let count = self.file.write(buf)?;
-        self.told = self.told.then(&Jotting::Behind(&buf[..count]));
+        self.told = self.told.then(&LogEntry::Appended(&buf[..count]));
         self.size += count as u64;
         Ok(count)
     }
@@ -70,7 +70,7 @@ impl Cuttable for CountedFile {
     fn cut(&mut self, length: u64) -> io::Result<()> {
         let left = length.min(self.size);
         self.file.set_len(left)?;
-        self.told = self.told.then(&Jotting::Left(left));
+        self.told = self.told.then(&LogEntry::Left(left));
         self.size = left;
         Ok(())
     }

@@ -61,7 +61,7 @@ impl Untold {
         Ok(Untold { batch })
     }
 
-    /// Tells a sink, behind the close of its session, what the reports count as lost beyond what batches told: a batch tells each refused reservation,
+    /// Tells a sink, after the close of its session, what the reports count as lost beyond what batches told: a batch tells each refused reservation,
     /// so a lost block as one, and nothing of what speculative buffers had no room for. Each CPU's batch has no records, and as many drops as records
     /// are to be told still. So where the sink is the session's own and its last writes are taken, its trace tells `dropped + specdropped + lost` of
     /// each report, and what it couldn't write. The contract says which batches the sink gets.

@@ -8,7 +8,7 @@ use std::alloc::Global;
 pub trait Folder: Drop {
     ghost written: { Self → Option (List FileWrite) };
 
-    /// Writes bytes behind those of a file, which is made where there is none: one write. Of one that is refused nothing is there,
+    /// Writes bytes after those of a file, which is made where there is none: one write. Of one that is refused nothing is there,
     /// unless the fault is `Cut`.
     fn add(&mut self, alloc: Global, name: &str, bytes: &[u8]) -> Result<(), FolderFault>
         ensures taken { OnOk result (Takes (written self.old) name.now bytes.now (written self.new)) }

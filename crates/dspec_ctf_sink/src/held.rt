@@ -10,7 +10,7 @@ use std::io::Write;
 use std::marker::Model;
 use std::os::fd::RawFd;
 
-/// A file that is written behind its end, and can be cut back.
+/// A file that is written after its end, and can be cut back.
 pub(crate) trait Cuttable: Write {
     /// The path at which it was made.
     ghost path: { Self → List ℕ };
@@ -57,7 +57,7 @@ fn write_whole<W: Write>(file: &mut W, bytes: &[u8]) -> io::Result<()>
     Err(io::Error::from(io::ErrorKind::TimedOut))
 }
 
-/// Writes all of these bytes behind those that the file has, or none: what a write left that failed in its middle is cut off.
+/// Writes all of these bytes after those that the file has, or none: what a write left that failed in its middle is cut off.
 fn write_or_cut<W: Cuttable>(file: &mut W, bytes: &[u8]) -> Result<(), FolderFault>
     ensures written { OnOk result (Appends (W.contents file.old) (W.contents file.new) bytes.now) }
     ensures fault { IfErr result (LeavesBytes (W.contents file.old) (W.contents file.new)) }
@@ -115,7 +115,7 @@ impl<W: Cuttable> HeldFile<W> {
         self.name.as_str() == name
     }
 
-    /// Writes bytes behind those that it has. Behind `Cut` it takes no more.
+    /// Writes bytes after those that it has. After `Cut` it takes no more.
     pub(crate) fn add(&mut self, bytes: &[u8]) -> Result<(), FolderFault>
         ensures name { self.new.name ≡ self.old.name }
         ensures taken { OnOk result (Appends self.old.bytes self.new.bytes bytes.now × (self.new.broken ≡ false)) }

@@ -6,7 +6,7 @@ ghost use Rattle.dspec_ctf_sink.specs.Faults.{IsFolderFault, IsWriteFault};
 use crate::fault::{FolderFault, write_fault};
 use std::fs::{File, OpenOptions};
 
-/// How a file is made: to write behind its end, and never one that is there, nor where a link leads.
+/// How a file is made: to write after its end, and never one that is there, nor where a link leads.
 fn new_file() -> OpenOptions
     ensures { result ≡ with_create_new (with_append new_options true) true }
 {

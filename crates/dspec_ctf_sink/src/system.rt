@@ -3,9 +3,9 @@ ghost use Rattle.dspec_ctf_sink.specs.{Faults.IsFolderFault, Faults.IsWriteFault
 
 use crate::counted::CountedFile;
 use crate::fault::{FolderFault, look_fault, write_fault};
+use crate::file_log::{FileLog, LogEntry};
 use crate::folder::Folder;
 use crate::held::{Cuttable, HeldFile};
-use crate::jotted::{Jotted, Jotting};
 use std::alloc::{AllocError, Global};
 use std::fs::File;
 use std::os::fd::{AsRawFd, RawFd};
@@ -17,9 +17,9 @@ use std::{fs, io};
 pub struct SystemFolder<'a> {
     pub(crate) host: &'a HostRuntime,
     pub(crate) folder: File,
-    made: Jotted,
+    made: FileLog,
     files: Vec<HeldFile<CountedFile>>,
-    asked: Jotted,
+    asked: FileLog,
     ghost tied: { ∥ FilesHave files.items asked.writes ∥₁ },
 }
 
@@ -42,12 +42,12 @@ impl<'a> SystemFolder<'a> {
             folder,
             made,
             files: Vec::new(rt.alloc()),
-            asked: Jotted::none(),
+            asked: FileLog::none(),
         })
     }
 }
 
-/// Opens a folder, to hold it. Of anything else, as a pipe, that is a fault, since behind a slash only a folder is opened.
+/// Opens a folder, to hold it. Of anything else, as a pipe, that is a fault, since after a slash only a folder is opened.
 pub(crate) fn open_folder(rt: &HostRuntime, path: &str) -> Result<File, FolderFault>
     ensures { IfErr result IsFolderFault }
 {
@@ -59,12 +59,12 @@ pub(crate) fn open_folder(rt: &HostRuntime, path: &str) -> Result<File, FolderFa
 }
 
 /// The same, and that this is the path at which it was made.
-fn open_made(rt: &HostRuntime, path: &str) -> Result<(File, Jotted), FolderFault>
+fn open_made(rt: &HostRuntime, path: &str) -> Result<(File, FileLog), FolderFault>
     ensures made { IfOk result (λ opened. opened.1.writes ≡ made_at path.now ∷ []) }
     ensures fault { IfErr result IsFolderFault }
 {
     let folder = open_folder(rt, path)?;
-    let made = Jotted::none().then(&Jotting::Asked("", path.as_bytes(), None));
+    let made = FileLog::none().then(&LogEntry::Asked("", path.as_bytes(), None));
     Ok((folder, made))
 }
 
@@ -176,7 +176,7 @@ impl<'a> Folder for SystemFolder<'a> {
     fn add(&mut self, alloc: Global, name: &str, bytes: &[u8]) -> Result<(), FolderFault> {
         let answer = add_to(&mut self.files, self.host, &self.folder, alloc, name, bytes);
         let refused = answer.err();
-        self.asked = self.asked.then(&Jotting::Asked(name, bytes, refused));
+        self.asked = self.asked.then(&LogEntry::Asked(name, bytes, refused));
         answer
     }
 }

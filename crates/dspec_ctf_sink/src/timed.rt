@@ -17,7 +17,7 @@ use std::marker::Model;
 const MOST_CPUS: usize = 64;
 
 /// A sink that writes a trace by time while a session runs. The file `cpu_N_K` has some of CPU N's records, with stamps that don't
-/// fall: each record goes to the file that it carries on (`Rows`), and tools merge the files. Records of a batch that stand one behind
+/// fall: each record goes to the file that it carries on (`Rows`), and tools merge the files. Records of a batch that stand one after
 /// another and go to one file are packets, and those are one write. Each packet has 1,024 bytes, so a write that a kill cuts off leaves whole packets.
 /// What a CPU missed is told by its file `cpu_N_0`, as soon as the batch that tells it is taken. Where packets can't be written, the rest of their batch is
 /// lost, and counted: with the next batch of that CPU it is told as missed. What the last batch lost is told by `last_loss`, and what was lost in all by
@@ -311,7 +311,7 @@ impl<F: Folder> TimedFolder<F> {
 }
 
 impl<F: Folder> Lossy for TimedFolder<F> {
-    /// Of the last batch: its rest, behind the first packet that wasn't taken.
+    /// Of the last batch: its rest, after the first packet that wasn't taken.
     fn last_loss(&self) -> Option<Loss>
         ensures last { result ≡ self.now.last }
     {

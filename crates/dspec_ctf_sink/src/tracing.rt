@@ -13,7 +13,7 @@ use std::marker::Model;
 /// The most CPUs of a session.
 const MOST_CPUS: usize = 64;
 
-/// A sink that writes a trace as taken: each batch as packets behind those before it in the file of its CPU, by one write. Each packet has 1,024 bytes, so
+/// A sink that writes a trace as taken: each batch as packets after those before it in the file of its CPU, by one write. Each packet has 1,024 bytes, so
 /// a write that a kill cuts off leaves whole packets. A batch without records and drops adds nothing, unless its CPU missed something that no packet
 /// tells yet. Tools tell by how much more a packet tells as missed than the one before it, so where a CPU's file tells some for the first time, a packet that
 /// tells none stands in front. A batch that can't be written is counted: the next packet of its CPU that is written tells its records, and the drops that it

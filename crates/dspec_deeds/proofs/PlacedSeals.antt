@@ -6,7 +6,7 @@ use Rattle.dspec_deeds.specs.declared.{calls.Actor.TheVariants.Cpu, config.Confi
 use Rattle.dspec_deeds.proofs.{BareReads.seal_is, BareReads.halted_bare, BareReads.author_bare, BareSound.IsNoLater, BareSound.MayPut, BareSound.ArePut, BareSound.owed_bare}
 use Rattle.dspec_deeds.proofs.{BareSound.sound_with_seals, OwnParts.fitting_of_own, SoloOwed.IsOwnRelease, SoloOwed.owed_is_own, TestLemmas.either_way, TestLemmas.off, TestLemmas.number_is_itself}
 
--- behind a deed of its own a CPU is late where the session was stopped
+-- after a deed of its own a CPU is late where the session was stopped
 no_later_behind : (c : ℕ) (d : Deed) (h : List Deed) → author d h ≡ Cpu c → IsNoLater c (d ∷ h)
 no_later_behind c d h is = grind arith
 

@@ -36,12 +36,12 @@ pub record HavePlace (c : ℕ) (v : List Deed) : Type 0 where
   pub placed : ArePlaced v
   pub here : MayStand c v
 
--- they may stand one behind another
+-- they may stand one after another
 pub placed_on : (c : ℕ) (ss v : List Deed) → AreSeals c ss → HavePlace c v → HavePlace c (ss ++ v)
 placed_on c [] v seals place = place
 placed_on c (d ∷ ss) v seals place = grind (arith, nat_tests, placed_on c ss v seals.0 place)
 
--- the lists of CPUs that have done nothing but seal, one behind another
+-- the lists of CPUs that have done nothing but seal, one after another
 module _ (p : ℕ → List Deed) where
   abbrev HasSealsBelow : ℕ → Type 0
   HasSealsBelow n = (c : ℕ) → c < n → AreSeals c (p c)

@@ -9,12 +9,12 @@ use Rattle.dspec_deeds.proofs.{PresentIds.open_is_now, PresentIds.present_is, So
 abbrev pub IsOwnRelease : Deed → List Deed → Type 0
 IsOwnRelease d h = (s : ℕ) × (d ≡ Release s) × ((c : ℕ) → IsLastOf c h → author d h ≡ Cpu c)
 
--- behind a discard by the one caller the Release of its slot is that caller's
+-- after a discard by the one caller the Release of its slot is that caller's
 released_by : (k : Config) (a : ℕ) (id : Speculation) (f : DecideFate) (h : List Deed) → IsSound k (Discard a id f ∷ h) → is_discard f ≡ true
     → is_sole a (callers id h) ≡ true → author (Release id.slot) (Discard a id f ∷ h) ≡ Cpu a
 released_by k a id f h sound throws sole = grind (arith, nat_tests, answered_open, discard_goes, open_is_now, present_is, id_is_itself)
 
--- the deed behind one that owes a Release is that Release
+-- the deed after one that owes a Release is that Release
 pub owed_is_own : (k : Config) (d : Deed) (h : List Deed) → IsSound k (d ∷ h) → (owed h ≡ 0) ⊎ IsOwnRelease d h
 owed_is_own k (Release s) h sound = ⊎_elim (λ (none : owed h ≡ 0). inl none) (λ (owes : owed h ≡ s). go h sound.0 owes) sound.1.0
   where

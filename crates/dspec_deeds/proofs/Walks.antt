@@ -3,7 +3,7 @@ use Rattle.std.proofs.Common.{◌≡◌, ℕ, ◌+◌, List, [], ◌∷◌, ◌+
 use Rattle.std.specs.Prelude.{Some}
 use Rattle.dspec_deeds.specs.Words.{Record, StepsAhead}
 
--- a walk over these records has taken so many of them, and put them behind what was there
+-- a walk over these records has taken so many of them, and put them after what was there
 pub record Walked (ahead : ℕ → List Record → Type 0) (before all to : List Record) (place count : ℕ) : Type 0 where
   pub done : List Record
   pub rest : List Record
@@ -12,7 +12,7 @@ pub record Walked (ahead : ℕ → List Record → Type 0) (before all to : List
   pub whole : done ++ rest ≡ all
   pub counted : length done ≡ count
 
--- only records were put behind what was there
+-- only records were put after what was there
 pub record Grew (before to : List Record) : Type 0 where
   pub more : List Record
   pub grown : to ≡ before ++ more
@@ -37,6 +37,6 @@ walk_goes ahead before all to new place next count r w steps e = go w.rest w.sti
           counted = let n = w.counted in length-append w.done (r ∷ []) ∙ omega arith;
         }
 
--- one more is put behind
+-- one more is put after
 pub grew_more : (before to new : List Record) (r : Record) → Grew before to → new ≡ to ++ r ∷ [] → Grew before new
 grew_more before to new r g e = record { more = g.more ++ r ∷ []; grown = e ∙ (ap (λ xs. xs ++ r ∷ []) g.grown ∙ append_assoc before g.more (r ∷ [])) }

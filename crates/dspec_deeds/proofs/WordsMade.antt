@@ -14,10 +14,10 @@ made : (k : Config) (t : ℕ) (d : Deed) (h : List Deed) → IsSound k (d ∷ h)
 made k t d h h1 h2 =
     grind (arith, nat_tests, same_number, opened_word, issued, and_tells, open_present, granted_open, granted_word, commit_open, committed_word, discard_open, discarded_word, released_word)
 
--- each word behind a deed
+-- each word after a deed
 pub words_made : (k : Config) (s : ℕ) (d : Deed) (h : List Deed) → IsSound k (d ∷ h) → word_at s (d ∷ h) ≡ word_after s d h
 words_made k s d h sound = grind (arith, nat_tests, made, untouched)
 
--- each acknowledgement behind a deed
+-- each acknowledgement after a deed
 pub acks_made : (k : Config) (c s : ℕ) (d : Deed) (h : List Deed) → IsSound k (d ∷ h) → ack c s (d ∷ h) ≡ ack_after c s d h
 acks_made k c s d h sound = grind arith

@@ -107,7 +107,7 @@ module _ (shape : ℕ → Option Shape) (k : Config) where
       authors = top_authors;
     }
 
-    -- a deed of a CPU, and its Seals behind it
+    -- a deed of a CPU, and its Seals after it
     cpu_laid : (p : ℕ → List Deed) (c : ℕ) → author d h ≡ Cpu c → IsParted c d (part (Cpu c) h) (p c) → q c ≡ behind (p c) → ((a : ℕ) → (a == c) ≡ false → q a ≡ p a)
         → IsLaid p (d ∷ h) (lead (p c) ++ d ∷ w)
     cpu_laid p c is part_at at_c elsewhere =

@@ -141,7 +141,7 @@ module _ (shape : ℕ → Option Shape) (k : Config) where
   IsFitting [] = Unit {0}
   IsFitting (d ∷ h) = IsFitting h × CpuLegal h d
 
-  -- each deed may come behind those before it, in the common part and in its CPU's own
+  -- each deed may come after those before it, in the common part and in its CPU's own
   abbrev pub IsAllowed : List Deed → Type 0
   IsAllowed h = IsSound k h × IsFitting h
 

@@ -21,7 +21,7 @@ pub record StandsAsBefore (s : ℕ) (h new : List Deed) : Type 0 where
 abbrev pub HasOrTaken : ℕ → ℕ → SlotState → List Deed → Type 0
 HasOrTaken c s w h = (word_at s h ≡ w) ⊎ (opened_since c s h ≡ true)
 
--- what the CPU's call in flight rests on stands behind the deed as before it
+-- what the CPU's call in flight rests on stands after the deed as before it
 pub record LeavesStanding (k : Config) (c : ℕ) (d : Deed) (h : List Deed) : Type 0 where
   pub own : ReadsAlike k c (d ∷ h) h
   pub early : late c h ≡ false → late c (d ∷ h) ≡ false

@@ -4,7 +4,7 @@ use Rattle.dspec_deeds.specs.{FateKinds.is_commit, Legal.IsFitting, Legal.fits_p
 use Rattle.dspec_deeds.specs.{Words.Outside.Speculation, declared.config.Config.Config, declared.deed.DecideFate.DecideFate, declared.deed.Deed.Deed}
 
 module _ (shape : ℕ → Option Shape) (k : Config) (c : ℕ) where
-  -- where this deed asks for room for a piece that doesn't fit, the CPU's principal buffer has refused a reservation behind it
+  -- where this deed asks for room for a piece that doesn't fit, the CPU's principal buffer has refused a reservation after it
   abbrev pub RefusalFills : List Deed → Deed → Type 0 → Piece → Type 0
   RefusalFills h d Reserves p = IsFitting shape k (d ∷ h) → Reserves → fits_principal shape k c p h ≡ false → full c (d ∷ h) ≡ true
 

@@ -23,7 +23,7 @@ abbrev pub IsLastOf : ℕ → List Deed → Type 0
 IsLastOf c [] = ⊥
 IsLastOf c (d ∷ h) = author d h ≡ Cpu c
 
--- a Seal may stand directly behind a deed of its CPU, and at the front, with nothing but Seals behind it
+-- a Seal may stand directly after a deed of its CPU, and at the front, with nothing but Seals after it
 abbrev pub MayStand : ℕ → List Deed → Type 0
 MayStand c h = (bare h ≡ []) ⊎ IsLastOf c h
 
@@ -31,12 +31,12 @@ abbrev pub IsPlaced : Deed → List Deed → Type 0
 IsPlaced (Seal c) h = MayStand c h
 IsPlaced d h = Unit {0}
 
--- each Seal stands directly behind the deed that stands before it in its CPU's part, at the front where there is none
+-- each Seal stands directly after the deed that stands before it in its CPU's part, at the front where there is none
 abbrev pub ArePlaced : List Deed → Type 0
 ArePlaced [] = Unit {0}
 ArePlaced (d ∷ h) = ArePlaced h × IsPlaced d h
 
--- the Seals before the list's latest other deed, and what lies behind that deed
+-- the Seals before the list's latest other deed, and what lies after that deed
 abbrev pub lead : List Deed → List Deed
 lead [] = []
 lead (d ∷ q) = if is_seal d then d ∷ lead q else []
@@ -50,17 +50,17 @@ abbrev pub taken_off : Actor → (ℕ → List Deed) → ℕ → List Deed
 taken_off (Cpu c) p a = if a == c then behind (p a) else p a
 taken_off Consumer p a = p a
 
--- the Seals that come directly behind an actor's latest deed
+-- the Seals that come directly after an actor's latest deed
 abbrev pub seals_behind : Actor → (ℕ → List Deed) → List Deed
 seals_behind (Cpu c) p = lead (p c)
 seals_behind Consumer p = []
 
--- the lists of the first CPUs, one behind another
+-- the lists of the first CPUs, one after another
 abbrev pub front : ℕ → (ℕ → List Deed) → List Deed
 front zero p = []
 front (suc n) p = p n ++ front n p
 
--- each Seal directly behind the deed that stands before it in its CPU's list, at the front where there is none
+-- each Seal directly after the deed that stands before it in its CPU's list, at the front where there is none
 abbrev pub woven : ℕ → (ℕ → List Deed) → List Deed → List Deed
 woven n p [] = front n p
 woven n p (d ∷ h) = seals_behind (author d h) p ++ d ∷ woven n (taken_off (author d h) p) h

@@ -18,7 +18,7 @@
 //! | `specs/`: Refusals | a reservation that is refused, and the buffer that has refused one |
 //! | `specs/`: Closes, FateAnswers, Ranges | the close; what a fate is answered as; the configuration |
 //! | `specs/`: Owning, Marks, CpuShown, Weaving | the own part over one CPU's list; the mark of a slot; what a CPU's side shows; the lists of the CPUs put together |
-//! | `specs/`: CommonDeeds, WordSteps, OthersDeeds, Rules | a deed as the common part sees it; the word behind a deed; what stands behind another's deed; what the conditions come to over a whole list |
+//! | `specs/`: CommonDeeds, WordSteps, OthersDeeds, Rules | a deed as the common part sees it; the word after a deed; what stands after another's deed; what the conditions come to over a whole list |
 //! | `proofs/`, sound lists | SoundLists, PresentIds, Word.., Staying.., Acked, Awaiting, Debtless, Emptied |
 //! | `proofs/`, the headline | Prefixes, DeedOffers, DeedEffects, HeldOffers, FateCounts, Acceptance, Balance, ReportBounds, Headlines |
 //! | `proofs/`, own lists and weaving | DeedReads, OwnReads, Marks, Dropping, OwnStates, OwnParts, OwnAccounts, BareReads, BareSound, SealsPut, SoloOwed, WovenLists, PlacedSeals; Sample, a small list on which the premises are met |

@@ -50,7 +50,7 @@ pub fn bare_shows()
 {}
 
 /// A list is legal, and owes nothing, where it is legal in its common part without its Seals, owes nothing there, each Seal
-/// stands directly behind the deed before it in its CPU's part, and each CPU's part is legal in the own part.
+/// stands directly after the deed before it in its CPU's part, and each CPU's part is legal in the own part.
 pub fn placed_seals()
     ensures legal { (shape : ℕ → Option Shape) (k : Config) (w : List Deed) → ArePlaced w → IsSound k (bare w) → owed (bare w) ≡ 0
         → HasAuthors k w → HaveOwnParts shape k w → IsLegal shape k w }
@@ -59,7 +59,7 @@ pub fn placed_seals()
 {}
 
 /// A list that is legal in its common part, and the CPUs' own lists, are woven into one legal list: each Seal comes directly
-/// behind the deed that stands before it in its CPU's list, and at the front where there is none.
+/// after the deed that stands before it in its CPU's list, and at the front where there is none.
 pub fn weaving()
     ensures { (shape : ℕ → Option Shape) (k : Config) (h : List Deed) (p : ℕ → List Deed) → IsSound k h → owed h ≡ 0
         → HasAuthors k h → HaveLists shape k p h → IsWoven shape k p h (woven k.cpus p h) }

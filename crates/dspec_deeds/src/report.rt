@@ -16,7 +16,7 @@ pub struct Report {
     pub lost: u64,
     /// Records thrown away by a discard.
     pub discarded: u64,
-    /// Records offered behind a stop, or to a speculation that wasn't open.
+    /// Records offered after a stop, or to a speculation that wasn't open.
     pub void: u64,
     /// Records that wait in speculative buffers for a decision, or for this CPU to settle it.
     pub held: u64,
@@ -32,7 +32,7 @@ pub struct Report {
     pub worn: u64,
 }
 
-/// Each count behind its name, as a play's reports tell them behind the number of the CPU.
+/// Each count after its name, as a play's reports tell them after the number of the CPU.
 impl fmt::Display for Report {
     fn fmt<W: fmt::Write>(&self, f: &mut fmt::Formatter<W>) -> fmt::Result {
         let Report {

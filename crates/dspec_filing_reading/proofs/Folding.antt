@@ -1,4 +1,4 @@
--- What is known of a CPU's files and packets behind all calls.
+-- What is known of a CPU's files and packets after all calls.
 use Rattle.std.proofs.Common.{◌≡◌, ◌<◌, ◌≤◌, ◌+◌, ◌-◌, ◌^◌, ◌++◌, ℕ, List, [], ◌∷◌, ap, subst, arith, append_assoc, length}
 use Rattle.std.proofs.lemmas.{Bool.Decides.nat_tests, List.append-nil, List.Elements.All-nil}
 use Rattle.dspec_filing_reading.specs.Words.{EnabledRows, Accepts, CpuFiling, as_written, no_packets, FilingCall, CallsMake, told_missed, all_told_missed, packets_after, packets_after_all}

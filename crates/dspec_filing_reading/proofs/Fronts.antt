@@ -19,7 +19,7 @@ between rs from mid to low high within =
     ∙ ap (λ n. take n (first ++ drop mid rs)) both
     ∙ take-append-add first (drop mid rs) (to - mid)
 
--- the same behind others
+-- the same after others
 pub behind : (front rs : List Record) (from mid to : ℕ) → from ≤ mid → mid ≤ to → to ≤ length rs
     → front ++ slice_range rs from to ≡ (front ++ slice_range rs from mid) ++ slice_range rs mid to
 behind front rs from mid to low high within =
@@ -47,7 +47,7 @@ module _ (e : EnabledRows) where
         others,
       )
 
-  -- those of some texts, and behind them those of others
+  -- those of some texts, and after them those of others
   pub more_fronts : (texts others : List (List ℕ)) (kept more : List Record) (lost rest : ℕ) → AreFrontsKept e texts kept lost → AreFrontsKept e others more rest
       → AreFrontsKept e (texts ++ others) (kept ++ more) (lost + rest)
   more_fronts [] others kept more lost rest (none, nothing) are = grind (arith, nat_tests)

@@ -1,4 +1,4 @@
--- What is written behind a file is read behind what it has.
+-- What is written after a file is read after what it has.
 use Rattle.std.proofs.Common.{◌≡◌, ◌<◌, ◌++◌, ℕ, List, [], ◌∷◌, Some, ap, ◌∙◌, arith, All}
 use Rattle.std.proofs.lemmas.{Grind.flat_map-append, List.append-nil, List.Elements.All-append, List.Elements.All-head, List.Elements.All-tail, List.Elements.All-weaker}
 use Rattle.dspec_filing_reading.specs.Words.{FileTells, PartTells, Layout, EventRead, PacketRead, events_of, loss_of, read_file}
@@ -7,7 +7,7 @@ use Rattle.dspec_filing_reading.specs.Words.{FileTells, PartTells, Layout, Event
 abbrev pub FilesJoin : Type 0
 FilesJoin = (layout : Layout) (a b : List ℕ) (ps qs : List PacketRead) → read_file layout a ≡ Some ps → read_file layout b ≡ Some qs → read_file layout (a ++ b) ≡ Some (ps ++ qs)
 
--- packets that tell more than nothing tell it behind others
+-- packets that tell more than nothing tell it after others
 loss_behind : (ps qs : List PacketRead) (n : ℕ) → loss_of qs ≡ n → 0 < n → loss_of (ps ++ qs) ≡ n
 loss_behind [] qs n tells some = tells
 loss_behind (p ∷ []) [] n tells some = absurd (omega (arith, tells, some))

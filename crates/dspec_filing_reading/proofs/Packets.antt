@@ -1,4 +1,4 @@
--- What is read of packets, where more are written behind them.
+-- What is read of packets, where more are written after them.
 use Rattle.std.proofs.Common.{◌≡◌, ◌<◌, ◌≤◌, ◌^◌, ◌==◌, ◌++◌, ℕ, Bool, true, false, List, [], ◌∷◌, refl, ap, sym, subst, ◌∙◌, arith, length, length-append, map, All}
 use Rattle.std.proofs.lemmas.{Bool.eqb-true, Bool.eqb-false, Bool.ne_eqb, Bool.Decides.nat_tests, Grind.flat_map-append, List.append-nil, List.map-append, List.Elements.All-append}
 use Rattle.std.proofs.lemmas.{List.Elements.All-cons, List.Elements.All-nil, List.Elements.All-weaker, List.Elements.filter-append}
@@ -13,7 +13,7 @@ use Rattle.dspec_filing_reading.proofs.{Sharing.runs_few, Sharing.spread_each}
 abbrev pub AreFew : List (ℕ × List ℕ) → Type 0
 AreFew ps = All (λ (p : ℕ × List ℕ). p.0 < 64) ps
 
--- a file has the bytes of more packets behind what it has
+-- a file has the bytes of more packets after what it has
 pub bytes_more : (file : ℕ) (ps qs : List (ℕ × List ℕ)) → file_bytes file (ps ++ qs) ≡ file_bytes file ps ++ file_bytes file qs
 bytes_more file ps qs = grind (arith, nat_tests, filter-append, flat_map-append)
 

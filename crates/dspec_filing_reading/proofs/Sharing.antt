@@ -10,7 +10,7 @@ use Rattle.dspec_ctf_reading.proofs.Files.{stamp-low}
 pub stamps_low : (e : EnabledRows) (rs : List Record) → All (Accepts e) rs → All (λ r. r.stamp < 2 ^ 64) rs
 stamps_low e rs all = All-weaker (Accepts e) (λ r. r.stamp < 2 ^ 64) (λ r is. stamp-low e.header r.stamp (accepted-parts e.header (enabled e.rows) r is).stamp) rs all
 
--- records behind others that have a file each
+-- records after others that have a file each
 one_more : (b : Bool) (p : ℕ × Record) (ps qs : List (ℕ × Record)) (more : List Record) → map (λ x. x.1) ps ≡ map (λ x. x.1) qs ++ more
     → map (λ x. x.1) (cond b (p ∷ ps) ps) ≡ map (λ x. x.1) (cond b (p ∷ qs) qs) ++ more
 one_more true p ps qs more is = ap (λ rs. p.1 ∷ rs) is
@@ -88,7 +88,7 @@ module _ (files_law : FilesHaveAll) (runs_law : RunsHaveAll) where
       let first = run_few lasts rs from run mid few one in
       All-cons (λ (run : Run). run.file < 64) run runs first.0 (runs_few mid rs run.end runs to new first.1 more)
 
-  -- the last stamps behind runs, also where they aren't written
+  -- the last stamps after runs, also where they aren't written
   pub lasts_behind : (lasts : List ℕ) (rs : List Record) (from to : ℕ) (runs : List Run) (new : List ℕ) → length lasts ≤ 64 → slice_index lasts 0 < 2 ^ 64 → All (λ r. r.stamp < 2 ^ 64) rs
       → AreRuns lasts rs from runs to new → (length new ≤ 64) × (slice_index new 0 < 2 ^ 64)
   lasts_behind lasts rs from to runs new few first low are =

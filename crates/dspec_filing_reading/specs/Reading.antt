@@ -23,7 +23,7 @@ pub record ReadsPackets (uuid : List ℕ) (e : EnabledRows) (names : Names) (her
 -- Packets that were handed out by these calls are read as the first records of each batch that was opened (`are_kept`), and the first file tells how many were
 -- told as missed by then. Of the batch that is open those before `from` are kept: with more of it the records go on there (`goes_on`), and those that aren't
 -- written yet aren't lost. What was missed is what the calls told as missed and the records that are lost: of batches before all others, and of the open one
--- those behind the place where its rest was lost (`counted`).
+-- those after the place where its rest was lost (`counted`).
 pub record ReadsWritten (uuid : List ℕ) (e : EnabledRows) (names : Names) (hertz cpu : ℕ) (calls : List FilingCall) (packets : List (ℕ × List ℕ)) (f : CpuFiling) : Type 0 where
   pub kept : List Record
   pub lost : ℕ

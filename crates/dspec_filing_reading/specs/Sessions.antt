@@ -61,7 +61,7 @@ packets_after w Lost = record { written = w.written; last = [] }
 packets_after w (Missed count) = w
 packets_after w Reserved = w
 
--- behind all calls, the first at the head
+-- after all calls, the first at the head
 abbrev pub packets_after_all : Packets → List FilingCall → Packets
 packets_after_all w [] = w
 packets_after_all w (call ∷ calls) = packets_after_all (packets_after w call) calls

@@ -6,9 +6,9 @@
 //! | `laws.rt` | the law, as the clause of a function that has nothing to do |
 //! | `specs/`: Sessions | calls on a CPU's files one after another, what each did, and which packets count as written |
 //! | `specs/`: Reading, Laws | what is read of written packets: which records are kept, in which files, and what is told and counted; the law |
-//! | `proofs/`: Sharing, Growing, FilesLaws | records that go to files; what is written behind a file; the laws on which this stands |
-//! | `proofs/`: Fronts, Packets | first records of texts, and parts of them; a run's packet, or what was missed, behind packets |
-//! | `proofs/`: Standing, Calling, Folding | what is known of files between two calls, behind one call, and behind all of them |
+//! | `proofs/`: Sharing, Growing, FilesLaws | records that go to files; what is written after a file; the laws on which this stands |
+//! | `proofs/`: Fronts, Packets | first records of texts, and parts of them; a run's packet, or what was missed, after packets |
+//! | `proofs/`: Standing, Calling, Folding | what is known of files between two calls, after one call, and after all of them |
 #![tactic(auto)]
 
 pub mod laws;

@@ -67,7 +67,7 @@ number_there ns count i n is e lt read there =
     let both : Some n ≡ Some is = sym got ∙ there in
     cc
 
--- what the deeds of a clean are behind a slot
+-- what the deeds of a clean are after a slot
 next_deeds : (k : Config) (h : List Deed) (side : ConsumerProgress) (all : List CpuProgress) (s n : ℕ) (ds : List Deed) → (next_slot k h side all s ds n).deeds ≡ ds
 next_deeds k h side all s n ds = go (s == k.nspec)
   where

@@ -9,7 +9,7 @@ use Rattle.dspec_deeds.specs.declared.calls.Actor.TheVariants as actor
 use Rattle.dspec_deeds.proofs.{Awaiting.awaits_is, TestLemmas.either_way, TestLemmas.and_tells, TestLemmas.and_false, TestLemmas.off}
 use Rattle.dspec_interleaving.proofs.Tests.{is_nothing, not_tells}
 
--- behind a step that no other call overlaps, no release is owed
+-- after a step that no other call overlaps, no release is owed
 pub record IsQuiet (k : Config) (h : List Deed) : Type 0 where
   pub sound : IsSound k h
   pub rests : owed h ≡ 0
@@ -28,7 +28,7 @@ module _ (shape : ℕ → Option Shape) where
   more_steps (suc n) (suc m) a st (Some r) to x le e = e
   more_steps (suc n) (suc m) a st None to x le e = more_steps n m a (step shape a st).state (step shape a st).answer to x (omega arith) e
 
--- the consumer's side behind a call, and one step later
+-- the consumer's side after a call, and one step later
 abbrev pub at_rest : ConsumerProgress
 at_rest = record { flight = None; steps = 0 }
 
@@ -40,11 +40,11 @@ module _ (shape : ℕ → Option Shape) (st : PlayState) where
   abbrev pub stands_at : ConsumerProgress → List CpuProgress → List Deed → PlayState
   stands_at side all h = record { config = st.config; deeds = h; progresses = all; side = side }
 
-  -- what the state becomes behind a whole call of the consumer
+  -- what the state becomes after a whole call of the consumer
   abbrev pub left_by : WholeConsumer → Stepped
   left_by w = record { state = stands_at at_rest w.progresses w.list; answer = Some w.answer }
 
-  -- behind a step, more steps of the call lead to what the whole call leaves
+  -- after a step, more steps of the call lead to what the whole call leaves
   pub record Clears (h : List Deed) (m : ConsumerStep) (w : WholeConsumer) : Type 0 where
     pub steps : ℕ
     pub is : on_to_end shape steps actor.Consumer (stands_at m.side m.progresses (m.deeds ++ h)) m.answer ≡ left_by w

@@ -92,7 +92,7 @@ module _ (shape : ℕ → Option Shape) (k : Config) (h : List Deed) (side : Con
       (λ (f : halted h ≡ false). rw f (ended (Halt ∷ []) answer.StopDone record { legal = ((legal.0, (rests, f)), (legal.1, tt)); rests = refl; by = (tt, refl) }))
       (either_way (halted h))
 
-  -- behind a slot of a clean
+  -- after a slot of a clean
   advanced : (s n : ℕ) (ds : List Deed) → IsSlot k s → n ≤ s → side.steps + 1 ≤ s * (k.cpus + 2) → GoesOn shape k Consumer ds h → ConsumerKeeps shape k h (next_slot k h side all s ds n)
   advanced s n ds slot le few goes = ⊎_elim
       (λ (t : (s == k.nspec) ≡ true). rw t (ended ds (answer.Cleaned n) goes))

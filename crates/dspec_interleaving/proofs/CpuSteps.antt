@@ -17,7 +17,7 @@ use Rattle.dspec_interleaving.proofs.StepsParts.{asks_stand, IsEarly, load_early
 use Rattle.dspec_interleaving.proofs.StepsService.{service_begins, service_pops, service_pushes, service_loads, service_stores}
 use Rattle.dspec_interleaving.proofs.StepsWords.{word_is_itself, same_word_tells, speculate_tells, speculate_not_idle, open_plain, not_plain}
 
--- where a call of speculation is behind its own deeds
+-- where a call of speculation is after its own deeds
 scan_begun : (k : Config) (c : ℕ) (running : Bool) (h : List Deed) → scan k c (Scan c running ∷ h) ≡ (if running then 1 else 0)
 scan_begun k c running h = let own = number_is_itself c in rw own refl
 
@@ -106,7 +106,7 @@ module _ {shape : ℕ → Option Shape} {k : Config} {c : ℕ} {h : List Deed} {
 
 module _ (shape : ℕ → Option Shape) (k : Config) (c : ℕ) (h : List Deed) (me : CpuProgress) (ranges : start_fault k ≡ None) (legal : IsAllowed shape k h) (rests : owed h ≡ 0)
     (stands : ProgressStands k c h me) where
-  -- the deeds that a CPU's step enters are legal and its own, and its side stands behind them
+  -- the deeds that a CPU's step enters are legal and its own, and its side stands after them
   pub cpu_step_stands : (f : CallPlace) → me.flight ≡ Some f → StepStands shape k c h (cpu_step shape k c h me f)
   cpu_step_stands f is = go f (subst (λ o. StandsProgress k c h me o) is stands.flight)
       (λ other. record { ranges = ranges; legal = legal; rests = rests; counts = stands.counts; pushes = pushes_not me.spare f me.flight is other stands.pushes; want = stands.want })

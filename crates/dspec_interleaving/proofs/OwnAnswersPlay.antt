@@ -49,7 +49,7 @@ one_worn : (n w most : ℕ) (b : Bool) → n ≡ min w most → (if b then min (
 one_worn n w most true e = ap (λ x. min (x + 1) most) e ∙ worn_more w most
 one_worn n w most false e = e ∙ ap (λ x. min x most) (let same : w ≡ w + 0 = omega arith in same)
 
--- the count behind a call of the CPU that is noted
+-- the count after a call of the CPU that is noted
 worn_noted : (c : ℕ) (o : Op) (ds : List Deed) (st : PlayState) (r : Option Answer) (ns : List Noted) (n : ℕ) → n ≡ worn_count (map ended ns) c
     → worn_behind n r ≡ worn_count (map ended (with_note (actor.Cpu c) o ds st r ns)) c
 worn_noted c o ds st None ns n e = e
@@ -73,7 +73,7 @@ entered_here c ds before = rw (number_is_itself c) refl
 entered_there : (c b : ℕ) (ds : List Deed) (before : ℕ → List Deed) → (b == c) ≡ false → with_entered c ds before b ≡ before b
 entered_there c b ds before other = rw other refl
 
--- what is known of a CPU stays behind another's step
+-- what is known of a CPU stays after another's step
 knows_beside : (k : Config) (b : ℕ) (w : Actor) (o : Op) (new : List Deed) (st : PlayState) (r : Option Answer) (ns : List Noted) (ds h : List Deed) (x : Option CallPlace) (n : ℕ) (own : List Deed)
     → same_actor (actor.Cpu b) w ≡ false → is_by b w ≡ false → AllBy w ds h → Knows k h (map ended ns) b x n own → Knows k (ds ++ h) (map ended (with_note w o new st r ns)) b x n own
 knows_beside k b w o new st r ns ds h x n own other apart by was = record {

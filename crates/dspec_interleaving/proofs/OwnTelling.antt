@@ -34,7 +34,7 @@ abbrev pub Tells : Option Answer → Answer → Type 0
 Tells None x = Unit {0}
 Tells (Some a) x = a ≡ x
 
--- the count of a CPU's worn calls behind a step
+-- the count of a CPU's worn calls after a step
 abbrev pub worn_behind : ℕ → Option Answer → ℕ
 worn_behind n None = n
 worn_behind n (Some a) = if is_worn_answer a then min (n + 1) (2 ^ 64 - 1) else n

@@ -8,7 +8,7 @@ use Rattle.dspec_interleaving.specs.Words.{Config, Deed}
 use Rattle.dspec_interleaving.specs.declared.outcome.PlayFault.{PlayFault}
 use Rattle.dspec_interleaving.proofs.{OwnAnswersPlay.played_wears, PlaysEnd.all_ran_idle}
 
--- behind so many turns a play goes on to the same end, and to the same refusal
+-- after so many turns a play goes on to the same end, and to the same refusal
 pub record IsSoFar (shape : ℕ → Option Shape) (accepts : Record → Bool) (k : Config) (ts : List Turn) (i : ℕ) (now : PlayState) (answers : List EndedCall) : Type 0 where
   pub playing : Playing
   pub at : IsPlayingAt now answers playing
@@ -54,7 +54,7 @@ module _ (shape : ℕ → Option Shape) (accepts : Record → Bool) (k : Config)
   drop_all (x ∷ xs) zero le = absurd (omega arith)
   drop_all (x ∷ xs) (suc i) le = drop_all xs i (omega arith)
 
-  -- behind the last turn the play is that of all turns, and none was refused
+  -- after the last turn the play is that of all turns, and none was refused
   pub so_far_last : (i : ℕ) (now : PlayState) (answers : List EndedCall) → length ts ≤ i → IsSoFar shape accepts k ts i now answers → IsPlayingAt now answers (all_turned shape ts (playing_at_start k))
   so_far_last i now answers le s = subst (λ x. IsPlayingAt now answers x) (ap (λ l. all_turned shape l s.playing) (sym (drop_all ts i le)) ∙ s.turns) s.at
 
@@ -63,7 +63,7 @@ module _ (shape : ℕ → Option Shape) (accepts : Record → Bool) (k : Config)
       ap (λ f. or_else (setup_fault f) (turn_fault shape accepts 0 ts (playing_at_start k))) fine
       ∙ (sym s.faults ∙ ap (λ l. turn_fault shape accepts i l s.playing) (drop_all ts i le))
 
--- behind so many CPUs' runs
+-- after so many CPUs' runs
 abbrev pub RanCpus : (ℕ → Option Shape) → ℕ → PlayState → List EndedCall → PlayState → List EndedCall → Type 0
 RanCpus shape n st before now answers = (p : Playing) → IsPlayingAt st before p → IsPlayingAt now answers (cpus_ran shape n p)
 
@@ -78,7 +78,7 @@ same_map f g (suc n) e =
 pub same_reports : (k : Config) (f g : ℕ → ℕ) (h : List Deed) → ((c : ℕ) → c < k.cpus → f c ≡ g c) → reports k f h ≡ reports k g h
 same_reports k f g h e = same_map (λ c. report k c (f c) h) (λ c. report k c (g c) h) k.cpus (λ c lt. ap (λ n. report k c n h) (e c lt))
 
--- behind all runs no call is in flight
+-- after all runs no call is in flight
 pub all_idle : (shape : ℕ → Option Shape) (st new : PlayState) (before after : List EndedCall) (q : Playing) → IsPlayingAt st before q → IsPlayingAt new after (all_ran shape q)
     → IsCoherent shape st → new.config ≡ st.config → (a : Actor) → is_actor new.config a ≡ true → is_idle a new ≡ true
 all_idle shape st new before after q at ran ok same a is =

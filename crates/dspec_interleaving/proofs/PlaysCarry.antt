@@ -14,7 +14,7 @@ use Rattle.dspec_interleaving.specs.declared.refusal.StepFault.TheVariants as st
 use Rattle.dspec_interleaving.proofs.Tests.{is_nothing, passes}
 
 module _ (shape : ℕ → Option Shape) where
-  -- a play behind a step of a CPU's call in flight
+  -- a play after a step of a CPU's call in flight
   abbrev pub behind_cpu_step : ℕ → Playing → CallPlace → Playing
   behind_cpu_step c p f =
       let m = cpu_step shape p.state.config c p.state.deeds (progress_of p.state.progresses c) f in
@@ -24,7 +24,7 @@ module _ (shape : ℕ → Option Shape) where
         noted = with_note (actor.Cpu c) (op.Cpu (op_of f)) (m.deeds ++ p.entered c) p.state m.answer p.noted;
       }
 
-  -- a play behind a step of the consumer's call in flight
+  -- a play after a step of the consumer's call in flight
   abbrev pub behind_consumer_step : Playing → ConsumerFlight → Playing
   behind_consumer_step p f =
       let m = consumer_step p.state.config p.state.deeds p.state.side p.state.progresses f in

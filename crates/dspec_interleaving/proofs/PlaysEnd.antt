@@ -32,7 +32,7 @@ module _ (shape : ℕ → Option Shape) where
     consumer_begins = λ o p was about idle. record { config = was.config; coherent = begin_consumer_coherent shape p.state o was.coherent };
   }
 
-  -- behind a run no call of the actor is in flight
+  -- after a run no call of the actor is in flight
   ran_idle : (a : Actor) (p : Playing) → IsCoherent shape p.state → is_actor p.state.config a ≡ true → is_idle a (ran shape a p).state ≡ true
   ran_idle a p ok there = ⊎_elim
       (λ (idle : is_idle a p.state ≡ true). subst (λ (q : Playing). is_idle a q.state ≡ true) (sym (ended_stays shape (most_steps p.state.config a) a p idle)) idle)
@@ -67,7 +67,7 @@ module _ (shape : ℕ → Option Shape) where
     };
   }
 
-  -- behind the runs of the first CPUs none of their calls is in flight
+  -- after the runs of the first CPUs none of their calls is in flight
   cpus_rest : (k : Config) (n d : ℕ) (p : Playing) → IsCoherentPlay shape k p → n ≤ k.cpus → d < n → IsResting k d (cpus_ran shape n p)
   cpus_rest k zero d p was le lt = absurd (omega arith)
   cpus_rest k (suc n) d p was le lt =
@@ -92,7 +92,7 @@ module _ (shape : ℕ → Option Shape) where
       ran_carries shape k (IsResting k d) (rest_carried k d) (actor.Cpu n) before (cpus_rest k n d p was fewer less) there)
       (either_way (d == n))
 
-  -- behind the runs of all calls none is in flight
+  -- after the runs of all calls none is in flight
   pub all_ran_idle : (p : Playing) → IsCoherent shape p.state → (a : Actor) → is_actor p.state.config a ≡ true → is_idle a (all_ran shape p).state ≡ true
   all_ran_idle p ok (actor.Cpu d) there =
       let k : Config = p.state.config in

@@ -49,7 +49,7 @@ module _ (shape : ℕ → Option Shape) (st : PlayState) (ok : IsCoherent shape 
           let did = consumer_keeps shape st.config st.deeds st.side st.progresses ok.ranges ok.legal ok.rests ok.count ok.stands f (subst (StandsState st.config st.deeds st.side) is ok.side) in
           record { verdicts = λ id. (consumer_decides_not id _ st.deeds did.goes.by).0; solos = λ id. (consumer_decides_not id _ st.deeds did.goes.by).1 }
 
-  -- the step behind such a commit releases the slot, and is the call's last
+  -- the step after such a commit releases the slot, and is the call's last
   pub released_next : (c : ℕ) → c < st.config.cpus → (id : Speculation) (f : DecideFate) → (progress_of st.progresses c).flight ≡ Some (cpu.CommitRelease id f)
       → ReleasesLast c id f st.deeds (step shape (Cpu c) st)
   released_next c there id f is =

@@ -15,7 +15,7 @@ ReleasedNow c id ds next told = (n : ℕ) × (ds ≡ Release id.slot ∷ Discard
 abbrev pub ReleasesNext : ℕ → Speculation → List Deed → Option CallPlace → Type 0
 ReleasesNext c id ds next = (f : DecideFate) × (ds ≡ Commit c id f ∷ []) × (next ≡ Some (cpu.CommitRelease id f))
 
--- what a step decides alone is released by the call that decides: with a discard, or in the step behind a commit
+-- what a step decides alone is released by the call that decides: with a discard, or in the step after a commit
 abbrev pub KeepsSoloRule : ℕ → List Deed → List Deed → Option CallPlace → Option Answer → Type 0
 KeepsSoloRule c h ds next told = (id : Speculation) → solo id h ≡ None → solo id (ds ++ h) ≢ None → ReleasedNow c id ds next told ⊎ ReleasesNext c id ds next
 
@@ -25,7 +25,7 @@ DecidesBeside (Commit c id f) h next = ((is_commit f && is_sole_or_none c (calle
 DecidesBeside (Discard c id f) h next = (is_discard f && is_sole c (callers id h)) ≡ false
 DecidesBeside d h next = Unit {0}
 
--- no release is owed behind such a deed
+-- no release is owed after such a deed
 pub beside_rests : (d : Deed) (h : List Deed) (next : Option CallPlace) → DecidesBeside d h next → owing d h ≡ 0
 beside_rests (Discard c id f) h next e = rw e refl
 beside_rests d h next e = refl

@@ -26,7 +26,7 @@ module _ {shape : ℕ → Option Shape} {k : Config} {c : ℕ} {h : List Deed} {
   commit_begins idle first = asks_stand play id (cpu.CommitLoad id) _ _ _ _ idle
       (λ t. ends_by play (Commit c id decided.Stopped) _ play.rests (idle, refl, t) tt refl (inl refl) refl idle) (λ way. (way, omega arith)) (uncommitted_stands idle)
 
-  -- behind a commit that no other CPU's buffer waits for, the release is next
+  -- after a commit that no other CPU's buffer waits for, the release is next
   releases_next : (f : DecideFate) → OnItsWay k c h id → issue id.slot h ≡ id.issue → opened id h ≡ true → is_commit f ≡ true → is_sole_or_none c (callers id h) ≡ true → me.steps ≤ 3
       → StandsCpu k c (Commit c id f ∷ h) (record me { flight = Some (cpu.CommitRelease id f); steps = me.steps + 1 }) (cpu.CommitRelease id f)
   releases_next f way now given commits sole steps =
@@ -78,7 +78,7 @@ module _ {shape : ℕ → Option Shape} {k : Config} {c : ℕ} {h : List Deed} {
       omega arith)))
       (λ tried. commit_shown at.0 tried _ refl)
 
-  -- the release behind a commit that no other CPU's buffer waits for
+  -- the release after a commit that no other CPU's buffer waits for
   pub commit_releases : (f : DecideFate) → StandsCpu k c h me (cpu.CommitRelease id f) → StepStands shape k c h (cpu_step shape k c h me (cpu.CommitRelease id f))
   commit_releases f at =
       let is = present_is id h (sym at.5) in

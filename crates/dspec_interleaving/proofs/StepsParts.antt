@@ -13,7 +13,7 @@ use Rattle.dspec_interleaving.specs.declared.flight.Spare.TheVariants as spare
 use Rattle.dspec_deeds.proofs.{Going.GoesOn, SetUp.set_up, SoundLists.opened_in_range, SoundLists.running_not_late, TestLemmas.either_way, TestLemmas.off, TestLemmas.and_tells}
 use Rattle.dspec_deeds.proofs.{TestLemmas.cpu_is_itself}
 
--- the deed may be next behind this list
+-- the deed may be next after this list
 abbrev pub MayCome : Config → List Deed → Deed → Type 0
 MayCome k h d = MayComeBy k (facts k h) d
 
@@ -55,7 +55,7 @@ module _ {shape : ℕ → Option Shape} {k : Config} {c : ℕ} {h : List Deed} {
   one_comes d pays may own is rests = record
       { legal = ((play.legal.0, (pays, may)), (play.legal.1, own)); rests = rests; by = (tt, subst (λ w. same_actor (Cpu c) w ≡ true) (sym is) (cpu_is_itself c)) }
 
-  -- the call goes on behind deeds that seal nothing
+  -- the call goes on after deeds that seal nothing
   goes_stand : (ds : List Deed) (next : CallPlace) → GoesOn shape k (Cpu c) ds h → seals c (ds ++ h) ≡ seals c h
       → StandsCpu k c (ds ++ h) (record me { flight = Some next; steps = me.steps + 1 }) next → KeepsSoloRule c h ds (Some next) None → StepStands shape k c h (call_goes_on me ds next)
   goes_stand ds next goes same at rules = record {
@@ -64,7 +64,7 @@ module _ {shape : ℕ → Option Shape} {k : Config} {c : ℕ} {h : List Deed} {
     solo_rule = rules;
   }
 
-  -- the call ends behind deeds that seal nothing
+  -- the call ends after deeds that seal nothing
   pub ends_stand : (ds : List Deed) (a : Answer) → GoesOn shape k (Cpu c) ds h → seals c (ds ++ h) ≡ seals c h → scan k c (ds ++ h) ≡ 0 → KeepsSoloRule c h ds None (Some a)
       → StepStands shape k c h (ends me ds a)
   ends_stand ds a goes same idle rules = record {

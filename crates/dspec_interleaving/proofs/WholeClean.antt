@@ -20,7 +20,7 @@ module _ (shape : ℕ → Option Shape) (st : PlayState) (all : List CpuProgress
   abbrev cleaned : WholeConsumer
   cleaned = record { list = upto st.config.nspec; progresses = all; answer = answer.Cleaned (releases_up st.config st.config.nspec h) }
 
-  -- behind a slot
+  -- after a slot
   abbrev NextLeads : ℕ → Type 0
   NextLeads n = (side : ConsumerProgress) (ds : List Deed) (count : ℕ) → (ds ++ upto n) ≡ upto (suc n) → count ≡ releases_up st.config (suc n) h
       → Clears shape st (upto n) (next_slot st.config (upto n) side all (suc n) ds count) cleaned

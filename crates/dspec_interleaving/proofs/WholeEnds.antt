@@ -12,7 +12,7 @@ use Rattle.dspec_interleaving.proofs.{CleanedParts.answer_stays, CleanedParts.mo
 use Rattle.dspec_interleaving.proofs.{PlayerMoves.with_answer, PlayerMoves.ended_stays, PlayerMoves.step_at, StepCounts.Ends, StepCounts.StaysOn, StepCounts.is_below, StepCounts.steps_below}
 use Rattle.dspec_interleaving.proofs.{StepCounts.step_ends}
 
--- behind the run of a call one more is put down, as the steps one by one leave and answer it
+-- after the run of a call one more is put down, as the steps one by one leave and answer it
 pub record EndsAs (a : Actor) (o : Op) (es : List EndedCall) (q : Playing) (s : Stepped) : Type 0 where
   pub told : Answer
   pub answers : s.answer ≡ Some told

@@ -72,7 +72,7 @@ module _ (shape : ℕ → Option Shape) (c : ℕ) (st : PlayState) (there : c < 
       → on_to_end shape n (actor.Cpu c) (begin_cpu c o st) None ≡ record { state = behind_cpu c w st; answer = Some w.answer }
   call_alone o n w e = alone n (record (progress_of st.progresses c) { flight = Some (cpu.Begun o); steps = 0 }) st.deeds None ∙ ap lone e
 
--- a CPU's side at the beginning of a call, and behind one
+-- a CPU's side at the beginning of a call, and after one
 abbrev pub begins : CpuProgress → CpuOp → CpuProgress
 begins me o = record me { flight = Some (cpu.Begun o); steps = 0 }
 
@@ -88,7 +88,7 @@ pub open_in_range : (k : Config) (h : List Deed) (id : Speculation) → 1 ≤ k.
 open_in_range k h id some sound o = let at = opened_in_range k h id some sound (and_tells (opened id h) (is_undecided (verdict id h)) o).0 in grind (arith, nat_tests)
 
 module _ (shape : ℕ → Option Shape) (k : Config) (c : ℕ) where
-  -- behind a step, more steps of the call lead to what the whole call leaves
+  -- after a step, more steps of the call lead to what the whole call leaves
   pub record Leads (h : List Deed) (m : CpuStep) (w : WholeCpu) : Type 0 where
     pub steps : ℕ
     pub is : runs shape k c steps m.progress (m.deeds ++ h) m.answer ≡ whole w

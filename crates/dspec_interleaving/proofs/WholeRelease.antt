@@ -16,7 +16,7 @@ module _ (shape : ℕ → Option Shape) (id : Speculation) where
   abbrev IsThrough : ℕ → PlayState → Type 0
   IsThrough c st = IsReleased id st.deeds ⊎ (settled c id st.deeds ≡ true)
 
-  -- between two whole calls, behind a decision that no CPU made alone
+  -- between two whole calls, after a decision that no CPU made alone
   record Waits (st : PlayState) : Type 0 where
     rest : IsResting shape st
     shared : IsShared id st.deeds
@@ -76,7 +76,7 @@ module _ (shape : ℕ → Option Shape) (id : Speculation) where
       (λ (s : settled n id st.deeds ≡ true). inr (ap (λ b. b && settled n id st.deeds) all ∙ s)) (each n (omega arith)))
       (each_through n st (λ c lt. each c (omega arith)))
 
-  -- behind a list of whole calls
+  -- after a list of whole calls
   released_all : (xs : List Call) (st : PlayState) → AreCalls st.config xs → IsResting shape st → IsReleased id st.deeds → IsReleased id (behind_all shape xs st).deeds
   released_all [] st all rest r = r
   released_all (x ∷ xs) st all rest r = released_all xs (behind_call shape x st) (still_calls shape x xs st all.1) (behind_rests shape st rest x all.0)

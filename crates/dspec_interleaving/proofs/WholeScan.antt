@@ -14,7 +14,7 @@ use Rattle.dspec_deeds.proofs.{TestLemmas.number_is_itself, WordCodes.busy_is, W
 use Rattle.dspec_interleaving.proofs.StepsWords.{word_is_itself}
 use Rattle.dspec_interleaving.proofs.WholeLeads.{begins, later, idle, Leads, ended, worn, goes, starts, both, on_true, on_false, RunsTo}
 
--- h is the list behind the call's Scan
+-- h is the list after the call's Scan
 module _ (shape : ℕ → Option Shape) (k : Config) (c : ℕ) (h : List Deed) (sound : IsSound k h) (fresh : missed_busy c h ≡ false) where
   -- misses move no word
   missed_word : (s n : ℕ) → word_at s (missed_up shape k c n h) ≡ word_at s h
@@ -100,7 +100,7 @@ module _ (shape : ℕ → Option Shape) (k : Config) (c : ℕ) (h : List Deed) (
       (gives shape k c (idle me) h (least_free shape k c k.nspec h))
   tries n j me last none e = goes me (opened_here n j (later me (cpu.ScanTry (suc n) (word_at (suc n) h))) last (least_here n true none e))
 
-  -- behind the Misses of the slots below
+  -- after the Misses of the slots below
   scan_leads : (j n : ℕ) (me : CpuProgress) → suc (n + j) ≡ k.nspec → least_free shape k c n h ≡ None
       → Leads shape k c (missed_up shape k c n h) (cpu_step shape k c (missed_up shape k c n h) me (cpu.ScanLoad (suc n)))
       (gives shape k c (idle me) h (least_free shape k c k.nspec h))

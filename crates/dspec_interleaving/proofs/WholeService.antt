@@ -24,7 +24,7 @@ module _ (shape : ℕ → Option Shape) (k : Config) (c : ℕ) (h : List Deed) (
   sealed_rests : IsAtRest k c (Seal c ∷ h)
   sealed_rests = record { sound = (at.sound, (at.rests, tt)); rests = refl; still = at.still }
 
-  -- behind the Seal: the push, and the slots
+  -- after the Seal: the push, and the slots
   from_push : (me : CpuProgress) → Leads shape k c (Seal c ∷ h) (cpu_step shape k c (Seal c ∷ h) me cpu.ServicePush)
       (whole_service shape k c (record (idle me) { spare = spare.Handed }) (Seal c ∷ h) true)
   from_push me =

@@ -82,12 +82,12 @@ module _ (shape : ℕ → Option Shape) (k : Config) (c : ℕ) where
   settled_up_rests zero h at = at
   settled_up_rests (suc n) h at = settled_at_rests (suc n) (settled_up shape k c n h) (settled_up_rests n h at)
 
-  -- how a service's answer stands behind so many slots
+  -- how a service's answer stands after so many slots
   abbrev pub sum_at : Bool → ℕ → List Deed → Served
   sum_at b n h = record { sealed = b; settled = settlements_up_to shape k c n h }
 
   module _ (h : List Deed) (at : IsAtRest k c h) (b : Bool) where
-    -- behind the last slot
+    -- after the last slot
     serves_last : (n : ℕ) (me : CpuProgress) (ds : List Deed) (sum : Served) → suc n ≡ k.nspec → (ds ++ settled_up shape k c n h) ≡ settled_up shape k c (suc n) h → sum ≡ sum_at b (suc n) h
         → Leads shape k c (settled_up shape k c n h) (served k c (measured shape k c (settled_up shape k c n h)) me (suc n) ds sum) (whole_service shape k c (idle me) h b)
     serves_last n me ds sum last list is =
@@ -99,7 +99,7 @@ module _ (shape : ℕ → Option Shape) (k : Config) (c : ℕ) where
         (subst (λ (w : WholeCpu). Leads shape k c (settled_up shape k c n h) (ends me ds (answer.Served sum)) w) left
         (ended me))
 
-    -- behind another slot
+    -- after another slot
     serves_next : (n : ℕ) (me : CpuProgress) (ds : List Deed) (sum : Served) → suc n < k.nspec → (ds ++ settled_up shape k c n h) ≡ settled_up shape k c (suc n) h → sum ≡ sum_at b (suc n) h
         → Leads shape k c (settled_up shape k c (suc n) h)
         (cpu_step shape k c (settled_up shape k c (suc n) h) (later me (cpu.ServiceLoad (suc (suc n)) (sum_at b (suc n) h)))

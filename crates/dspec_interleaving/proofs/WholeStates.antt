@@ -92,7 +92,7 @@ module _ (shape : ℕ → Option Shape) (st : PlayState) (rest : IsResting shape
   set_idle : (c : ℕ) (x : CpuProgress) → x.flight ≡ None → (d : ℕ) → d < st.config.cpus → (progress_of (slice_set st.progresses c x) d).flight ≡ None
   set_idle c x none = put st.config.cpus (λ b (y : CpuProgress). y.flight ≡ None) st.progresses c x rest.coherent.count (λ b less other. rest.idle b less) (λ less. none)
 
-  -- behind a whole call of a CPU
+  -- after a whole call of a CPU
   cpu_rests : (c : ℕ) (o : CpuOp) → c < st.config.cpus → IsResting shape (behind_cpu c (cpu_call shape c o st) st) × Grows st.deeds (cpu_call shape c o st).list
   cpu_rests c o lt =
       let ok = rest.coherent in
@@ -139,7 +139,7 @@ module _ (shape : ℕ → Option Shape) (st : PlayState) (rest : IsResting shape
   apart (consumer_op.Take c) there = (there, rest.idle c there)
   apart o there = tt
 
-  -- behind a whole call of the consumer
+  -- after a whole call of the consumer
   consumer_rests : (o : ConsumerOp) → IsCall st.config (of_consumer o) → IsResting shape (behind_consumer (consumer_call shape o st) st) × Grows st.deeds (consumer_call shape o st).list
   consumer_rests o there =
       let ok = rest.coherent in
@@ -179,7 +179,7 @@ behind_config shape (of_consumer o) st = refl
 pub still_calls : (shape : ℕ → Option Shape) (x : Call) (xs : List Call) (st : PlayState) → AreCalls st.config xs → AreCalls (behind_call shape x st).config xs
 still_calls shape x xs st all = subst (λ k. AreCalls k xs) (sym (behind_config shape x st)) all
 
--- behind a list of whole calls
+-- after a list of whole calls
 pub rest_all : (shape : ℕ → Option Shape) (xs : List Call) (st : PlayState) → AreCalls st.config xs → IsResting shape st → IsResting shape (behind_all shape xs st)
 rest_all shape [] st all r = r
 rest_all shape (x ∷ xs) st all r = rest_all shape xs (behind_call shape x st) (still_calls shape x xs st all.1) (behind_rests shape st r x all.0)
@@ -188,7 +188,7 @@ pub config_all : (shape : ℕ → Option Shape) (xs : List Call) (st : PlayState
 config_all shape [] st = refl
 config_all shape (x ∷ xs) st = config_all shape xs (behind_call shape x st) ∙ behind_config shape x st
 
--- the list behind whole calls is legal
+-- the list after whole calls is legal
 pub whole_legal : (shape : ℕ → Option Shape) (k : Config) → start_fault k ≡ None → (xs : List Call) → AreCalls k xs → IsLegal shape k (behind_all shape xs (at_start k)).deeds
 whole_legal shape k fine xs all =
     let ok = (rest_all shape xs (at_start k) all (start_rests shape k fine)).coherent in

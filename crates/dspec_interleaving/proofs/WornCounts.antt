@@ -56,7 +56,7 @@ is_counted_on : (o : CpuOp) (x : CallPlace) → op_of x ≡ o → is_on (Some x)
 is_counted_on o (cpu.Begun p) is now = absurd (cc (now))
 is_counted_on o x is now = ap (λ y. is_counted (op.Cpu y)) (sym is) ∙ now
 
--- a call that isn't worn at a step isn't worn behind it, where it counts
+-- a call that isn't worn at a step isn't worn after it, where it counts
 unworn_on : (k : Config) (c : ℕ) (o : CpuOp) (es : List EndedCall) → is_counted (op.Cpu o) ≡ true → is_worn_behind k (actor.Cpu c) (op.Cpu o) es ≡ false
     → nat_le k.max_calls (entered_calls c es) ≡ false
 unworn_on k c o es counted e = ap (λ b. b && nat_le k.max_calls (entered_calls c es)) (sym counted) ∙ e
@@ -85,7 +85,7 @@ calls_stay c w other [] h by = refl
 calls_stay c w other (d ∷ ds) h by =
     calls_other c d (ds ++ h) (subst (λ (x : Actor). same_actor (actor.Cpu c) x ≡ false) (same_actor_tells w (author d (ds ++ h)) by.1) other) ∙ calls_stay c w other ds h by.0
 
--- what a CPU has entered stays behind another's step
+-- what a CPU has entered stays after another's step
 pub entered_beside : (k : Config) (b : ℕ) (h g : List Deed) (x : Option CallPlace) (es fs : List EndedCall) → calls b g ≡ calls b h → entered_calls b fs ≡ entered_calls b es
     → HasEntered k b h x es → HasEntered k b g x fs
 entered_beside k b h g x es fs same count was = record {
@@ -93,7 +93,7 @@ entered_beside k b h g x es fs same count was = record {
   unworn = λ on. ap (nat_le k.max_calls) count ∙ was.unworn on;
 }
 
--- what a CPU has entered behind its own step
+-- what a CPU has entered after its own step
 pub entered_now : (shape : ℕ → Option Shape) (k : Config) (c : ℕ) (h : List Deed) (me : CpuProgress) (f : CallPlace) (ds : List Deed) (st : PlayState) (ns : List Noted)
     → HasEntered k c h (Some f) (map ended ns)
     → HasEntered k c ((cpu_step shape k c h me f).deeds ++ h) (cpu_step shape k c h me f).progress.flight

@@ -199,7 +199,7 @@ module _ (shape : ℕ → Option Shape) (k : Config) (c : ℕ) (h : List Deed) (
   pub cpu_step_reads : (f : CallPlace) (own : List Deed) → OwnDeeds c h f own → ReadsOff c h me (op_of f) own (cpu_step shape k c h me f)
   cpu_step_reads f own was = (cpu_step_does f own).2 was
 
-  -- a step behind which its call is in flight has no answer
+  -- a step after which its call is in flight has no answer
   pub goes_untold : (f next : CallPlace) → (cpu_step shape k c h me f).progress.flight ≡ Some next → (cpu_step shape k c h me f).answer ≡ None
   goes_untold f next is = ⊎_elim
       (λ (ended : HasEnded (cpu_step shape k c h me f)). let idle = ended.idle in absurd (cc (idle, is)))

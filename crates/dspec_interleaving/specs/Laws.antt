@@ -50,12 +50,12 @@ module _ (shape : ℕ → Option Shape) where
       on_to_end shape (consumer_bound st.config o) actor.Consumer (begin_consumer o st) None
       ≡ record { state = behind_consumer (consumer_call shape o st) st; answer = Some (consumer_call shape o st).answer }
 
-  -- behind the play as many of the CPU's calls are counted as worn as were answered Worn
+  -- after the play as many of the CPU's calls are counted as worn as were answered Worn
   abbrev pub CountsWorn : Config → List Turn → ℕ → Type 0
   CountsWorn k ts c = (progress_of (played shape k ts).state.progresses c).worn ≡ worn_count (answers_of shape k ts) c
 
-  -- where the calls ws decide the speculation, and the calls xs behind them have a service of each CPU, a clean behind those has released its
-  -- slot, and so it stays behind the calls ys
+  -- where the calls ws decide the speculation, and the calls xs after them have a service of each CPU, a clean after those has released its
+  -- slot, and so it stays after the calls ys
   abbrev pub IsReleasedBy : Config → Speculation → List Call → List Call → List Call → Type 0
   IsReleasedBy k id ws xs ys =
       is_undecided (verdict id (behind_all shape ws (at_start k)).deeds) ≡ false → ((c : ℕ) → c < k.cpus → HasService c xs)

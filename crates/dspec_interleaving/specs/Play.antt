@@ -70,7 +70,7 @@ module _ (k : Config) (h : List Deed) (side : ConsumerProgress) (all : List CpuP
   gives_at c me spare.Out = changes c (record me { spare = spare.GivenBack }) (answer.GaveBack true)
   gives_at c me place = stops [] (answer.GaveBack false)
 
-  -- behind a slot of a clean, of which so many were released: the next one, or the call has ended
+  -- after a slot of a clean, of which so many were released: the next one, or the call has ended
   abbrev pub next_slot : ℕ → List Deed → ℕ → ConsumerStep
   next_slot s ds n = if s == k.nspec then stops ds (answer.Cleaned n) else keeps_on ds (consumer.CleanLoad (s + 1) n)
 

@@ -126,7 +126,7 @@ module _ (shape : ℕ → Option Shape) where
   abbrev pub all_ran : Playing → Playing
   all_ran p = ran actor.Consumer (cpus_ran p.state.config.cpus p)
 
-  -- behind the last turn, with all calls at their ends
+  -- after the last turn, with all calls at their ends
   abbrev pub played : Config → List Turn → Playing
   played k ts = all_ran (all_turned ts (playing_at_start k))
 

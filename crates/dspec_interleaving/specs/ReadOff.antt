@@ -42,7 +42,7 @@ is_busy_among [] = false
 is_busy_among (Miss c s busy ∷ ds) = busy || is_busy_among ds
 is_busy_among (d ∷ ds) = is_busy_among ds
 
--- what was given out; behind the Miss of the last slot, which of two ways the call failed
+-- what was given out; after the Miss of the last slot, which of two ways the call failed
 abbrev pub of_speculation : List Deed → Answer
 of_speculation [] = answer.Opening opening.Worn
 of_speculation (Opened c id ∷ ds) = answer.Opening (opening.Id id)

@@ -46,7 +46,7 @@ pub record Measured : Type 0 where
   pub mine : Speculation → Bool
   -- a record fits the principal buffer
   pub traces : Record → Bool
-  -- a record fits behind what the CPU holds of the speculation
+  -- a record fits after what the CPU holds of the speculation
   pub keeps : Speculation → Record → Bool
   -- all that the CPU holds of the speculation fits the principal buffer
   pub copies : Speculation → Bool
@@ -118,7 +118,7 @@ module _ (k : Config) (c : ℕ) (m : Measured) (me : CpuProgress) where
       if is_release act then ends me (Release id.slot ∷ Discard c id (decided.Thrown (m.count id)) ∷ []) (answer_of (decided.Thrown (m.count id)))
       else ends me (Discard c id (decided.Thrown (m.count id)) ∷ []) (answer_of (decided.Thrown (m.count id)))
 
-  -- behind the Miss of a slot: the next one, or the call has failed
+  -- after the Miss of a slot: the next one, or the call has failed
   abbrev pub missed : ℕ → SlotState → CpuStep
   missed s w =
       if s == k.nspec then ends me (Miss c s (is_decided w.code) ∷ []) (answer.Opening (if m.missed_busy s (is_decided w.code) then opening.Busy else opening.Unavailable))
@@ -139,7 +139,7 @@ module _ (k : Config) (c : ℕ) (m : Measured) (me : CpuProgress) where
   popped spare.GivenBack = sealed_by me c
   popped place = call_goes_on me [] (cpu.ServiceLoad 1 record { sealed = false; settled = 0 })
 
-  -- behind a slot of a service: the next one, or the call has ended
+  -- after a slot of a service: the next one, or the call has ended
   abbrev pub served : ℕ → List Deed → Served → CpuStep
   served s ds sum = if s == k.nspec then ends me ds (answer.Served sum) else call_goes_on me ds (cpu.ServiceLoad (s + 1) sum)
 

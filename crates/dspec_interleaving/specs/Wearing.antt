@@ -32,7 +32,7 @@ abbrev pub entered_calls : ℕ → List EndedCall → ℕ
 entered_calls c [] = 0
 entered_calls c (e ∷ es) = entered_calls c es + (if is_by c e.0 && enters_call e.1 e.2 then 1 else 0)
 
--- a call behind these is worn
+-- a call after these is worn
 abbrev pub is_worn_behind : Config → Actor → Op → List EndedCall → Bool
 is_worn_behind k (actor.Cpu c) o es = is_counted o && nat_le k.max_calls (entered_calls c es)
 is_worn_behind k actor.Consumer o es = false

@@ -53,7 +53,7 @@ module _ (shape : ℕ → Option Shape) (k : Config) (c : ℕ) where
   missed_up zero h = h
   missed_up (suc n) h = Miss c (suc n) (is_busy (suc n) h) ∷ missed_up n h
 
-  -- behind its Scan a call opens the least free slot, or misses all
+  -- after its Scan a call opens the least free slot, or misses all
   abbrev pub gives : CpuProgress → List Deed → Option ℕ → WholeCpu
   gives me h (Some s) = record { list = Opened c (present s h) ∷ missed_up (s - 1) h; progress = me; answer = answer.Opening (opening.Id (present s h)) }
   gives me h None = record { list = missed_up k.nspec h; progress = me; answer = answer.Opening (if is_any_busy k.nspec h then opening.Busy else opening.Unavailable) }
@@ -174,7 +174,7 @@ module _ (k : Config) where
   whole_consumer all h consumer_op.Clean = record { list = cleaned_up k.nspec h; progresses = all; answer = answer.Cleaned (releases_up k.nspec h) }
   whole_consumer all h consumer_op.Stop = record { list = if halted h then h else Halt ∷ h; progresses = all; answer = answer.StopDone }
 
--- the state behind a whole call
+-- the state after a whole call
 abbrev pub behind_cpu : ℕ → WholeCpu → PlayState → PlayState
 behind_cpu c w st = record st { deeds = w.list; progresses = slice_set st.progresses c w.progress }
 
@@ -197,7 +197,7 @@ module _ (shape : ℕ → Option Shape) where
   behind_call (of_cpu c o) st = behind_cpu c (cpu_call c o st) st
   behind_call (of_consumer o) st = behind_consumer (consumer_call o st) st
 
-  -- behind whole calls, the first at the head
+  -- after whole calls, the first at the head
   abbrev pub behind_all : List Call → PlayState → PlayState
   behind_all [] st = st
   behind_all (x ∷ xs) st = behind_all xs (behind_call x st)

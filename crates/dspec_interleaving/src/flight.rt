@@ -5,7 +5,7 @@ use dspec_deeds::{ConsumerOp, CpuOp, DecideFate, Served};
 use dspec_record::Rec;
 use dspec_word::{SpecId, Word};
 
-/// A call of a CPU in flight: which atomic step comes next, and what the call was shown before. A `..Try` is behind a
+/// A call of a CPU in flight: which atomic step comes next, and what the call was shown before. A `..Try` is after a
 /// word that was shown, which the next exchange expects.
 #[derive(Clone, Copy, Debug, PartialEq, Eq)]
 pub enum CallPlace {

@@ -59,7 +59,7 @@ pub fn worn_rule()
         → AreWornRightly k (reverse (answers_of shape k ts)) }
 {}
 
-/// The settlements of the close keep the list legal, and what waits behind them waits for a speculation that is undecided.
+/// The settlements of the close keep the list legal, and what waits after them waits for a speculation that is undecided.
 pub fn close_is_legal()
     ensures legal { (shape : ℕ → Option Shape) (st : PlayState) → IsCoherent shape st
         → AreCpusIdle st → IsLegal shape st.config (closing shape st.config st.deeds) }

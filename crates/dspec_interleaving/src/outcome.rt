@@ -47,7 +47,7 @@ pub enum PlayFault {
 
 impl Error for PlayFault {}
 
-/// As a schedule's fault is told, behind the turn's number where it has one.
+/// As a schedule's fault is told, after the turn's number where it has one.
 impl fmt::Display for PlayFault {
     fn fmt<W: fmt::Write>(&self, f: &mut fmt::Formatter<W>) -> fmt::Result {
         match self {

@@ -71,7 +71,7 @@ impl<'a, T> IntoIterator for &'a Series<T> {
 }
 
 impl<T: Drop> Series<T> {
-    /// Adds a value behind the last. A refused growth changes nothing.
+    /// Adds a value after the last. A refused growth changes nothing.
     pub fn push(&mut self, value: T) -> Result<(), AllocError>
         ensures ok { OnOk result (self.new ≡ self.old ++ value ∷ []) }
         ensures countable { OnOk result (length self.new < 2 ^ 64) }

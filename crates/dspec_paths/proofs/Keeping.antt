@@ -192,7 +192,7 @@ older_kept lacks waits n book ps new k p a j d x z y keeps named older so (inr (
 goes_by : (lacks : Speculation → Type 0) (waits : Bool) (book : PathBook) (ps new : Places) (k : PathKey) (p : OpenPath) (a : PathEnd) (j : Speculation) (d : Decided) (x z y : CallsMade)
     (n : ℕ) (b : Bool) → loses_block d ≡ b → KeepsPaths book ps x.done → IsNamed k ps p → p.older ≡ Some j → CommitsSo j d x z
     → KeepsRest lacks waits b n k (record p { older = None; is_kept = true }) a z y ps new → GoesTo book new y.done
-goes_by lacks waits book ps new k p a j d x z y n true is keeps named older so (whole, (e, last), places) = older_lost book ps new k p j d e x z y keeps named older so is last places
+goes_by lacks waits book ps new k p a j d x z y n true is keeps named older so ((e, whole, last), places) = older_lost book ps new k p j d e x z y keeps named older so is last places
 goes_by lacks waits book ps new k p a j d x z y n false is keeps named older so newest = older_kept lacks waits n book ps new k p a j d x z y keeps named older so newest
 
 commits : (lacks : Speculation → Type 0) (waits : Bool) (book : PathBook) (ps new : Places) (k : PathKey) (p : OpenPath) (a : PathEnd) (x y : CallsMade) (o : Option Speculation) → p.older ≡ o
@@ -210,7 +210,7 @@ keeps_on lacks waits book ps new k a x y keeps (inr (p, named, on)) = commits la
 goes_on_by : (book : PathBook) (ps new : Places) (k : PathKey) (p : OpenPath) (a : PathEnd) (j : Speculation) (d : Decided) (x z y : CallsMade) (n : ℕ) (b : Bool)
     → loses_block d ≡ b → KeepsPaths book ps x.done → IsNamed k ps p → p.older ≡ Some j → CommitsSo j d x z
     → GoesOnOrLost b n k (record p { older = None; is_kept = true }) a z y ps new → GoesTo book new y.done
-goes_on_by book ps new k p a j d x z y n true is keeps named older so (whole, (e, last), places) = older_lost book ps new k p j d e x z y keeps named older so is last places
+goes_on_by book ps new k p a j d x z y n true is keeps named older so ((e, whole, last), places) = older_lost book ps new k p j d e x z y keeps named older so is last places
 goes_on_by book ps new k p a j d x z y n false is keeps named older so (goes, calls, places) =
     older_kept (λ (id : Speculation). Unit {0}) true n book ps new k p (path.Waits n) j d x z y keeps named older so (inl (refl, refl, tt, calls, places))
 

@@ -3,5 +3,6 @@ mod Deciding
 mod Fates
 mod Keeping
 mod Moving
+mod OneCpu
 mod Opening
 mod Turned

@@ -1,5 +1,5 @@
 -- Cited by calls. What calls on the paths of a thread, or on all, did.
-use Rattle.std.specs.Prelude.{ℕ, zero, suc, ◌≡◌, ◌==◌, Bool, true, false, ◌⊎◌, Some}
+use Rattle.std.specs.Prelude.{ℕ, zero, suc, ◌≡◌, ◌==◌, Bool, true, false, ◌⊎◌, Option, Some, None, if◌then◌else◌}
 use Rattle.dspec_paths.specs.{Table.Places, Table.DiscardsPath, Table.IsUnchanged, Table.KeepsPath, Table.path_at, Words.Outside.CallsMade, Words.Outside.Speculation}
 use Rattle.dspec_paths.specs.{declared.open_path.OpenPath.OpenPath, declared.path_end.PathEnd.PathEnd, declared.path_key.PathKey.PathKey, declared.whose.WhosePaths.WhosePaths}
 use Rattle.dspec_paths.specs.{declared.whose.WhosePaths.TheVariants.All, declared.whose.WhosePaths.TheVariants.Thread}
@@ -8,6 +8,14 @@ use Rattle.dspec_paths.specs.{declared.whose.WhosePaths.TheVariants.All, declare
 abbrev pub is_meant : WhosePaths → ℕ → Bool
 is_meant All thread = true
 is_meant (Thread one) thread = one == thread
+
+-- the path that is open at a place, where it is meant
+abbrev pub where_meant : WhosePaths → Option OpenPath → Option OpenPath
+where_meant whose (Some p) = if is_meant whose p.thread then Some p else None
+where_meant whose None = None
+
+abbrev pub meant_path : WhosePaths → ℕ → Places → Option OpenPath
+meant_path whose i ps = where_meant whose (path_at i ps)
 
 -- the name of a path at its place
 abbrev pub key_at : ℕ → OpenPath → PathKey

@@ -2,7 +2,7 @@
 use Rattle.std.specs.{List.AllByRecursion, Prelude.ℕ, Prelude.◌≡◌, Prelude.Bool, Prelude.List, Prelude.◌∷◌, Prelude.Option}
 use Rattle.dspec_paths.specs.PathPage.{DecidesItself, GoesTo, HasFates, IsNobodys, KeepsPaths, PathBook, Spares}
 use Rattle.dspec_paths.specs.Table.{Places, AdoptsPath, BeginsBy, DiscardsPath, IsUndecided, KeepsPart, KeepsPath, TurnsBy}
-use Rattle.dspec_paths.specs.Words.Outside.{CallsMade, Opening, Did, handed, Speculation}
+use Rattle.dspec_paths.specs.Words.Outside.{CallsMade, Opening, Did, handed, Speculation, did, TellNumbers, Shape, IsLegal, Config, Deed}
 use Rattle.dspec_paths.specs.declared.{open_path.OpenPath.OpenPath, path_end.PathEnd.PathEnd, path_key.PathKey.PathKey}
 use Rattle.dspec_deeds.specs.declared.calls.Opening.TheVariants as opening
 
@@ -39,4 +39,12 @@ abbrev pub OthersKeep : Type 0
 OthersKeep = (book : PathBook) (ps : Places) (ds : List Did) (d : Did) → KeepsPaths book ps ds → Spares book d → KeepsPaths book ps (d ∷ ds)
 
 abbrev pub RecordsHaveFates : Type 0
-RecordsHaveFates = (book : PathBook) (ps : Places) (ds : List Did) → AllByRecursion DecidesItself ds → KeepsPaths book ps ds → HasFates book (handed ds)
+RecordsHaveFates = (book : PathBook) (ps : Places) (ds : List Did) → AllByRecursion DecidesItself ds → TellNumbers ds → KeepsPaths book ps ds → HasFates book (handed ds)
+
+-- the deeds of a session of one CPU: it decides itself, and so its records have these fates
+abbrev pub OneCpuDecidesItself : Type 0
+OneCpuDecidesItself = (shape : ℕ → Option Shape) (k : Config) (h : List Deed) → k.cpus ≡ 1 → IsLegal shape k h → AllByRecursion DecidesItself (did 0 h)
+
+abbrev pub OneCpuHasFates : Type 0
+OneCpuHasFates = (shape : ℕ → Option Shape) (k : Config) (h : List Deed) (book : PathBook) (ps : Places) → k.cpus ≡ 1 → IsLegal shape k h → KeepsPaths book ps (did 0 h)
+    → HasFates book (handed (did 0 h))

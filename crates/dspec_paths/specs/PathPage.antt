@@ -1,5 +1,6 @@
 -- Cited by calls. What a table promises of the paths that began in it: this page, over what its CPU's calls did (the page of dspec_promise).
-use Rattle.std.specs.{List.AllByRecursion, Prelude.ℕ, Prelude.◌≡◌, Prelude.◌≢◌, Prelude.◌+◌, Prelude.◌≤◌, Prelude.Bool, Prelude.true, Prelude.false, Prelude.List, Prelude.Some, Prelude.None}
+use Rattle.std.specs.List.{AllByRecursion}
+use Rattle.std.specs.Prelude.{ℕ, ◌≡◌, ◌≢◌, ◌+◌, ◌≤◌, Bool, true, false, List, Some, None, ◌⊎◌}
 use Rattle.dspec_paths.specs.{Table.Places, Table.path_at, Words.Outside.commit, Words.Outside.discard, Words.Outside.Did, Words.Outside.emptied, Words.Outside.some, Words.Outside.is_same_id}
 use Rattle.dspec_paths.specs.{Words.Outside.HandedRecord, Words.Outside.taken, Words.Outside.discarded, Words.Outside.Speculation, declared.open_path.OpenPath.OpenPath}
 use Rattle.dspec_deeds.specs.declared.deed.DecideFate.TheVariants as decide
@@ -113,10 +114,11 @@ IsNobodys book ds id = (book.owner id ≡ 0) × NotCopied id ds × NotThrown id 
 abbrev pub Spares : PathBook → Did → Type 0
 Spares book d = (id : Speculation) → book.owner id ≢ 0 → (copies id d ≡ false) × (throws id d ≡ false)
 
--- whoever empties a buffer by copying it commits, and whoever throws it away discards: so it is where no other CPU decides, and in each session of one CPU
+-- Whoever empties a buffer by copying it commits, and whoever throws records away discards. So it is in each session of one CPU, whose services throw away only
+-- buffers without a record.
 abbrev pub DecidesItself : Did → Type 0
 DecidesItself (emptied b id (decide.Copied n)) = b ≡ commit
-DecidesItself (emptied b id (decide.Thrown n)) = b ≡ discard
+DecidesItself (emptied b id (decide.Thrown n)) = (b ≡ discard) ⊎ (n ≡ 0)
 DecidesItself d = Unit {0}
 
 -- 6. WHAT IT SAYS OF RECORDS. No record of a path that was thrown away, is lost as a whole, or was cut came out; and none of a kept path was thrown away, but

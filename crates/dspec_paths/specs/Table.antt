@@ -48,9 +48,13 @@ abbrev pub begun_with : ℕ → ℕ → ℕ → Speculation → OpenPath
 begun_with number thread stamp id = record { number = number; thread = thread; begun = stamp; newest = id; older = None; is_kept = false; cut = 0 }
 
 -- how many records a discard threw away
+abbrev pub thrown_by : Decided → ℕ
+thrown_by (decided.Thrown n) = n
+thrown_by d = 0
+
 abbrev pub thrown : Option Decided → ℕ
-thrown (Some (decided.Thrown n)) = n
-thrown d = 0
+thrown (Some d) = thrown_by d
+thrown None = 0
 
 -- The path goes on in this speculation; the one before is full, and the one before that was discarded with this answer, where there was one. What that threw
 -- away is counted, to the largest number that the count can tell.
@@ -119,9 +123,9 @@ abbrev pub loses_block : Decided → Bool
 loses_block (decided.Lost n) = true
 loses_block d = false
 
--- a path is lost as a whole: its last speculation is discarded
+-- a path is lost as a whole: its last speculation is discarded, which threw so many records away
 abbrev pub LosesPath : PathKey → OpenPath → PathEnd → CallsMade → CallsMade → Places → Places → Type 0
-LosesPath k p a x y ps new = (a ≡ path.Lost) × ((d : Decided) × DiscardsSo p.newest d x y) × (new ≡ without_path k ps)
+LosesPath k p a x y ps new = ((d : Decided) × (a ≡ path.Lost (thrown_by d)) × DiscardsSo p.newest d x y) × (new ≡ without_path k ps)
 
 -- Its older one was committed. Where its block was lost the path is lost as a whole; else the path stays, with so many older records copied.
 abbrev pub GoesOnOrLost : Bool → ℕ → PathKey → OpenPath → PathEnd → CallsMade → CallsMade → Places → Places → Type 0

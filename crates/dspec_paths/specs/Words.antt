@@ -1,10 +1,11 @@
 -- Serves proofs. The words of this crate for its proofs and for the crates above, in one place. Declares nothing.
 pub mod Outside
 unfoldable pub use Outside.*
-pub use Rattle.dspec_paths.specs.Every.{DiscardsIfMeant, EachOf, KeepsIfMeant, key_at}
+pub use Rattle.dspec_paths.specs.Every.{DiscardsIfMeant, EachOf, KeepsIfMeant, key_at, meant_path}
 pub use Rattle.dspec_paths.specs.Open.{places_of}
 pub use Rattle.dspec_paths.specs.PathPage.{Became, copies, DecidesItself, FateOf, GoesOnTo, GoesTo, going, HasFates, IsDecided, IsHere, IsNobodys, IsOver, keeping, KeepsPaths, kept, lost, no_paths}
 pub use Rattle.dspec_paths.specs.PathPage.{nobodys, NotCopied, NotThrown, open_state, PathBook, PathState, Spares, thrown_away, throws}
-pub use Rattle.dspec_paths.specs.Table.{AdoptsPath, at_place, BeginsBy, begun_with, Commits, CommitsNewest, CommitsOlder, CommitsPart, CommitsSo, copied_by, DiscardsIfThere, DiscardsPath}
-pub use Rattle.dspec_paths.specs.Table.{DiscardsSo, GoesOnOrLost, IsNamed, IsUnchanged, IsUndecided, KeepsPart, KeepsPath, KeepsRest, loses_block, path_at, Places, ThrowsAway, turned_to, TurnsBy}
-pub use Rattle.dspec_paths.specs.Table.{with_path, without_path}
+pub use Rattle.dspec_paths.specs.Rooms.{LacksRoom}
+pub use Rattle.dspec_paths.specs.Table.{AdoptsPath, at_place, BeginsBy, BeginsPath, begun_with, Commits, CommitsNewest, CommitsOlder, CommitsPart, CommitsSo, copied_by, DiscardsIfThere}
+pub use Rattle.dspec_paths.specs.Table.{DiscardsPath, DiscardsSo, GoesOnOrLost, IsAlone, IsNamed, IsUnchanged, IsUndecided, KeepsPart, KeepsPath, KeepsRest, loses_block, path_at, Places, ThrowsAway}
+pub use Rattle.dspec_paths.specs.Table.{turned_to, TurnsBy, TurnsPath, with_path, without_path}

@@ -1,9 +1,10 @@
-ghost use Rattle.std.specs.Prelude.{◌≡◌, ◌<◌, IfNone, IfSome, None, replicate, slice_set};
+ghost use Rattle.std.specs.Prelude.{◌≡◌, ◌<◌, IfNone, IfOk, IfSome, None, replicate, slice_set};
 ghost use Rattle.dspec_paths.specs.{Open.places_of, Table.AdoptsPath, Table.IsNamed, Table.IsUndecided, Table.NoneNamed, Table.NoneUndecided, Table.path_at};
 
 use crate::open_path::OpenPath;
 use crate::path_key::PathKey;
 use crate::paths::{MAX_PATHS, Paths};
+use std::alloc::{AllocError, Global};
 
 impl Paths {
     /// No path is open.
@@ -13,6 +14,16 @@ impl Paths {
         Paths {
             places: [None; MAX_PATHS],
         }
+    }
+
+    /// The same in a box, which takes all the memory that a table ever takes.
+    pub fn boxed(alloc: Global) -> Result<Box<Paths>, AllocError>
+        ensures { IfOk result (λ b. places_of b.value ≡ replicate 64 None) }
+    {
+        let Ok(made) = Box::new(alloc, Paths::new()) else {
+            return Err(AllocError);
+        };
+        Ok(made)
     }
 
     /// The path that is open at a place, of which there are `MAX_PATHS`, from 0 on.

@@ -1,6 +1,6 @@
 ghost use Rattle.std.specs.Prelude.{◌≡◌, ◌<◌};
-ghost use Rattle.dspec_paths.specs.Open.{places_of};
-ghost use Rattle.dspec_paths.specs.Table.{CommitsNewest, CommitsOlder, CommitsOlderPart, CommitsOrWaits, copied_by, DiscardsPath, KeepsPart, KeepsRest, IsNamed, KeepsPath, loses_block, LosesPath};
+ghost use Rattle.dspec_paths.specs.{Open.places_of, Table.CommitsNewest, Table.CommitsOlder, Table.CommitsOlderPart, Table.CommitsOrWaits, Table.copied_by, Table.DiscardsPath, Table.KeepsPart};
+ghost use Rattle.dspec_paths.specs.{Table.KeepsRest, Table.IsNamed, Table.KeepsPath, Table.loses_block, Table.LosesPath, Table.thrown_by};
 
 use crate::open_path::OpenPath;
 use crate::path_end::PathEnd;
@@ -28,6 +28,16 @@ fn records_copied(answer: Decided) -> u32
 {
     match answer {
         Decided::Copied(count) => count,
+        _ => 0,
+    }
+}
+
+// How many records a discard threw away.
+pub(crate) fn records_thrown(answer: Decided) -> u32
+    ensures { result ≡ thrown_by answer }
+{
+    match answer {
+        Decided::Thrown(count) => count,
         _ => 0,
     }
 }
@@ -107,9 +117,9 @@ impl Paths {
         ensures same { B.identity cpu.new ≡ B.identity cpu.old }
         ensures loses { LosesPath key.now path.now result (B.made cpu.old) (B.made cpu.new) (places_of self.old) (places_of self.new) }
     {
-        cpu.discard(path.newest);
+        let gone = cpu.discard(path.newest);
         self.put(key.place, None);
-        PathEnd::Lost
+        PathEnd::Lost(records_thrown(gone))
     }
 
     // Its last records, after so many older ones.

@@ -1,6 +1,7 @@
 ghost use Rattle.std.specs.Prelude.{◌≡◌, length};
-ghost use Rattle.dspec_paths.specs.{Every.DiscardsIfMeant, Every.EachOf, Every.KeepsIfMeant, Every.is_meant, Open.places_of};
+ghost use Rattle.dspec_paths.specs.{Every.DiscardsIfMeant, Every.EachOf, Every.KeepsIfMeant, Every.is_meant, Every.meant_path, Open.places_of};
 
+use crate::open_path::OpenPath;
 use crate::path_key::PathKey;
 use crate::paths::Paths;
 use crate::speculation_calls::SpeculationCalls;
@@ -17,6 +18,18 @@ fn means(whose: WhosePaths, thread: u32) -> bool
 }
 
 impl Paths {
+    /// The path that is open at a place, where it is meant.
+    #[inline]
+    pub fn open_of(&self, place: u32, whose: WhosePaths) -> Option<OpenPath>
+        ensures { result ≡ meant_path whose place (places_of self.now) }
+    {
+        let path = self.open_at(place)?;
+        if !means(whose, path.thread) {
+            return None;
+        }
+        Some(path)
+    }
+
     /// Keeps the path at a place, where it is meant.
     fn keep_at<B: SpeculationCalls>(&mut self, cpu: &mut B, place: u32, whose: WhosePaths)
         ensures same { B.identity cpu.new ≡ B.identity cpu.old }

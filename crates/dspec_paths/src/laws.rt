@@ -1,7 +1,7 @@
 //! The laws of the page, each a function without a body.
 ghost use Rattle.std.specs.Prelude.{None, [], replicate};
-ghost use Rattle.dspec_paths.specs.Laws.{AdoptingKeeps, BeginningKeeps, DiscardingKeeps, KeepingKeeps, KeepingPartKeeps, OthersKeep, RecordsHaveFates, TurningKeeps};
-ghost use Rattle.dspec_paths.specs.PathPage.{KeepsPaths, no_paths};
+ghost use Rattle.dspec_paths.specs.{Laws.AdoptingKeeps, Laws.BeginningKeeps, Laws.DiscardingKeeps, Laws.KeepingKeeps, Laws.KeepingPartKeeps, Laws.OneCpuDecidesItself, Laws.OneCpuHasFates};
+ghost use Rattle.dspec_paths.specs.{Laws.OthersKeep, Laws.RecordsHaveFates, Laws.TurningKeeps, PathPage.KeepsPaths, PathPage.no_paths};
 
 use crate::speculation_calls::SpeculationCalls;
 
@@ -49,4 +49,15 @@ pub fn others_keep()
 /// thrown away, but those that were cut. So it is where the CPU decides itself what becomes of its buffers.
 pub fn records_have_fates()
     ensures { RecordsHaveFates }
+{}
+
+/// In a session of one CPU that CPU decides itself, whatever legal list of deeds there was. A service throws away only a buffer without a
+/// record: that of a speculation which was discarded before its first one.
+pub fn one_cpu_decides_itself()
+    ensures { OneCpuDecidesItself }
+{}
+
+/// So of such a session the page of paths says what became of each record.
+pub fn one_cpu_has_fates()
+    ensures { OneCpuHasFates }
 {}

@@ -32,7 +32,8 @@ mod whose;
 
 pub use laws::{
     adopting_keeps, beginning_keeps, discarding_keeps, keeping_a_part_keeps, keeping_keeps,
-    no_path_keeps, others_keep, records_have_fates, turning_keeps,
+    no_path_keeps, one_cpu_decides_itself, one_cpu_has_fates, others_keep, records_have_fates,
+    turning_keeps,
 };
 pub use lent_cpu::LentCpu;
 pub use open_path::OpenPath;

@@ -11,6 +11,6 @@ pub enum PathEnd {
     GoesOn(u32),
     /// It is over. This call copied so many of its older records, and decided its last ones so.
     Ended(u32, Decided),
-    /// It is over, and lost as a whole: its older records had no room.
-    Lost,
+    /// It is over, and lost as a whole: its older records had no room. So many of its last ones were thrown away.
+    Lost(u32),
 }

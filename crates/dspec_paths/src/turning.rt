@@ -1,6 +1,7 @@
 ghost use Rattle.std.specs.Prelude.{◌≡◌, ◌<◌};
 ghost use Rattle.dspec_paths.specs.{Open.places_of, Table.DiscardsIfThere, Table.TurnsTo, Table.TurnsPath, Table.thrown};
 
+use crate::ending::records_thrown;
 use crate::open_path::OpenPath;
 use crate::path_key::PathKey;
 use crate::paths::Paths;
@@ -22,13 +23,13 @@ pub(crate) fn discard_if_there<B: SpeculationCalls>(
     }
 }
 
-// How many records a discard threw away.
-fn thrown_by(gone: Option<Decided>) -> u32
+// How many records a discard threw away, where there was one.
+fn thrown_with(gone: Option<Decided>) -> u32
     ensures { result ≡ thrown gone }
 {
     match gone {
-        Some(Decided::Thrown(count)) => count,
-        _ => 0,
+        Some(answer) => records_thrown(answer),
+        None => 0,
     }
 }
 
@@ -65,7 +66,7 @@ impl Paths {
         let turned = OpenPath {
             newest: id,
             older: Some(path.newest),
-            cut: path.cut.saturating_add(thrown_by(gone)),
+            cut: path.cut.saturating_add(thrown_with(gone)),
             ..*path
         };
         self.put(key.place, Some(turned));

@@ -117,7 +117,7 @@ fn push_lanes(
     Ok(())
 }
 
-/// What stands behind the marks of a CPU, in one row.
+/// What stands after the marks of a CPU, in one row.
 fn push_frame(
     text: &mut String,
     page: &Sheet<'_>,

@@ -58,7 +58,7 @@ fn first_look(fate: SpeculateFate) -> RecordStyle {
     }
 }
 
-/// The look, in the end, of a record that the CPU offered to the speculation, by the deeds behind that.
+/// The look, in the end, of a record that the CPU offered to the speculation, by the deeds after that.
 pub(crate) fn spoken_look(
     cpu: u32,
     id: SpecId,

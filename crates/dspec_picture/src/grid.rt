@@ -78,7 +78,7 @@ pub(crate) fn bar_top(slot: u32, deeds: &[Deed]) -> u64 {
         .saturating_add(16)
 }
 
-/// Where the boxes of a slot's lane begin in the CPU's band; the stream's begin where the lane of a slot behind the last one would.
+/// Where the boxes of a slot's lane begin in the CPU's band; the stream's begin where the lane of a slot after the last one would.
 pub(crate) fn lane_top(cpu: u32, slot: u32, deeds: &[Deed]) -> u64 {
     let mut lanes = 0u64;
     for below in 0..slot {

@@ -18,7 +18,7 @@ const STACK: u64 = 22;
 /// How far the foot of a small text stands above what it names.
 pub(crate) const ABOVE: u64 = 3;
 
-/// A column of a CPU's band, with the deeds before its own and behind that.
+/// A column of a CPU's band, with the deeds before its own and after that.
 #[derive(Clone, Copy)]
 struct ColumnMark<'a> {
     page: Sheet<'a>,

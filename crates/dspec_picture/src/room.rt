@@ -95,7 +95,7 @@ fn rounded(offset: u32, align: u32) -> u64
     (offset + 3) / 4 * 4
 }
 
-/// The bytes that so many take behind a place, those of the padding before them with them.
+/// The bytes that so many take after a place, those of the padding before them with them.
 pub(crate) fn bytes_needed(reach: u32, align: u32, size: u32) -> u64 {
     if size == 0 {
         return 0;

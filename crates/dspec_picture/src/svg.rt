@@ -15,7 +15,7 @@ pub(crate) enum RecordStyle {
     Dropped,
     /// A discard threw it away.
     Discarded,
-    /// It was offered behind a stop, or to a speculation that wasn't open.
+    /// It was offered after a stop, or to a speculation that wasn't open.
     Void,
     /// It waited for a decision that never came.
     Abandoned,
@@ -77,7 +77,7 @@ pub(crate) fn print_words(
     )
 }
 
-/// The same with a number behind it.
+/// The same with a number after it.
 pub(crate) fn print_numbered(
     text: &mut String,
     class: &str,

@@ -14,7 +14,7 @@ use dspec_interleaving::PlayFault;
 use dspec_record::{Header, Schema};
 use std::alloc::{AllocError, Global};
 
-/// The number of a turn, counted from 1; 0 behind the last.
+/// The number of a turn, counted from 1; 0 after the last.
 fn tell_turn(text: &mut String, turn: u64) -> Result<(), AllocError> {
     if turn == 0 {
         return text.push_str("end, ");
@@ -29,7 +29,7 @@ fn tell_actor(text: &mut String, actor: Actor) -> Result<(), AllocError> {
     }
 }
 
-/// Deeds, each behind what is told.
+/// Deeds, each after what is told.
 fn tell_deeds<S: Schema>(
     text: &mut String,
     config: &Config,
@@ -44,7 +44,7 @@ fn tell_deeds<S: Schema>(
     Ok(())
 }
 
-/// The deeds behind so many.
+/// The deeds after so many.
 fn behind(deeds: &[Deed], count: usize) -> &[Deed] {
     &deeds[count.min(deeds.len())..]
 }

@@ -84,13 +84,13 @@ fn tell_speculate(
     text.push_str(spoken_name(fate))
 }
 
-/// A speculation, behind what is done with it and a space.
+/// A speculation, after what is done with it and a space.
 pub(crate) fn tell_about(text: &mut String, verb: &str, id: SpecId) -> Result<(), AllocError> {
     let number = id.raw();
     write!(text, "{verb}{number}")
 }
 
-/// A decision or a settlement, behind its name and a space.
+/// A decision or a settlement, after its name and a space.
 fn tell_verb(
     text: &mut String,
     verb: &str,
@@ -132,7 +132,7 @@ fn tell_deed(text: &mut String, header: Header, deed: &Deed) -> Result<(), Alloc
     }
 }
 
-/// How many bytes were needed behind those that a buffer of this size has, and how many were left.
+/// How many bytes were needed after those that a buffer of this size has, and how many were left.
 fn tell_refused(
     text: &mut String,
     size: u32,
@@ -233,7 +233,7 @@ fn tell_refusal<S: Schema>(
     }
 }
 
-/// A deed behind what is told.
+/// A deed after what is told.
 pub(crate) fn tell_behind<S: Schema>(
     text: &mut String,
     config: &Config,
@@ -255,7 +255,7 @@ pub(crate) fn tell_load(text: &mut String, slot: u32, word: Word) -> Result<(), 
     tell_word(text, slot, word)
 }
 
-/// A word of a slot, behind what is told of it.
+/// A word of a slot, after what is told of it.
 fn tell_found(text: &mut String, told: &str, slot: u32, word: Word) -> Result<(), AllocError>
     requires slot { slot < 64 }
 {

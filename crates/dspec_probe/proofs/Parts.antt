@@ -1,4 +1,4 @@
--- Parts of a record, one behind the other.
+-- Parts of a record, one after the other.
 use Rattle.std.proofs.Common.{◌≡◌, ◌≤◌, ◌<◌, ◌+◌, ◌*◌, ◌^◌, ◌++◌, ◌∷◌, ◌∙◌, ◌&&◌, ℕ, Bool, true, false, IsTrue, List, [], length, take, drop, Option, Some, None, option_map, nat_lt, ltb, ap, refl}
 use Rattle.std.proofs.Common.{sym, subst, arith, length-append}
 use Rattle.std.proofs.lemmas.List.{take_at, drop_at}
@@ -50,7 +50,7 @@ value_number-append start (f ∷ fs) gs [] us h = absurd (cc)
 value_number-append start (f ∷ fs) gs (v ∷ vs) us h =
     omega (arith, value_number-append (after start (width f) (width f)) fs gs vs us (both (ltb v (256 ^ width f)) (fits fs vs) h).1)
 
--- there is room for the first part, and behind it for the others
+-- there is room for the first part, and after it for the others
 pub first-free : (start : ℕ) (fs gs : List Field) (ws : List ℕ) → AreFree start (fs ++ gs) ws → AreFree start fs ws
 first-free start fs gs ws free = record { near = omega (arith, free.near, length-append fs gs); below = free.below }
 

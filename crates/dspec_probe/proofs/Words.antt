@@ -1,4 +1,4 @@
--- Words that are filled one behind the other.
+-- Words that are filled one after the other.
 use Rattle.std.proofs.Common.{◌≡◌, ◌<◌, ◌+◌, ◌-◌, ◌++◌, ◌∷◌, ◌∙◌, ℕ, suc, List, [], length, map, take, set, ap, sym, append_assoc, arith}
 use Rattle.std.proofs.lemmas.List.{take_more_set}
 use Rattle.std.specs.List.{range_with_len}

@@ -1,4 +1,4 @@
--- Cited by calls. How a `FieldList` holds fields: those behind them hold one value.
+-- Cited by calls. How a `FieldList` holds fields: those after them hold one value.
 use Rattle.std.specs.Prelude.{◌≡◌, ◌≤◌, ◌-◌, ◌++◌, List, length, take, drop, replicate}
 use Rattle.dspec_probe.specs.{Words.Outside.Field, Words.Outside.One, declared.field_list.FieldList.TheInside.Inside}
 

@@ -15,7 +15,7 @@ next_words (k ∷ ks) = (if is_next k then 1 else 0) + next_words ks
 abbrev pub name_place : List Kind → ℕ → ℕ
 name_place kinds place = place - next_words (take (place + 1) kinds)
 
--- the first eight of these kinds; behind the last it is Unsigned
+-- the first eight of these kinds; after the last it is Unsigned
 abbrev pub eight_kinds : List Kind → List Kind
 eight_kinds ks =
     slice_index_or ks 0 Unsigned ∷ slice_index_or ks 1 Unsigned ∷ slice_index_or ks 2 Unsigned ∷ slice_index_or ks 3 Unsigned

@@ -12,7 +12,7 @@ abbrev pub one_of : {V : Type 0} → (ℕ → Option V) → List ℕ → Option 
 one_of value (n ∷ []) = value n
 one_of value _ = None
 
--- the first so many for the first part, and those behind them for the others
+-- the first so many for the first part, and those after them for the others
 abbrev pub both_of : {V W : Type 0} → ℕ → (List ℕ → Option V) → (List ℕ → Option W) → List ℕ → Option (V × W)
 both_of n first others ns =
     if nat_lt (length ns) n then None

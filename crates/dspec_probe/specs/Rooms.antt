@@ -1,4 +1,4 @@
--- Serves proofs. Parts of a record have room behind each other.
+-- Serves proofs. Parts of a record have room after each other.
 use Rattle.std.proofs.Common.{◌≡◌, ◌≤◌, ◌+◌, ◌++◌, ℕ, List, length, length-append, arith}
 use Rattle.dspec_probe.specs.{Words.Outside.Field, declared.kind.Kind.Kind}
 

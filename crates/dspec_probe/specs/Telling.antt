@@ -1,4 +1,4 @@
--- Cited by calls. A record as text: the name of its probe, and behind it what each field says, by its name.
+-- Cited by calls. A record as text: the name of its probe, and after it what each field says, by its name.
 use Rattle.std.specs.{Float.Ieee.binary32, Float.Ieee.binary64, Fmt.option_append, Fmt.signed_decimal, Int.w8, Int.w16, Int.w32, Int.w64, Option.option_map_or, Prelude.ℕ, Prelude.zero, Prelude.suc}
 use Rattle.std.specs.{Prelude.◌^◌, Prelude.◌-◌, Prelude.◌++◌, Prelude.Bool, Prelude.true, Prelude.false, Prelude.ℤ, Prelude.List, Prelude.[], Prelude.length, Prelude.nat_eq, Prelude.nat_lt}
 use Rattle.std.specs.{Prelude.slice_get, Prelude.slice_index_or, Prelude.if◌then◌else◌, Prelude.Option, Prelude.Some, Prelude.None, Prelude.option_map, Prelude.option_and_then, Prelude.codes}

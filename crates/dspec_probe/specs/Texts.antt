@@ -21,7 +21,7 @@ cut_place bytes size =
     else if not (continues_at bytes (size - 3)) then size - 3
     else size
 
--- the word at a place, of the bytes and of what fills the words behind them
+-- the word at a place, of the bytes and of what fills the words after them
 unfoldable pub text_word : List ℕ → ℕ → ℕ → ℕ
 text_word bytes fill place =
     from_le_bytes w64
@@ -32,7 +32,7 @@ text_word bytes fill place =
 abbrev pub filled_words : ℕ → List ℕ → ℕ → List ℕ
 filled_words count bytes fill = map (text_word bytes fill) (range_with_len 0 count)
 
--- A text in so many words: zeros behind its end, or, where it is longer, full stops behind the cut.
+-- A text in so many words: zeros after its end, or, where it is longer, full stops after the cut.
 unfoldable pub text_words : ℕ → List ℕ → List ℕ
 text_words count bytes =
     if nat_le (length bytes) (8 * count) then filled_words count bytes 0

@@ -56,7 +56,7 @@ impl FieldList {
         }
     }
 
-    /// One more behind them.
+    /// One more after them.
     #[inline(always)]
     pub fn with(self, field: Field) -> FieldList
         requires { length self < 8 }

@@ -16,14 +16,14 @@ pub trait Fields: Copy {
     /// What the numbers of a record stand for, if for anything.
     ghost values_of: { List ℕ → Option Self };
 
-    /// What each of these numbers means, and Unsigned behind the last: eight in all.
+    /// What each of these numbers means, and Unsigned after the last: eight in all.
     ghost kinds_are: { List Kind };
 
     /// The fields that they take.
     fn fields() -> FieldList
         ensures { result ≡ fields_are };
 
-    /// What the number of each field means, in their order; behind the last it is Unsigned.
+    /// What the number of each field means, in their order; after the last it is Unsigned.
     fn kinds() -> [Kind; 8]
         ensures { result ≡ kinds_are };
 
@@ -37,7 +37,7 @@ pub trait Fields: Copy {
     fn values(numbers: &[u64]) -> Option<Self>
         ensures { result ≡ values_of numbers.now };
 
-    /// Adds the values to words of eight bytes that hold nothing behind the first four bytes, each at its place in a record without a
+    /// Adds the values to words of eight bytes that hold nothing after the first four bytes, each at its place in a record without a
     /// stamp; answers where the last one ends.
     fn pack(self, words: &mut [u64; 9]) -> usize
         requires { AreFree 4 fields_are words.old }

@@ -36,7 +36,7 @@ impl NumberList {
         }
     }
 
-    /// One more behind them.
+    /// One more after them.
     #[inline(always)]
     pub fn with(self, number: u64) -> NumberList
         requires { length self < 8 }

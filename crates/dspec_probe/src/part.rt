@@ -7,7 +7,7 @@ use crate::{FieldList, Kind, Value};
 use dspec_record::laid_out::pack_behind;
 use std::marker::PhantomData;
 
-/// The places that a record has left, as a type: `Full`, or a `Place` and those behind it.
+/// The places that a record has left, as a type: `Full`, or a `Place` and those after it.
 pub trait Room {
     /// How many they are.
     ghost places: { ℕ };
@@ -16,7 +16,7 @@ pub trait Room {
 /// No place is left.
 pub struct Full;
 
-/// A place, and others behind it.
+/// A place, and others after it.
 pub struct Place<R>(PhantomData<R>);
 
 /// The eight places of a record.
@@ -32,7 +32,7 @@ impl<R: Room> Room for Place<R> {
 
 /// A part of a record's values, in these places: a `Value`, which takes one, or a text, which takes as many as it has words.
 pub trait Part<R: Room>: Copy {
-    /// The places behind it.
+    /// The places after it.
     type Left: Room;
 
     /// The fields that it takes.
@@ -52,17 +52,17 @@ pub trait Part<R: Room>: Copy {
         requires { length fields_are ≤ 8 }
         ensures { result ≡ length fields_are };
 
-    /// Its fields behind others.
+    /// Its fields after others.
     fn fields_behind(others: FieldList) -> FieldList
         requires { length others + length fields_are ≤ 8 }
         ensures { result ≡ others ++ fields_are };
 
-    /// What the number at a place of its own means; behind the last it is Unsigned.
+    /// What the number at a place of its own means; after the last it is Unsigned.
     fn kind_at(place: usize) -> Kind
         requires { length fields_are ≤ 8 }
         ensures { result ≡ slice_index_or kinds_are place Unsigned };
 
-    /// Its numbers behind others: they fit its fields, and stand for nothing else.
+    /// Its numbers after others: they fit its fields, and stand for nothing else.
     fn numbers_behind(self, others: NumberList) -> NumberList
         requires { length others + length fields_are ≤ 8 }
         ensures holds { result ≡ others ++ numbers_of self }

@@ -17,7 +17,7 @@ pub struct ProbeNames<'n> {
     pub event: &'n str,
     /// Of each field one; a text has one, whatever words it has.
     pub fields: &'n [&'n str],
-    /// Of each field what its number means, and of a text each word; behind the last it is Unsigned.
+    /// Of each field what its number means, and of a text each word; after the last it is Unsigned.
     pub kinds: [Kind; 8],
     /// Of each name what the field's values 0, 1, .. are called, as far as they have labels; None where no field's have.
     pub labels: Option<&'n [&'n [&'n str]]>,

@@ -57,7 +57,7 @@ impl ToldText {
         count
     }
 
-    // Its byte at a place; zero behind its last word.
+    // Its byte at a place; zero after its last word.
     fn byte(&self, place: usize) -> u8 {
         if place / 8 >= self.count() {
             return 0;
@@ -286,7 +286,7 @@ impl fmt::Display for ToldField<'_> {
     }
 }
 
-/// A record as text, by the declaration of its probe: the probe's name, and behind it each field by its name, as
+/// A record as text, by the declaration of its probe: the probe's name, and after it each field by its name, as
 /// `end request=0 done=false micros=11857`. A number that has a label is told by that, a truth value as `true` or `false`, a signed
 /// number and a float as what they are, a text between quotes. How a float and a text are written isn't promised.
 #[derive(Debug, Clone, Copy)]
@@ -305,7 +305,7 @@ impl<'n> Told<'n> {
         self.rec.values().len()
     }
 
-    /// The field at this place, counted from 0; behind the last one without a name.
+    /// The field at this place, counted from 0; after the last one without a name.
     pub fn field(&self, place: usize) -> ToldField<'n>
         ensures name { result.name.now ≡ told_name self.now place }
         ensures meaning { result.meaning ≡ told_meaning self.now place }

@@ -7,11 +7,11 @@ use crate::{FieldList, Kind, Value};
 use dspec_record::Field;
 use std::alloc::{AllocError, Global};
 
-/// What stands behind a text that was cut.
+/// What stands after a text that was cut.
 const FULL_STOP: u8 = b'.';
 
-/// A text of so many words of eight bytes, 1 to 6, as a field of a record: zeros stand behind its end. A longer one is cut, where its
-/// bytes are UTF-8 at the border of a character, and full stops stand behind the cut. So its last byte isn't zero, which tells of the cut.
+/// A text of so many words of eight bytes, 1 to 6, as a field of a record: zeros stand after its end. A longer one is cut, where its
+/// bytes are UTF-8 at the border of a character, and full stops stand after the cut. So its last byte isn't zero, which tells of the cut.
 #[derive(Debug, Clone, Copy, PartialEq, Eq)]
 pub struct Text<const N: usize> {
     pub(crate) words: [u64; N],
@@ -47,7 +47,7 @@ fn cut_place(bytes: &[u8], size: usize) -> usize
     size
 }
 
-/// The byte at a place, or what stands behind the bytes.
+/// The byte at a place, or what stands after the bytes.
 fn byte_at(bytes: &[u8], place: usize, fill: u8) -> u8
     ensures { result ≡ slice_index_or bytes.now place fill }
 {
@@ -76,7 +76,7 @@ fn text_word(bytes: &[u8], fill: u8, place: usize) -> u64
     ])
 }
 
-/// Fills words with these bytes, and with this one behind them.
+/// Fills words with these bytes, and with this one after them.
 fn put_words(bytes: &[u8], fill: u8, words: &mut [u64])
     requires { length words.old ≤ 6 }
     ensures { words.new ≡ filled_words (length words.old) bytes.now fill }

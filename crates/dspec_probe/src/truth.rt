@@ -14,7 +14,7 @@ fn is_truth<F: Fields>(count: usize, place: usize) -> bool
     F::values(&numbers[..count]).is_none()
 }
 
-/// Which fields are truth values; behind the last none is.
+/// Which fields are truth values; after the last none is.
 pub(crate) fn truths<F: Fields>() -> [bool; 8]
     ensures { result ≡ truths_of F.values_of (length F.fields_are) }
 {

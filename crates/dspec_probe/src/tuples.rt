@@ -7,7 +7,7 @@ use dspec_record::Rec;
 
 /// A tuple of one to eight parts of a record, which is these parts as pairs.
 pub trait Tuple: Copy {
-    /// The parts: a pair of the first and of those behind it, down to `()`.
+    /// The parts: a pair of the first and of those after it, down to `()`.
     type Parts: Part<Eight>;
 
     /// The parts of a tuple.

@@ -15,7 +15,7 @@ abbrev before : List Deed
 before = Commit 0 id (decide.Copied 1) ∷ Trace 0 (r 3) trace.Kept ∷ Trace 1 (r 5) trace.Dropped ∷ Speculate 1 id (r 2) speculate.Kept
     ∷ Speculate 0 id (r 1) speculate.Kept ∷ Opened 0 id ∷ Scan 0 true ∷ []
 
--- the committing CPU's copy comes behind what it had traced
+-- the committing CPU's copy comes after what it had traced
 it_came : cpu_stream (did 0 before) ≡ r 1 ∷ r 3 ∷ []
 it_came = refl
 

@@ -24,7 +24,7 @@ all_did h c = did c h
 abbrev pub DecidedSoFar : ℕ → List Deed → Type 0
 DecidedSoFar cpus h = (c : ℕ) → AllDecided cpus (all_did h) (handed (did c h))
 
--- so it was at the beginning, and behind each deed of the list
+-- so it was at the beginning, and after each deed of the list
 abbrev pub AtEachMoment : (List Deed → Type 0) → List Deed → Type 0
 AtEachMoment P [] = P []
 AtEachMoment P (d ∷ h) = AtEachMoment P h × P (d ∷ h)

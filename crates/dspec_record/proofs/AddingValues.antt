@@ -35,7 +35,7 @@ width-some Eight = omega arith
 
 -- ---- sums
 
--- a value behind a number of so many bytes: its word still holds the sum
+-- a value after a number of so many bytes: its word still holds the sum
 pub sum-in-word : (f : Field) (v end n word place : ℕ) → v < 256 ^ width f → n < 256 ^ end → place ≡ rounded_up end (width f) → word ≤ n / 2 ^ (64 * (place / 8))
     → word + v * 2 ^ (place % 8 * 8) < 2 ^ 64
 sum-in-word f v end n word place holds below at held =
@@ -93,7 +93,7 @@ number_of_words-add (suc j) x (w ∷ ws) within =
     ap (λ b. x * 2 ^ b) bits ∙ ap (λ p. x * p) (pow-add 2 (64 * j) 64) ∙ sym (mul_assoc x (2 ^ (64 * j)) (2 ^ 64)) in
     omega (arith, moved, number_of_words-add j x ws (omega arith))
 
--- a field behind `end` stands in one of nine words
+-- a field after `end` stands in one of nine words
 pub word-within : (f : Field) (end place : ℕ) → rounded_up end 8 ≤ 64 → place ≡ rounded_up end (width f) → place / 8 < 9
 word-within f end place near at = omega (arith, at, near, place-near f end, width-some f)
 

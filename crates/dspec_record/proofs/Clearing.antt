@@ -1,4 +1,4 @@
--- A value that is written in eight bytes, with the zeros behind it.
+-- A value that is written in eight bytes, with the zeros after it.
 use Rattle.std.proofs.Common.{◌≡◌, ◌≤◌, ◌<◌, ◌+◌, ◌-◌, ◌++◌, ◌^◌, ℕ, zero, suc, List, [], ◌∷◌, length, take, drop, get_or, replicate, sym, ◌∙◌, ap, arith, refl}
 use Rattle.std.proofs.Math.Seq.{take-append-add}
 use Rattle.std.proofs.lemmas.Bool.Decides.{nat_tests}
@@ -46,7 +46,7 @@ place-near Two end place at = omega arith
 place-near Four end place at = omega arith
 place-near Eight end place at = omega arith
 
--- the gap before the value is clear, and the value stands behind it
+-- the gap before the value is clear, and the value stands after it
 pub written-put : (f : Field) (v end place : ℕ) (out new : List ℕ) → take (place + 8) new ≡ take place out ++ little_endian 8 v → place ≡ rounded_up end (width f)
     → place + 8 ≤ length out → IsClearBehind end out → take (place + width f) new ≡ take end out ++ (gap end (width f) ++ little_endian (width f) v)
 written-put f v end place out new put at room clear =
@@ -73,7 +73,7 @@ ends-within Two end place k at near = omega arith
 ends-within Four end place k at near = omega arith
 ends-within Eight end place k at near = omega arith
 
--- and what is behind it is clear
+-- and what is after it is clear
 pub written-clear : (f : Field) (v end place : ℕ) (out new : List ℕ) → take (place + 8) new ≡ take place out ++ little_endian 8 v → v < 256 ^ width f → place ≡ rounded_up end (width f)
     → place + 8 ≤ length out → IsClearBehind (place + width f) new
 written-clear f v end place out new put holds at room =

@@ -108,7 +108,7 @@ pub AreCut-value : (i end : ℕ) (vs ws : List ℕ) (fs : List Field) → i < le
     ≡ number_of_words ws / 256 ^ rounded_up end (width (get_or fs i One)) % 256 ^ width (get_or fs i One)
 AreCut-value i end vs ws fs within small count is = grind (arith, nat_tests, cut-word, place-whole, AreCut-place)
 
--- behind the last field they are all
+-- after the last field they are all
 pub AreCut-end : (i end : ℕ) (vs : List ℕ) (fs : List Field) (n : ℕ) → length fs ≤ i → AreCut i end vs fs n → vs ≡ cuts 4 fs n
 AreCut-end i end vs fs n past is =
     sym (append-nil vs) ∙ ap (λ gs. vs ++ cuts end gs n) (sym (drop_all i fs past)) ∙ is.cut

@@ -36,7 +36,7 @@ fields_text-moved o (f ∷ fs) (v ∷ vs) =
     ∙ ap (λ n. gap o (width f) ++ (little_endian (width f) v ++ fields_text n fs vs)) (after-moved f o)
     ∙ ap (λ t. gap o (width f) ++ (little_endian (width f) v ++ t)) (fields_text-moved next fs vs)
 
--- the bytes of the fields are the same behind a stamp
+-- the bytes of the fields are the same after a stamp
 pub moved : (fs : List Field) (vs : List ℕ) → fields_text 12 fs vs ≡ fields_text 4 fs vs
 moved fs vs = fields_text-moved 4 fs vs
 

@@ -10,13 +10,13 @@ front-one : (epid : ℕ) (out : List ℕ) → take 8 out ≡ little_endian 8 epi
 front-one epid out put =
     sym (take-take 4 8 out (omega arith)) ∙ ap (take 4) put ∙ take-little_endian 4 8 epid (omega arith)
 
--- the EPID, and behind it the stamp's two words
+-- the EPID, and after it the stamp's two words
 front-two : (epid stamp word : ℕ) (begun out : List ℕ) → epid < 2 ^ 32 → word ≡ epid + stamp % 2 ^ 32 * 2 ^ 32 → length (take 8 begun) ≡ 8 → take 8 begun ≡ little_endian 8 word
     → take 16 out ≡ take 8 begun ++ little_endian 8 (stamp / 2 ^ 32)
     → take 12 out ≡ little_endian 4 epid ++ (little_endian 4 (stamp % 2 ^ 32) ++ little_endian 4 (stamp / 2 ^ 32))
 front-two epid stamp word begun out small is long first put = grind (arith, nat_tests, take-take, take-append-add, take-little_endian, little_endian-parts)
 
--- the same under a header that is one of the two, with the zeros behind it
+-- the same under a header that is one of the two, with the zeros after it
 pub one-put : (h : Header) (r : Record) (word : ℕ) (out : List ℕ) → h ≡ header.One → word ≡ r.epid → take 8 out ≡ little_endian 8 word → take (fields_start h) out ≡ header_text h r
 one-put h r word out is same put = grind (arith, nat_tests, front-one)
 

@@ -10,7 +10,7 @@ use Rattle.dspec_record.specs.declared.field.Field.{Field, TheVariants.One, TheV
 pub take-padded : (fs : List Field) (n : ℕ) → n ≡ length fs → take n (padded_limits fs) ≡ map limit fs
 take-padded fs n is = take_at (map limit fs) (replicate (8 - length fs) 0) n (length-map fs limit ∙ sym is)
 
--- the first `i` limits of these fields are written, and those behind them hold zero
+-- the first `i` limits of these fields are written, and those after them hold zero
 pub record AreKnown (i : ℕ) (limits : List ℕ) (fs : List Field) : Type 0 where
   pub eight : length limits ≡ 8
   pub known : take i limits ++ map limit (drop i fs) ≡ map limit fs
@@ -46,7 +46,7 @@ ltb-limit Two v = leb-suc-suc v 65535
 ltb-limit Four v = leb-suc-suc v 4294967295
 ltb-limit Eight v = leb-suc-suc v 18446744073709551615
 
--- what is left fits if its first value does, and those behind it
+-- what is left fits if its first value does, and those after it
 fits-more : (i : ℕ) (fs : List Field) (vs : List ℕ) → i < length fs → i < length vs
     → fits (drop i fs) (drop i vs) ≡ (leb (get_or vs i 0) (limit (get_or fs i One)) && fits (drop (i + 1) fs) (drop (i + 1) vs))
 fits-more i fs vs field value = grind (arith, nat_tests, drop_more, ltb-limit)

@@ -92,6 +92,6 @@ AreMasked-next i end place masks fs within few is at =
       near = subst (λ e. rounded_up e 8 ≤ 8 + 8 * (i + 1)) next (omega (arith, is.near, next-near f end));
     }
 
--- behind the last field they are whole
+-- after the last field they are whole
 pub AreMasked-end : (i end : ℕ) (masks : List ℕ) (fs : List Field) → length fs ≤ i → AreMasked i end masks fs → masks ≡ words_of_number 9 (mask_number 4 fs)
 AreMasked-end i end masks fs past is = grind (arith, nat_tests, drop_all)

@@ -22,7 +22,7 @@ kept-masked ws ms kept n is masks room each =
     masked_words-is ws ms (take n kept) (omega (arith, is)) (length-take-le n kept room ∙ is)
     (λ i within. get_or-take n kept i 0 (omega (arith, is)) ∙ each i (omega (arith, is)))
 
--- one word more, behind the first
+-- one word more, after the first
 pub words-put : (at low i place end : ℕ) (ws initial out new : List ℕ) → 1 ≤ i → i < length ws → place ≡ at + 8 * i → end ≡ at + 8 * (i + 1)
     → take (place + 8) new ≡ take place out ++ little_endian 8 (get_or ws i 0)
     → take (at + 8 * i) out ≡ take at initial ++ bytes_of_words (take i (with_low low ws))
@@ -38,7 +38,7 @@ words-put at low (suc i) place end (w ∷ rest) initial out new past within at_w
         → take end new ≡ take at initial ++ bytes_of_words (take (i + 1) ws)
     words-more at i place end ws initial out new within at_word at_end put so_far = grind (arith, nat_tests, append_assoc, bytes_of_words-more)
 
--- all of them, behind what was written before
+-- all of them, after what was written before
 pub all-put : (at low i : ℕ) (ws out first new : List ℕ) → i ≡ length ws → at ≤ length out
     → take (at + 8) first ≡ take at out ++ little_endian 8 (get_or ws 0 0 + low)
     → take (at + 8 * i) new ≡ take at first ++ bytes_of_words (take i (with_low low ws))

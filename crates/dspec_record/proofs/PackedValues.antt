@@ -59,7 +59,7 @@ clean-of_number fs vs ws fit room is =
     ∙ ap (λ t. little_endian 4 0 ++ t) (packed-text 4 fs vs fit)
     ∙ ap (λ r. little_endian 4 0 ++ fields_text 4 fs r.values) (sym (record-of_number 0 0 fs vs ws fit is))
 
--- words behind the last that a number needs hold nothing
+-- words after the last that a number needs hold nothing
 pub taken-number : (n : ℕ) (ws : List ℕ) → number_of_words ws < 2 ^ (64 * n) → number_of_words (take n ws) ≡ number_of_words ws
 taken-number zero ws below = omega (arith, below)
 taken-number (suc n) [] below = refl

@@ -1,4 +1,4 @@
--- Records as words at a few small ones: a field of four bytes, and one byte with eight behind it.
+-- Records as words at a few small ones: a field of four bytes, and one byte with eight after it.
 use Rattle.std.proofs.Common.{◌≡◌, ◌+◌, ◌-◌, ◌*◌, ◌^◌, List, [], ◌∷◌, ◌++◌, Some, None, refl}
 use Rattle.dspec_record.specs.Words.{little_endian, record_text, packed_record, words_in, claim_of, claimed, mask_number, words_of_number, masked_words, IsClean}
 use Rattle.dspec_record.specs.declared.field.Field.{Field, TheVariants.One, TheVariants.Four, TheVariants.Eight}

@@ -26,7 +26,7 @@ place-le Two o = omega arith
 place-le Four o = omega arith
 place-le Eight o = omega arith
 
--- the first `i` places of these fields are written, and those behind them hold zero
+-- the first `i` places of these fields are written, and those after them hold zero
 pub record ArePlaced (i end : ℕ) (places : List ℕ) (fs : List Field) : Type 0 where
   pub eight : length places ≡ 8
   pub laid : take i places ++ field_places end (drop i fs) ≡ field_places 4 fs
@@ -59,7 +59,7 @@ ArePlaced-next i end places fs within few is =
       near = omega (arith, is.near, after-le f end);
     }
 
--- fields that begin `moved` bytes behind where these places are counted from
+-- fields that begin `moved` bytes after where these places are counted from
 pub record IsPlaced (moved end : ℕ) (fs : List Field) (places : List ℕ) : Type 0 where
   pub from : ℕ
   pub words : moved % 8 ≡ 0

@@ -16,7 +16,7 @@ pub record IsReading (h : Header) (all : List Field) (epid stamp : ℕ) (text : 
   pub exact : rounded_up (fields_end end fs) 4 ≡ length text
   pub short : length text ≤ 128
 
--- the header at the front, put together of its EPID and of what is behind it
+-- the header at the front, put together of its EPID and of what is after it
 header-front : (h : Header) (epid stamp : ℕ) (vs text : List ℕ) → 4 ≤ fields_start h → take 4 text ≡ little_endian 4 epid
     → drop 4 (take (fields_start h) text) ≡ stamp_text h stamp → header_text h (record { epid = epid; stamp = stamp; values = vs }) ≡ take (fields_start h) text
 header-front h epid stamp vs text low front behind = grind (arith, nat_tests, take-take, take-append-drop)
@@ -52,7 +52,7 @@ take-add n m xs =
     ∙ sym (ap (λ q. take n (take (n + m) xs) ++ q) (drop-take n m xs))
     ∙ take-append-drop n (take (n + m) xs)
 
--- what is read of one field: zeros in its gap, and the value's bytes behind them
+-- what is read of one field: zeros in its gap, and the value's bytes after them
 pub record HasField (text : List ℕ) (end : ℕ) (f : Field) (v : ℕ) : Type 0 where
   pub zeros : take (rounded_up end (width f) - end) (drop end text) ≡ gap end (width f)
   pub value : little_endian (width f) v ≡ take (width f) (drop (rounded_up end (width f)) text)
@@ -137,7 +137,7 @@ next-within d all epid stamp text end read i place w within inv at wide =
 gap-is : (text : List ℕ) (end place : ℕ) → end ≤ place → place ≤ length text → length (take (place - end) (drop end text)) ≡ place - end
 gap-is text end place low high = omega (arith, length-take (place - end) (drop end text), length-drop end text)
 
--- one iteration: the gap from `end` to `place` is zero, and `v` has the `w` bytes behind it
+-- one iteration: the gap from `end` to `place` is zero, and `v` has the `w` bytes after it
 pub IsReading-next : (d : Header) (all : List Field) (epid stamp : ℕ) (text : List ℕ) (end : ℕ) (read : List ℕ) (i place w v : ℕ) → i < length all
     → IsReading d all epid stamp text end read i (drop i all) → place ≡ rounded_up end (width (get_or all i One)) → w ≡ width (get_or all i One)
     → take (place - end) (drop end text) ≡ replicate (length (take (place - end) (drop end text))) 0 → v < 256 ^ width (get_or all i One)
@@ -176,7 +176,7 @@ no_more d all epid stamp text end read i past w = grind (arith, nat_tests, drop_
 rest-is : (text : List ℕ) (end : ℕ) → end ≤ length text → length (take (length text - end) (drop end text)) ≡ length text - end
 rest-is text end high = gap-is text end (length text) high (omega arith)
 
--- the bytes behind the last field
+-- the bytes after the last field
 rest-zero : (text : List ℕ) (end : ℕ) → end ≤ length text → rounded_up end 4 ≡ length text
     → take (length text - end) (drop end text) ≡ replicate (length (take (length text - end) (drop end text))) 0 → drop end text ≡ gap end 4
 rest-zero text end high exact zeros =

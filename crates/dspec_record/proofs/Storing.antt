@@ -1,4 +1,4 @@
--- The bytes of clean words where they are stored with an EPID, and behind it a stamp, in place of the zeros before the fields.
+-- The bytes of clean words where they are stored with an EPID, and after it a stamp, in place of the zeros before the fields.
 use Rattle.std.proofs.Common.{◌≡◌, ◌≤◌, ◌<◌, ◌+◌, ◌-◌, ◌*◌, ◌/◌, ◌%◌, ◌^◌, ◌++◌, ℕ, All, List, [], ◌∷◌, length, take, get_or, refl, sym, ◌∙◌, ap, arith}
 use Rattle.std.proofs.Math.Seq.{take-append-add, take-take}
 use Rattle.std.proofs.lemmas.{Bool.Decides.nat_tests, List.length-append, List.append_assoc, List.append-nil, List.take_more, List.Elements.All-head, List.Elements.All-tail}
@@ -7,7 +7,7 @@ use Rattle.dspec_record.specs.{Words.bytes_of_words, Words.IsClean, Words.rounde
 use Rattle.dspec_record.proofs.{Cutting.moved, LittleEndian.little_endian-append, LittleEndian.little_endian-parts}
 use Rattle.dspec_record.specs.declared.header.Header.TheVariants as header
 
--- words stored one behind the other are their number's bytes
+-- words stored one after the other are their number's bytes
 pub bytes_of_words-little_endian : (ws : List ℕ) → All (λ w. w < 2 ^ 64) ws → bytes_of_words ws ≡ little_endian (8 * length ws) (number_of_words ws)
 bytes_of_words-little_endian [] small = refl
 bytes_of_words-little_endian (w ∷ ws) small =
@@ -20,7 +20,7 @@ bytes_of_words-little_endian (w ∷ ws) small =
     ∙ ap (little_endian (8 + 8 * length ws)) turned
     ∙ ap (λ k. little_endian k (w + 2 ^ 64 * n)) count
 
--- the first four bytes and what stands behind them, of clean words
+-- the first four bytes and what stands after them, of clean words
 record CleanParts (fs : List Field) (ws : List ℕ) (left : ℕ) : Type 0 where
   zeros : little_endian 4 (number_of_words ws) ≡ little_endian 4 0
   fields : take ((layout header.One fs).size - 4) (little_endian left (number_of_words ws / 256 ^ 4)) ≡ fields_text 4 fs (cuts 4 fs (number_of_words ws))
@@ -28,7 +28,7 @@ record CleanParts (fs : List Field) (ws : List ℕ) (left : ℕ) : Type 0 where
 size-from_four : (fs : List Field) → (layout header.One fs).size ≡ 4 + ((layout header.One fs).size - 4)
 size-from_four fs = omega (arith, fields_end-ge 4 fs, rounded_up-ge Four (fields_end 4 fs))
 
--- what is taken of four bytes and others behind them
+-- what is taken of four bytes and others after them
 take-behind_four : (size : ℕ) (x : ℕ) (t : List ℕ) → size ≡ 4 + (size - 4) → take size (little_endian 4 x ++ t) ≡ little_endian 4 x ++ take (size - 4) t
 take-behind_four size x t is =
     ap (λ k. take k (little_endian 4 x ++ t)) is ∙ take-append-add (little_endian 4 x) t (size - 4)

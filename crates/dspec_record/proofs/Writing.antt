@@ -6,7 +6,7 @@ use Rattle.dspec_record.specs.Words.{rounded_up-ge, fields_end-ge, layout-IsShap
 use Rattle.dspec_record.specs.declared.{field.Field.Field, field.Field.TheVariants.Four, header.Header.Header}
 use Rattle.dspec_record.proofs.Clearing.{clear-part, take-add}
 
--- `out` holds the text up to `end`, with zeros behind it, and these fields and values are still to be written
+-- `out` holds the text up to `end`, with zeros after it, and these fields and values are still to be written
 pub record IsWriting (text : List ℕ) (size end : ℕ) (out : List ℕ) (fs : List Field) (vs : List ℕ) : Type 0 where
   pub laid : take end out ++ fields_text end fs vs ≡ text
   pub exact : rounded_up (fields_end end fs) 4 ≡ size
@@ -42,13 +42,13 @@ IsWriting-near text size end out fs vs w =
 regroup : (a b c d : List ℕ) → (a ++ (b ++ c)) ++ d ≡ a ++ (b ++ (c ++ d))
 regroup a b c d = simp append_assoc
 
--- a value is written behind the gap before it
+-- a value is written after the gap before it
 pub IsWriting-next : (text : List ℕ) (size end : ℕ) (out out' : List ℕ) (f : Field) (fs : List Field) (v : ℕ) (vs : List ℕ) → IsWriting text size end out (f ∷ fs) (v ∷ vs)
     → length out' ≡ length out → take (after end (width f) (width f)) out' ≡ take end out ++ (gap end (width f) ++ little_endian (width f) v)
     → IsClearBehind (after end (width f) (width f)) out' → IsWriting text size (after end (width f) (width f)) out' fs vs
 IsWriting-next text size end out out' f fs v vs w same put clear = grind (arith, nat_tests, regroup)
 
--- with the zeros behind the last field the text is whole
+-- with the zeros after the last field the text is whole
 pub IsWriting-end : (text : List ℕ) (size end : ℕ) (out : List ℕ) (vs : List ℕ) → IsWriting text size end out [] vs → take size out ≡ text
 IsWriting-end text size end out vs w =
     let n : ℕ = size - end in

@@ -15,7 +15,7 @@ padded_places fs = field_places 4 fs ++ replicate (8 - length fs) 0
 abbrev pub padded_limits : List Field → List ℕ
 padded_limits fs = map limit fs ++ replicate (8 - length fs) 0
 
--- there are eight fields, and those behind the list hold one value; shape and places are the list's layout without a stamp, and
+-- there are eight fields, and those after the list hold one value; shape and places are the list's layout without a stamp, and
 -- the limits, the number of words and their masks are those of the fields
 pub record IsLaidOut (a : Inside) : Type 0 where
   pub eight : length a.fields ≡ 8

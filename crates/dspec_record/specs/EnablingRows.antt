@@ -10,7 +10,7 @@ pub record EnabledRows : Type 0 where
 abbrev pub rows_of : Inside → EnabledRows
 rows_of a = record { header = a.header; rows = take a.count a.rows }
 
--- there are 64 places, and those behind the enablings have no fields; the stamp is what moves the fields from where they begin without
+-- there are 64 places, and those after the enablings have no fields; the stamp is what moves the fields from where they begin without
 pub record IsFilled (a : Inside) : Type 0 where
   pub stamp : 4 + a.stamp ≡ fields_start a.header
   pub places : length a.rows ≡ 64

@@ -53,7 +53,7 @@ claims_from epid (fs ∷ rows) = claim_of epid fs ∷ claims_from (epid + 1) row
 abbrev pub padded_claims : List (List Field) → List ℕ
 padded_claims rows = claims_from 1 rows ++ replicate (64 - length rows) 0
 
--- values of fields that are laid one behind the other from `start` on, each at its place, as one number
+-- values of fields that are laid one after the other from `start` on, each at its place, as one number
 abbrev pub value_number : ℕ → List Field → List ℕ → ℕ
 value_number start (f ∷ fs) (v ∷ vs) =
     v * 256 ^ rounded_up start (width f) + value_number (after start (width f) (width f)) fs vs
@@ -64,7 +64,7 @@ pub record AreFree (start : ℕ) (fs : List Field) (ws : List ℕ) : Type 0 wher
   pub near : rounded_up start 8 + 8 * length fs ≤ 72
   pub below : number_of_words ws < 256 ^ start
 
--- these values of fields are added to words behind `start`, and the last field ends at `end`
+-- these values of fields are added to words after `start`, and the last field ends at `end`
 pub record ArePacked (start : ℕ) (fs : List Field) (vs : List ℕ) (old : List ℕ) (end : ℕ) (new : List ℕ) : Type 0 where
   pub end_is : end ≡ fields_end start fs
   pub added : number_of_words new ≡ number_of_words old + value_number start fs vs
@@ -82,7 +82,7 @@ words_of_number (suc k) n = n % 2 ^ 64 ∷ words_of_number k (n / 2 ^ 64)
 unfoldable pub masks_for : List Field → List ℕ
 masks_for fs = words_of_number 9 (mask_number 4 fs)
 
--- each word with the mask at its place; no words behind the last mask
+-- each word with the mask at its place; no words after the last mask
 abbrev pub masked_words : List ℕ → List ℕ → List ℕ
 masked_words [] ms = []
 masked_words (w ∷ ws) [] = []

@@ -1,4 +1,4 @@
--- Cited by calls. How a `Rec` holds a record: its values, and zeros behind them.
+-- Cited by calls. How a `Rec` holds a record: its values, and zeros after them.
 use Rattle.std.specs.Prelude.{◌≡◌, ◌≤◌, ◌-◌, ◌++◌, length, take, drop, replicate}
 use Rattle.dspec_record.specs.{Record.Record, declared.record.Rec.TheInside.Inside}
 

@@ -12,7 +12,7 @@ little_endian n x = bytes_low_first 0 n x
 abbrev pub gap : ℕ → ℕ → List ℕ
 gap o a = replicate (rounded_up o a - o) 0
 
--- the bytes from `start` on: each value behind the gap to its place, and the gap that rounds up the size
+-- the bytes from `start` on: each value after the gap to its place, and the gap that rounds up the size
 abbrev pub fields_text : ℕ → List Field → List ℕ → List ℕ
 fields_text start (f ∷ fs) (v ∷ vs) =
     gap start (width f) ++ (little_endian (width f) v ++ fields_text (after start (width f) (width f)) fs vs)
@@ -27,7 +27,7 @@ stamp_text header.Two stamp = little_endian 4 (stamp % 2 ^ 32) ++ little_endian 
 abbrev pub header_text : Header → Record → List ℕ
 header_text h r = little_endian 4 r.epid ++ stamp_text h r.stamp
 
--- the text of a record with these fields behind this header
+-- the text of a record with these fields after this header
 abbrev pub record_text : Header → List Field → Record → List ℕ
 record_text h fs r = header_text h r ++ fields_text (fields_start h) fs r.values
 

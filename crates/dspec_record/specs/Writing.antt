@@ -1,4 +1,4 @@
--- Serves proofs. Writing a value with the zeros behind it: no gap between two fields needs a write of its own.
+-- Serves proofs. Writing a value with the zeros after it: no gap between two fields needs a write of its own.
 use Rattle.std.specs.Prelude.{◌≡◌, ◌<◌, ◌≤◌, ℕ, List, slice_index_or}
 use Rattle.dspec_record.specs.Layout.{rounded_up}
 

@@ -41,7 +41,7 @@ pub(crate) fn fits_fields(fields: &[Field], limits: &[u64], values: &[u64]) -> b
 }
 
 /// Writes the record's text over the first bytes: its header, its values at the places of these fields, and zero between them.
-/// The places are those without a stamp. Each store is one of eight bytes, for which there is room behind the text too.
+/// The places are those without a stamp. Each store is one of eight bytes, for which there is room after the text too.
 #[inline(always)]
 pub(crate) fn put_record<R: Recorded>(
     header: Header,
@@ -114,8 +114,8 @@ pub(crate) fn put_header<R: Recorded>(header: Header, rec: R, out: &mut [u8]) ->
     }
 }
 
-/// Writes a value at the field's place behind `end`, and zeros behind it; answers where the field ends. What is between is zero
-/// already, and so is what is behind the field, up to the next multiple of eight: no gap is longer.
+/// Writes a value at the field's place after `end`, and zeros after it; answers where the field ends. What is between is zero
+/// already, and so is what is after the field, up to the next multiple of eight: no gap is longer.
 #[inline(always)]
 fn put_field(field: Field, value: u64, _end: usize, place: usize, out: &mut [u8]) -> usize
     requires holds { value < 256 ^ width field }
@@ -162,7 +162,7 @@ fn read_stamp(header: Header, text: &[u8]) -> u64
 }
 
 /// The record with this EPID, header and fields whose text the bytes are; None where a byte between the fields
-/// or behind the last isn't zero.
+/// or after the last isn't zero.
 #[inline(always)]
 pub(crate) fn read_record(header: Header, fields: &[Field], epid: u32, text: &[u8]) -> Option<Rec>
     requires few { length fields.now ≤ 8 }

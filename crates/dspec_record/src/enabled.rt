@@ -1,7 +1,7 @@
 use crate::codec::{fits_fields, fits_header, put_record, read_epid, read_record};
 use crate::{BorrowedRec, Enablings, Header, ReadKind, Rec, Recorded, Schema, Shape};
 
-/// How many bytes the longest text has that a buffer can reserve, and eight behind it.
+/// How many bytes the longest text has that a buffer can reserve, and eight after it.
 const ROOM: usize = 136;
 
 impl Schema for Enablings {

@@ -143,7 +143,7 @@ impl Enabling {
         &self.masks
     }
 
-    /// The layout behind this header, whose stamp has so many bytes: it moves each field by them, and no gap changes.
+    /// The layout after this header, whose stamp has so many bytes: it moves each field by them, and no gap changes.
     #[inline(always)]
     pub(crate) fn shape(&self, _header: Header, stamp: u32) -> Shape
         requires moves { 4 + stamp ≡ fields_start _header }

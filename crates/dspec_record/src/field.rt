@@ -28,7 +28,7 @@ impl Field {
         }
     }
 
-    /// The first place for the field at `end` or behind it, both in bytes from the record's start.
+    /// The first place for the field at `end` or after it, both in bytes from the record's start.
     #[inline(always)]
     pub(crate) fn place(self, end: usize) -> usize
         requires { end < 2 ^ 32 }

@@ -6,7 +6,7 @@ ghost use Rattle.dspec_record.specs.Layout.{fields_start};
 pub enum Header {
     /// The EPID alone, in 4 bytes. Every record's stamp is 0.
     One,
-    /// The EPID, and a stamp behind it in two words of 4 bytes, the low word first: 12 bytes in all.
+    /// The EPID, and a stamp after it in two words of 4 bytes, the low word first: 12 bytes in all.
     Two,
 }
 

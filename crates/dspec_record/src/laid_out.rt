@@ -12,7 +12,7 @@ use crate::{Field, Header, Shape};
 /// How many numbers half a word holds.
 pub(crate) const HALF: u64 = 1 << 32;
 
-/// The shape of these fields behind this header: each at the first multiple of its width behind the field before it, and the size
+/// The shape of these fields after this header: each at the first multiple of its width after the field before it, and the size
 /// rounded up to a multiple of 4.
 #[inline(always)]
 pub fn laid_shape(header: Header, fields: &[Field]) -> Shape
@@ -36,7 +36,7 @@ fn has_eight(fields: &[Field]) -> bool
     fields.iter().any(|field| matches!(field, Field::Eight))
 }
 
-/// Adds a value to words that hold nothing from `end` on, at the field's place behind `end`; answers where the field ends.
+/// Adds a value to words that hold nothing from `end` on, at the field's place after `end`; answers where the field ends.
 #[inline(always)]
 pub fn pack_behind(field: Field, value: u64, end: usize, words: &mut [u64; MAX_WORDS]) -> usize
     requires holds { value < 256 ^ width field }

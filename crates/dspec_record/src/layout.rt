@@ -4,7 +4,7 @@ ghost use Rattle.dspec_record.specs.EnablingFields.{padded_places, padded_limits
 use crate::enabling::MAX_FIELDS;
 use crate::{Field, Header};
 
-/// The place of each of these fields without a stamp, in bytes from the record's start; 0 behind the last.
+/// The place of each of these fields without a stamp, in bytes from the record's start; 0 after the last.
 pub(crate) fn places_of(fields: &[Field]) -> [u8; MAX_FIELDS]
     requires { length fields.now ≤ 8 }
     ensures { result ≡ padded_places fields.now }
@@ -19,7 +19,7 @@ pub(crate) fn places_of(fields: &[Field]) -> [u8; MAX_FIELDS]
     places
 }
 
-/// The greatest value of each of these fields; 0 behind the last.
+/// The greatest value of each of these fields; 0 after the last.
 pub(crate) fn limits_of(fields: &[Field]) -> [u64; MAX_FIELDS]
     requires { length fields.now ≤ 8 }
     ensures { result ≡ padded_limits fields.now }

@@ -21,7 +21,7 @@
 //! | `specs/`: Record, EnablingRows | a record as contracts see it: EPID, stamp, list of values; enablings as their header and rows of fields |
 //! | `specs/`: Layout, RecordText, Reading | where fields stand; the bytes; what reading answers |
 //! | `specs/`: Packing | which record words stand for, what is claimed of it, which bits count |
-//! | `specs/`: Writing | a value is written in eight bytes, so that the zeros of the gap behind it come with it |
+//! | `specs/`: Writing | a value is written in eight bytes, so that the zeros of the gap after it come with it |
 #![tactic(auto)]
 
 mod borrowed;

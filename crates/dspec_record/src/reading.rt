@@ -10,7 +10,7 @@ pub enum ReadKind {
     UnknownEpid,
     /// The record doesn't begin at a multiple of its alignment. Only a reader of whole buffers answers this.
     Misaligned,
-    /// A byte between two fields, or behind the last one, isn't zero.
+    /// A byte between two fields, or after the last one, isn't zero.
     GapNotZero,
     /// The EPID is zero, which is a padding word and no record.
     Padding,

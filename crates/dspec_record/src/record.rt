@@ -69,7 +69,7 @@ impl Rec {
         }
     }
 
-    /// The record with the first so many of these values; those behind them are 0.
+    /// The record with the first so many of these values; those after them are 0.
     #[inline(always)]
     fn of(epid: u32, stamp: u64, len: u32, values: [u64; MAX_VALUES]) -> Rec
         requires few { len ≤ 8 }
@@ -108,7 +108,7 @@ impl Rec {
         }
     }
 
-    /// Adds a value behind the others.
+    /// Adds a value after the others.
     #[inline]
     pub(crate) fn add(&mut self, value: u64)
         requires { length self.old.values < 8 }

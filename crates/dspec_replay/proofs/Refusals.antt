@@ -1,4 +1,4 @@
--- Turns one behind the other: the first that isn't played, and the calls that have ended.
+-- Turns one after the other: the first that isn't played, and the calls that have ended.
 use Prim.Native.Nat.{suc}
 use Rattle.std.proofs.Common.{◌≡◌, ◌<◌, ◌≤◌, ◌+◌, ◌++◌, ◌∷◌, [], ℕ, Bool, List, Option, Some, None, length, map, Result, Ok, Err, IfOk, take, drop, drop-cons, get_or, add-one, refl, sym, ap, ◌∙◌}
 use Rattle.std.proofs.Common.{subst, arith}
@@ -50,7 +50,7 @@ module _ (accepted : Record → Bool) (k : Config) (ts : List Turn) where
       ∙ (sym s.refusals ∙ (ap (λ l. first_refusal accepted k.cpus i l) cons ∙ ap (λ q. first_of q (first_refusal accepted k.cpus (i + 1) (drop (suc i) ts))) here)))
       due
 
-  -- behind the last turn none was refused
+  -- after the last turn none was refused
   pub so_far_last : (i : ℕ) (answers : List EndedCall) → length ts ≤ i → start_fault k ≡ None → IsSoFar i answers
       → (schedule_refusal accepted k ts ≡ None) × (map call_that_ended answers ≡ map whole_call_of ts)
   so_far_last i answers le fine s = (

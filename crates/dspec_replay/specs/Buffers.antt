@@ -10,7 +10,7 @@ pub record IsTextOfBatch (o : BufferOrigin) (b : Batch) (t : ReadBuffer) : Type 
   pub drops : t.drops ≡ b.drops
   pub bytes : t.bytes.items ≡ b.buffer.text
 
--- one of this batch stands behind those before
+-- one of this batch stands after those before
 pub record KeepsBufferText (o : BufferOrigin) (b : Batch) (old new : List ReadBuffer) : Type 0 where
   pub text : ReadBuffer
   pub is : IsTextOfBatch o b text
@@ -27,14 +27,14 @@ buffer_named origin.Rest c t = codes "rest cpu " ++ buffer_numbers c t
 abbrev pub buffer_front : ℕ → ReadBuffer → List ℕ
 buffer_front c t = buffer_named t.origin c t
 
--- a byte in two digits of base 16, behind a space
+-- a byte in two digits of base 16, after a space
 abbrev pub byte_digits : ℕ → List ℕ
 byte_digits b = codes " " ++ digit_glyph false (b / 16) ∷ digit_glyph false (b % 16) ∷ []
 
 abbrev pub bytes_digits : List ℕ → List ℕ
 bytes_digits bytes = flat_map byte_digits bytes
 
--- what stands behind a buffer's records: its bytes, on a line of their own
+-- what stands after a buffer's records: its bytes, on a line of their own
 abbrev pub bytes_line : ℕ → List ℕ → List ℕ
 bytes_line c bytes = codes "\nbytes cpu " ++ decimal c ++ codes ":" ++ bytes_digits bytes ++ codes "\n"
 

@@ -8,7 +8,7 @@ abbrev pub table_of : Option EnabledRows → FieldTable
 table_of None = default_fields
 table_of (Some enablings) = enabled enablings.rows
 
--- the shapes of the records of a schedule, behind its header
+-- the shapes of the records of a schedule, after its header
 abbrev pub shapes_of : Plan → ℕ → Option Shape
 shapes_of p = table_shape (header_of p) (table_of p.enablings)
 

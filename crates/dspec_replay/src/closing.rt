@@ -13,7 +13,7 @@ use dspec_record::Schema;
 use dspec_session_core::Closed;
 use std::alloc::Global;
 
-/// What is left of a CPU is read behind what was taken of it, and its report is put down.
+/// What is left of a CPU is read after what was taken of it, and its report is put down.
 fn read_left<S: Schema>(
     closed: &Closed,
     schema: &S,
@@ -34,7 +34,7 @@ fn read_left<S: Schema>(
 }
 
 impl<S: Schema> SessionReplay<S> {
-    /// Ends the session, and gives what a play leaves, but for the deeds, and the texts: what is left of each CPU is read behind what
+    /// Ends the session, and gives what a play leaves, but for the deeds, and the texts: what is left of each CPU is read after what
     /// was taken.
     pub fn close(self, alloc: Global) -> Result<Replayed, SessionFault>
         requires session { IsSession self.schema self.session }

@@ -4,7 +4,7 @@
 //! promises that what was read is the input's bytes, that a play is that of the schedule which the text says, and that a line that
 //! is told is the first one at which the text says none, or the one whose turn the play refuses (`specs/PlayedTexts.antt`).
 //!
-//! On a session: a schedule of whole calls, from one thread (`replay`). The consumer meets each CPU behind each call, and the end
+//! On a session: a schedule of whole calls, from one thread (`replay`). The consumer meets each CPU after each call, and the end
 //! leaves what a play of the same schedule leaves, but for the deeds. The answers and the counts are the session's; the records are
 //! read back from the texts of the batches taken and of what is left, whose bytes are kept beside them. It promises that it ends,
 //! and makes each call under that call's conditions; that each turn is made, in order, by its actor; and that a refusal is due.

@@ -76,7 +76,7 @@ fn print_front(text: &mut String, cpu: usize, buffer: &ReadBuffer) -> Result<(),
     }
 }
 
-/// What stands behind them: the bytes, on a line of their own.
+/// What stands after them: the bytes, on a line of their own.
 fn print_bytes_of(text: &mut String, cpu: usize, bytes: &[u8]) -> Result<(), AllocError>
     ensures { OnOk result (string_bytes text.new ≡ string_bytes text.old ++ bytes_line cpu bytes.now) }
 {
@@ -85,7 +85,7 @@ fn print_bytes_of(text: &mut String, cpu: usize, bytes: &[u8]) -> Result<(), All
     writeln!(text)
 }
 
-/// Records, each behind a space.
+/// Records, each after a space.
 fn print_records(text: &mut String, header: Header, recs: &[Rec]) -> Result<(), AllocError>
     ensures { OnOk result (string_bytes text.new ≡ string_bytes text.old ++ records_text header recs.now) }
 {
@@ -96,7 +96,7 @@ fn print_records(text: &mut String, header: Header, recs: &[Rec]) -> Result<(), 
     Ok(())
 }
 
-/// Bytes, each in two digits behind a space.
+/// Bytes, each in two digits after a space.
 fn print_bytes(text: &mut String, bytes: &[u8]) -> Result<(), AllocError>
     ensures { OnOk result (string_bytes text.new ≡ string_bytes text.old ++ bytes_digits bytes.now) }
 {

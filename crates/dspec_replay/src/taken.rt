@@ -35,7 +35,7 @@ pub struct ReplayContents {
     pub texts: Series<Series<ReadBuffer>>,
 }
 
-/// Reads the records of a batch back, behind those before, keeps its text, and answers what taking it does.
+/// Reads the records of a batch back, after those before, keeps its text, and answers what taking it does.
 fn read_back<S: Schema>(
     alloc: Global,
     schema: &S,

@@ -34,7 +34,7 @@ pub record ConsumerKnows : Type 0 where
   pub room : ℕ
   pub moves : ℕ
 
--- the ends behind a move that a ring refused, or that found it empty: one move more, and nothing else
+-- the ends after a move that a ring refused, or that found it empty: one move more, and nothing else
 abbrev pub cpu_moved : CpuKnows → CpuKnows
 cpu_moved end = record end { moves = end.moves + 1 }
 

@@ -21,7 +21,7 @@ struct Standing {
 }
 
 impl Standing {
-    /// Once a call was stopped all are, and those are worn that come behind the most calls. A service is neither.
+    /// Once a call was stopped all are, and those are worn that come after the most calls. A service is neither.
     fn check_bounds(&mut self, called: &LoggedCall, config: &Config) -> Result<(), FlawKind> {
         if called.op == CpuOp::Service {
             return Ok(());
@@ -40,7 +40,7 @@ impl Standing {
         Ok(())
     }
 
-    /// Under policy fill nothing is kept behind the first refusal.
+    /// Under policy fill nothing is kept after the first refusal.
     fn check_full(&mut self, called: &LoggedCall, config: &Config) -> Result<(), FlawKind> {
         let takes = match called.answer {
             Answer::Traced(Traced::Kept) => true,

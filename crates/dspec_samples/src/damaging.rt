@@ -18,7 +18,7 @@ use std::alloc::{AllocError, Global};
 /// A change of the made-up session. Batches are those of CPU 0, and identifiers go by their numbers.
 #[derive(Clone, Copy)]
 pub enum Change {
-    /// Behind a batch's other records stands the record of a call.
+    /// After a batch's other records stands the record of a call.
     Push(usize, usize),
     /// The record at a place of the last batch isn't there.
     Missing(usize),

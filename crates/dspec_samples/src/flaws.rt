@@ -100,10 +100,10 @@ impl FlawKind {
             FlawKind::NeverGiven =>
                 "an identifier that was never given out was spoken to or decided",
             FlawKind::VoidUndecided => "an identifier was void that nobody decided",
-            FlawKind::Revived => "an identifier was open behind a call that found it decided",
-            FlawKind::AfterStop => "a call behind one that was stopped wasn't",
+            FlawKind::Revived => "an identifier was open after a call that found it decided",
+            FlawKind::AfterStop => "a call after one that was stopped wasn't",
             FlawKind::Worn => "a call was worn too early, or wasn't",
-            FlawKind::AfterFull => "a record was kept behind a refusal, under policy fill",
+            FlawKind::AfterFull => "a record was kept after a refusal, under policy fill",
             FlawKind::BlockCount => "a decision tells of a block of another size",
             FlawKind::Settled => "more were settled than were decided",
             FlawKind::Unbalanced => "the report's records aren't those offered",

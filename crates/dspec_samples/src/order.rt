@@ -11,8 +11,8 @@ use dspec_word::SpecId;
 use std::alloc::{AllocError, Global};
 
 /// A walk over what came of a CPU, record by record, beside its log. A record of a trace stands there as the call is made, a block
-/// as its own CPU's commit is, or else at a service behind the last call that spoke to it: at the first one that the order leaves.
-/// Several blocks of one service come slots upwards. The close is a service behind the last call.
+/// as its own CPU's commit is, or else at a service after the last call that spoke to it: at the first one that the order leaves.
+/// Several blocks of one service come slots upwards. The close is a service after the last call.
 #[derive(Drop)]
 pub struct OrderCheck<'a> {
     cpu: u32,
@@ -25,7 +25,7 @@ pub struct OrderCheck<'a> {
     seen: Vec<bool>,
     /// The first call that what comes next can be of.
     next: usize,
-    /// The service of the latest block, and its slot, where the walk stands behind that.
+    /// The service of the latest block, and its slot, where the walk stands after that.
     serving: Option<(usize, u32)>,
     /// The block that the walk is in, and the place of its next record.
     within: Option<(SpecId, usize)>,
@@ -151,7 +151,7 @@ impl<'a> OrderCheck<'a> {
         self.go_to(place, until, id)
     }
 
-    /// The walk goes behind a call.
+    /// The walk goes after a call.
     fn go_to(&mut self, place: usize, until: usize, id: SpecId) -> Checked<()> {
         if place < self.next || place >= until {
             return Err(self.flaw(FlawKind::Order).at(place).of(id).into());

@@ -14,7 +14,7 @@ length-full_end [] b bs = refl
 length-full_end (q ∷ []) b bs = refl
 length-full_end (q ∷ r ∷ ps) b bs = ap suc (length-full_end (r ∷ ps) b bs)
 
--- the number of the line behind one more piece
+-- the number of the line after one more piece
 pub behind-more : (ps : List (List ℕ)) (p : List ℕ) (closed : Bool) (line : ℕ) → (closed ≡ true → length p ≡ 0) → (length p ≡ 0 → closed ≡ true)
     → line ≡ length ps + 1 → line + (if not closed then 1 else 0) ≡ length (without_empty_end (ps ++ p ∷ [])) + 1
 behind-more ps [] true line to from number = omega (arith, length-empty_end ps)

@@ -1,4 +1,4 @@
--- The faults and the schedules of lines, one behind the other.
+-- The faults and the schedules of lines, one after the other.
 use Rattle.std.proofs.Common.{◌≡◌, ℕ, ◌+◌, List, [], ◌∷◌, ◌++◌, length, Option, Some, None, option_map, Result, Ok, Err, refl, ap, sym, ◌∙◌, arith, IfOk, IfErr}
 use Rattle.std.specs.{List.slice_split, Option.ok_or, Prelude.◌==◌}
 use Rattle.dspec_schedule.specs.Words.{Plan, first_line_of, words_read, line_read, lines_read, without_empty_end, lines_of, schedule_of, configured, IsReadingFault, plan_of, ◌>>=◌, at_line}
@@ -19,7 +19,7 @@ unfolding words_read
 words_read-first_fault so_far line words first rest fault none parts h =
     rw (none, parts) (IsReadingFault-then line (first_line_of line first rest) (λ p. Some p) fault h)
 
--- more lines behind those that were read
+-- more lines after those that were read
 read_on : (n : ℕ) (ps qs : List (List ℕ)) (t : Option Plan) (m : ℕ) (r : Result (Option Plan) LineKind) → (at_line n r >>= λ a. lines_read a (n + 1) ps) ≡ Ok t
     → ((a : Option Plan) → lines_read a (n + 1) ps ≡ Ok t → lines_read a (n + 1) (ps ++ qs) ≡ lines_read t m qs)
     → (at_line n r >>= λ a. lines_read a (n + 1) (ps ++ qs)) ≡ lines_read t m qs

@@ -21,7 +21,7 @@ module _ {B E : Type 0} where
   each-append f [] zs = and_then_ok (each f zs)
   each-append f (x ∷ xs) zs = rw (each-append f xs zs) (regrouped (f x) (each f xs) (each f zs))
 
-  -- one more element is read, and its value written behind those so far
+  -- one more element is read, and its value written after those so far
   pub each-more : {A X : Type 0} (v : A → X) (f : X → Result B E) (xs : List A) (ys : List B) (i : ℕ) (d : A) (y : B) → i < length xs → i < length ys
       → each f (map v (take i xs)) ≡ Ok (take i ys) → f (v (get_or xs i d)) ≡ Ok y → each f (map v (take (i + 1) xs)) ≡ Ok (take (i + 1) (set ys i y))
   each-more v f xs ys i d y in_xs in_ys so_far here =

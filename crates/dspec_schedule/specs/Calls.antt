@@ -22,7 +22,7 @@ is_at byte = byte == 64
 abbrev pub has_at : List ℕ → Bool
 has_at word = nat_lt (position_or_len is_at word) (length word)
 
--- a probe identifier, and behind an `@` (64) its stamp, which is 0 where there is none
+-- a probe identifier, and after an `@` (64) its stamp, which is 0 where there is none
 unfoldable pub stamped_epid_of : List ℕ → Result (ℕ × ℕ) LineKind
 stamped_epid_of word = if has_at word then (do
   epid ← small_number_of (before_first is_at word)
@@ -148,7 +148,7 @@ abbrev pub begun_call : ActorCall → Turn
 begun_call (call.Cpu cpu op) = BeginCpu cpu op
 begun_call (call.Consumer op) = BeginConsumer op
 
--- the turn of a line, by its first word and those behind it
+-- the turn of a line, by its first word and those after it
 unfoldable pub turn_read : Header → List ℕ → List (List ℕ) → Result Turn LineKind
 turn_read h first words =
     if bytes_eq first (codes "run") then (do

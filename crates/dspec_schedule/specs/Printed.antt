@@ -82,7 +82,7 @@ abbrev pub values_text : List ℕ → List ℕ
 values_text [] = []
 values_text (v ∷ vs) = codes "(" ++ join_by decimal (codes ",") (v ∷ vs) ++ codes ")"
 
--- the stamp of a record, behind an `@`, where its header has one
+-- the stamp of a record, after an `@`, where its header has one
 abbrev pub printed_stamp : Header → ℕ → List ℕ
 printed_stamp header.One stamp = []
 printed_stamp header.Two stamp = codes "@" ++ decimal stamp
@@ -91,7 +91,7 @@ printed_stamp header.Two stamp = codes "@" ++ decimal stamp
 unfoldable pub printed_record : Header → Record → List ℕ
 printed_record h r = decimal r.epid ++ printed_stamp h r.stamp ++ values_text r.values
 
--- records, each behind a space
+-- records, each after a space
 abbrev pub records_text : Header → List Record → List ℕ
 records_text h rs = flat_map (λ r. codes " " ++ printed_record h r) rs
 
@@ -124,7 +124,7 @@ abbrev pub call_line : Header → List (List Record) → Actor × Op × Answer �
 call_line h streams ended = actor_text ended.0 ++ codes " " ++ op_text ended.1 ++ codes " "
     ++ answer_text h (stream_for streams ended.1) ended.2 ++ codes "\n"
 
--- a count behind its name
+-- a count after its name
 abbrev pub count_text : List ℕ → ℕ → List ℕ
 count_text name count = codes " " ++ name ++ codes " " ++ decimal count
 

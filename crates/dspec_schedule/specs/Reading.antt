@@ -57,7 +57,7 @@ may_name_header p = is_none p.named_header && (is_none p.enablings && has_no_tur
 abbrev pub may_name_policy : Plan → Bool
 may_name_policy p = not p.is_policy_named && has_no_turn p
 
--- the schedule of the first line that isn't skipped, by its first word and those behind it
+-- the schedule of the first line that isn't skipped, by its first word and those after it
 unfoldable pub first_line_of : ℕ → List ℕ → List (List ℕ) → Result Plan LineKind
 first_line_of line first words = if bytes_eq first (codes "config") then (do
   k ← config_read words
@@ -87,7 +87,7 @@ turned_by p line first words = do
   turn ← turn_read (header_of p) first words
   Ok (with_turn p line turn)
 
--- the schedule with what a later line says, by its first word and those behind it
+-- the schedule with what a later line says, by its first word and those after it
 unfoldable pub later_line_of : Plan → ℕ → List ℕ → List (List ℕ) → Result Plan LineKind
 later_line_of p line first words =
     if bytes_eq first (codes "enable") then enabled_by p words else
@@ -126,7 +126,7 @@ without_empty_end (piece ∷ next ∷ more) = piece ∷ without_empty_end (next 
 abbrev pub lines_of : List ℕ → List (List ℕ)
 lines_of text = without_empty_end (slice_split (λ byte. byte == 10) text)
 
--- a schedule has a configuration; where there is none, that is a fault behind the last line
+-- a schedule has a configuration; where there is none, that is a fault after the last line
 abbrev pub configured : ℕ → Option Plan → Result Plan (ℕ × LineKind)
 configured behind None = Err (behind, NoConfig)
 configured behind (Some p) = Ok p

@@ -29,7 +29,7 @@ abbrev pub config_checked : Option StartFault → Config → Result Config LineK
 config_checked None k = Ok k
 config_checked (Some fault) k = Err (ConfigRefused fault)
 
--- the configuration of the words behind `config`
+-- the configuration of the words after `config`
 unfoldable pub config_read : List (List ℕ) → Result Config LineKind
 config_read words = do
   k ← configuration_of words
@@ -41,7 +41,7 @@ version_of version =
     if version == 1 then Ok header.One else
     (if version == 2 then Ok header.Two else Err BadHeader)
 
--- the header of the words behind `header`, where one may be named
+-- the header of the words after `header`, where one may be named
 unfoldable pub header_of_words : Bool → List (List ℕ) → Result Header LineKind
 header_of_words may_be_named words = do
   word ← only_word words
@@ -54,7 +54,7 @@ policy_of_word word =
     if bytes_eq word (codes "switch") then Ok policy.Switch else
     (if bytes_eq word (codes "fill") then Ok policy.Fill else Err BadPolicy)
 
--- the policy of the words behind `policy`, where one may be named
+-- the policy of the words after `policy`, where one may be named
 unfoldable pub policy_of_words : Bool → List (List ℕ) → Result Policy LineKind
 policy_of_words may_be_named words = do
   word ← only_word words
@@ -78,7 +78,7 @@ field_of_word word = do
 abbrev pub added_to : EnabledRows → List Field → Result EnabledRows LineKind
 added_to enablings fields = if nat_lt (length enablings.rows) 64 then Ok (record enablings { rows = enablings.rows ++ fields ∷ [] }) else Err BadEnabling
 
--- the enablings with one more, whose widths the words behind `enable` are, if there are any: all words are looked at as
+-- the enablings with one more, whose widths the words after `enable` are, if there are any: all words are looked at as
 -- numbers first
 unfoldable pub enabling_read : Bool → EnabledRows → List (List ℕ) → Result EnabledRows LineKind
 enabling_read before_turns enablings words =

@@ -1,4 +1,4 @@
--- Cited by calls. Steps that may fail, one behind the other.
+-- Cited by calls. Steps that may fail, one after the other.
 use Rattle.std.specs.Prelude.{ℕ, List, [], ◌∷◌, Result, Ok, Err}
 
 infixl 10 ◌>>=◌

@@ -19,7 +19,7 @@ pub enum ActorCall {
     Consumer(ConsumerOp),
 }
 
-/// The turn of a line, by its first word and those behind it.
+/// The turn of a line, by its first word and those after it.
 #[tactic(auto, unfolding(crate::specs::Calls::turn_read))]
 pub fn turn(header: Header, first: &str, words: &[&str]) -> Result<Turn, LineKind>
     ensures { result ≡ turn_read header first.now (map (λ word. word.now) words.now) }
@@ -208,7 +208,7 @@ fn header_epid(header: Header, word: &str) -> Result<(u32, u64), LineKind>
     }
 }
 
-/// A probe identifier, and behind an `@` its stamp, which is 0 where there is none.
+/// A probe identifier, and after an `@` its stamp, which is 0 where there is none.
 #[tactic(auto, unfolding(crate::specs::Calls::stamped_epid_of))]
 fn stamped_epid(word: &str) -> Result<(u32, u64), LineKind>
     ensures { result ≡ stamped_epid_of word.now }

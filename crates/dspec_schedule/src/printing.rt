@@ -235,7 +235,7 @@ fn part(records: &[Rec], from: usize, count: usize) -> &[Rec]
     &rest[..count.min(rest.len())]
 }
 
-/// The counts of a CPU, each behind its name.
+/// The counts of a CPU, each after its name.
 fn print_report(text: &mut String, cpu: usize, report: &Report) -> Result<(), AllocError>
     ensures { OnOk result (string_bytes text.new ≡ string_bytes text.old ++ report_line cpu report.now) }
 {
@@ -290,7 +290,7 @@ fn print_stream(
     writeln!(text)
 }
 
-/// Records, each behind a space.
+/// Records, each after a space.
 fn print_records(text: &mut String, header: Header, records: &[Rec]) -> Result<(), AllocError>
     ensures { OnOk result (string_bytes text.new ≡ string_bytes text.old ++ records_text header records.now) }
 {
@@ -312,7 +312,7 @@ pub fn print_record(text: &mut String, header: Header, rec: &Rec) -> Result<(), 
     print_values(text, rec.values())
 }
 
-/// The stamp of a record, behind an `@`, where its header has one.
+/// The stamp of a record, after an `@`, where its header has one.
 fn print_stamp(text: &mut String, header: Header, stamp: u64) -> Result<(), AllocError>
     ensures { OnOk result (string_bytes text.new ≡ string_bytes text.old ++ printed_stamp header stamp) }
 {

@@ -101,7 +101,7 @@ pub fn read_schedule(alloc: Global, text: &[u8]) -> Result<Schedule, ScheduleFau
         is_open = !bytes.is_empty();
         schedule = after_line(alloc, schedule, line, bytes)?;
     }
-    // What stands behind a last line feed is no line.
+    // What stands after a last line feed is no line.
     let behind = line + u64::from(is_open);
     schedule.ok_or(ScheduleFault::Line {
         line: behind,
@@ -257,7 +257,7 @@ fn with_policy(mut schedule: Schedule, line: u64, words: &[&str]) -> Result<Sche
     Ok(schedule)
 }
 
-/// A schedule with the turn of a later line behind its others.
+/// A schedule with the turn of a later line after its others.
 #[tactic(auto, unfolding(crate::specs::Reading::turned_by))]
 fn with_turn(
     schedule: Schedule,
@@ -289,7 +289,7 @@ fn with_turn(
     })
 }
 
-/// The values with one more behind the last.
+/// The values with one more after the last.
 fn with_last<T: Drop>(mut values: Vec<T>, last: T) -> Result<Vec<T>, AllocError>
     ensures { IfOk result (λ after. after.items ≡ values.items ++ last ∷ []) }
 {

@@ -10,7 +10,7 @@ use dspec_record::{Enablings, Field, Header};
 /// The most fields of an enabling.
 const MAX_FIELDS: usize = 8;
 
-/// The configuration of the words behind `config`, with the policy that a schedule has which names none.
+/// The configuration of the words after `config`, with the policy that a schedule has which names none.
 #[tactic(auto, unfolding(crate::specs::SetUp::config_read))]
 pub fn config(words: &[&str]) -> Result<Config, LineKind>
     ensures { result ≡ config_read (map (λ word. word.now) words.now) }
@@ -56,7 +56,7 @@ fn from_numbers(
     })
 }
 
-/// The header of the words behind `header`, where one may be named.
+/// The header of the words after `header`, where one may be named.
 #[tactic(auto, unfolding(crate::specs::SetUp::header_of_words))]
 pub fn header(may_be_named: bool, words: &[&str]) -> Result<Header, LineKind>
     ensures read { result ≡ header_of_words may_be_named (map (λ word. word.now) words.now) }
@@ -82,7 +82,7 @@ fn of_version(version: u64) -> Result<Header, LineKind>
     }
 }
 
-/// The policy of the words behind `policy`, where one may be named.
+/// The policy of the words after `policy`, where one may be named.
 #[tactic(auto, unfolding(crate::specs::SetUp::policy_of_words))]
 pub fn policy(may_be_named: bool, words: &[&str]) -> Result<Policy, LineKind>
     ensures { result ≡ policy_of_words may_be_named (map (λ word. word.now) words.now) }
@@ -107,7 +107,7 @@ fn named_policy(word: &str) -> Result<Policy, LineKind>
     }
 }
 
-/// The enablings with one more, whose widths the words behind `enable` are, if there are any. None is added after a
+/// The enablings with one more, whose widths the words after `enable` are, if there are any. None is added after a
 /// turn.
 #[tactic(auto, unfolding(crate::specs::SetUp::enabling_read))]
 pub fn enabling(

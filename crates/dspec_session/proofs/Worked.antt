@@ -1,4 +1,4 @@
--- Calls of one CPU, one behind the other.
+-- Calls of one CPU, one after the other.
 use Rattle.std.proofs.Common.{◌≡◌, ℕ, ◌+◌, ◌*◌, true, ◌∙◌, ap, refl, subst, arith}
 use Rattle.dspec_session.specs.Words.{EnabledRows, offers, CpuIdentity, Called, IsBack, Offers, WorkerServed, Worked, Cpu}
 

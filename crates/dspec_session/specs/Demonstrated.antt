@@ -72,7 +72,7 @@ WorkerDecides commits id old new = (alone : Bool) × (a : Decided) × WorkerAdds
 abbrev pub Serviced : Cpu EnabledRows → Cpu EnabledRows → Type 0
 Serviced old new = (a : ServedSo) × Serves (config_of old) (number_in old) a (Has old) (known (seat_of old)) (buffers_of old) (Has new) (known (seat_of new)) (buffers_of new)
 
--- The calls of the round with this number, one behind the other. The record is offered to the speculation that was told, and
+-- The calls of the round with this number, one after the other. The record is offered to the speculation that was told, and
 -- that is decided: committed in every other round.
 pub record MadeRound (k : ℕ) (old new : Cpu EnabledRows) : Type 0 where
   pub id : Speculation
@@ -86,7 +86,7 @@ pub record MadeRound (k : ℕ) (old new : Cpu EnabledRows) : Type 0 where
   pub decides : WorkerDecides (k % 2 == 1) id spoken decided
   pub services : Serviced decided new
 
--- so many rounds since it was this CPU, one behind the other, numbered from 0
+-- so many rounds since it was this CPU, one after the other, numbered from 0
 pub data CpuRounds (first : Cpu EnabledRows) : ℕ → Cpu EnabledRows → Type 0 where
   no_round : CpuRounds first 0 first
   one_round : {n : ℕ} {old : Cpu EnabledRows} (m : ℕ) (new : Cpu EnabledRows) → CpuRounds first n old → MadeRound n old new → m ≡ n + 1 → CpuRounds first m new

@@ -50,7 +50,7 @@ pub record ConsumerRound (s : EnabledRows) (x : Consuming) (o : Four Order) (y :
   pub cleans : Cleaned released (view_of visited) (view_of y)
   pub ends : y.ends ≡ visited.ends
 
--- so many rounds since it was this consumer and that was followed, one behind the other
+-- so many rounds since it was this consumer and that was followed, one after the other
 pub data ConsumerRounds (s : EnabledRows) (first : Consuming) (none : Four Order) : ℕ → Consuming → Four Order → Type 0 where
   no_round : {x : Consuming} {o : Four Order} → x ≡ first → o ≡ none → ConsumerRounds s first none 0 x o
   one_round : {n : ℕ} {x : Consuming} {o : Four Order} (m : ℕ) (y : Consuming) (u : Four Order) → ConsumerRounds s first none n x o → ConsumerRound s x o y u → m ≡ n + 1

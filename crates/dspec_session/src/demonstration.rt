@@ -55,7 +55,7 @@ impl fmt::Display for DemoFault {
 /// Runs a session of four CPUs, each in a thread of its own, while its consumer asks, takes, gives back and cleans in this one,
 /// and stops it. A CPU makes a hundred rounds of five calls: a trace, a speculation, a record offered to it, a decision, which
 /// is a commit in every other round, and a service; the consumer makes a thousand rounds. The gate stands around each call and
-/// behind each round. Each worker is started by a call of its own, and all have ended before this answers.
+/// after each round. Each worker is started by a call of its own, and all have ended before this answers.
 pub fn demonstrate<G: RoundGate, R: Threads + Wait>(
     rt: &R,
     alloc: Global,

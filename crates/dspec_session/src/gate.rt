@@ -1,4 +1,4 @@
-/// Stands before and behind every call of the demonstration's CPUs, on the CPU's own thread. The calls of a CPU are counted
+/// Stands before and after every call of the demonstration's CPUs, on the CPU's own thread. The calls of a CPU are counted
 /// from 1. It may hold a CPU back, and so make the calls of several overlap as a test wants them.
 pub trait Gate: Sync {
     /// Whether the CPU goes on with this call. Where it doesn't, its thread ends.
@@ -8,7 +8,7 @@ pub trait Gate: Sync {
     fn after(&self, cpu: u32, call: u32);
 }
 
-/// A gate that stands behind every round of the demonstration's consumer too, on the consumer's thread. It may hold the consumer
+/// A gate that stands after every round of the demonstration's consumer too, on the consumer's thread. It may hold the consumer
 /// back until the CPUs have made calls, and the CPUs until it has made rounds, so that batches come whatever the schedule.
 pub trait RoundGate: Gate {
     /// The consumer has made so many rounds.

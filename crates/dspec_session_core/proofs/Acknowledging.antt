@@ -97,7 +97,7 @@ pub record Done (most : ℕ) (slots : List ℕ) (v w : View) : Type 0 where
 idled_done : (n most : ℕ) (v w : View) → n ≤ most → Idled n v w → Done most [] v w
 idled_done n most v w le i = record { who = i.who; config = i.config; own = i.own; asks = i.asks; steps = let e = i.steps in omega arith }
 
--- steps behind steps
+-- steps after steps
 done_on : {m n : ℕ} {ss ts : List ℕ} (most : ℕ) (v u w : View) → m + n ≤ most → Done m ss v u → Done n ts u w → Done most (ts ++ ss) v w
 done_on {ss = ss} {ts = ts} most v u w le a b = record {
   who = b.who ∙ a.who;

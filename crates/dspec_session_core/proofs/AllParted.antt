@@ -119,7 +119,7 @@ module _ {S : Type 0} (shape_of : S → ℕ → Option Shape) (accepted : S → 
         parting = behind schema words p last.before (last.cpu ∷ after) es (other ∷ fs) seats count whole;
       }
 
-  -- Of all CPUs those that aren't there any more have parted: their seats stand behind those before.
+  -- Of all CPUs those that aren't there any more have parted: their seats stand after those before.
   pub record PartedSoFar (all cpus : List (Cpu S)) (old seats : List CpuSeat) (xs : List Parted) : Type 0 where
     pub done : List (Cpu S)
     pub split : done ++ cpus ≡ all

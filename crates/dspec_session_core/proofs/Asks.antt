@@ -1,4 +1,4 @@
--- The asks that the consumer knows, behind one more.
+-- The asks that the consumer knows, after one more.
 use Rattle.std.proofs.Common.{◌≡◌, ℕ, ◌==◌, ◌+◌, ◌≤◌, length, arith, Bool, true, false, if◌then◌else◌, List, refl, ap, ◌∙◌, subst}
 use Rattle.std.proofs.lemmas.Bool.Decides.{nat_tests}
 use Rattle.std.specs.Prelude.{slice_get, slice_index, slice_index_or, Some}

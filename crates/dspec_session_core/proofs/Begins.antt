@@ -7,7 +7,7 @@ use Rattle.dspec_session_core.specs.Words.{identity, IsConsumerOf, pairs_of, IsC
 use Rattle.dspec_session_core.specs.declared.session.Session.{Session}
 use Rattle.dspec_table.specs.declared.seats.Words.{Words}
 
--- what stands in a list behind a push
+-- what stands in a list after a push
 pub pushed : {A : Type 0} (xs : List A) (y : A) (i : ℕ) (x : A) → slice_get (xs ++ y ∷ []) i ≡ Some x → (slice_get xs i ≡ Some x) ⊎ ((i ≡ length xs) × (y ≡ x))
 pushed [] y zero x e = inr (refl, cc (e))
 pushed [] y (suc i) x e = absurd (cc (e))

@@ -5,7 +5,7 @@ use Rattle.dspec_session_core.specs.Words.{Record, Piece, one, block, records, H
 use Rattle.dspec_session_core.specs.Words.{stream, taken, Sealing, IsOwn, IsSealed, AreSealed, HoldInOrder, Shape, Config, Deed, Trace, Commit, Settle, Seal, Batch}
 use Rattle.dspec_deeds.proofs.Prefixes.{stream_in_batches}
 
--- the contents of two lists, one behind the other
+-- the contents of two lists, one after the other
 both_contents : (xs ys : List Offer) → contents (xs ++ ys) ≡ contents xs ++ contents ys
 both_contents [] ys = refl
 both_contents (x ∷ xs) ys = ap (λ zs. x.content ∷ zs) (both_contents xs ys)

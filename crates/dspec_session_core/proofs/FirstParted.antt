@@ -1,4 +1,4 @@
--- One CPU parts from its seat, before those behind it.
+-- One CPU parts from its seat, before those after it.
 use Rattle.std.proofs.Common.{◌≡◌, ℕ, ◌+◌, ◌≤◌, List, [], ◌∷◌, ◌++◌, length, map, reverse, Option, Some, None, refl, sym, ap, ◌∙◌, subst, if◌then◌else◌, arith}
 use Rattle.std.proofs.lemmas.{Bool.Decides.nat_tests, List.length-append}
 use Rattle.std.specs.Prelude.{Bool, Result, Ok, is_ok, slice_get}
@@ -61,7 +61,7 @@ module _ {S : Type 0} (shape_of : S → ℕ → Option Shape) (accepted : S → 
             (sym (is.schema ∙ (split.each 0 cpu refl).0.one)) (sym (is.config ∙ next_config)) (sym (is.number ∙ next_number)) at,
       )
 
-  -- what is left of it, before what is left of those behind it
+  -- what is left of it, before what is left of those after it
   pub next_left : (last : List ℕ) (new : List CpuSeat) (end : CpuKnows) (x : CpuRest S) (inner more : List Left) (l : Left) → new ≡ seats ++ seat_of cpu ∷ [] → IsRestOf cpu end x
       → ((q : List Deed) → Has shape_of accepted text cpu q → RestHasList (shape_of x.schema) (accepted x.schema) (text x.schema) x end.handed q)
       → Leaves shape_of accepted text (λ q. RestHasList (shape_of x.schema) (accepted x.schema) (text x.schema) x end.handed q) last other.taken l x.schema x.config x.cpu x.side.counts.worn

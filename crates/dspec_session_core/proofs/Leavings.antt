@@ -16,7 +16,7 @@ rest_is None x drained after yields = ap (rest_of x) (sym yields.0)
 rest_is (Some b) x drained after yields = ap (rest_of x) (sym yields)
 
 module _ {S : Type 0} (shape_of : S → ℕ → Option Shape) (accepted : S → Record → Bool) (text : S → Record → List ℕ) where
-  -- of what is left of a CPU, before and behind its settlements
+  -- of what is left of a CPU, before and after its settlements
   pub legal_now : (old now : CpuRest S) → IsSameRest old now → (g q : List Deed) → IsLegalPart (shape_of old.schema) old.config old.cpu g q → IsLegalPart (shape_of now.schema) now.config now.cpu g q
   legal_now old now same g q is = grind (arith, nat_tests)
 

@@ -9,7 +9,7 @@ use Rattle.dspec_deeds.proofs.OwnReads.{reads}
 use Rattle.dspec_table.specs.declared.seats.Words.{Words}
 use Rattle.dspec_session_core.proofs.{Begins.pushed, ClosingLists.close_of_ended}
 
--- places in two lists, one behind the other
+-- places in two lists, one after the other
 pub behind_there : {A : Type 0} (xs ys : List A) (i : ℕ) (y : A) → slice_get ys i ≡ Some y → slice_get (xs ++ ys) (length xs + i) ≡ Some y
 behind_there [] ys i y e = let z : 0 + i ≡ i = omega arith in subst (λ n. slice_get ys n ≡ Some y) (sym z) e
 behind_there (x ∷ xs) ys i y e = grind (arith, nat_tests, behind_there xs ys i y e)

@@ -9,7 +9,7 @@ abbrev pub owes_settlement : ℕ → ℕ → List Deed → Bool
 owes_settlement c s h = (is_busy s h && is_none (solo (present s h) h)) && not (settled c (present s h) h)
 
 module _ (shape : ℕ → Option Shape) (k : Config) where
-  -- what becomes of its buffer: behind a discard it is thrown away; behind a commit it is copied where its block fits, else lost
+  -- what becomes of its buffer: after a discard it is thrown away; after a commit it is copied where its block fits, else lost
   abbrev pub owed_fate : ℕ → Speculation → List Deed → Ruling → DecideFate
   owed_fate c id h (discarded a) = decide.Thrown (length (held c id h))
   owed_fate c id h v =

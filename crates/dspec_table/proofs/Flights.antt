@@ -1,4 +1,4 @@
--- A call in flight on an identifier, behind each of its steps. No proof of this crate cites it; those of the crates above do.
+-- A call in flight on an identifier, after each of its steps. No proof of this crate cites it; those of the crates above do.
 use Rattle.std.proofs.Common.{arith, Option, inr, ◌≡◌, ℕ, ◌+◌, ◌≤◌, Bool, true, false, List, [], ◌∷◌, sym, ap, ◌∙◌, subst}
 use Rattle.std.proofs.lemmas.Bool.Decides.{nat_tests}
 use Rattle.dspec_table.specs.Words.{Void, Attempt, Speculation, SlotState, is_among, callers, scan, late, in_range, mark, of_cpu, number_of, at_activity, at_word, IsOn, IsInFlight, MayLoad, MayTry}
@@ -10,7 +10,7 @@ use Rattle.dspec_deeds.proofs.SoundLists.{running_not_late}
 use Rattle.dspec_interleaving.proofs.StepDeeds.{missed_deeds}
 use Rattle.dspec_table.proofs.Keeps.{late_since}
 
--- what is in flight behind a deed doesn't ask what was before
+-- what is in flight after a deed doesn't ask what was before
 pub flight_by_last : (k : Config) (f g : Option CpuOp) (d : Deed) (ds es : List Deed) → flight_after k f (d ∷ ds) ≡ flight_after k g (d ∷ es)
 flight_by_last k f g d ds es = grind (arith, nat_tests)
 
@@ -42,12 +42,12 @@ may_load = grind (arith, nat_tests)
 pub loads_next : (k : Config) (v : View) (c slot : ℕ) (doing : Doing) (id : Speculation) → IsOn id doing.op → IsInFlight k v c doing id slot → MayLoad k v c doing slot doing.op
 loads_next k v c slot doing id on f = may_load k v c slot doing id doing.op on f
 
--- behind a load of activity that is running
+-- after a load of activity that is running
 pub in_flight : (k : Config) (v w : View) (c : ℕ) (doing : Doing) (id : Speculation) → v.config ≡ k → in_range k id ≡ true → IsOn id doing.op → scan k c v.own ≡ 0
     → (mark c id.slot v.own ≤ id.issue + 1 → doing.mine ≡ is_among c (callers id v.own)) → LoadedActivity doing v false w → IsInFlight k w c doing id id.slot
 in_flight k v w c doing id config inside on idle mine step = grind (arith, nat_tests, quiet_activity, running_not_late)
 
--- behind a load of the word, or an exchange that failed, that showed a word which the table attempts
+-- after a load of the word, or an exchange that failed, that showed a word which the table attempts
 goes_on : (k : Config) (v w : View) (c slot : ℕ) (doing : Doing) (log : List Deed) (o : CpuOp) → (to shown : SlotState) → w ≡ acted (slot_place slot) v log [] → late c log ≡ late c v.seen
     → MayLoad k v c doing slot o → Attempts doing shown to o → MayLoad k w c doing slot o
 goes_on k v w c slot doing log o to shown view early may attempts = grind (arith, nat_tests)

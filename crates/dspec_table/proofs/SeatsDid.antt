@@ -11,7 +11,7 @@ use Rattle.dspec_interleaving.specs.declared.flight.CallPlace.TheVariants as cpu
 use Rattle.dspec_interleaving.proofs.StepsWords.{same_word_tells}
 use Rattle.dspec_table.proofs.{InFlight.service_begins, SameDeeds.same_deeds}
 
--- the deeds ds behind the seat's own list p, and behind the list that the step found
+-- the deeds ds after the seat's own list p, and after the list that the step found
 pub record IsBehind (ds p log : List Deed) (w : View) : Type 0 where
   pub own : w.own ≡ ds ++ p
   pub seen : w.seen ≡ ds ++ log

@@ -24,8 +24,8 @@ abbrev pub AreOf : Option CpuOp → List Deed → Type 0
 AreOf flight [] = Unit {0}
 AreOf flight (d ∷ ds) = IsOf flight (call_of_deed d) × AreOf flight ds
 
--- what is in flight behind a step: one that enters no deed leaves it, a call of speculation goes on up to a slot that it opens
--- or to the last, and behind any other deed the call has ended
+-- what is in flight after a step: one that enters no deed leaves it, a call of speculation goes on up to a slot that it opens
+-- or to the last, and after any other deed the call has ended
 abbrev pub flight_after : Config → Option CpuOp → List Deed → Option CpuOp
 flight_after k flight [] = flight
 flight_after k flight (Scan c true ∷ ds) = Some op.Speculation

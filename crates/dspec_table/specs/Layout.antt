@@ -7,7 +7,7 @@ use Rattle.dspec_table.specs.Words.Outside.{Config}
 abbrev pub activity_place : ℕ
 activity_place = 8
 
--- each slot's word has a line of its own: eight places a slot; behind each group seven places are left free, so that no line
+-- each slot's word has a line of its own: eight places a slot; after each group seven places are left free, so that no line
 -- that has a word of one group has one of another
 abbrev pub slot_place : ℕ → ℕ
 slot_place s = (s + 1) * 8

@@ -4,7 +4,7 @@ use mathlib.Core.Option.{some}
 use lib.ListN.{get_elem?}
 use Rattle.dspec_table.specs.{Holders.Holder, Holders.doer, Holders.part_of, Last.In, Rule.holdings, Rule.held_in_all, Words.Outside.Deed, declared.rule.View.View}
 
--- the deed, which was done behind these, stands at its place among this holder's
+-- the deed, which was done after these, stands at its place among this holder's
 abbrev pub Holds : Deed → List Deed → (Holder × List Deed) → Type 0
 Holds d before p = (p.0 ≡ doer d before) × ((newer : List Deed) × (p.1 ≡ newer ++ d ∷ part_of p.0 before))
 

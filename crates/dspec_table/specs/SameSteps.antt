@@ -96,7 +96,7 @@ ConsumerSeatStep v (consumer.CleanLoad s n) w = (shown : SlotState) × LookedWor
 ConsumerSeatStep v (consumer.CleanAck s from c n) w = (acked : ℕ) × LoadedAck c s v acked w
 ConsumerSeatStep v (consumer.CleanReap s from n) w = ReapedWord s v from true w
 
--- behind a step of the play, whose list is h: Seals apart, its deeds are the seat's latest, and the seat has seen the play's list
+-- after a step of the play, whose list is h: Seals apart, its deeds are the seat's latest, and the seat has seen the play's list
 pub record IsStepOfPlay (ds h : List Deed) (v w : View) : Type 0 where
   pub own : w.own ≡ bare ds ++ v.own
   pub seen : w.seen ≡ bare (ds ++ h)

@@ -7,7 +7,7 @@ use Rattle.dspec_table.specs.{Words.Outside.IsSound, Words.Outside.settled_fate,
 use Rattle.dspec_table.specs.{declared.rule.View.View, declared.seats.CpuSeat.CpuSeat, declared.seats.Words.Words}
 use Rattle.dspec_deeds.specs.declared.calls.CpuOp.TheVariants as op
 
--- the view after a step on the word at that place, with deeds of its own behind the list that the step found, where it then knows
+-- the view after a step on the word at that place, with deeds of its own after the list that the step found, where it then knows
 -- these asks
 abbrev pub with_asks : ℕ → View → List Deed → List Deed → List ℕ → View
 with_asks place v log ds asks = record {
@@ -39,7 +39,7 @@ pub record Found (v : View) (log : List Deed) : Type 0 where
   pub calm : owed v.seen ≡ 0
 
 -- the list that the step left is legal and owes nothing, the seat's part of it is the seat's list, the deeds of a call are of
--- the one in flight, and the view is the one behind its deeds, with the place of the step
+-- the one in flight, and the view is the one after its deeds, with the place of the step
 pub record Entered (place : ℕ) (v : View) (log ds : List Deed) (w : View) : Type 0 where
   pub sound : IsSound v.config (ds ++ log)
   pub rests : owed (ds ++ log) ≡ 0

@@ -1,4 +1,4 @@
--- A verdict more is said to one lane, and done behind others.
+-- A verdict more is said to one lane, and done after others.
 use Rattle.std.proofs.Common.{◌≡◌, ℕ, ◌+◌, ◌<◌, ◌≤◌, Bool, true, false, List, [], ◌∷◌, ◌++◌, length, refl, sym, ap, ◌∙◌, subst, arith, append_assoc, get_or}
 use Rattle.std.proofs.Math.Seq.{map-set_same}
 use Rattle.std.proofs.lemmas.{Bool.Decides.nat_tests, List.map-set, List.length-append, Option.slice_get-map, Option.slice_get_read}
@@ -22,7 +22,7 @@ module _ {S : Type 0} {g : Ghosts S} (has : Cpu S → List Deed → Type 0) (may
     does = does_snoc so.these v old between new so.does said one;
   }
 
--- and so it is behind one of them
+-- and so it is after one of them
 pub still_seen : (all done left now rest : List Verdict) {v : Verdict} → now ≡ done ++ v ∷ [] → left ≡ v ∷ rest → IsPrefix all (done ++ left) → IsPrefix all (now ++ rest)
 still_seen all done left now rest {v} came is (more, e) =
     (more, e ∙ (ap (λ xs. done ++ xs) is ∙ (sym (append_assoc done (v ∷ []) rest) ∙ ap (λ xs. xs ++ rest) (sym came))))

@@ -16,7 +16,7 @@ module _ {S : Type 0} {g : Ghosts S} (has : Cpu S → List Deed → Type 0) wher
   pub asks_once_more : (n : ℕ) (old mid new : Lane S g) → AsksAndServes has n old mid → AsksInVain has mid new → AsksAndServes has (n + 1) old new
   asks_once_more n old mid new before again = subst (λ k. AsksAndServes has k old new) (next_is n) (mid, before, again)
 
-  -- behind a look that found a path no call was made
+  -- after a look that found a path no call was made
   pub serves_no_more : (n most : ℕ) (old mid new : Lane S g) → n ≤ most → ServesTimes has n old mid → new ≡ mid → ServesWithin has most old new
   serves_no_more n most old mid new few before same = grind (arith, nat_tests)
 
@@ -29,7 +29,7 @@ module _ {S : Type 0} {g : Ghosts S} (has : Cpu S → List Deed → Type 0) (may
       → AsksTimes has may (n + 1) before after old new
   asks_attending_once_more n before now after old mid new earlier again = subst (λ k. AsksTimes has may k before after old new) (next_is n) (mid, now, earlier, again)
 
-  -- behind a look that found a path nothing was done
+  -- after a look that found a path nothing was done
   pub attends_no_more : (n most : ℕ) (before now after : List Verdict) (old mid new : Lane S g) → n ≤ most → AttendsTimes has may n before now old mid → new ≡ mid → after ≡ now
       → AttendsWithin has may most before after old new
   attends_no_more n most before now after old mid new few earlier same none = grind (arith, nat_tests)

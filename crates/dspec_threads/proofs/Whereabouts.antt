@@ -120,7 +120,7 @@ first_in ws w vs e all = all 0 w.inside (ap (λ l. slice_get (who_is_in l) 0) e)
 pub rest_in : (ws : List Whereabouts) (w : Whereabouts) (vs : List Whereabouts) → ws ≡ w ∷ vs → AllIn (who_is_in ws) → AllIn (who_is_in vs)
 rest_in ws w vs e all c o at = all (suc c) o (ap (λ l. slice_get (who_is_in l) (suc c)) e ∙ at)
 
--- as many as were read, behind those that were
+-- as many as were read, after those that were
 pub one_more_at_home : (ys : List Whereabouts) (now all : List Whereabouts) (rest : List (Cpu EnabledRows)) (cpu : Cpu EnabledRows) (left : List (Cpu EnabledRows)) (y : Whereabouts)
     → rest ≡ cpu ∷ left → y ≡ waits_inside cpu → now ≡ ys ++ y ∷ [] → ys ++ map waits_inside rest ≡ all → now ++ map waits_inside left ≡ all
 one_more_at_home ys now all rest cpu left y cons made is was =
@@ -191,7 +191,7 @@ module _ (done : ℕ → CallsMade → Type 0) where
   pub callable_there : (shared : Shared) (ws : List Whereabouts) (c : ℕ) (w : Whereabouts) → AreCpusOf done shared ws → slice_get ws c ≡ Some w → IsCallableInside shared w
   callable_there shared ws c w (r, same, all) at cpu e = callable_so r c shared w.inside w.came same (all c w at) cpu e
 
-  -- behind a look too
+  -- after a look too
   pub callable_behind : (shared : Shared) (ws : List Whereabouts) (c : ℕ) (w v : Whereabouts) → AreCpusOf done shared ws → slice_get ws c ≡ Some w → ComesIn done w v → IsCallableInside shared v
   callable_behind shared ws c w v (r, same, all) at comes cpu e = callable_so r c shared v.inside v.came same (comes.keeps r c (all c w at)) cpu e
 

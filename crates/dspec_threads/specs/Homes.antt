@@ -8,7 +8,7 @@ pub record IsLentOut (sent : List (Cpu EnabledRows)) (cpu : Cpu EnabledRows) : T
   pub was : sent ≡ first ∷ []
   pub same : identity cpu ≡ identity first
 
--- The CPU has gone home: it went through its ring as it was, behind what went through when that was made.
+-- The CPU has gone home: it went through its ring as it was, after what went through when that was made.
 pub record WentHome (cpu : Cpu EnabledRows) (sent : List (Cpu EnabledRows)) : Type 0 where
   pub first : Cpu EnabledRows
   pub went : sent ≡ first ∷ cpu ∷ []
@@ -19,7 +19,7 @@ module _ (done : ℕ → CallsMade → Type 0) where
     pub same : identity cpu ≡ identity first
     pub did : done (number_in cpu) (called cpu)
 
-  -- what may go through the ring behind these
+  -- what may go through the ring after these
   abbrev pub ComesHome : List (Cpu EnabledRows) → Cpu EnabledRows → Type 0
   ComesHome [] cpu = Unit {0}
   ComesHome (first ∷ more) cpu = HasDone first cpu

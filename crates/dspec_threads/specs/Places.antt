@@ -108,7 +108,7 @@ module _ (done : ℕ → CallsMade → Type 0) where
       pub keeps : KeepsPlace x y
       pub sends : MatchResult a (λ o. (o ≡ x.inside) × (y.inside ≡ None)) (λ _. y ≡ x)
 
-    -- behind a look
+    -- after a look
     pub record LooksAndSends (x y : Whereabouts) : Type 0 where
       pub looked : Whereabouts
       pub comes : ComesIn x looked

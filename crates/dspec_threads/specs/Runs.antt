@@ -40,7 +40,7 @@ called_home home c = option_map_or (λ (o : Option (Cpu EnabledRows)). option_ma
 abbrev pub ByThoseHome : (ℕ → CallsMade → Type 0) → List (Option (Cpu EnabledRows)) → ℕ → CallsMade → CallsMade → Type 0
 ByThoseHome done home c x y = ThenServed (NothingOrDone done) c x y × (y ≡ called_home home c)
 
--- Behind a look all CPUs are at home: who was there before is that still. By one list the session is closed, whose calls are theirs.
+-- After a look all CPUs are at home: who was there before is that still. By one list the session is closed, whose calls are theirs.
 abbrev pub EndsHome : {K : Type 0} → (K → Batch → K → Type 0) → (ℕ → CallsMade → Type 0) → RunningSession K → List Left → K → Type 0
 EndsHome gets done r left new =
     (looked : List (Option (Cpu EnabledRows))) × EachPair StaysIn r.home looked × AllIn looked × IsOneListWith r.schema gets (ByThoseHome done looked) r.config r.began left new
@@ -64,14 +64,14 @@ pub record LooksLater {K : Type 0} (old new : RunningSession K) : Type 0 where
   pub same : record new { home = old.home } ≡ old
   pub home : EachPair StaysIn old.home new.home
 
--- behind a look each CPU that was at home made a service, and nothing else changed
+-- after a look each CPU that was at home made a service, and nothing else changed
 pub record TendsHome {K : Type 0} (old new : RunningSession K) : Type 0 where
   pub same : record new { home = old.home } ≡ old
   pub looked : List (Option (Cpu EnabledRows))
   pub later : EachPair StaysIn old.home looked
   pub serves : EachPair ServesInside looked new.home
 
--- Behind a look the CPU with this number, if it was at home, is the answer, and is out; or memory was refused, and it stays. Nothing else
+-- After a look the CPU with this number, if it was at home, is the answer, and is out; or memory was refused, and it stays. Nothing else
 -- changed.
 pub record HandsLane {K E : Type 0} (c : ℕ) (a : Result (Option (Cpu EnabledRows)) E) (old new : RunningSession K) : Type 0 where
   pub same : record new { home = old.home } ≡ old

@@ -19,7 +19,7 @@ room_of_lane s = known_free s.going
 abbrev pub said_to_each : {J : Type 0} → List (Sayer J) → List (List Verdict)
 said_to_each ss = map said_by ss
 
--- it was said to this lane behind what had been said, and nothing to the others; or nothing was said
+-- it was said to this lane after what had been said, and nothing to the others; or nothing was said
 abbrev pub SaysTo : {J : Type 0} → ℕ → Verdict → Bool → List (Sayer J) → List (Sayer J) → Type 0
 SaysTo {J} lane v a old new = MatchBool a
     ((s : List Verdict) × (slice_get (said_to_each old) lane ≡ Some s) × (said_to_each new ≡ slice_set (said_to_each old) lane (s ++ v ∷ [])))

@@ -29,7 +29,7 @@ module _ {S : Type 0} {g : Ghosts S} (has : Cpu S → List Deed → Type 0) wher
     DoesVerdicts [] old new = new ≡ old
     DoesVerdicts (v ∷ vs) old new = may v.path.id v.keep × ((mid : Lane S g) × DoesVerdict v old mid × DoesVerdicts vs mid new)
 
-    -- so many were done: just those that came out behind the ones settled before
+    -- so many were done: just those that came out after the ones settled before
     pub record SettlesNext (before after : List Verdict) (n : ℕ) (old new : Lane S g) : Type 0 where
       pub these : List Verdict
       pub came : after ≡ before ++ these

@@ -28,7 +28,7 @@ fn attend<S: Schema, J: Judging>(lane: &mut Lane<'_, S>, settler: &mut Settler<J
 }
 
 impl Taker {
-    /// As `take_within`, of a lane to which verdicts are said: behind each look in vain it makes a service, and settles what was said to
+    /// As `take_within`, of a lane to which verdicts are said: after each look in vain it makes a service, and settles what was said to
     /// it. So a lane that waits for a path does what the reader says of others meanwhile.
     pub fn take_settling<S: Schema, J: Judging>(
         &mut self,
@@ -51,7 +51,7 @@ impl Taker {
         None
     }
 
-    // A look, and behind one in vain a service and what was said since.
+    // A look, and after one in vain a service and what was said since.
     fn look_settling<S: Schema, J: Judging>(
         &mut self,
         lane: &mut Lane<'_, S>,
@@ -70,7 +70,7 @@ impl Taker {
     }
 }
 
-// An ask, and behind one in vain a service and what was said since.
+// An ask, and after one in vain a service and what was said since.
 fn ask<S: Schema, J: Judging>(lane: &mut Lane<'_, S>, settler: &mut Settler<J>) -> Option<Path>
     ensures same { place_of lane.new ≡ place_of lane.old }
     ensures ring { settled_from settler.new ≡ settled_from settler.old }
@@ -83,7 +83,7 @@ fn ask<S: Schema, J: Judging>(lane: &mut Lane<'_, S>, settler: &mut Settler<J>) 
     None
 }
 
-/// As `open_within`, of a lane to which verdicts are said: behind each ask in vain it makes a service, and settles what was said to it.
+/// As `open_within`, of a lane to which verdicts are said: after each ask in vain it makes a service, and settles what was said to it.
 pub fn open_settling<S: Schema, J: Judging>(
     lane: &mut Lane<'_, S>,
     settler: &mut Settler<J>,

@@ -8,9 +8,9 @@ use dspec_record::Schema;
 use std::sync::atomic::{AtomicU64, Ordering};
 use std::thread;
 
-/// Where works meet at their ends. On threads of a program's own a lane makes no services behind its work, and each slot that waits for
+/// Where works meet at their ends. On threads of a program's own a lane makes no services after its work, and each slot that waits for
 /// its CPU stays taken: so a work that ends before the others waits here, and its lane goes on serving until all have come. `trace` and
-/// `trace_workers` serve behind each work by themselves. Whoever waits has a reference to it.
+/// `trace_workers` serve after each work by themselves. Whoever waits has a reference to it.
 /// Every work has to come, also one that ends early by a fault: the others serve for it as often as they were told. No contract says how
 /// many have come, since any thread may come at any time.
 #[derive(Drop)]
@@ -44,7 +44,7 @@ impl Barrier {
         thread::yield_now();
     }
 
-    /// Comes, and waits for the others: it makes at most so many services of the lane, with a look behind each. Answers whether all came.
+    /// Comes, and waits for the others: it makes at most so many services of the lane, with a look after each. Answers whether all came.
     pub fn wait<S: Schema>(&self, lane: &mut Lane<'_, S>, services: u64) -> bool
         ensures same { place_of lane.new ≡ place_of lane.old }
         ensures serves { ServesWithin ⟦<Cpu<S> as Listed>⟧.has_list services lane.old lane.new }

@@ -31,7 +31,7 @@ pub fn belt(alloc: Global, room: usize) -> Result<(Giver, Taker), AllocError>
 }
 
 impl Giver {
-    /// Gives a path, behind those that were given. It comes back, and nothing was given, where the belt is full, as far as this end
+    /// Gives a path, after those that were given. It comes back, and nothing was given, where the belt is full, as far as this end
     /// can see.
     #[inline]
     pub fn give(&mut self, path: Path) -> Result<(), Path>
@@ -49,7 +49,7 @@ impl Giver {
 
 impl Taker {
     /// The next path, in the order in which they were given; None where none is there, as far as this end can see. Its `opening` answers
-    /// as behind `Path::take`.
+    /// as after `Path::take`.
     #[inline]
     pub fn take(&mut self) -> Option<Path>
         ensures belt { taken_from_belt self.new ≡ taken_from_belt self.old }

@@ -21,7 +21,7 @@ pub(crate) fn asked<S: Schema>(lane: &mut Lane<'_, S>) -> Option<Path>
     None
 }
 
-// An ask, and a service behind one in vain.
+// An ask, and a service after one in vain.
 fn ask<S: Schema>(lane: &mut Lane<'_, S>) -> Option<Path>
     ensures same { place_of lane.new ≡ place_of lane.old }
     ensures asks { AsksOnce ⟦<Cpu<S> as Listed>⟧.has_list result lane.old lane.new }
@@ -49,7 +49,7 @@ pub fn open_within<S: Schema>(lane: &mut Lane<'_, S>, more: u32) -> Path
 }
 
 impl Taker {
-    // A look, and a service behind one in vain.
+    // A look, and a service after one in vain.
     fn look<S: Schema>(&mut self, lane: &mut Lane<'_, S>) -> Option<Path>
         ensures same { place_of lane.new ≡ place_of lane.old }
         ensures belt { taken_from_belt self.new ≡ taken_from_belt self.old }
@@ -63,7 +63,7 @@ impl Taker {
         None
     }
 
-    /// The next path, once it comes: it looks at most so many times, with a service of the lane behind each look in vain. None where none
+    /// The next path, once it comes: it looks at most so many times, with a service of the lane after each look in vain. None where none
     /// came.
     pub fn take_within<S: Schema>(&mut self, lane: &mut Lane<'_, S>, looks: u32) -> Option<Path>
         ensures same { place_of lane.new ≡ place_of lane.old }

@@ -22,7 +22,7 @@ pub(crate) fn ring<D: Duty>(alloc: Global) -> Result<(Way<D>, Home<D>), AllocErr
     RingBuffer::with_protocol::<Global, HomeRule<D>>(alloc, 2)
 }
 
-/// A CPU, once it has gone through its ring, so whatever comes behind it is that CPU. There is room for it to come home.
+/// A CPU, once it has gone through its ring, so whatever comes after it is that CPU. There is room for it to come home.
 pub(crate) fn pass<D: Duty>(
     way: Way<D>,
     home: Home<D>,

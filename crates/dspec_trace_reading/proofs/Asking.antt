@@ -3,7 +3,7 @@ use Rattle.std.proofs.Common.{arith, ◌≡◌, ◌<◌, ◌+◌, ℕ, ◌⊎◌
 use Rattle.std.proofs.lemmas.{Bool.Decides.nat_tests, List.get_or-set_same, Option.slice_get_within, Option.get_or_from_slice_get}
 use Rattle.dspec_trace_reading.specs.Words.{EnabledRows, Passed, GotAll, missed_on, lost_more, FileWrite, Takes, AddsPacket, GetsPacket, IsNothing, Tracing, Batch, Loss}
 
--- what a place took stands behind what it was asked for before
+-- what a place took stands after what it was asked for before
 pub took : (old new : Option (List FileWrite)) (was : List FileWrite) (name bytes : List ℕ) → old ≡ Some was → Takes old name bytes new
     → new ≡ Some (was ++ record { name = name; bytes = bytes; refused = None } ∷ [])
 took None new was name bytes e takes = absurd (cc (e))

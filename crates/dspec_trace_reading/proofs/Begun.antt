@@ -13,7 +13,7 @@ same_at (suc n) (suc i) d = same_at n i d
 pub none_yet : (counts : List ℕ) → counts ≡ replicate 64 0 → (c : ℕ) → slice_index counts c ≡ 0
 none_yet counts is c = ap (λ (xs : List ℕ). slice_index xs c) is ∙ same_at 64 c 0
 
--- the write of the metadata, behind those of before
+-- the write of the metadata, after those of before
 abbrev pub first : Origin → Form → EnabledRows → Names → FileWrite
 first origin form e names = record { name = codes "metadata"; bytes = origin_text origin form e names; refused = None }
 

@@ -25,7 +25,7 @@ pub record Carries {K F : Type 0} (gets : K → Batch → K → Type 0) (sees : 
   pub accepted : (c : ℕ) (l : Left) (at : slice_get left c ≡ Some l) → length ((kept.page.each c l at).seen) ≡ l.report.accepted
   pub low : start_fault k ≡ None → (c : ℕ) (l : Left) → slice_get left c ≡ Some l → c < 64
 
--- A session's sink B has both a sink K and a folder F, whose end was told behind the close: what the session's promise says of both.
+-- A session's sink B has both a sink K and a folder F, whose end was told after the close: what the session's promise says of both.
 module _ {B K F : Type 0} (bgets : B → Batch → B → Type 0) (gets : K → Batch → K → Type 0) (sees : F → Batch → F → Type 0) (other : B → K) (folder : B → F) (e : EnabledRows)
     (to_other : (a : B) (b : Batch) (c : B) → bgets a b c → gets (other a) b (other c)) (to_folder : (a : B) (b : Batch) (c : B) → bgets a b c → sees (folder a) b (folder c))
     (does : ℕ → CallsMade → CallsMade → Type 0) (k : Config) (old new : B) (left : List Left) (ended : F) (one : IsOneListWith e bgets does k old left new)
@@ -39,7 +39,7 @@ module _ {B K F : Type 0} (bgets : B → Batch → B → Type 0) (gets : K → B
   abbrev text : Record → List ℕ
   text = table_text e.header (enabled e.rows)
 
-  -- what the end told comes behind what the session passed on
+  -- what the end told comes after what the session passed on
   abbrev extra : List Passed
   extra = told_of sees 0 left (folder new) ended tellings
 

@@ -43,7 +43,7 @@ module _ (laws : FilesLaws) (uuid : List ℕ) (e : EnabledRows) (names : Names) 
         have = have_more f.writes f.packets ps (one_few 0 (missed_packets uuid told missed c lasts) (omega arith)) f.have;
       }
 
-  -- the packets of a batch's runs up to a place: its records up to there stand behind those of the stream
+  -- the packets of a batch's runs up to a place: its records up to there stand after those of the stream
   pub add_to : (mid new : Option (List FileWrite)) (lasts after : List ℕ) (missed : ℕ) (stream read : List Record) (runs : List Run) (to : ℕ) → missed < 2 ^ 64 → All (Accepts e) read
       → Filed uuid e names hertz c mid lasts missed stream → AreRuns lasts read 0 runs to after → TakesAll c mid (run_packets uuid e missed c read 0 runs) new
       → Filed uuid e names hertz c new after missed (stream ++ slice_range read 0 to)

@@ -1,4 +1,4 @@
--- A folder of either form, behind its metadata: what is known of it, and what is read of it.
+-- A folder of either form, after its metadata: what is known of it, and what is read of it.
 use Rattle.std.proofs.Common.{◌++◌, ◌≡◌, ◌<◌, ◌+◌, ◌^◌, ◌⊎◌, inl, inr, ℕ, List, [], Option, Some, None, sym, ap, ◌∙◌, arith, codes, slice_get}
 use Rattle.dspec_trace_reading.specs.Words.{FileWrite, Record, EnabledRows, origin_fault, origin_text, layout_of, read_metadata, HasNumbers, file_of, drops_carried, path_of, ReadsAllKept, ReadsBack}
 use Rattle.dspec_trace_reading.specs.Words.{ReadsKept, Batch, Left, Loss, Form, Names, Origin}
@@ -11,7 +11,7 @@ path_kept was written metadata path =
     let same : was ++ metadata.0 ≡ was ++ path.0 = cc (both) in
     ap path_of same ∙ path.1.1
 
--- Behind what the folder was made with (`before`) and the metadata there are other writes, which leave its path and the metadata as they were. What is kept of
+-- After what the folder was made with (`before`) and the metadata there are other writes, which leave its path and the metadata as they were. What is kept of
 -- each CPU's batches is read, where nothing was lost or 64 bits are enough; and where nothing was lost, all drops that they carried are told.
 pub record IsFilled (form : Form) (origin : Origin) (e : EnabledRows) (names : Names) (before : List FileWrite) (batches : ℕ → List Batch) (lost : Option Loss)
     (written : Option (List FileWrite)) (told missed : ℕ → ℕ) : Type 0 where

@@ -28,7 +28,7 @@ module _ (e : EnabledRows) where
   one_text b rs read has is =
       one_reading (table_shape e.header (enabled e.rows)) (table_accepts e.header (enabled e.rows)) (table_text e.header (enabled e.rows)) (laws e) 0 b.buffer.text read rs is has
 
--- the place took writes behind those of before, which left the file of this name as it was
+-- the place took writes after those of before, which left the file of this name as it was
 abbrev pub Stays : List ℕ → Option (List FileWrite) → List FileWrite → Type 0
 Stays name written was = (added : List FileWrite) × ((written ≡ Some (was ++ added)) × (file_of name (was ++ added) ≡ file_of name was))
 

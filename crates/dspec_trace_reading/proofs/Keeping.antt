@@ -83,7 +83,7 @@ module _ (e : EnabledRows) where
       whole = λ none. let w = k.whole none in (w.0, λ same. w.1 (told ∙ sym missed));
     }
 
-    -- the same behind a packet of no records, which tells of none missed
+    -- the same after a packet of no records, which tells of none missed
     keeps_first : (old mid new : Tracing) (b : Batch) (bs : List Batch) (read : List Record) (total : ℕ) (was next : List FileWrite) → IsText e b.buffer.text read
         → file_of (cpu_name c) next ≡ file_of (cpu_name c) was ++ (filled_packets false e uuid 0 c [] ++ filled_packets false e uuid total c read) → missed_on mid c ≡ total
         → total ≡ missed_on old c + b.drops → told_on mid c ≡ total → Kept mid new bs next → Kept old new (b ∷ bs) was

@@ -7,7 +7,7 @@ use Rattle.dspec_buffer.proofs.OneReading.{one_reading}
 use Rattle.dspec_trace_reading.proofs.Folding.{Holds, one_text}
 use Rattle.dspec_ctf_sink.proofs.Silent.{laws}
 
--- of no records, those in front are none, and those behind too
+-- of no records, those in front are none, and those after too
 both_none : (front back : List Record) → front ++ back ≡ [] → (front ≡ []) × (back ≡ [])
 both_none [] back is = (refl, is)
 both_none (r ∷ rs) back is = absurd (cc (is))

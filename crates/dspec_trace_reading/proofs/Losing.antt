@@ -6,7 +6,7 @@ use Rattle.dspec_trace_reading.specs.Words.{Tracing, Batch, FolderFault}
 use Rattle.dspec_ctf_sink.proofs.Written.{brought_elsewhere, file_of_more}
 use Rattle.dspec_trace_reading.proofs.Asking.{missed_before, missed_here, took}
 
--- what a place refused stands behind what it was asked for before, and brings no file anything
+-- what a place refused stands after what it was asked for before, and brings no file anything
 pub refused_there : (old new : Option (List FileWrite)) (was : List FileWrite) (name bytes : List ℕ) (fault : FolderFault) → old ≡ Some was → Refuses old name bytes new fault
     → new ≡ Some (was ++ record { name = name; bytes = bytes; refused = Some fault } ∷ [])
 refused_there None new was name bytes fault e refuses = absurd (cc (e))

@@ -3,7 +3,7 @@ use Rattle.std.proofs.{Common.◌≡◌, Common.◌≢◌, Common.List, Common.[
 use Rattle.dspec_trace_reading.specs.Words.{FileWrite, brought_to, file_of, LeaveNone, made_at, path_of}
 use Rattle.dspec_ctf_sink.proofs.Written.{brought_elsewhere, brought_whole, file_of_more}
 
--- behind what left no file anything, one write brings its own alone
+-- after what left no file anything, one write brings its own alone
 pub alone : (was : List FileWrite) (w : FileWrite) (name : List ℕ) → LeaveNone was → name ≢ [] → file_of name (was ++ w ∷ []) ≡ brought_to name w
 alone was w name none named = file_of_more name was w ∙ ap (λ xs. xs ++ brought_to name w) (none name named)
 

@@ -10,7 +10,7 @@ no_digit : is_digit 95 ≡ true → ⊥
 unfolding is_digit
 no_digit e = absurd (cc (e))
 
--- so digits, an underscore and what stands behind it are parted in one way
+-- so digits, an underscore and what stands after it are parted in one way
 parted : (xs ys us vs : List ℕ) → list_all is_digit xs ≡ true → list_all is_digit ys ≡ true → xs ++ 95 ∷ us ≡ ys ++ 95 ∷ vs → (xs ≡ ys) × (us ≡ vs)
 parted [] [] us vs p q e = (refl, ap (λ (zs : List ℕ). drop 1 zs) e)
 parted [] (y ∷ ys) us vs p q e =

@@ -47,7 +47,7 @@ pub stays_elsewhere : (cpu : ℕ) (name : List ℕ) → ((file : ℕ) → row_na
 stays_elsewhere cpu name apart was ps =
     flat_map-append (brought_to name) was (row_writes cpu ps) ∙ ap (λ xs. file_of name was ++ xs) (none_here cpu name apart ps) ∙ append-nil (file_of name was)
 
--- a file of the CPU has those with its number behind what it had
+-- a file of the CPU has those with its number after what it had
 
 all_here : (cpu file : ℕ) → cpu < 64 → file < 64 → (ps : List (ℕ × List ℕ)) → All (λ (p : ℕ × List ℕ). p.0 < 64) ps
     → file_of (row_name cpu file) (row_writes cpu ps) ≡ file_bytes file ps

@@ -9,7 +9,7 @@ use Rattle.dspec_trace_reading.proofs.{Asking.some_lost, Taking.Telling, Taking.
 abbrev pub lasts_of : TimedTracing → ℕ → List ℕ
 lasts_of t c = get_or t.lasts c []
 
--- what is known of the files of a batch's CPU, before it and behind it
+-- what is known of the files of a batch's CPU, before it and after it
 module _ (old new : TimedTracing) (b : Batch) (before : ℕ) (files after : CpuFiles) (has : HasFiles old b before files) (changes : ChangesFiles old b after new) where
   pub told_now : slice_index new.told b.cpu ≡ after.told
   told_now = grind (arith, nat_tests, get_or-set_same, slice_get_within)

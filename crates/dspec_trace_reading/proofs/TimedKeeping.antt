@@ -9,7 +9,7 @@ use Rattle.dspec_trace_reading.proofs.{TimedFronts.KeepsFront, TimedFronts.Stand
 use Rattle.dspec_filing_reading.proofs.FilesLaws.{FilesLaws}
 
 module _ (laws : FilesLaws) (uuid : List ℕ) (e : EnabledRows) (names : Names) (hertz c : ℕ) (low : c < 64) (long : length uuid ≡ 16) (stamped : e.header ≡ header.Two) where
-  -- the records that are kept of a CPU's batches, behind those of before
+  -- the records that are kept of a CPU's batches, after those of before
   pub record KeptByTime (old new : TimedTracing) (bs : List Batch) (stream : List Record) : Type 0 where
     pub kept : List Record
     pub lost : ℕ

@@ -21,7 +21,7 @@ pub small_then : (e : EnabledRows) (old new : TimedTracing) (b : Batch) (c : ℕ
 small_then e old new b c loses (inl none) = absurd (some_lost old.lost loses.loss (sym loses.lost ∙ none))
 small_then e old new b c loses (inr small) = small
 
--- the place was asked for these writes, behind which each file stays that isn't of this CPU
+-- the place was asked for these writes, after which each file stays that isn't of this CPU
 abbrev pub StayElsewhere : TimedTracing → Batch → TimedTracing → List FileWrite → Type 0
 StayElsewhere old b new was = (added : List FileWrite) × ((new.written ≡ Some (was ++ added))
     × ((name : List ℕ) → (b.cpu < length old.missed → (file : ℕ) → row_name b.cpu file ≢ name) → file_of name (was ++ added) ≡ file_of name was))

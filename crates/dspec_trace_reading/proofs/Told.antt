@@ -1,4 +1,4 @@
--- What the end of a trace tells of each CPU comes behind the batches that its session passed on.
+-- What the end of a trace tells of each CPU comes after the batches that its session passed on.
 use Rattle.std.proofs.Common.{◌≡◌, ◌<◌, ◌+◌, ◌==◌, ℕ, zero, suc, false, List, [], ◌∷◌, ◌++◌, Some, refl, arith, slice_get}
 use Rattle.std.proofs.lemmas.Bool.Decides.{nat_tests}
 use Rattle.dspec_trace_reading.specs.Words.{Record, EnabledRows, GotAll, Passed, passed_from, GetsTellings, IsBare, IsTelling, untold, HaveNumbers, drops_carried, Batch, Left}
@@ -41,7 +41,7 @@ pub drops_more : (bs : List Batch) (b : Batch) → drops_carried (bs ++ b ∷ []
 drops_more [] b = omega arith
 drops_more (x ∷ bs) b = let more = drops_more bs b in omega arith
 
--- a batch without records, behind others, leaves the records that they hold
+-- a batch without records, after others, leaves the records that they hold
 pub hold_more : (e : EnabledRows) (bs : List Batch) (b : Batch) (rs : List Record) → Holds e bs rs → IsBare b → Holds e (bs ++ b ∷ []) rs
 hold_more e [] b rs none bare = ([], [], bare.0, bare.1, none, refl)
 hold_more e (x ∷ bs) b rs (ps, rest, has, many, sum, more) bare = (ps, rest, has, many, sum, hold_more e bs b rest more bare)

@@ -55,7 +55,7 @@ pub(crate) struct Ran<T: Drop> {
     pub(crate) uuid: [u8; 16],
 }
 
-// Behind the close: the kept room goes back, and what the reports count besides is told.
+// After the close: the kept room goes back, and what the reports count besides is told.
 fn end_in<T: Sink<Enablings> + Lossy>(
     schema: &Enablings,
     closed: Closed,

@@ -1,5 +1,5 @@
 //! `examples NAME ..` is one of six programs over the library. Each stands in a file and a folder of its name, and is read as a whole from
-//! its `main` on; the words behind the name are its own.
+//! its `main` on; the words after the name are its own.
 //!
 //! | Name | What it is |
 //! |---|---|

@@ -73,7 +73,7 @@ fn consume(running: Running<Anything, Enough>) -> Result<(Closed, Enough)> {
     Ok(ended)
 }
 
-/// How many records the CPU offered, each in exactly one of the counts behind.
+/// How many records the CPU offered, each in exactly one of the counts after.
 fn told(report: &Report) -> Option<u64> {
     let dropped = report.dropped.checked_add(report.specdropped)?;
     let lost = report.lost.checked_add(report.discarded)?;

@@ -15,7 +15,7 @@ pub struct Player {
     log: Log,
     /// The call that comes next, where the one before left one to make.
     owed: Option<CpuOp>,
-    /// Whether the call behind this one has to wait for others.
+    /// Whether the call after this one has to wait for others.
     waits: bool,
     /// The speculation that was offered to last.
     speculates_to: SpecId,
@@ -185,12 +185,12 @@ impl Player {
         }
     }
 
-    /// Whether to make way for others behind this call.
+    /// Whether to make way for others after this call.
     pub fn makes_way(&mut self) -> bool {
         self.dice.roll(1000) < self.plan.yields
     }
 
-    /// How many turns to do nothing behind this call, while others go on: many where it has to wait for them.
+    /// How many turns to do nothing after this call, while others go on: many where it has to wait for them.
     pub fn pause(&mut self) -> u32 {
         if self.waits {
             self.waits = false;

@@ -122,7 +122,7 @@ fn add_block(
     Ok(())
 }
 
-/// What a decision makes of the CPU's block of a speculation: the block is added, or a reservation was refused. Behind its own decision
+/// What a decision makes of the CPU's block of a speculation: the block is added, or a reservation was refused. After its own decision
 /// the CPU has nothing left to settle, and copies no record.
 fn add_decision(
     alloc: Global,
@@ -204,7 +204,7 @@ fn taken_of(outcome: &Outcome, cpu: u32) -> usize {
     count
 }
 
-/// A buffer without records, behind so many others of which so many were taken.
+/// A buffer without records, after so many others of which so many were taken.
 fn empty(alloc: Global, before: usize, taken: usize) -> ReadBuffer {
     ReadBuffer {
         origin: if before < taken {

@@ -26,7 +26,7 @@ pub struct SeedPlan {
     pub returns: u32,
     /// How many places the board has.
     pub places: u32,
-    /// Behind how many of a thousand calls a worker makes way for others.
+    /// After how many of a thousand calls a worker makes way for others.
     pub yields: u32,
     /// How many of a hundred identifiers are of speculations that are over, or never were.
     pub stale: u32,

@@ -12,7 +12,7 @@ use dspec_session_core::Session;
 use std::alloc::{AllocError, Global};
 use std::thread::Threads;
 
-/// What was left of a session is read behind what the consumer took.
+/// What was left of a session is read after what the consumer took.
 fn read_left(
     alloc: Global,
     session: Session<Enablings>,

@@ -76,7 +76,7 @@ fn try_made<'a, R: Print>(rt: &R, alloc: Global) -> Result<(), ThreadFuzzFault<'
     Ok(())
 }
 
-/// Whether these words, behind the program's name, ask for threads.
+/// Whether these words, after the program's name, ask for threads.
 pub fn asks_for_threads(words: &[String]) -> bool {
     match words.first() {
         Some(word) => word.as_str() == "threads",

@@ -15,7 +15,7 @@ pub record AreBalancedLines (lines : List DemoLine) : Type 0 where
   pub four : length lines ≡ 4
   pub balanced : AllBalanced 200 lines
 
--- the lines that the demonstration answered were written, one behind the other
+-- the lines that the demonstration answered were written, one after the other
 abbrev pub Printed : Option (List ℕ) → Option (List ℕ) → Type 0
 Printed old new = (lines : List DemoLine) × AreBalancedLines lines × Appends old new (lines_text lines)
 

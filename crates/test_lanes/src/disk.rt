@@ -94,7 +94,7 @@ fn another_folder_gets_nothing(rt: HostRuntime) -> Result<(), Fail> {
     Ok(())
 }
 
-/// Behind writes that are refused, as where a file may be so long only, the file has those that were taken, each whole.
+/// After writes that are refused, as where a file may be so long only, the file has those that were taken, each whole.
 #[test]
 fn whole_writes_alone(rt: HostRuntime) -> Result<(), Fail> {
     let path = free_path(&rt, "whole_writes_alone")?;

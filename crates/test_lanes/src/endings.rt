@@ -5,7 +5,7 @@ use dspec_ctf_sink::{Names, TraceFolder, tell_untold};
 use std::test::Fail;
 
 /// In buffers of two records each: three records in a path, of which the last has no room, a record before the path is kept, which so is lost
-/// with two records, and two behind it, of which the last has no room.
+/// with two records, and two after it, of which the last has no room.
 #[derive(Drop)]
 struct Full {}
 

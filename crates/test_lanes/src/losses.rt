@@ -63,7 +63,7 @@ impl<'a> Folder for Flaky<'a> {
         if number < 64 && self.refused & (1 << number) != 0 {
             return Err(FolderFault::Write(FULL));
         }
-        // Packets of one write stand one behind another, of 1,024 bytes each.
+        // Packets of one write stand one after another, of 1,024 bytes each.
         let last = bytes.len().saturating_sub(1024);
         let missed = number_at(&bytes[last..], usize::from(self.place));
         self.seen.missed.store(missed, Ordering::SeqCst);
@@ -130,7 +130,7 @@ fn a_refused_batch_is_told(rt: HostRuntime) -> Result<(), Fail> {
     Ok(())
 }
 
-/// By time: behind the run that is refused the rest of its batch is lost, two records, and told with the next batch. Where what was missed can't
+/// By time: after the run that is refused the rest of its batch is lost, two records, and told with the next batch. Where what was missed can't
 /// be told, all of a batch is lost.
 #[test]
 fn a_refused_run_is_told(rt: HostRuntime) -> Result<(), Fail> {

@@ -64,7 +64,7 @@ impl<'a> Folder for Summed<'a> {
     }
 }
 
-/// A path whose two records come behind a record with a stamp between theirs, and a record that is dropped.
+/// A path whose two records come after a record with a stamp between theirs, and a record that is dropped.
 #[derive(Drop)]
 struct Crossed {}
 
@@ -104,7 +104,7 @@ fn ended<R: Threads + Sync>(
 }
 
 /// The stamps are 10, 5, 15, 20 in the order of the trace, and a fifth record has no room: the first file has 10, 15 and 20, in two
-/// packets, behind the two that tell of what was missed; the second has 5. Each packet has 1,024 bytes.
+/// packets, after the two that tell of what was missed; the second has 5. Each packet has 1,024 bytes.
 #[test]
 fn a_file_a_row(rt: HostRuntime) -> Result<(), Fail> {
     let sizes = Sizes::new();
@@ -116,7 +116,7 @@ fn a_file_a_row(rt: HostRuntime) -> Result<(), Fail> {
     Ok(())
 }
 
-/// The second run's write is the fourth: it and the record behind it are lost.
+/// The second run's write is the fourth: it and the record after it are lost.
 #[test]
 fn a_refused_row(rt: HostRuntime) -> Result<(), Fail> {
     let sizes = Sizes::new();

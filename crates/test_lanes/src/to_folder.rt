@@ -186,7 +186,7 @@ fn workers_in_a_folder(rt: HostRuntime) -> Result<(), Fail> {
     Ok(())
 }
 
-/// By time: the record is in the first file of its CPU, behind a session of one work and behind one with a worker.
+/// By time: the record is in the first file of its CPU, after a session of one work and after one with a worker.
 #[test]
 fn a_session_in_a_timed_folder(rt: HostRuntime) -> Result<(), Fail> {
     let mut probes = Probes::new(rt.alloc());

@@ -140,6 +140,27 @@ fn paths_of_a_thread(rt: HostRuntime) -> Result<(), Fail> {
     let two = paths.begin(&mut cpu, 2, 8, 0).expect(&rt, "a path");
     same(&rt, cpu.offer(one.newest, 1, 0, &[3]), Some(Spoken::Kept));
     same(&rt, cpu.offer(two.newest, 1, 0, &[4]), Some(Spoken::Kept));
+    same(
+        &rt,
+        paths
+            .open_of(two.place, WhosePaths::Thread(8))
+            .map_or(0, |path| path.number),
+        2,
+    );
+    same(
+        &rt,
+        paths
+            .open_of(one.place, WhosePaths::Thread(8))
+            .map_or(0, |path| path.number),
+        0,
+    );
+    same(
+        &rt,
+        paths
+            .open_of(one.place, WhosePaths::All)
+            .map_or(0, |path| path.number),
+        1,
+    );
     paths.discard_every(&mut cpu, WhosePaths::Thread(8));
     same(&rt, paths.open_at(two.place), None);
     same(&rt, paths.named(&one).map_or(0, |path| path.number), 1);
@@ -163,5 +184,28 @@ fn no_slot(rt: HostRuntime) -> Result<(), Fail> {
     same(&rt, cpu.offer(one.newest, 1, 0, &[3]), Some(Spoken::Kept));
     same(&rt, paths.discard(&mut cpu, &one), true);
     same(&rt, paths.begin(&mut cpu, 3, 7, 0).is_some(), true);
+    Ok(())
+}
+
+/// Where its older records have no room a path is lost as a whole, and tells how many of its last ones were thrown away.
+#[test]
+fn lost_as_a_whole(rt: HostRuntime) -> Result<(), Fail> {
+    let Ok((shared, mut cpu)) = session(rt.alloc(), &Config::of(1, 4, 8, 16)) else {
+        return Err("no session".into());
+    };
+    let Ok(mut paths) = Paths::boxed(rt.alloc()) else {
+        return Err("no table".into());
+    };
+    let mut cpu = LentCpu::of(&shared, &mut cpu);
+    let first = paths.begin(&mut cpu, 1, 7, 0).expect(&rt, "a path");
+    same(&rt, cpu.offer(first.newest, 1, 0, &[1]), Some(Spoken::Kept));
+    same(&rt, cpu.offer(first.newest, 1, 0, &[2]), Some(Spoken::Kept));
+    let newest = paths.turn(&mut cpu, &first).expect(&rt, "a speculation");
+    let second = PathKey { newest, ..first };
+    same(&rt, cpu.offer(newest, 1, 0, &[3]), Some(Spoken::Kept));
+    same(&rt, paths.keep(&mut cpu, &second, true), PathEnd::Waits(0));
+    same(&rt, paths.keep(&mut cpu, &second, false), PathEnd::Lost(1));
+    same(&rt, paths.open_at(first.place), None);
+    same(&rt, (cpu.report().lost, cpu.report().discarded), (2, 1));
     Ok(())
 }

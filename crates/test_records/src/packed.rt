@@ -103,7 +103,7 @@ fn refusals(rt: HostRuntime) -> Result<(), Fail> {
     let claim = 0x44 << 32 | 1;
     let two = [1 << 32, 2];
     assert!(rt; put::<Unstamped>(rt.alloc(), &schema, claim, 0, &two)?.is_some());
-    // other fields, another EPID, none, one behind the last, another word below the widths
+    // other fields, another EPID, none, one after the last, another word below the widths
     for other in [
         0x84 << 32 | 1,
         0x4 << 32 | 1,

@@ -1,5 +1,5 @@
 //! Calls of two CPUs over one `Shared`, on one thread, which no schedule of a session has: asks beyond the next batch, buffers that were never taken,
-//! meetings behind each call. A test is a schedule of whole calls (`schedules`) and what the answers, the reports and the streams of its play
+//! meetings after each call. A test is a schedule of whole calls (`schedules`) and what the answers, the reports and the streams of its play
 //! print. What a session plays stands in `examples/` as data.
 mod cutting;
 mod growths;

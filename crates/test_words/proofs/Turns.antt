@@ -11,7 +11,7 @@ use Rattle.dspec_interleaving.proofs.StepDeeds.{by_test}
 first_in_range : (k : Config) (id : Speculation) → 1 ≤ k.nspec → id.slot ≡ 1 → in_range k id ≡ true
 first_in_range k id low is = grind (arith, nat_tests)
 
--- behind a load of activity that is running
+-- after a load of activity that is running
 pub begins : (k : Config) (v w : View) (c : ℕ) (doing : Doing) (id : Speculation) → v.config ≡ k → 1 ≤ k.nspec → id.slot ≡ 1 → IsOn id doing.op → Unused k c v.own → doing.mine ≡ false
     → LoadedActivity doing v false w → MayLoad k w c doing 1 doing.op × Unused k c w.own
 begins k v w c doing id config low is on unused mine step =

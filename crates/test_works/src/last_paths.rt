@@ -98,7 +98,7 @@ fn are_blocks(newer: u64, count: usize, older: u64, records: &[Rec]) -> bool {
     are_from(newer, first) && are_from(older, behind)
 }
 
-/// Of 100 the last twelve: the eight of a full buffer, and the four behind them. Each turn is a record that is offered twice.
+/// Of 100 the last twelve: the eight of a full buffer, and the four after them. Each turn is a record that is offered twice.
 #[test]
 fn long_path_keeps_its_last_records(rt: HostRuntime) -> Result<(), Fail> {
     let (path, report, records) = traced(&rt, 3, 256, Long::of(100, true))?;
@@ -157,7 +157,7 @@ fn path_that_fits_is_not_cut(rt: HostRuntime) -> Result<(), Fail> {
     Ok(())
 }
 
-/// Without a third slot nothing is thrown away: what comes behind two full buffers is dropped.
+/// Without a third slot nothing is thrown away: what comes after two full buffers is dropped.
 #[test]
 fn path_without_a_slot_stays(rt: HostRuntime) -> Result<(), Fail> {
     let (path, report, records) = traced(&rt, 2, 256, Long::of(20, true))?;

@@ -203,7 +203,7 @@ fn last_of_many_workers_serves(rt: HostRuntime) -> Result<(), Fail> {
 /// How many services a lane makes at the most while another work hasn't begun.
 const MOST_SERVICES: u64 = 1 << 20;
 
-/// Ends the test where a lane goes on serving behind those: each batch is of one service.
+/// Ends the test where a lane goes on serving after those: each batch is of one service.
 #[derive(Drop)]
 struct Counts<'a, R: Abort> {
     rt: &'a R,

@@ -180,7 +180,7 @@ fn buffers_come_back(rt: HostRuntime) -> Result<(), Fail> {
     Ok(())
 }
 
-/// A slot whose speculation was discarded with no caller waits for every CPU, so that it is given out again only behind a clean.
+/// A slot whose speculation was discarded with no caller waits for every CPU, so that it is given out again only after a clean.
 #[test]
 fn slots_are_cleaned(rt: HostRuntime) -> Result<(), Fail> {
     let done = AtomicU64::new(0);

@@ -1,4 +1,4 @@
--- The calls of tour's work, one behind the other, and the records of its probes.
+-- The calls of tour's work, one after the other, and the records of its probes.
 use Rattle.std.proofs.Common.{◌≡◌, ℕ, List, [], ◌∷◌, refl, ap, ◌∙◌}
 use Rattle.dspec_record.specs.Record.{Record}
 use Rattle.dspec_record.specs.declared.header.Header.{Header}
@@ -24,7 +24,7 @@ pub plain_record : {F : Type 0} (p q : Probe F) → p ≡ q → (values : List �
 plain_record p q e values =
     (λ i. record { epid = p.epid; stamp = unstamped p.header i; values = values }) ∙ ap (λ x. plain (epid_of_probe x) values) e
 
--- the calls, one behind the other, by the records of the two probes
+-- the calls, one after the other, by the records of the two probes
 module _ (request touch : ℕ) (failed fine : Opening) (first second third : Spoken) (kept thrown : Decided) (seventh eighth ninth : Traced) where
   module _ (x x1 x2 x3 x4 x5 x6 x7 x8 x9 y : CallsMade) (r1 r2 r3 r7 r8 r9 : Record) where
     pub one_by_one : r1 ≡ plain touch (4096 ∷ 5 ∷ []) → r2 ≡ plain touch (8192 ∷ 0 ∷ []) → r3 ≡ plain touch (12288 ∷ 0 ∷ [])

@@ -9,7 +9,7 @@ use Rattle.dspec_cpu.specs.Called.{CallsMade, no_calls, settled_did}
 use Rattle.tour.specs.Requests.{MakesRequests}
 
 -- The work's calls were made on CPU 0 of a session of one CPU, with probes 1 and 2; these records came out of it, this is its report,
--- and both keep the promise of what those calls did and of what services and the close settled behind them.
+-- and both keep the promise of what those calls did and of what services and the close settled after them.
 pub record IsTour (records : List Record) (report : Report) : Type 0 where
   pub calls : CallsMade
   pub worked : MakesRequests 1 2 no_calls calls

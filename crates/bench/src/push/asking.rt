@@ -21,7 +21,7 @@ pub enum PushTask {
     },
 }
 
-/// What the words behind `push` ask; None where it is nothing that is done here.
+/// What the words after `push` ask; None where it is nothing that is done here.
 pub fn ask_of(words: &[String]) -> Option<PushTask> {
     match words {
         [word, rounds] if word.as_str() == "times" => {

@@ -52,7 +52,7 @@ fn time(rt: &HostRuntime, way: Way, subject: Subject, rounds: u32) -> io::Result
     })
 }
 
-/// A number of tenths with one digit behind the point.
+/// A number of tenths with one digit after the point.
 fn tenths(alloc: Global, number: u64) -> io::Result<String> {
     Ok(format!(in alloc; "{}.{}", number / 10, number % 10)?)
 }

@@ -5,6 +5,7 @@ pub use Rattle.dspec_record.specs.declared.field.Field.TheVariants.{Eight, Four}
 pub use Rattle.dspec_record.specs.declared.field.Shape.{Shape}
 pub use Rattle.dspec_record.specs.declared.header.Header.{Header}
 pub use Rattle.dspec_record.specs.declared.header.Header.TheVariants.{One, Two}
+pub use Rattle.dspec_record.specs.declared.schema.Schema.{Ghosts}
 pub use Rattle.dspec_word.specs.Words.{id_number, Speculation}
 pub use Rattle.dspec_deeds.specs.Words.{dropped_in, report, start_fault}
 pub use Rattle.dspec_deeds.specs.declared.calls.Decided.{Decided}
@@ -22,10 +23,17 @@ pub use Rattle.dspec_promise.specs.Words.{By, commit, discard}
 pub use Rattle.dspec_table.specs.Words.{last_seat, set_up}
 pub use Rattle.dspec_ring.specs.Words.{Pair}
 pub use Rattle.dspec_ring.specs.declared.batch.Batch.{Batch}
-pub use Rattle.dspec_cpu.specs.Words.{Belongs, CommitsIfRoom, config_of, CpuIdentity, DecidesOne, drops_told, identity, IsCallable, IsOpenAt, number_in, OffersValues, OpensOne, RecordsValues}
-pub use Rattle.dspec_cpu.specs.Words.{schema_of, ServesOnce, SpeculatesOne, TracesOne, words_of, worn_of}
+pub use Rattle.dspec_cpu.specs.Words.{Belongs, called, CommitsIfRoom, config_of, CpuIdentity, DecidesOne, drops_told, identity, IsCallable, IsOpenAt, number_in, OffersValues, OpensOne}
+pub use Rattle.dspec_cpu.specs.Words.{RecordsValues, schema_of, ServesOnce, SpeculatesOne, TracesOne, words_of, worn_of}
 pub use Rattle.dspec_cpu.specs.declared.cpu.Cpu.{Cpu}
 pub use Rattle.dspec_cpu.specs.declared.shared.Shared.{Shared}
+pub use Rattle.dspec_paths.specs.Words.{AdoptsPath, BeginsPath, DiscardsPath, IsAlone, KeepsPart, LacksRoom, meant_path, Places, places_of, TurnsPath}
+pub use Rattle.dspec_paths.specs.declared.lent_cpu.LentCpu.{LentCpu}
+pub use Rattle.dspec_paths.specs.declared.open_path.OpenPath.{OpenPath}
+pub use Rattle.dspec_paths.specs.declared.path_end.PathEnd.{PathEnd}
+pub use Rattle.dspec_paths.specs.declared.path_key.PathKey.{PathKey}
+pub use Rattle.dspec_paths.specs.declared.paths.Paths.{Paths}
+pub use Rattle.dspec_paths.specs.declared.whose.WhosePaths.{WhosePaths}
 pub use Rattle.dspec_session_core.specs.Words.{Asked, Awaited, called_at, Cleaned, Consuming, entered_at, FoundNone, GaveBack, Has, IsConsumerOf, IsCpuOf, IsFresh, IsNotTakenBack, IsPromisedBy}
 pub use Rattle.dspec_session_core.specs.Words.{IsSameConsumer, IsSession, pairs_of, set_up_of, Stopped, taken_at, Took, view_of}
 pub use Rattle.dspec_session_core.specs.declared.left.Left.{Left}

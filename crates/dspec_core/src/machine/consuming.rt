@@ -108,7 +108,7 @@ impl<S: Schema, B: TraceBuffer<S>> Machine<S, B> {
         None
     }
 
-    // Behind a slot of a clean: the next one, or the call has ended.
+    // After a slot of a clean: the next one, or the call has ended.
     fn clean_next(&mut self, slot: u32, released: u32) -> Option<Answer>
         requires shown { IsShownMachine B.has B.capacity self.old }
         requires steps { self.old.consumer.steps < 2 ^ 31 }

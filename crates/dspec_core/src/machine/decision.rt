@@ -33,7 +33,7 @@ impl Decision {
         }
     }
 
-    /// The word behind a call that decides, and releases nothing.
+    /// The word after a call that decides, and releases nothing.
     pub fn leaves(self, word: Word, id: SpecId, mine: bool) -> Word
         requires { CanBeReleased word }
         ensures { result ≡ decided_left self word id mine }
@@ -45,7 +45,7 @@ impl Decision {
     }
 }
 
-/// The word behind a table's act: the one that it attempts, or the one that stands.
+/// The word after a table's act: the one that it attempts, or the one that stands.
 pub fn word_left(word: Word, act: Act) -> Word
     ensures { result ≡ word_left word act }
 {

@@ -64,7 +64,7 @@ impl<S: Schema, B: TraceBuffer<S>> Machine<S, B> {
         }
     }
 
-    // What a step sees that may put a record behind what the CPU holds of its slot's present speculation.
+    // What a step sees that may put a record after what the CPU holds of its slot's present speculation.
     fn see_room(&self, cpu: u32, id: SpecId, rec: &Rec, seen: Seen) -> Seen
         requires shown { IsShownMachine B.has B.capacity self.now }
         requires cpu { cpu < self.now.config.cpus }

@@ -49,7 +49,7 @@ pub enum Entry {
 /// worn, the deeds that it enters, and the answer where it is its call's last.
 #[derive(Clone, Copy)]
 pub struct Move {
-    /// The call in flight behind the step.
+    /// The call in flight after the step.
     pub flight: Option<CallPlace>,
     /// Where the second principal buffer is then.
     pub spare: Spare,

@@ -223,7 +223,7 @@ impl Seen {
         self.serves(slot, Entry::One(Deed::Settle(self.cpu, id, fate)), sum)
     }
 
-    // Behind a slot of a service: the next one, or the call has ended.
+    // After a slot of a service: the next one, or the call has ended.
     fn serves(&self, slot: u32, entry: Entry, sum: Served) -> Move
         requires slot { slot ≤ self.now.config.nspec }
         ensures { step_of self.now result ≡ served self.now.config self.now.cpu (measured_by self.now) self.now.me slot (entry_deeds self.now.cpu entry) sum }
@@ -261,7 +261,7 @@ impl Seen {
         )
     }
 
-    // Behind the miss of a slot: the next one, or the call has failed.
+    // After the miss of a slot: the next one, or the call has failed.
     fn misses(&self, slot: u32) -> Move
         requires slot { slot ≤ self.now.config.nspec }
         ensures { step_of self.now result ≡ missed self.now.config self.now.cpu (measured_by self.now) self.now.me slot self.now.word }

@@ -1,4 +1,4 @@
--- The names of one event more, behind those of others.
+-- The names of one event more, after those of others.
 use Rattle.std.proofs.Common.{◌≡◌, ◌+◌, ◌-◌, ◌<◌, ◌++◌, ◌∷◌, ◌∙◌, ℕ, List, [], length, map, take, drop, get_or, ap, suc, sym, arith, subst}
 use Rattle.std.proofs.Math.{ListN.get_or-map, Seq.take-add}
 use Rattle.std.proofs.lemmas.List.{drop-map, flat_map_more, length-drop, length-map, map-append, take_all, take_more, Elements.All-drop, Elements.All-get_or, Elements.All-push}
@@ -6,7 +6,7 @@ use Rattle.std.specs.{List.All, List.flat_map, List.take-map, Prelude.None, Prel
 use Rattle.dspec_ctf.specs.Words.{ProbeNames, AreEvents, HasNoEvents, kinds_in, texts_in}
 use Rattle.dspec_ctf.specs.declared.in_memory.fault.TextFault.{TextFault, TheVariants.TooSmall, TheVariants.NotText, TheVariants.BadKind, TheVariants.Count, TheVariants.Metadata}
 
--- the first of some things, and so many behind it
+-- the first of some things, and so many after it
 pub first_and_some : {X A : Type 0} (f : X → A) (d : X) (n : ℕ) (xs : List X) → n < length xs → f (get_or xs 0 d) ∷ map f (slice_range xs 1 (1 + n)) ≡ take (1 + n) (map f xs)
 first_and_some f d n [] small = absurd (omega arith)
 first_and_some f d n (x ∷ xs) small =
@@ -14,11 +14,11 @@ first_and_some f d n (x ∷ xs) small =
     let more : suc n ≡ 1 + n = omega arith in
     ap (λ k. f x ∷ map f (take k xs)) less ∙ (ap (λ ys. f x ∷ ys) (sym (take-map f n xs)) ∙ ap (λ k. take k (map f (x ∷ xs))) more)
 
--- all from a place on is what is behind it
+-- all from a place on is what is after it
 pub rest_is : {X : Type 0} (xs : List X) (n : ℕ) → slice_range xs n (length xs) ≡ drop n xs
 rest_is xs n = take_all (length xs - n) (drop n xs) (omega (arith, length-drop n xs))
 
--- what is wrong with the numbers behind a place is wrong with all
+-- what is wrong with the numbers after a place is wrong with all
 pub of_part : (n : ℕ) (kinds : List ℕ) (fault : TextFault) → HasNoEvents (slice_range kinds n (length kinds)) fault → HasNoEvents kinds fault
 of_part n kinds (TooSmall needed) is = is
 of_part n kinds NotText is = is
@@ -26,7 +26,7 @@ of_part n kinds BadKind is = λ all. is (subst (All (λ kind. kind < 5)) (sym (r
 of_part n kinds Count is = is
 of_part n kinds (Metadata fault) is = is
 
--- so many names behind a place
+-- so many names after a place
 pub some_behind : {X A : Type 0} (f : X → A) (xs : List X) (n m : ℕ) → take m (map f (slice_range xs n (length xs))) ≡ take m (drop n (map f xs))
 some_behind f xs n m = ap (λ ys. take m ys) (ap (λ ys. map f ys) (rest_is xs n) ∙ sym (drop-map f n xs))
 

@@ -20,7 +20,7 @@ abbrev pub run_parts : ℕ → List Run → List (ℕ × ℕ)
 run_parts from [] = []
 run_parts from (run ∷ runs) = (run.file, run.end - from) ∷ run_parts run.end runs
 
--- the packets with records are those of the runs of all records that were left, one run behind another
+-- the packets with records are those of the runs of all records that were left, one run after another
 pub record HaveAllLeft (f : CpuFiling) (ps : List Packet) (new : CpuFiling) : Type 0 where
   pub runs : List Run
   pub are_runs : AreRuns f.lasts f.records f.place runs (length f.records) new.lasts

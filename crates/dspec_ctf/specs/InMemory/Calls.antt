@@ -80,7 +80,7 @@ missed_bytes f = missed_packets f.uuid f.told f.missed f.cpu f.lasts
 abbrev pub run_bytes : CpuFiling → Run → List ℕ
 run_bytes f run = run_packet f.uuid f.schema f.missed f.cpu run.file (slice_range f.records f.place run.end)
 
--- the bytes stand at the front of the room, and behind them is what was there
+-- the bytes stand at the front of the room, and after them is what was there
 pub record Fills (old bytes new : List ℕ) : Type 0 where
   pub fits : length bytes ≤ length old
   pub is : new ≡ bytes ++ drop (length bytes) old
@@ -106,7 +106,7 @@ pub record FindsAndHands (f : CpuFiling) (room : List ℕ) (p : Packet) (filled 
   pub finds : FindsRun f run found
   pub hands : HandsRun found run room p filled new
 
--- What a call hands out: what was missed, where some of that isn't told, else the packet of the next run; nothing behind the last of them.
+-- What a call hands out: what was missed, where some of that isn't told, else the packet of the next run; nothing after the last of them.
 -- Either way what was handed out before counts as written.
 abbrev pub Hands : CpuFiling → List ℕ → Option Packet → List ℕ → CpuFiling → Type 0
 Hands f room (Some p) filled new =
@@ -150,8 +150,8 @@ HandsNone f room fault new =
     (IsToTell f × HasNoMissed (as_written f) room fault × HasAsMuchRoom (as_written f) new)
     ⊎ (FindsAlone (as_written f) room fault new ⊎ FindsNone (as_written f) fault new)
 
--- The packet that was handed out last wasn't written, nor will be those behind it: what it told isn't told, and its records and those that
--- come behind are missed.
+-- The packet that was handed out last wasn't written, nor will be those after it: what it told isn't told, and its records and those that
+-- come after are missed.
 abbrev pub without_rest : CpuFiling → CpuFiling
 without_rest f =
     record f { missed = as_counted (f.missed + unwritten f); told = f.told_before; from = length f.records; place = length f.records; run = None }

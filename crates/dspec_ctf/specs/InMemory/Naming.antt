@@ -25,7 +25,7 @@ texts_in n = n.event.now ∷ map (λ name. name.now) n.fields.now
 abbrev pub kinds_in : ProbeNames → List ℕ
 kinds_in n = map kind_number (take (length n.fields.now + next_words n.kinds) n.kinds)
 
--- The names are those of these events and their fields, one event's behind another's, and what the fields' numbers mean are these kinds; no field
+-- The names are those of these events and their fields, one event's after another's, and what the fields' numbers mean are these kinds; no field
 -- has labels.
 pub record AreEvents (names : List (List ℕ)) (kinds : List ℕ) (events : List ProbeNames) : Type 0 where
   pub texts : names ≡ flat_map texts_in events
@@ -61,7 +61,7 @@ pub record IsMetadata (identity : TraceIdentity) (e : EnabledRows) (names : List
   pub allowed : origin_fault origin (ByTime identity.hertz) e called ≡ None
   pub text_is : text ≡ origin_text origin (ByTime identity.hertz) e called
 
--- the metadata stands at the front of the room, and behind it is what was there
+-- the metadata stands at the front of the room, and after it is what was there
 pub record PutsMetadata (identity : TraceIdentity) (e : EnabledRows) (names : List (List ℕ)) (kinds room : List ℕ) (size : ℕ) (filled : List ℕ) : Type 0 where
   pub text : List ℕ
   pub is_metadata : IsMetadata identity e names kinds text

@@ -76,7 +76,7 @@ impl CpuPackets {
         Ok(())
     }
 
-    /// Says that the packet that was handed out last wasn't written, and that those behind it won't be. Its records and the rest of the batch
+    /// Says that the packet that was handed out last wasn't written, and that those after it won't be. Its records and the rest of the batch
     /// are missed, and how many these are is the answer; the next batch's packets tell it. Where no packet was handed out since
     /// the batch was opened, or the last answer was none or a fault, it is the rest alone.
     pub fn lose(&mut self) -> u64

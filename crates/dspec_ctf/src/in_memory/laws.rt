@@ -5,7 +5,7 @@ ghost use Rattle.dspec_ctf.specs.InMemory.{Batches.HaveAllLeft, Batches.OpensWit
 ghost use Rattle.dspec_ctf.specs.declared.in_memory.packet.Packet.{Packet};
 
 /// From the opening of a batch on, the packets that are handed out until there is none have all its records, in their order, each in one
-/// packet: they are those of runs one behind another. (That runs have all records once is the law `runs_have_all`.)
+/// packet: they are those of runs one after another. (That runs have all records once is the law `runs_have_all`.)
 pub fn packets_have_all()
     ensures { (f new : CpuFiling) (ps : List Packet) → f.run ≡ None → f.place ≤ length f.records
         → PutsPackets f ps new → IsAllHanded new → HaveAllLeft f ps new }

@@ -65,7 +65,7 @@ fn text_of(
 }
 
 /// Puts the metadata of a trace by time into this room, and says how many bytes it has. The names are those of the schema's events in the order of
-/// their EPIDs, behind each event's name those of its fields; without any, events and fields are numbered. What the fields' numbers
+/// their EPIDs, after each event's name those of its fields; without any, events and fields are numbered. What the fields' numbers
 /// mean is said by a kind for each field, in the same order: 0 for numbers that mean themselves, 1 for signed ones, 2 for floats, 3 for the
 /// first eight bytes of a text, 4 for the next eight of the text in front. A text has one name: that of its first field.
 pub fn put_metadata(

@@ -100,7 +100,7 @@ fn field_count(enablings: &Enablings, epid: u32) -> usize
     }
 }
 
-/// The events of these enablings by their names and kinds, one event's behind another's.
+/// The events of these enablings by their names and kinds, one event's after another's.
 pub(crate) fn events_of<'a>(
     alloc: Global,
     enablings: &Enablings,

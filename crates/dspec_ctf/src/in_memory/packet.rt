@@ -1,4 +1,4 @@
-/// What was handed out for one write: a packet of the format, or several one behind another.
+/// What was handed out for one write: a packet of the format, or several one after another.
 #[repr(C)]
 #[derive(Debug, Clone, Copy, PartialEq, Eq)]
 pub struct Packet {

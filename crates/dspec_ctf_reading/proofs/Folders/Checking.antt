@@ -43,7 +43,7 @@ module _ (layout : Layout) (p : ReadPacket) (events : List Event) (begin end las
       → RisesFrom last (times_of (packet_as_read layout p)) × (end ≡ last_of last (times_of (packet_as_read layout p)))
   rises-whole from low rises same high = grind (arith, nat_tests, rises-append, last-append, times)
 
--- reading goes on behind a packet
+-- reading goes on after a packet
 abbrev file_by : Layout → PartRead PacketRead → Option (List PacketRead)
 file_by layout part = option_and_then (λ p. option_map (λ packets. p.0 ∷ packets) (read_file layout p.1)) part
 

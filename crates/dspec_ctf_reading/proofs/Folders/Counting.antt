@@ -1,4 +1,4 @@
--- What is counted of packets, one behind another.
+-- What is counted of packets, one after another.
 use Rattle.std.proofs.Common.{◌≡◌, ◌<◌, ◌+◌, ◌^◌, ◌==◌, ◌++◌, ℕ, cond, List, [], ◌∷◌, length, map, take, get_or, Option, Some, None, option_map, refl, ap, sym, ◌∙◌, arith, All, append_assoc}
 use Rattle.std.proofs.Common.{length-append}
 use Rattle.std.proofs.lemmas.{Bool.Decides.nat_tests, Grind.flat_map-append, List.append-nil, List.take_more, List.Elements.All-head, List.Elements.All-tail, List.Elements.filter_map-append}

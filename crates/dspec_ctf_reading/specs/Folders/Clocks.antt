@@ -3,7 +3,7 @@ use Rattle.std.specs.Prelude.{ℕ, ◌+◌, ◌*◌, ◌/◌, ◌==◌, unwrap_o
 use Rattle.dspec_ctf_reading.specs.declared.{folder.clock.Base.Base, told.ClockText.ClockText}
 use Rattle.dspec_ctf_reading.specs.declared.folder.clock.Base.TheVariants as base
 
--- where times are counted from: whole seconds from the beginning of 1970 on, and ticks behind them
+-- where times are counted from: whole seconds from the beginning of 1970 on, and ticks after them
 abbrev pub clock_begin : ClockText → Base → ℕ × ℕ
 clock_begin clock base.Epoch = unwrap_or clock.start (0, 0)
 clock_begin clock base.Clock = (0, 0)

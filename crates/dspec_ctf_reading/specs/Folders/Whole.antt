@@ -1,9 +1,9 @@
--- Cited by calls. Bytes that are whole packets, one behind another.
+-- Cited by calls. Bytes that are whole packets, one after another.
 use Rattle.std.specs.Prelude.{◌≡◌, ◌<◌, ℕ, Bool, List, [], ◌∷◌, length, take, drop, Some, None}
 use Rattle.dspec_ctf_reading.specs.{Fronts.PacketSplit, Fronts.split_packet, Packets.PacketDue, declared.folder.whole.Ending.Ending, declared.folder.whole.Ending.TheVariants.Whole}
 use Rattle.dspec_ctf_reading.specs.{declared.folder.whole.Ending.TheVariants.Cut, declared.folder.whole.Ending.TheVariants.Broken}
 
--- the bytes are these packets, one behind another, and then the rest
+-- the bytes are these packets, one after another, and then the rest
 abbrev pub SplitsInto : Bool → List ℕ → List PacketSplit → List ℕ → Type 0
 SplitsInto timed bytes [] rest = bytes ≡ rest
 SplitsInto timed bytes (packet ∷ packets) rest = (split_packet timed bytes ≡ Some packet) × SplitsInto timed packet.behind packets rest
@@ -13,7 +13,7 @@ pub record AreWholeBefore (timed : Bool) (bytes rest : List ℕ) : Type 0 where
   pub packets : List PacketSplit
   pub are : SplitsInto timed bytes packets rest
 
--- How a file ends: as whole packets; as whole packets up to a byte, and behind it bytes with which no packet begins; or it is told why none
+-- How a file ends: as whole packets; as whole packets up to a byte, and after it bytes with which no packet begins; or it is told why none
 -- begins at a byte.
 abbrev pub IsFileEnd : Bool → List ℕ → Ending → Type 0
 IsFileEnd timed bytes Whole = AreWholeBefore timed bytes []

@@ -58,7 +58,7 @@ fn size_of(metadata: &Metadata<'_>, event: &Event) -> usize {
     size
 }
 
-/// Where the event at a place begins, behind so many bytes.
+/// Where the event at a place begins, after so many bytes.
 fn event_at(metadata: &Metadata<'_>, events: &[Event], place: usize, body_at: usize) -> usize {
     let mut at = body_at;
     for event in events.iter().take(place) {

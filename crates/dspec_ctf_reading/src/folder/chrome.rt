@@ -20,7 +20,7 @@ pub struct Track {
     pub number: u64,
 }
 
-/// A record of a row that isn't a CPU's: on which CPU it was made, so many nanoseconds behind the picture's beginning, with which values.
+/// A record of a row that isn't a CPU's: on which CPU it was made, so many nanoseconds after the picture's beginning, with which values.
 #[derive(Debug, Clone, Copy)]
 pub struct RowRecord<'v> {
     /// The number of its CPU.
@@ -112,7 +112,7 @@ fn put_track(out: &mut Writer, track: Track) -> Result<(), AllocError> {
     out.u64(track.number)
 }
 
-/// Nanoseconds as microseconds, with three digits behind the point.
+/// Nanoseconds as microseconds, with three digits after the point.
 fn put_micros(out: &mut Writer, alloc: Global, nanoseconds: u64) -> Result<(), AllocError> {
     let (micros, rest) = (nanoseconds / 1000, nanoseconds % 1000);
     let text = format!(in alloc; "{micros}.{rest:03}")?;
@@ -122,7 +122,7 @@ fn put_micros(out: &mut Writer, alloc: Global, nanoseconds: u64) -> Result<(), A
     out.u64(micros)
 }
 
-/// The members of an event up to its arguments, behind those of its phase: of this name, so many nanoseconds behind the picture's beginning.
+/// The members of an event up to its arguments, after those of its phase: of this name, so many nanoseconds after the picture's beginning.
 fn put_front(
     out: &mut Writer,
     alloc: Global,
@@ -179,7 +179,7 @@ fn ended(mut out: Writer) -> Result<String, AllocError> {
     }
 }
 
-/// An event that happened so many nanoseconds behind the picture's beginning, with the values of its fields as arguments.
+/// An event that happened so many nanoseconds after the picture's beginning, with the values of its fields as arguments.
 pub fn chrome_event(
     alloc: Global,
     track: Track,

@@ -117,7 +117,7 @@ fn count_packet(counts: &mut CpuCounts, before: u64, packet: &ReadPacket<'_>) ->
     true
 }
 
-/// Adds what a file of the CPU has. Behind a fault, what stands before it was added.
+/// Adds what a file of the CPU has. After a fault, what stands before it was added.
 pub fn count_file(
     alloc: Global,
     metadata: &Metadata<'_>,

@@ -20,7 +20,7 @@ pub struct Moment {
 }
 
 impl Moment {
-    /// So many nanoseconds behind the beginning of 1970. Each day has 86,400 seconds.
+    /// So many nanoseconds after the beginning of 1970. Each day has 86,400 seconds.
     pub fn of(nanoseconds: u128) -> Moment {
         let seconds = nanoseconds / 1_000_000_000;
         let of_day = seconds % 86_400;
@@ -37,7 +37,7 @@ impl Moment {
     }
 }
 
-/// The date so many days behind the first of January 1970. Years are counted from the first of March 0 on here, so that a leap day is a
+/// The date so many days after the first of January 1970. Years are counted from the first of March 0 on here, so that a leap day is a
 /// year's last.
 fn date(days: u128) -> (u128, u128, u128) {
     let days = days.saturating_add(719_468);

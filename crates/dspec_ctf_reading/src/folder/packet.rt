@@ -16,7 +16,7 @@ pub struct ReadPacket<'b> {
     pub events: Vec<Event>,
     /// Where its events begin in its file, in bytes.
     pub body_at: usize,
-    /// The bytes behind it.
+    /// The bytes after it.
     pub behind: &'b [u8],
 }
 

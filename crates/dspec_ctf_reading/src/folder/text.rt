@@ -137,7 +137,7 @@ fn put_first(out: &mut String, bytes: &[u8], is_quoted: bool) -> Result<usize, A
     }
 }
 
-/// The bytes behind so many of these.
+/// The bytes after so many of these.
 fn bytes_behind(bytes: &[u8], count: usize) -> &[u8] {
     if count > bytes.len() {
         return &[];
@@ -227,7 +227,7 @@ pub fn field_text(
     Ok(None)
 }
 
-/// An event in words: its name, and each value behind its field's name. A number that is called something has its label before it. A text
+/// An event in words: its name, and each value after its field's name. A number that is called something has its label before it. A text
 /// stands in quotes.
 pub fn event_text(
     alloc: Global,

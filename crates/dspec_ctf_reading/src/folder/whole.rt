@@ -6,7 +6,7 @@ ghost use Rattle.dspec_ctf_reading.specs.{Folders.Whole.AreWholeBefore, Folders.
 use crate::fronts::split_packet;
 use crate::{PacketReadFault, next_packet};
 
-/// The length of a beginning of the bytes that is whole packets, one behind another, and behind which no whole packet stands. `timed`
+/// The length of a beginning of the bytes that is whole packets, one after another, and after which no whole packet stands. `timed`
 /// says whether the trace has a clock.
 pub fn whole_len(timed: bool, bytes: &[u8]) -> usize
     ensures within { result ≤ length bytes.now }
@@ -45,7 +45,7 @@ fn has_header(uuid: &[u8; 16], bytes: &[u8]) -> bool {
     false
 }
 
-/// How a file of this trace ends. A packet that isn't whole is told as cut only where no packet begins behind its first byte.
+/// How a file of this trace ends. A packet that isn't whole is told as cut only where no packet begins after its first byte.
 pub fn ending_of(timed: bool, uuid: &[u8; 16], bytes: &[u8]) -> Ending
     ensures { IsFileEnd timed bytes.now result }
 {

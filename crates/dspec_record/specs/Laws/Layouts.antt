@@ -1,4 +1,4 @@
--- Serves proofs. Bounds on a layout: fields never end before they begin, nor more than eight bytes a field behind it.
+-- Serves proofs. Bounds on a layout: fields never end before they begin, nor more than eight bytes a field after it.
 use Rattle.std.proofs.Common.{◌≡◌, ◌≤◌, ◌+◌, ◌*◌, ◌⊎◌, ℕ, Bool, true, false, cond, List, [], ◌∷◌, length, refl, inl, inr, ap, ◌∙◌, arith}
 use Rattle.std.specs.List.{list_any}
 use Rattle.dspec_record.specs.{Layout.width, Layout.rounded_up, Layout.after, Layout.fields_start, Layout.fields_end, Layout.is_eight, Layout.layout, Reading.IsShape, declared.field.Field.Field}

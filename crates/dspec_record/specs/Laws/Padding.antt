@@ -1,4 +1,4 @@
--- Serves proofs. An array that holds a list: the list's elements, and one value in all places behind them.
+-- Serves proofs. An array that holds a list: the list's elements, and one value in all places after them.
 use Rattle.std.proofs.Common.{◌≡◌, ◌≤◌, ◌-◌, ◌++◌, List, length, take, drop, replicate, sym, ◌∙◌, ap, arith}
 use Rattle.std.proofs.lemmas.List.{length-take-le, take-append-drop}
 

@@ -124,7 +124,7 @@ pub All-record_text : (h : Header) (fs : List Field) (r : Record) → All (λ b.
 All-record_text h fs r =
     All-append (λ b. b < 256) (header_text h r) (fields_text (fields_start h) fs r.values) (All-header_text h r) (All-fields_text (fields_start h) fs r.values)
 
--- the fields begin behind the header
+-- the fields begin after the header
 pub length-header_text : (h : Header) (r : Record) → length (header_text h r) ≡ fields_start h
 length-header_text header.One r = refl
 length-header_text header.Two r = refl

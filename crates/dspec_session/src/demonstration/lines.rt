@@ -46,7 +46,7 @@ fn is_balanced(report: &Report) -> bool
     rest == report.held
 }
 
-// Whether the values still rise in what is left of a CPU, behind what was taken.
+// Whether the values still rise in what is left of a CPU, after what was taken.
 fn rises_on<S: Schema>(closed: &Closed, schema: &S, cpu: u32, taken: Order) -> bool
     requires { cpu < length closed.now }
     ensures { (l : Left) → slice_get closed.now cpu ≡ Some l → FollowsLeft (S.shape_of schema.now) (S.accepted schema.now) (S.text schema.now) l taken result }

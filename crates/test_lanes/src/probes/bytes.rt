@@ -1,4 +1,4 @@
-//! Records of probes have the bytes and the counts of the records by their numbers, behind either header.
+//! Records of probes have the bytes and the counts of the records by their numbers, after either header.
 use dspec::{
     Batch, Config, Enablings, Lane, Probe, Probes, Recording, Report, Sink, Work, closed_cpu, trace,
 };

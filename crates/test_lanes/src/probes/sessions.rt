@@ -14,7 +14,7 @@ struct Requests {
 }
 
 impl Work<Enablings> for Requests {
-    /// A path is kept, one is thrown away, and records are traced before and behind them.
+    /// A path is kept, one is thrown away, and records are traced before and after them.
     fn work(&self, lane: &mut Lane<'_, Enablings>) {
         let (Ok(query), Ok(failed)) = (self.query.on(lane), self.failed.on(lane)) else {
             return;

@@ -183,9 +183,9 @@ fn wastes(id: SpecId, answer: Spoken) -> Line {
     whole(0, CpuOp::Speculate(id, bare(1)), Answer::Spoken(answer))
 }
 
-/// Records behind a padding word fill a buffer, which is sealed and taken; two don't fit. Then a block of three enablings is lost though
+/// Records after a padding word fill a buffer, which is sealed and taken; two don't fit. Then a block of three enablings is lost though
 /// less would fit, and one that fits is copied. The CPU is the one caller, so the slot is given out again at once, and the old identifier is
-/// void. The buffer that was given back is a step more of the service that seals another batch; behind that a block stands at a multiple of
+/// void. The buffer that was given back is a step more of the service that seals another batch; after that a block stands at a multiple of
 /// eight.
 #[test]
 fn switched(rt: HostRuntime) -> Result<(), Fail> {

@@ -29,7 +29,7 @@ fn record_of_eight_values(rt: HostRuntime) -> Result<(), Fail> {
     Ok(())
 }
 
-/// The bytes are those of the record by its numbers: each value at a multiple of its width, the stamp behind the EPID.
+/// The bytes are those of the record by its numbers: each value at a multiple of its width, the stamp after the EPID.
 #[test]
 fn bytes_of_a_record(rt: HostRuntime) -> Result<(), Fail> {
     let mut probes = Probes::new(rt.alloc());

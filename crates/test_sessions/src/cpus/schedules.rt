@@ -15,7 +15,7 @@ use std::process::Abort;
 use std::test::Fail;
 
 /// A schedule of whole calls of two CPUs, and what it prints. Before the calls the consumer asks the first CPU for so many batches,
-/// and gives it buffers of these sizes, in bytes, that it never took; those in stock it has too, and gives them back first. Behind
+/// and gives it buffers of these sizes, in bytes, that it never took; those in stock it has too, and gives them back first. After
 /// each call it may meet both CPUs.
 pub struct Row<'a> {
     pub name: &'a str,
@@ -157,7 +157,7 @@ fn reported<S: Schema>(alloc: Global, cpus: &Cpus<S>) -> Result<Series<Report>, 
     Ok(reports)
 }
 
-/// What is left of a CPU behind what was taken of it: what waits in the ring, the batch held back, and the one that grew
+/// What is left of a CPU after what was taken of it: what waits in the ring, the batch held back, and the one that grew
 /// last.
 fn leave<S: Schema>(schema: &S, cpu: Cpu<S>, taker: &mut Taker) -> Result<(), Fail> {
     taker.take(schema)?;

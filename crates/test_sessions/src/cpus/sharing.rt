@@ -1,4 +1,4 @@
-//! A speculation that both CPUs trace to, where the consumer meets each CPU behind each call.
+//! A speculation that both CPUs trace to, where the consumer meets each CPU after each call.
 use super::schedules::{PLAIN, Row, play_all};
 use std::test::Fail;
 

@@ -61,7 +61,7 @@ impl Taker {
         Ok(())
     }
 
-    /// Reads a batch behind those before, and answers how many records it has.
+    /// Reads a batch after those before, and answers how many records it has.
     pub fn read<S: Schema>(&mut self, schema: &S, batch: &Batch) -> Result<u32, Fail> {
         let Ok(records) = read_all(schema, batch.buffer.bytes()) else {
             return Err("no text of a buffer".into());

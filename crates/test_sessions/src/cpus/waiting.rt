@@ -142,7 +142,7 @@ stream cpu 0: 1 2 3 4
 ",
         ..PLAIN
     },
-    // Behind a batch held back a buffer of another size is no spare either. What was found then is kept, and at the end the batch in
+    // After a batch held back a buffer of another size is no spare either. What was found then is kept, and at the end the batch in
     // hand stands in front of what grew last.
     Row {
         name: "other-size-behind-a-batch-in-hand",

@@ -55,7 +55,7 @@ impl Returned {
     }
 }
 
-/// Round k of each CPU comes behind round k of the consumer and before its next.
+/// Round k of each CPU comes after round k of the consumer and before its next.
 #[derive(Drop)]
 struct InStep {
     rounds: AtomicU64,
@@ -137,7 +137,7 @@ fn is_stopped(rt: &impl Abort, session: &mut Session<Enablings>, schema: &Enabli
     assert!(rt; one && two && three && four && five, "CPU {cpu}");
 }
 
-/// Calls each CPU behind the stop, and ends the session: its reports have to tell of all rounds.
+/// Calls each CPU after the stop, and ends the session: its reports have to tell of all rounds.
 fn ends(rt: &impl Abort, shown: Demonstration) -> Closed
     requires { IsDone shown }
     ensures { length result ≡ 4 }
@@ -159,7 +159,7 @@ fn ends(rt: &impl Abort, shown: Demonstration) -> Closed
     closed
 }
 
-/// What each CPU traced in its last round, behind the last batch that it sealed.
+/// What each CPU traced in its last round, after the last batch that it sealed.
 const LAST_TRACED: &[u8] = &[1, 0, 0, 0, 99, 0, 0, 0];
 
 /// In step each CPU seals in every other of its rounds, the first among them, and every batch is taken; so nothing is dropped.

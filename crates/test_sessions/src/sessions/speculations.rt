@@ -1,4 +1,4 @@
-//! What no schedule has of speculations: for how many slots each CPU is waited for, and a consumer that meets each CPU behind each call.
+//! What no schedule has of speculations: for how many slots each CPU is waited for, and a consumer that meets each CPU after each call.
 use super::calls::{
     Call, all_accepted, bare, clean, commit, discard, enablings, left, opens, service, speculate,
     speculation, valued, waits,

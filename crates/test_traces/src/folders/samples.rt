@@ -2,7 +2,7 @@
 use dspec_ctf_reading::{ClockText, EventText, Field, FieldText, Kind, Label, Metadata};
 use std::alloc::{AllocError, Global};
 
-/// The clock of the trace here: a tick is a nanosecond, and it began 25 ticks behind a second.
+/// The clock of the trace here: a tick is a nanosecond, and it began 25 ticks after a second.
 pub const CLOCK: ClockText<'static> = ClockText {
     frequency: 1_000_000_000,
     uuid: None,

@@ -29,7 +29,7 @@ fn text_of(alloc: Global, stamps: &[u64]) -> Result<Vec<u8>, AllocError> {
 }
 
 /// The packet of those records of CPU 3 as the format has it: of the trace, of the first stamp and the last, up to where its events go and its own size,
-/// both in bits, what was missed; and zeros behind its events, up to 1,024 bytes.
+/// both in bits, what was missed; and zeros after its events, up to 1,024 bytes.
 fn packet_of(
     alloc: Global,
     span: (u64, u64),

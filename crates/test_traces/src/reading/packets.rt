@@ -56,7 +56,7 @@ fn written_and_read(rt: HostRuntime) -> Result<(), Fail> {
 #[test]
 fn stamped_event(rt: HostRuntime) -> Result<(), Fail> {
     let metadata = read_metadata(rt.alloc(), TIMED.as_bytes())?;
-    // `open` at 2^32 + 5: failed, -2, 1.0, and three bytes behind it
+    // `open` at 2^32 + 5: failed, -2, 1.0, and three bytes after it
     let bytes = [
         1, 0, 0, 0, 5, 0, 0, 0, 1, 0, 0, 0, 1, 254, 255, 255, 255, 0, 0, 0, 0, 0, 0, 240, 63, 9, 9,
         9,
@@ -127,12 +127,12 @@ fn told_sizes(rt: HostRuntime) -> Result<(), Fail> {
     write!(text, "{}\n", PacketReadFault::BeforeEvents(408))?;
     write!(text, "{}\n", PacketReadFault::BehindFile(608))?;
     let wanted =
-        "content of 608 bits ends behind its packet of 600\ncontent of 599 bits ends within a byte\na packet of 601 bits ends within a byte\ncontent of 408 bits ends before the events\na packet of 608 bits ends behind the file\n";
+        "content of 608 bits ends after its packet of 600\ncontent of 599 bits ends within a byte\na packet of 601 bits ends within a byte\ncontent of 408 bits ends before the events\na packet of 608 bits ends after the file\n";
     same(&rt, text.as_str(), wanted);
     Ok(())
 }
 
-/// The same packet filled up by five bytes, to 640 bits, and one byte behind it.
+/// The same packet filled up by five bytes, to 640 bits, and one byte after it.
 fn filled() -> [u8; 81] {
     let mut bytes = [0xC1; 81];
     bytes[..75].copy_from_slice(&PACKET);

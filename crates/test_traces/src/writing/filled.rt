@@ -6,7 +6,7 @@ use dspec_ctf::PacketFault;
 use std::alloc::{AllocError, Global};
 use std::test::Fail;
 
-/// A packet as taken around so many records 1, behind so many events that were missed.
+/// A packet as taken around so many records 1, after so many events that were missed.
 fn packet_of(alloc: Global, missed: u8, records: u64) -> Result<Vec<u8>, AllocError> {
     let bits = 8 * (52 + 4 * (records % 1000));
     let mut bytes = Vec::new(alloc);

@@ -12,14 +12,14 @@ pub const TEXT: [u8; 32] = [
     18,
 ];
 
-/// Their packet on CPU 1, behind five events that were missed: 75 bytes, or 600 bits.
+/// Their packet on CPU 1, after five events that were missed: 75 bytes, or 600 bits.
 pub const PACKET: [u8; 75] = [
     193, 31, 252, 193, 0, 17, 34, 51, 68, 85, 102, 119, 136, 153, 170, 187, 204, 221, 238, 255, 0,
     0, 0, 0, 88, 2, 0, 0, 0, 0, 0, 0, 88, 2, 0, 0, 0, 0, 0, 0, 5, 0, 0, 0, 0, 0, 0, 0, 1, 0, 0, 0,
     1, 0, 0, 0, 2, 0, 0, 0, 7, 0, 0, 0, 0, 0, 0, 0, 3, 0, 0, 0, 171, 52, 18,
 ];
 
-/// The packet without events behind it, once three more were missed: 52 bytes, or 416 bits.
+/// The packet without events after it, once three more were missed: 52 bytes, or 416 bits.
 const EMPTY: [u8; 52] = [
     193, 31, 252, 193, 0, 17, 34, 51, 68, 85, 102, 119, 136, 153, 170, 187, 204, 221, 238, 255, 0,
     0, 0, 0, 160, 1, 0, 0, 0, 0, 0, 0, 160, 1, 0, 0, 0, 0, 0, 0, 8, 0, 0, 0, 0, 0, 0, 0, 1, 0, 0,
@@ -59,7 +59,7 @@ fn packets_of_records(rt: HostRuntime) -> Result<(), Fail> {
 /// The record 3(171, 4660) with a stamp, as a buffer has it.
 const STAMPED_TEXT: [u8; 16] = [3, 0, 0, 0, 8, 7, 6, 5, 4, 3, 2, 1, 171, 0, 52, 18];
 
-/// What stands behind the front of its packet.
+/// What stands after the front of its packet.
 const STAMPED_EVENT: [u8; 15] = [3, 0, 0, 0, 8, 7, 6, 5, 4, 3, 2, 1, 171, 52, 18];
 
 #[test]

@@ -59,7 +59,7 @@ fn spares_of_two(rt: HostRuntime) -> Result<(), Fail> {
     Ok(())
 }
 
-/// Two batches go round once, one behind the other, and come back in their buffers.
+/// Two batches go round once, one after the other, and come back in their buffers.
 fn go_round(
     rt: &impl Abort,
     cpu: &mut CpuEnd,

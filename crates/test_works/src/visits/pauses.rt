@@ -8,7 +8,7 @@ use std::test::Fail;
 use std::thread;
 use std::thread::Threads;
 
-/// How often a work looks for a pause before it gives up, with a yield behind each look.
+/// How often a work looks for a pause before it gives up, with a yield after each look.
 const MOST_LOOKS: u32 = 3_000_000;
 
 /// How many services a work makes before it gives up, with no yield between them.

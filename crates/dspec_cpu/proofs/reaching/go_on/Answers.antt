@@ -29,7 +29,7 @@ work-requires-clause-call g c =
     subst (λ (n : ℕ). IsInFlight k (known c.load_activity.new.self) n g.J.HasDoing.doing c.args.id c.slot.result) (sym c.load_activity.ensures.seat.1)
     (subst (λ (n : ℕ). IsInFlight k (known c.load_activity.new.self) (cpu_of seat) g.J.HasDoing.doing c.args.id n) (sym c.slot.ensures.value) flies)
 
--- so far it came behind its work on the word
+-- so far it came after its work on the word
 at_word : (g : Over) (c : After-work g) (r : Reach) → EndsAtWord (set_up c.args.words.now) (cpu_of c.load_activity.new.self) g.J.HasDoing.doing c.args.id c.slot.result (known c.load_activity.new.self)
     (act_reached r) (known c.work.new.seat) → (r ≡ reach.Stopped → ⊥)
     → Reached (set_up c.args.words.now) (cpu_of c.args.seat.now) g.J.HasDoing.doing c.args.id (known c.args.seat.now) r (known c.work.new.seat)

@@ -1,4 +1,4 @@
--- One word more, behind those so far.
+-- One word more, after those so far.
 use Rattle.std.proofs.{Common.length, Common.◌∙◌, lemmas.List.length-set}
 use Rattle.dspec_probe.specs.Words.{text_word, filled_words}
 use Rattle.dspec_probe.proofs.Words.{word-on}

@@ -1,4 +1,4 @@
--- The value is written over what is clear, and leaves what is behind it clear.
+-- The value is written over what is clear, and leaves what is after it clear.
 use Rattle.std.proofs.Common.{◌+◌, ℕ, take, sym, subst, ap, ◌∙◌}
 use Rattle.dspec_record.specs.Words.{IsClearBehind}
 use Rattle.dspec_record.proofs.Clearing.{written-put, written-clear}

@@ -1,4 +1,4 @@
--- Each store has zeros behind what it is for.
+-- Each store has zeros after what it is for.
 use Rattle.std.proofs.{Common.◌∙◌, Common.refl, Common.ap, Common.arith, lemmas.List.length-take-le}
 use Rattle.dspec_record.specs.Words.{fields_start}
 use Rattle.dspec_record.proofs.Headers.{one-put, one-clear, two-put, two-clear}

@@ -1,4 +1,4 @@
--- Each field is read where the layout has it, behind zeros.
+-- Each field is read where the layout has it, after zeros.
 use Rattle.std.proofs.Common.{◌≡◌, ◌≤◌, ◌+◌, ◌++◌, ℕ, List, [], ◌∷◌, length, drop, arith, subst, sym, ◌∙◌, ap}
 use Rattle.std.proofs.lemmas.List.{length-append}
 use Rattle.dspec_record.specs.{Words.fields_start, Words.Record, Words.IsRead, Words.header-within, declared.header.Header.Header}

@@ -1,4 +1,4 @@
--- The limit of each field is written behind those before it.
+-- The limit of each field is written after those before it.
 use Rattle.std.proofs.Common.{◌<◌, ◌+◌, ℕ, List, length, set, arith, sym, subst}
 use Rattle.dspec_record.specs.declared.field.Field.{Field}
 use Rattle.dspec_record.proofs.Limits.{AreKnown, AreKnown-start, AreKnown-next}

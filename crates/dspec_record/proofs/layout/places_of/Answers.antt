@@ -1,4 +1,4 @@
--- The place of each field is written behind those before it.
+-- The place of each field is written after those before it.
 use Rattle.std.proofs.Common.{◌<◌, ◌+◌, ℕ, List, length, get_or, set, arith, sym, subst, replicate}
 use Rattle.dspec_record.specs.{Words.width, Words.rounded_up, declared.field.Field.Field, declared.field.Field.TheVariants.One}
 use Rattle.dspec_record.proofs.Places.{ArePlaced, ArePlaced-start, ArePlaced-next}

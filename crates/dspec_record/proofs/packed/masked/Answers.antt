@@ -1,4 +1,4 @@
--- A word is masked behind those before it.
+-- A word is masked after those before it.
 use Rattle.std.proofs.{Common.length, Common.get_or, Common.refl, Common.◌∙◌, Common.arith, lemmas.List.length-set}
 use Rattle.std.specs.Int.RustNames.{bit_and}
 use Rattle.dspec_record.proofs.PackedRecords.{kept-masked, masked-more}

@@ -1,4 +1,4 @@
--- The turns so far were played, and behind the last all were.
+-- The turns so far were played, and after the last all were.
 use Rattle.std.proofs.Common.{◌≡◌, None, length, map, ap, ◌∙◌, subst}
 use Rattle.dspec_replay.specs.Words.{call_that_ended, turn_refusal}
 use Rattle.dspec_replay.proofs.Refusals.{ok_then, so_far_last, so_far_more}

@@ -1,4 +1,4 @@
--- One more record is behind what was taken.
+-- One more record is after what was taken.
 use Rattle.std.proofs.{Common.arith, lemmas.Bool.Decides.nat_tests}
 use Rattle.dspec_deeds.proofs.{Results.of_ok, Walks.walk_goes, Walks.grew_more}
 use Rattle.dspec_core.proofs.machine.walking.append_records.Goals as goal

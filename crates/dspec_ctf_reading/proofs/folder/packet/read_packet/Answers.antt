@@ -8,7 +8,7 @@ use Rattle.dspec_ctf_reading.proofs.folder.packet.read_packet.Goals as goal
 abbrev whole : FrontRead → Option (List EventRead) → Option PacketRead
 whole front events = option_map (λ es. record { uuid = front.uuid; cpu = front.cpu; discarded = front.discarded; span = front.span; events = es }) events
 
--- a packet with what is behind it
+-- a packet with what is after it
 abbrev beside : List ℕ → Option PacketRead → PartRead PacketRead
 beside behind packet = option_map (λ p. (p, behind)) packet
 

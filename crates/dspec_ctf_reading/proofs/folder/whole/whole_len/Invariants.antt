@@ -1,4 +1,4 @@
--- What was split off is whole packets, and the rest is what stands behind them.
+-- What was split off is whole packets, and the rest is what stands after them.
 use Rattle.std.proofs.Common.{length}
 use Rattle.dspec_ctf_reading.specs.Words.{AreWholeBefore}
 use Rattle.dspec_ctf_reading.proofs.Folders.Splitting.{IsTail}

@@ -1,4 +1,4 @@
--- The numbers of both parts, one behind the other.
+-- The numbers of both parts, one after the other.
 use Rattle.std.proofs.Common.{length, ap, arith, length-append}
 use Rattle.dspec_probe.proofs.Parts.{fits-long, fits-append, both-back}
 use Rattle.dspec_probe.proofs.part.Tuple2Part.numbers_behind.Goals as goal

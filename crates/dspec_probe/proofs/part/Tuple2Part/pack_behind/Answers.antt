@@ -1,4 +1,4 @@
--- Both parts, one behind the other.
+-- Both parts, one after the other.
 use Rattle.dspec_probe.proofs.Parts.{first-free, behind-free, both-packed, fits-append}
 use Rattle.dspec_probe.proofs.part.Tuple2Part.pack_behind.Goals as goal
 

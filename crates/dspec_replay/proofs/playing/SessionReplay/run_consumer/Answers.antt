@@ -1,4 +1,4 @@
--- The session is still one behind a call of its consumer.
+-- The session is still one after a call of its consumer.
 use Rattle.std.proofs.Common.{refl}
 use Rattle.dspec_session_core.proofs.Callings.{consumer_called}
 use Rattle.dspec_replay.proofs.playing.SessionReplay.run_consumer.Goals as goal

@@ -1,4 +1,4 @@
--- As many looks in vain as rounds, and nothing was taken; what was seen to be said before is settled behind the first.
+-- As many looks in vain as rounds, and nothing was taken; what was seen to be said before is settled after the first.
 use Rattle.std.proofs.Common.{◌≡◌, ◌<◌, ◌++◌}
 use mathlib.Core.List.{IsPrefix}
 use Rattle.dspec_threads.specs.Words.{HasList, place_of, AttendsTimes, taken_by, taken_from_belt, seen_by, settled_by, settled_from}

@@ -14,7 +14,7 @@ returns-clause-one_list g c =
     subst (λ (r : RunningSession g.row.K.Denot). IfOk c.close.result (λ s. IsOneListWith r.schema (g.K.Sink.gets r.schema) (ThenServed (NothingOrDone g.D.Duty.done)) r.config r.began s.0 s.1))
     c.is_home.ensures.same.same c.close.ensures.one_list
 
--- behind a look
+-- after a look
 with_home : {K E : Type 0} (gets : EnabledRows → K → Batch → K → Type 0) (done : ℕ → CallsMade → Type 0) (answer : Result (List Left × K) E) (old new : RunningSession K)
     → LooksLater old new → AllIn new.home
     → IfOk answer (λ s. IsOneListWith new.schema (gets new.schema) (ByThoseHome done new.home) new.config new.began s.0 s.1)

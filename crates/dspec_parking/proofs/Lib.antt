@@ -1,0 +1,10 @@
+mod Counting
+mod Cutting
+mod Ending
+mod Finding
+mod Keeping
+mod Leaving
+mod Lists
+mod Passes
+mod Rings
+mod Starting

@@ -1,0 +1,182 @@
+/* A tracer without work makes no wakeups, and hears of work again. `asleep FOLDER`; its last line counts its checks.
+ *
+ * The consumer's thread is found by its name. How often it has woken is what the system counts as its voluntary switches. Nothing here has to be done in a time but waits of a minute, after which it is
+ * taken for lost. */
+#define _GNU_SOURCE
+#include "dspec_tracer.h"
+
+#include "check.h"
+
+#include <dirent.h>
+#include <inttypes.h>
+#include <pthread.h>
+#include <unistd.h>
+
+/* How often each way to record is tried, and how many threads come at once. */
+enum { TRIES = 40, THREADS = 4, STORMS = 200 };
+#define MINUTE_NS UINT64_C(60000000000)
+
+DSPEC_PROBE(tick, uint64_t, number);
+DSPEC_PROBE(other, uint64_t, number);
+
+static dspec_tracer tracer;
+static const char *folder;
+static int runs;
+
+/* A word of a file of the consumer's thread, of this process; 0: there is none. */
+static bool says(const char *thread, const char *file, const char *word, char *value, size_t size) {
+    char path[300], line[300];
+    bool found = false;
+    snprintf(path, sizeof path, "/proc/self/task/%.20s/%s", thread, file);
+    FILE *opened = fopen(path, "r");
+    while (!found && opened != NULL && fgets(line, sizeof line, opened) != NULL) {
+        found = strncmp(line, word, strlen(word)) == 0;
+        if (found) snprintf(value, size, "%.100s", line + strlen(word));
+    }
+    if (opened != NULL) fclose(opened);
+    return found;
+}
+
+static uint64_t wakeups(void) {
+    char value[128];
+    uint64_t found = 0;
+    DIR *threads = opendir("/proc/self/task");
+    for (struct dirent *one; threads != NULL && (one = readdir(threads)) != NULL;)
+        if (says(one->d_name, "comm", "dspec\n", value, sizeof value) && says(one->d_name, "status", "voluntary_ctxt_switches:", value, sizeof value)) found = strtoull(value, NULL, 10);
+    if (threads != NULL) closedir(threads);
+    return found;
+}
+
+/* Whether the consumer wakes at most once in a second, within a minute. */
+static bool falls_asleep(void) {
+    for (int tries = 0; tries < 60; tries++) {
+        const uint64_t before = wakeups();
+        sleep(1);
+        if (before > 0 && wakeups() - before <= 1) return true;
+    }
+    return false;
+}
+
+/* Whether so many records are served, within a minute. No call that asks wakes the consumer. */
+static bool are_served(uint64_t records) {
+    const uint64_t until = dspec_tracer_now() + MINUTE_NS;
+    dspec_tracer_report report;
+    do {
+        if (!dspec_tracer_counts(&tracer, &report)) return false;
+        if (report.accepted == records) return true;
+        usleep(1000);
+    } while (dspec_tracer_now() < until);
+    printf("%" PRIu64 " of %" PRIu64 " records are served\n", report.accepted, records);
+    return false;
+}
+
+static void start(dspec_tracer_options options) {
+    char path[4200];
+    snprintf(path, sizeof path, "%s-%d", folder, runs++);
+    if (CHECK(dspec_tracer_start(&tracer, path, &options, DSPEC_PROBES(tick)))) return;
+    printf("%s\n", tracer.why);
+    exit(check_end());
+}
+
+static void stop(void) {
+    dspec_tracer_report report;
+    CHECK(dspec_tracer_stop(&tracer, &report) && report.dropped == 0 && report.lost == 0);
+    dspec_tracer_drop(&tracer);
+}
+
+/* ---- One thread. ---- */
+
+static void kept_path(void) {
+    dspec_path path = dspec_path_begin(&tracer);
+    ANSWERS(tick_in(&path, 1), DSPEC_OK);
+    usleep(2000);
+    ANSWERS(tick_in(&path, 2), DSPEC_OK);
+    CHECK(dspec_path_keep(&path));
+}
+
+/* A consumer that has found all lanes empty hears of the next record, whichever way it is made. */
+static void one_by_one(dspec_tracer_options options) {
+    uint64_t records = 0;
+    start(options);
+    CHECK(falls_asleep());
+    for (int i = 0; i < TRIES; i++) {
+        ANSWERS(tick_now(&tracer, 1), DSPEC_OK);
+        CHECK(are_served(++records));
+        kept_path();
+        CHECK(are_served(records += 2));
+        usleep((unsigned)i * 500);
+    }
+    CHECK(falls_asleep());
+    stop();
+}
+
+/* What is told once a second is told, though no lane has a record: a path that finds no slot, and a record of a probe that the tracer doesn't have. */
+static void told_in_time(void) {
+    char path[4300];
+    dspec_path first, second;
+    start((dspec_tracer_options){ .lanes = 1, .paths = 1 });
+    first = dspec_path_begin(&tracer);
+    second = dspec_path_begin(&tracer);
+    ANSWERS(tick_in(&first, 1), DSPEC_OK);
+    CHECK(falls_asleep());
+    snprintf(path, sizeof path, "%s-%d/cpu_1_0", folder, runs - 1);
+    for (int what = 0; what < 2; what++) {
+        const uint64_t until = dspec_tracer_now() + MINUTE_NS;
+        long before = -1, now = -1;
+        FILE *file = fopen(path, "r");
+        if (file != NULL && fseek(file, 0, SEEK_END) == 0) before = ftell(file);
+        if (what == 0) ANSWERS(tick_in(&second, 1), DSPEC_UNAVAILABLE);
+        else ANSWERS(other_now(&tracer, 1), DSPEC_BAD_RECORD);
+        while (file != NULL && (now = (fseek(file, 0, SEEK_END), ftell(file))) == before && dspec_tracer_now() < until) usleep(1000);
+        CHECK(before >= 0 && now > before);
+        if (file != NULL) fclose(file);
+        CHECK(falls_asleep());
+    }
+    CHECK(dspec_path_drop(&first));
+    CHECK(dspec_tracer_stop(&tracer, NULL));
+    dspec_tracer_drop(&tracer);
+}
+
+/* ---- Several. ---- */
+
+static uint64_t seed_of(uint64_t *seed) { return *seed = *seed * UINT64_C(6364136223846793005) + 1442695040888963407u; }
+
+static void *records_sometimes(void *of) {
+    uint64_t seed = *(uint64_t *)of;
+    for (int i = 0; i < 3; i++) {
+        usleep((unsigned)(seed_of(&seed) >> 52));
+        if (seed >> 63) {
+            ANSWERS(tick_now(&tracer, 1), DSPEC_OK);
+        } else {
+            dspec_path path = dspec_path_begin(&tracer);
+            ANSWERS(tick_in(&path, 1), DSPEC_OK);
+            CHECK(dspec_path_keep(&path));
+        }
+    }
+    return NULL;
+}
+
+/* Threads whose records come as the consumer falls asleep, and then none: all that they made is served. */
+static void storms(dspec_tracer_options options) {
+    uint64_t seeds[THREADS] = { 1, 2, 3, 4 };
+    start(options);
+    for (int storm = 1; storm <= STORMS; storm++) {
+        pthread_t threads[THREADS];
+        for (int i = 0; i < THREADS; i++) seed_of(&seeds[i]), pthread_create(&threads[i], NULL, records_sometimes, &seeds[i]);
+        for (int i = 0; i < THREADS; i++) pthread_join(threads[i], NULL);
+        if (!CHECK(are_served((uint64_t)storm * THREADS * 3))) break;
+    }
+    stop();
+}
+
+int main(int argc, char **argv) {
+    if (argc < 2) return 2;
+    folder = argv[1];
+    one_by_one((dspec_tracer_options){ 0 });
+    one_by_one((dspec_tracer_options){ .by_thread = true, .period_ms = 1 });
+    one_by_one((dspec_tracer_options){ .no_membarrier = true, .lanes = 1 });
+    told_in_time();
+    storms((dspec_tracer_options){ .period_ms = 1 });
+    storms((dspec_tracer_options){ .period_ms = 1, .lanes = 2, .no_membarrier = true });
+    return check_end();
+}

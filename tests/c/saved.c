@@ -1,0 +1,311 @@
+/* What dspec_salvage takes of a memory's file, at each of its bounds, by hand: the head of the file (tracer/salvage_file.c), and what the process of a lane tells through its pipe (tracer/salvage_lane.c). Its last
+ * line counts its checks. */
+#include "../fuzz/memory.h"
+
+#include "../../tracer/salvage_lane.c"
+
+#undef MUST /* the fuzzers' */
+#include "check.h"
+
+static const char damaged[] = "its head is damaged";
+
+/* ---- The head of the file. ---- */
+
+static bool says(const char *why, const char *due) { return due == NULL ? why == NULL : why != NULL && strstr(why, due) != NULL; }
+
+/* A head with a change, and with a sum that fits, is refused with these words; NULL: it is taken. */
+static void head_is(void (*change)(saved_head *), const char *what, const char *due, int line) {
+    static saved_file file;
+    saved_head *head = (saved_head *)(void *)memory_now;
+    const char *why;
+    memset(&file, 0, sizeof file);
+    memcpy(memory_now, memory_whole, memory_size);
+    change(head);
+    head->sum = saved_sum(head);
+    why = saved_file_read(&file, memory_at);
+    if (!check_counts(says(why, due), what, line)) printf("%s, and not: %s\n", why != NULL ? why : "it is taken", due != NULL ? due : "it is taken");
+    saved_file_drop(&file);
+}
+
+static void stays(saved_head *head) { (void)head; }
+
+/* Each change of a head is a function of its own, which the table names. */
+#define CHANGES(NAME, CHANGE) \
+    static void NAME(saved_head *head) { CHANGE; }
+
+CHANGES(no_host, head->host[0] = 0)
+CHANGES(endless_host, memset(head->host, 'a', sizeof head->host))
+CHANGES(endless_program, memset(head->program, 'a', sizeof head->program))
+CHANGES(endless_folder, memset(head->folder, '/', sizeof head->folder))
+CHANGES(folder_of_another_place, head->folder[0] = 'a')
+CHANGES(no_event_name, head->events[0].name[0] = 0)
+CHANGES(endless_event, memset(head->events[0].name, 'a', sizeof head->events[0].name))
+CHANGES(no_field_name, head->events[0].fields[1][0] = 0)
+CHANGES(endless_field, memset(head->events[0].fields[1], 'a', sizeof head->events[0].fields[0]))
+CHANGES(no_fields, head->events[0].count = 0)
+CHANGES(more_fields_than_words, head->events[0].words = (uint8_t)(head->events[0].count - 1))
+CHANGES(first_word_is_a_next, head->events[0].kinds[0] = DSPEC_KIND_TEXT_NEXT)
+CHANGES(fewer_names_than_fields, head->events[0].kinds[1] = DSPEC_KIND_TEXT_NEXT)
+CHANGES(no_events, head->events_count = 0)
+
+/* An event of so many words, each a field of its own. */
+static void words_are(saved_head *head, uint8_t count) {
+    saved_event *event = &head->events[0];
+    for (size_t i = 0; i < DSPEC_MAX_FIELDS; i++) {
+        event->fields[i][0] = 'a';
+        event->fields[i][1] = 0;
+        event->kinds[i] = DSPEC_KIND_UNSIGNED;
+        event->widths[i] = 1;
+    }
+    event->count = event->words = count;
+}
+CHANGES(most_words, words_are(head, DSPEC_MAX_FIELDS))
+CHANGES(a_word_more, words_are(head, DSPEC_MAX_FIELDS + 1))
+
+/* So many events, the one after the last place too, which is where the labels are. */
+static void events_are(saved_head *head, uint32_t count) {
+    saved_event *events = head->events;
+    for (size_t i = 0; i <= DSPEC_MAX_ENABLINGS; i++) {
+        memmove((uint8_t *)events + i * sizeof *events, events, sizeof *events);
+        memset((uint8_t *)events + i * sizeof *events + offsetof(saved_event, labels), 0, sizeof events->labels);
+    }
+    head->events_count = count;
+}
+CHANGES(most_events, events_are(head, DSPEC_MAX_ENABLINGS))
+CHANGES(an_event_more, events_are(head, DSPEC_MAX_ENABLINGS + 1))
+
+/* So many labels, in a room that is full of this. */
+static void labels_are(saved_head *head, uint8_t of, uint32_t first, uint32_t second) {
+    for (uint32_t i = 0; i < head->events_count; i++) memset(head->events[i].labels, 0, sizeof head->events[i].labels);
+    memset(head->labels, of, sizeof head->labels);
+    head->events[0].labels[0] = (uint16_t)first;
+    head->events[0].labels[1] = (uint16_t)second;
+}
+static void longest_label(saved_head *head) {
+    labels_are(head, 'a', 1, 0);
+    head->labels[sizeof head->labels - 1] = 0;
+}
+CHANGES(endless_label, labels_are(head, 'a', 1, 0))
+static void label_after_the_longest(saved_head *head) {
+    longest_label(head);
+    head->events[0].labels[1] = 1;
+}
+static void endless_label_after_another(saved_head *head) {
+    labels_are(head, 'a', 2, 0);
+    head->labels[sizeof head->labels / 2] = 0;
+}
+CHANGES(most_labels, labels_are(head, 0, UINT16_MAX, SURVIVE_LABELS - UINT16_MAX))
+CHANGES(a_label_more, labels_are(head, 0, UINT16_MAX, SURVIVE_LABELS - UINT16_MAX + 1))
+
+static void clock_is(saved_head *head, uint64_t hertz, uint64_t seconds, uint64_t ticks) { head->clocks[head->clock] = (saved_clock){ hertz, seconds, ticks }; }
+CHANGES(no_hertz, clock_is(head, 0, 5, 0))
+CHANGES(most_hertz, clock_is(head, 1000000000000, 5, 0))
+CHANGES(a_hertz_more, clock_is(head, 1000000000001, 5, 0))
+CHANGES(last_second, clock_is(head, 1000, UINT64_C(9223372034), 999))
+CHANGES(a_second_more, clock_is(head, 1000, UINT64_C(9223372034), 1000))
+CHANGES(no_second, clock_is(head, 1000, UINT64_MAX, 0))
+CHANGES(third_clock, head->clock = 2)
+
+CHANGES(no_lanes, head->lanes = 0)
+CHANGES(too_many_lanes, head->lanes = DSPEC_MAX_LANES + 1)
+CHANGES(another_lane_size, head->lane_size++)
+CHANGES(another_head_size, head->head_size += 4096)
+CHANGES(another_body_size, head->body_size += 4096)
+CHANGES(body_elsewhere, head->body_at += 4096)
+CHANGES(memory_elsewhere, head->memory_at += 4096)
+CHANGES(a_byte_more, head->size++)
+CHANGES(no_paths, head->paths = 0)
+CHANGES(too_many_paths, head->paths = MAX_OPEN)
+CHANGES(no_buffer, head->bufsize = 0)
+CHANGES(odd_buffer, head->bufsize = 12)
+CHANGES(too_large_a_buffer, head->bufsize = SAVED_MOST_BYTES + 8)
+CHANGES(last_place, head->address = SURVIVE_FIRST + (SURVIVE_PLACES - 1) * SURVIVE_APART)
+CHANGES(place_after_the_last, head->address = SURVIVE_FIRST + SURVIVE_PLACES * SURVIVE_APART)
+CHANGES(place_before_the_first, head->address = SURVIVE_FIRST - SURVIVE_APART)
+CHANGES(place_between, head->address += 4096)
+
+CHANGES(not_made, head->magic = 0)
+CHANGES(another_file, head->magic++)
+CHANGES(another_version, head->version++)
+CHANGES(another_build, head->build[0]++)
+CHANGES(endless_build, memset(head->build, 'a', sizeof head->build))
+
+#define HEAD(CHANGE, DUE) head_is(CHANGE, #CHANGE, DUE, __LINE__)
+
+static void heads(void) {
+    HEAD(stays, NULL);
+    HEAD(no_host, damaged), HEAD(endless_host, damaged), HEAD(endless_program, damaged), HEAD(endless_folder, damaged), HEAD(folder_of_another_place, damaged);
+    HEAD(no_event_name, damaged), HEAD(endless_event, damaged), HEAD(no_field_name, damaged), HEAD(endless_field, damaged), HEAD(no_fields, damaged);
+    HEAD(more_fields_than_words, damaged), HEAD(first_word_is_a_next, damaged), HEAD(fewer_names_than_fields, damaged), HEAD(no_events, damaged);
+    HEAD(most_words, NULL), HEAD(a_word_more, damaged), HEAD(most_events, NULL), HEAD(an_event_more, damaged);
+    HEAD(longest_label, NULL), HEAD(endless_label, damaged), HEAD(label_after_the_longest, damaged), HEAD(endless_label_after_another, damaged), HEAD(most_labels, NULL), HEAD(a_label_more, damaged);
+    HEAD(no_hertz, damaged), HEAD(most_hertz, NULL), HEAD(a_hertz_more, damaged), HEAD(last_second, NULL), HEAD(a_second_more, damaged), HEAD(no_second, damaged), HEAD(third_clock, damaged);
+    HEAD(no_lanes, damaged), HEAD(too_many_lanes, damaged), HEAD(another_lane_size, damaged), HEAD(another_head_size, damaged), HEAD(another_body_size, damaged);
+    HEAD(body_elsewhere, damaged), HEAD(memory_elsewhere, damaged), HEAD(a_byte_more, damaged), HEAD(no_paths, damaged), HEAD(too_many_paths, damaged);
+    HEAD(no_buffer, damaged), HEAD(odd_buffer, damaged), HEAD(too_large_a_buffer, damaged), HEAD(last_place, NULL), HEAD(place_after_the_last, damaged);
+    HEAD(place_before_the_first, damaged), HEAD(place_between, damaged);
+    HEAD(not_made, "not made to its end"), HEAD(another_file, "no memory of a tracer"), HEAD(another_version, "of another build"), HEAD(another_build, "of another build"), HEAD(endless_build, "of another build");
+}
+
+/* The last stamp that a reader can place in time is that of the last whole second. */
+static void last_stamp(void) {
+    static const struct {
+        uint64_t hertz, seconds, ticks, due;
+    } all[] = { { 1000, UINT64_C(9223372030), 0, 4000 }, { 1000, UINT64_C(9223372030), 1999, 3000 }, { 1000, UINT64_C(9223372034), 999, 0 }, { UINT64_C(1000000000000), 0, 0, UINT64_MAX } };
+    for (size_t i = 0; i < sizeof all / sizeof all[0]; i++) {
+        static saved_file file;
+        memset(&file, 0, sizeof file);
+        memcpy(memory_now, memory_whole, memory_size);
+        clock_is((saved_head *)(void *)memory_now, all[i].hertz, all[i].seconds, all[i].ticks);
+        CHECK(saved_file_read(&file, memory_at) == NULL && file.latest == all[i].due);
+        saved_file_drop(&file);
+    }
+}
+
+/* ---- What the process of a lane tells. ---- */
+
+enum { LATEST = 1000, RECORD = 16, MOST_FOUND = 8 };
+static struct {
+    found_kind kind;
+    uint32_t place;
+    uint64_t drops, records;
+    uint32_t first; /* the value of its first record */
+} found[MOST_FOUND];
+static size_t founds;
+static int pipe_of;
+
+static bool finds(void *of, found_batch *batch) {
+    if (!CHECK(founds < MOST_FOUND)) return false;
+    found[founds].kind = batch->kind;
+    found[founds].place = batch->place;
+    found[founds].drops = batch->batch.drops;
+    found[founds].records = batch->records;
+    found[founds].first = batch->batch.len >= RECORD ? (uint32_t)dspec_number_at(batch->batch.bytes + RECORD - 4, 4) : 0;
+    CHECK(batch->batch.len == batch->records * RECORD);
+    founds++;
+    return of != NULL;
+}
+
+static void tell(struct told event, uint32_t records, uint64_t stamp) {
+    uint8_t bytes[8 * RECORD] = { 0 };
+    for (uint32_t i = 0; i < records; i++) {
+        salvage_put(bytes + i * RECORD, 1, 4);
+        salvage_put(bytes + i * RECORD + 4, stamp + i, 8);
+        salvage_put(bytes + i * RECORD + 12, 10 + i, 4);
+    }
+    event.length = (uint64_t)records * RECORD;
+    CHECK(write(pipe_of, &event, sizeof event) == (ssize_t)sizeof event && write(pipe_of, bytes, event.length) == (ssize_t)event.length);
+}
+
+static void tell_word(uint32_t what) { tell((struct told){ .what = what }, 0, 0); }
+
+/* Whether all is well that was told, in a memory whose speculations have so many bytes; the pipe is empty then. */
+static bool is_heard(uint32_t specsize) {
+    static saved_head head;
+    static saved_file file;
+    uint8_t bytes[256];
+    bool is_well;
+    head.bufsize = sizeof bytes;
+    head.specsize = specsize;
+    file.head = &head;
+    file.latest = LATEST;
+    file.layout.stamped = true;
+    file.layout.enablings = 1;
+    file.layout.of[0].fields = 1;
+    file.layout.of[0].widths[0] = 4;
+    founds = 0;
+    CHECK(lseek(pipe_of, 0, SEEK_SET) == 0);
+    is_well = hear(&file, pipe_of, 0, bytes, finds, &file);
+    CHECK(ftruncate(pipe_of, 0) == 0 && lseek(pipe_of, 0, SEEK_SET) == 0);
+    free(file.scratch.copy);
+    file.scratch.copy = NULL;
+    file.scratch.copy_size = 0;
+    return is_well;
+}
+
+static bool is_found(size_t at, found_kind kind, uint32_t place, uint64_t drops, uint64_t records, uint32_t first) {
+    return founds > at && found[at].kind == kind && found[at].place == place && found[at].drops == drops && found[at].records == records && found[at].first == first;
+}
+
+/* Batches as they are told, with what is missed, but of an open path. */
+static void batches(void) {
+    CHECK(!is_heard(64)); /* the process ended early */
+    tell((struct told){ .what = FOUND_BROUGHT, .drops = 3, .count = 2 }, 2, 5);
+    tell((struct told){ .what = FOUND_KEPT, .drops = MOST_DROPS, .count = 1 }, 1, LATEST);
+    tell((struct told){ .what = FOUND_OPEN, .place = MAX_OPEN - 1, .drops = 9, .count = 3 }, 3, 5);
+    tell_word(TELLS_END);
+    CHECK(is_heard(64) && founds == 3 && is_found(0, FOUND_BROUGHT, 0, 3, 2, 10) && is_found(1, FOUND_KEPT, 0, MOST_DROPS, 1, 10) && is_found(2, FOUND_OPEN, MAX_OPEN - 1, 0, 3, 10));
+}
+
+/* Of a buffer that the session can't hand out: the records that were meant, and none before or after them. */
+static void parts(void) {
+    tell((struct told){ .what = FOUND_KEPT, .skipped = 1, .count = 2, .is_part = 1 }, 5, 5);
+    tell((struct told){ .what = FOUND_OPEN, .place = 2, .skipped = 3, .count = 2, .is_part = 1 }, 5, 5);
+    tell_word(TELLS_END);
+    CHECK(is_heard(64) && founds == 2 && is_found(0, FOUND_KEPT, 0, 0, 2, 11) && is_found(1, FOUND_OPEN, 2, 0, 2, 13));
+    tell((struct told){ .what = FOUND_KEPT, .skipped = 4, .count = 2, .is_part = 1 }, 5, 5);
+    CHECK(!is_heard(64) && founds == 0);
+    tell((struct told){ .what = FOUND_KEPT, .skipped = 6, .count = 0, .is_part = 1 }, 5, 5);
+    CHECK(!is_heard(64) && founds == 0);
+}
+
+/* What is beyond a bound ends the lane. */
+static void bounds(void) {
+    static const struct told all[] = { { .what = 0 }, { .what = 6 }, { .what = FOUND_OPEN, .place = MAX_OPEN }, { .what = FOUND_KEPT, .drops = MOST_DROPS + 1 }, { .what = FOUND_KEPT, .count = 1 } };
+    for (size_t i = 0; i < sizeof all / sizeof all[0]; i++) {
+        tell(all[i], 0, 0);
+        tell_word(TELLS_END);
+        CHECK(!is_heard(64) && founds == 0);
+    }
+    tell((struct told){ .what = FOUND_KEPT, .count = 3 }, 2, 5);
+    tell_word(TELLS_END);
+    CHECK(!is_heard(64) && founds == 0);
+    tell((struct told){ .what = FOUND_KEPT, .count = 2 }, 2, LATEST);
+    tell_word(TELLS_END);
+    CHECK(!is_heard(64) && founds == 0);
+}
+
+/* A record that was being made may be counted and not there, or the other way round: as many as a speculation has. */
+static void may_differ(void) {
+    const uint32_t most = 64 / LEAST_OF_A_RECORD + 1;
+    const struct {
+        uint64_t count;
+        bool due;
+    } all[] = { { 2 + most, true }, { 3 + most, false }, { 2, true } };
+    for (size_t i = 0; i < sizeof all / sizeof all[0]; i++) {
+        tell((struct told){ .what = FOUND_KEPT, .count = all[i].count, .may_differ = 1 }, 2, 5);
+        tell_word(TELLS_END);
+        CHECK(is_heard(64) == all[i].due && founds == (size_t)all[i].due);
+    }
+    tell((struct told){ .what = FOUND_KEPT, .count = 0, .may_differ = 1 }, 8, 5);
+    tell_word(TELLS_END);
+    CHECK(!is_heard(64) && founds == 0);
+}
+
+/* Of what may be half of something, what fits isn't lost for what doesn't, and an end that is missing ends it. */
+static void torn(void) {
+    tell_word(TELLS_TORN);
+    tell((struct told){ .what = FOUND_KEPT, .count = 3 }, 2, 5);
+    tell((struct told){ .what = FOUND_OPEN, .place = 1, .count = 1 }, 1, 7);
+    CHECK(is_heard(64) && founds == 1 && is_found(0, FOUND_OPEN, 1, 0, 1, 10));
+}
+
+static void without_top(void) {
+    char words[96];
+    snprintf(words, sizeof words, "rm -rf '%s'", fuzz_top);
+    CHECK(system(words) == 0);
+}
+
+int main(void) {
+    memory_begin();
+    heads();
+    last_stamp();
+    pipe_of = memfd_create("pipe", MFD_CLOEXEC);
+    batches();
+    parts();
+    bounds();
+    may_differ();
+    torn();
+    without_top();
+    return check_end();
+}
