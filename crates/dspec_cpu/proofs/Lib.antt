@@ -7,6 +7,7 @@ pub mod Traces
 pub mod Mine
 pub mod Outside
 pub mod OpenAts
+pub mod BlockAts
 pub mod Rooms
 pub mod Touching
 pub mod Retries

@@ -2,7 +2,7 @@
 use Rattle.std.proofs.Common.{arith, ◌≡◌, ◌≢◌, ℕ, ◌==◌, Bool, true, false, List, ◌++◌, if◌then◌else◌, Option, None, refl, ap, ◌∙◌, append_assoc}
 use Rattle.std.proofs.lemmas.Bool.Decides.{nat_tests}
 use Rattle.dspec_cpu.specs.Words.{Speculation, SlotState, speculate_act, commit_act, discard_act, in_range, at_activity, at_exchange, IsOn, flight_after, Goes, rests, steps, act_of, act_reached}
-use Rattle.dspec_cpu.specs.Words.{is_reached, is_attempt, reached_deeds, is_stopped_reach, Code, Inactive, ActiveOne, Act, Void, Granted, Idle, Config, CpuOp, Deed, Discard, View, Doing}
+use Rattle.dspec_cpu.specs.Words.{is_reached, is_attempt, reached_deeds, is_stopped_reach, Code, Inactive, ActiveOne, Act, Void, Granted, Idle, Config, CpuOp, Deed, View, Doing}
 use Rattle.dspec_cpu.specs.declared.reaching.Reach.{Reach}
 use Rattle.dspec_deeds.specs.declared.calls.CpuOp.TheVariants as op
 use Rattle.dspec_deeds.proofs.TestLemmas.{same_number, off}

@@ -1,5 +1,5 @@
 -- A CPU can be called again.
-use Rattle.std.proofs.Common.{◌≡◌, ℕ, ◌+◌, ◌<◌, ◌≤◌, ◌-◌, ◌^◌, Bool, List, ◌++◌, length, Option, Some, None, sym, ◌∙◌, ap, subst, arith}
+use Rattle.std.proofs.Common.{◌≡◌, ℕ, ◌+◌, ◌<◌, ◌≤◌, ◌^◌, Bool, List, ◌++◌, length, Option, Some, None, sym, ◌∙◌, ap, subst, arith}
 use Rattle.std.proofs.lemmas.Bool.Decides.{nat_tests}
 use Rattle.dspec_cpu.specs.Words.{report_of, Record, Stored, scan, offers, report, records_of_report, of_cpu, number_of, calling, flight_after, Entered, known, IsAt, cpu_of, counts_of, with_fate}
 use Rattle.dspec_cpu.specs.Words.{IsRoomy, Stands, HasList, IsReady, IsSteady, batches_of, spare_count, Belongs, identity, Shape, Config, CpuOp, Deed, Report, View, Counts}

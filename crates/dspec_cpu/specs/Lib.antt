@@ -3,6 +3,7 @@ pub mod Lists
 pub mod Calls
 pub mod Dropped
 pub mod OpenAt
+pub mod BlockAt
 pub mod Stops
 pub mod Touching
 pub mod Reaching

@@ -2,6 +2,7 @@
 pub mod Outside
 unfoldable pub use Outside.*
 pub use Rattle.dspec_cpu.specs.Between.{cpu_block_fits}
+pub use Rattle.dspec_cpu.specs.BlockAt.{IsBlockAt}
 pub use Rattle.dspec_cpu.specs.Called.{called, CallsMade, no_calls, settled_did, with_decision, with_speculate, with_speculation, with_trace, WithService}
 pub use Rattle.dspec_cpu.specs.Calls.{decided_deeds, Decides, decision, Goes, is_decision, is_worn_decided, rests, spoken_deeds, steps, traced_deeds}
 pub use Rattle.dspec_cpu.specs.Dropped.{drops_told}

@@ -7,7 +7,7 @@
 //! | File | What is in it |
 //! |---|---|
 //! | `cpu.rt`, `parts.rt`, `calls.rt` | `Cpu`, whose model keeps that no call of it is under way and that its fields show a list; `CpuParts`, its fields: the value that contracts see; its six calls, each a call of its parts |
-//! | `values.rt`, `standing.rt`, `making.rt`, `meeting.rt`, `reporting.rt` | records by their values; `invariant`, `schema`, `number`; the start; meetings; reports, the drops of a speculation, and what is open in a slot |
+//! | `values.rt`, `standing.rt`, `making.rt`, `meeting.rt`, `reporting.rt` | records by their values; `invariant`, `schema`, `number`; the start; meetings; reports, the drops of a speculation, what is open in a slot, and its text |
 //! | `tracing.rt`, `speculating.rt`, `deciding.rt`, `opening.rt` | trace; speculate; commit and discard; speculation |
 //! | `if_room.rt` | whether the CPU's block of a speculation has room, and a commit where it has |
 //! | `serving.rt`, `sealing.rt`, `settling.rt` | service: a batch handed on, a spare found, the active buffer sealed; `settle_due`, which settles a slot where that is due; `settle_block`, which ends a block that was decided |
@@ -18,8 +18,8 @@
 //! | `specs/`: Called, OneCall | `called`: what a CPU's calls did, in the words of the page, and what one more adds by its answer; one relation for each call |
 //! | `specs/`: Lists, Keeping | `HasList`, `IsShown`, `IsSteady` (the invariant); `CallLeaves`, what each call that counts keeps; what stays of a CPU that is worn, or met the consumer |
 //! | `specs/`: Calls, Reaching, Reached, Stops, Scans | `Goes`, a chain of a seat's steps; `Does`; a call on an identifier, while it runs and where it ended; that a stop is heeded; a call of speculation |
-//! | `specs/`: Switching, Settled, Serving, Sealed, Rests, Dropped, OpenAt | a switch; one slot and all slots; both together; batches by a list; the close; how many drops are told; of which speculation of a slot a CPU has records |
-//! | `proofs/` | Limits, Makes, After, Shown, Ready, Traces, Mine, Outside, Retries, ReachDeeds, Reaches, Marked, Speculates, Decisions, Decided, Leaves, Commits, Discards; Slots, Scans, OpeningCounts, Openings; Seals, Switches, Heeding; OwnBlocks, Settlements, Services, ServedSlots; Closes, Rests, LegalParts, Stopping; OpenAts, Rooms (what is asked without a call); Told, Telling (deeds told in the words of the page) |
+//! | `specs/`: Switching, Settled, Serving, Sealed, Rests, Dropped, OpenAt, BlockAt | a switch; one slot and all slots; both together; batches by a list; the close; how many drops are told; of which speculation of a slot a CPU has records, and their text |
+//! | `proofs/` | Limits, Makes, After, Shown, Ready, Traces, Mine, Outside, Retries, ReachDeeds, Reaches, Marked, Speculates, Decisions, Decided, Leaves, Commits, Discards; Slots, Scans, OpeningCounts, Openings; Seals, Switches, Heeding; OwnBlocks, Settlements, Services, ServedSlots; Closes, Rests, LegalParts, Stopping; OpenAts, BlockAts, Rooms (what is asked without a call); Told, Telling (deeds told in the words of the page) |
 //!
 //! How a call is proved: its steps give a chain, the seat's new list and a legal list with that as its part (`Stands`); the operation
 //! on the side says that it shows the list with the new deed in front, and so the CPU shows it (Shown); `ready_after` joins both.

@@ -1,6 +1,7 @@
 ghost use Rattle.std.specs.Prelude.{◌≡◌, List};
 ghost use Rattle.dspec_deeds.specs.{Own.dropped_in, Reports.report, declared.deed.Deed.Deed};
-ghost use Rattle.dspec_cpu.specs.{Dropped.drops_told, Lists.config_of, Lists.number_in, Lists.words_of, Lists.worn_of, OpenAt.IsOpenAt, Standing.Belongs, Standing.identity};
+ghost use Rattle.dspec_cpu.specs.{BlockAt.IsBlockAt, Dropped.drops_told, Lists.config_of, Lists.number_in, Lists.schema_of, Lists.words_of, Lists.worn_of, OpenAt.IsOpenAt, Standing.Belongs};
+ghost use Rattle.dspec_cpu.specs.{Standing.identity};
 
 use crate::cpu::Cpu;
 use crate::listed::Listed;
@@ -56,5 +57,17 @@ impl<S: Schema> Cpu<S> {
             return None;
         }
         Some(SpecId::of(mark - 1, slot))
+    }
+
+    /// The text of the records that this CPU has of the slot's speculation (`open_at`), the oldest first; nothing where it has none. It
+    /// takes no step at the words.
+    pub fn block_at(&self, slot: u32) -> &[u8]
+        ensures { let s = schema_of self.now in (p : List Deed) → ⟦<Cpu<S> as Listed>⟧.has_list self.now p
+            → IsBlockAt (S.shape_of s) (S.accepted s) (S.text s) (number_in self.now) slot p result.now }
+    {
+        if slot > self.parts.config.nspec || slot == 0 {
+            return &[];
+        }
+        self.parts.side.speculative[slot as usize - 1].bytes()
     }
 }

@@ -1,7 +1,7 @@
 -- Serves proofs. Words from the crates below, in one place. Declares nothing.
 pub use Rattle.dspec_record.specs.Words.{Record}
 pub use Rattle.dspec_record.specs.declared.field.Shape.{Shape}
-pub use Rattle.dspec_buffer.specs.Words.{block, HasPieces, one, Piece, piece_fits, Stored}
+pub use Rattle.dspec_buffer.specs.Words.{block, BufferText, bytes, HasPieces, one, Piece, piece_fits, Stored}
 pub use Rattle.dspec_word.specs.Words.{awaits, CanBeReleased, code_number, commit_act, commit_at, discard_act, discard_at, is_decided, is_inactive, open_at, settle_at, SlotState, speculate_act}
 pub use Rattle.dspec_word.specs.Words.{speculate_at, Speculation, word_number}
 pub use Rattle.dspec_word.specs.declared.act.Act.{Act}
