@@ -4,6 +4,7 @@ use crate::ended::EndedSession;
 use crate::out_cpu::OutCpu;
 use crate::under_way::UnderWay;
 use dspec_ctf::CpuPackets;
+use dspec_parking::Parking;
 use dspec_paths::Paths;
 use dspec_record::Enablings;
 
@@ -25,6 +26,8 @@ pub enum HandleValue {
     Files(Boxed<CpuPackets>),
     /// The open paths of a CPU.
     Paths(Boxed<Paths>),
+    /// A ring of parked blocks.
+    Parking(Boxed<Parking>),
 }
 
 impl HandleValue {
@@ -39,6 +42,7 @@ impl HandleValue {
             HandleValue::Closed(ended) => drop(ended),
             HandleValue::Files(files) => drop(files),
             HandleValue::Paths(paths) => drop(paths),
+            HandleValue::Parking(parking) => drop(parking),
         }
     }
 }

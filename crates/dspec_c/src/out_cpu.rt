@@ -5,6 +5,7 @@ use crate::statuses::{
 };
 use crate::word_counts::Worded;
 use dspec_cpu::{Cpu, Shared};
+use dspec_parking::{Parked, Parking, ParkingKey};
 use dspec_record::{Enablings, Stamped, Unstamped};
 use dspec_word::SpecId;
 use rtrb::Producer;
@@ -235,6 +236,11 @@ impl OutCpu {
     {
         *id = number_of(self.cpu.open_at(slot));
         OK
+    }
+
+    /// Parks the block of the records that the CPU has of the slot.
+    pub fn park(&self, ring: &mut Parking, slot: u32, key: ParkingKey, stamp: u64) -> Parked {
+        ring.park(key, stamp, self.cpu.block_at(slot))
     }
 
     /// The CPU's counts so far.

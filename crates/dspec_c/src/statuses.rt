@@ -33,6 +33,10 @@ pub const NO_BATCH: u32 = 21;
 
 pub const OUT: u32 = 22;
 
+pub const TOO_SMALL: u32 = 23;
+
+pub const TOO_LONG: u32 = 26;
+
 pub const DROPPED: u32 = 32;
 
 pub const STOPPED: u32 = 33;
