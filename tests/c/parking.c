@@ -204,6 +204,8 @@ static void misused(void) {
     size_t count = 77;
     start(&one, 16, 2);
     ANSWERS(dspec_parking_new(&one.parking, 16, 2), DSPEC_FULL_HANDLE);
+    ANSWERS(dspec_parking_new(&none, SIZE_MAX, 2), DSPEC_NO_MEMORY);
+    ANSWERS(dspec_parking_new(&none, 16, SIZE_MAX), DSPEC_NO_MEMORY);
     ANSWERS(dspec_parking_park(&none, &one.cpu, 1, 7, 1, 1, &gone), DSPEC_BAD_HANDLE);
     ANSWERS(dspec_parking_park(&one.parking, &empty, 1, 7, 1, 1, &gone), DSPEC_BAD_HANDLE);
     ANSWERS(dspec_parking_park((dspec_parking *)(void *)&one.session, &one.cpu, 1, 7, 1, 1, &gone), DSPEC_BAD_HANDLE);

@@ -23,6 +23,7 @@ module _ (was new closed : Handle) where
   refused_so U (held.Closed x) now why looks f e g i = (looks.1, record { full = g ∙ sym f; holds = i ∙ looks.0 ∙ sym e; other = refl })
   refused_so U (held.Files x) now why looks f e g i = (looks.1, record { full = g ∙ sym f; holds = i ∙ looks.0 ∙ sym e; other = refl })
   refused_so U (held.Paths x) now why looks f e g i = (looks.1, record { full = g ∙ sym f; holds = i ∙ looks.0 ∙ sym e; other = refl })
+  refused_so U (held.Parking x) now why looks f e g i = (looks.1, record { full = g ∙ sym f; holds = i ∙ looks.0 ∙ sym e; other = refl })
 
   -- it is still shared
   pub goes_on_so : {U : Type 0} (h now back : HandleValue) (u : U) → LooksHome h (Ok u) now → EndsSo now (Err back) → is_full new ≡ true
@@ -37,6 +38,7 @@ module _ (was new closed : Handle) where
   goes_on_so (held.Closed x) now back u looks ends g i = absurd looks.1
   goes_on_so (held.Files x) now back u looks ends g i = absurd looks.1
   goes_on_so (held.Paths x) now back u looks ends g i = absurd looks.1
+  goes_on_so (held.Parking x) now back u looks ends g i = absurd looks.1
 
   -- it has ended
   pub ended_so : {U : Type 0} (left : Handle) (h now : HandleValue) (ended : EndedSession) (u : U) → LooksHome h (Ok u) now → EndsSo now (Ok ended) → is_full new ≡ false → is_full left ≡ true
@@ -51,6 +53,7 @@ module _ (was new closed : Handle) where
   ended_so left (held.Closed x) now ended u looks ends f g i = absurd looks.1
   ended_so left (held.Files x) now ended u looks ends f g i = absurd looks.1
   ended_so left (held.Paths x) now ended u looks ends f g i = absurd looks.1
+  ended_so left (held.Parking x) now ended u looks ends f g i = absurd looks.1
 
 -- so it is of what the session's handle had
 module _ (was new closed : Handle) (h : HandleValue) (e : held_in was ≡ h) where

@@ -10,6 +10,7 @@ pub mod CtfStatuses
 pub mod Handles
 pub mod Homes
 pub mod Lending
+pub mod ParkingCalls
 pub mod PathCalls
 pub mod Seals
 pub mod SessionCalls

@@ -1,6 +1,8 @@
--- Cited by calls. What C reads of reports, batches and open paths.
+-- Cited by calls. What C reads of reports, batches, open paths and parked blocks.
 use Rattle.std.specs.Prelude.{ℕ, ◌≡◌, length}
 use Rattle.dspec_c.specs.{Statuses.id_or_zero, Words.Outside.id_number, Words.Outside.Report, Words.Outside.Batch, Words.Outside.OpenPath, declared.batches.CBatch.CBatch}
+use Rattle.dspec_c.specs.{Words.Outside.ParkedBlock, Words.Outside.ParkingCounts, Words.Outside.PassedPlaces, declared.parked.CParked.CParked}
+use Rattle.dspec_c.specs.declared.{parked.CParkedCounts.CParkedCounts, parked.CPassed.CPassed}
 use Rattle.dspec_c.specs.{declared.open_path.COpenPath.COpenPath, declared.reports.CReport.CReport}
 
 -- the same counts, each at its name, and how many records were refused
@@ -35,3 +37,13 @@ pub record TellsOpenPath (c : COpenPath) (p : OpenPath) : Type 0 where
   pub thread : c.thread ≡ p.thread
   pub cut : c.cut ≡ p.cut
   pub is_kept : c.is_kept ≡ p.is_kept
+
+-- a parked block, what a ring's tail passed, and what became of the blocks
+abbrev pub told_block : ParkedBlock → CParked
+told_block b = record { key_high = b.key.high; key_low = b.key.low; stamp = b.stamp; length = b.length }
+
+abbrev pub told_passed : PassedPlaces → CPassed
+told_passed gone = record { places = gone.places; blocks = gone.blocks }
+
+abbrev pub told_counts : ParkingCounts → CParkedCounts
+told_counts c = record { parked = c.parked; kept = c.kept; evicted = c.evicted; expired = c.expired; standing = c.standing }

@@ -12,6 +12,7 @@
 //! | `schema_calls.rt`, `session_calls.rt`, `cpu_calls.rt`, `put_calls.rt`, `consumer_calls.rt`, `home_calls.rt`, `rest_calls.rt` | the exports |
 //! | `ctf_calls.rt`, `ctf_statuses.rt` | the exports of a trace that C writes, and what they answer (`specs/CtfCalls`, `specs/CtfStatuses`) |
 //! | `path_calls.rt`, `out_paths.rt`, `open_path.rt` | the exports of a table of a CPU's open paths, the CPU's calls on it, and what C reads of a path (`specs/PathCalls`) |
+//! | `parking_calls.rt`, `parked.rt` | the exports of a ring of parked blocks, and what C reads of them (`specs/ParkingCalls`) |
 //! | `word_counts.rt` | how many words an export takes, as a type |
 //! | `specs/`: Homes, Statuses, Shows, Handles, Lending | that a call leaves the same CPU of the same session; which number an answer is, and what goes out; what C reads, field by field; which handles are full, and of what; what lending keeps |
 //! | `specs/`: Answered, CpuCalls, ConsumerCalls | what a status and an out parameter tell of an answer; what each call of a CPU and of the consumer did, by what its handle held before and after |
@@ -64,5 +65,5 @@ pub use batches::CBatch;
 pub use configs::CConfig;
 pub use handle::Handle;
 pub use open_path::COpenPath;
-pub use parked::{CParked, CParkingCounts, CPassed};
+pub use parked::{CParked, CParkedCounts, CPassed};
 pub use reports::CReport;

@@ -42,7 +42,7 @@ impl OutCpu {
     ghost use Rattle.dspec_promise.specs.Promise.{commit, discard};
     ghost use Rattle.dspec_c.specs.CpuCalls.{CommitIfRoomTold, DecideTold, DroppedInTold, OpenAtTold, OpeningTold, PutInTold, PutTold, ReportTold, ServiceTold, SpeculateTold, TraceTold, PutInAs};
     ghost use Rattle.dspec_c.specs.CpuCalls.{IsRefusedAs, one_refused, served_so};
-    ghost use Rattle.dspec_c.specs.Homes.{HasGone, IsOut, IsSameSide};
+    ghost use Rattle.dspec_c.specs.{Homes.HasGone, Homes.IsOut, Homes.IsSameSide, ParkingCalls.ParksAt};
     ghost use Rattle.dspec_record.specs.declared.header.Header.TheVariants as header;
 
     pub fn of(way: Producer<Homing, Global, HomingProtocol>, homing: Homing) -> OutCpu
@@ -239,7 +239,9 @@ impl OutCpu {
     }
 
     /// Parks the block of the records that the CPU has of the slot.
-    pub fn park(&self, ring: &mut Parking, slot: u32, key: ParkingKey, stamp: u64) -> Parked {
+    pub fn park(&self, ring: &mut Parking, slot: u32, key: ParkingKey, stamp: u64) -> Parked
+        ensures { ParksAt slot key stamp result ring.old ring.new self.now.cpu }
+    {
         ring.park(key, stamp, self.cpu.block_at(slot))
     }
 

@@ -1,6 +1,7 @@
 //! What C reads of a ring of parked blocks.
 
-ghost use Rattle.dspec_c.specs.Shows.{TellsParked, TellsParkingCounts, TellsPassed};
+ghost use Rattle.std.specs.Prelude.{◌≡◌};
+ghost use Rattle.dspec_c.specs.Shows.{told_block, told_counts, told_passed};
 
 use dspec_parking::{ParkedBlock, ParkingCounts, PassedPlaces};
 
@@ -20,7 +21,7 @@ pub struct CParked {
 
 impl CParked {
     pub(crate) fn of(block: &ParkedBlock) -> CParked
-        ensures { TellsParked result block.now }
+        ensures { result ≡ told_block block.now }
     {
         CParked {
             key_high: block.key.high,
@@ -43,7 +44,7 @@ pub struct CPassed {
 
 impl CPassed {
     pub(crate) fn of(gone: PassedPlaces) -> CPassed
-        ensures { TellsPassed result gone }
+        ensures { result ≡ told_passed gone }
     {
         CPassed {
             places: gone.places,
@@ -55,24 +56,24 @@ impl CPassed {
 /// What became of the blocks that were parked.
 #[repr(C)]
 #[derive(Drop)]
-pub struct CParkingCounts {
-    /// How many there were.
+pub struct CParkedCounts {
+    /// All that were parked: the sum of the others.
     pub parked: u64,
-    /// How many came out.
+    /// Those that came out.
     pub kept: u64,
-    /// How many had to make room for newer ones.
+    /// Those that made room for newer ones.
     pub evicted: u64,
-    /// How many were too old.
+    /// Those that were too old.
     pub expired: u64,
-    /// How many stand there still.
+    /// Those that are there still.
     pub standing: u64,
 }
 
-impl CParkingCounts {
-    pub(crate) fn of(counts: ParkingCounts) -> CParkingCounts
-        ensures { TellsParkingCounts result counts }
+impl CParkedCounts {
+    pub(crate) fn of(counts: ParkingCounts) -> CParkedCounts
+        ensures { result ≡ told_counts counts }
     {
-        CParkingCounts {
+        CParkedCounts {
             parked: counts.parked,
             kept: counts.kept,
             evicted: counts.evicted,

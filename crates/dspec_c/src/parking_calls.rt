@@ -1,9 +1,13 @@
 //! The exports of a ring of parked blocks. The ring is in a handle of its own, beside the CPU's.
 
+ghost use Rattle.std.specs.Prelude.{◌≡◌, ◌⊎◌, true, false};
+ghost use Rattle.dspec_c.specs.{Handles.held_in, Handles.is_full, ParkingCalls.AtTold, ParkingCalls.CountsTold, ParkingCalls.ExpireTold, ParkingCalls.HoldsEmptyRing};
+ghost use Rattle.dspec_c.specs.ParkingCalls.{ParkAnswers, ParkOnCpu, PlacesTold, TakeTold, ToldOnRing, block_room, parked_status, parked_told};
+
 use crate::boxed::Boxed;
 use crate::handle::{Handle, HandleContents, lent};
 use crate::held::HandleValue;
-use crate::parked::{CParked, CParkingCounts, CPassed};
+use crate::parked::{CParked, CParkedCounts, CPassed};
 use crate::statuses::{BAD_HANDLE, FULL_HANDLE, NO_MEMORY, OK, TOO_LONG, TOO_SMALL, VOID, WORN};
 use dspec_parking::{Parked, Parking, ParkingKey};
 use std::alloc::Global;
@@ -15,7 +19,12 @@ pub extern "C" fn dspec_parking_new(
     parking: &mut Handle,
     bytes: usize,
     most_blocks: usize,
-) -> u32 {
+) -> u32
+    ensures full { is_full parking.old ≡ true → (result ≡ 18) × (parking.new ≡ parking.old) }
+    ensures made { result ≡ 0 → (is_full parking.new ≡ true) × HoldsEmptyRing bytes most_blocks (held_in parking.new) }
+    ensures kept { result ≡ 7 → parking.new ≡ parking.old }
+    ensures either { is_full parking.old ≡ false → (result ≡ 0) ⊎ (result ≡ 7) }
+{
     if parking.is_held() {
         return FULL_HANDLE;
     }
@@ -33,7 +42,10 @@ pub extern "C" fn dspec_parking_new(
 }
 
 // What came of a block that was to be parked.
-fn of_parked(answer: Parked, gone: &mut CPassed) -> u32 {
+fn of_parked(answer: Parked, gone: &mut CPassed) -> u32
+    ensures status { result ≡ parked_status answer }
+    ensures told { gone.new ≡ parked_told answer gone.old }
+{
     match answer {
         Parked::Stands(passed) => {
             *gone = CPassed::of(passed);
@@ -53,7 +65,10 @@ fn park_on(
     key: ParkingKey,
     stamp: u64,
     gone: &mut CPassed,
-) -> u32 {
+) -> u32
+    ensures answers { ParkOnCpu slot key stamp gone.old gone.new ring.old ring.new (held_in cpu.old) result (held_in cpu.new) }
+    ensures stays { is_full cpu.new ≡ is_full cpu.old }
+{
     lent!(cpu as Cpu(side), BAD_HANDLE => of_parked(side.park(ring, slot, key, stamp), gone))
 }
 
@@ -67,7 +82,11 @@ pub extern "C" fn dspec_parking_park(
     key_low: u64,
     stamp: u64,
     gone: &mut CPassed,
-) -> u32 {
+) -> u32
+    ensures answers { ParkAnswers slot (record { high = key_high; low = key_low }) stamp gone.old gone.new (held_in parking.old) (held_in cpu.old) result (held_in parking.new) (held_in cpu.new) }
+    ensures ring { is_full parking.new ≡ is_full parking.old }
+    ensures side { is_full cpu.new ≡ is_full cpu.old }
+{
     let key = ParkingKey {
         high: key_high,
         low: key_low,
@@ -77,14 +96,19 @@ pub extern "C" fn dspec_parking_park(
 
 /// How many places there are, those of kept blocks with them.
 #[unsafe(no_mangle)]
-pub extern "C" fn dspec_parking_places(parking: &mut Handle, count: &mut usize) -> u32 {
+pub extern "C" fn dspec_parking_places(parking: &mut Handle, count: &mut usize) -> u32
+    ensures answers { ToldOnRing (PlacesTold result) count.old count.new (held_in parking.old) result (held_in parking.new) }
+    ensures stays { is_full parking.new ≡ is_full parking.old }
+{
     lent!(parking as Parking(ring), BAD_HANDLE => {
         *count = ring.lend().places();
         OK
     })
 }
 
-fn at(ring: &Parking, place: usize, block: &mut CParked) -> u32 {
+fn at(ring: &Parking, place: usize, block: &mut CParked) -> u32
+    ensures { AtTold place result block.old block.new ring.now ring.now }
+{
     let Some(found) = ring.at(place) else {
         return VOID;
     };
@@ -94,11 +118,16 @@ fn at(ring: &Parking, place: usize, block: &mut CParked) -> u32 {
 
 /// The block that stands at a place.
 #[unsafe(no_mangle)]
-pub extern "C" fn dspec_parking_at(parking: &mut Handle, place: usize, block: &mut CParked) -> u32 {
+pub extern "C" fn dspec_parking_at(parking: &mut Handle, place: usize, block: &mut CParked) -> u32
+    ensures answers { ToldOnRing (AtTold place result) block.old block.new (held_in parking.old) result (held_in parking.new) }
+    ensures stays { is_full parking.new ≡ is_full parking.old }
+{
     lent!(parking as Parking(ring), BAD_HANDLE => at(ring.lend(), place, block))
 }
 
-fn take(ring: &mut Parking, place: usize, room: &mut [u8], block: &mut CParked) -> u32 {
+fn take(ring: &mut Parking, place: usize, room: &mut [u8], block: &mut CParked) -> u32
+    ensures { TakeTold place result (block_room room.old block.old) (block_room room.new block.new) ring.old ring.new }
+{
     let Some(found) = ring.at(place) else {
         return VOID;
     };
@@ -116,7 +145,11 @@ pub extern "C" fn dspec_parking_take(
     place: usize,
     room: &mut [u8],
     block: &mut CParked,
-) -> u32 {
+) -> u32
+    ensures answers { ToldOnRing (TakeTold place result) (block_room room.old block.old) (block_room room.new block.new)
+        (held_in parking.old) result (held_in parking.new) }
+    ensures stays { is_full parking.new ≡ is_full parking.old }
+{
     lent!(parking as Parking(ring), BAD_HANDLE => take(ring.lend(), place, room, block))
 }
 
@@ -127,7 +160,10 @@ pub extern "C" fn dspec_parking_expire(
     before: u64,
     most: usize,
     gone: &mut CPassed,
-) -> u32 {
+) -> u32
+    ensures answers { ToldOnRing (ExpireTold before most result) gone.old gone.new (held_in parking.old) result (held_in parking.new) }
+    ensures stays { is_full parking.new ≡ is_full parking.old }
+{
     lent!(parking as Parking(ring), BAD_HANDLE => {
         *gone = CPassed::of(ring.lend().expire(before, most));
         OK
@@ -136,9 +172,12 @@ pub extern "C" fn dspec_parking_expire(
 
 /// What became of the blocks that were parked.
 #[unsafe(no_mangle)]
-pub extern "C" fn dspec_parking_counts(parking: &mut Handle, counts: &mut CParkingCounts) -> u32 {
+pub extern "C" fn dspec_parking_counts(parking: &mut Handle, counts: &mut CParkedCounts) -> u32
+    ensures answers { ToldOnRing (CountsTold result) counts.old counts.new (held_in parking.old) result (held_in parking.new) }
+    ensures stays { is_full parking.new ≡ is_full parking.old }
+{
     lent!(parking as Parking(ring), BAD_HANDLE => {
-        *counts = CParkingCounts::of(ring.lend().counts());
+        *counts = CParkedCounts::of(ring.lend().counts());
         OK
     })
 }

@@ -23,10 +23,18 @@ pub use Rattle.dspec_promise.specs.Words.{By, commit, discard}
 pub use Rattle.dspec_table.specs.Words.{last_seat, set_up}
 pub use Rattle.dspec_ring.specs.Words.{Pair}
 pub use Rattle.dspec_ring.specs.declared.batch.Batch.{Batch}
+pub use Rattle.dspec_cpu.specs.BlockAt.{IsBlockAt}
 pub use Rattle.dspec_cpu.specs.Words.{Belongs, called, CommitsIfRoom, config_of, CpuIdentity, DecidesOne, drops_told, identity, IsCallable, IsOpenAt, number_in, OffersValues, OpensOne}
 pub use Rattle.dspec_cpu.specs.Words.{RecordsValues, schema_of, ServesOnce, SpeculatesOne, TracesOne, words_of, worn_of}
 pub use Rattle.dspec_cpu.specs.declared.cpu.Cpu.{Cpu}
 pub use Rattle.dspec_cpu.specs.declared.shared.Shared.{Shared}
+pub use Rattle.dspec_parking.specs.Parkings.{AreSums}
+pub use Rattle.dspec_parking.specs.Words.{ExpiresBlocks, nothing_parked, ParkingState, ParksBlock, TakesInto, told_at}
+pub use Rattle.dspec_parking.specs.declared.parked.Parked.{Parked}
+pub use Rattle.dspec_parking.specs.declared.parked_block.ParkedBlock.{ParkedBlock}
+pub use Rattle.dspec_parking.specs.declared.parking_counts.ParkingCounts.{ParkingCounts}
+pub use Rattle.dspec_parking.specs.declared.parking_key.ParkingKey.{ParkingKey}
+pub use Rattle.dspec_parking.specs.declared.passed_places.PassedPlaces.{PassedPlaces}
 pub use Rattle.dspec_paths.specs.Words.{AdoptsPath, BeginsPath, DiscardsPath, IsAlone, KeepsPart, LacksRoom, meant_path, Places, places_of, TurnsPath}
 pub use Rattle.dspec_paths.specs.declared.lent_cpu.LentCpu.{LentCpu}
 pub use Rattle.dspec_paths.specs.declared.open_path.OpenPath.{OpenPath}
