@@ -23,8 +23,7 @@ pub use Rattle.dspec_promise.specs.Words.{By, commit, discard}
 pub use Rattle.dspec_table.specs.Words.{last_seat, set_up}
 pub use Rattle.dspec_ring.specs.Words.{Pair}
 pub use Rattle.dspec_ring.specs.declared.batch.Batch.{Batch}
-pub use Rattle.dspec_cpu.specs.BlockAt.{IsBlockAt}
-pub use Rattle.dspec_cpu.specs.Words.{Belongs, called, CommitsIfRoom, config_of, CpuIdentity, DecidesOne, drops_told, identity, IsCallable, IsOpenAt, number_in, OffersValues, OpensOne}
+pub use Rattle.dspec_cpu.specs.Words.{Belongs, called, CommitsIfRoom, config_of, CpuIdentity, DecidesOne, drops_told, identity, IsBlockAt, IsCallable, IsOpenAt, number_in, OffersValues, OpensOne}
 pub use Rattle.dspec_cpu.specs.Words.{RecordsValues, schema_of, ServesOnce, SpeculatesOne, TracesOne, words_of, worn_of}
 pub use Rattle.dspec_cpu.specs.declared.cpu.Cpu.{Cpu}
 pub use Rattle.dspec_cpu.specs.declared.shared.Shared.{Shared}
