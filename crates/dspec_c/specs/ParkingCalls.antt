@@ -4,7 +4,7 @@ use Rattle.dspec_c.specs.{CpuCalls.accepts_at, CpuCalls.OnCpu, CpuCalls.shape_at
 use Rattle.dspec_c.specs.{Words.Outside.Deed, Words.Outside.EnabledRows, Words.Outside.enabled, Words.Outside.Has, Words.Outside.IsBlockAt, Words.Outside.number_in, Words.Outside.schema_of}
 use Rattle.dspec_c.specs.{Words.Outside.table_text, Words.Outside.AreSums, Words.Outside.ExpiresBlocks, Words.Outside.nothing_parked, Words.Outside.ParkingState, Words.Outside.ParksBlock}
 use Rattle.dspec_c.specs.{Words.Outside.TakesInto, Words.Outside.told_at, Words.Outside.Parked, Words.Outside.ParkedBlock, Words.Outside.ParkingKey, Words.Outside.PassedPlaces}
-use Rattle.dspec_c.specs.declared.{held.HandleValue.HandleValue, parked.CParked.CParked, parked.CParkedCounts.CParkedCounts, parked.CPassed.CPassed}
+use Rattle.dspec_c.specs.{declared.held.HandleValue.HandleValue, declared.parked.CParked.CParked, declared.parked.CParkedCounts.CParkedCounts, declared.parked.CPassed.CPassed}
 use Rattle.dspec_c.specs.declared.held.HandleValue.TheVariants as held
 use Rattle.dspec_parking.specs.declared.parked.Parked.TheVariants as answer
 

@@ -1,9 +1,8 @@
 -- Cited by calls. What C reads of reports, batches, open paths and parked blocks.
 use Rattle.std.specs.Prelude.{ℕ, ◌≡◌, length}
-use Rattle.dspec_c.specs.{Statuses.id_or_zero, Words.Outside.id_number, Words.Outside.Report, Words.Outside.Batch, Words.Outside.OpenPath, declared.batches.CBatch.CBatch}
-use Rattle.dspec_c.specs.{Words.Outside.ParkedBlock, Words.Outside.ParkingCounts, Words.Outside.PassedPlaces, declared.parked.CParked.CParked}
-use Rattle.dspec_c.specs.declared.{parked.CParkedCounts.CParkedCounts, parked.CPassed.CPassed}
-use Rattle.dspec_c.specs.{declared.open_path.COpenPath.COpenPath, declared.reports.CReport.CReport}
+use Rattle.dspec_c.specs.Statuses.{id_or_zero}
+use Rattle.dspec_c.specs.Words.Outside.{id_number, Report, Batch, OpenPath, ParkedBlock, ParkingCounts, PassedPlaces}
+use Rattle.dspec_c.specs.declared.{batches.CBatch.CBatch, open_path.COpenPath.COpenPath, parked.CParked.CParked, parked.CParkedCounts.CParkedCounts, parked.CPassed.CPassed, reports.CReport.CReport}
 
 -- the same counts, each at its name, and how many records were refused
 pub record TellsReport (c : CReport) (r : Report) (n : ℕ) : Type 0 where

@@ -40,9 +40,9 @@ impl OutCpu {
     ghost use Rattle.std.specs.Prelude.{◌≡◌, ◌<◌, true};
     ghost use Rattle.rtrb.specs.Ring.{known_free, sent};
     ghost use Rattle.dspec_promise.specs.Promise.{commit, discard};
-    ghost use Rattle.dspec_c.specs.CpuCalls.{CommitIfRoomTold, DecideTold, DroppedInTold, OpenAtTold, OpeningTold, PutInTold, PutTold, ReportTold, ServiceTold, SpeculateTold, TraceTold, PutInAs};
-    ghost use Rattle.dspec_c.specs.CpuCalls.{IsRefusedAs, one_refused, served_so};
-    ghost use Rattle.dspec_c.specs.{Homes.HasGone, Homes.IsOut, Homes.IsSameSide, ParkingCalls.ParksAt};
+    ghost use Rattle.dspec_c.specs.{CpuCalls.CommitIfRoomTold, CpuCalls.DecideTold, CpuCalls.DroppedInTold, CpuCalls.OpenAtTold, CpuCalls.OpeningTold, CpuCalls.PutInTold, CpuCalls.PutTold};
+    ghost use Rattle.dspec_c.specs.{CpuCalls.ReportTold, CpuCalls.ServiceTold, CpuCalls.SpeculateTold, CpuCalls.TraceTold, CpuCalls.PutInAs, CpuCalls.IsRefusedAs, CpuCalls.one_refused};
+    ghost use Rattle.dspec_c.specs.{CpuCalls.served_so, Homes.HasGone, Homes.IsOut, Homes.IsSameSide, ParkingCalls.ParksAt};
     ghost use Rattle.dspec_record.specs.declared.header.Header.TheVariants as header;
 
     pub fn of(way: Producer<Homing, Global, HomingProtocol>, homing: Homing) -> OutCpu

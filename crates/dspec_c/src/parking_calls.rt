@@ -1,8 +1,8 @@
 //! The exports of a ring of parked blocks. The ring is in a handle of its own, beside the CPU's.
 
 ghost use Rattle.std.specs.Prelude.{◌≡◌, ◌⊎◌, true, false};
-ghost use Rattle.dspec_c.specs.{Handles.held_in, Handles.is_full, ParkingCalls.AtTold, ParkingCalls.CountsTold, ParkingCalls.ExpireTold, ParkingCalls.HoldsEmptyRing};
-ghost use Rattle.dspec_c.specs.ParkingCalls.{ParkAnswers, ParkOnCpu, PlacesTold, TakeTold, ToldOnRing, block_room, parked_status, parked_told};
+ghost use Rattle.dspec_c.specs.Handles.{held_in, is_full};
+ghost use Rattle.dspec_c.specs.ParkingCalls.{AtTold, CountsTold, ExpireTold, HoldsEmptyRing, ParkAnswers, ParkOnCpu, PlacesTold, TakeTold, ToldOnRing, block_room, parked_status, parked_told};
 
 use crate::boxed::Boxed;
 use crate::handle::{Handle, HandleContents, lent};

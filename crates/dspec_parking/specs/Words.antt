@@ -3,7 +3,7 @@ pub use Rattle.dspec_parking.specs.Blocks.{bytes_at, FitsBeside, is_standing, Is
 pub use Rattle.dspec_parking.specs.Laws.{EndsAll}
 pub use Rattle.dspec_parking.specs.ParkingPage.{BlockFate, CountsEnds, entered, evicted, expired, fate_count, GoesBy, GoesOnBy, HasEnded, is_fate, is_given_up, KeepsParking, kept, left, OldestFirst}
 pub use Rattle.dspec_parking.specs.ParkingPage.{ParkedOnce, Register, standing}
-pub use Rattle.dspec_parking.specs.Parkings.{CanHold, ExpiresBlocks, kept_place, nothing_parked, one_kept, one_parked, ParkingState, ParksBlock, some_expired, StandsAt, TakesInto, TakesOut, told_at}
-pub use Rattle.dspec_parking.specs.Parkings.{told_of, with_block, with_kept}
+pub use Rattle.dspec_parking.specs.Parkings.{AreSums, CanHold, ExpiresBlocks, kept_place, nothing_parked, one_kept, one_parked, ParkingState, ParksBlock, some_expired, StandsAt, TakesInto, TakesOut}
+pub use Rattle.dspec_parking.specs.Parkings.{told_at, told_of, with_block, with_kept}
 pub use Rattle.dspec_parking.specs.Passing.{is_old, IsOld, none_passed, OldestIsOld, OldestIsYoung, one_more, PassesOldest}
 pub use Rattle.dspec_parking.specs.Stored.{entry_bytes, IsRing, place_with, places_cut, ring_shown, StartsFrom, wrapped}

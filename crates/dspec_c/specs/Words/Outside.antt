@@ -27,13 +27,6 @@ pub use Rattle.dspec_cpu.specs.Words.{Belongs, called, CommitsIfRoom, config_of,
 pub use Rattle.dspec_cpu.specs.Words.{RecordsValues, schema_of, ServesOnce, SpeculatesOne, TracesOne, words_of, worn_of}
 pub use Rattle.dspec_cpu.specs.declared.cpu.Cpu.{Cpu}
 pub use Rattle.dspec_cpu.specs.declared.shared.Shared.{Shared}
-pub use Rattle.dspec_parking.specs.Parkings.{AreSums}
-pub use Rattle.dspec_parking.specs.Words.{ExpiresBlocks, nothing_parked, ParkingState, ParksBlock, TakesInto, told_at}
-pub use Rattle.dspec_parking.specs.declared.parked.Parked.{Parked}
-pub use Rattle.dspec_parking.specs.declared.parked_block.ParkedBlock.{ParkedBlock}
-pub use Rattle.dspec_parking.specs.declared.parking_counts.ParkingCounts.{ParkingCounts}
-pub use Rattle.dspec_parking.specs.declared.parking_key.ParkingKey.{ParkingKey}
-pub use Rattle.dspec_parking.specs.declared.passed_places.PassedPlaces.{PassedPlaces}
 pub use Rattle.dspec_paths.specs.Words.{AdoptsPath, BeginsPath, DiscardsPath, IsAlone, KeepsPart, LacksRoom, meant_path, Places, places_of, TurnsPath}
 pub use Rattle.dspec_paths.specs.declared.lent_cpu.LentCpu.{LentCpu}
 pub use Rattle.dspec_paths.specs.declared.open_path.OpenPath.{OpenPath}
@@ -41,6 +34,12 @@ pub use Rattle.dspec_paths.specs.declared.path_end.PathEnd.{PathEnd}
 pub use Rattle.dspec_paths.specs.declared.path_key.PathKey.{PathKey}
 pub use Rattle.dspec_paths.specs.declared.paths.Paths.{Paths}
 pub use Rattle.dspec_paths.specs.declared.whose.WhosePaths.{WhosePaths}
+pub use Rattle.dspec_parking.specs.Words.{AreSums, ExpiresBlocks, nothing_parked, ParkingState, ParksBlock, TakesInto, told_at}
+pub use Rattle.dspec_parking.specs.declared.parked.Parked.{Parked}
+pub use Rattle.dspec_parking.specs.declared.parked_block.ParkedBlock.{ParkedBlock}
+pub use Rattle.dspec_parking.specs.declared.parking_counts.ParkingCounts.{ParkingCounts}
+pub use Rattle.dspec_parking.specs.declared.parking_key.ParkingKey.{ParkingKey}
+pub use Rattle.dspec_parking.specs.declared.passed_places.PassedPlaces.{PassedPlaces}
 pub use Rattle.dspec_session_core.specs.Words.{Asked, Awaited, called_at, Cleaned, Consuming, entered_at, FoundNone, GaveBack, Has, IsConsumerOf, IsCpuOf, IsFresh, IsNotTakenBack, IsPromisedBy}
 pub use Rattle.dspec_session_core.specs.Words.{IsSameConsumer, IsSession, pairs_of, set_up_of, Stopped, taken_at, Took, view_of}
 pub use Rattle.dspec_session_core.specs.declared.left.Left.{Left}
