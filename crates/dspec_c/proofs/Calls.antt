@@ -2,7 +2,7 @@
 use Rattle.std.proofs.Common.{◌≡◌, ℕ, Bool, true, false, refl, Option, Some, None, sym, subst, ap, ◌∙◌}
 use Rattle.std.specs.Prelude.{if◌then◌else◌, Result, Ok, Err, IfErr, IfNone, IfSome, MatchOption, MatchResult, OnErr, OnOk}
 use Rattle.dspec_c.specs.Words.{Batch, EnabledRows, FoundNone, GaveBack, IsNotTakenBack, Took, Consuming, OnConsumer, OnTheirs, Theirs, OnCpu, OnSide, one_refused, CpuSide, held_in, with_held}
-use Rattle.dspec_c.specs.Words.{identity, Cpu, Shared, OnTableAlone, places_of, Places, Paths, OnTable, OnRing, ParkingState}
+use Rattle.dspec_c.specs.Words.{identity, Cpu, Shared, OnTableAlone, places_of, Places, Paths, OnTable}
 use Rattle.dspec_c.specs.declared.{consumer_side.ConsumerSide.ConsumerSide, handle.Handle.Handle, held.HandleValue.HandleValue}
 use Rattle.dspec_c.specs.declared.held.HandleValue.TheVariants as held
 use Rattle.dspec_c.proofs.Options.{unless}
@@ -72,9 +72,3 @@ pub on_lent_both : (did : Places → Places → CpuSide → CpuSide → Type 0) 
     → OnTable did stays (held_in h) cpu status (held_in (with_held h (held.Paths new))) side
 on_lent_both did stays h v cpu side status table lent new e f g done = lent_so (λ was now. OnTable did stays was cpu status now side) h v (held.Paths table) (held.Paths new) e f refl
     (new, refl, subst (λ (t : Paths). OnCpu (did (places_of t) (places_of new)) ((new ≡ t) × stays) cpu status side) g done)
-
--- on the ring that is there
-pub on_lent_ring : (did : ParkingState → ParkingState → Type 0) (stays : Type 0) (h : Handle) (v : HandleValue) (status : ℕ) (ring lent new : ParkingState) → v ≡ held_in h → v ≡ held.Parking ring
-    → lent ≡ ring → did lent new → OnRing did stays (held_in h) status (held_in (with_held h (held.Parking new)))
-on_lent_ring did stays h v status ring lent new e f g done = lent_so (λ was now. OnRing did stays was status now) h v (held.Parking ring) (held.Parking new) e f refl
-    (new, refl, subst (λ (r : ParkingState). did r new) g done)
