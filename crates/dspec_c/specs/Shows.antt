@@ -1,7 +1,7 @@
--- Cited by calls. What C reads of reports, batches and open paths.
+-- Cited by calls. What C reads of reports, batches, open paths and their counts.
 use Rattle.std.specs.Prelude.{ℕ, ◌≡◌, length}
 use Rattle.dspec_c.specs.{Statuses.id_or_zero, Words.Outside.id_number, Words.Outside.Report, Words.Outside.Batch, Words.Outside.OpenPath, declared.batches.CBatch.CBatch}
-use Rattle.dspec_c.specs.{declared.open_path.COpenPath.COpenPath, declared.reports.CReport.CReport}
+use Rattle.dspec_c.specs.{Words.Outside.PathCounts, declared.open_path.COpenPath.COpenPath, declared.path_counts.CPathCounts.CPathCounts, declared.reports.CReport.CReport}
 
 -- the same counts, each at its name, and how many records were refused
 pub record TellsReport (c : CReport) (r : Report) (n : ℕ) : Type 0 where
@@ -35,3 +35,10 @@ pub record TellsOpenPath (c : COpenPath) (p : OpenPath) : Type 0 where
   pub thread : c.thread ≡ p.thread
   pub cut : c.cut ≡ p.cut
   pub is_kept : c.is_kept ≡ p.is_kept
+
+-- the counts of a table, field by field
+pub record TellsPathCounts (c : CPathCounts) (p : PathCounts) : Type 0 where
+  pub began : c.began ≡ p.began
+  pub kept : c.kept ≡ p.kept
+  pub thrown_away : c.thrown_away ≡ p.thrown_away
+  pub lost : c.lost ≡ p.lost

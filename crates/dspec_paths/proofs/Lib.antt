@@ -1,4 +1,6 @@
 mod AtOnce
+mod Balances
+mod Counting
 mod Deciding
 mod Fates
 mod Keeping
