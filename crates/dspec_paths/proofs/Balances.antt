@@ -1,8 +1,7 @@
 -- Each call keeps the sum of the counts.
-use Rattle.std.proofs.Common.{◌≡◌, ◌+◌, ℕ, zero, suc, Bool, true, false, Option, Some, None, refl, sym, ap, subst, ◌∙◌, ◌⊎◌, inl, inr, arith}
-use Rattle.std.specs.Prelude.{◌||◌}
-use Rattle.dspec_paths.specs.Words.{AdoptsPath, BeginsBy, begun_with, CallsMade, Commits, CommitsNewest, CommitsOlder, CommitsOlderPart, CommitsPart, copied_by, DiscardsPath, GoesOnOrLost, IsNamed, IsUndecided, KeepsPart}
-use Rattle.dspec_paths.specs.Words.{KeepsPath, KeepsRest, loses_block, LosesPath, path_at, Places, TurnsBy, turned_to, with_path, without_path}
+use Rattle.std.proofs.Common.{◌≡◌, ◌+◌, ℕ, suc, Bool, true, false, Option, Some, None, refl, sym, ap, subst, ◌∙◌, ◌⊎◌, inl, inr, arith}
+use Rattle.dspec_paths.specs.Words.{AdoptsPath, BeginsBy, begun_with, CallsMade, Commits, CommitsNewest, CommitsPart, copied_by, DiscardsPath, GoesOnOrLost, IsUndecided, KeepsPart}
+use Rattle.dspec_paths.specs.Words.{KeepsPath, KeepsRest, loses_block, LosesPath, path_at, Places, TurnsBy, turned_to, without_path}
 use Rattle.dspec_paths.specs.Words.{counted_begin, counted_commit, counted_discard, counted_end, counted_loss, IsBalanced, IsSum, KeptCounted, KeptOne, open_in, ThrownCounted, times, with_begun}
 use Rattle.dspec_paths.specs.Words.{with_kept, with_lost, with_thrown_away, Busy, Decided, Id, Opening, Speculation, Unavailable}
 use Rattle.dspec_paths.specs.declared.{open_path.OpenPath.OpenPath, path_counts.PathCounts.PathCounts, path_end.PathEnd.PathEnd, path_key.PathKey.PathKey}
@@ -34,7 +33,7 @@ begins c ps new number thread stamp a opening.Worn x y is (none, calls, places) 
 
 pub turns : (c : PathCounts) (ps new : Places) (k : PathKey) (p : OpenPath) (a : Option Speculation) (o : Opening) (x y : CallsMade) → IsBalanced ps c → IsUndecided k ps p
     → TurnsBy o k p a x y ps new → IsBalanced new c
-turns c ps new k p a (Id id) x y is is_open (given, (gone, so, places)) = stays c ps new is (ap open_in places ∙ goes_on_open k.place ps p (turned_to id gone p) is_open.0.0)
+turns c ps new k p a (Id id) x y is is_open (given, (older, so, places)) = stays c ps new is (ap open_in places ∙ goes_on_open k.place ps p (turned_to id older p) is_open.0.0)
 turns c ps new k p a Unavailable x y is is_open (none, calls, places) = stays c ps new is (ap open_in places)
 turns c ps new k p a Busy x y is is_open (none, calls, places) = stays c ps new is (ap open_in places)
 turns c ps new k p a opening.Stopped x y is is_open (none, calls, places) = stays c ps new is (ap open_in places)
@@ -53,19 +52,28 @@ one_less : (c : PathCounts) (ps new : Places) → IsBalanced ps c → open_in ps
 one_less c ps new is less = subst (λ (n : ℕ). IsSum n c) less is
 
 pub discards : (c : PathCounts) (ps new : Places) (k : PathKey) (a : Bool) (x y : CallsMade) → IsBalanced ps c → DiscardsPath k a x y ps new → IsBalanced new (counted_discard a c)
-discards c ps new k true x y is (p, is_open, (gone, d, z, first, last, places)) = sum_thrown (open_in new) c (one_less c ps new is (closed ps new k p is_open.0.0 places))
+discards c ps new k true x y is (p, is_open, (older, d, z, first, last, places)) = sum_thrown (open_in new) c (one_less c ps new is (closed ps new k p is_open.0.0 places))
 discards c ps new k false x y is (none, (calls, places)) = stays c ps new is (ap open_in places)
 
 pub loses : (c : PathCounts) (ps new : Places) (k : PathKey) (a : Bool) (x y : CallsMade) → IsBalanced ps c → DiscardsPath k a x y ps new → IsBalanced new (counted_loss a c)
-loses c ps new k true x y is (p, is_open, (gone, d, z, first, last, places)) = sum_lost (open_in new) c (one_less c ps new is (closed ps new k p is_open.0.0 places))
+loses c ps new k true x y is (p, is_open, (older, d, z, first, last, places)) = sum_lost (open_in new) c (one_less c ps new is (closed ps new k p is_open.0.0 places))
 loses c ps new k false x y is (none, (calls, places)) = stays c ps new is (ap open_in places)
 
+one_end : (n m : ℕ) → n ≡ suc m → n ≡ 1 + m
+one_end n m e = omega (arith, e)
+
+no_end : (n m : ℕ) → n ≡ m → n ≡ 0 + m
+no_end n m e = omega (arith, e)
+
+no_ends : (n : ℕ) → n ≡ 0 + 0 + n
+no_ends n = omega arith
+
 pub thrown_one : (k : PathKey) (a : Bool) (x y : CallsMade) (ps new : Places) (c later : PathCounts) → DiscardsPath k a x y ps new → later ≡ counted_discard a c → ThrownCounted ps new c later
-thrown_one k true x y ps new c later (p, is_open, (gone, d, z, first, last, places)) counted = (1, closed ps new k p is_open.0.0 places, counted)
-thrown_one k false x y ps new c later (none, (calls, places)) counted = (0, ap open_in (sym places), counted)
+thrown_one k true x y ps new c later (p, is_open, (older, d, z, first, last, places)) counted = (1, one_end (open_in ps) (open_in new) (closed ps new k p is_open.0.0 places), counted)
+thrown_one k false x y ps new c later (none, (calls, places)) counted = (0, no_end (open_in ps) (open_in new) (ap open_in (sym places)), counted)
 
 pub none_thrown : (ps : Places) (c : PathCounts) → ThrownCounted ps ps c c
-none_thrown ps c = (0, refl, refl)
+none_thrown ps c = (0, no_end (open_in ps) (open_in ps) refl, refl)
 
 pub thrown_then : (ps mid new : Places) (c between later : PathCounts) → ThrownCounted ps mid c between → ThrownCounted mid new between later → ThrownCounted ps new c later
 thrown_then ps mid new c between later (n, opened, is) (m, further, more) =
@@ -124,10 +132,14 @@ module _ (lacks : Speculation → Type 0) (waits part : Bool) (k : PathKey) (a :
   commits_part_one (Some id) x y ps new at (inl (is, asked, none, calls, places)) = still_open part a (path.Waits 0) ps new c is refl (ap open_in places)
   commits_part_one (Some id) x y ps new at (inr (d, z, none, so, on)) = part_one (loses_block d) (copied_by d) (record p { older = None; is_kept = true }) z y ps new at on
 
-pub kept_one : (lacks : Speculation → Type 0) (waits part : Bool) (k : PathKey) (a : PathEnd) (x y : CallsMade) (ps new : Places) (c : PathCounts) → KeepsPath lacks waits k a x y ps new
+kept_one : (lacks : Speculation → Type 0) (waits part : Bool) (k : PathKey) (a : PathEnd) (x y : CallsMade) (ps new : Places) (c : PathCounts) → KeepsPath lacks waits k a x y ps new
     → KeptOne ps new c (counted_end part a c)
 kept_one lacks waits part k a x y ps new c (inl (is, none, (calls, places))) = still_open part a path.Over ps new c is refl (ap open_in places)
 kept_one lacks waits part k a x y ps new c (inr (p, named, on)) = commits_one lacks waits part k a c p p.older x y ps new named.0 on
+
+pub kept_so : (lacks : Speculation → Type 0) (waits part : Bool) (k : PathKey) (a : PathEnd) (x y : CallsMade) (ps new : Places) (c later : PathCounts) → KeepsPath lacks waits k a x y ps new
+    → later ≡ counted_end part a c → KeptOne ps new c later
+kept_so lacks waits part k a x y ps new c later kept counted = subst (λ (d : PathCounts). KeptOne ps new c d) (sym counted) (kept_one lacks waits part k a x y ps new c kept)
 
 part_kept_one : (lacks : Speculation → Type 0) (waits part : Bool) (k : PathKey) (a : PathEnd) (x y : CallsMade) (ps new : Places) (c : PathCounts) → KeepsPart lacks waits k a x y ps new
     → KeptOne ps new c (counted_end part a c)
@@ -148,7 +160,7 @@ pub keeps_part : (part : PathKey → Places → Bool) (lacks : Speculation → T
 keeps_part part lacks waits c ps new k a x y is kept = one_balances c (counted_end (part k ps) a c) ps new is (part_kept_one lacks waits (part k ps) k a x y ps new c kept)
 
 pub none_kept : (ps : Places) (c : PathCounts) → KeptCounted ps ps c c
-none_kept ps c = (0, 0, refl, refl)
+none_kept ps c = (0, 0, no_ends (open_in ps), refl)
 
 pub kept_then : (ps mid new : Places) (c between later : PathCounts) → KeptCounted ps mid c between → KeptOne mid new between later → KeptCounted ps new c later
 kept_then ps mid new c between later (n, m, opened, is) (inl (same, counted)) = (n, m, omega (arith, opened, same), counted ∙ is)

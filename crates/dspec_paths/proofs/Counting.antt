@@ -1,21 +1,19 @@
 -- How many paths are open after one place is written, and the sum after one more is counted.
-use Rattle.std.proofs.Common.{◌≡◌, ◌+◌, ◌%◌, ◌^◌, ℕ, zero, suc, Bool, true, false, List, [], ◌∷◌, Option, Some, None, refl, sym, ap, subst, ◌∙◌, arith}
+use Rattle.std.proofs.Common.{◌≡◌, ◌+◌, ◌%◌, ◌^◌, ℕ, zero, suc, [], ◌∷◌, Option, Some, None, refl, sym, ap, subst, ◌∙◌, arith}
 use Rattle.std.proofs.Math.Nat.{add-mod-mod, mod-add-mod}
 use Rattle.std.specs.Prelude.{slice_get, slice_set}
-use Rattle.dspec_paths.specs.Words.{at_place, counted_commit, IsSum, open_in, path_at, Places, times, with_begun, with_kept, with_lost, with_thrown_away}
-use Rattle.dspec_paths.specs.Words.{Copied, Decided, Lost, Thrown, Void}
+use Rattle.dspec_paths.specs.Words.{at_place, IsSum, open_in, path_at, Places, times, with_begun, with_kept, with_lost, with_thrown_away}
 use Rattle.dspec_paths.specs.declared.{open_path.OpenPath.OpenPath, path_counts.PathCounts.PathCounts}
-use Rattle.dspec_deeds.specs.declared.calls.Decided.TheVariants.{Stopped, Worn}
 
 -- ---- how many are open
 
-one_if : Option OpenPath → ℕ
+abbrev one_if : Option OpenPath → ℕ
 one_if None = 0
 one_if (Some p) = 1
 
 open_first : (o : Option OpenPath) (ps : Places) → open_in (o ∷ ps) ≡ one_if o + open_in ps
-open_first None ps = refl
-open_first (Some p) ps = refl
+open_first None ps = omega arith
+open_first (Some p) ps = omega arith
 
 inside : (o p : Option OpenPath) → Some o ≡ Some p → o ≡ p
 inside o p e = cc (e)
@@ -101,13 +99,19 @@ sum_lost n c is = sum_of_lost (2 ^ 64) n c.kept c.thrown_away c.lost c.began is
 more_before : (n m : ℕ) → n + suc m ≡ suc n + m
 more_before n m = omega arith
 
+none_before : (m : ℕ) → 0 + m ≡ m
+none_before m = omega arith
+
+one_further : (n m : ℕ) → suc (n + m) ≡ suc n + m
+one_further n m = omega arith
+
 pub sum_after : (count : PathCounts → PathCounts) → ((m : ℕ) (c : PathCounts) → IsSum (suc m) c → IsSum m (count c)) → (n m : ℕ) (c : PathCounts) → IsSum (n + m) c → IsSum m (times n count c)
-sum_after count one zero m c is = is
+sum_after count one zero m c is = subst (λ (s : ℕ). IsSum s c) (none_before m) is
 sum_after count one (suc n) m c is = one m (times n count c) (sum_after count one n (suc m) c (subst (λ (s : ℕ). IsSum s c) (sym (more_before n m)) is))
 
 pub times_times : (count : PathCounts → PathCounts) (n m : ℕ) (c : PathCounts) → times n count (times m count c) ≡ times (n + m) count c
-times_times count zero m c = refl
-times_times count (suc n) m c = ap count (times_times count n m c)
+times_times count zero m c = ap (λ (s : ℕ). times s count c) (sym (none_before m))
+times_times count (suc n) m c = ap count (times_times count n m c) ∙ ap (λ (s : ℕ). times s count c) (one_further n m)
 
 pub lost_between : (n : ℕ) (c : PathCounts) → with_lost (times n with_kept c) ≡ times n with_kept (with_lost c)
 lost_between zero c = refl

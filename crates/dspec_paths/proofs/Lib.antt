@@ -5,6 +5,7 @@ mod Deciding
 mod Fates
 mod Keeping
 mod Moving
+mod OneByOne
 mod OneCpu
 mod Opening
 mod Turned

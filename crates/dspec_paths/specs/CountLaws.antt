@@ -1,6 +1,6 @@
 -- Cited by calls. That each call on a table keeps the sum of its counts.
 use Rattle.std.specs.Prelude.{ℕ, Bool, Option}
-use Rattle.dspec_paths.specs.Counts.{IsBalanced, KeptCounted, ThrownCounted, counted_begin, counted_discard, counted_end, counted_loss, part_at}
+use Rattle.dspec_paths.specs.Counts.{IsBalanced, counted_begin, counted_discard, counted_end, counted_loss, part_at}
 use Rattle.dspec_paths.specs.Table.{Places, AdoptsPath, BeginsBy, DiscardsPath, IsUndecided, KeepsPart, KeepsPath, TurnsBy}
 use Rattle.dspec_paths.specs.Words.Outside.{CallsMade, Opening, Speculation}
 use Rattle.dspec_paths.specs.declared.{open_path.OpenPath.OpenPath, path_counts.PathCounts.PathCounts, path_end.PathEnd.PathEnd, path_key.PathKey.PathKey}

@@ -1,4 +1,4 @@
-ghost use Rattle.std.specs.Prelude.{◌≡◌, ◌<◌};
+ghost use Rattle.std.specs.Prelude.{◌≡◌, ◌<◌, true};
 ghost use Rattle.dspec_paths.specs.Counts.{counted_discard, counted_end, counted_loss, counts_of, part_at};
 ghost use Rattle.dspec_paths.specs.{Open.places_of, Table.CommitsNewest, Table.CommitsOlder, Table.CommitsOlderPart, Table.CommitsOrWaits, Table.copied_by, Table.DiscardsPath, Table.KeepsPart};
 ghost use Rattle.dspec_paths.specs.{Table.KeepsRest, Table.IsNamed, Table.KeepsPath, Table.loses_block, Table.LosesPath, Table.thrown_by};
