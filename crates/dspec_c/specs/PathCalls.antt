@@ -1,12 +1,12 @@
 -- Cited by calls. The calls on a table of the open paths of a CPU, which is in a handle of its own.
 use Rattle.std.specs.Prelude.{ℕ, zero, suc, ◌≡◌, Bool, true, false, Option, Some, None, IfNone, IfSome, replicate, is_some}
-use Rattle.dspec_c.specs.{Answered.Answered, Answered.AnsweredWith, CpuCalls.IsNumberOf, CpuCalls.OnCpu, CpuCalls.OnSide, CpuCalls.shape_at, Homes.CpuSide, Shows.TellsOpenPath, Statuses.bad_handle}
-use Rattle.dspec_c.specs.{Statuses.decided_number, Statuses.decided_status, Words.Outside.id_number, Words.Outside.EnabledRows, Words.Outside.Has, Words.Outside.OpensOne, Words.Outside.Cpu}
-use Rattle.dspec_c.specs.{Words.Outside.Speculation, Words.Outside.called, Words.Outside.meant_path, Words.Outside.places_of, Words.Outside.LacksRoom, Words.Outside.AdoptsPath}
-use Rattle.dspec_c.specs.{Words.Outside.BeginsPath, Words.Outside.DiscardsPath, Words.Outside.KeepsPart, Words.Outside.Places, Words.Outside.TurnsPath, Words.Outside.OpenPath, Words.Outside.PathCounts, Words.Outside.PathEnd}
-use Rattle.dspec_c.specs.{Words.Outside.PathKey, Words.Outside.Paths, Words.Outside.WhosePaths, declared.held.HandleValue.HandleValue, declared.open_path.COpenPath.COpenPath}
-use Rattle.dspec_c.specs.{Shows.TellsPathCounts, Words.Outside.counted_begin, Words.Outside.counted_discard, Words.Outside.counted_end, Words.Outside.counted_loss, Words.Outside.counts_of}
-use Rattle.dspec_c.specs.{Words.Outside.no_counts, Words.Outside.part_at, declared.path_counts.CPathCounts.CPathCounts}
+use Rattle.dspec_c.specs.{Answered.Answered, Answered.AnsweredWith, CpuCalls.IsNumberOf, CpuCalls.OnCpu, CpuCalls.OnSide, CpuCalls.shape_at, Homes.CpuSide, Shows.TellsOpenPath}
+use Rattle.dspec_c.specs.{Shows.TellsPathCounts, Statuses.bad_handle, Statuses.decided_number, Statuses.decided_status, Words.Outside.id_number, Words.Outside.EnabledRows, Words.Outside.Has}
+use Rattle.dspec_c.specs.{Words.Outside.OpensOne, Words.Outside.Cpu, Words.Outside.Speculation, Words.Outside.called, Words.Outside.meant_path, Words.Outside.places_of, Words.Outside.LacksRoom}
+use Rattle.dspec_c.specs.{Words.Outside.AdoptsPath, Words.Outside.BeginsPath, Words.Outside.DiscardsPath, Words.Outside.KeepsPart, Words.Outside.Places, Words.Outside.TurnsPath}
+use Rattle.dspec_c.specs.{Words.Outside.OpenPath, Words.Outside.PathCounts, Words.Outside.PathEnd, Words.Outside.PathKey, Words.Outside.Paths, Words.Outside.WhosePaths, Words.Outside.counted_begin}
+use Rattle.dspec_c.specs.{Words.Outside.counted_discard, Words.Outside.counted_end, Words.Outside.counted_loss, Words.Outside.counts_of, Words.Outside.no_counts, Words.Outside.part_at}
+use Rattle.dspec_c.specs.{declared.held.HandleValue.HandleValue, declared.open_path.COpenPath.COpenPath, declared.path_counts.CPathCounts.CPathCounts}
 use Rattle.dspec_c.specs.declared.held.HandleValue.TheVariants as held
 use Rattle.dspec_paths.specs.declared.path_end.PathEnd.TheVariants as path
 use Rattle.dspec_paths.specs.declared.whose.WhosePaths.TheVariants as whose

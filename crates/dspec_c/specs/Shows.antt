@@ -1,7 +1,7 @@
 -- Cited by calls. What C reads of reports, batches, open paths and their counts.
 use Rattle.std.specs.Prelude.{ℕ, ◌≡◌, length}
-use Rattle.dspec_c.specs.{Statuses.id_or_zero, Words.Outside.id_number, Words.Outside.Report, Words.Outside.Batch, Words.Outside.OpenPath, declared.batches.CBatch.CBatch}
-use Rattle.dspec_c.specs.{Words.Outside.PathCounts, declared.open_path.COpenPath.COpenPath, declared.path_counts.CPathCounts.CPathCounts, declared.reports.CReport.CReport}
+use Rattle.dspec_c.specs.{Statuses.id_or_zero, Words.Outside.id_number, Words.Outside.Report, Words.Outside.Batch, Words.Outside.OpenPath, Words.Outside.PathCounts, declared.batches.CBatch.CBatch}
+use Rattle.dspec_c.specs.{declared.open_path.COpenPath.COpenPath, declared.path_counts.CPathCounts.CPathCounts, declared.reports.CReport.CReport}
 
 -- the same counts, each at its name, and how many records were refused
 pub record TellsReport (c : CReport) (r : Report) (n : ℕ) : Type 0 where

@@ -2,8 +2,8 @@
 
 ghost use Rattle.std.specs.Prelude.{◌≡◌};
 ghost use Rattle.dspec_cpu.specs.Standing.{identity, IsCallable};
-ghost use Rattle.dspec_c.specs.PathCalls.{key_told, BeginsOnCpu, BeginTold, DiscardsOnCpu, KeepsPartOnCpu, TurnsOnCpu, DiscardTold, IsKeyOf, KeepPartTold, LoseTold, TurnTold, began_status, end_number};
-ghost use Rattle.dspec_c.specs.PathCalls.{end_status, there_status, named, turned_number, turned_status};
+ghost use Rattle.dspec_c.specs.PathCalls.{key_told, BeginsOnCpu, BeginTold, DiscardsOnCpu, KeepsPartOnCpu, TurnsOnCpu, DiscardTold, IsKeyOf, KeepPartTold, LoseTold, TurnTold, began_status};
+ghost use Rattle.dspec_c.specs.PathCalls.{end_number, end_status, there_status, named, turned_number, turned_status};
 ghost use Rattle.dspec_paths.specs.{Counts.counted_begin, Counts.counted_discard, Counts.counted_end, Counts.counted_loss, Counts.counts_of, Counts.part_at, Open.places_of};
 
 use crate::out_cpu::OutCpu;

@@ -1,8 +1,9 @@
 //! The exports of a table of the open paths of a CPU. The table is in a handle of its own, beside the CPU's.
 
 ghost use Rattle.std.specs.Prelude.{◌≡◌, ◌⊎◌, true, false, ⊤};
-ghost use Rattle.dspec_c.specs.{CpuCalls.OnCpu, Handles.held_in, Handles.is_full, PathCalls.AdoptTold, PathCalls.BeginTold, PathCalls.CountsTold, PathCalls.DiscardTold, PathCalls.HoldsNoPaths, PathCalls.KeepPartTold, PathCalls.LoseTold};
-ghost use Rattle.dspec_c.specs.{PathCalls.OnTable, PathCalls.OnTableAlone, PathCalls.OpenOfTold, PathCalls.ToldOnCpu, PathCalls.ToldOnTable, PathCalls.TurnTold, PathCalls.named, PathCalls.whose_of};
+ghost use Rattle.dspec_c.specs.{CpuCalls.OnCpu, Handles.held_in, Handles.is_full, PathCalls.AdoptTold, PathCalls.BeginTold, PathCalls.CountsTold, PathCalls.DiscardTold, PathCalls.HoldsNoPaths};
+ghost use Rattle.dspec_c.specs.{PathCalls.KeepPartTold, PathCalls.LoseTold, PathCalls.OnTable, PathCalls.OnTableAlone, PathCalls.OpenOfTold, PathCalls.ToldOnCpu, PathCalls.ToldOnTable};
+ghost use Rattle.dspec_c.specs.{PathCalls.TurnTold, PathCalls.named, PathCalls.whose_of};
 
 use crate::boxed::Boxed;
 use crate::handle::{Handle, HandleContents, lent};

@@ -1,9 +1,9 @@
 -- Each call keeps the sum of the counts.
 use Rattle.std.proofs.Common.{◌≡◌, ◌+◌, ℕ, suc, Bool, true, false, Option, Some, None, refl, sym, ap, subst, ◌∙◌, ◌⊎◌, inl, inr, arith}
-use Rattle.dspec_paths.specs.Words.{AdoptsPath, BeginsBy, begun_with, CallsMade, Commits, CommitsNewest, CommitsPart, copied_by, DiscardsPath, GoesOnOrLost, IsUndecided, KeepsPart}
-use Rattle.dspec_paths.specs.Words.{KeepsPath, KeepsRest, loses_block, LosesPath, path_at, Places, TurnsBy, turned_to, without_path}
-use Rattle.dspec_paths.specs.Words.{counted_begin, counted_commit, counted_discard, counted_end, counted_loss, IsBalanced, IsSum, KeptCounted, KeptOne, open_in, ThrownCounted, times, with_begun}
-use Rattle.dspec_paths.specs.Words.{with_kept, with_lost, with_thrown_away, Busy, Decided, Id, Opening, Speculation, Unavailable}
+use Rattle.dspec_paths.specs.Words.{AdoptsPath, BeginsBy, begun_with, CallsMade, Commits, CommitsNewest, CommitsPart, copied_by, DiscardsPath, GoesOnOrLost, IsUndecided, KeepsPart, KeepsPath}
+use Rattle.dspec_paths.specs.Words.{KeepsRest, loses_block, LosesPath, path_at, Places, TurnsBy, turned_to, without_path, counted_begin, counted_commit, counted_discard, counted_end, counted_loss}
+use Rattle.dspec_paths.specs.Words.{IsBalanced, IsSum, KeptCounted, KeptOne, open_in, ThrownCounted, times, with_begun, with_kept, with_lost, with_thrown_away, Busy, Decided, Id, Opening}
+use Rattle.dspec_paths.specs.Words.{Speculation, Unavailable}
 use Rattle.dspec_paths.specs.declared.{open_path.OpenPath.OpenPath, path_counts.PathCounts.PathCounts, path_end.PathEnd.PathEnd, path_key.PathKey.PathKey}
 use Rattle.dspec_paths.specs.declared.path_end.PathEnd.TheVariants as path
 use Rattle.dspec_deeds.specs.declared.calls.Decided.TheVariants as decided

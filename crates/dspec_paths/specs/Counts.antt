@@ -1,7 +1,7 @@
 -- Cited by calls. How many paths began in a table, and what became of them.
 use Rattle.std.specs.Prelude.{ℕ, zero, suc, ◌≡◌, ◌+◌, ◌%◌, ◌^◌, ◌||◌, ◌⊎◌, Bool, true, false, [], ◌∷◌, Option, Some, None, is_some, if◌then◌else◌}
-use Rattle.dspec_paths.specs.{Table.Places, Table.path_at, Words.Outside.Decided, declared.open_path.OpenPath.OpenPath, declared.path_counts.PathCounts.PathCounts}
-use Rattle.dspec_paths.specs.{declared.path_end.PathEnd.PathEnd, declared.path_key.PathKey.PathKey, declared.paths.Paths.Paths}
+use Rattle.dspec_paths.specs.{Table.Places, Table.path_at, Words.Outside.Decided, declared.open_path.OpenPath.OpenPath, declared.path_counts.PathCounts.PathCounts, declared.path_end.PathEnd.PathEnd}
+use Rattle.dspec_paths.specs.{declared.path_key.PathKey.PathKey, declared.paths.Paths.Paths}
 use Rattle.dspec_deeds.specs.declared.calls.Decided.TheVariants as decided
 use Rattle.dspec_paths.specs.declared.path_end.PathEnd.TheVariants as path
 

@@ -1,8 +1,8 @@
 //! The laws of a table's counts, each a function without a body: those that began are those that are open, were kept, were thrown away or
 //! are lost, modulo 2^64.
 ghost use Rattle.std.specs.Prelude.{None, replicate};
-ghost use Rattle.dspec_paths.specs.Counts.{IsBalanced, KeptCounted, ThrownCounted, no_counts};
 ghost use Rattle.dspec_paths.specs.CountLaws.{AdoptingBalances, BeginningBalances, DiscardingBalances, KeepingBalances, KeepingPartBalances, LosingBalances, ManyBalance, TurningBalances};
+ghost use Rattle.dspec_paths.specs.Counts.{IsBalanced, KeptCounted, ThrownCounted, no_counts};
 
 use crate::speculation_calls::SpeculationCalls;
 

@@ -1,7 +1,7 @@
 ghost use Rattle.std.specs.Prelude.{◌≡◌, ◌<◌, true};
-ghost use Rattle.dspec_paths.specs.Counts.{counted_discard, counted_end, counted_loss, counts_of, part_at};
-ghost use Rattle.dspec_paths.specs.{Open.places_of, Table.CommitsNewest, Table.CommitsOlder, Table.CommitsOlderPart, Table.CommitsOrWaits, Table.copied_by, Table.DiscardsPath, Table.KeepsPart};
-ghost use Rattle.dspec_paths.specs.{Table.KeepsRest, Table.IsNamed, Table.KeepsPath, Table.loses_block, Table.LosesPath, Table.thrown_by};
+ghost use Rattle.dspec_paths.specs.{Counts.counted_discard, Counts.counted_end, Counts.counted_loss, Counts.counts_of, Counts.part_at, Open.places_of, Table.CommitsNewest, Table.CommitsOlder};
+ghost use Rattle.dspec_paths.specs.{Table.CommitsOlderPart, Table.CommitsOrWaits, Table.copied_by, Table.DiscardsPath, Table.KeepsPart, Table.KeepsRest, Table.IsNamed, Table.KeepsPath};
+ghost use Rattle.dspec_paths.specs.{Table.loses_block, Table.LosesPath, Table.thrown_by};
 
 use crate::open_path::OpenPath;
 use crate::path_end::PathEnd;

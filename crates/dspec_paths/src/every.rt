@@ -1,6 +1,6 @@
 ghost use Rattle.std.specs.Prelude.{◌≡◌, length};
-ghost use Rattle.dspec_paths.specs.Counts.{counts_of, KeptCounted, KeptOne, ThrownCounted};
-ghost use Rattle.dspec_paths.specs.{Every.DiscardsIfMeant, Every.EachOf, Every.KeepsIfMeant, Every.is_meant, Every.meant_path, Open.places_of};
+ghost use Rattle.dspec_paths.specs.{Counts.counts_of, Counts.KeptCounted, Counts.KeptOne, Counts.ThrownCounted, Every.DiscardsIfMeant, Every.EachOf, Every.KeepsIfMeant, Every.is_meant};
+ghost use Rattle.dspec_paths.specs.{Every.meant_path, Open.places_of};
 
 use crate::open_path::OpenPath;
 use crate::path_key::PathKey;

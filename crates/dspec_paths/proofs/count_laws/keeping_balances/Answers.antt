@@ -1,5 +1,4 @@
-use Rattle.dspec_paths.specs.Words.{part_at, Places}
-use Rattle.dspec_paths.specs.declared.path_key.PathKey.{PathKey}
+use Rattle.dspec_paths.specs.{Words.part_at, Words.Places, declared.path_key.PathKey.PathKey}
 use Rattle.dspec_paths.proofs.Balances.{keeps}
 use Rattle.dspec_paths.proofs.count_laws.keeping_balances.Goals as goal
 
