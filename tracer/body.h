@@ -79,7 +79,8 @@ struct lane {
     uint32_t opened; /* the number of the path that was opened last */
     body *tracer;
     dspec_paths paths;
-    uint64_t kept, thrown, cut, cut_records;
+    uint64_t kept, thrown, cut, cut_records; /* kept, thrown: until now, which others may look at at any time; the last word is the table's */
+    uint64_t saved; /* paths that the consumer has kept, for a crash or because the stop keeps what is open */
     uint32_t handed; /* how many paths of the thread whose own it is others have ended since that looked */
     uint32_t left;   /* whether one is to be thrown away */
     dspec_report latest; /* at the last service, of the program's records */

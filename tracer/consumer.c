@@ -145,6 +145,7 @@ static uint32_t keep_paths(body *tracer, struct lane *lane, uint32_t token, uint
         leave_ended(lane, place, is_kept);
         kept += is_kept;
     }
+    lane->saved += kept;
     lane_empty(tracer, lane);
     return tracer->folder.first.records == missed ? kept : 0; /* what a write lost isn't told as kept */
 }
@@ -399,12 +400,15 @@ void tell_counts(const body *tracer, dspec_tracer_report *report) {
     else snprintf(report->why, sizeof report->why, "%s", report->code != 0 ? strerror(report->code) : dspec_status_text(folder->first.status));
 }
 
-/* A lane that the consumer has for good: whether its session ended. */
+/* A lane that the consumer has for good: whether its session ended. Its table has counted its paths; those that the stop throws away, and those that the consumer kept, are told apart. */
 static bool end_taken(body *tracer, struct lane *lane) {
+    dspec_path_counts before = { 0 }, counts = { 0 };
     path_throw_left(lane);
+    dspec_paths_counts(&lane->paths, &before);
     decide_rest(tracer, lane);
-    tracer->report.kept += lane->kept;
-    tracer->report.thrown += lane->thrown;
+    dspec_paths_counts(&lane->paths, &counts);
+    tracer->report.kept += counts.kept - lane->saved;
+    tracer->report.thrown += before.thrown_away;
     tracer->report.cut += lane->cut;
     tracer->report.cut_records += lane->cut_records;
     return lane_end(tracer, lane);

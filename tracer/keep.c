@@ -115,7 +115,7 @@ RARELY static dspec_status without_room(struct lane *lane, uint32_t place, uint6
     if (has == EMPTY_ROOM) return DSPEC_OK;
     if (has == WAITS_FOR_ROOM) return DSPEC_BUSY;
     dspec_cpu_report(&lane->front.cpu, &before);
-    dspec_paths_discard(&lane->paths, &lane->front.cpu, place, id);
+    dspec_paths_lose(&lane->paths, &lane->front.cpu, place, id);
     dspec_cpu_report(&lane->front.cpu, &after);
     count_lost(lane, &lane->open[place], after.discarded - before.discarded);
     return DSPEC_LOST;

@@ -24,6 +24,14 @@ typedef struct dspec_open_path {
     bool is_kept;    /* its older records were kept, and the others wait for room */
 } dspec_open_path;
 
+/* How many paths there were, each number modulo 2^64. */
+typedef struct dspec_path_counts {
+    uint64_t began;
+    uint64_t kept;        /* a part of theirs at least */
+    uint64_t thrown_away;
+    uint64_t lost;        /* they were to be kept, and nothing of theirs was */
+} dspec_path_counts;
+
 /* Fills an empty handle with a table without paths: DSPEC_OK, DSPEC_NO_MEMORY. dspec_drop lets it go. */
 dspec_status dspec_paths_new(dspec_paths *paths);
 
@@ -42,6 +50,12 @@ dspec_status dspec_paths_keep_part(dspec_paths *paths, dspec_cpu *cpu, uint32_t 
 
 /* Throws a path away: DSPEC_VOID where none of that name is open, or a part of it is kept. */
 dspec_status dspec_paths_discard(dspec_paths *paths, dspec_cpu *cpu, uint32_t place, uint64_t id);
+
+/* The same of a path that was to be kept, and for which the caller has no room: it is lost as a whole. */
+dspec_status dspec_paths_lose(dspec_paths *paths, dspec_cpu *cpu, uint32_t place, uint64_t id);
+
+/* How many paths began, and what became of those that are over: what began is what is open, was kept, was thrown away or is lost. */
+dspec_status dspec_paths_counts(dspec_paths *paths, dspec_path_counts *counts);
 
 /* A path is this thread's from now on: DSPEC_VOID where none of that name is open. */
 dspec_status dspec_paths_adopt(dspec_paths *paths, uint32_t place, uint64_t id, uint32_t thread);

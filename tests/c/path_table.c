@@ -65,6 +65,12 @@ static dspec_report report_of(lane *one) {
     return report;
 }
 
+static void counts_are(lane *one, uint64_t began, uint64_t kept, uint64_t thrown_away, uint64_t lost) {
+    dspec_path_counts is = { 77, 77, 77, 77 };
+    MUST(dspec_paths_counts(&one->paths, &is));
+    CHECK(is.began == began && is.kept == kept && is.thrown_away == thrown_away && is.lost == lost);
+}
+
 /* What is told of an open path, of its thread, of all, and of another thread. */
 static void told(void) {
     lane one;
@@ -147,6 +153,45 @@ static void lost_as_a_whole(void) {
     end(&one);
 }
 
+/* Of five paths one is kept, one thrown away, two are lost, of which the caller gives one up, and one is open. What finds no path, or waits, counts nothing. */
+static void counted(void) {
+    lane one;
+    start(&one, 5);
+    counts_are(&one, 0, 0, 0, 0);
+    const path kept = begins(&one, 1, 1, 0, 2), thrown = begins(&one, 2, 1, 0, 1), lost = begins(&one, 3, 1, 0, 3), given_up = begins(&one, 4, 1, 0, 1);
+    begins(&one, 5, 1, 0, 0);
+    ANSWERS(dspec_paths_begin(&one.paths, &one.cpu, 6, 1, 0, &(uint32_t){ 0 }, &(uint64_t){ 0 }), DSPEC_UNAVAILABLE);
+    counts_are(&one, 5, 0, 0, 0);
+    keeps(&one, &kept, false, DSPEC_OK, 2);
+    keeps(&one, &kept, false, DSPEC_VOID, 77);
+    counts_are(&one, 5, 1, 0, 0);
+    ANSWERS(dspec_paths_discard(&one.paths, &one.cpu, thrown.place, thrown.id), DSPEC_OK);
+    ANSWERS(dspec_paths_discard(&one.paths, &one.cpu, thrown.place, thrown.id), DSPEC_VOID);
+    traces(&one, 4);
+    keeps(&one, &lost, true, DSPEC_BUSY, 77);
+    counts_are(&one, 5, 1, 1, 0);
+    keeps(&one, &lost, false, DSPEC_LOST, 3);
+    ANSWERS(dspec_paths_lose(&one.paths, &one.cpu, given_up.place, given_up.id), DSPEC_OK);
+    ANSWERS(dspec_paths_lose(&one.paths, &one.cpu, given_up.place, given_up.id), DSPEC_VOID);
+    counts_are(&one, 5, 1, 1, 2);
+    CHECK(report_of(&one).accepted == 6 && report_of(&one).lost == 3 && report_of(&one).discarded == 2);
+    end(&one);
+}
+
+/* A path of which the older records came out is kept, also where its last ones have no room. */
+static void counted_in_part(void) {
+    lane one;
+    start(&one, 4);
+    path of = begins(&one, 1, 1, 0, 3);
+    turns(&one, &of, 2);
+    traces(&one, 4);
+    keeps(&one, &of, false, DSPEC_GOES_ON, 3);
+    counts_are(&one, 1, 0, 0, 0);
+    keeps(&one, &of, false, DSPEC_LOST, 2);
+    counts_are(&one, 1, 1, 0, 0);
+    end(&one);
+}
+
 /* As many paths begin as there are speculations, and one more where one has ended. */
 static void full(void) {
     lane one;
@@ -167,6 +212,7 @@ static void misused(void) {
     dspec_paths none = DSPEC_EMPTY;
     dspec_cpu empty = DSPEC_EMPTY;
     dspec_open_path is = { .cut = 77 };
+    dspec_path_counts counts = { .began = 77, .lost = 78 };
     uint32_t place = 77;
     uint64_t id = 77;
     start(&one, 3);
@@ -178,7 +224,11 @@ static void misused(void) {
     ANSWERS(dspec_paths_turn(&one.paths, &empty, of.place, of.id, &id), DSPEC_BAD_HANDLE);
     ANSWERS(dspec_paths_discard(&one.paths, &empty, of.place, of.id), DSPEC_BAD_HANDLE);
     ANSWERS(dspec_paths_discard((dspec_paths *)(void *)&one.consumer, &one.cpu, of.place, of.id), DSPEC_BAD_HANDLE);
+    ANSWERS(dspec_paths_lose(&one.paths, &empty, of.place, of.id), DSPEC_BAD_HANDLE);
+    ANSWERS(dspec_paths_lose(&none, &one.cpu, of.place, of.id), DSPEC_BAD_HANDLE);
     ANSWERS(dspec_paths_adopt(&none, of.place, of.id, 1), DSPEC_BAD_HANDLE);
+    ANSWERS(dspec_paths_counts(&none, &counts), DSPEC_BAD_HANDLE);
+    CHECK(counts.began == 77 && counts.lost == 78);
     ANSWERS(dspec_paths_open_of(&none, of.place, 0, &is), DSPEC_BAD_HANDLE);
     CHECK(is.cut == 77);
     keeps(&one, &of, false, DSPEC_OK, 1);
@@ -191,6 +241,8 @@ int main(void) {
     without_room();
     last_records();
     lost_as_a_whole();
+    counted();
+    counted_in_part();
     full();
     misused();
     return check_end();

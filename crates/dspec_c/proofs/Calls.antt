@@ -2,7 +2,7 @@
 use Rattle.std.proofs.Common.{◌≡◌, ℕ, Bool, true, false, refl, Option, Some, None, sym, subst, ap, ◌∙◌}
 use Rattle.std.specs.Prelude.{if◌then◌else◌, Result, Ok, Err, IfErr, IfNone, IfSome, MatchOption, MatchResult, OnErr, OnOk}
 use Rattle.dspec_c.specs.Words.{Batch, EnabledRows, FoundNone, GaveBack, IsNotTakenBack, Took, Consuming, OnConsumer, OnTheirs, Theirs, OnCpu, OnSide, one_refused, CpuSide, held_in, with_held}
-use Rattle.dspec_c.specs.Words.{identity, Cpu, Shared, OnTableAlone, places_of, Places, Paths, OnTable}
+use Rattle.dspec_c.specs.Words.{identity, Cpu, Shared, OnTableAlone, Paths, OnTable}
 use Rattle.dspec_c.specs.declared.{consumer_side.ConsumerSide.ConsumerSide, handle.Handle.Handle, held.HandleValue.HandleValue}
 use Rattle.dspec_c.specs.declared.held.HandleValue.TheVariants as held
 use Rattle.dspec_c.proofs.Options.{unless}
@@ -61,14 +61,14 @@ gave_so batch (Ok u) old was new e shared given back why = on_theirs (GaveBack b
 gave_so batch (Err b) old was new e shared given back why = (back, on_theirs (IsNotTakenBack batch) old was new e shared why)
 
 -- on the table that is there
-pub on_lent_table : (did : Places → Places → Type 0) (stays : Type 0) (h : Handle) (v : HandleValue) (status : ℕ) (table lent new : Paths) → v ≡ held_in h → v ≡ held.Paths table → lent ≡ table
-    → did (places_of lent) (places_of new) → OnTableAlone did stays (held_in h) status (held_in (with_held h (held.Paths new)))
+pub on_lent_table : (did : Paths → Paths → Type 0) (stays : Type 0) (h : Handle) (v : HandleValue) (status : ℕ) (table lent new : Paths) → v ≡ held_in h → v ≡ held.Paths table → lent ≡ table
+    → did lent new → OnTableAlone did stays (held_in h) status (held_in (with_held h (held.Paths new)))
 on_lent_table did stays h v status table lent new e f g done = lent_so (λ was now. OnTableAlone did stays was status now) h v (held.Paths table) (held.Paths new) e f refl
-    (new, refl, subst (λ (t : Paths). did (places_of t) (places_of new)) g done)
+    (new, refl, subst (λ (t : Paths). did t new) g done)
 
 -- and by that on what another handle holds
-pub on_lent_both : (did : Places → Places → CpuSide → CpuSide → Type 0) (stays : Type 0) (h : Handle) (v cpu side : HandleValue) (status : ℕ) (table lent new : Paths) → v ≡ held_in h
-    → v ≡ held.Paths table → lent ≡ table → OnCpu (did (places_of lent) (places_of new)) ((new ≡ lent) × stays) cpu status side
+pub on_lent_both : (did : Paths → Paths → CpuSide → CpuSide → Type 0) (stays : Type 0) (h : Handle) (v cpu side : HandleValue) (status : ℕ) (table lent new : Paths) → v ≡ held_in h
+    → v ≡ held.Paths table → lent ≡ table → OnCpu (did lent new) ((new ≡ lent) × stays) cpu status side
     → OnTable did stays (held_in h) cpu status (held_in (with_held h (held.Paths new))) side
 on_lent_both did stays h v cpu side status table lent new e f g done = lent_so (λ was now. OnTable did stays was cpu status now side) h v (held.Paths table) (held.Paths new) e f refl
-    (new, refl, subst (λ (t : Paths). OnCpu (did (places_of t) (places_of new)) ((new ≡ t) × stays) cpu status side) g done)
+    (new, refl, subst (λ (t : Paths). OnCpu (did t new) ((new ≡ t) × stays) cpu status side) g done)

@@ -1,8 +1,9 @@
--- Cited by calls. What C reads of reports, batches, open paths and parked blocks.
+-- Cited by calls. What C reads of reports, batches, open paths and their counts, and parked blocks.
 use Rattle.std.specs.Prelude.{ℕ, ◌≡◌, length}
 use Rattle.dspec_c.specs.Statuses.{id_or_zero}
-use Rattle.dspec_c.specs.Words.Outside.{id_number, Report, Batch, OpenPath, ParkedBlock, ParkingCounts, PassedPlaces}
-use Rattle.dspec_c.specs.declared.{batches.CBatch.CBatch, open_path.COpenPath.COpenPath, parked.CParked.CParked, parked.CParkedCounts.CParkedCounts, parked.CPassed.CPassed, reports.CReport.CReport}
+use Rattle.dspec_c.specs.Words.Outside.{id_number, Report, Batch, OpenPath, PathCounts, ParkedBlock, ParkingCounts, PassedPlaces}
+use Rattle.dspec_c.specs.declared.{batches.CBatch.CBatch, open_path.COpenPath.COpenPath, parked.CParked.CParked, parked.CParkedCounts.CParkedCounts, parked.CPassed.CPassed, path_counts.CPathCounts.CPathCounts}
+use Rattle.dspec_c.specs.declared.{reports.CReport.CReport}
 
 -- the same counts, each at its name, and how many records were refused
 pub record TellsReport (c : CReport) (r : Report) (n : ℕ) : Type 0 where
@@ -36,6 +37,13 @@ pub record TellsOpenPath (c : COpenPath) (p : OpenPath) : Type 0 where
   pub thread : c.thread ≡ p.thread
   pub cut : c.cut ≡ p.cut
   pub is_kept : c.is_kept ≡ p.is_kept
+
+-- the counts of a table, field by field
+pub record TellsPathCounts (c : CPathCounts) (p : PathCounts) : Type 0 where
+  pub began : c.began ≡ p.began
+  pub kept : c.kept ≡ p.kept
+  pub thrown_away : c.thrown_away ≡ p.thrown_away
+  pub lost : c.lost ≡ p.lost
 
 -- a parked block, what a ring's tail passed, and what became of the blocks
 abbrev pub told_block : ParkedBlock → CParked

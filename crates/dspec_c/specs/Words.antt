@@ -9,7 +9,7 @@ pub use Rattle.dspec_c.specs.CpuCalls.{OnCpu, one_refused, OnSide, put_record, P
 pub use Rattle.dspec_c.specs.Handles.{held_in, is_full}
 pub use Rattle.dspec_c.specs.Homes.{AtHome, Came, cpu_side_of, CpuSide, CpuStay, HasGone, IsAtHomeOf, IsDesk, IsOut, IsPlaceWith, IsSameAsAll, IsSameSide, IsUnused, LeavesPlace, Stay}
 pub use Rattle.dspec_c.specs.Lending.{with_held, with_inside}
-pub use Rattle.dspec_c.specs.PathCalls.{AdoptTold, BeginsOnCpu, BeginTold, DiscardTold, KeepPartTold, named, OnTable, OnTableAlone, OpenOfTold, TurnsOnCpu, TurnTold}
+pub use Rattle.dspec_c.specs.PathCalls.{AdoptTold, BeginsOnCpu, BeginTold, CountsTold, DiscardTold, KeepPartTold, LoseTold, named, OnTable, OnTableAlone, OpenOfTold, TurnsOnCpu, TurnTold}
 pub use Rattle.dspec_c.specs.Seals.{seal_owns}
 pub use Rattle.dspec_c.specs.SessionCalls.{consumer_due, ConsumerOfAnswers, cpu_due, CpuOfAnswers, EndsSo, FinishAnswers, GivesConsumer, GivesCpu, HandsOut, HandsOutCpu, HomeAnswers, is_cpu_in}
 pub use Rattle.dspec_c.specs.SessionCalls.{KeptSo, LooksHome, StartsSo}

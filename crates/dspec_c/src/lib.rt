@@ -11,7 +11,7 @@
 //! | `statuses.rt`, `configs.rt`, `reports.rt`, `batches.rt` | what crosses |
 //! | `schema_calls.rt`, `session_calls.rt`, `cpu_calls.rt`, `put_calls.rt`, `consumer_calls.rt`, `home_calls.rt`, `rest_calls.rt` | the exports |
 //! | `ctf_calls.rt`, `ctf_statuses.rt` | the exports of a trace that C writes, and what they answer (`specs/CtfCalls`, `specs/CtfStatuses`) |
-//! | `path_calls.rt`, `out_paths.rt`, `open_path.rt` | the exports of a table of a CPU's open paths, the CPU's calls on it, and what C reads of a path (`specs/PathCalls`) |
+//! | `path_calls.rt`, `out_paths.rt`, `open_path.rt`, `path_counts.rt` | the exports of a table of a CPU's open paths, the CPU's calls on it, and what C reads of a path and of the counts (`specs/PathCalls`) |
 //! | `parking_calls.rt`, `parked.rt` | the exports of a ring of parked blocks, and what C reads of them (`specs/ParkingCalls`) |
 //! | `word_counts.rt` | how many words an export takes, as a type |
 //! | `specs/`: Homes, Statuses, Shows, Handles, Lending | that a call leaves the same CPU of the same session; which number an answer is, and what goes out; what C reads, field by field; which handles are full, and of what; what lending keeps |
@@ -50,6 +50,7 @@ mod parked;
 mod parking_calls;
 mod parts;
 mod path_calls;
+mod path_counts;
 mod places;
 mod put_calls;
 mod reports;
@@ -66,4 +67,5 @@ pub use configs::CConfig;
 pub use handle::Handle;
 pub use open_path::COpenPath;
 pub use parked::{CParked, CParkedCounts, CPassed};
+pub use path_counts::CPathCounts;
 pub use reports::CReport;

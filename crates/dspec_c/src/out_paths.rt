@@ -2,9 +2,9 @@
 
 ghost use Rattle.std.specs.Prelude.{◌≡◌};
 ghost use Rattle.dspec_cpu.specs.Standing.{identity, IsCallable};
-ghost use Rattle.dspec_c.specs.PathCalls.{key_told, BeginsOnCpu, BeginTold, DiscardsOnCpu, KeepsPartOnCpu, TurnsOnCpu, DiscardTold, IsKeyOf, KeepPartTold, TurnTold, began_status, end_number};
-ghost use Rattle.dspec_c.specs.PathCalls.{end_status, there_status, named, turned_number, turned_status};
-ghost use Rattle.dspec_paths.specs.Open.{places_of};
+ghost use Rattle.dspec_c.specs.PathCalls.{key_told, BeginsOnCpu, BeginTold, DiscardsOnCpu, KeepsPartOnCpu, TurnsOnCpu, DiscardTold, IsKeyOf, KeepPartTold, LoseTold, TurnTold, began_status};
+ghost use Rattle.dspec_c.specs.PathCalls.{end_number, end_status, there_status, named, turned_number, turned_status};
+ghost use Rattle.dspec_paths.specs.{Counts.counted_begin, Counts.counted_discard, Counts.counted_end, Counts.counted_loss, Counts.counts_of, Counts.part_at, Open.places_of};
 
 use crate::out_cpu::OutCpu;
 use crate::statuses::{BUSY, GOES_ON, OK, PATH_LOST, UNAVAILABLE, VOID, of_decided};
@@ -93,6 +93,7 @@ fn begin_on(
     requires { IsCallable shared.now cpu.old }
     ensures same { identity cpu.new ≡ identity cpu.old }
     ensures begins { BeginsOnCpu number thread stamp result (places_of table.old) (places_of table.new) cpu.old cpu.new }
+    ensures counted { counts_of table.new ≡ counted_begin result (counts_of table.old) }
 {
     let mut lent = LentCpu::of(shared, cpu);
     table.begin(&mut lent, number, thread, stamp)
@@ -108,6 +109,7 @@ fn turn_on(
     requires { IsCallable shared.now cpu.old }
     ensures same { identity cpu.new ≡ identity cpu.old }
     ensures turns { TurnsOnCpu key.now result (places_of table.old) (places_of table.new) cpu.old cpu.new }
+    ensures counted { counts_of table.new ≡ counts_of table.old }
 {
     let mut lent = LentCpu::of(shared, cpu);
     table.turn(&mut lent, key)
@@ -124,6 +126,7 @@ fn keep_part_on(
     requires { IsCallable shared.now cpu.old }
     ensures same { identity cpu.new ≡ identity cpu.old }
     ensures keeps { KeepsPartOnCpu waits key.now result (places_of table.old) (places_of table.new) cpu.old cpu.new }
+    ensures counted { counts_of table.new ≡ counted_end (part_at key.now.place (places_of table.old)) result (counts_of table.old) }
 {
     let mut lent = LentCpu::of(shared, cpu);
     table.keep_part(&mut lent, key, waits)
@@ -134,9 +137,21 @@ fn discard_on(cpu: &mut Cpu<Enablings>, shared: &Shared, table: &mut Paths, key:
     requires { IsCallable shared.now cpu.old }
     ensures same { identity cpu.new ≡ identity cpu.old }
     ensures discards { DiscardsOnCpu key.now result (places_of table.old) (places_of table.new) cpu.old cpu.new }
+    ensures counted { counts_of table.new ≡ counted_discard result (counts_of table.old) }
 {
     let mut lent = LentCpu::of(shared, cpu);
     table.discard(&mut lent, key)
+}
+
+#[inline(always)]
+fn lose_on(cpu: &mut Cpu<Enablings>, shared: &Shared, table: &mut Paths, key: &PathKey) -> bool
+    requires { IsCallable shared.now cpu.old }
+    ensures same { identity cpu.new ≡ identity cpu.old }
+    ensures discards { DiscardsOnCpu key.now result (places_of table.old) (places_of table.new) cpu.old cpu.new }
+    ensures counted { counts_of table.new ≡ counted_loss result (counts_of table.old) }
+{
+    let mut lent = LentCpu::of(shared, cpu);
+    table.lose(&mut lent, key)
 }
 
 impl OutCpu {
@@ -150,7 +165,7 @@ impl OutCpu {
         place: &mut u32,
         id: &mut u64,
     ) -> u32
-        ensures { BeginTold number thread stamp result (named place.old id.old) (named place.new id.new) (places_of table.old) (places_of table.new) self.old self.new }
+        ensures { BeginTold number thread stamp result (named place.old id.old) (named place.new id.new) table.old table.new self.old self.new }
     {
         let begun = begin_on(&mut self.cpu, &self.shared, table, number, thread, stamp);
         of_begun(begun, place, id)
@@ -158,7 +173,7 @@ impl OutCpu {
 
     /// A path whose speculation is full goes on in a new one.
     pub fn turn_path(&mut self, table: &mut Paths, place: u32, id: u64, newest: &mut u64) -> u32
-        ensures { TurnTold place id result newest.old newest.new (places_of table.old) (places_of table.new) self.old self.new }
+        ensures { TurnTold place id result newest.old newest.new table.old table.new self.old self.new }
     {
         let turned = turn_on(&mut self.cpu, &self.shared, table, &key_of(place, id));
         of_turned(turned, newest)
@@ -173,7 +188,7 @@ impl OutCpu {
         waits: bool,
         count: &mut u32,
     ) -> u32
-        ensures { KeepPartTold place id waits result count.old count.new (places_of table.old) (places_of table.new) self.old self.new }
+        ensures { KeepPartTold place id waits result count.old count.new table.old table.new self.old self.new }
     {
         let key = key_of(place, id);
         of_end(
@@ -184,8 +199,14 @@ impl OutCpu {
 
     /// Throws a path away.
     pub fn discard_path(&mut self, table: &mut Paths, place: u32, id: u64) -> u32
-        ensures { DiscardTold place id result (places_of table.old) (places_of table.new) self.old self.new }
+        ensures { DiscardTold place id result table.old table.new self.old self.new }
     {
         of_there(discard_on(&mut self.cpu, &self.shared, table, &key_of(place, id)))
+    }
+    /// A path that was to be kept is lost as a whole.
+    pub fn lose_path(&mut self, table: &mut Paths, place: u32, id: u64) -> u32
+        ensures { LoseTold place id result table.old table.new self.old self.new }
+    {
+        of_there(lose_on(&mut self.cpu, &self.shared, table, &key_of(place, id)))
     }
 }

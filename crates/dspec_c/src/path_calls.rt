@@ -1,15 +1,16 @@
 //! The exports of a table of the open paths of a CPU. The table is in a handle of its own, beside the CPU's.
 
 ghost use Rattle.std.specs.Prelude.{◌≡◌, ◌⊎◌, true, false, ⊤};
-ghost use Rattle.dspec_c.specs.{CpuCalls.OnCpu, Handles.held_in, Handles.is_full, PathCalls.AdoptTold, PathCalls.BeginTold, PathCalls.DiscardTold, PathCalls.HoldsNoPaths, PathCalls.KeepPartTold};
-ghost use Rattle.dspec_c.specs.{PathCalls.OnTable, PathCalls.OnTableAlone, PathCalls.OpenOfTold, PathCalls.ToldOnCpu, PathCalls.ToldOnTable, PathCalls.TurnTold, PathCalls.named, PathCalls.whose_of};
-ghost use Rattle.dspec_paths.specs.Open.{places_of};
+ghost use Rattle.dspec_c.specs.{CpuCalls.OnCpu, Handles.held_in, Handles.is_full, PathCalls.AdoptTold, PathCalls.BeginTold, PathCalls.CountsTold, PathCalls.DiscardTold, PathCalls.HoldsNoPaths};
+ghost use Rattle.dspec_c.specs.{PathCalls.KeepPartTold, PathCalls.LoseTold, PathCalls.OnTable, PathCalls.OnTableAlone, PathCalls.OpenOfTold, PathCalls.ToldOnCpu, PathCalls.ToldOnTable};
+ghost use Rattle.dspec_c.specs.{PathCalls.TurnTold, PathCalls.named, PathCalls.whose_of};
 
 use crate::boxed::Boxed;
 use crate::handle::{Handle, HandleContents, lent};
 use crate::held::HandleValue;
 use crate::open_path::COpenPath;
 use crate::out_paths::{key_of, of_there};
+use crate::path_counts::CPathCounts;
 use crate::statuses::{BAD_HANDLE, FULL_HANDLE, NO_MEMORY, OK, VOID};
 use dspec_paths::{Paths, WhosePaths};
 use std::alloc::Global;
@@ -129,7 +130,7 @@ pub extern "C" fn dspec_paths_keep_part(
 
 #[inline(always)]
 fn discard_on(table: &mut Paths, cpu: &mut Handle, place: u32, id: u64) -> u32
-    ensures answers { OnCpu (DiscardTold place id result (places_of table.old) (places_of table.new)) ((table.new ≡ table.old) × ⊤) (held_in cpu.old) result (held_in cpu.new) }
+    ensures answers { OnCpu (DiscardTold place id result table.old table.new) ((table.new ≡ table.old) × ⊤) (held_in cpu.old) result (held_in cpu.new) }
     ensures stays { is_full cpu.new ≡ is_full cpu.old }
 {
     lent!(cpu as Cpu(side), BAD_HANDLE => side.discard_path(table, place, id))
@@ -148,6 +149,24 @@ pub extern "C" fn dspec_paths_discard(
     ensures side { is_full cpu.new ≡ is_full cpu.old }
 {
     lent!(paths as Paths(table), BAD_HANDLE => discard_on(table.lend(), cpu, place, id))
+}
+
+#[inline(always)]
+fn lose_on(table: &mut Paths, cpu: &mut Handle, place: u32, id: u64) -> u32
+    ensures answers { OnCpu (LoseTold place id result table.old table.new) ((table.new ≡ table.old) × ⊤) (held_in cpu.old) result (held_in cpu.new) }
+    ensures stays { is_full cpu.new ≡ is_full cpu.old }
+{
+    lent!(cpu as Cpu(side), BAD_HANDLE => side.lose_path(table, place, id))
+}
+
+/// A path that was to be kept is lost as a whole.
+#[unsafe(no_mangle)]
+pub extern "C" fn dspec_paths_lose(paths: &mut Handle, cpu: &mut Handle, place: u32, id: u64) -> u32
+    ensures answers { OnTable (LoseTold place id result) ⊤ (held_in paths.old) (held_in cpu.old) result (held_in paths.new) (held_in cpu.new) }
+    ensures table { is_full paths.new ≡ is_full paths.old }
+    ensures side { is_full cpu.new ≡ is_full cpu.old }
+{
+    lent!(paths as Paths(table), BAD_HANDLE => lose_on(table.lend(), cpu, place, id))
 }
 
 /// A path is this thread's from now on.
@@ -171,7 +190,7 @@ fn whose_paths(thread: u32) -> WhosePaths
 
 // On a table.
 fn open_of(table: &Paths, place: u32, thread: u32, told: &mut COpenPath) -> u32
-    ensures { OpenOfTold place thread result told.old told.new (places_of table.now) (places_of table.now) }
+    ensures { OpenOfTold place thread result told.old told.new table.now table.now }
 {
     let Some(path) = table.open_of(place, whose_paths(thread)) else {
         return VOID;
@@ -192,4 +211,21 @@ pub extern "C" fn dspec_paths_open_of(
     ensures stays { is_full paths.new ≡ is_full paths.old }
 {
     lent!(paths as Paths(table), BAD_HANDLE => open_of(table.lend(), place, thread, told))
+}
+
+// Of a table.
+fn counts_to(table: &Paths, counts: &mut CPathCounts) -> u32
+    ensures { CountsTold result counts.new table.now table.now }
+{
+    *counts = CPathCounts::of(&table.counts());
+    OK
+}
+
+/// How many paths began, and what became of those that are over.
+#[unsafe(no_mangle)]
+pub extern "C" fn dspec_paths_counts(paths: &mut Handle, counts: &mut CPathCounts) -> u32
+    ensures answers { OnTableAlone (CountsTold result counts.new) (counts.new ≡ counts.old) (held_in paths.old) result (held_in paths.new) }
+    ensures stays { is_full paths.new ≡ is_full paths.old }
+{
+    lent!(paths as Paths(table), BAD_HANDLE => counts_to(table.lend(), counts))
 }

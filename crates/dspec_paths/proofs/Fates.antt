@@ -1,5 +1,5 @@
 -- What the page says of records.
-use Rattle.std.proofs.Common.{◌≡◌, ◌≢◌, ◌⊎◌, ℕ, suc, Bool, true, false, ◌||◌, if◌then◌else◌, List, [], ◌∷◌, length, map, Option, Some, refl, sym, subst, ◌∙◌, inl, inr, true≢false}
+use Rattle.std.proofs.Common.{◌≡◌, ◌≢◌, ℕ, suc, Bool, true, false, ◌||◌, if◌then◌else◌, List, [], ◌∷◌, length, map, Option, Some, refl, sym, subst, ◌∙◌, inl, inr, true≢false}
 use Rattle.std.specs.List.{AllByRecursion}
 use Rattle.dspec_deeds.proofs.TestLemmas.{either_way, id_is_itself, or_true}
 use Rattle.dspec_paths.specs.Words.{DecideFate, SpeculateFate, By, Did, traced, speculated, emptied, emptied_fate, handed, HandedRecord, once_emptied, some, speculated_fate, waits_for, taken}

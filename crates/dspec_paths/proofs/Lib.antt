@@ -1,8 +1,11 @@
 mod AtOnce
+mod Balances
+mod Counting
 mod Deciding
 mod Fates
 mod Keeping
 mod Moving
+mod OneByOne
 mod OneCpu
 mod Opening
 mod Turned

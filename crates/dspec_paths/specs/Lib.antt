@@ -1,3 +1,5 @@
+pub mod CountLaws
+pub mod Counts
 pub mod Every
 pub mod Laws
 pub mod Lent

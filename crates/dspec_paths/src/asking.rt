@@ -1,24 +1,28 @@
 ghost use Rattle.std.specs.Prelude.{◌≡◌, ◌<◌, IfNone, IfOk, IfSome, None, replicate, slice_set};
-ghost use Rattle.dspec_paths.specs.{Open.places_of, Table.AdoptsPath, Table.IsNamed, Table.IsUndecided, Table.NoneNamed, Table.NoneUndecided, Table.path_at};
+ghost use Rattle.dspec_paths.specs.{Counts.counts_of, Counts.no_counts, Open.places_of, Table.AdoptsPath, Table.IsNamed, Table.IsUndecided, Table.NoneNamed, Table.NoneUndecided, Table.path_at};
 
 use crate::open_path::OpenPath;
+use crate::path_counts::PathCounts;
 use crate::path_key::PathKey;
 use crate::paths::{MAX_PATHS, Paths};
 use std::alloc::{AllocError, Global};
 
 impl Paths {
-    /// No path is open.
+    /// No path is open, and none has begun.
     pub fn new() -> Paths
-        ensures { places_of result ≡ replicate 64 None }
+        ensures none { places_of result ≡ replicate 64 None }
+        ensures counted { counts_of result ≡ no_counts }
     {
         Paths {
             places: [None; MAX_PATHS],
+            counts: PathCounts::none(),
         }
     }
 
     /// The same in a box, which takes all the memory that a table ever takes.
     pub fn boxed(alloc: Global) -> Result<Box<Paths>, AllocError>
-        ensures { IfOk result (λ b. places_of b.value ≡ replicate 64 None) }
+        ensures none { IfOk result (λ b. places_of b.value ≡ replicate 64 None) }
+        ensures counted { IfOk result (λ b. counts_of b.value ≡ no_counts) }
     {
         let Ok(made) = Box::new(alloc, Paths::new()) else {
             return Err(AllocError);
@@ -63,18 +67,28 @@ impl Paths {
         Some(path)
     }
 
+    /// How many paths began, and what became of those that are over.
+    #[inline]
+    pub fn counts(&self) -> PathCounts
+        ensures { result ≡ counts_of self.now }
+    {
+        self.counts
+    }
+
     /// Has a path, or none, at a place.
     #[inline]
     pub(crate) fn put(&mut self, place: u32, path: Option<OpenPath>)
         requires { place < 64 }
-        ensures { places_of self.new ≡ slice_set (places_of self.old) place path }
+        ensures put { places_of self.new ≡ slice_set (places_of self.old) place path }
+        ensures counted { counts_of self.new ≡ counts_of self.old }
     {
         self.places[place as usize] = path;
     }
 
     /// A path is this thread's from now on: whether one of this name is open.
     pub fn adopt(&mut self, key: &PathKey, thread: u32) -> bool
-        ensures { AdoptsPath key.now thread result (places_of self.old) (places_of self.new) }
+        ensures adopts { AdoptsPath key.now thread result (places_of self.old) (places_of self.new) }
+        ensures counted { counts_of self.new ≡ counts_of self.old }
     {
         let Some(path) = self.named(key) else {
             return false;

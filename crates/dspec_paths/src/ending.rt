@@ -1,6 +1,7 @@
-ghost use Rattle.std.specs.Prelude.{◌≡◌, ◌<◌};
-ghost use Rattle.dspec_paths.specs.{Open.places_of, Table.CommitsNewest, Table.CommitsOlder, Table.CommitsOlderPart, Table.CommitsOrWaits, Table.copied_by, Table.DiscardsPath, Table.KeepsPart};
-ghost use Rattle.dspec_paths.specs.{Table.KeepsRest, Table.IsNamed, Table.KeepsPath, Table.loses_block, Table.LosesPath, Table.thrown_by};
+ghost use Rattle.std.specs.Prelude.{◌≡◌, ◌<◌, true};
+ghost use Rattle.dspec_paths.specs.{Counts.counted_discard, Counts.counted_end, Counts.counted_loss, Counts.counts_of, Counts.part_at, Open.places_of, Table.CommitsNewest, Table.CommitsOlder};
+ghost use Rattle.dspec_paths.specs.{Table.CommitsOlderPart, Table.CommitsOrWaits, Table.copied_by, Table.DiscardsPath, Table.KeepsPart, Table.KeepsRest, Table.IsNamed, Table.KeepsPath};
+ghost use Rattle.dspec_paths.specs.{Table.loses_block, Table.LosesPath, Table.thrown_by};
 
 use crate::open_path::OpenPath;
 use crate::path_end::PathEnd;
@@ -56,6 +57,7 @@ impl Paths {
     pub fn keep<B: SpeculationCalls>(&mut self, cpu: &mut B, key: &PathKey, waits: bool) -> PathEnd
         ensures same { B.identity cpu.new ≡ B.identity cpu.old }
         ensures keeps { KeepsPath (B.lacks_room cpu.new) waits key.now result (B.made cpu.old) (B.made cpu.new) (places_of self.old) (places_of self.new) }
+        ensures counted { counts_of self.new ≡ counted_end (part_at key.now.place (places_of self.old)) result (counts_of self.old) }
     {
         let Some(path) = self.named(key) else {
             return PathEnd::Over;
@@ -78,6 +80,7 @@ impl Paths {
         requires { IsNamed key.now (places_of self.old) path.now }
         ensures same { B.identity cpu.new ≡ B.identity cpu.old }
         ensures keeps { CommitsOlder (B.lacks_room cpu.new) waits older key.now path.now result (B.made cpu.old) (B.made cpu.new) (places_of self.old) (places_of self.new) }
+        ensures counted { counts_of self.new ≡ counted_end true result (counts_of self.old) }
     {
         match commit_or_wait(cpu, older, waits) {
             None => PathEnd::Waits(0),
@@ -104,21 +107,29 @@ impl Paths {
         requires { key.now.place < 64 }
         ensures same { B.identity cpu.new ≡ B.identity cpu.old }
         ensures keeps { KeepsRest (B.lacks_room cpu.new) waits (loses_block answer) (copied_by answer) key.now path.now result (B.made cpu.old) (B.made cpu.new) (places_of self.old) (places_of self.new) }
+        ensures counted { counts_of self.new ≡ counted_end path.now.is_kept result (counts_of self.old) }
     {
         if is_lost_block(answer) {
-            return self.lose(cpu, key, path);
+            return self.lose_rest(cpu, key, path);
         }
         self.keep_newest(cpu, key, path, records_copied(answer), waits)
     }
 
     // It is lost as a whole, since its older records were.
-    fn lose<B: SpeculationCalls>(&mut self, cpu: &mut B, key: &PathKey, path: &OpenPath) -> PathEnd
+    fn lose_rest<B: SpeculationCalls>(
+        &mut self,
+        cpu: &mut B,
+        key: &PathKey,
+        path: &OpenPath,
+    ) -> PathEnd
         requires { key.now.place < 64 }
         ensures same { B.identity cpu.new ≡ B.identity cpu.old }
         ensures loses { LosesPath key.now path.now result (B.made cpu.old) (B.made cpu.new) (places_of self.old) (places_of self.new) }
+        ensures counted { counts_of self.new ≡ counted_end path.now.is_kept result (counts_of self.old) }
     {
         let gone = cpu.discard(path.newest);
         self.put(key.place, None);
+        self.counts.add_lost();
         PathEnd::Lost(records_thrown(gone))
     }
 
@@ -134,6 +145,7 @@ impl Paths {
         requires { key.now.place < 64 }
         ensures same { B.identity cpu.new ≡ B.identity cpu.old }
         ensures keeps { CommitsNewest (B.lacks_room cpu.new) waits before key.now path.now result (B.made cpu.old) (B.made cpu.new) (places_of self.old) (places_of self.new) }
+        ensures counted { counts_of self.new ≡ counted_end path.now.is_kept result (counts_of self.old) }
     {
         match commit_or_wait(cpu, path.newest, waits) {
             None => {
@@ -142,6 +154,7 @@ impl Paths {
             }
             Some(answer) => {
                 self.put(key.place, None);
+                self.counts.add_ended(path.is_kept, answer);
                 PathEnd::Ended(before, answer)
             }
         }
@@ -157,6 +170,7 @@ impl Paths {
     ) -> PathEnd
         ensures same { B.identity cpu.new ≡ B.identity cpu.old }
         ensures keeps { KeepsPart (B.lacks_room cpu.new) waits key.now result (B.made cpu.old) (B.made cpu.new) (places_of self.old) (places_of self.new) }
+        ensures counted { counts_of self.new ≡ counted_end (part_at key.now.place (places_of self.old)) result (counts_of self.old) }
     {
         let Some(path) = self.named(key) else {
             return PathEnd::Over;
@@ -179,6 +193,7 @@ impl Paths {
         requires { IsNamed key.now (places_of self.old) path.now }
         ensures same { B.identity cpu.new ≡ B.identity cpu.old }
         ensures keeps { CommitsOlderPart (B.lacks_room cpu.new) waits older key.now path.now result (B.made cpu.old) (B.made cpu.new) (places_of self.old) (places_of self.new) }
+        ensures counted { counts_of self.new ≡ counted_end true result (counts_of self.old) }
     {
         let Some(answer) = commit_or_wait(cpu, older, waits) else {
             return PathEnd::Waits(0);
@@ -189,7 +204,7 @@ impl Paths {
             ..*path
         };
         if is_lost_block(answer) {
-            return self.lose(cpu, key, &rest);
+            return self.lose_rest(cpu, key, &rest);
         }
         self.put(key.place, Some(rest));
         PathEnd::GoesOn(records_copied(answer))
@@ -199,6 +214,33 @@ impl Paths {
     pub fn discard<B: SpeculationCalls>(&mut self, cpu: &mut B, key: &PathKey) -> bool
         ensures same { B.identity cpu.new ≡ B.identity cpu.old }
         ensures discards { DiscardsPath key.now result (B.made cpu.old) (B.made cpu.new) (places_of self.old) (places_of self.new) }
+        ensures counted { counts_of self.new ≡ counted_discard result (counts_of self.old) }
+    {
+        let is_gone = self.empty(cpu, key);
+        if is_gone {
+            self.counts.add_thrown_away();
+        }
+        is_gone
+    }
+
+    /// The same of a path that was to be kept, and whose caller has no room for it: it is lost as a whole.
+    pub fn lose<B: SpeculationCalls>(&mut self, cpu: &mut B, key: &PathKey) -> bool
+        ensures same { B.identity cpu.new ≡ B.identity cpu.old }
+        ensures discards { DiscardsPath key.now result (B.made cpu.old) (B.made cpu.new) (places_of self.old) (places_of self.new) }
+        ensures counted { counts_of self.new ≡ counted_loss result (counts_of self.old) }
+    {
+        let is_gone = self.empty(cpu, key);
+        if is_gone {
+            self.counts.add_lost();
+        }
+        is_gone
+    }
+
+    // Its speculations are discarded, and its place is free.
+    fn empty<B: SpeculationCalls>(&mut self, cpu: &mut B, key: &PathKey) -> bool
+        ensures same { B.identity cpu.new ≡ B.identity cpu.old }
+        ensures discards { DiscardsPath key.now result (B.made cpu.old) (B.made cpu.new) (places_of self.old) (places_of self.new) }
+        ensures counted { counts_of self.new ≡ counts_of self.old }
     {
         let Some(path) = self.undecided(key) else {
             return false;
