@@ -1,9 +1,8 @@
 -- Cited by calls. What C reads of reports, batches, open paths and their counts, and parked blocks.
 use Rattle.std.specs.Prelude.{ℕ, ◌≡◌, length}
-use Rattle.dspec_c.specs.Statuses.{id_or_zero}
-use Rattle.dspec_c.specs.Words.Outside.{id_number, Report, Batch, OpenPath, PathCounts, ParkedBlock, ParkingCounts, PassedPlaces}
-use Rattle.dspec_c.specs.declared.{batches.CBatch.CBatch, open_path.COpenPath.COpenPath, parked.CParked.CParked, parked.CParkedCounts.CParkedCounts, parked.CPassed.CPassed, path_counts.CPathCounts.CPathCounts}
-use Rattle.dspec_c.specs.declared.{reports.CReport.CReport}
+use Rattle.dspec_c.specs.{Statuses.id_or_zero, Words.Outside.id_number, Words.Outside.Report, Words.Outside.Batch, Words.Outside.OpenPath, Words.Outside.PathCounts, Words.Outside.ParkedBlock}
+use Rattle.dspec_c.specs.{Words.Outside.ParkingCounts, Words.Outside.PassedPlaces, declared.batches.CBatch.CBatch, declared.open_path.COpenPath.COpenPath, declared.parked.CParked.CParked}
+use Rattle.dspec_c.specs.{declared.parked.CParkedCounts.CParkedCounts, declared.parked.CPassed.CPassed, declared.path_counts.CPathCounts.CPathCounts, declared.reports.CReport.CReport}
 
 -- the same counts, each at its name, and how many records were refused
 pub record TellsReport (c : CReport) (r : Report) (n : ℕ) : Type 0 where
