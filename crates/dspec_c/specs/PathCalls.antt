@@ -5,7 +5,7 @@ use Rattle.dspec_c.specs.{Shows.TellsPathCounts, Statuses.bad_handle, Statuses.d
 use Rattle.dspec_c.specs.{Words.Outside.OpensOne, Words.Outside.Cpu, Words.Outside.Speculation, Words.Outside.called, Words.Outside.meant_path, Words.Outside.places_of, Words.Outside.LacksRoom}
 use Rattle.dspec_c.specs.{Words.Outside.AdoptsPath, Words.Outside.BeginsPath, Words.Outside.DiscardsPath, Words.Outside.KeepsPart, Words.Outside.Places, Words.Outside.TurnsPath}
 use Rattle.dspec_c.specs.{Words.Outside.OpenPath, Words.Outside.PathCounts, Words.Outside.PathEnd, Words.Outside.PathKey, Words.Outside.Paths, Words.Outside.WhosePaths, Words.Outside.counted_begin}
-use Rattle.dspec_c.specs.{Words.Outside.counted_discard, Words.Outside.counted_end, Words.Outside.counted_loss, Words.Outside.counts_of, Words.Outside.no_counts, Words.Outside.part_at}
+use Rattle.dspec_c.specs.{Words.Outside.counted_discard, Words.Outside.counted_end, Words.Outside.counted_loss, Words.Outside.counted_in, Words.Outside.no_counts, Words.Outside.has_part_at}
 use Rattle.dspec_c.specs.{declared.held.HandleValue.HandleValue, declared.open_path.COpenPath.COpenPath, declared.path_counts.CPathCounts.CPathCounts}
 use Rattle.dspec_c.specs.declared.held.HandleValue.TheVariants as held
 use Rattle.dspec_paths.specs.declared.path_end.PathEnd.TheVariants as path
@@ -31,7 +31,7 @@ OnTableAlone did stays was status left = (status ≡ bad_handle) × (left ≡ wa
 
 -- a table in which no path has begun, and what a handle holds that has one
 abbrev pub IsEmptyTable : Paths → Type 0
-IsEmptyTable t = (places_of t ≡ replicate 64 None) × (counts_of t ≡ no_counts)
+IsEmptyTable t = (places_of t ≡ replicate 64 None) × (counted_in t ≡ no_counts)
 
 abbrev pub HoldsNoPaths : HandleValue → Type 0
 HoldsNoPaths v = (t : Paths) × (v ≡ held.Paths t) × IsEmptyTable t
@@ -112,11 +112,11 @@ pub record BeginTold (number thread stamp status : ℕ) (was now : ToldKey) (old
   pub numbered : status ≡ began_status answer
   pub tells : now ≡ key_told answer was
   pub done : OnSide false (BeginsOnCpu number thread stamp answer (places_of old) (places_of new)) left side
-  pub counted : counts_of new ≡ counted_begin answer (counts_of old)
+  pub counted : counted_in new ≡ counted_begin answer (counted_in old)
 
 pub record Turns (k : PathKey) (old new : Paths) (left side : CpuSide) (answer : Option Speculation) : Type 0 where
   pub done : OnSide false (TurnsOnCpu k answer (places_of old) (places_of new)) left side
-  pub counted : counts_of new ≡ counts_of old
+  pub counted : counted_in new ≡ counted_in old
 
 abbrev pub TurnTold : ℕ → ℕ → ℕ → ℕ → ℕ → Paths → Paths → CpuSide → CpuSide → Type 0
 TurnTold place number status before newest old new left side =
@@ -124,7 +124,7 @@ TurnTold place number status before newest old new left side =
 
 pub record KeepsAPart (waits : Bool) (k : PathKey) (old new : Paths) (left side : CpuSide) (answer : PathEnd) : Type 0 where
   pub done : OnSide false (KeepsPartOnCpu waits k answer (places_of old) (places_of new)) left side
-  pub counted : counts_of new ≡ counted_end (part_at k.place (places_of old)) answer (counts_of old)
+  pub counted : counted_in new ≡ counted_end (has_part_at k.place (places_of old)) answer (counted_in old)
 
 abbrev pub KeepPartTold : ℕ → ℕ → Bool → ℕ → ℕ → ℕ → Paths → Paths → CpuSide → CpuSide → Type 0
 KeepPartTold place number waits status before count old new left side =
@@ -133,7 +133,7 @@ KeepPartTold place number waits status before count old new left side =
 -- a path was thrown away, or lost as a whole, which is counted so
 pub record Empties (counted_so : Bool → PathCounts → PathCounts) (k : PathKey) (old new : Paths) (left side : CpuSide) (answer : Bool) : Type 0 where
   pub done : OnSide false (DiscardsOnCpu k answer (places_of old) (places_of new)) left side
-  pub counted : counts_of new ≡ counted_so answer (counts_of old)
+  pub counted : counted_in new ≡ counted_so answer (counted_in old)
 
 abbrev pub EmptyTold : (Bool → PathCounts → PathCounts) → ℕ → ℕ → ℕ → Paths → Paths → CpuSide → CpuSide → Type 0
 EmptyTold counted_so place number status old new left side = (k : PathKey) × IsKeyOf place number k × Answered there_status (Empties counted_so k old new left side) status
@@ -146,7 +146,7 @@ LoseTold place number status old new left side = EmptyTold (λ (a : Bool) (c : P
 
 pub record Adopts (k : PathKey) (thread : ℕ) (old new : Paths) (answer : Bool) : Type 0 where
   pub done : AdoptsPath k thread answer (places_of old) (places_of new)
-  pub counted : counts_of new ≡ counts_of old
+  pub counted : counted_in new ≡ counted_in old
 
 abbrev pub AdoptTold : ℕ → ℕ → ℕ → ℕ → Paths → Paths → Type 0
 AdoptTold place number thread status old new = (k : PathKey) × IsKeyOf place number k × Answered there_status (Adopts k thread old new) status
@@ -161,4 +161,4 @@ OpenOfTold place thread status was told old new =
 
 -- the table's counts are told
 abbrev pub CountsTold : ℕ → CPathCounts → Paths → Paths → Type 0
-CountsTold status told old new = (new ≡ old) × (status ≡ 0) × TellsPathCounts told (counts_of old)
+CountsTold status told old new = (new ≡ old) × (status ≡ 0) × TellsPathCounts told (counted_in old)

@@ -4,7 +4,7 @@ ghost use Rattle.std.specs.Prelude.{◌≡◌};
 ghost use Rattle.dspec_cpu.specs.Standing.{identity, IsCallable};
 ghost use Rattle.dspec_c.specs.PathCalls.{key_told, BeginsOnCpu, BeginTold, DiscardsOnCpu, KeepsPartOnCpu, TurnsOnCpu, DiscardTold, IsKeyOf, KeepPartTold, LoseTold, TurnTold, began_status};
 ghost use Rattle.dspec_c.specs.PathCalls.{end_number, end_status, there_status, named, turned_number, turned_status};
-ghost use Rattle.dspec_paths.specs.{Counts.counted_begin, Counts.counted_discard, Counts.counted_end, Counts.counted_loss, Counts.counts_of, Counts.part_at, Open.places_of};
+ghost use Rattle.dspec_paths.specs.{Counts.counted_begin, Counts.counted_discard, Counts.counted_end, Counts.counted_loss, Counts.counted_in, Counts.has_part_at, Open.places_of};
 
 use crate::out_cpu::OutCpu;
 use crate::statuses::{BUSY, GOES_ON, OK, PATH_LOST, UNAVAILABLE, VOID, of_decided};
@@ -93,7 +93,7 @@ fn begin_on(
     requires { IsCallable shared.now cpu.old }
     ensures same { identity cpu.new ≡ identity cpu.old }
     ensures begins { BeginsOnCpu number thread stamp result (places_of table.old) (places_of table.new) cpu.old cpu.new }
-    ensures counted { counts_of table.new ≡ counted_begin result (counts_of table.old) }
+    ensures counted { counted_in table.new ≡ counted_begin result (counted_in table.old) }
 {
     let mut lent = LentCpu::of(shared, cpu);
     table.begin(&mut lent, number, thread, stamp)
@@ -109,7 +109,7 @@ fn turn_on(
     requires { IsCallable shared.now cpu.old }
     ensures same { identity cpu.new ≡ identity cpu.old }
     ensures turns { TurnsOnCpu key.now result (places_of table.old) (places_of table.new) cpu.old cpu.new }
-    ensures counted { counts_of table.new ≡ counts_of table.old }
+    ensures counted { counted_in table.new ≡ counted_in table.old }
 {
     let mut lent = LentCpu::of(shared, cpu);
     table.turn(&mut lent, key)
@@ -126,7 +126,7 @@ fn keep_part_on(
     requires { IsCallable shared.now cpu.old }
     ensures same { identity cpu.new ≡ identity cpu.old }
     ensures keeps { KeepsPartOnCpu waits key.now result (places_of table.old) (places_of table.new) cpu.old cpu.new }
-    ensures counted { counts_of table.new ≡ counted_end (part_at key.now.place (places_of table.old)) result (counts_of table.old) }
+    ensures counted { counted_in table.new ≡ counted_end (has_part_at key.now.place (places_of table.old)) result (counted_in table.old) }
 {
     let mut lent = LentCpu::of(shared, cpu);
     table.keep_part(&mut lent, key, waits)
@@ -137,7 +137,7 @@ fn discard_on(cpu: &mut Cpu<Enablings>, shared: &Shared, table: &mut Paths, key:
     requires { IsCallable shared.now cpu.old }
     ensures same { identity cpu.new ≡ identity cpu.old }
     ensures discards { DiscardsOnCpu key.now result (places_of table.old) (places_of table.new) cpu.old cpu.new }
-    ensures counted { counts_of table.new ≡ counted_discard result (counts_of table.old) }
+    ensures counted { counted_in table.new ≡ counted_discard result (counted_in table.old) }
 {
     let mut lent = LentCpu::of(shared, cpu);
     table.discard(&mut lent, key)
@@ -148,7 +148,7 @@ fn lose_on(cpu: &mut Cpu<Enablings>, shared: &Shared, table: &mut Paths, key: &P
     requires { IsCallable shared.now cpu.old }
     ensures same { identity cpu.new ≡ identity cpu.old }
     ensures discards { DiscardsOnCpu key.now result (places_of table.old) (places_of table.new) cpu.old cpu.new }
-    ensures counted { counts_of table.new ≡ counted_loss result (counts_of table.old) }
+    ensures counted { counted_in table.new ≡ counted_loss result (counted_in table.old) }
 {
     let mut lent = LentCpu::of(shared, cpu);
     table.lose(&mut lent, key)

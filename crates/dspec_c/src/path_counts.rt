@@ -2,17 +2,17 @@ ghost use Rattle.dspec_c.specs.Shows.{TellsPathCounts};
 
 use dspec_paths::PathCounts;
 
-/// How many paths there were in a table, as C reads it: each number modulo 2^64.
+/// A table's counts of its paths, as C reads them.
 #[repr(C)]
 #[derive(Drop)]
 pub struct CPathCounts {
-    /// Those that began.
+    /// How many began.
     pub began: u64,
-    /// Those that were kept, a part of them at least.
+    /// How many were kept.
     pub kept: u64,
-    /// Those that were thrown away.
+    /// How many were thrown away.
     pub thrown_away: u64,
-    /// Those that were to be kept, and of which nothing was committed.
+    /// How many are lost.
     pub lost: u64,
 }
 

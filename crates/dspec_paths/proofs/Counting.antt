@@ -2,7 +2,7 @@
 use Rattle.std.proofs.Common.{◌≡◌, ◌+◌, ◌%◌, ◌^◌, ℕ, zero, suc, [], ◌∷◌, Option, Some, None, refl, sym, ap, subst, ◌∙◌, arith}
 use Rattle.std.proofs.Math.Nat.{add-mod-mod, mod-add-mod}
 use Rattle.std.specs.Prelude.{slice_get, slice_set}
-use Rattle.dspec_paths.specs.Words.{at_place, IsSum, open_in, path_at, Places, times, with_begun, with_kept, with_lost, with_thrown_away}
+use Rattle.dspec_paths.specs.Words.{at_place, IsSum, open_in, path_at, Places, counted_times, with_one_begun, with_one_kept, with_one_lost, with_one_thrown_away}
 use Rattle.dspec_paths.specs.declared.{open_path.OpenPath.OpenPath, path_counts.PathCounts.PathCounts}
 
 -- ---- how many are open
@@ -82,16 +82,16 @@ sum_of_lost m n k t l b is = raised m (n + k + t) l ∙ ap (λ s. s % m) (one_fe
 sum_of_begun : (m n k t l b : ℕ) → (n + k + t + l) % m ≡ b → (suc n + k + t + l) % m ≡ (b + 1) % m
 sum_of_begun m n k t l b is = ap (λ s. s % m) (one_more_open n k t l) ∙ sym (mod-add-mod (n + k + t + l) m 1) ∙ ap (λ s. (s + 1) % m) is
 
-pub sum_begun : (n : ℕ) (c : PathCounts) → IsSum n c → IsSum (suc n) (with_begun c)
+pub sum_begun : (n : ℕ) (c : PathCounts) → IsSum n c → IsSum (suc n) (with_one_begun c)
 sum_begun n c is = sum_of_begun (2 ^ 64) n c.kept c.thrown_away c.lost c.began is
 
-pub sum_kept : (n : ℕ) (c : PathCounts) → IsSum (suc n) c → IsSum n (with_kept c)
+pub sum_kept : (n : ℕ) (c : PathCounts) → IsSum (suc n) c → IsSum n (with_one_kept c)
 sum_kept n c is = sum_of_kept (2 ^ 64) n c.kept c.thrown_away c.lost c.began is
 
-pub sum_thrown : (n : ℕ) (c : PathCounts) → IsSum (suc n) c → IsSum n (with_thrown_away c)
+pub sum_thrown : (n : ℕ) (c : PathCounts) → IsSum (suc n) c → IsSum n (with_one_thrown_away c)
 sum_thrown n c is = sum_of_thrown (2 ^ 64) n c.kept c.thrown_away c.lost c.began is
 
-pub sum_lost : (n : ℕ) (c : PathCounts) → IsSum (suc n) c → IsSum n (with_lost c)
+pub sum_lost : (n : ℕ) (c : PathCounts) → IsSum (suc n) c → IsSum n (with_one_lost c)
 sum_lost n c is = sum_of_lost (2 ^ 64) n c.kept c.thrown_away c.lost c.began is
 
 -- ---- the sum after so many
@@ -105,14 +105,14 @@ none_before m = omega arith
 one_further : (n m : ℕ) → suc (n + m) ≡ suc n + m
 one_further n m = omega arith
 
-pub sum_after : (count : PathCounts → PathCounts) → ((m : ℕ) (c : PathCounts) → IsSum (suc m) c → IsSum m (count c)) → (n m : ℕ) (c : PathCounts) → IsSum (n + m) c → IsSum m (times n count c)
+pub sum_after : (count : PathCounts → PathCounts) → ((m : ℕ) (c : PathCounts) → IsSum (suc m) c → IsSum m (count c)) → (n m : ℕ) (c : PathCounts) → IsSum (n + m) c → IsSum m (counted_times n count c)
 sum_after count one zero m c is = subst (λ (s : ℕ). IsSum s c) (none_before m) is
-sum_after count one (suc n) m c is = one m (times n count c) (sum_after count one n (suc m) c (subst (λ (s : ℕ). IsSum s c) (sym (more_before n m)) is))
+sum_after count one (suc n) m c is = one m (counted_times n count c) (sum_after count one n (suc m) c (subst (λ (s : ℕ). IsSum s c) (sym (more_before n m)) is))
 
-pub times_times : (count : PathCounts → PathCounts) (n m : ℕ) (c : PathCounts) → times n count (times m count c) ≡ times (n + m) count c
-times_times count zero m c = ap (λ (s : ℕ). times s count c) (sym (none_before m))
-times_times count (suc n) m c = ap count (times_times count n m c) ∙ ap (λ (s : ℕ). times s count c) (one_further n m)
+pub times_times : (count : PathCounts → PathCounts) (n m : ℕ) (c : PathCounts) → counted_times n count (counted_times m count c) ≡ counted_times (n + m) count c
+times_times count zero m c = ap (λ (s : ℕ). counted_times s count c) (sym (none_before m))
+times_times count (suc n) m c = ap count (times_times count n m c) ∙ ap (λ (s : ℕ). counted_times s count c) (one_further n m)
 
-pub lost_between : (n : ℕ) (c : PathCounts) → with_lost (times n with_kept c) ≡ times n with_kept (with_lost c)
+pub lost_between : (n : ℕ) (c : PathCounts) → with_one_lost (counted_times n with_one_kept c) ≡ counted_times n with_one_kept (with_one_lost c)
 lost_between zero c = refl
-lost_between (suc n) c = ap with_kept (lost_between n c)
+lost_between (suc n) c = ap with_one_kept (lost_between n c)

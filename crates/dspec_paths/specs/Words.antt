@@ -1,8 +1,8 @@
 -- Serves proofs. The words of this crate for its proofs and for the crates above, in one place. Declares nothing.
 pub mod Outside
 unfoldable pub use Outside.*
-pub use Rattle.dspec_paths.specs.Counts.{counted_begin, counted_commit, counted_discard, counted_end, counted_loss, counts_of, IsBalanced, IsSum, KeptCounted, KeptOne, no_counts, open_in, part_at}
-pub use Rattle.dspec_paths.specs.Counts.{ThrownCounted, times, with_begun, with_kept, with_lost, with_thrown_away}
+pub use Rattle.dspec_paths.specs.Counts.{counted_begin, counted_commit, counted_discard, counted_end, counted_in, counted_loss, counted_times, CountsAddUp, has_part_at, IsSum, KeptCounted, KeptOne}
+pub use Rattle.dspec_paths.specs.Counts.{no_counts, open_in, ThrownCounted, with_one_begun, with_one_kept, with_one_lost, with_one_thrown_away}
 pub use Rattle.dspec_paths.specs.Every.{DiscardsIfMeant, EachOf, KeepsIfMeant, key_at, meant_path}
 pub use Rattle.dspec_paths.specs.Open.{places_of}
 pub use Rattle.dspec_paths.specs.PathPage.{Became, copies, DecidesItself, FateOf, GoesOnTo, GoesTo, going, HasFates, IsDecided, IsHere, IsNobodys, IsOver, keeping, KeepsPaths, kept, lost, no_paths}

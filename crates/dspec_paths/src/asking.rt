@@ -1,5 +1,5 @@
 ghost use Rattle.std.specs.Prelude.{◌≡◌, ◌<◌, IfNone, IfOk, IfSome, None, replicate, slice_set};
-ghost use Rattle.dspec_paths.specs.{Counts.counts_of, Counts.no_counts, Open.places_of, Table.AdoptsPath, Table.IsNamed, Table.IsUndecided, Table.NoneNamed, Table.NoneUndecided, Table.path_at};
+ghost use Rattle.dspec_paths.specs.{Counts.counted_in, Counts.no_counts, Open.places_of, Table.AdoptsPath, Table.IsNamed, Table.IsUndecided, Table.NoneNamed, Table.NoneUndecided, Table.path_at};
 
 use crate::open_path::OpenPath;
 use crate::path_counts::PathCounts;
@@ -11,7 +11,7 @@ impl Paths {
     /// No path is open, and none has begun.
     pub fn new() -> Paths
         ensures none { places_of result ≡ replicate 64 None }
-        ensures counted { counts_of result ≡ no_counts }
+        ensures counted { counted_in result ≡ no_counts }
     {
         Paths {
             places: [None; MAX_PATHS],
@@ -22,7 +22,7 @@ impl Paths {
     /// The same in a box, which takes all the memory that a table ever takes.
     pub fn boxed(alloc: Global) -> Result<Box<Paths>, AllocError>
         ensures none { IfOk result (λ b. places_of b.value ≡ replicate 64 None) }
-        ensures counted { IfOk result (λ b. counts_of b.value ≡ no_counts) }
+        ensures counted { IfOk result (λ b. counted_in b.value ≡ no_counts) }
     {
         let Ok(made) = Box::new(alloc, Paths::new()) else {
             return Err(AllocError);
@@ -70,7 +70,7 @@ impl Paths {
     /// How many paths began, and what became of those that are over.
     #[inline]
     pub fn counts(&self) -> PathCounts
-        ensures { result ≡ counts_of self.now }
+        ensures { result ≡ counted_in self.now }
     {
         self.counts
     }
@@ -80,7 +80,7 @@ impl Paths {
     pub(crate) fn put(&mut self, place: u32, path: Option<OpenPath>)
         requires { place < 64 }
         ensures put { places_of self.new ≡ slice_set (places_of self.old) place path }
-        ensures counted { counts_of self.new ≡ counts_of self.old }
+        ensures counted { counted_in self.new ≡ counted_in self.old }
     {
         self.places[place as usize] = path;
     }
@@ -88,7 +88,7 @@ impl Paths {
     /// A path is this thread's from now on: whether one of this name is open.
     pub fn adopt(&mut self, key: &PathKey, thread: u32) -> bool
         ensures adopts { AdoptsPath key.now thread result (places_of self.old) (places_of self.new) }
-        ensures counted { counts_of self.new ≡ counts_of self.old }
+        ensures counted { counted_in self.new ≡ counted_in self.old }
     {
         let Some(path) = self.named(key) else {
             return false;

@@ -1,5 +1,5 @@
 ghost use Rattle.std.specs.Prelude.{◌≡◌, IfNone, IfSome, None, slice_get, Some};
-ghost use Rattle.dspec_paths.specs.{Counts.counted_begin, Counts.counts_of, Open.places_of, Table.AllTaken, Table.BeginsPath, Table.BeginsIn};
+ghost use Rattle.dspec_paths.specs.{Counts.counted_begin, Counts.counted_in, Open.places_of, Table.AllTaken, Table.BeginsPath, Table.BeginsIn};
 
 use crate::open_path::OpenPath;
 use crate::path_key::PathKey;
@@ -41,7 +41,7 @@ impl Paths {
     ) -> Option<PathKey>
         ensures same { B.identity cpu.new ≡ B.identity cpu.old }
         ensures begins { BeginsPath B.made B.asked number thread stamp result cpu.old cpu.new (places_of self.old) (places_of self.new) }
-        ensures counted { counts_of self.new ≡ counted_begin result (counts_of self.old) }
+        ensures counted { counted_in self.new ≡ counted_begin result (counted_in self.old) }
     {
         match cpu.speculation() {
             Opening::Id(id) => self.begin_in(cpu, id, number, thread, stamp),
@@ -61,7 +61,7 @@ impl Paths {
         ensures same { B.identity cpu.new ≡ B.identity cpu.old }
         ensures alone { IfSome result (λ _. cpu.new ≡ cpu.old) }
         ensures begins { BeginsIn id number thread stamp result (B.made cpu.old) (B.made cpu.new) (places_of self.old) (places_of self.new) }
-        ensures counted { counts_of self.new ≡ counted_begin result (counts_of self.old) }
+        ensures counted { counted_in self.new ≡ counted_begin result (counted_in self.old) }
     {
         let Some(place) = self.place_for(id) else {
             cpu.discard(id);

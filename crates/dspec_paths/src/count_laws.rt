@@ -2,13 +2,13 @@
 //! are lost, modulo 2^64.
 ghost use Rattle.std.specs.Prelude.{None, replicate};
 ghost use Rattle.dspec_paths.specs.CountLaws.{AdoptingBalances, BeginningBalances, DiscardingBalances, KeepingBalances, KeepingPartBalances, LosingBalances, ManyBalance, TurningBalances};
-ghost use Rattle.dspec_paths.specs.Counts.{IsBalanced, KeptCounted, ThrownCounted, no_counts};
+ghost use Rattle.dspec_paths.specs.Counts.{CountsAddUp, KeptCounted, ThrownCounted, no_counts};
 
 use crate::speculation_calls::SpeculationCalls;
 
 /// So it is of a table in which no path has begun.
 pub fn no_path_balances()
-    ensures { IsBalanced (replicate 64 None) no_counts }
+    ensures { CountsAddUp (replicate 64 None) no_counts }
 {}
 
 /// A path that begins is counted, and is one more that is open.

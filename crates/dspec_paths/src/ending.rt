@@ -1,5 +1,5 @@
 ghost use Rattle.std.specs.Prelude.{◌≡◌, ◌<◌, true};
-ghost use Rattle.dspec_paths.specs.{Counts.counted_discard, Counts.counted_end, Counts.counted_loss, Counts.counts_of, Counts.part_at, Open.places_of, Table.CommitsNewest, Table.CommitsOlder};
+ghost use Rattle.dspec_paths.specs.{Counts.counted_discard, Counts.counted_end, Counts.counted_loss, Counts.counted_in, Counts.has_part_at, Open.places_of, Table.CommitsNewest, Table.CommitsOlder};
 ghost use Rattle.dspec_paths.specs.{Table.CommitsOlderPart, Table.CommitsOrWaits, Table.copied_by, Table.DiscardsPath, Table.KeepsPart, Table.KeepsRest, Table.IsNamed, Table.KeepsPath};
 ghost use Rattle.dspec_paths.specs.{Table.loses_block, Table.LosesPath, Table.thrown_by};
 
@@ -57,7 +57,7 @@ impl Paths {
     pub fn keep<B: SpeculationCalls>(&mut self, cpu: &mut B, key: &PathKey, waits: bool) -> PathEnd
         ensures same { B.identity cpu.new ≡ B.identity cpu.old }
         ensures keeps { KeepsPath (B.lacks_room cpu.new) waits key.now result (B.made cpu.old) (B.made cpu.new) (places_of self.old) (places_of self.new) }
-        ensures counted { counts_of self.new ≡ counted_end (part_at key.now.place (places_of self.old)) result (counts_of self.old) }
+        ensures counted { counted_in self.new ≡ counted_end (has_part_at key.now.place (places_of self.old)) result (counted_in self.old) }
     {
         let Some(path) = self.named(key) else {
             return PathEnd::Over;
@@ -80,7 +80,7 @@ impl Paths {
         requires { IsNamed key.now (places_of self.old) path.now }
         ensures same { B.identity cpu.new ≡ B.identity cpu.old }
         ensures keeps { CommitsOlder (B.lacks_room cpu.new) waits older key.now path.now result (B.made cpu.old) (B.made cpu.new) (places_of self.old) (places_of self.new) }
-        ensures counted { counts_of self.new ≡ counted_end true result (counts_of self.old) }
+        ensures counted { counted_in self.new ≡ counted_end true result (counted_in self.old) }
     {
         match commit_or_wait(cpu, older, waits) {
             None => PathEnd::Waits(0),
@@ -107,7 +107,7 @@ impl Paths {
         requires { key.now.place < 64 }
         ensures same { B.identity cpu.new ≡ B.identity cpu.old }
         ensures keeps { KeepsRest (B.lacks_room cpu.new) waits (loses_block answer) (copied_by answer) key.now path.now result (B.made cpu.old) (B.made cpu.new) (places_of self.old) (places_of self.new) }
-        ensures counted { counts_of self.new ≡ counted_end path.now.is_kept result (counts_of self.old) }
+        ensures counted { counted_in self.new ≡ counted_end path.now.is_kept result (counted_in self.old) }
     {
         if is_lost_block(answer) {
             return self.lose_rest(cpu, key, path);
@@ -125,7 +125,7 @@ impl Paths {
         requires { key.now.place < 64 }
         ensures same { B.identity cpu.new ≡ B.identity cpu.old }
         ensures loses { LosesPath key.now path.now result (B.made cpu.old) (B.made cpu.new) (places_of self.old) (places_of self.new) }
-        ensures counted { counts_of self.new ≡ counted_end path.now.is_kept result (counts_of self.old) }
+        ensures counted { counted_in self.new ≡ counted_end path.now.is_kept result (counted_in self.old) }
     {
         let gone = cpu.discard(path.newest);
         self.put(key.place, None);
@@ -145,7 +145,7 @@ impl Paths {
         requires { key.now.place < 64 }
         ensures same { B.identity cpu.new ≡ B.identity cpu.old }
         ensures keeps { CommitsNewest (B.lacks_room cpu.new) waits before key.now path.now result (B.made cpu.old) (B.made cpu.new) (places_of self.old) (places_of self.new) }
-        ensures counted { counts_of self.new ≡ counted_end path.now.is_kept result (counts_of self.old) }
+        ensures counted { counted_in self.new ≡ counted_end path.now.is_kept result (counted_in self.old) }
     {
         match commit_or_wait(cpu, path.newest, waits) {
             None => {
@@ -170,7 +170,7 @@ impl Paths {
     ) -> PathEnd
         ensures same { B.identity cpu.new ≡ B.identity cpu.old }
         ensures keeps { KeepsPart (B.lacks_room cpu.new) waits key.now result (B.made cpu.old) (B.made cpu.new) (places_of self.old) (places_of self.new) }
-        ensures counted { counts_of self.new ≡ counted_end (part_at key.now.place (places_of self.old)) result (counts_of self.old) }
+        ensures counted { counted_in self.new ≡ counted_end (has_part_at key.now.place (places_of self.old)) result (counted_in self.old) }
     {
         let Some(path) = self.named(key) else {
             return PathEnd::Over;
@@ -193,7 +193,7 @@ impl Paths {
         requires { IsNamed key.now (places_of self.old) path.now }
         ensures same { B.identity cpu.new ≡ B.identity cpu.old }
         ensures keeps { CommitsOlderPart (B.lacks_room cpu.new) waits older key.now path.now result (B.made cpu.old) (B.made cpu.new) (places_of self.old) (places_of self.new) }
-        ensures counted { counts_of self.new ≡ counted_end true result (counts_of self.old) }
+        ensures counted { counted_in self.new ≡ counted_end true result (counted_in self.old) }
     {
         let Some(answer) = commit_or_wait(cpu, older, waits) else {
             return PathEnd::Waits(0);
@@ -214,7 +214,7 @@ impl Paths {
     pub fn discard<B: SpeculationCalls>(&mut self, cpu: &mut B, key: &PathKey) -> bool
         ensures same { B.identity cpu.new ≡ B.identity cpu.old }
         ensures discards { DiscardsPath key.now result (B.made cpu.old) (B.made cpu.new) (places_of self.old) (places_of self.new) }
-        ensures counted { counts_of self.new ≡ counted_discard result (counts_of self.old) }
+        ensures counted { counted_in self.new ≡ counted_discard result (counted_in self.old) }
     {
         let is_gone = self.empty(cpu, key);
         if is_gone {
@@ -227,7 +227,7 @@ impl Paths {
     pub fn lose<B: SpeculationCalls>(&mut self, cpu: &mut B, key: &PathKey) -> bool
         ensures same { B.identity cpu.new ≡ B.identity cpu.old }
         ensures discards { DiscardsPath key.now result (B.made cpu.old) (B.made cpu.new) (places_of self.old) (places_of self.new) }
-        ensures counted { counts_of self.new ≡ counted_loss result (counts_of self.old) }
+        ensures counted { counted_in self.new ≡ counted_loss result (counted_in self.old) }
     {
         let is_gone = self.empty(cpu, key);
         if is_gone {
@@ -240,7 +240,7 @@ impl Paths {
     fn empty<B: SpeculationCalls>(&mut self, cpu: &mut B, key: &PathKey) -> bool
         ensures same { B.identity cpu.new ≡ B.identity cpu.old }
         ensures discards { DiscardsPath key.now result (B.made cpu.old) (B.made cpu.new) (places_of self.old) (places_of self.new) }
-        ensures counted { counts_of self.new ≡ counts_of self.old }
+        ensures counted { counted_in self.new ≡ counted_in self.old }
     {
         let Some(path) = self.undecided(key) else {
             return false;

@@ -1,5 +1,5 @@
 ghost use Rattle.std.specs.Prelude.{◌≡◌, length};
-ghost use Rattle.dspec_paths.specs.{Counts.counts_of, Counts.KeptCounted, Counts.KeptOne, Counts.ThrownCounted, Every.DiscardsIfMeant, Every.EachOf, Every.KeepsIfMeant, Every.is_meant};
+ghost use Rattle.dspec_paths.specs.{Counts.counted_in, Counts.KeptCounted, Counts.KeptOne, Counts.ThrownCounted, Every.DiscardsIfMeant, Every.EachOf, Every.KeepsIfMeant, Every.is_meant};
 ghost use Rattle.dspec_paths.specs.{Every.meant_path, Open.places_of};
 
 use crate::open_path::OpenPath;
@@ -35,7 +35,7 @@ impl Paths {
     fn keep_at<B: SpeculationCalls>(&mut self, cpu: &mut B, place: u32, whose: WhosePaths)
         ensures same { B.identity cpu.new ≡ B.identity cpu.old }
         ensures keeps { KeepsIfMeant whose place (B.made cpu.old) (B.made cpu.new) (places_of self.old) (places_of self.new) }
-        ensures counted { KeptOne (places_of self.old) (places_of self.new) (counts_of self.old) (counts_of self.new) }
+        ensures counted { KeptOne (places_of self.old) (places_of self.new) (counted_in self.old) (counted_in self.new) }
     {
         let Some(path) = self.open_at(place) else {
             return;
@@ -53,7 +53,7 @@ impl Paths {
     fn discard_at<B: SpeculationCalls>(&mut self, cpu: &mut B, place: u32, whose: WhosePaths)
         ensures same { B.identity cpu.new ≡ B.identity cpu.old }
         ensures discards { DiscardsIfMeant whose place (B.made cpu.old) (B.made cpu.new) (places_of self.old) (places_of self.new) }
-        ensures counted { ThrownCounted (places_of self.old) (places_of self.new) (counts_of self.old) (counts_of self.new) }
+        ensures counted { ThrownCounted (places_of self.old) (places_of self.new) (counted_in self.old) (counted_in self.new) }
     {
         let Some(path) = self.open_at(place) else {
             return;
@@ -71,7 +71,7 @@ impl Paths {
     pub fn discard_every<B: SpeculationCalls>(&mut self, cpu: &mut B, whose: WhosePaths)
         ensures same { B.identity cpu.new ≡ B.identity cpu.old }
         ensures discards { EachOf (DiscardsIfMeant whose) (length (places_of self.old)) (B.made cpu.old) (B.made cpu.new) (places_of self.old) (places_of self.new) }
-        ensures counted { ThrownCounted (places_of self.old) (places_of self.new) (counts_of self.old) (counts_of self.new) }
+        ensures counted { ThrownCounted (places_of self.old) (places_of self.new) (counted_in self.old) (counted_in self.new) }
     {
         for place in 0..self.places.len() {
             self.discard_at(cpu, place as u32, whose);
@@ -82,7 +82,7 @@ impl Paths {
     pub fn keep_every<B: SpeculationCalls>(&mut self, cpu: &mut B, whose: WhosePaths)
         ensures same { B.identity cpu.new ≡ B.identity cpu.old }
         ensures keeps { EachOf (KeepsIfMeant whose) (length (places_of self.old)) (B.made cpu.old) (B.made cpu.new) (places_of self.old) (places_of self.new) }
-        ensures counted { KeptCounted (places_of self.old) (places_of self.new) (counts_of self.old) (counts_of self.new) }
+        ensures counted { KeptCounted (places_of self.old) (places_of self.new) (counted_in self.old) (counted_in self.new) }
     {
         for place in 0..self.places.len() {
             self.keep_at(cpu, place as u32, whose);

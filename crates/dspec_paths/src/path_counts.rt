@@ -1,5 +1,5 @@
 ghost use Rattle.std.specs.Prelude.{◌≡◌};
-ghost use Rattle.dspec_paths.specs.Counts.{counted_commit, no_counts, with_begun, with_kept, with_lost, with_thrown_away};
+ghost use Rattle.dspec_paths.specs.Counts.{counted_commit, no_counts, with_one_begun, with_one_kept, with_one_lost, with_one_thrown_away};
 
 use dspec_deeds::Decided;
 
@@ -32,7 +32,7 @@ impl PathCounts {
     /// One more began.
     #[inline]
     pub(crate) fn add_begun(&mut self)
-        ensures { self.new ≡ with_begun self.old }
+        ensures { self.new ≡ with_one_begun self.old }
     {
         self.began = self.began.wrapping_add(1);
     }
@@ -40,7 +40,7 @@ impl PathCounts {
     /// One more was thrown away.
     #[inline]
     pub(crate) fn add_thrown_away(&mut self)
-        ensures { self.new ≡ with_thrown_away self.old }
+        ensures { self.new ≡ with_one_thrown_away self.old }
     {
         self.thrown_away = self.thrown_away.wrapping_add(1);
     }
@@ -48,7 +48,7 @@ impl PathCounts {
     /// One more is lost.
     #[inline]
     pub(crate) fn add_lost(&mut self)
-        ensures { self.new ≡ with_lost self.old }
+        ensures { self.new ≡ with_one_lost self.old }
     {
         self.lost = self.lost.wrapping_add(1);
     }
@@ -56,7 +56,7 @@ impl PathCounts {
     // One more was kept.
     #[inline]
     fn add_kept(&mut self)
-        ensures { self.new ≡ with_kept self.old }
+        ensures { self.new ≡ with_one_kept self.old }
     {
         self.kept = self.kept.wrapping_add(1);
     }

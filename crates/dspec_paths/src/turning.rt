@@ -1,5 +1,5 @@
 ghost use Rattle.std.specs.Prelude.{◌≡◌, ◌<◌};
-ghost use Rattle.dspec_paths.specs.{Counts.counts_of, Open.places_of, Table.DiscardsIfThere, Table.TurnsTo, Table.TurnsPath, Table.thrown};
+ghost use Rattle.dspec_paths.specs.{Counts.counted_in, Open.places_of, Table.DiscardsIfThere, Table.TurnsTo, Table.TurnsPath, Table.thrown};
 
 use crate::ending::records_thrown;
 use crate::open_path::OpenPath;
@@ -39,7 +39,7 @@ impl Paths {
     pub fn turn<B: SpeculationCalls>(&mut self, cpu: &mut B, key: &PathKey) -> Option<SpecId>
         ensures same { B.identity cpu.new ≡ B.identity cpu.old }
         ensures turns { TurnsPath B.made B.asked key.now result cpu.old cpu.new (places_of self.old) (places_of self.new) }
-        ensures counted { counts_of self.new ≡ counts_of self.old }
+        ensures counted { counted_in self.new ≡ counted_in self.old }
     {
         let path = self.undecided(key)?;
         match cpu.speculation() {
@@ -62,7 +62,7 @@ impl Paths {
         requires { key.now.place < 64 }
         ensures same { B.identity cpu.new ≡ B.identity cpu.old }
         ensures turns { TurnsTo key.now path.now id (B.made cpu.old) (B.made cpu.new) (places_of self.old) (places_of self.new) }
-        ensures counted { counts_of self.new ≡ counts_of self.old }
+        ensures counted { counted_in self.new ≡ counted_in self.old }
     {
         let gone = discard_if_there(cpu, path.older);
         let turned = OpenPath {

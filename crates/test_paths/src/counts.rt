@@ -12,29 +12,29 @@ fn each_end_counts_once(rt: HostRuntime) -> Result<(), Fail> {
     };
     let mut cpu = LentCpu::of(&shared, &mut cpu);
     let mut paths = Paths::new();
-    let one = paths.begin(&mut cpu, 1, 7, 0).expect(&rt, "a path");
-    let two = paths.begin(&mut cpu, 2, 7, 0).expect(&rt, "a path");
-    let three = paths.begin(&mut cpu, 3, 7, 0).expect(&rt, "a path");
-    let four = paths.begin(&mut cpu, 4, 7, 0).expect(&rt, "a path");
+    let kept = paths.begin(&mut cpu, 1, 7, 0).expect(&rt, "a path");
+    let thrown = paths.begin(&mut cpu, 2, 7, 0).expect(&rt, "a path");
+    let lost = paths.begin(&mut cpu, 3, 7, 0).expect(&rt, "a path");
+    let left = paths.begin(&mut cpu, 4, 7, 0).expect(&rt, "a path");
     same(&rt, paths.begin(&mut cpu, 5, 7, 0), None);
-    for path in [one, one, two, three, three] {
+    for path in [kept, kept, thrown, lost, lost] {
         same(&rt, cpu.offer(path.newest, 1, 0, &[1]), Some(Spoken::Kept));
     }
     same(
         &rt,
-        paths.keep(&mut cpu, &one, false),
+        paths.keep(&mut cpu, &kept, false),
         PathEnd::Ended(0, Decided::Copied(2)),
     );
-    same(&rt, paths.keep(&mut cpu, &one, false), PathEnd::Over);
-    same(&rt, paths.discard(&mut cpu, &two), true);
-    same(&rt, paths.discard(&mut cpu, &two), false);
-    same(&rt, paths.keep(&mut cpu, &three, true), PathEnd::Waits(0));
+    same(&rt, paths.keep(&mut cpu, &kept, false), PathEnd::Over);
+    same(&rt, paths.discard(&mut cpu, &thrown), true);
+    same(&rt, paths.discard(&mut cpu, &thrown), false);
+    same(&rt, paths.keep(&mut cpu, &lost, true), PathEnd::Waits(0));
     same(
         &rt,
-        paths.keep(&mut cpu, &three, false),
+        paths.keep(&mut cpu, &lost, false),
         PathEnd::Ended(0, Decided::Lost(2)),
     );
-    same(&rt, paths.adopt(&four, 8), true);
+    same(&rt, paths.adopt(&left, 8), true);
     let counts = PathCounts {
         began: 4,
         kept: 1,
@@ -53,21 +53,21 @@ fn kept_in_part(rt: HostRuntime) -> Result<(), Fail> {
     };
     let mut cpu = LentCpu::of(&shared, &mut cpu);
     let mut paths = Paths::new();
-    let first = paths.begin(&mut cpu, 1, 7, 0).expect(&rt, "a path");
-    same(&rt, cpu.offer(first.newest, 1, 0, &[1]), Some(Spoken::Kept));
-    same(&rt, cpu.offer(first.newest, 1, 0, &[2]), Some(Spoken::Kept));
-    let newest = paths.turn(&mut cpu, &first).expect(&rt, "a speculation");
-    let second = PathKey { newest, ..first };
+    let old = paths.begin(&mut cpu, 1, 7, 0).expect(&rt, "a path");
+    same(&rt, cpu.offer(old.newest, 1, 0, &[1]), Some(Spoken::Kept));
+    same(&rt, cpu.offer(old.newest, 1, 0, &[2]), Some(Spoken::Kept));
+    let newest = paths.turn(&mut cpu, &old).expect(&rt, "a speculation");
+    let path = PathKey { newest, ..old };
     same(&rt, cpu.offer(newest, 1, 0, &[3]), Some(Spoken::Kept));
     same(
         &rt,
-        paths.keep_part(&mut cpu, &second, false),
+        paths.keep_part(&mut cpu, &path, false),
         PathEnd::GoesOn(2),
     );
     same(&rt, (paths.counts().began, paths.counts().kept), (1, 0));
     same(
         &rt,
-        paths.keep_part(&mut cpu, &second, false),
+        paths.keep_part(&mut cpu, &path, false),
         PathEnd::Ended(0, Decided::Lost(1)),
     );
     let counts = PathCounts {
@@ -88,14 +88,14 @@ fn lost_paths(rt: HostRuntime) -> Result<(), Fail> {
     };
     let mut cpu = LentCpu::of(&shared, &mut cpu);
     let mut paths = Paths::new();
-    let first = paths.begin(&mut cpu, 1, 7, 0).expect(&rt, "a path");
+    let old = paths.begin(&mut cpu, 1, 7, 0).expect(&rt, "a path");
     let other = paths.begin(&mut cpu, 2, 7, 0).expect(&rt, "a path");
-    same(&rt, cpu.offer(first.newest, 1, 0, &[1]), Some(Spoken::Kept));
-    same(&rt, cpu.offer(first.newest, 1, 0, &[2]), Some(Spoken::Kept));
+    same(&rt, cpu.offer(old.newest, 1, 0, &[1]), Some(Spoken::Kept));
+    same(&rt, cpu.offer(old.newest, 1, 0, &[2]), Some(Spoken::Kept));
     same(&rt, cpu.offer(other.newest, 1, 0, &[3]), Some(Spoken::Kept));
-    let newest = paths.turn(&mut cpu, &first).expect(&rt, "a speculation");
-    let second = PathKey { newest, ..first };
-    same(&rt, paths.keep(&mut cpu, &second, false), PathEnd::Lost(0));
+    let newest = paths.turn(&mut cpu, &old).expect(&rt, "a speculation");
+    let path = PathKey { newest, ..old };
+    same(&rt, paths.keep(&mut cpu, &path, false), PathEnd::Lost(0));
     same(&rt, paths.lose(&mut cpu, &other), true);
     same(&rt, paths.lose(&mut cpu, &other), false);
     let counts = PathCounts {

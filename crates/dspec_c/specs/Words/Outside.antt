@@ -27,8 +27,8 @@ pub use Rattle.dspec_cpu.specs.Words.{Belongs, called, CommitsIfRoom, config_of,
 pub use Rattle.dspec_cpu.specs.Words.{RecordsValues, schema_of, ServesOnce, SpeculatesOne, TracesOne, words_of, worn_of}
 pub use Rattle.dspec_cpu.specs.declared.cpu.Cpu.{Cpu}
 pub use Rattle.dspec_cpu.specs.declared.shared.Shared.{Shared}
-pub use Rattle.dspec_paths.specs.Words.{AdoptsPath, BeginsPath, counted_begin, counted_discard, counted_end, counted_loss, counts_of, DiscardsPath, IsAlone, KeepsPart, LacksRoom, meant_path}
-pub use Rattle.dspec_paths.specs.Words.{no_counts, part_at, Places, places_of, TurnsPath}
+pub use Rattle.dspec_paths.specs.Words.{AdoptsPath, BeginsPath, counted_begin, counted_discard, counted_end, counted_in, counted_loss, DiscardsPath, has_part_at, IsAlone, KeepsPart, LacksRoom}
+pub use Rattle.dspec_paths.specs.Words.{meant_path, no_counts, Places, places_of, TurnsPath}
 pub use Rattle.dspec_paths.specs.declared.lent_cpu.LentCpu.{LentCpu}
 pub use Rattle.dspec_paths.specs.declared.open_path.OpenPath.{OpenPath}
 pub use Rattle.dspec_paths.specs.declared.path_counts.PathCounts.{PathCounts}

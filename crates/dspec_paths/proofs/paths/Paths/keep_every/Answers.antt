@@ -1,5 +1,5 @@
 use Rattle.std.proofs.Common.{◌∙◌}
-use Rattle.dspec_paths.specs.Words.{counts_of, KeepsIfMeant, places_of}
+use Rattle.dspec_paths.specs.Words.{counted_in, KeepsIfMeant, places_of}
 use Rattle.dspec_paths.proofs.{Balances.kept_then, OneByOne.one_more_place}
 use Rattle.dspec_paths.proofs.paths.Paths.keep_every.Goals as goal
 
@@ -9,6 +9,6 @@ loop-place-preserved g c = record {
   keeps = one_more_place (KeepsIfMeant c.args.whose) c.loop-place.place (g.B.SpeculationCalls.made c.args.cpu.now) (g.B.SpeculationCalls.made c.loop-place.cpu)
       (g.B.SpeculationCalls.made c.keep_at.new.cpu) (places_of c.args.self.now) (places_of c.loop-place.self) (places_of c.keep_at.new.self) c.loop-place.invariant.keeps
       c.keep_at.ensures.keeps;
-  counted = kept_then (places_of c.args.self.now) (places_of c.loop-place.self) (places_of c.keep_at.new.self) (counts_of c.args.self.now) (counts_of c.loop-place.self)
-      (counts_of c.keep_at.new.self) c.loop-place.invariant.counted c.keep_at.ensures.counted;
+  counted = kept_then (places_of c.args.self.now) (places_of c.loop-place.self) (places_of c.keep_at.new.self) (counted_in c.args.self.now) (counted_in c.loop-place.self)
+      (counted_in c.keep_at.new.self) c.loop-place.invariant.counted c.keep_at.ensures.counted;
 }
