@@ -13,4 +13,5 @@ returns c = record {
   numbered = c.of_begun.ensures.status;
   tells = c.of_begun.ensures.told;
   done = on_boxed false _ _ _ _ _ _ _ c.self.view_is c.deref_mut.ensures.value refl c.begin_on-begun.ensures.same c.begin_on-begun.ensures.begins refl;
+  counted = c.begin_on-begun.ensures.counted;
 }

@@ -1,8 +1,23 @@
-use Rattle.std.proofs.Common.{ap, ◌∙◌}
+use Rattle.std.proofs.Common.{false, refl, ap, ◌∙◌}
 use Rattle.dspec_c.specs.Words.{EnabledRows, identity, Cpu}
-use Rattle.dspec_c.proofs.Homes.{stays_out}
+use Rattle.dspec_c.proofs.{Calls.on_boxed, Homes.stays_out}
 use Rattle.dspec_c.proofs.out_cpu.OutCpu.keep_part.Goals as goal
 
 pub invariant_of-self : goal.invariant_of-self
 invariant_of-self c = stays_out _ _ c.self.inside.cpu.value c.keep_part_on.new.cpu _ _ _ c.self.invariant
     (c.keep_part_on.ensures.same ∙ ap (λ (x : Cpu EnabledRows). identity x) c.deref_mut.ensures.value)
+
+pub returns : goal.returns
+returns c = (
+  c.key_of-key.result,
+  c.key_of-key.ensures,
+  record {
+    answer = c.keep_part_on.result;
+    numbered = c.of_end.ensures.status;
+    tells = c.of_end.ensures.count;
+    done = record {
+      done = on_boxed false _ _ _ _ _ _ _ c.self.view_is c.deref_mut.ensures.value refl c.keep_part_on.ensures.same c.keep_part_on.ensures.keeps refl;
+      counted = c.keep_part_on.ensures.counted;
+    };
+  },
+)

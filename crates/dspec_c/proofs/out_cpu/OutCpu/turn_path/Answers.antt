@@ -15,6 +15,9 @@ returns c = (
     answer = c.turn_on-turned.result;
     numbered = c.of_turned.ensures.status;
     tells = c.of_turned.ensures.told;
-    done = on_boxed false _ _ _ _ _ _ _ c.self.view_is c.deref_mut.ensures.value refl c.turn_on-turned.ensures.same c.turn_on-turned.ensures.turns refl;
+    done = record {
+      done = on_boxed false _ _ _ _ _ _ _ c.self.view_is c.deref_mut.ensures.value refl c.turn_on-turned.ensures.same c.turn_on-turned.ensures.turns refl;
+      counted = c.turn_on-turned.ensures.counted;
+    };
   },
 )
