@@ -36,12 +36,12 @@ static dspec_status bytes_of(const dspec_tracer_options *options, const dspec_en
     dspec_schema schema = DSPEC_EMPTY;
     dspec_status status = dspec_schema_new(&schema);
     dspec_layout layout = { .stamped = true };
-    size_t each = 0, table = 0;
+    size_t each = 0, table = 0, ring = 0;
     uint32_t epid, signature;
     if (status == DSPEC_OK) status = dspec_schema_stamp(&schema);
     for (int which = 0; which < 2; which++) {
         const dspec_enabling *const *all = which == 0 ? events : own_events;
-        for (size_t i = 0; status == DSPEC_OK && all != NULL && all[i] != NULL; i++) {
+        for (size_t i = 0; status == DSPEC_OK && all != NULL && all[i] != NULL && (which == 0 || i < own_count(options)); i++) {
             uint8_t widths[DSPEC_MAX_FIELDS + 1];
             size_t n;
             enabling_widths(all[i], widths, &n);
@@ -51,7 +51,8 @@ static dspec_status bytes_of(const dspec_tracer_options *options, const dspec_en
     if (status == DSPEC_OK) status = dspec_memory_for(&config, &schema, &each);
     dspec_schema_drop(&schema);
     if (status == DSPEC_OK) status = paths_memory(&table);
-    *bytes = 64 + ((uint64_t)each + table) * (options->lanes + 1);
+    if (status == DSPEC_OK && options->park_bytes > 0) status = park_memory(options->park_bytes, &ring);
+    *bytes = 64 + ((uint64_t)each + table) * (options->lanes + 1) + (uint64_t)ring * options->lanes;
     return status;
 }
 
