@@ -4,15 +4,15 @@
 /* A speculation's number has its slot in its lowest bits. */
 enum { SLOTS = 64 };
 
-static uint64_t places_of(uint64_t park_bytes) { return park_bytes / BYTES_A_PLACE + 1; }
+uint64_t park_places(uint64_t park_bytes) { return park_bytes / BYTES_A_PLACE + 1; }
 
-dspec_status park_memory(uint64_t park_bytes, size_t *bytes) { return parking_memory(park_bytes, places_of(park_bytes), bytes); }
+dspec_status park_memory(uint64_t park_bytes, size_t *bytes) { return parking_memory(park_bytes, park_places(park_bytes), bytes); }
 
-dspec_status park_begin(struct lane *lane, uint64_t park_bytes) { return dspec_parking_new(&lane->parked.ring, park_bytes, places_of(park_bytes)); }
+dspec_status park_begin(struct lane *lane, uint64_t park_bytes) { return dspec_parking_new(&lane->parked.ring, park_bytes, park_places(park_bytes)); }
 
 bool park_notes_begin(struct lane *lane, uint64_t park_bytes) {
     parked_paths *parked = &lane->parked;
-    parked->places = places_of(park_bytes);
+    parked->places = park_places(park_bytes);
     parked->tags = calloc(TAGS_A_PLACE * parked->places, sizeof *parked->tags);
     parked->facts = calloc(parked->places, sizeof *parked->facts);
     return parked->tags != NULL && parked->facts != NULL;
@@ -28,6 +28,8 @@ void park_settle(struct lane *lane) {
     STORE(&parked->expired, counts.expired);
     STORE(&lane->thrown, lane->thrown + counts.standing);
 }
+
+uint64_t park_left(const parked_paths *parked) { return LOAD(&parked->end) - LOAD(&parked->kept) - LOAD(&parked->evicted) - LOAD(&parked->expired); }
 
 void park_drop(struct lane *lane) {
     free(lane->parked.tags);
@@ -53,7 +55,7 @@ dspec_status path_park(struct lane *lane, uint32_t place, uint64_t id, uint64_t 
     dspec_status status, thrown;
     if (!LIKELY(opened->mark == mark)) return DSPEC_VOID;
     dspec_dropped_in(&lane->front.cpu, id, &untold);
-    status = dspec_parking_park(&lane->parked.ring, &lane->front.cpu, (uint32_t)(id % SLOTS), opened->key[0], opened->key[1], 0, &gone);
+    status = dspec_parking_park(&lane->parked.ring, &lane->front.cpu, (uint32_t)(id % SLOTS), opened->key[0], opened->key[1], mark >> 32, &gone);
     if (LIKELY(status == DSPEC_OK)) note(&lane->parked, opened, untold, &gone);
     thrown = dspec_paths_discard(&lane->paths, &lane->front.cpu, place, id);
     return thrown == DSPEC_OK && status != DSPEC_OK ? THROWN_AWAY : thrown;

@@ -21,7 +21,7 @@ typedef struct parked_facts {
 /* What is parked on a lane. Places are numbered from the first path on that was parked there, and their tags and facts are found by that, modulo how many there are. Whoever has the lane writes
  * this; anybody may look at tags, numbers and counts at any time. */
 typedef struct parked_paths {
-    dspec_parking ring;
+    dspec_parking ring;  /* the stamp of a block is the path's number */
     uint64_t places;     /* at most */
     uint64_t next;       /* where the tag of the next one is */
     uint64_t *tags;      /* of their keys; 0: it was kept */
@@ -59,11 +59,13 @@ uint64_t keys_refused(const struct keys *keys);
 
 /* ---- park.c: what is parked. ---- */
 
+uint64_t park_places(uint64_t park_bytes); /* how many places a ring has */
 dspec_status park_memory(uint64_t park_bytes, size_t *bytes); /* how many bytes of memory a ring takes (dspec_memory.h) */
 dspec_status park_begin(struct lane *lane, uint64_t park_bytes);
 bool park_notes_begin(struct lane *lane, uint64_t park_bytes); /* in memory of malloc's */
 void park_settle(struct lane *lane); /* its end: what is parked still is thrown away, and the counts are the ring's */
 void park_drop(struct lane *lane);
+uint64_t park_left(const parked_paths *parked); /* how many are parked now */
 /* Parks the path of a place, a speculation and a mark, and throws its speculation away: DSPEC_VOID where it isn't open; THROWN_AWAY: the ring doesn't take it. The caller has the lane. */
 dspec_status path_park(struct lane *lane, uint32_t place, uint64_t id, uint64_t mark);
 

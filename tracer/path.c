@@ -397,7 +397,7 @@ static dspec_status park(struct lane *lane, uint32_t place, uint64_t id, uint64_
  * it waits for room, DSPEC_VOID where it isn't open. */
 INTO_CALLER dspec_status end_at(struct lane *lane, uint32_t place, uint64_t id, uint64_t mark, ending as, bool waits, uint32_t why) {
     dspec_status status;
-    if (as != KEEPS && !LIKELY(lane->open[place].key_state != IS_WANTED)) return keep_by_key(lane, place, id);
+    if (as != KEEPS && !LIKELY(place_at(lane, place)->key_state != IS_WANTED)) return keep_by_key(lane, place, id);
     if (as == DROPS) return throw(lane, place, id);
     if (as == PARKS) return park(lane, place, id, mark);
     status = path_commit(lane, place, id, why, waits ? WAITS_FOR_ROOM : ANY_ROOM);

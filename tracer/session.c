@@ -152,12 +152,12 @@ void lane_add(dspec_tracer_report *sum, const dspec_report *report) {
 
 void lane_add_parked(const struct lane *lane, dspec_tracer_report *sum) {
     const parked_paths *parked = &lane->parked;
-    const uint64_t kept = LOAD(&parked->kept), evicted = LOAD(&parked->evicted), expired = LOAD(&parked->expired), all = LOAD(&parked->end);
-    sum->parked += all;
+    const uint64_t kept = LOAD(&parked->kept), evicted = LOAD(&parked->evicted), expired = LOAD(&parked->expired);
+    sum->parked += LOAD(&parked->end);
     sum->park_kept += kept;
     sum->park_evicted += evicted;
     sum->park_expired += expired;
-    sum->park_left += all - kept - evicted - expired;
+    sum->park_left += park_left(parked);
     sum->kept += kept;
     sum->thrown += evicted + expired;
     sum->accepted += LOAD(&parked->records);

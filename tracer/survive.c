@@ -79,7 +79,7 @@ static void begin_head(saved_head *head, const dspec_tracer_options *options, co
     const uint64_t head_size = pages(sizeof *head), body_size = saved_body_size(options->lanes);
     *head = (saved_head){ .version = SURVIVE_VERSION, .head_size = (uint32_t)head_size, .body_size = (uint32_t)body_size, .lane_size = sizeof(struct lane), .address = (uintptr_t)head, .size = size,
                           .body_at = head_size, .memory_at = head_size + body_size, .lanes = options->lanes, .paths = options->paths, .bufsize = options->bufsize,
-                          .specsize = options->specsize, .max_folders = options->max_folders, .device = file->device, .inode = file->inode };
+                          .specsize = options->specsize, .park_bytes = options->park_bytes, .max_folders = options->max_folders, .device = file->device, .inode = file->inode };
     snprintf(head->build, sizeof head->build, "%s", dspec_build());
     snprintf(head->folder, sizeof head->folder, "%s", folder);
 }
@@ -208,6 +208,7 @@ static bool is_settled(body *tracer) {
         const uint32_t state = state_set(lane, GONE);
         is = is && (state & (IDLE | HELD)) == IDLE && LOAD(&lane->front.inside) == 0 && LOAD(&lane->bringing) == NOT_OUT && LOAD(&lane->given) == LOAD(&lane->switched);
         for (uint32_t k = 0; k < MAX_OPEN; k++) is = is && LOAD(&lane->open[k].mark) == 0;
+        is = is && park_left(&lane->parked) == 0;
     }
     return is;
 }
