@@ -86,6 +86,9 @@ extern "C" {
 #define DSPEC_CLOCK_TSC 1u       /* the processor's time stamp counter (CLOCK) */
 #define DSPEC_CLOCK_AUTO 2u      /* that counter where it can be had, else the monotonic one */
 
+/* Tells the program of a key whose path was kept here, by the consumer's thread. */
+typedef void dspec_on_keep(void *context, uint64_t high, uint64_t low);
+
 /* A field that is 0 takes its default. */
 typedef struct dspec_tracer_options {
     uint32_t lanes;      /* 16; 1 to DSPEC_MAX_LANES */
@@ -112,7 +115,7 @@ typedef struct dspec_tracer_options {
     uint64_t park_bytes; /* 0: no path is parked; bytes of each lane's ring of parked paths (ACROSS PROCESSES), specsize or more; not with keep_last */
     uint32_t park_ms;    /* 10000, where park_bytes is set: how long a path stays parked */
     uint32_t remember_ms; /* park_ms: how long a kept key is remembered */
-    void (*on_keep)(void *context, uint64_t high, uint64_t low); /* tells the program of a key whose path was kept here, by the consumer's thread; NULL: nobody is told */
+    dspec_on_keep *on_keep; /* NULL: the program isn't told */
     void *on_keep_context;
 } dspec_tracer_options;
 

@@ -1,7 +1,7 @@
 /* heap.c: where the library takes memory: of malloc, or of a memory of the caller's (dspec_memory.h). The three calls stand in the place of those of the kit's `heap`. */
 #include "dspec.h"
 #include "dspec_memory.h"
-#include "parking.h"
+#include "park.h"
 #include "paths.h"
 
 #include <assert.h>

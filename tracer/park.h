@@ -60,7 +60,9 @@ uint64_t keys_refused(const struct keys *keys);
 /* ---- park.c: what is parked. ---- */
 
 uint64_t park_places(uint64_t park_bytes); /* how many places a ring has */
-dspec_status park_memory(uint64_t park_bytes, size_t *bytes); /* how many bytes of memory a ring takes (dspec_memory.h) */
+/* How many bytes of memory a ring takes (dspec_memory.h), and one of so many bytes and blocks (heap.c). */
+dspec_status park_memory(uint64_t park_bytes, size_t *bytes);
+__attribute__((visibility("hidden"))) dspec_status parking_memory(size_t bytes, size_t most_blocks, size_t *all);
 dspec_status park_begin(struct lane *lane, uint64_t park_bytes);
 bool park_notes_begin(struct lane *lane, uint64_t park_bytes); /* in memory of malloc's */
 void park_settle(struct lane *lane); /* its end: what is parked still is thrown away, and the counts are the ring's */

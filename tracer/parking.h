@@ -32,9 +32,6 @@ typedef struct dspec_parked_counts {
 /* Fills an empty handle with a ring of this many bytes, and at most this many blocks: DSPEC_OK, DSPEC_NO_MEMORY. dspec_drop lets it go. DSPEC_FULL_HANDLE. */
 dspec_status dspec_parking_new(dspec_parking *parking, size_t bytes, size_t most_blocks);
 
-/* How many bytes of memory such a ring takes (dspec_memory.h). */
-__attribute__((visibility("hidden"))) dspec_status parking_memory(size_t bytes, size_t most_blocks, size_t *all);
-
 /* Parks a copy of the records that the CPU has of a slot's speculation (dspec_open_at), as the newest block; where it has none, a block of no bytes. The CPU stays as it is. The fewest of
  * the oldest blocks make room; gone says what the tail passed. DSPEC_TOO_LONG: the block is longer than the ring, or the ring has no places. DSPEC_WORN: 2^64 - 1 blocks were parked before.
  * At both nothing has changed. DSPEC_BAD_HANDLE. */
