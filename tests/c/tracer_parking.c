@@ -24,7 +24,7 @@ static const size_t bytes_of[EVENTS + 1] = { 0, 4 + 8 + 4, 4 + 36, 4 + 52, 4 + 4
 enum { PACKET = 1024, FRONT = 68, EVENT_FRONT = 12, CONTENT_BITS = 40 };
 /* A record of `query` in a buffer: EPID, stamp, path, request and step; the next one begins at a multiple of eight. */
 enum { RECORD = 28, RECORD_ALIGNED = 32 };
-enum { MOST = 100000, SECOND = 1000000 };
+enum { MOST = 100000 };
 
 static dspec_tracer tracer;
 static dspec_tracer_report report;
@@ -175,6 +175,12 @@ static void park(uint64_t request, uint32_t records) {
 
 static void keep(uint64_t request) { CHECK(dspec_tracer_keep_key(&tracer, HIGH, request)); }
 
+/* Waits until the program was told of a key, or for a minute. */
+static void is_told(void) {
+    for (int tries = 0; tries < 60000 && atomic_load(&told_keys) == 0; tries++) usleep(1000);
+    CHECK(atomic_load(&told_keys) == 1);
+}
+
 static void flush(void) { CHECK(dspec_tracer_flush(&tracer, 600000)); }
 
 /* After this the consumer knows that what is parked now is that old: it notes that at the end of a turn, of which a flush waits for one. */
@@ -230,7 +236,7 @@ static void kept_here(void) {
     CHECK(dspec_path_keep(&path));
     path = path_of(9, 2, false);
     CHECK(dspec_path_keep(&path));
-    while (atomic_load(&told_keys) == 0) usleep(1000);
+    is_told();
     read_trace();
     CHECK(found[7].records == 3 && found[7].paths == 2 && told_high == HIGH && told_low == 7); /* it was told after the write */
     path = path_of(7, 1, true);
@@ -269,6 +275,7 @@ static void evicted(void) {
     static_assert(9 * RECORD_ALIGNED + RECORD == 316 && 3 * 316 <= 1024 && 4 * 316 > 1024, "three fit");
     begin((dspec_tracer_options){ .lanes = 1, .paths = 2, .park_bytes = 1024 });
     for (uint64_t request = 1; request <= 10; request++) park(request, 10);
+    CHECK(dspec_tracer_counts(&tracer, &report) && report.park_evicted == 7 && report.park_left == 3 && report.thrown == 7);
     for (uint64_t request = 1; request <= 10; request++) keep(request);
     stop();
     CHECK(has_alone((const uint64_t[]){ 8, 9, 10 }, 3, 10) && report.parked == 10 && report.park_evicted == 7 && report.park_kept == 3 && report.park_left == 0);
@@ -318,9 +325,9 @@ static void expired(void) {
 
 /* A tracer that was idle for longer than paths stay parked doesn't take a new one for old. */
 static void after_idleness(void) {
-    begin((dspec_tracer_options){ .lanes = 2, .paths = 2, .park_bytes = 4096, .park_ms = 5000 });
+    begin((dspec_tracer_options){ .lanes = 2, .paths = 2, .park_bytes = 4096, .park_ms = 2000 });
     is_noted();
-    usleep(6 * SECOND);
+    usleep(2500000);
     park(1, 3);
     keep(1);
     stop();
@@ -339,7 +346,7 @@ static void forgotten(void) {
     CHECK(dspec_tracer_counts(&tracer, &report) && report.park_kept == 0);
     path = path_of(1, 3, true);
     CHECK(dspec_path_keep(&path));
-    while (atomic_load(&told_keys) == 0) usleep(1000);
+    is_told();
     stop();
     CHECK(found[1].records == 6 && report.kept == 2 && report.park_kept == 1 && told_low == 1);
     begin((dspec_tracer_options){ .lanes = 2, .paths = 2, .park_bytes = 4096, .park_ms = 1, .remember_ms = 600000 });
@@ -362,7 +369,7 @@ static void cut(void) {
     CHECK(has_alone((const uint64_t[]){ 1 }, 1, 2) && last_told.cut == 1 && report.cut == 1 && report.specdropped == 1 && report.accepted == 2);
 }
 
-/* ---- The consumer is stuck, and the queue is full. ---- */
+/* ---- The consumer is stuck, and the queue is full. More paths of a lane are due then than a turn keeps, and than a batch has room for. ---- */
 
 static atomic_bool is_stuck, is_free;
 
@@ -373,15 +380,15 @@ static void sticks(void *context, uint64_t high, uint64_t low) {
 }
 
 static void full(void) {
-    enum { WAITING = 4096 };
+    enum { WAITING = 4096, FIRST = 100, LAST = 201 };
     dspec_path path;
-    uint64_t taken = 0, refused = 0;
-    begin((dspec_tracer_options){ .lanes = 2, .paths = 2, .park_bytes = 65536, .on_keep = sticks });
+    uint64_t taken = 0, refused = 0, due[LAST - FIRST + 2];
+    begin((dspec_tracer_options){ .lanes = 2, .paths = 2, .bufsize = 4096, .park_bytes = 65536, .on_keep = sticks });
     path = path_of(1, 1, true);
     CHECK(dspec_path_keep(&path));
     while (!atomic_load(&is_stuck)) usleep(1000);
-    for (uint64_t request = 2; request <= 20; request++) park(request, 3);
-    for (uint64_t request = 20; request < 20 + WAITING + 10; request++) {
+    for (uint64_t request = 2; request <= LAST; request++) park(request, 3);
+    for (uint64_t request = FIRST; request < FIRST + WAITING + 10; request++) {
         if (dspec_tracer_keep_key(&tracer, HIGH, request)) taken++;
         else refused++;
     }
@@ -391,7 +398,11 @@ static void full(void) {
     flush();
     keep(3);
     stop();
-    CHECK(report.keys_refused == 11 && report.park_kept == 2 && found[20].steps == 7 && found[3].steps == 7 && found[2].records == 0 && report.kept == 3 && report.park_left == 17);
+    for (uint64_t request = FIRST; request <= LAST; request++) due[request - FIRST] = request;
+    due[LAST - FIRST + 1] = 3;
+    found[1] = (found_request){ 0, 0, 0 };
+    CHECK(report.keys_refused == 11 && report.park_kept == LAST - FIRST + 2 && has_alone(due, LAST - FIRST + 2, 3));
+    CHECK(report.kept == LAST - FIRST + 3 && report.park_left == 200 - report.park_kept && report.thrown == report.park_left && report.key_missed == 0);
 }
 
 /* ---- From threads and handlers. ---- */
