@@ -323,15 +323,20 @@ static void expired(void) {
     CHECK(report.kept == 1 && report.thrown == 2 && report.accepted == 3 && report.discarded == 6 && report.park_evicted == 0 && report.park_least_ms == UINT64_MAX);
 }
 
-/* A tracer that was idle for longer than paths stay parked doesn't take a new one for old. */
-static void after_idleness(void) {
-    begin((dspec_tracer_options){ .lanes = 2, .paths = 2, .park_bytes = 4096, .park_ms = 2000 });
-    is_noted();
-    usleep(2500000);
+/* The older of two paths is too old after a while, and the younger one isn't. An idle tracer has that seen before it looks for a key, and doesn't take a path for old that was parked after it was
+ * idle. */
+static void young_and_old(void) {
+    begin((dspec_tracer_options){ .lanes = 1, .paths = 2, .park_bytes = 4096, .park_ms = 5000 });
     park(1, 3);
-    keep(1);
+    is_noted();
+    usleep(3000000);
+    park(2, 3);
+    is_noted();
+    usleep(2600000);
+    park(3, 3);
+    for (uint64_t request = 1; request <= 3; request++) keep(request);
     stop();
-    CHECK(has_alone((const uint64_t[]){ 1 }, 1, 3) && report.park_expired == 0);
+    CHECK(has_alone((const uint64_t[]){ 2, 3 }, 2, 3) && report.park_expired == 1 && report.key_missed == 1);
 }
 
 /* A key is remembered for remember_ms, and then told anew. */
@@ -380,29 +385,29 @@ static void sticks(void *context, uint64_t high, uint64_t low) {
 }
 
 static void full(void) {
-    enum { WAITING = 4096, FIRST = 100, LAST = 201 };
+    enum { WAITING = 4096, REFUSED = 10, FIRST = 100, FIRST_TAKEN = FIRST + REFUSED, LAST = 201, COUNT = LAST - FIRST_TAKEN + 1 };
     dspec_path path;
-    uint64_t taken = 0, refused = 0, due[LAST - FIRST + 2];
-    begin((dspec_tracer_options){ .lanes = 2, .paths = 2, .bufsize = 4096, .park_bytes = 65536, .on_keep = sticks });
+    uint64_t taken = 0, refused = 0, due[COUNT + 1];
+    begin((dspec_tracer_options){ .lanes = 1, .paths = 2, .bufsize = 4096, .park_bytes = 65536, .on_keep = sticks });
     path = path_of(1, 1, true);
     CHECK(dspec_path_keep(&path));
     while (!atomic_load(&is_stuck)) usleep(1000);
     for (uint64_t request = 2; request <= LAST; request++) park(request, 3);
-    for (uint64_t request = FIRST; request < FIRST + WAITING + 10; request++) {
+    for (uint64_t request = FIRST_TAKEN + WAITING - 1; request >= FIRST; request--) { /* those that are parked come last */
         if (dspec_tracer_keep_key(&tracer, HIGH, request)) taken++;
         else refused++;
     }
-    CHECK(taken == WAITING && refused == 10);
-    CHECK(!dspec_tracer_keep_key(&tracer, HIGH, 2));
+    CHECK(taken == WAITING && refused == REFUSED && !dspec_tracer_keep_key(&tracer, HIGH, 2));
     atomic_store(&is_free, true);
     flush();
+    CHECK(dspec_tracer_counts(&tracer, &report) && report.park_kept == COUNT && report.keys_refused == REFUSED + 1);
     keep(3);
     stop();
-    for (uint64_t request = FIRST; request <= LAST; request++) due[request - FIRST] = request;
-    due[LAST - FIRST + 1] = 3;
+    for (uint64_t request = FIRST_TAKEN; request <= LAST; request++) due[request - FIRST_TAKEN] = request;
+    due[COUNT] = 3;
     found[1] = (found_request){ 0, 0, 0 };
-    CHECK(report.keys_refused == 11 && report.park_kept == LAST - FIRST + 2 && has_alone(due, LAST - FIRST + 2, 3));
-    CHECK(report.kept == LAST - FIRST + 3 && report.park_left == 200 - report.park_kept && report.thrown == report.park_left && report.key_missed == 0);
+    CHECK(report.park_kept == COUNT + 1 && has_alone(due, COUNT + 1, 3));
+    CHECK(report.kept == COUNT + 2 && report.park_left == 200 - report.park_kept && report.thrown == report.park_left && report.key_missed == 0);
 }
 
 /* ---- From threads and handlers. ---- */
@@ -621,7 +626,7 @@ int main(int argc, char **argv) {
     without_places();
     held_for();
     expired();
-    after_idleness();
+    young_and_old();
     forgotten();
     cut();
     full();
