@@ -152,7 +152,7 @@ void lane_add(dspec_tracer_report *sum, const dspec_report *report) {
 
 void lane_add_parked(const struct lane *lane, dspec_tracer_report *sum) {
     const parked_paths *parked = &lane->parked;
-    const uint64_t kept = LOAD(&parked->kept), evicted = LOAD(&parked->evicted), expired = LOAD(&parked->expired);
+    const uint64_t kept = LOAD(&parked->kept), evicted = LOAD(&parked->evicted), expired = LOAD(&parked->expired), records = LOAD(&parked->records);
     sum->parked += LOAD(&parked->end);
     sum->park_kept += kept;
     sum->park_evicted += evicted;
@@ -160,8 +160,8 @@ void lane_add_parked(const struct lane *lane, dspec_tracer_report *sum) {
     sum->park_left += park_left(parked);
     sum->kept += kept;
     sum->thrown += evicted + expired;
-    sum->accepted += LOAD(&parked->records);
-    sum->discarded -= LOAD(&parked->records);
+    sum->accepted += records;
+    sum->discarded -= records < sum->discarded ? records : sum->discarded; /* while it runs those may be fewer: they are from the lane's last service */
 }
 
 void lane_counts(const struct lane *lane, dspec_report *report) {

@@ -18,7 +18,7 @@
 DSPEC_PROBE(query, uint64_t, request, uint32_t, step);
 
 /* The events by their numbers: the probe's, and the tracer's own as they follow. */
-enum { QUERY = 1, KEPT = 4, PARKED = 10, EVENTS = 10 };
+enum { QUERY = 1, KEPT = 4, COUNTS = 6, PARKED = 10, EVENTS = 10 };
 /* The bytes of each event in a packet, after its front: of the tracer's own, see docs/REFERENCE.md. */
 static const size_t bytes_of[EVENTS + 1] = { 0, 4 + 8 + 4, 4 + 36, 4 + 52, 4 + 40, 4 + 20, 4 + 16, 4 + 32, 4 + 28, 4 + 8, 4 + 56 };
 enum { PACKET = 1024, FRONT = 68, EVENT_FRONT = 12, CONTENT_BITS = 40 };
@@ -44,7 +44,7 @@ typedef struct told_path {
 } told_path;
 
 static found_request found[MOST];
-static uint64_t parked_sums[7], first_stamp[MOST];
+static uint64_t parked_sums[7], kept_sum, thrown_sum, first_stamp[MOST];
 static uint32_t first_path[MOST];
 static told_path last_told;
 static size_t told_count, of_others;
@@ -84,6 +84,8 @@ static void read_packet(const uint8_t *packet) {
         if (epid == QUERY) note_query(fields, number_at(packet + at + 4, 8));
         if (epid == KEPT) note_kept(fields);
         for (size_t i = 0; epid == PARKED && i < 7; i++) parked_sums[i] = i < 6 ? parked_sums[i] + number_at(fields + 4 + 8 * i, 8) : number_at(fields + 4 + 8 * i, 8);
+        kept_sum += epid == COUNTS ? number_at(fields + 4, 8) : 0;
+        thrown_sum += epid == COUNTS ? number_at(fields + 12, 8) : 0;
         at += EVENT_FRONT + bytes_of[epid];
     }
 }
@@ -101,7 +103,7 @@ static void read_trace(void) {
     DIR *names = opendir(folder);
     memset(found, 0, sizeof found);
     memset(parked_sums, 0, sizeof parked_sums);
-    told_count = of_others = 0;
+    told_count = of_others = kept_sum = thrown_sum = 0;
     for (struct dirent *one; names != NULL && (one = readdir(names)) != NULL;)
         if (strncmp(one->d_name, "cpu_", 4) == 0) read_file(one->d_name);
     if (names != NULL) closedir(names);
@@ -155,7 +157,7 @@ static void stop(void) {
     read_trace();
     CHECK(parked_sums[0] == report.parked && parked_sums[1] == report.park_kept && parked_sums[2] == report.park_evicted && parked_sums[3] == report.park_expired);
     CHECK(parked_sums[4] == report.key_missed && parked_sums[5] == report.keys_refused && (report.parked == 0 || parked_sums[6] == report.park_least_ms));
-    CHECK(report.kept == told_count);
+    CHECK(report.kept == told_count && report.kept == kept_sum && report.thrown == thrown_sum);
 }
 
 enum { HIGH = 0xabc };
@@ -372,6 +374,30 @@ static void cut(void) {
     keep(1);
     stop();
     CHECK(has_alone((const uint64_t[]){ 1 }, 1, 2) && last_told.cut == 1 && report.cut == 1 && report.specdropped == 1 && report.accepted == 2);
+}
+
+/* The bytes of this process that are in memory. */
+static uint64_t resident(void) {
+    unsigned long pages = 0;
+    FILE *file = fopen("/proc/self/statm", "r");
+    if (file != NULL && fscanf(file, "%*u %lu", &pages) != 1) pages = 0;
+    if (file != NULL) fclose(file);
+    return (uint64_t)pages * (uint64_t)sysconf(_SC_PAGESIZE);
+}
+
+/* So many paths of 200 bytes, less 12, take no more than 16 MB, and no slot. */
+static void many(void) {
+    enum { PATHS_PARKED = 50000 };
+    static_assert(5 * RECORD_ALIGNED + RECORD == 188, "six records");
+    uint64_t before;
+    begin((dspec_tracer_options){ .lanes = 1, .paths = 1, .park_bytes = 200 * PATHS_PARKED, .park_ms = 3600000 });
+    before = resident();
+    for (uint64_t request = 1; request <= PATHS_PARKED; request++) park(request, 6);
+    CHECK(before > 0 && resident() - before <= 16u << 20);
+    keep(1);
+    keep(PATHS_PARKED);
+    stop();
+    CHECK(has_alone((const uint64_t[]){ 1, PATHS_PARKED }, 2, 6) && report.park_evicted == 0 && report.park_left == PATHS_PARKED - 2);
 }
 
 /* ---- The consumer is stuck, and the queue is full. More paths of a lane are due then than a turn keeps, and than a batch has room for. ---- */
@@ -629,6 +655,7 @@ int main(int argc, char **argv) {
     young_and_old();
     forgotten();
     cut();
+    many();
     full();
     from_elsewhere();
     refused();
