@@ -52,6 +52,12 @@
  *
  * CANCELLATION. No call here is a cancellation point. A thread that may be cancelled at any place (PTHREAD_CANCEL_ASYNCHRONOUS) makes none of these calls.
  *
+ * ACROSS PROCESSES. A request may fail in one process when others that it went through have answered already. With park_bytes a path that has a key (dspec_path_key) is parked at
+ * its end (dspec_path_park): its records are in a ring of its lane, and no slot is taken. A key that turns out to matter is told by dspec_tracer_keep_key, and all paths of
+ * that key are kept, with DSPEC_WHY_KEY. on_keep tells the program of each key whose path was kept here for another reason, once while it is remembered, and after the path is
+ * written where its lane can be had. The program tells the other processes. A path stays parked for park_ms, and up to an eighth of that and a period longer, unless newer paths need its
+ * room. Where an idle tracer has paths that are too old, they go before the next key is looked for. What is parked when a process ends is thrown away, and a crash keeps none of it.
+ *
  * KILL -9. With survive all that the tracer has is in a file that outlives the process, FOLDER-memory, of mode 0600. dspec_salvage reads it. A stop takes the file
  * away; where it can't, the report's why says so. A crash takes it away if the folder has all that is in it. A start may find such a file of a run that didn't
  * stop. It puts that aside as FOLDER-memory-1 .., of which eight stay, and tracer->why says so though the start went well. On a full disk what was kept stays in
@@ -80,6 +86,9 @@ extern "C" {
 #define DSPEC_CLOCK_TSC 1u       /* the processor's time stamp counter (CLOCK) */
 #define DSPEC_CLOCK_AUTO 2u      /* that counter where it can be had, else the monotonic one */
 
+/* Tells the program of a key whose path was kept here, by the consumer's thread. */
+typedef void dspec_on_keep(void *context, uint64_t high, uint64_t low);
+
 /* A field that is 0 takes its default. */
 typedef struct dspec_tracer_options {
     uint32_t lanes;      /* 16; 1 to DSPEC_MAX_LANES */
@@ -103,6 +112,11 @@ typedef struct dspec_tracer_options {
     uint64_t slow_ns;    /* dspec_path_end keeps a path that took this many nanoseconds or more; 0: none */
     uint32_t sample;     /* and one of this many others, by its number; 0: none */
     uint64_t clock;      /* DSPEC_CLOCK_MONOTONIC; of 8 bytes, so that it isn't where an older version had padding */
+    uint64_t park_bytes; /* 0: no path is parked; bytes of each lane's ring of parked paths (ACROSS PROCESSES), specsize or more; not with keep_last */
+    uint32_t park_ms;    /* 10000, where park_bytes is set: how long a path stays parked */
+    uint32_t remember_ms; /* park_ms: how long a kept key is remembered */
+    dspec_on_keep *on_keep; /* NULL: the program isn't told */
+    void *on_keep_context;
 } dspec_tracer_options;
 
 /* The counts of all lanes. */
@@ -127,6 +141,14 @@ typedef struct dspec_tracer_report {
     uint64_t gone_records;      /* and the records in them, which had been written */
     int code;                   /* the errno of the first loss, or 0 */
     char why[128];              /* the first loss in words, or empty */
+    uint64_t parked;            /* paths that were parked; each is in one of the next four */
+    uint64_t park_kept;         /* those of a key that was kept; `kept` has them too */
+    uint64_t park_evicted;      /* those that made room for newer ones; `thrown` has them too */
+    uint64_t park_expired;      /* those whose time was over; likewise */
+    uint64_t park_left;         /* those that are parked still, and at the stop are thrown away */
+    uint64_t park_least_ms;     /* so long was each path parked at the least that made room; 2^64 - 1: none did */
+    uint64_t key_missed;        /* paths that had been parked and were gone when their key came, as far as that is remembered */
+    uint64_t keys_refused;      /* keys that found 4,096 others waiting, or 32,768 remembered: nothing is kept by them */
 } dspec_tracer_report;
 
 /* All zeros until it is started. It stays at its place, and outlives each thread that records, as a static one does. The program doesn't write to it. */
@@ -182,7 +204,8 @@ typedef struct dspec_enabling {
 #define DSPEC_WHY_CRASH 5u     /* the tracer: its thread crashed, or with keep_all another */
 #define DSPEC_WHY_UNDECIDED 6u /* the tracer: it was open at the stop, with keep_open */
 #define DSPEC_WHY_SIGNAL 7u    /* the tracer: another process sent a signal of those of crashes */
-#define DSPEC_WHY_OWN 8u       /* the program's, by options.whys */
+#define DSPEC_WHY_KEY 8u       /* the tracer: the path's key was kept (ACROSS PROCESSES) */
+#define DSPEC_WHY_OWN 9u       /* the program's, by options.whys */
 
 /* Starts a tracer that writes into a folder. The folder is made where it isn't there, and may have no trace yet. options may be NULL. events ends with NULL and has
  * at most 56 beside the tracer's own. An event or a field whose name is a word of the trace's metadata (dspec_names.h) gets an underscore in front. The call takes
@@ -269,10 +292,19 @@ DSPEC_INLINE dspec_path dspec_path_begin(dspec_tracer *tracer) DSPEC_NOEXCEPT {
 }
 
 /* Ends a path. Keep answers whether its records are on their way to the folder. It answers false where there was no slot, where there was no room, within keep_ms or
- * at all, and after a stop. why is one of DSPEC_WHY_..; keep alone says DSPEC_WHY_KEPT. Drop answers whether none of its records comes out. */
+ * at all, and after a stop. why is one of DSPEC_WHY_..; keep alone says DSPEC_WHY_KEPT. Drop answers whether none of its
+ * records comes out: it keeps a path whose key is kept. */
 bool dspec_path_keep(dspec_path *path) DSPEC_NOEXCEPT;
 bool dspec_path_keep_why(dspec_path *path, uint32_t why) DSPEC_NOEXCEPT;
 bool dspec_path_drop(dspec_path *path) DSPEC_NOEXCEPT;
+
+/* Ends a path here, where it isn't decided. It is kept when its key is, within park_ms; else it is thrown away. Without a key, or without park_bytes, this is a drop. It
+ * answers whether the path is parked, or kept already. */
+bool dspec_path_park(dspec_path *path) DSPEC_NOEXCEPT;
+
+/* Keeps all paths of a key: those that are parked, those that are open, at their end, and those that get the key within remember_ms. Any thread may call it, and a signal's handler. The
+ * consumer's thread does it. It answers whether the key was taken. It answers false where the tracer is down or has no park_bytes, and where 4,096 keys wait (keys_refused). */
+bool dspec_tracer_keep_key(dspec_tracer *tracer, uint64_t high, uint64_t low) DSPEC_NOEXCEPT;
 
 /* Ends a path by the tracer's rule. It is kept if it failed, else if it took slow_ns or more (0: options.slow_ns), else if it is one of options.sample, and its reason
  * is the first of these that holds. It answers whether the path is kept. */

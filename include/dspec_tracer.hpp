@@ -74,6 +74,8 @@ public:
         bool keep() noexcept { return dspec_path_keep(&path_); }
         bool keep(std::uint32_t why) noexcept { return dspec_path_keep_why(&path_, why); }
         bool drop() noexcept { return dspec_path_drop(&path_); }
+        /* As dspec_path_park: whether it is parked, or kept already. */
+        bool park() noexcept { return dspec_path_park(&path_); }
         /* Ends it by the tracer's rule, as dspec_path_end: whether it is kept. */
         bool end(bool failed, std::chrono::nanoseconds slow = {}) noexcept { return dspec_path_end(&path_, failed, static_cast<std::uint64_t>(slow.count())); }
         /* Whether it has records and isn't decided, and how long ago its first one was. */
@@ -122,6 +124,8 @@ public:
         using words = detail::packed_from<8, Fields...>;
         return dspec_tracer_record(tracer_.get(), of.get(), words{values...}.words, words::count());
     }
+    /* As dspec_tracer_keep_key: whether the key was taken. */
+    bool keep_key(std::uint64_t high, std::uint64_t low) noexcept { return dspec_tracer_keep_key(tracer_.get(), high, low); }
     /* As dspec_tracer_counts, dspec_tracer_switch and dspec_tracer_is_up. */
     [[nodiscard]] dspec_tracer_report counts() noexcept {
         dspec_tracer_report report{};

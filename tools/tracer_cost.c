@@ -1,6 +1,7 @@
 /* What a tracer's calls cost beside the library's own: `tracer_cost FOLDER WAY NUMBER [CPUS]` makes so many paths, or records, for a tool that counts instructions;
  * `tracer_cost FOLDER times [CPUS]` takes all ways by turns, in slices shorter than a turn on a processor, and prints the 5th percentile of each, in nanoseconds. raw is a session of so many CPUs (1),
- * with the monotonic clock, with a service a path; boxed is the tracer, with CLOCK=tsc by the time stamp counter. */
+ * with the monotonic clock, with a service a path; boxed is the tracer, with CLOCK=tsc by the time stamp counter. keyed3 and parked3 are of a tracer with rings: paths with a key that are thrown away, and
+ * parked. */
 #include "dspec_system.h"
 #include "dspec_tracer.h"
 
@@ -36,6 +37,26 @@ static void keep_path(uint32_t records) {
     dspec_path_keep(&path);
 }
 
+/* As many paths as a ring has room for make room for each further one. */
+static dspec_path keyed(void) {
+    static uint64_t number;
+    dspec_path path = dspec_path_begin(&tracer);
+    query_in(&path, 1, 0);
+    dspec_path_key(&path, 1, number++);
+    for (uint32_t i = 1; i < 3; i++) query_in(&path, 1, i);
+    return path;
+}
+
+static void keyed3(void) {
+    dspec_path path = keyed();
+    dspec_path_drop(&path);
+}
+
+static void parked3(void) {
+    dspec_path path = keyed();
+    dspec_path_park(&path);
+}
+
 static void raw20(void) { raw_path(20); }
 static void boxed20(void) { boxed_path(20); }
 static void raw3(void) { raw_path(3); }
@@ -47,7 +68,7 @@ static void boxed(void) { query_now(&tracer, 1, 1); }
 static const struct {
     const char *name;
     void (*run)(void);
-} ways[] = { { "raw20", raw20 }, { "boxed20", boxed20 }, { "raw3", raw3 }, { "boxed3", boxed3 }, { "kept3", kept3 }, { "raw", raw }, { "boxed", boxed } };
+} ways[] = { { "raw20", raw20 }, { "boxed20", boxed20 }, { "raw3", raw3 }, { "boxed3", boxed3 }, { "kept3", kept3 }, { "raw", raw }, { "boxed", boxed }, { "keyed3", keyed3 }, { "parked3", parked3 } };
 
 enum { WAYS = sizeof ways / sizeof ways[0], SLICES = 2000, IN_A_SLICE = 20 };
 
@@ -93,6 +114,7 @@ static void times(void) {
 int main(int argc, char **argv) {
     dspec_tracer_options options = { .bufsize = DSPEC_MAX_BUFFER, .period_ms = 100000, .by_thread = getenv("BY_THREAD") != NULL, .no_membarrier = getenv("EXCHANGE") != NULL };
     const char *way = argc > 2 ? argv[2] : "", *cpus = "1";
+    if (strcmp(way, "keyed3") == 0 || strcmp(way, "parked3") == 0 || strcmp(way, "times") == 0) options.park_bytes = 1 << 16;
     if (argc > 3 && strcmp(way, "times") == 0) cpus = argv[3];
     if (argc > 4) cpus = argv[4];
     if (getenv("CLOCK") != NULL && strcmp(getenv("CLOCK"), "tsc") == 0) options.clock = DSPEC_CLOCK_TSC;

@@ -14,6 +14,7 @@
 
 #include "dspec_tracer.h"
 #include "folder.h"
+#include "park.h"
 #include "paths.h"
 
 #include <errno.h>
@@ -35,12 +36,20 @@ static_assert((HELD | GONE | IDLE | SHARED | WANTED) == DSPEC_TRACER_LOOK_, "the
 /* Within these bounds somebody waits for lanes, in microseconds: a thread for one, the consumer in a turn of a flush and at the end for all; in a round for none. */
 enum { ENTER_US = 1000000, TAKE_US = 20000, CLOSE_US = 5000000 };
 enum { MAX_CRASHES = 16 };
+/* The most bytes of a batch that the folder gets: a buffer, or parked paths with their events, of which the last one may be aligned. */
+#define MOST_BATCH(OPTIONS) ((OPTIONS)->bufsize + 2 * (size_t)BYTES_OF_PATH)
 /* In place of the number of the path to which a thread recorded last, where that path got no slot. */
 #define REFUSED_PATH UINT64_C(1)
 /* A record's text in words of eight bytes, at most. */
 enum { MOST_WORDS = 9 };
 /* Of the event that tells of a path, in words and in bytes. */
 enum { WORDS_OF_PATH = 6, BYTES_OF_PATH = 56 };
+/* How a path ends, and what is answered where it ended otherwise: it was kept since its key is, or thrown away since it can't be parked. */
+typedef enum ending { DROPS = 0, KEEPS = 1, PARKS = 2 } ending;
+#define KEPT_BY_KEY ((dspec_status)41)
+#define THROWN_AWAY ((dspec_status)42)
+/* Of a path's key: there is none, there is one, and that one is kept, so that the path is kept at its end. */
+enum { NO_KEY = 0, HAS_KEY = 1, IS_WANTED = 2 };
 /* After the tracers stand watches (watch.h), which signals know as tracers without lanes. */
 enum { MAX_WATCHES = 64, MAX_SLOTS = DSPEC_MAX_TRACERS + MAX_WATCHES };
 enum { CACHE_LINES = 128 };
@@ -48,7 +57,7 @@ enum { CACHE_LINES = 128 };
 #define APART __attribute__((aligned(CACHE_LINES)))
 static_assert(_Alignof(dspec_tracer_lane) == CACHE_LINES, "what a record looks at has lines of its own");
 
-/* What a lane has of an open path beside its table, at the same place; whoever has the lane writes it. Others may look at `mark` and `token` at any time. */
+/* What a lane has of an open path beside its table, at the same place; whoever has the lane writes it. Others may look at `mark`, `token` and `tag` at any time. */
 typedef struct open_path {
     uint64_t mark;   /* its number, in the upper half; 0: none is open here */
     uint64_t left;   /* the mark of a path whose end couldn't get into its lane, and which is to be thrown away; set from outside the lane */
@@ -60,9 +69,11 @@ typedef struct open_path {
     bool waits;      /* it is being kept, as soon as there is room */
     bool is_prepared, has_event; /* for its commit, where its event is among its records or had no room there */
     bool has_part;   /* its older records are kept */
-    bool has_key, has_first;
+    uint8_t key_state;
+    bool has_first;
     uint8_t first_words; /* with keep_last its first record */
     uint64_t key[2];
+    uint64_t tag; /* with park_bytes that of the key, or of the key of a path that was here before; 0: there is nothing to look for */
     uint64_t first_claim, first[MOST_WORDS];
 } open_path;
 
@@ -79,6 +90,7 @@ struct lane {
     uint32_t opened; /* the number of the path that was opened last */
     body *tracer;
     dspec_paths paths;
+    parked_paths parked; /* with park_bytes */
     uint64_t kept, thrown, cut, cut_records; /* kept, thrown: until now, which others may look at at any time; the last word is the table's */
     uint64_t saved; /* paths that the consumer has kept, for a crash or because the stop keeps what is open */
     uint32_t handed; /* how many paths of the thread whose own it is others have ended since that looked */
@@ -189,8 +201,12 @@ struct dspec_tracer_body {
     sender sent; /* who sent the signal that `deferred` is */
     uint64_t claim_of_path, claim_of_thread, claim_of_counts, claim_of_refused;
     uint64_t told_at, told_paths, told_records, told_waited, told_missing, told_kept, told_thrown; /* the consumer's, of dspec_refused */
+    uint64_t claim_of_parked;
+    dspec_tracer_report told_parked; /* as dspec_parked told it last */
     uint32_t told_threads;
     dspec_tracer *front; /* the program's */
+    struct keys *keys;   /* both with park_bytes */
+    struct keeper *keeper;
     uint64_t claims[DSPEC_MAX_ENABLINGS];
     uint32_t missing_state; /* of the name: 0 none is noted, 1 it is being written, 2 it is there */
     char missing_name[64];  /* the first event that records and isn't the tracer's */
@@ -298,6 +314,7 @@ bool lanes_wait_for_disk(const body *tracer);
 bool lane_end(body *tracer, struct lane *lane);
 void lane_add(dspec_tracer_report *sum, const dspec_report *report);
 void lane_counts(const struct lane *lane, dspec_report *report); /* takes out what is no record of the program */
+void lane_add_parked(const struct lane *lane, dspec_tracer_report *sum); /* what became of the paths that were parked there, and of their records */
 void lane_drop(struct lane *lane);
 
 /* ---- clock.c ---- */
@@ -366,6 +383,7 @@ void event_goes(body *tracer, dspec_event *event);
 void events_forget(body *tracer);
 void enabling_widths(const dspec_enabling *enabling, uint8_t widths[DSPEC_MAX_FIELDS + 1], size_t *n); /* with the path's number as the first */
 extern const dspec_enabling *const own_events[]; /* the tracer's */
+size_t own_count(const dspec_tracer_options *options); /* so many of them it has */
 dspec_status enable_all(body *tracer, const dspec_enabling *const *events, struct naming *naming);
 struct naming *naming_new(void);
 const dspec_names *naming_names(const struct naming *naming);

@@ -83,9 +83,11 @@ static uint64_t drain(body *tracer, uint64_t which) { return each_lane(tracer, w
 
 /* A flush is served as each lane was found empty since it was asked for; those that weren't are tried again in the next turn. */
 static void serve_flush(body *tracer, uint32_t asked) {
-    if (tracer->flushed != asked) tracer->undrained = all_of(tracer);
+    const bool is_new = tracer->flushed != asked;
+    if (is_new) tracer->undrained = all_of(tracer);
     tracer->flushed = asked;
     tracer->undrained = drain(tracer, tracer->undrained);
+    if (tracer->keeper != NULL && !keeper_flushes(tracer, is_new)) return;
     if (tracer->undrained != 0) return;
     STORE(&tracer->misses, tracer->folder.lost);
     __atomic_store_n(&tracer->served, asked, __ATOMIC_RELEASE);
@@ -109,19 +111,31 @@ static uint64_t ask_busy(body *tracer) {
 }
 
 /* Threads that run serve their lanes themselves, where nobody wants room meanwhile; those that made no service are in no hurry, and wait if they come now. What stood sealed until the next
- * round would be lost with a kill. */
-static void make_round(body *tracer, bool is_pressed) {
+ * round would be lost with a kill. Which lanes had calls; unwritten: of these those that have something still of what they had before. */
+static uint64_t make_round(body *tracer, bool is_pressed, uint64_t *unwritten) {
     const uint64_t busy = ask_busy(tracer);
-    if (busy == 0) return;
+    *unwritten = 0;
+    if (busy == 0) return 0;
     if (!is_pressed) tracer->is_pressed = is_rung(tracer, SERVE_US);
     for (uint32_t i = 0; i < tracer->count; i++) {
         patience none = patience_of(0);
         bool is_empty;
         if (!(busy >> i & 1)) continue;
-        if (state_of(&tracer->lanes[i]) & SERVE) serve_between(&tracer->lanes[i], &none, &is_empty);
+        if (state_of(&tracer->lanes[i]) & SERVE && !serve_between(&tracer->lanes[i], &none, &is_empty)) *unwritten |= UINT64_C(1) << i;
         lane_write(tracer, &tracer->lanes[i]);
+        if (LOAD(&tracer->lanes[i].waits_for_disk)) *unwritten |= UINT64_C(1) << i;
         lane_clean(&tracer->lanes[i]);
     }
+    return busy;
+}
+
+/* A round, and what is to be done with parked paths before it and after it. */
+static void make_turn(body *tracer, bool is_pressed) {
+    uint64_t unwritten;
+    const uint64_t busy = make_round(tracer, is_pressed, &unwritten);
+    if (tracer->keeper == NULL) return;
+    keeper_looks(tracer, busy);
+    keeper_tells(tracer, unwritten);
 }
 
 /* A path is over, and its thread hasn't ended it yet: that finds here what came of it. */
@@ -232,16 +246,40 @@ static void trace_own(body *tracer, uint32_t epid, uint64_t at, const uint64_t *
 typedef struct news {
     uint64_t paths, records, waited, missing, kept, thrown;
     uint32_t threads;
-    bool is_refused, is_counted, is_any; /* since it was told last */
+    dspec_tracer_report parked;
+    bool is_refused, is_counted, is_parked, is_any; /* since it was told last */
 } news;
+
+static void tell_keys(const body *tracer, dspec_tracer_report *report) {
+    report->park_least_ms = keeper_least_ms(tracer->keeper);
+    report->key_missed = keeper_missed(tracer->keeper);
+    report->keys_refused = keys_refused(tracer->keys);
+}
+
+/* The counts of parked paths and their keys. */
+static void add_parked(const body *tracer, dspec_tracer_report *sum) {
+    for (uint32_t i = 0; i < tracer->count; i++) lane_add_parked(&tracer->lanes[i], sum);
+    tell_keys(tracer, sum);
+}
+
+/* What became of parked paths is news of the others too. */
+static bool has_parked_news(const body *tracer, news *is) {
+    const dspec_tracer_report *told = &tracer->told_parked;
+    add_parked(tracer, &is->parked);
+    is->kept += is->parked.park_kept;
+    is->thrown += is->parked.park_evicted + is->parked.park_expired;
+    return is->parked.parked != told->parked || is->parked.park_kept != told->park_kept || is->parked.park_evicted != told->park_evicted || is->parked.park_expired != told->park_expired ||
+           is->parked.key_missed != told->key_missed || is->parked.keys_refused != told->keys_refused;
+}
 
 static news news_of(const body *tracer) {
     news is = { .paths = LOAD(&tracer->no_slot), .records = LOAD(&tracer->refused_records), .waited = LOAD(&tracer->waited), .missing = LOAD(&tracer->missing), .kept = tracer->report.crash_paths,
                 .threads = (uint32_t)LOAD(&tracer->threads) };
     for (uint32_t i = 0; i < tracer->count; i++) is.kept += LOAD(&tracer->lanes[i].kept), is.thrown += LOAD(&tracer->lanes[i].thrown);
+    is.is_parked = tracer->keeper != NULL && has_parked_news(tracer, &is);
     is.is_refused = is.paths != tracer->told_paths || is.records != tracer->told_records || is.waited != tracer->told_waited || is.missing != tracer->told_missing;
     is.is_counted = is.kept != tracer->told_kept || is.thrown != tracer->told_thrown;
-    is.is_any = is.is_refused || is.is_counted || is.threads != tracer->told_threads;
+    is.is_any = is.is_refused || is.is_counted || is.is_parked || is.threads != tracer->told_threads;
     return is;
 }
 
@@ -273,6 +311,14 @@ static void tell_decided(body *tracer, uint64_t at, const news *is) {
     tracer->told_thrown = is->thrown;
 }
 
+static void tell_parked(body *tracer, uint64_t at, const dspec_tracer_report *is) {
+    dspec_tracer_report *told = &tracer->told_parked;
+    const uint64_t words[] = { 0, is->parked - told->parked, is->park_kept - told->park_kept, is->park_evicted - told->park_evicted, is->park_expired - told->park_expired,
+                               is->key_missed - told->key_missed, is->keys_refused - told->keys_refused, is->park_least_ms };
+    put_own(tracer, tracer->claim_of_parked, at, words, 8);
+    *told = *is;
+}
+
 /* The news are told at most once a second and at the end. */
 static void tell_own(body *tracer, bool at_once) {
     struct lane *own = &tracer->lanes[tracer->count];
@@ -284,6 +330,7 @@ static void tell_own(body *tracer, bool at_once) {
     tell_threads(tracer, at, is.threads);
     if (is.is_refused) tell_refused(tracer, at, &is);
     if (is.is_counted) tell_decided(tracer, at, &is);
+    if (is.is_parked) tell_parked(tracer, at, &is.parked);
     lane_empty(tracer, own);
 }
 
@@ -359,6 +406,10 @@ static void save_crashes(body *tracer) {
     tell_unsaved(tracer, saved);
     tell_own(tracer, true);
     if (!is_bounded) drain(tracer, all_of(tracer));
+    if (tracer->keeper != NULL) {
+        keeper_turns(tracer);
+        keeper_tells(tracer, 0);
+    }
     for (uint32_t i = 0; i < MAX_CRASHES; i++)
         if (is_saved[i]) crash_is_saved(tracer, &tracer->crashes[i]);
 }
@@ -370,7 +421,8 @@ static void decide_rest(body *tracer, struct lane *lane) {
     dspec_open_path path;
     for (uint32_t place = 0; place < MAX_OPEN; place++) {
         if (dspec_paths_open_of(&lane->paths, place, 0, &path) != DSPEC_OK) continue;
-        if (lane->open[place].waits && path_commit(lane, place, path.newest, DSPEC_WHY_KEPT, EMPTY_ROOM) == DSPEC_OK) {
+        const bool is_wanted = lane->open[place].key_state == IS_WANTED;
+        if ((is_wanted || lane->open[place].waits) && path_commit(lane, place, path.newest, is_wanted ? DSPEC_WHY_KEY : DSPEC_WHY_KEPT, EMPTY_ROOM) == DSPEC_OK) {
             STORE(&lane->kept, lane->kept + 1);
             continue;
         }
@@ -389,6 +441,7 @@ void tell_counts(const body *tracer, dspec_tracer_report *report) {
     report->late = LOAD(&tracer->late);
     report->waited = LOAD(&tracer->waited);
     report->threads = LOAD(&tracer->threads);
+    if (tracer->keeper != NULL) tell_keys(tracer, report);
     report->gone_folders = folder->gone;
     report->gone_records = folder->gone_records;
     if (__atomic_load_n(&tracer->missing_state, __ATOMIC_ACQUIRE) == 2)
@@ -404,11 +457,13 @@ void tell_counts(const body *tracer, dspec_tracer_report *report) {
 static bool end_taken(body *tracer, struct lane *lane) {
     dspec_path_counts before = { 0 }, counts = { 0 };
     path_throw_left(lane);
+    if (tracer->keeper != NULL && lane->number < tracer->count) keeper_ends_lane(tracer, lane);
     dspec_paths_counts(&lane->paths, &before);
     decide_rest(tracer, lane);
     dspec_paths_counts(&lane->paths, &counts);
+    park_settle(lane);
     tracer->report.kept += counts.kept - lane->saved;
-    tracer->report.thrown += before.thrown_away;
+    tracer->report.thrown += before.thrown_away - park_over(&lane->parked);
     tracer->report.cut += lane->cut;
     tracer->report.cut_records += lane->cut_records;
     return lane_end(tracer, lane);
@@ -426,6 +481,7 @@ static void end_all(body *tracer) {
     int code;
     STORE(&tracer->up, 0);
     STORE(&tracer->front->up, 0);
+    for (bool is_first = true; tracer->keeper != NULL && (is_first || keys_are_waiting(tracer->keys)); is_first = false) keeper_turns(tracer);
     drain(tracer, all_of(tracer));
     for (uint32_t i = 0; i < tracer->count; i++) state_set(&tracer->lanes[i], GONE);
     tracer->report.stuck_lanes += (uint32_t)__builtin_popcountll(each_lane(tracer, all_of(tracer), CLOSE_US, end_lane, NULL));
@@ -434,6 +490,7 @@ static void end_all(body *tracer) {
     if (!end_taken(tracer, &tracer->lanes[tracer->count])) tracer->report.stuck_lanes++;
     code = clock_tell(tracer, true);
     tracer->whole = dspec_folder_end(&tracer->folder) && tracer->report.stuck_lanes == 0;
+    if (tracer->keeper != NULL) keeper_ends(tracer);
     events_forget(tracer);
     dspec_schema_drop(&tracer->schema);
     tell_counts(tracer, &tracer->report);
@@ -452,9 +509,10 @@ static bool turn(body *tracer) {
     tracer->is_pressed = false;
     clock_tell(tracer, false);
     save_crashes(tracer);
+    if (tracer->keeper != NULL && !is_last && dspec_monotonic() >= tracer->quiet_until) keeper_turns(tracer);
     tell_own(tracer, asked != tracer->flushed);
     if (asked != tracer->served) serve_flush(tracer, asked);
-    if (!is_last && dspec_monotonic() >= tracer->quiet_until) make_round(tracer, is_pressed);
+    if (!is_last && dspec_monotonic() >= tracer->quiet_until) make_turn(tracer, is_pressed);
     if (signal_is_crash((int)deferred)) kept = save_paths(tracer, 0, DSPEC_WHY_SIGNAL, &stuck);
     if (deferred != 0) tell_signal(tracer, (int32_t)deferred, &tracer->sent, kept, stuck);
     if (is_last) end_all(tracer);
@@ -474,7 +532,7 @@ void consumer_ends_by_signal(body *tracer) {
 /* How long rounds would find nothing, in microseconds, if nobody stirs: each lane was found empty after its last call, and there is no news, or it is too early for it. 0: one is due. */
 static uint64_t idle_for(const body *tracer) {
     uint64_t since;
-    if (tracer->undrained != 0 || lanes_wait_for_disk(tracer)) return 0;
+    if (tracer->undrained != 0 || lanes_wait_for_disk(tracer) || keeper_is_due(tracer)) return 0;
     for (uint32_t i = 0; i < tracer->count; i++)
         if (!(state_of(&tracer->lanes[i]) & IDLE)) return 0;
     if (!news_of(tracer).is_any) return FOREVER;
@@ -494,6 +552,7 @@ static void sleep_idle(body *tracer) {
     if (most > 0) is_rung(tracer, most);
     is_stirred = __atomic_exchange_n(&tracer->asleep, 0, __ATOMIC_SEQ_CST) == 0;
     tracer->is_pressed = tracer->heard - heard > is_stirred;
+    if (tracer->keeper != NULL) keeper_wakes(tracer->keeper);
 }
 
 void *consumer_runs(void *of_tracer) {

@@ -17,9 +17,9 @@ static const known_word known[] = {
     { "lanes", IS_COUNT, AT(lanes) },            { "paths", IS_COUNT, AT(paths) },           { "bufsize", IS_BYTES_32, AT(bufsize) },    { "specsize", IS_BYTES_32, AT(specsize) },
     { "period", IS_MILLISECONDS, AT(period_ms) }, { "keep", IS_MILLISECONDS, AT(keep_ms) },  { "crash", IS_MILLISECONDS, AT(crash_ms) }, { "survive", IS_FLAG, AT(survive) },
     { "keep_last", IS_FLAG, AT(keep_last) },     { "keep_all", IS_FLAG, AT(keep_all) },      { "keep_open", IS_FLAG, AT(keep_open) },    { "clock", IS_CLOCK, AT(clock) },
-    { "off", IS_PROBE, 0 },
+    { "park", IS_BYTES, AT(park_bytes) },        { "parked", IS_MILLISECONDS, AT(park_ms) }, { "remember", IS_MILLISECONDS, AT(remember_ms) }, { "off", IS_PROBE, 0 },
 };
-#define WORDS "slow, sample, max, folders, lanes, paths, bufsize, specsize, period, keep, crash, survive, keep_last, keep_all, keep_open, clock, off"
+#define WORDS "slow, sample, max, folders, lanes, paths, bufsize, specsize, period, keep, crash, survive, keep_last, keep_all, keep_open, clock, park, parked, remember, off"
 
 typedef struct unit {
     const char *name;

@@ -1,6 +1,7 @@
 /* heap.c: where the library takes memory: of malloc, or of a memory of the caller's (dspec_memory.h). The three calls stand in the place of those of the kit's `heap`. */
 #include "dspec.h"
 #include "dspec_memory.h"
+#include "park.h"
 #include "paths.h"
 
 #include <assert.h>
@@ -161,6 +162,20 @@ dspec_status paths_memory(size_t *bytes) {
     dspec_drop(&paths);
     dspec_memory_turn(before);
     if (status == DSPEC_OK) *bytes = sum;
+    return status;
+}
+
+dspec_status parking_memory(size_t bytes, size_t most_blocks, size_t *all) {
+    dspec_parking parking = DSPEC_EMPTY;
+    void *before = dspec_memory_turn(NULL);
+    size_t sum = 0, *outer = counted;
+    dspec_status status;
+    counted = &sum;
+    status = dspec_parking_new(&parking, bytes, most_blocks);
+    counted = outer;
+    dspec_drop(&parking);
+    dspec_memory_turn(before);
+    if (status == DSPEC_OK) *all = sum;
     return status;
 }
 

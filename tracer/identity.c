@@ -118,8 +118,8 @@ static dspec_status enable(body *tracer, const dspec_enabling *enabling, uint64_
 #define U DSPEC_KIND_UNSIGNED
 #define S DSPEC_KIND_SIGNED
 #define T DSPEC_KIND_TEXT
-static const char *const why_texts[] = { "kept", "failed", "slow", "asked", "sampled", "crash", "undecided", "signal" };
-enum { OWN_CRASH = 0, OWN_PLACE = 1, OWN_PATH = 2, OWN_THREAD = 3, OWN_COUNTS = 4, OWN_REFUSED = 5, OWN_SIGNAL = 6, OWN_UNSAVED = 7 };
+static const char *const why_texts[] = { "kept", "failed", "slow", "asked", "sampled", "crash", "undecided", "signal", "key" };
+enum { OWN_CRASH = 0, OWN_PLACE = 1, OWN_PATH = 2, OWN_THREAD = 3, OWN_COUNTS = 4, OWN_REFUSED = 5, OWN_SIGNAL = 6, OWN_UNSAVED = 7, OWN_PARKED = 8 };
 static const char *const crash_fields[] = { "signal", "code", "thread", "address", "pc", "paths", "stuck" };
 static const char *const place_fields[] = { "frame", "offset", "file" };
 static const char *const path_fields[] = { "thread", "by", "cut", "why", "begun", "key_high", "key_low" };
@@ -128,6 +128,7 @@ static const char *const counts_fields[] = { "kept", "thrown" };
 static const char *const refused_fields[] = { "paths", "records", "waited", "missing" };
 static const char *const signal_fields[] = { "signal", "code", "sender", "user", "thread", "paths", "stuck" };
 static const char *const unsaved_fields[] = { "threads" };
+static const char *const parked_fields[] = { "parked", "kept", "evicted", "expired", "missed", "refused", "least_ms" };
 static const dspec_enabling own[] = {
     { NULL, "dspec_crash", crash_fields, (const uint8_t[]){ 4, 4, 4, 8, 8, 4, 4 }, (const uint8_t[]){ S, S, U, U, U, U, U }, 7, NULL, NULL },
     { NULL, "dspec_crash_at", place_fields, (const uint8_t[]){ 4, 8, 40 }, (const uint8_t[]){ U, U, T }, 3, NULL, NULL },
@@ -137,8 +138,12 @@ static const dspec_enabling own[] = {
     { NULL, "dspec_refused", refused_fields, (const uint8_t[]){ 8, 8, 8, 8 }, (const uint8_t[]){ U, U, U, U }, 4, NULL, NULL },
     { NULL, "dspec_signal", signal_fields, (const uint8_t[]){ 4, 4, 4, 4, 4, 4, 4 }, (const uint8_t[]){ S, S, S, U, U, U, U }, 7, NULL, NULL },
     { NULL, "dspec_unsaved", unsaved_fields, (const uint8_t[]){ 8 }, (const uint8_t[]){ U }, 1, NULL, NULL },
+    { NULL, "dspec_parked", parked_fields, (const uint8_t[]){ 8, 8, 8, 8, 8, 8, 8 }, (const uint8_t[]){ U, U, U, U, U, U, U }, 7, NULL, NULL },
 };
-const dspec_enabling *const own_events[] = { &own[0], &own[1], &own[2], &own[3], &own[4], &own[5], &own[6], &own[7], NULL };
+const dspec_enabling *const own_events[] = { &own[0], &own[1], &own[2], &own[3], &own[4], &own[5], &own[6], &own[7], &own[8], NULL };
+
+/* The last one is there with park_bytes. */
+size_t own_count(const dspec_tracer_options *options) { return options->park_bytes > 0 ? OWN_PARKED + 1 : OWN_PARKED; }
 
 void enabling_widths(const dspec_enabling *enabling, uint8_t widths[DSPEC_MAX_FIELDS + 1], size_t *n) {
     size_t count = 0;
@@ -160,7 +165,7 @@ static dspec_status enable_own(body *tracer, struct naming *naming) {
     dspec_status status = DSPEC_OK;
     name_whys(tracer);
     tracer->labels[3] = &tracer->whys;
-    for (size_t i = 0; own_events[i] != NULL && status == DSPEC_OK; i++) {
+    for (size_t i = 0; i < own_count(&tracer->options) && status == DSPEC_OK; i++) {
         dspec_enabling enabling = own[i];
         if (i == OWN_PATH) enabling.labels = tracer->labels;
         status = enable(tracer, &enabling, &claims[i], naming);
@@ -173,6 +178,7 @@ static dspec_status enable_own(body *tracer, struct naming *naming) {
     tracer->claim_of_thread = claims[OWN_THREAD];
     tracer->claim_of_counts = claims[OWN_COUNTS];
     tracer->claim_of_refused = claims[OWN_REFUSED];
+    tracer->claim_of_parked = claims[OWN_PARKED];
     return status;
 }
 

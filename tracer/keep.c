@@ -7,8 +7,8 @@ static void words_of_path(const open_path *path, uint64_t begun, uint32_t why, u
     words[1] = path->thread | (uint64_t)dspec_here.thread << 32;
     words[2] = path->untold | (uint64_t)why << 32;
     words[3] = begun;
-    words[4] = path->has_key ? path->key[0] : 0;
-    words[5] = path->has_key ? path->key[1] : 0;
+    words[4] = path->key_state != NO_KEY ? path->key[0] : 0;
+    words[5] = path->key_state != NO_KEY ? path->key[1] : 0;
 }
 
 /* Keeps one part of a path. count: its records. A kill in its middle finds that it was made. */
@@ -142,6 +142,12 @@ static dspec_status keep_parts(struct lane *lane, open_path *path, uint32_t plac
     return status == DSPEC_OK || status == DSPEC_BUSY ? status : DSPEC_LOST;
 }
 
+/* A path that is kept since its key was tells nobody of that. */
+static void path_tells_key(const struct lane *lane, const open_path *opened) {
+    body *tracer = lane->tracer;
+    if (tracer->keys != NULL && keys_put(tracer->keys, opened->key, lane->number) && tracer->options.on_keep != NULL) consumer_wakes(tracer);
+}
+
 dspec_status path_commit(struct lane *lane, uint32_t place, uint64_t id, uint32_t why, room has) {
     open_path *opened = &lane->open[place];
     const bool has_claim = opened->has_part;
@@ -160,5 +166,6 @@ dspec_status path_commit(struct lane *lane, uint32_t place, uint64_t id, uint32_
     STORE(&lane->cut_records, lane->cut_records + opened->cut);
     STORE(&lane->cut, lane->cut + (status == DSPEC_OK && opened->untold > 0));
     if (status == DSPEC_OK && !LIKELY(opened->has_event)) tell_after_path(lane, opened, path.begun, why, has);
+    if (status == DSPEC_OK && opened->key_state == HAS_KEY) path_tells_key(lane, opened);
     return status;
 }

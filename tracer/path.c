@@ -1,6 +1,8 @@
 /* path.c: records and paths, as the threads of a program make them; but a record that nobody hinders is made in its caller (dspec/tracer_record.h). */
 #include "body.h"
 
+#include <unistd.h>
+
 uint64_t dspec_tracer_now(void) { return dspec_monotonic(); }
 
 /* NULL of a tracer that isn't started, and of a path that was never begun. */
@@ -34,8 +36,8 @@ INTO_CALLER void note(struct lane *lane, uint32_t place, const dspec_path *path,
     open_path *opened = place_at(lane, place);
     opened->thread = dspec_here.thread;
     opened->own = own;
-    opened->waits = opened->is_prepared = opened->has_event = opened->has_part = opened->has_key = opened->has_first = false;
-    opened->first_words = 0;
+    opened->waits = opened->is_prepared = opened->has_event = opened->has_part = opened->has_first = false;
+    opened->first_words = opened->key_state = 0;
     STORE(&opened->token, token);
     __atomic_store_n(&opened->mark, path->mark, __ATOMIC_RELEASE);
 }
@@ -367,13 +369,44 @@ dspec_status dspec_tracer_put_3(dspec_tracer *tracer, const dspec_event *event, 
     return record(tracer, event, words, 3);
 }
 
-/* Decides a path in its lane, which the caller is in: DSPEC_OK where it was decided so, DSPEC_BUSY where it waits for room, DSPEC_VOID where it isn't open. */
-INTO_CALLER dspec_status decide(struct lane *lane, uint32_t place, uint64_t id, bool keep, bool waits, uint32_t why) {
-    const dspec_status status = keep ? path_commit(lane, place, id, why, waits ? WAITS_FOR_ROOM : ANY_ROOM) : path_discard(lane, place, id);
-    if (!LIKELY(status == DSPEC_OK)) return status;
-    if (keep) STORE(&lane->kept, lane->kept + 1);
-    else STORE(&lane->thrown, lane->thrown + 1);
+/* Keeps a path that was to be thrown away, or parked, since its key is kept; the caller is in its lane. */
+RARELY static dspec_status keep_by_key(struct lane *lane, uint32_t place, uint64_t id) {
+    const dspec_status status = path_commit(lane, place, id, DSPEC_WHY_KEY, ANY_ROOM);
+    if (status != DSPEC_OK) return status;
+    STORE(&lane->kept, lane->kept + 1);
+    return KEPT_BY_KEY;
+}
+
+INTO_CALLER dspec_status throw(struct lane *lane, uint32_t place, uint64_t id) {
+    const dspec_status status = path_discard(lane, place, id);
+    if (LIKELY(status == DSPEC_OK)) STORE(&lane->thrown, lane->thrown + 1);
     return status;
+}
+
+/* Parks a path, or throws it away where it has no key, or the tracer no ring. */
+static dspec_status park(struct lane *lane, uint32_t place, uint64_t id, uint64_t mark) {
+    const open_path *opened = &lane->open[place];
+    dspec_status status;
+    if (LIKELY(opened->key_state == HAS_KEY) && LIKELY(lane->tracer->keys != NULL)) status = path_park(lane, place, id, mark);
+    else status = path_discard(lane, place, id) == DSPEC_OK ? THROWN_AWAY : DSPEC_VOID;
+    if (!LIKELY(status != THROWN_AWAY)) STORE(&lane->thrown, lane->thrown + 1);
+    return status;
+}
+
+/* Decides the path of a place, a speculation and a mark, in its lane, which the caller is in: DSPEC_OK where it was decided so, KEPT_BY_KEY and THROWN_AWAY where otherwise, DSPEC_BUSY where
+ * it waits for room, DSPEC_VOID where it isn't open. */
+INTO_CALLER dspec_status end_at(struct lane *lane, uint32_t place, uint64_t id, uint64_t mark, ending as, bool waits, uint32_t why) {
+    dspec_status status;
+    if (as != KEEPS && !LIKELY(place_at(lane, place)->key_state != IS_WANTED)) return keep_by_key(lane, place, id);
+    if (as == DROPS) return throw(lane, place, id);
+    if (as == PARKS) return park(lane, place, id, mark);
+    status = path_commit(lane, place, id, why, waits ? WAITS_FOR_ROOM : ANY_ROOM);
+    if (LIKELY(status == DSPEC_OK)) STORE(&lane->kept, lane->kept + 1);
+    return status;
+}
+
+INTO_CALLER dspec_status decide(struct lane *lane, const dspec_path *path, ending as, bool waits, uint32_t why) {
+    return end_at(lane, path->place, path->id, path->mark, as, waits, why);
 }
 
 /* Takes one from the list of what the consumer has ended, for whoever has the lane: its last one gets this place. The consumer may look at `mark` and `token` at any time. */
@@ -398,11 +431,11 @@ RARELY static bool take_ended(struct lane *lane, uint64_t mark, ended_path *foun
 }
 
 /* A path whose end can't get into its lane is thrown away by the next one that has it. */
-RARELY static bool leave_behind(struct lane *lane, open_path *path, uint64_t mark) {
-    if (state_of(lane) & GONE) return false;
+RARELY static dspec_status leave_behind(struct lane *lane, open_path *path, uint64_t mark) {
+    if (state_of(lane) & GONE) return DSPEC_STOPPED;
     STORE(&path->left, mark);
     __atomic_store_n(&lane->left, 1, __ATOMIC_RELEASE);
-    return false;
+    return DSPEC_STOPPED;
 }
 
 /* Counts for whoever has the lane as its own that others have ended a path of it. */
@@ -410,14 +443,18 @@ static inline void hand_back(struct lane *lane, bool was_own, bool own) {
     if (!LIKELY(was_own == own)) ADD(&lane->handed, 1);
 }
 
+/* Whether a path whose end came to this was lost, for want of room. */
+static inline bool is_lost(dspec_status status) { return status != DSPEC_OK && status != KEPT_BY_KEY && status != THROWN_AWAY; }
+
 /* The end of a path that isn't open, in its lane, which it leaves: whether the consumer has kept it. */
-RARELY static bool end_late(dspec_tracer_seat *seat, struct lane *lane, way in, const dspec_path *path, bool keep, bool own) {
+RARELY static dspec_status end_late(dspec_tracer_seat *seat, struct lane *lane, way in, const dspec_path *path, ending as, bool own) {
     ended_path found;
     const bool is_found = take_ended(lane, path->mark, &found);
     if (is_found) hand_back(lane, found.own, own);
     lane_leave(lane, in);
     if (is_found) lane_path_off(seat, lane, own);
-    return is_found && keep && found.is_kept;
+    if (!is_found || !found.is_kept) return DSPEC_VOID;
+    return as == KEEPS ? DSPEC_OK : KEPT_BY_KEY;
 }
 
 /* A path that waits for room, in its lane, which it leaves for a moment. */
@@ -428,20 +465,20 @@ RARELY static void wait_for_room(struct lane *lane, way in, const dspec_path *pa
     sleep_for(1000);
 }
 
-/* Ends a path: whether it was decided so. After a stop the stop has decided it, and at a thread's end that has. */
-INTO_CALLER bool end(dspec_tracer_seat *seat, dspec_path *path, bool keep, uint32_t why) {
+/* Ends a path: what came of it. After a stop the stop has decided it, and at a thread's end that has. */
+INTO_CALLER dspec_status end(dspec_tracer_seat *seat, dspec_path *path, ending as, uint32_t why) {
     struct lane *lane = lane_of(path->lane);
     open_path *const opened = place_at(lane, path->place);
     const bool own = path->own && path->lane == seat->own;
-    const uint64_t most = keep ? lane->tracer->options.keep_ms * UINT64_C(1000000) : 0, began = most > 0 ? dspec_monotonic() : 0;
+    const uint64_t most = as == KEEPS ? lane->tracer->options.keep_ms * UINT64_C(1000000) : 0, began = most > 0 ? dspec_monotonic() : 0;
     dspec_status status;
     way in;
     is_over(path);
     for (;;) {
         in = lane_enter(seat, lane);
         if (in == NOT_IN) return leave_behind(lane, opened, path->mark);
-        status = decide(lane, path->place, path->id, keep, most > 0 && dspec_monotonic() - began < most, why);
-        if (!LIKELY(status != DSPEC_VOID)) return end_late(seat, lane, in, path, keep, own);
+        status = decide(lane, path, as, most > 0 && dspec_monotonic() - began < most, why);
+        if (!LIKELY(status != DSPEC_VOID)) return end_late(seat, lane, in, path, as, own);
         serve_if_asked(lane);
         if (status != DSPEC_BUSY) break;
         wait_for_room(lane, in, path);
@@ -450,25 +487,25 @@ INTO_CALLER bool end(dspec_tracer_seat *seat, dspec_path *path, bool keep, uint3
     place_clear(opened);
     lane_leave(lane, in);
     lane_path_off(seat, lane, own);
-    if (status != DSPEC_OK) wants_room(lane->tracer);
-    return status == DSPEC_OK;
+    if (is_lost(status)) wants_room(lane->tracer);
+    return status;
 }
 
-static bool end_slowly(dspec_path *path, bool keep, uint32_t why) {
+static dspec_status end_slowly(dspec_path *path, ending as, uint32_t why) {
     body *tracer = body_of_path(path);
     dspec_tracer_seat *seat;
-    bool done;
-    if (tracer == NULL || seat_take(tracer, &seat) != DSPEC_OK) return false;
-    done = end(seat, path, keep, why);
+    dspec_status status;
+    if (tracer == NULL || seat_take(tracer, &seat) != DSPEC_OK) return DSPEC_VOID;
+    status = end(seat, path, as, why);
     seat_leave(seat);
-    return done;
+    return status;
 }
 
 /* The end of a path in the call on its thread's own lane: whether it came to one. */
-INTO_CALLER bool end_in(struct lane *lane, dspec_path *path, bool keep, uint32_t why, dspec_status *status) {
+INTO_CALLER bool end_in(struct lane *lane, dspec_path *path, ending as, uint32_t why, dspec_status *status) {
     open_path *const opened = place_at(lane, path->place);
-    *status = decide(lane, path->place, path->id, keep, lane->tracer->options.keep_ms > 0, why);
-    if (!LIKELY(*status == DSPEC_OK) && *status != DSPEC_LOST) return false;
+    *status = decide(lane, path, as, lane->tracer->options.keep_ms > 0, why);
+    if (!LIKELY(*status == DSPEC_OK) && is_lost(*status) && *status != DSPEC_LOST) return false;
     is_over(path);
     serve_if_asked(lane);
     hand_back(lane, opened->own, true);
@@ -477,37 +514,43 @@ INTO_CALLER bool end_in(struct lane *lane, dspec_path *path, bool keep, uint32_t
 }
 
 /* The end of a path of its thread's own lane, where nobody is in the way: whether it came to one, and what came of it. The thread is in the tracer. */
-INTO_CALLER bool end_on_own(dspec_tracer_seat *seat, dspec_path *path, bool keep, uint32_t why, dspec_status *status) {
+INTO_CALLER bool end_on_own(dspec_tracer_seat *seat, dspec_path *path, ending as, uint32_t why, dspec_status *status) {
     struct lane *lane = lane_of(path->lane);
     if (!LIKELY(seat->own == &lane->front) || !LIKELY(dspec_tracer_is_zero_(&lane->front.inside)) || !LIKELY(dspec_tracer_enter_(&lane->front))) return false;
-    const bool is_done = end_in(lane, path, keep, why, status);
+    const bool is_done = end_in(lane, path, as, why, status);
     dspec_tracer_leave_(&lane->front);
     if (LIKELY(is_done)) lane_path_off(seat, lane, true);
     return is_done;
 }
 
 /* The same from outside the tracer. */
-INTO_CALLER bool end_quickly(dspec_path *path, bool keep, uint32_t why, dspec_status *status) {
+INTO_CALLER bool end_quickly(dspec_path *path, ending as, uint32_t why, dspec_status *status) {
     dspec_tracer_seat *seat;
     if (!LIKELY(dspec_path_is_here_(path))) return false;
     seat = dspec_tracer_seat_of_(path->tracer);
     if (!LIKELY(!seat->busy)) return false;
     seat_sits(seat);
-    const bool is_done = end_on_own(seat, path, keep, why, status);
+    const bool is_done = end_on_own(seat, path, as, why, status);
     seat_leave(seat);
     return is_done;
 }
 
-INTO_CALLER bool ends(dspec_path *path, bool keep, uint32_t why) {
+INTO_CALLER dspec_status ends(dspec_path *path, ending as, uint32_t why) {
     dspec_status status;
-    if (!LIKELY(end_quickly(path, keep, why, &status))) return end_slowly(path, keep, why);
-    if (!LIKELY(status == DSPEC_OK)) wants_room(lane_of(path->lane)->tracer);
-    return status == DSPEC_OK;
+    if (!LIKELY(end_quickly(path, as, why, &status))) return end_slowly(path, as, why);
+    if (!LIKELY(status == DSPEC_OK) && is_lost(status)) wants_room(lane_of(path->lane)->tracer);
+    return status;
 }
 
-bool dspec_path_keep(dspec_path *path) { return path->lane != NULL && ends(path, true, DSPEC_WHY_KEPT); }
+bool dspec_path_keep(dspec_path *path) { return path->lane != NULL && ends(path, KEEPS, DSPEC_WHY_KEPT) == DSPEC_OK; }
 
-bool dspec_path_keep_why(dspec_path *path, uint32_t why) { return path->lane != NULL && ends(path, true, why); }
+bool dspec_path_keep_why(dspec_path *path, uint32_t why) { return path->lane != NULL && ends(path, KEEPS, why) == DSPEC_OK; }
+
+bool dspec_path_park(dspec_path *path) {
+    const dspec_status status = path->lane != NULL ? ends(path, PARKS, 0) : THROWN_AWAY;
+    is_over(path);
+    return status == DSPEC_OK || status == KEPT_BY_KEY;
+}
 
 /* Whether a path is one of so many, by its number alone: lanes count in steps, so the number is spread first. */
 static bool is_sampled(const dspec_path *path, uint32_t sample) {
@@ -520,10 +563,10 @@ bool dspec_path_end(dspec_path *path, bool failed, uint64_t slow_ns) {
     if (path->lane == NULL || path->over) return !dspec_path_drop(path) && false;
     options = &lane_of(path->lane)->tracer->options;
     if (slow_ns == 0) slow_ns = options->slow_ns;
-    if (failed) return ends(path, true, DSPEC_WHY_FAILED);
-    if (slow_ns > 0 && dspec_path_took(path) >= slow_ns) return ends(path, true, DSPEC_WHY_SLOW);
-    if (is_sampled(path, options->sample)) return ends(path, true, DSPEC_WHY_SAMPLED);
-    return !ends(path, false, 0) && false;
+    if (failed) return ends(path, KEEPS, DSPEC_WHY_FAILED) == DSPEC_OK;
+    if (slow_ns > 0 && dspec_path_took(path) >= slow_ns) return ends(path, KEEPS, DSPEC_WHY_SLOW) == DSPEC_OK;
+    if (is_sampled(path, options->sample)) return ends(path, KEEPS, DSPEC_WHY_SAMPLED) == DSPEC_OK;
+    return ends(path, DROPS, 0) == KEPT_BY_KEY;
 }
 
 uint64_t dspec_path_took(const dspec_path *path) {
@@ -532,9 +575,11 @@ uint64_t dspec_path_took(const dspec_path *path) {
     return now > path->begun ? clock_nanoseconds(tracer, now - path->begun) : 0; /* two processors' counters may differ by some ticks */
 }
 
-static void set_key(open_path *path, const uint64_t *key) {
+/* With a ring the consumer may look for the key from now on. */
+static void set_key(const struct lane *lane, open_path *path, const uint64_t *key) {
     memcpy(path->key, key, sizeof path->key);
-    path->has_key = true;
+    path->key_state = HAS_KEY;
+    if (lane->tracer->keys != NULL) STORE(&path->tag, key_tag(key));
 }
 
 /* Makes a path this thread's, in its lane, and has the key noted where there is one: whether it is open. */
@@ -549,7 +594,7 @@ static bool take_over(dspec_path *path, const uint64_t *key) {
         is_open = adopt(lane, path);
         if (is_open) path->token = path->own && path->lane == seat->own ? dspec_tracer_token_5 : 0;
         if (is_open) STORE(&dspec_tracer_recent_5, path->mark);
-        if (is_open && key != NULL) set_key(&lane->open[path->place], key);
+        if (is_open && key != NULL) set_key(lane, &lane->open[path->place], key);
         if (!is_open && !is_ended(lane, path->mark)) is_over(path);
         lane_leave(lane, in);
     }
@@ -565,15 +610,23 @@ bool dspec_path_key(dspec_path *path, uint64_t high, uint64_t low) {
 }
 
 bool dspec_path_drop(dspec_path *path) {
-    if (path->lane != NULL) return ends(path, false, 0);
+    if (path->lane != NULL) return ends(path, DROPS, 0) == DSPEC_OK;
     is_over(path);
+    return true;
+}
+
+bool dspec_tracer_keep_key(dspec_tracer *tracer, uint64_t high, uint64_t low) {
+    const uint64_t key[] = { high, low };
+    body *run = body_of(tracer);
+    if (run == NULL || run->keys == NULL || run->pid != getpid() || !LOAD(&run->up) || !keys_put(run->keys, key, TOLD_KEY)) return false;
+    consumer_wakes(run);
     return true;
 }
 
 /* Throws away a path of a lane that the caller has; one of which a part is kept is kept as a whole, or what has no room of it is lost. */
 static void throw_one(struct lane *lane, uint32_t place, uint64_t id) {
     open_path *path = &lane->open[place];
-    if (decide(lane, place, id, false, false, 0) != DSPEC_OK) decide(lane, place, id, true, false, DSPEC_WHY_KEPT);
+    if (end_at(lane, place, id, path->mark, DROPS, false, 0) == DSPEC_VOID) end_at(lane, place, id, path->mark, KEEPS, false, DSPEC_WHY_KEPT);
     if (path->own) ADD(&lane->handed, 1);
     place_clear(path);
 }

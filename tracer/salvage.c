@@ -67,13 +67,13 @@ static bool get_path(struct salvage *salvage, const found_batch *batch) {
     if (batch->records == 0) return true;
     if (salvage->open.name == NULL) is_without(salvage, "undecided", writing_begin(&salvage->open, &salvage->file, salvage->folder, true));
     if (!salvage->open.is_begun) return false;
-    if (batch->batch.cpu != salvage->last_lane || batch->place != salvage->last_place) salvage->told->paths++;
+    if (batch->kind == FOUND_PARKED || batch->batch.cpu != salvage->last_lane || batch->place != salvage->last_place) salvage->told->paths++;
     salvage->last_lane = batch->batch.cpu;
     salvage->last_place = batch->place;
     return writing_path(&salvage->open, batch) || fail(salvage, "undecided", dspec_status_text(DSPEC_NO_MEMORY));
 }
 
-static bool get(void *to, found_batch *batch) { return batch->kind == FOUND_OPEN ? get_path(to, batch) : get_kept(to, batch); }
+static bool get(void *to, found_batch *batch) { return batch->kind >= FOUND_OPEN ? get_path(to, batch) : get_kept(to, batch); }
 
 static bool read_lanes(struct salvage *salvage) {
     bool is_whole = true;

@@ -35,13 +35,14 @@ dspec_status saved_file_enable(const saved_file *file, dspec_schema *schema, dsp
 
 /* ---- salvage_lane.c ---- */
 
-/* Of a batch: the folder was getting it, it was kept, its path was open. */
-typedef enum found_kind { FOUND_BROUGHT = 1, FOUND_KEPT = 2, FOUND_OPEN = 3 } found_kind;
+/* Of a batch: the folder was getting it, it was kept, its path was open, or was parked. */
+typedef enum found_kind { FOUND_BROUGHT = 1, FOUND_KEPT = 2, FOUND_OPEN = 3, FOUND_PARKED = 4 } found_kind;
 typedef struct found_batch {
     found_kind kind;
     uint32_t place; /* of an open path */
     dspec_batch batch;
     uint64_t records;
+    uint64_t key[2]; /* of a path that isn't decided */
 } found_batch;
 
 /* Gets each batch of a lane; false: no more is wanted, and `to` knows why. */
@@ -77,7 +78,7 @@ const char *writing_begin(writing *to, const saved_file *file, const char *folde
 void salvage_put(uint8_t *at, uint64_t number, size_t width); /* the lowest byte first */
 /* Writes a batch without its first records. */
 void writing_kept(writing *to, found_batch *batch, uint64_t without);
-/* Writes the records of an open path, after one that tells of it. */
+/* Writes the records of an open path, or of a parked one, after one that tells of it. */
 bool writing_path(writing *to, const found_batch *batch);
 /* Ends the trace, and has it on the disk with its folder: NULL, or why not. records, lost: how many were written, and how many weren't. */
 const char *writing_end(writing *to, const char *folder, uint64_t *records, uint64_t *lost);

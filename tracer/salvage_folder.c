@@ -31,12 +31,15 @@ static void name_events(writing *to, const saved_file *file, const char *prefix)
 
 /* The event that tells of an open path, where the schema has room for one more. */
 static void enable_path(writing *to) {
-    static const uint8_t widths[] = { 4, 4, 4 };
-    if (dspec_layout_enable(&to->layout, &to->schema, widths, 3, &to->epid_of_path) != DSPEC_OK) return;
+    static const uint8_t widths[] = { 4, 4, 4, 4, 8, 8 };
+    if (dspec_layout_enable(&to->layout, &to->schema, widths, sizeof widths, &to->epid_of_path) != DSPEC_OK) return;
     dspec_names_event(&to->names, "undecided_path");
     dspec_names_field(&to->names, "dspec_path", DSPEC_KIND_UNSIGNED);
     dspec_names_field(&to->names, "lane", DSPEC_KIND_UNSIGNED);
     dspec_names_field(&to->names, "records", DSPEC_KIND_UNSIGNED);
+    dspec_names_field(&to->names, "parked", DSPEC_KIND_UNSIGNED);
+    dspec_names_field(&to->names, "key_high", DSPEC_KIND_UNSIGNED);
+    dspec_names_field(&to->names, "key_low", DSPEC_KIND_UNSIGNED);
 }
 
 /* ---- Its beginning. ---- */
@@ -88,9 +91,11 @@ void salvage_put(uint8_t *at, uint64_t number, size_t width) {
     for (size_t i = 0; i < width; i++) at[i] = (uint8_t)(number >> 8 * i);
 }
 
-/* A batch of the path's event, with the stamp and the path's number of its first record, and its records; NULL: no memory. The event has a multiple of 8 bytes, so that they are as they were. */
+/* The bytes of the event that tells of an open path: a multiple of 8, so that records after it are as they were. */
+enum { EVENT_BYTES = 48 };
+
+/* A batch of the path's event, with the stamp and the path's number of its first record, and its records; NULL: no memory. */
 static uint8_t *with_event(const writing *to, const found_batch *batch) {
-    enum { EVENT_BYTES = 24 };
     dspec_record first;
     size_t at = 0;
     uint8_t *bytes = malloc(EVENT_BYTES + batch->batch.len);
@@ -103,6 +108,10 @@ static uint8_t *with_event(const writing *to, const found_batch *batch) {
     salvage_put(bytes + 12, first.values[0], 4);
     salvage_put(bytes + 16, batch->batch.cpu, 4);
     salvage_put(bytes + 20, batch->records, 4);
+    salvage_put(bytes + 24, batch->kind == FOUND_PARKED, 4);
+    salvage_put(bytes + 28, 0, 4);
+    salvage_put(bytes + 32, batch->key[0], 8);
+    salvage_put(bytes + 40, batch->key[1], 8);
     memcpy(bytes + EVENT_BYTES, batch->batch.bytes, batch->batch.len);
     return bytes;
 }
@@ -115,7 +124,7 @@ bool writing_path(writing *to, const found_batch *batch) {
         bytes = with_event(to, batch);
         if (bytes == NULL) return false;
         all.bytes = bytes;
-        all.len += 24;
+        all.len += EVENT_BYTES;
     }
     dspec_folder_take(&to->folder, &to->layout, &all);
     free(bytes);

@@ -21,12 +21,13 @@ enum { READ_MS = 60000, READ_SECONDS = 1, MOST_PARTS = 8 + 4 * MAX_OPEN };
 enum { IS_READ = 0, IS_NO_LANE = 1, HAS_NO_PLACE = 2 };
 
 /* What the process of a lane tells: a batch (found_kind), that what comes may be half of something, or that it is through. */
-enum { TELLS_END = 4, TELLS_TORN = 5 };
+enum { TELLS_END = 5, TELLS_TORN = 6 };
 struct told {
     uint32_t what, place;
     uint64_t drops, length;
     uint64_t skipped, count;      /* so many records after so many others */
     uint32_t is_part, may_differ; /* other bytes come after them; a record was being made, which is counted before its bytes or after them */
+    uint64_t key[2], path;        /* of a parked path the key and the number */
 };
 
 static const char no_lane[] = "its memory isn't what a lane's is", no_place[] = "the address that it was at isn't free in this process";
@@ -40,6 +41,7 @@ struct reading {
     bool is_sent[2]; /* with what was kept: a buffer has that once */
     bool in_call, commits; /* a thread was in a call, which was a commit */
     int to;
+    uint8_t *bytes; /* as many as a buffer has */
 };
 
 static void give_up(void) { syscall(SYS_exit, IS_NO_LANE); }
@@ -144,6 +146,37 @@ static void send_paths(struct reading *reading, uint64_t *before) {
     }
 }
 
+/* ---- Parked paths. ---- */
+
+/* Whether a path is open still: its thread was parking it. */
+static bool is_open(struct lane *lane, uint64_t number) {
+    dspec_open_path path;
+    for (uint32_t place = 0; place < MAX_OPEN; place++)
+        if (dspec_paths_open_of(&lane->paths, place, 0, &path) == DSPEC_OK && path.number == number) return true;
+    return false;
+}
+
+/* Those that are parked, the oldest first. A thread that was parking one may have left the ring in the middle of something. */
+static void send_parked(const struct reading *reading) {
+    dspec_parking *ring = &reading->lane->parked.ring;
+    dspec_parked block;
+    size_t places;
+    if (dspec_parking_places(ring, &places) != DSPEC_OK) return;
+    if (reading->in_call) send_word(reading, TELLS_TORN);
+    for (size_t place = 0; place < places; place++) {
+        struct told told = { .what = FOUND_PARKED };
+        if (dspec_parking_at(ring, place, &block) != DSPEC_OK || is_open(reading->lane, block.stamp)) continue;
+        if (dspec_parking_take(ring, place, reading->bytes, reading->size, &block) != DSPEC_OK) give_up();
+        told.length = block.length;
+        told.key[0] = block.key_high;
+        told.key[1] = block.key_low;
+        told.path = block.stamp;
+        send_bytes(reading, &told, reading->bytes, block.length);
+    }
+}
+
+/* ---- All of a lane. ---- */
+
 /* Whether the thread was in a service that hadn't switched, or was in the middle of it: then no buffer was out, and as many were taken as were switched. */
 static bool is_torn(const struct lane *lane, bool is_out) { return lane->serving == IS_SERVED && !is_out && lane->taken == lane->switched; }
 
@@ -184,18 +217,19 @@ static void read_lane(struct reading *reading) {
     if (uncertain > records) give_up();
     if (is_torn(reading->lane, is_out)) send_torn(reading, records);
     else send_filled(reading, records, uncertain);
+    send_parked(reading);
     send_word(reading, TELLS_END);
     syscall(SYS_exit, IS_READ);
 }
 
 /* The child of a fork: maps the memory for itself, gives up what it doesn't need, and reads. A handler of the program's has no business here. */
-static void run_lane(const saved_file *file, uint32_t number, int to) {
+static void run_lane(const saved_file *file, uint32_t number, uint8_t *bytes, int to) {
     static const int faults[] = { SIGSEGV, SIGBUS, SIGFPE, SIGILL, SIGABRT, SIGXCPU };
     const struct rlimit time = { READ_SECONDS, READ_SECONDS }, none = { 0, 0 };
     const struct sigaction plain = { .sa_handler = SIG_DFL };
     const struct lane *copy = &file->tracer->lanes[number];
     void *wanted = (void *)(uintptr_t)file->head->address;
-    struct reading reading = { .buffers = { copy->buffers[0], copy->buffers[1] }, .size = file->head->bufsize, .in_call = saved_lane_is_in_call(file, number), .to = to };
+    struct reading reading = { .buffers = { copy->buffers[0], copy->buffers[1] }, .size = file->head->bufsize, .in_call = saved_lane_is_in_call(file, number), .to = to, .bytes = bytes };
     for (size_t i = 0; i < sizeof faults / sizeof faults[0]; i++) sigaction(faults[i], &plain, NULL);
     if (mmap(wanted, file->head->size, PROT_READ | PROT_WRITE, MAP_PRIVATE | MAP_NORESERVE | MAP_FIXED_NOREPLACE, file->at, 0) != wanted) syscall(SYS_exit, HAS_NO_PLACE);
     reading.commits = reading.in_call && copy->front.commits != 0;
@@ -257,9 +291,25 @@ static bool is_meant(saved_file *file, const struct told *told, dspec_batch *bat
     return batch->bytes != NULL && has_times(file, batch);
 }
 
-static bool hand_out(const saved_file *file, const struct told *told, const dspec_batch *batch, found_call get, void *to) {
+/* Whether all of a batch are records of one path. */
+static bool is_of_path(const saved_file *file, uint64_t number, const dspec_batch *batch) {
+    dspec_record record;
     size_t at = 0;
-    found_batch found = { (found_kind)told->what, told->place, *batch, 0 };
+    while (dspec_read(&file->layout, batch->bytes, batch->len, &at, &record) == DSPEC_READ)
+        if (record.values[0] != number) return false;
+    return at == batch->len;
+}
+
+/* Of a parked path it isn't known how many records it has, but of which path they are. */
+static bool is_told(saved_file *file, const struct told *told, dspec_batch *batch) {
+    return told->what == FOUND_PARKED ? is_of_path(file, told->path, batch) && has_times(file, batch) : is_meant(file, told, batch);
+}
+
+static bool hand_out(const saved_file *file, const struct told *told, const dspec_batch *batch, found_call get, void *to) {
+    const open_path *opened = &file->tracer->lanes[batch->cpu].open[told->place];
+    size_t at = 0;
+    found_batch found = { (found_kind)told->what, told->place, *batch, 0, { told->key[0], told->key[1] } };
+    if (told->what == FOUND_OPEN && opened->key_state != NO_KEY) memcpy(found.key, opened->key, sizeof found.key);
     found.records = dspec_folder_skips_(&file->layout, batch, &at, UINT64_MAX);
     return get(to, &found);
 }
@@ -269,14 +319,14 @@ static bool hand_out(const saved_file *file, const struct told *told, const dspe
 
 /* Whether what is told of a batch is within its bounds. */
 static bool is_within(const saved_file *file, const struct told *told) {
-    return told->what >= FOUND_BROUGHT && told->what <= FOUND_OPEN && told->length <= file->head->bufsize && told->place < MAX_OPEN && told->drops <= MOST_DROPS;
+    return told->what >= FOUND_BROUGHT && told->what <= FOUND_PARKED && told->length <= file->head->bufsize && told->place < MAX_OPEN && told->drops <= MOST_DROPS;
 }
 
 /* Whether all that a lane's process tells is well. */
 static bool hear(saved_file *file, int from, uint32_t number, uint8_t *bytes, found_call get, void *to) {
-    const uint64_t until = dspec_monotonic() / 1000000 + READ_MS;
+    const uint64_t until = dspec_monotonic() / 1000000 + READ_MS, most = MOST_PARTS + park_places(file->head->park_bytes);
     bool is_torn = false;
-    for (int part = 0; part < MOST_PARTS; part++) {
+    for (uint64_t part = 0; part < most; part++) {
         dspec_batch batch = { bytes, 0, 0, number };
         struct told told;
         if (!receive(from, &told, sizeof told, until)) return is_torn;
@@ -285,8 +335,8 @@ static bool hear(saved_file *file, int from, uint32_t number, uint8_t *bytes, fo
         if (told.what == TELLS_TORN) continue;
         if (!is_within(file, &told) || !receive(from, bytes, told.length, until)) return is_torn;
         batch.len = told.length;
-        batch.drops = told.what == FOUND_OPEN ? 0 : told.drops;
-        if (is_meant(file, &told, &batch)) {
+        batch.drops = told.what >= FOUND_OPEN ? 0 : told.drops;
+        if (is_told(file, &told, &batch)) {
             if (!hand_out(file, &told, &batch, get, to)) return false;
         } else if (!is_torn) {
             return false;
@@ -329,7 +379,7 @@ static const char *read_in_process(saved_file *file, uint32_t number, uint8_t *b
     if (pipe2(ends, O_CLOEXEC) != 0) return strerror(errno);
     child = fork();
     if (child == 0) {
-        run_lane(file, number, ends[1]);
+        run_lane(file, number, bytes, ends[1]);
         _exit(IS_NO_LANE);
     }
     code = errno;

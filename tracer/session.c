@@ -30,6 +30,7 @@ dspec_status lane_start(struct lane *lane, const dspec_tracer_options *options, 
     if (status == DSPEC_OK) status = dspec_consumer_of(&lane->session, &lane->consumer);
     if (status == DSPEC_OK) status = dspec_cpu_of(&lane->session, 0, &lane->front.cpu);
     if (status == DSPEC_OK) status = dspec_paths_new(&lane->paths);
+    if (status == DSPEC_OK && options->park_bytes > 0 && lane->number < lane->tracer->count) status = park_begin(lane, options->park_bytes);
     if (status == DSPEC_OK && options->survive) find_buffers(lane);
     return status;
 }
@@ -39,6 +40,7 @@ void lane_drop(struct lane *lane) {
     dspec_consumer_drop(&lane->consumer);
     dspec_session_drop(&lane->session);
     dspec_drop(&lane->paths);
+    dspec_drop(&lane->parked.ring);
 }
 
 void lane_ask(struct lane *lane) { dspec_ask(&lane->consumer, 0); }
@@ -148,6 +150,20 @@ void lane_add(dspec_tracer_report *sum, const dspec_report *report) {
     sum->refused += report->refused;
 }
 
+void lane_add_parked(const struct lane *lane, dspec_tracer_report *sum) {
+    const parked_paths *parked = &lane->parked;
+    const uint64_t kept = LOAD(&parked->kept), evicted = LOAD(&parked->evicted), expired = LOAD(&parked->expired), records = LOAD(&parked->records);
+    sum->parked += LOAD(&parked->end);
+    sum->park_kept += kept;
+    sum->park_evicted += evicted;
+    sum->park_expired += expired;
+    sum->park_left += park_left(parked);
+    sum->kept += kept;
+    sum->thrown += evicted + expired;
+    sum->accepted += records;
+    sum->discarded -= records < sum->discarded ? records : sum->discarded; /* while it runs those may be fewer: they are from the lane's last service */
+}
+
 void lane_counts(const struct lane *lane, dspec_report *report) {
     report->specdropped -= lane->turned;
     report->accepted -= lane->own_accepted;
@@ -173,9 +189,11 @@ bool lane_end(body *tracer, struct lane *lane) {
         lane_counts(lane, &report);
         dspec_ctf_miss(&tracer->folder.ctf[lane->number], dspec_folder_untold_(&report) + lane->cut_records);
         if (lane->number < tracer->count) lane_add(&tracer->report, &report);
-        tracer->report.own += lane->own_accepted + (lane->number < tracer->count ? 0 : report.accepted);
+        lane_add_parked(lane, &tracer->report);
+        tracer->report.own += lane->own_accepted + lane->parked.kept + (lane->number < tracer->count ? 0 : report.accepted);
     }
     dspec_closed_drop(&closed);
     dspec_drop(&lane->paths);
+    dspec_drop(&lane->parked.ring);
     return true;
 }

@@ -101,6 +101,9 @@ static size_t events_of(const dspec_enabling *const *events) {
 static void free_body(body *tracer) {
     free(tracer->events);
     free(tracer->added);
+    for (uint32_t i = 0; i <= tracer->count; i++) park_drop(&tracer->lanes[i]);
+    keys_drop(tracer->keys);
+    keeper_drop(tracer->keeper);
     if (tracer->saved != NULL) survive_free(tracer);
     else free(tracer);
 }
@@ -122,6 +125,15 @@ static body *room_for(const dspec_tracer_options *options) {
     return at;
 }
 
+/* What a tracer with rings has beside them: whether there is memory. */
+static bool begin_parking(body *tracer) {
+    tracer->keys = keys_new(tracer->options.remember_ms);
+    tracer->keeper = keeper_new(tracer);
+    for (uint32_t i = 0; i < tracer->count; i++)
+        if (!park_notes_begin(&tracer->lanes[i], tracer->options.park_bytes)) return false;
+    return tracer->keys != NULL && tracer->keeper != NULL;
+}
+
 static body *body_in(body *tracer, const dspec_tracer_options *options, size_t events) {
     tracer->options = *options;
     tracer->count = options->lanes;
@@ -137,7 +149,7 @@ static body *body_in(body *tracer, const dspec_tracer_options *options, size_t e
         tracer->lanes[i].front.state = tracer->locked ? IDLE | SHARED : IDLE;
         tracer->lanes[i].front.clock = tracer->clock;
     }
-    if (tracer->events != NULL) return tracer;
+    if (tracer->events != NULL && (options->park_bytes == 0 || begin_parking(tracer))) return tracer;
     free_body(tracer);
     return NULL;
 }
@@ -166,10 +178,23 @@ static void set(uint32_t *option, uint32_t value) {
 
 /* A record of the most fields has so many bytes at most. */
 enum { MOST_OF_A_RECORD = 80 };
+/* And a ring of parked paths. */
+#define MOST_PARKED ((uint64_t)1 << 32)
+
+/* The same of those of parked paths. */
+static const char *complete_parking(dspec_tracer_options *options) {
+    if (options->park_bytes == 0) return options->park_ms > 0 || options->remember_ms > 0 || options->on_keep != NULL ? "park_ms, remember_ms and on_keep stand without park_bytes" : NULL;
+    set(&options->park_ms, 10000);
+    set(&options->remember_ms, options->park_ms);
+    if (options->keep_last) return "park_bytes stands beside keep_last, and the older records of a path aren't parked";
+    if (options->park_bytes > MOST_PARKED) return "park_bytes is above 2^32";
+    return options->park_bytes < options->specsize ? "park_bytes is below specsize, and a ring has room for each path" : NULL;
+}
 
 /* Fills in the defaults, and says what of the options can't be, or NULL; the library looks at the others. */
 static const char *complete(dspec_tracer_options *options) {
     const bool keep_last = options->keep_last;
+    const char *why;
     set(&options->lanes, 16);
     set(&options->paths, keep_last ? 31 : 32);
     set(&options->bufsize, 65536);
@@ -184,7 +209,8 @@ static const char *complete(dspec_tracer_options *options) {
     if (options->max_bytes > 0 && (options->max_folders < 2 || options->max_folders > DSPEC_FOLDER_MOST)) return "max_folders is not 2 to 64";
     if (keep_last && options->paths > 31) return "paths is not 1 to 31, of which each has two speculations by keep_last";
     if (keep_last && options->specsize < MOST_OF_A_RECORD) return "specsize is below 80, and keep_last needs room for each record";
-    return clock_choose(options);
+    why = complete_parking(options);
+    return why != NULL ? why : clock_choose(options);
 }
 
 /* The folder with its names, which stay no longer than that takes. */
@@ -196,7 +222,7 @@ static bool begin_folder(dspec_tracer *tracer, body *run, const char *folder, co
     dspec_status status = naming == NULL ? DSPEC_NO_MEMORY : enable_all(run, events != NULL ? events : none, naming);
     if (status == DSPEC_OK) status = start_lanes(run);
     dspec_folder_limit(&run->folder, run->options.max_bytes, run->options.max_folders);
-    dspec_folder_reserve(&run->folder, run->options.bufsize); /* a crash in malloc has its lock: what is saved takes no memory */
+    dspec_folder_reserve(&run->folder, MOST_BATCH(&run->options)); /* a crash in malloc has its lock: what is saved takes no memory */
     if (status != DSPEC_OK) fail(tracer, "the session", dspec_status_text(status));
     else if (!identify(run, &whose)) fail(tracer, "the trace's number", strerror(errno));
     else if (!dspec_folder_begin(&run->folder, folder, &run->schema, run->count + 1, &whose.identity, naming_names(naming)))
@@ -414,6 +440,7 @@ static void counts(const body *tracer, dspec_tracer_report *report) {
         report->thrown += LOAD(&lane->thrown);
         report->cut += LOAD(&lane->cut);
         report->cut_records += LOAD(&lane->cut_records);
+        lane_add_parked(lane, report);
     }
     report->crash_paths = LOAD(&tracer->report.crash_paths);
     tell_counts(tracer, report);

@@ -36,12 +36,12 @@ static dspec_status bytes_of(const dspec_tracer_options *options, const dspec_en
     dspec_schema schema = DSPEC_EMPTY;
     dspec_status status = dspec_schema_new(&schema);
     dspec_layout layout = { .stamped = true };
-    size_t each = 0, table = 0;
+    size_t each = 0, table = 0, ring = 0;
     uint32_t epid, signature;
     if (status == DSPEC_OK) status = dspec_schema_stamp(&schema);
     for (int which = 0; which < 2; which++) {
         const dspec_enabling *const *all = which == 0 ? events : own_events;
-        for (size_t i = 0; status == DSPEC_OK && all != NULL && all[i] != NULL; i++) {
+        for (size_t i = 0; status == DSPEC_OK && all != NULL && all[i] != NULL && (which == 0 || i < own_count(options)); i++) {
             uint8_t widths[DSPEC_MAX_FIELDS + 1];
             size_t n;
             enabling_widths(all[i], widths, &n);
@@ -51,7 +51,8 @@ static dspec_status bytes_of(const dspec_tracer_options *options, const dspec_en
     if (status == DSPEC_OK) status = dspec_memory_for(&config, &schema, &each);
     dspec_schema_drop(&schema);
     if (status == DSPEC_OK) status = paths_memory(&table);
-    *bytes = 64 + ((uint64_t)each + table) * (options->lanes + 1);
+    if (status == DSPEC_OK && options->park_bytes > 0) status = park_memory(options->park_bytes, &ring);
+    *bytes = 64 + ((uint64_t)each + table) * (options->lanes + 1) + (uint64_t)ring * options->lanes;
     return status;
 }
 
@@ -78,7 +79,7 @@ static void begin_head(saved_head *head, const dspec_tracer_options *options, co
     const uint64_t head_size = pages(sizeof *head), body_size = saved_body_size(options->lanes);
     *head = (saved_head){ .version = SURVIVE_VERSION, .head_size = (uint32_t)head_size, .body_size = (uint32_t)body_size, .lane_size = sizeof(struct lane), .address = (uintptr_t)head, .size = size,
                           .body_at = head_size, .memory_at = head_size + body_size, .lanes = options->lanes, .paths = options->paths, .bufsize = options->bufsize,
-                          .specsize = options->specsize, .max_folders = options->max_folders, .device = file->device, .inode = file->inode };
+                          .specsize = options->specsize, .park_bytes = options->park_bytes, .max_folders = options->max_folders, .device = file->device, .inode = file->inode };
     snprintf(head->build, sizeof head->build, "%s", dspec_build());
     snprintf(head->folder, sizeof head->folder, "%s", folder);
 }
@@ -207,6 +208,7 @@ static bool is_settled(body *tracer) {
         const uint32_t state = state_set(lane, GONE);
         is = is && (state & (IDLE | HELD)) == IDLE && LOAD(&lane->front.inside) == 0 && LOAD(&lane->bringing) == NOT_OUT && LOAD(&lane->given) == LOAD(&lane->switched);
         for (uint32_t k = 0; k < MAX_OPEN; k++) is = is && LOAD(&lane->open[k].mark) == 0;
+        is = is && park_left(&lane->parked) == 0;
     }
     return is;
 }

@@ -10,7 +10,7 @@
 /* The addresses that a file may have: so far apart, from the first on. */
 #define SURVIVE_FIRST UINT64_C(0x510000000000)
 #define SURVIVE_APART UINT64_C(0x1000000000)
-enum { SURVIVE_PLACES = 64, SURVIVE_VERSION = 7, SURVIVE_LABELS = 65536 };
+enum { SURVIVE_PLACES = 64, SURVIVE_VERSION = 8, SURVIVE_LABELS = 65536 };
 #define SURVIVE_MAGIC UINT64_C(0x3176697673706564)
 
 /* An event of the trace: its name and its fields', and the widths and kinds of their words, of which a text has several. */
@@ -37,7 +37,7 @@ typedef struct saved_head {
     uint64_t magic; /* set last: 0 while the file is being made */
     uint32_t version, head_size, body_size, lane_size;
     char build[64];
-    uint64_t address, size, body_at, memory_at;
+    uint64_t address, size, body_at, memory_at, park_bytes;
     uint32_t lanes, paths, bufsize, specsize, max_folders, events_count, pid;
     uint64_t device, inode; /* of this file: a copy has others */
     saved_process process;

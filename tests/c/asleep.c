@@ -169,6 +169,74 @@ static void storms(dspec_tracer_options options) {
     stop();
 }
 
+/* ---- Parked paths. ---- */
+
+/* Whether the consumer doesn't wake for two seconds, within a minute. */
+static bool stays_asleep(void) {
+    for (int tries = 0; tries < 30; tries++) {
+        const uint64_t before = wakeups();
+        sleep(2);
+        if (before > 0 && wakeups() == before) return true;
+    }
+    return false;
+}
+
+/* Whether so many paths are kept, within a minute. */
+static bool are_kept(uint64_t paths) {
+    const uint64_t until = dspec_tracer_now() + MINUTE_NS;
+    dspec_tracer_report report;
+    do {
+        if (!dspec_tracer_counts(&tracer, &report)) return false;
+        if (report.park_kept == paths) return true;
+        usleep(1000);
+    } while (dspec_tracer_now() < until);
+    printf("%" PRIu64 " of %" PRIu64 " paths are kept\n", report.park_kept, paths);
+    return false;
+}
+
+static void *parks(void *number) {
+    uint64_t seed = *(uint64_t *)number;
+    dspec_path path = dspec_path_begin(&tracer);
+    usleep((unsigned)(seed_of(&seed) >> 52));
+    ANSWERS(tick_in(&path, 1), DSPEC_OK);
+    CHECK(dspec_path_key(&path, 1, *(uint64_t *)number) && dspec_path_park(&path));
+    return NULL;
+}
+
+static void *tells(void *number) {
+    uint64_t seed = *(uint64_t *)number * 7;
+    usleep((unsigned)(seed_of(&seed) >> 52));
+    CHECK(dspec_tracer_keep_key(&tracer, 1, *(uint64_t *)number));
+    return NULL;
+}
+
+/* Paths that are parked wake nobody, however old they get. */
+static void old_paths(void) {
+    uint64_t number = 1;
+    start((dspec_tracer_options){ .park_bytes = 65536, .park_ms = 100 });
+    for (; number <= 5; number++) parks(&number);
+    CHECK(stays_asleep());
+    tells(&(uint64_t){ 1 });
+    parks(&number);
+    tells(&number);
+    CHECK(are_kept(1) && stays_asleep());
+    stop();
+}
+
+/* Keys that come as the consumer falls asleep, before their path is parked or after it. */
+static void keys_in_storms(void) {
+    start((dspec_tracer_options){ .park_bytes = 65536 });
+    for (uint64_t storm = 1; storm <= STORMS; storm++) {
+        pthread_t first, second;
+        pthread_create(&first, NULL, parks, &storm);
+        pthread_create(&second, NULL, tells, &storm);
+        pthread_join(first, NULL);
+        pthread_join(second, NULL);
+        if (!CHECK(are_kept(storm))) break;
+    }
+    stop();
+}
+
 int main(int argc, char **argv) {
     if (argc < 2) return 2;
     folder = argv[1];
@@ -178,5 +246,7 @@ int main(int argc, char **argv) {
     told_in_time();
     storms((dspec_tracer_options){ .period_ms = 1 });
     storms((dspec_tracer_options){ .period_ms = 1, .lanes = 2, .no_membarrier = true });
+    old_paths();
+    keys_in_storms();
     return check_end();
 }

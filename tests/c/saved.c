@@ -251,7 +251,7 @@ static void parts(void) {
 
 /* What is beyond a bound ends the lane. */
 static void bounds(void) {
-    static const struct told all[] = { { .what = 0 }, { .what = 6 }, { .what = FOUND_OPEN, .place = MAX_OPEN }, { .what = FOUND_KEPT, .drops = MOST_DROPS + 1 }, { .what = FOUND_KEPT, .count = 1 } };
+    static const struct told all[] = { { .what = 0 }, { .what = 7 }, { .what = FOUND_OPEN, .place = MAX_OPEN }, { .what = FOUND_KEPT, .drops = MOST_DROPS + 1 }, { .what = FOUND_KEPT, .count = 1 } };
     for (size_t i = 0; i < sizeof all / sizeof all[0]; i++) {
         tell(all[i], 0, 0);
         tell_word(TELLS_END);

@@ -388,6 +388,21 @@ static int how_crashes(void) {
     return 5;
 }
 
+/* Three paths are parked and one is open, each with its key; one that was parked is kept. */
+static int how_parked(void) {
+    options.park_bytes = 65536;
+    up();
+    for (uint32_t request = 1; request <= 5; request++) {
+        dspec_path path = dspec_path_begin(&tracer);
+        for (uint32_t step = 0; step < 5; step++) query_in(&path, request, step);
+        dspec_path_key(&path, 7, request);
+        if (request != 5) dspec_path_park(&path);
+    }
+    dspec_tracer_keep_key(&tracer, 7, 2);
+    if (!dspec_tracer_flush(&tracer, 600000)) return 5;
+    return end_by_kill();
+}
+
 int main(int count, char **all) {
     static const struct {
         const char *name;
@@ -395,7 +410,7 @@ int main(int count, char **all) {
     } hows[] = {
         { "kept", how_kept }, { "hangs", how_hangs }, { "child", how_child }, { "limit", how_limit }, { "lost", how_lost }, { "full", how_full }, { "writes", how_writes },
         { "moves", how_moves }, { "closes", how_closes }, { "refused", how_refused }, { "itself", how_itself }, { "crashes", how_crashes }, { "owes", how_owes }, { "kinds", how_full_of_kinds },
-        { "unmade", how_unmade }, { "elsewhere", how_elsewhere }, { "replaced", how_replaced }, { "held", how_held },
+        { "unmade", how_unmade }, { "elsewhere", how_elsewhere }, { "replaced", how_replaced }, { "held", how_held }, { "parked", how_parked },
     };
     if (count < 3) return 2;
     folder = all[2];

@@ -108,6 +108,20 @@ void by_environment(const std::string &folder) {
     check(path.end(false) && tracer.stop().whole, "a start by the environment");
 }
 
+void parked(const std::string &folder) {
+    dspec_tracer_options options{};
+    options.park_bytes = 4096;
+    dspec::tracer tracer((folder + ".parked").c_str(), options, tick);
+    for (std::uint64_t request = 1; request <= 2; request++) {
+        dspec::tracer::path path = tracer.open();
+        path.record(tick, static_cast<std::uint32_t>(request));
+        check(path.key(7, request) && path.park() && !path.is_open(), "a path is parked");
+    }
+    check(tracer.keep_key(7, 2) && !tracer.open().park(), "a key is kept");
+    auto [whole, report] = tracer.stop();
+    check(whole && report.parked == 2 && report.park_kept == 1 && report.park_left == 1 && report.kept == 1 && report.accepted == 1, "parked paths");
+}
+
 } /* namespace */
 
 int main(int argc, char **argv) {
@@ -133,6 +147,7 @@ int main(int argc, char **argv) {
         is_refused = std::strstr(error.what(), "File exists") != nullptr;
     }
     check(is_refused, "a folder that has a trace");
+    parked(folder);
     by_environment(folder);
     std::printf("%d passed, %d failed\n", passed, failed);
     return failed > 0;

@@ -191,6 +191,11 @@ pub(crate) struct TracerOptions {
     pub(crate) slow_ns: u64,
     pub(crate) sample: u32,
     pub(crate) clock: u64,
+    pub(crate) park_bytes: u64,
+    pub(crate) park_ms: u32,
+    pub(crate) remember_ms: u32,
+    pub(crate) on_keep: Option<unsafe extern "C" fn(context: *mut c_void, high: u64, low: u64)>,
+    pub(crate) on_keep_context: *mut c_void,
 }
 
 #[repr(C)]
@@ -243,6 +248,8 @@ extern "C" {
     pub(crate) fn dspec_path_adopt(path: *mut TracerPath) -> bool;
     pub(crate) fn dspec_path_key(path: *mut TracerPath, high: u64, low: u64) -> bool;
     pub(crate) fn dspec_path_drop(path: *mut TracerPath) -> bool;
+    pub(crate) fn dspec_path_park(path: *mut TracerPath) -> bool;
+    pub(crate) fn dspec_tracer_keep_key(tracer: *mut Tracer, high: u64, low: u64) -> bool;
     pub(crate) fn dspec_path_put(path: *mut TracerPath, event: *const Event, words: *const u64, n: usize) -> Status;
     pub(crate) fn dspec_tracer_put(tracer: *mut Tracer, event: *const Event, words: *const u64, n: usize) -> Status;
 }

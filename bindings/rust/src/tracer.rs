@@ -31,8 +31,9 @@ use crate::probe::packed_from;
 use crate::raw::{self, Status};
 use crate::Fields;
 use std::cell::UnsafeCell;
-use std::ffi::{c_char, CStr, CString};
+use std::ffi::{c_char, c_void, CStr, CString};
 use std::fmt;
+use std::hash::{Hash, Hasher};
 use std::marker::PhantomData;
 use std::mem::size_of;
 use std::os::unix::ffi::OsStrExt;
@@ -88,13 +89,59 @@ pub struct Options {
     pub sample: u32,
     /// Which clock the stamps of its records are of; the system's monotonic one at first.
     pub clock: Clock,
+    /// Bytes of each lane's ring of parked paths ([`Path::park`]), `specsize` or more; 0: no path is parked. Not with `keep_last`.
+    pub park_bytes: u64,
+    /// How many milliseconds a path stays parked; 10,000 at first.
+    pub park_ms: u32,
+    /// How many milliseconds a kept key is remembered; `park_ms` at first.
+    pub remember_ms: u32,
+    /// Is told of each key whose path was kept here, so that it can tell other processes. The consumer's thread calls it, after the path is written where its lane can be had. A panic ends the process.
+    pub on_keep: Option<OnKeep>,
+}
+
+/// A function that is told of a key. Two are equal where they have one address.
+#[derive(Clone, Copy, Debug)]
+pub struct OnKeep(pub fn(key: [u8; 16]));
+
+impl OnKeep {
+    fn address(self) -> usize {
+        self.0 as usize
+    }
+}
+
+impl PartialEq for OnKeep {
+    fn eq(&self, other: &OnKeep) -> bool {
+        self.address() == other.address()
+    }
+}
+
+impl Eq for OnKeep {}
+
+impl Hash for OnKeep {
+    fn hash<H: Hasher>(&self, state: &mut H) {
+        self.address().hash(state);
+    }
+}
+
+/// Has the function called that the context is.
+unsafe extern "C" fn tell_key(context: *mut c_void, high: u64, low: u64) {
+    // SAFETY: the context is the function of the options, which `raw` made of it.
+    let told = unsafe { std::mem::transmute::<*mut c_void, fn([u8; 16])>(context) };
+    told((u128::from(high) << 64 | u128::from(low)).to_be_bytes());
+}
+
+/// The two halves of a key.
+fn halves(key: [u8; 16]) -> [u64; 2] {
+    [0, 8].map(|at| key[at..at + 8].iter().fold(0, |value, &byte| value << 8 | u64::from(byte)))
 }
 
 impl Options {
     fn raw(&self, whys: *const raw::Labels) -> raw::TracerOptions {
         let Options { lanes, paths, bufsize, specsize, period_ms, crash_ms, by_thread, no_crash, no_term, .. } = *self;
-        let Options { keep_all, keep_open, no_membarrier, keep_last, survive, max_bytes, max_folders, keep_ms, slow_ns, sample, clock, .. } =
-            *self;
+        let Options {
+            keep_all, keep_open, no_membarrier, keep_last, survive, max_bytes, max_folders, keep_ms, slow_ns, sample, clock, ..
+        } = *self;
+        let Options { park_bytes, park_ms, remember_ms, on_keep, .. } = *self;
         raw::TracerOptions {
             lanes,
             paths,
@@ -117,6 +164,11 @@ impl Options {
             slow_ns,
             sample,
             clock: clock as u64,
+            park_bytes,
+            park_ms,
+            remember_ms,
+            on_keep: on_keep.map(|_| tell_key as _),
+            on_keep_context: on_keep.map_or(ptr::null_mut(), |told| told.0 as *mut c_void),
         }
     }
 }
@@ -160,7 +212,7 @@ impl Why {
             Why::Slow => 2,
             Why::Asked => 3,
             Why::Sampled => 4,
-            Why::Own(number) => number.saturating_add(8),
+            Why::Own(number) => number.saturating_add(9),
         }
     }
 }
@@ -222,6 +274,22 @@ pub struct Report {
     /// The system's number of the first loss, or 0.
     pub code: i32,
     why: [c_char; 128],
+    /// Paths that were parked; each is in one of the next four.
+    pub parked: u64,
+    /// Those of a key that was kept; `kept` has them too.
+    pub park_kept: u64,
+    /// Those that made room for newer ones; `thrown` has them too.
+    pub park_evicted: u64,
+    /// Those whose time was over; likewise.
+    pub park_expired: u64,
+    /// Those that are parked still, and at the stop are thrown away.
+    pub park_left: u64,
+    /// So many milliseconds was each path parked at the least that made room; `u64::MAX`: none did.
+    pub park_least_ms: u64,
+    /// Paths that had been parked and were gone when their key came, as far as that is remembered.
+    pub key_missed: u64,
+    /// Keys that found 4,096 others waiting, or 32,768 remembered: nothing is kept by them.
+    pub keys_refused: u64,
 }
 
 impl Report {
@@ -421,6 +489,14 @@ impl Tracer {
         recorded(unsafe { raw::dspec_tracer_put(self.at(), event.at(), words.as_ptr(), count) })
     }
 
+    /// Keeps all paths of a key: those that are parked, those that are open, at their end, and those that get the key within [`Options::remember_ms`]. Whether the key was taken: false where
+    /// the tracer is down or parks no paths, and where 4,096 keys wait.
+    pub fn keep_key(&self, key: [u8; 16]) -> bool {
+        let [high, low] = halves(key);
+        // SAFETY: as in `record`.
+        unsafe { raw::dspec_tracer_keep_key(self.at(), high, low) }
+    }
+
     /// Has what was kept until now written into the folder, and waits for it: whether it is there within this time.
     #[must_use]
     pub fn flush(&self, most: Duration) -> bool {
@@ -517,9 +593,16 @@ impl<'a> Path<'a> {
 
     /// Sixteen bytes of the program's in the path's event, as a trace's number that another service sent: whether it is open.
     pub fn key(&mut self, key: [u8; 16]) -> bool {
-        let [high, low] = [0, 8].map(|at| key[at..at + 8].iter().fold(0, |value, &byte| value << 8 | u64::from(byte)));
+        let [high, low] = halves(key);
         // SAFETY: as in `record`.
         unsafe { raw::dspec_path_key(&mut self.raw, high, low) }
+    }
+
+    /// Ends it here, where it isn't decided: it is kept when its key is ([`Tracer::keep_key`]), within [`Options::park_ms`], else thrown away. Whether it is parked, or kept already. Without a key,
+    /// or without [`Options::park_bytes`], it is thrown away.
+    pub fn park(mut self) -> bool {
+        // SAFETY: as in `record`.
+        unsafe { raw::dspec_path_park(&mut self.raw) }
     }
 
     /// A path that ends by the tracer's rule where it goes out of scope.
@@ -592,8 +675,8 @@ mod tests {
 #include "dspec_tracer.h"
 #include <stdio.h>
 int main(void) {
-    printf("%zu %zu ", sizeof(dspec_tracer_options), offsetof(dspec_tracer_options, sample));
-    printf("%zu %zu ", sizeof(dspec_tracer_report), offsetof(dspec_tracer_report, why));
+    printf("%zu %zu ", sizeof(dspec_tracer_options), offsetof(dspec_tracer_options, on_keep_context));
+    printf("%zu %zu ", sizeof(dspec_tracer_report), offsetof(dspec_tracer_report, keys_refused));
     printf("%zu %zu ", sizeof(dspec_path), offsetof(dspec_path, begun));
     printf("%zu %zu %zu", sizeof(dspec_tracer), sizeof(dspec_event), sizeof(dspec_enabling));
 }
@@ -615,8 +698,8 @@ int main(void) {
         let told = Command::new(&program).output().unwrap();
         std::fs::remove_file(program).unwrap();
         let due = [
-            (size_of::<raw::TracerOptions>(), offset_of!(raw::TracerOptions, sample)),
-            (size_of::<Report>(), offset_of!(Report, why)),
+            (size_of::<raw::TracerOptions>(), offset_of!(raw::TracerOptions, on_keep_context)),
+            (size_of::<Report>(), offset_of!(Report, keys_refused)),
             (size_of::<raw::TracerPath>(), offset_of!(raw::TracerPath, begun)),
         ];
         let mut due: Vec<_> = due.into_iter().flat_map(|(size, last)| [size, last]).collect();

@@ -1,11 +1,11 @@
 //! The tracer in a box: its counts, its refusals, and what stays of a process that crashes.
 
-use dspec::tracer::{Clock, Event, Options, Path, Recorded, Why};
+use dspec::tracer::{Clock, Event, OnKeep, Options, Path, Recorded, Why};
 use dspec::{Text, Tracer};
 use std::path::PathBuf;
 use std::process::Command;
 use std::sync::atomic::{AtomicBool, AtomicU32, Ordering};
-use std::sync::Arc;
+use std::sync::{Arc, Mutex};
 use std::time::{Duration, Instant};
 use std::{env, fs, mem, process, thread};
 
@@ -118,6 +118,38 @@ fn kept_paths_are_in_the_folder_and_no_other() {
     assert_eq!((report.kept, report.thrown, report.accepted, report.discarded, report.threads), (1, 2, 3, 2, 1));
     assert_eq!((report.not_written, report.code, report.why().as_str()), (0, 0, ""));
     assert_eq!((again.report.kept, again.report.accepted), (1, 3));
+}
+
+/// A parked path is kept when its key is, and those of other keys aren't; the program is told of the key whose path was kept here.
+#[test]
+fn parked_paths_are_kept_by_their_key() {
+    static TOLD: Mutex<Vec<[u8; 16]>> = Mutex::new(Vec::new());
+    let key = |number| [[7; 15].as_slice(), &[number]].concat().try_into().unwrap();
+    let folder = Folder::new();
+    let on_keep = Some(OnKeep(|key| TOLD.lock().unwrap().push(key)));
+    let tracer = folder.start(&Options { park_bytes: 65536, on_keep, ..Options::default() });
+    for number in 0..4 {
+        let mut path = tracer.path();
+        assert_eq!(path.record(&STEP, (number.into(), 1)), Recorded::Kept);
+        assert!(path.key(key(number)) && path.park());
+    }
+    let mut here = tracer.path();
+    assert_eq!(here.record(&STEP, (3, 2)), Recorded::Kept);
+    assert!(here.key(key(3)) && here.keep() && tracer.keep_key(key(1)));
+    assert!(!tracer.path().park());
+    let ended = tracer.stop();
+    let report = ended.report;
+    assert!(ended.whole);
+    assert_eq!((report.parked, report.park_kept, report.park_left, report.kept, report.thrown, report.accepted), (4, 2, 2, 3, 2, 3));
+    assert_eq!(
+        (report.park_evicted, report.park_expired, report.park_least_ms, report.key_missed, report.keys_refused),
+        (0, 0, u64::MAX, 0, 0)
+    );
+    assert_eq!(*TOLD.lock().unwrap(), [key(3)]);
+    if let Some(lines) = folder.own_lines("dspec_kept") {
+        let by_key = lines.iter().filter(|line| line.contains("why = ( \"key\" : container = 8 )"));
+        assert_eq!((lines.len(), by_key.count()), (3, 2));
+    }
 }
 
 #[test]
