@@ -65,14 +65,14 @@ static void note_sent(struct reading *reading, uint32_t what, const uint8_t *byt
 }
 
 static void send_whole(struct reading *reading, uint32_t what, uint32_t place, uint64_t count, bool may_differ, const dspec_batch *batch) {
-    const struct told told = { what, place, batch->drops, batch->len, 0, count, false, may_differ };
+    const struct told told = { .what = what, .place = place, .drops = batch->drops, .length = batch->len, .count = count, .may_differ = may_differ };
     note_sent(reading, what, batch->bytes, batch->len);
     send_bytes(reading, &told, batch->bytes, batch->len);
 }
 
 /* Records of a buffer that the session can't hand out. */
 static void send_raw(struct reading *reading, uint32_t what, uint32_t place, uint32_t buffer, uint64_t skipped, uint64_t count) {
-    const struct told told = { what, place, 0, reading->size, skipped, count, true, false };
+    const struct told told = { .what = what, .place = place, .length = reading->size, .skipped = skipped, .count = count, .is_part = true };
     if (count == 0) return;
     note_sent(reading, what, reading->buffers[buffer & 1], reading->size);
     send_bytes(reading, &told, reading->buffers[buffer & 1], reading->size);

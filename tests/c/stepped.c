@@ -68,7 +68,7 @@ static void add_query(found *all, uint64_t request, uint64_t at) {
 /* The bytes of an event's fields: of the program's, each with the number of its path first, of the tracer's own of a path, and of one that tells of an open path. */
 static uint64_t size_of(uint64_t epid) {
     enum { QUERY = 1, TICK = 2, KEPT = 5 };
-    return epid == QUERY ? 16 : epid == TICK ? 12 : epid == KEPT ? 44 : 12;
+    return epid == QUERY ? 16 : epid == TICK ? 12 : epid == KEPT ? 44 : 32;
 }
 
 /* The events of a file of the lane: queries by their requests, and ticks. */
