@@ -183,10 +183,10 @@ enum { MOST_OF_A_RECORD = 80 };
 
 /* The same of those of parked paths. */
 static const char *complete_parking(dspec_tracer_options *options) {
-    if (options->park_bytes == 0) return options->park_ms > 0 || options->remember_ms > 0 || options->on_keep != NULL ? "park_ms, remember_ms and on_keep stand without park_bytes" : NULL;
+    if (options->park_bytes == 0) return options->park_ms > 0 || options->remember_ms > 0 || options->on_keep != NULL ? "park_ms, remember_ms and on_keep need park_bytes" : NULL;
     set(&options->park_ms, 10000);
     set(&options->remember_ms, options->park_ms);
-    if (options->keep_last) return "park_bytes stands beside keep_last, and the older records of a path aren't parked";
+    if (options->keep_last) return "park_bytes and keep_last are both set, and the older records of a path aren't parked";
     if (options->park_bytes > MOST_PARKED) return "park_bytes is above 2^32";
     return options->park_bytes < options->specsize ? "park_bytes is below specsize, and a ring has room for each path" : NULL;
 }
@@ -205,7 +205,7 @@ static const char *complete(dspec_tracer_options *options) {
     if (options->specsize > options->bufsize) return dspec_status_text(DSPEC_BAD_SPECSIZE);
     if (options->specsize < BYTES_OF_PATH) return "specsize is below 56, and the event that tells of a path needs room";
     if (options->max_bytes > 0) set(&options->max_folders, 4);
-    else if (options->max_folders > 0) return "max_folders stands without max_bytes";
+    else if (options->max_folders > 0) return "max_folders needs max_bytes";
     if (options->max_bytes > 0 && (options->max_folders < 2 || options->max_folders > DSPEC_FOLDER_MOST)) return "max_folders is not 2 to 64";
     if (keep_last && options->paths > 31) return "paths is not 1 to 31, of which each has two speculations by keep_last";
     if (keep_last && options->specsize < MOST_OF_A_RECORD) return "specsize is below 80, and keep_last needs room for each record";

@@ -480,10 +480,10 @@ static void refused(void) {
         dspec_tracer_options options;
         const char *why;
     } all[] = {
-        { { .park_ms = 1 }, "stand without park_bytes" },
-        { { .remember_ms = 1 }, "stand without park_bytes" },
-        { { .on_keep = on_keep }, "stand without park_bytes" },
-        { { .park_bytes = 4096, .keep_last = true }, "park_bytes stands beside keep_last" },
+        { { .park_ms = 1 }, "on_keep need park_bytes" },
+        { { .remember_ms = 1 }, "on_keep need park_bytes" },
+        { { .on_keep = on_keep }, "on_keep need park_bytes" },
+        { { .park_bytes = 4096, .keep_last = true }, "park_bytes and keep_last are both set" },
         { { .park_bytes = 4095 }, "park_bytes is below specsize" },
         { { .park_bytes = ((uint64_t)1 << 32) + 1 }, "park_bytes is above 2^32" },
     };

@@ -154,7 +154,7 @@ static void options(void) {
     refuses(&(dspec_tracer_options){ .specsize = 48 }, DSPEC_PROBES(p00), "specsize is below 56");
     refuses(&(dspec_tracer_options){ .keep_last = true, .paths = 32 }, DSPEC_PROBES(p00), "paths is not 1 to 31");
     refuses(&(dspec_tracer_options){ .keep_last = true, .specsize = 72 }, DSPEC_PROBES(p00), "specsize is below 80");
-    refuses(&(dspec_tracer_options){ .max_folders = 2 }, DSPEC_PROBES(p00), "without max_bytes");
+    refuses(&(dspec_tracer_options){ .max_folders = 2 }, DSPEC_PROBES(p00), "max_folders needs max_bytes");
     refuses(&(dspec_tracer_options){ .max_folders = 1, .max_bytes = 10000000 }, DSPEC_PROBES(p00), "max_folders is not 2 to 64");
     refuses(&(dspec_tracer_options){ .max_folders = 65, .max_bytes = 10000000 }, DSPEC_PROBES(p00), "max_folders is not 2 to 64");
     refuses(&(dspec_tracer_options){ .max_bytes = 100000 }, DSPEC_PROBES(p00), "the room is too small");
