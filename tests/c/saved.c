@@ -170,6 +170,7 @@ static struct {
     uint32_t place;
     uint64_t drops, records;
     uint32_t first; /* the value of its first record */
+    uint64_t key[2];
 } found[MOST_FOUND];
 static size_t founds;
 static int pipe_of;
@@ -181,6 +182,7 @@ static bool finds(void *of, found_batch *batch) {
     found[founds].drops = batch->batch.drops;
     found[founds].records = batch->records;
     found[founds].first = batch->batch.len >= RECORD ? (uint32_t)dspec_number_at(batch->batch.bytes + RECORD - 4, 4) : 0;
+    memcpy(found[founds].key, batch->key, sizeof batch->key);
     CHECK(batch->batch.len == batch->records * RECORD);
     founds++;
     return of != NULL;
@@ -203,11 +205,16 @@ static void tell_word(uint32_t what) { tell((struct told){ .what = what }, 0, 0)
 static bool is_heard(uint32_t specsize) {
     static saved_head head;
     static saved_file file;
+    static _Alignas(body) uint8_t of_tracer[sizeof(body) + sizeof(struct lane)];
     uint8_t bytes[256];
     bool is_well;
     head.bufsize = sizeof bytes;
     head.specsize = specsize;
     file.head = &head;
+    file.tracer = (body *)(void *)of_tracer;
+    file.tracer->lanes[0].open[MAX_OPEN - 1].key_state = HAS_KEY;
+    file.tracer->lanes[0].open[MAX_OPEN - 1].key[0] = 71;
+    file.tracer->lanes[0].open[MAX_OPEN - 1].key[1] = 72;
     file.latest = LATEST;
     file.layout.stamped = true;
     file.layout.enablings = 1;
@@ -235,6 +242,25 @@ static void batches(void) {
     tell((struct told){ .what = FOUND_OPEN, .place = MAX_OPEN - 1, .drops = 9, .count = 3 }, 3, 5);
     tell_word(TELLS_END);
     CHECK(is_heard(64) && founds == 3 && is_found(0, FOUND_BROUGHT, 0, 3, 2, 10) && is_found(1, FOUND_KEPT, 0, MOST_DROPS, 1, 10) && is_found(2, FOUND_OPEN, MAX_OPEN - 1, 0, 3, 10));
+}
+
+static bool has_key(size_t at, uint64_t high, uint64_t low) { return found[at].key[0] == high && found[at].key[1] == low; }
+
+/* An open path has the key that was noted for it. A parked one has that under which it was parked, and is refused where a record isn't of the path that was parked. */
+static void keys(void) {
+    tell((struct told){ .what = FOUND_OPEN, .place = MAX_OPEN - 1, .count = 1 }, 1, 5);
+    tell((struct told){ .what = FOUND_OPEN, .place = 0, .count = 1 }, 1, 5);
+    tell((struct told){ .what = FOUND_PARKED, .key = { 81, 82 }, .path = 10 }, 1, 5);
+    tell((struct told){ .what = FOUND_PARKED, .key = { 91, 92 }, .path = 7 }, 0, 5);
+    tell_word(TELLS_END);
+    CHECK(is_heard(64) && founds == 4 && has_key(0, 71, 72) && has_key(1, 0, 0) && has_key(2, 81, 82) && has_key(3, 91, 92));
+    CHECK(is_found(2, FOUND_PARKED, 0, 0, 1, 10) && is_found(3, FOUND_PARKED, 0, 0, 0, 0));
+    tell((struct told){ .what = FOUND_PARKED, .key = { 81, 82 }, .path = 11 }, 1, 5);
+    tell_word(TELLS_END);
+    CHECK(!is_heard(64));
+    tell((struct told){ .what = FOUND_PARKED, .key = { 81, 82 }, .path = 10 }, 2, 5);
+    tell_word(TELLS_END);
+    CHECK(!is_heard(64));
 }
 
 /* Of a buffer that the session can't hand out: the records that were meant, and none before or after them. */
@@ -302,6 +328,7 @@ int main(void) {
     last_stamp();
     pipe_of = memfd_create("pipe", MFD_CLOEXEC);
     batches();
+    keys();
     parts();
     bounds();
     may_differ();
