@@ -54,7 +54,7 @@ static void folder_of(input *from) {
 
 int LLVMFuzzerTestOneInput(const uint8_t *data, size_t size) {
     input from = { data, size };
-    found_batch batch = { FOUND_BROUGHT, 0, { NULL, 0, 0, 0 }, 0 };
+    found_batch batch = { .kind = FOUND_BROUGHT };
     const dspec_folder *folder = &of.tracer->folder;
     uint64_t unsure, records;
     folder_of(&from);

@@ -49,9 +49,9 @@ fn block_of_a_slot(rt: HostRuntime) -> Result<(), Fail> {
     let two = first.speculation(shared).id();
     let kept = Some(Spoken::Kept);
     same(&rt, first.offer(shared, two, 1, 0, &[3]), kept);
-    same(&rt, first.offer(shared, two, 1, 0, &[258]), kept);
+    same(&rt, first.offer(shared, two, 1, 0, &[200]), kept);
     same(&rt, first.offer(shared, one, 1, 0, &[7]), kept);
-    let of_two: &[u8] = &[1, 0, 0, 0, 3, 0, 0, 0, 1, 0, 0, 0, 2, 1, 0, 0];
+    let of_two: &[u8] = &[1, 0, 0, 0, 3, 0, 0, 0, 1, 0, 0, 0, 200, 0, 0, 0];
     let of_one: &[u8] = &[1, 0, 0, 0, 7, 0, 0, 0];
     same(&rt, first.block_at(two.slot()), of_two);
     same(&rt, first.block_at(one.slot()), of_one);
