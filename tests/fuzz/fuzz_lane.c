@@ -10,6 +10,7 @@ static const uint8_t first_widths[] = { 4, 8, 4 }, second_widths[] = { 4, 8, 8, 
 
 static saved_file *file_of(input *from) {
     static saved_file file;
+    static _Alignas(body) uint8_t of_tracer[sizeof(body) + sizeof(struct lane)];
     static saved_head head;
     memset(&file, 0, sizeof file);
     head.bufsize = (uint32_t)take(from, 2) / 8 * 8 + 8;
@@ -24,6 +25,7 @@ static saved_file *file_of(input *from) {
     file.layout.of[0].fields = sizeof first_widths;
     file.layout.of[1].fields = sizeof second_widths;
     file.layout.of[2].fields = sizeof third_widths;
+    file.tracer = (body *)(void *)of_tracer;
     return &file;
 }
 
@@ -31,8 +33,8 @@ static saved_file *file_of(input *from) {
 static bool is_whole_batch(void *of_file, found_batch *batch) {
     const saved_file *file = of_file;
     size_t at = 0;
-    MUST(batch->kind >= FOUND_BROUGHT && batch->kind <= FOUND_OPEN && batch->place < MAX_OPEN && batch->batch.bytes != NULL);
-    MUST(batch->kind != FOUND_OPEN || batch->batch.drops == 0);
+    MUST(batch->kind >= FOUND_BROUGHT && batch->kind <= FOUND_PARKED && batch->place < MAX_OPEN && batch->batch.bytes != NULL);
+    MUST(batch->kind < FOUND_OPEN || batch->batch.drops == 0);
     MUST(dspec_folder_skips_(&file->layout, &batch->batch, &at, UINT64_MAX) == batch->records && at == batch->batch.len);
     return batch->records % 16 != 15;
 }
