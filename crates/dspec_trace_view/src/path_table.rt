@@ -41,9 +41,18 @@ fn is_chosen(
     end: &KeptEnd,
     records: &[PathRecord],
 ) -> bool {
-    path.took >= choice.longer
-        && choice.why.is_none_or(|why| why == end.why.as_str())
-        && choice.event.is_none_or(|name| has_event(of, records, name))
+    if path.took < choice.longer {
+        return false;
+    }
+    if let Some(why) = choice.why
+        && why != end.why.as_str()
+    {
+        return false;
+    }
+    let Some(name) = choice.event else {
+        return true;
+    };
+    has_event(of, records, name)
 }
 
 /// The words of a path's first record.
