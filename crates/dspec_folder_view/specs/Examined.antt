@@ -27,6 +27,8 @@ status_of_folder (folder.Metadata path fault) = 1
 status_of_folder (folder.Uuid path) = 1
 status_of_folder folder.Clocks = 1
 status_of_folder (folder.NoField name) = 1
+status_of_folder (folder.NoPath number) = 1
+status_of_folder folder.NoDate = 1
 status_of_folder folder.Memory = 2
 
 -- what is told of a folder whose metadata can't be read

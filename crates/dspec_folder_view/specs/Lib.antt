@@ -1,2 +1,3 @@
 pub mod Examined
+pub mod Merged
 pub mod Words

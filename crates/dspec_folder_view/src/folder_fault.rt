@@ -51,6 +51,12 @@ pub enum TraceFolderFault<'a> {
     /// No event of the traces has a field of this name.
     #[error("{0}: no event has a field of this name")]
     NoField(&'a str),
+    /// No path of this number was kept.
+    #[error("{0}: no path of this number was kept")]
+    NoPath(u64),
+    /// The times of the traces aren't times of day.
+    #[error("the traces don't tell when their clocks began: a collector wants times of day")]
+    NoDate,
     /// A growth was refused.
     #[error("out of memory")]
     Memory,
@@ -70,7 +76,9 @@ impl<'a> TraceFolderFault<'a> {
             | TraceFolderFault::Metadata { .. }
             | TraceFolderFault::Uuid(_)
             | TraceFolderFault::Clocks
-            | TraceFolderFault::NoField(_) => 1,
+            | TraceFolderFault::NoField(_)
+            | TraceFolderFault::NoPath(_)
+            | TraceFolderFault::NoDate => 1,
             TraceFolderFault::Memory => 2,
             TraceFolderFault::Text { .. } | TraceFolderFault::File { .. } => 3,
         }

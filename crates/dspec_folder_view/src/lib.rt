@@ -1,6 +1,6 @@
-//! What trace folders of ours hold, whoever wrote them, as `specview folder` shows it: summed up, checked by the definition of what their
-//! bytes say, mended where a stopped writer left something behind, told or drawn, merged by time. What they have is judged by functions over
-//! bytes, whose contracts say what an answer means; reading the files and printing is promised nothing of.
+//! What trace folders of ours hold, whoever wrote them, as `specview folder` needs it: summed up, checked by the definition of what their
+//! bytes say, mended where a stopped writer left something behind, merged by time. What they have is judged by functions over bytes, whose
+//! contracts say what an answer means; reading the files and printing is promised nothing of.
 //!
 //! | File | What is in it |
 //! |---|---|
@@ -8,27 +8,23 @@
 //! | `naming.rt`, `opening.rt` | which file is which CPU's; a folder's metadata and files |
 //! | `judging.rt`, `examining.rt` | `wrong_with`, `mend_of`: what is wrong with a file, and where it is cut (`specs/Examined`); the files of folders, one by one |
 //! | `counting.rt` | the tables of what folders have |
-//! | `merging.rt`, `showing.rt` | what files tell, in order of time; how all of it is shown |
-//! | `listing.rt`, `chart.rt`, `tracks.rt` | as lines; as Chrome's Trace Event form, a row for each CPU, or for each value of a field |
+//! | `merging.rt` | what files tell, in order of time |
 //! | `proofs/` | Uuids (a value that none of all places has) |
 #![tactic(auto)]
 
-mod chart;
 mod counting;
 mod examining;
 mod fault;
 mod folder_fault;
 mod judging;
-mod listing;
 mod merging;
 mod naming;
 mod opening;
-mod showing;
-mod tracks;
 
 pub use counting::count_folders;
 pub use examining::examine_folders;
 pub use fault::FolderViewFault;
 pub use folder_fault::TraceFolderFault;
+pub use merging::{Merged, OpenedTraces, Source, merge_all, metadata_of_all, open_all, put_moment};
 pub use naming::FileName;
-pub use showing::{OutputFormat, show_folders};
+pub use opening::OpenedTrace;

@@ -1,17 +1,19 @@
-//! What several trace folders tell, merged by time.
+//! What several trace folders tell, merged by time: each is opened, then its metadata is read, then its files.
+
+ghost use Rattle.std.specs.Prelude.{IfOk};
+ghost use Rattle.dspec_folder_view.specs.Merged.{IsInOrder};
 
 use crate::fault::FolderViewFault;
 use crate::folder_fault::TraceFolderFault;
 use crate::naming::FileName;
 use crate::opening::OpenedTrace;
-use crate::showing::OpenedTraces;
 use dspec_ctf_reading::Metadata;
 use dspec_ctf_reading::folder::{Base, FileFault, Mark, Moment, base_of, marks_of, sort_by_time};
 use std::alloc::{AllocError, Global};
 
 /// A file that was read.
 #[derive(Debug, Clone, Copy, PartialEq, Eq)]
-pub(crate) struct Source {
+pub struct Source {
     /// The place of its folder.
     pub folder: usize,
     /// The number of its CPU.
@@ -20,7 +22,7 @@ pub(crate) struct Source {
 
 /// What folders tell, in order of time.
 #[derive(Drop)]
-pub(crate) struct Merged {
+pub struct Merged {
     /// What happened. A mark's file is a place in `sources`.
     pub marks: Vec<Mark>,
     /// The files that were read.
@@ -31,13 +33,46 @@ pub(crate) struct Merged {
     pub sound: bool,
 }
 
+/// Traces with their folders.
+#[derive(Clone, Copy)]
+pub struct OpenedTraces<'s, 'o, 'a> {
+    /// The folders.
+    pub opened: &'s [OpenedTrace<'a>],
+    /// What the metadata of each tells.
+    pub metadatas: &'s [Metadata<'o>],
+}
+
+/// Opens the folders of these paths.
+pub fn open_all<'a>(
+    rt: &HostRuntime,
+    paths: &[&'a str],
+) -> Result<Vec<OpenedTrace<'a>>, FolderViewFault<'a>> {
+    let mut opened = Vec::new(rt.alloc());
+    for path in paths {
+        opened.push(OpenedTrace::of(rt, path)?)?;
+    }
+    Ok(opened)
+}
+
+/// What the metadata of each of these folders tells.
+pub fn metadata_of_all<'o, 'a>(
+    alloc: Global,
+    opened: &'o [OpenedTrace<'a>],
+) -> Result<Vec<Metadata<'o>>, FolderViewFault<'a>> {
+    let mut metadatas = Vec::new(alloc);
+    for folder in opened {
+        metadatas.push(folder.metadata(alloc)?)?;
+    }
+    Ok(metadatas)
+}
+
 /// Tells on the error output what is wrong with a file. A line that can't be written changes nothing.
 pub(crate) fn tell_wrong(rt: &HostRuntime, folder: &str, file: FileName, fault: &FileFault) {
     let _ = eprintln!(rt; "specview: {folder}/{file}: {fault}");
 }
 
 /// Adds a time: a day and its time, or seconds from the clock's beginning on.
-pub(crate) fn put_moment(out: &mut String, base: Base, time: u128) -> Result<(), AllocError> {
+pub fn put_moment(out: &mut String, base: Base, time: u128) -> Result<(), AllocError> {
     if base == Base::Clock {
         let (seconds, rest) = (time / 1_000_000_000, time % 1_000_000_000);
         return write!(out, "{seconds}.{rest:09}");
@@ -118,11 +153,13 @@ impl Merged {
     }
 }
 
-/// What these folders tell, in order of time.
-pub(crate) fn merge_all<'a>(
+/// What the files of these folders tell, in order of time: all of it in memory.
+pub fn merge_all<'a>(
     rt: &HostRuntime,
     traces: &OpenedTraces<'_, '_, 'a>,
-) -> Result<Merged, FolderViewFault<'a>> {
+) -> Result<Merged, FolderViewFault<'a>>
+    ensures { IfOk result (λ merged. IsInOrder merged.marks.items) }
+{
     let mut merged = Merged {
         marks: Vec::new(rt.alloc()),
         sources: Vec::new(rt.alloc()),

@@ -11,7 +11,7 @@ use uuid::Uuid;
 
 /// A trace folder.
 #[derive(Debug, Drop)]
-pub(crate) struct OpenedTrace<'a> {
+pub struct OpenedTrace<'a> {
     /// Its path.
     pub path: &'a str,
     /// The text of its metadata.

@@ -12,7 +12,7 @@ const VERSION: &str = "0.1.0";
 
 /// How the program is called.
 const USAGE: &str =
-    "specview ctf --output FOLDER [--by-time HERTZ] [SCHEDULE], specview picture [--output FILE] [SCHEDULE], specview steps [SCHEDULE], specview replay [--bytes] [SCHEDULE], specview folder [--check | --repair | --text | --json [--track FIELD]] DIR ..";
+    "specview ctf --output FOLDER [--by-time HERTZ] [SCHEDULE], specview picture [--output FILE] [SCHEDULE], specview steps [SCHEDULE], specview replay [--bytes] [SCHEDULE], specview folder [--check | --repair | --text | --json [--track FIELD] | --paths [--why LABEL] [--longer TIME] [--event NAME] | --path NUMBER] DIR ..";
 
 /// A trace to be written.
 #[derive(Debug, Clone, Copy)]
@@ -138,7 +138,10 @@ fn ask_found<'a>(
     found: &ArgMatches<'a>,
 ) -> Result<Option<ViewTask<'a>>, AllocError> {
     if let Some(found) = found.subcommand_matches("folder") {
-        return Ok(Some(ViewTask::Folder(folder_ask(alloc, found)?)));
+        return Ok(match folder_ask(alloc, found)? {
+            Some(ask) => Some(ViewTask::Folder(ask)),
+            None => None,
+        });
     }
     if let Some(found) = found.subcommand_matches("picture") {
         return Ok(Some(ViewTask::Picture(picture_ask(found))));

@@ -1,6 +1,7 @@
 //! What the words behind `specview folder` ask for.
 
 use clap::{Arg, ArgAction, ArgMatches, Command};
+use dspec_trace_view::{PathChoice, span_of_words};
 use std::alloc::{AllocError, Global};
 
 /// What is done with trace folders.
@@ -18,6 +19,10 @@ pub enum FolderTask<'a> {
     Json,
     /// The same with a row for each value of a field.
     Tracks(&'a str),
+    /// The kept paths that are chosen are told, a line each.
+    Paths(PathChoice<'a>),
+    /// The records of the path of this number are told.
+    Path(u64),
 }
 
 /// Folders, and what is done with them.
@@ -37,69 +42,138 @@ fn flag<'a>(alloc: Global, name: &'a str, help: &'a str) -> Arg<'a> {
         .help(help)
 }
 
-/// The flag of a check, which excludes the others.
-fn check_flag<'a>(alloc: Global) -> Result<Arg<'a>, AllocError> {
+/// The names of what can be done with folders, of which one at most is asked for.
+const TASKS: [&str; 6] = ["check", "repair", "text", "json", "paths", "path"];
+
+/// An argument that none of these goes with.
+fn excluding<'a>(arg: Arg<'a>, names: &[&'a str]) -> Result<Arg<'a>, AllocError> {
+    let mut arg = arg;
+    for name in names {
+        arg = arg.conflicts_with(name)?;
+    }
+    Ok(arg)
+}
+
+/// The flag of a check.
+fn check_flag<'a>(alloc: Global) -> Arg<'a> {
     flag(
         alloc,
         "check",
         "read each packet of each file, and tell which file is wrong at which byte",
     )
-    .conflicts_with("repair")?
-    .conflicts_with("text")?
-    .conflicts_with("json")
 }
 
 /// The flag of a repair.
 fn repair_flag<'a>(alloc: Global) -> Result<Arg<'a>, AllocError> {
-    flag(
+    let repair = flag(
         alloc,
         "repair",
         "the same, and cut off what a stopped writer left behind the last whole packet of a file; of folders that nobody writes to any more",
-    )
-    .conflicts_with("text")?
-    .conflicts_with("json")
+    );
+    excluding(repair, &TASKS[..1])
 }
 
 /// The flag of lines.
 fn text_flag<'a>(alloc: Global) -> Result<Arg<'a>, AllocError> {
-    flag(
+    let text = flag(
         alloc,
         "text",
         "tell all events, a line each; those of several folders by time, all of them in memory",
-    )
-    .conflicts_with("json")
+    );
+    excluding(text, &TASKS[..2])
 }
 
 /// The flag of a document.
-fn json_flag<'a>(alloc: Global) -> Arg<'a> {
-    flag(
+fn json_flag<'a>(alloc: Global) -> Result<Arg<'a>, AllocError> {
+    let json = flag(
         alloc,
         "json",
         "the same as a document of Chrome's Trace Event form, which ui.perfetto.dev opens",
-    )
+    );
+    excluding(json, &TASKS[..3])
+}
+
+/// The flag of a table of paths.
+fn paths_flag<'a>(alloc: Global) -> Result<Arg<'a>, AllocError> {
+    let paths = flag(
+        alloc,
+        "paths",
+        "tell the kept paths, a line each, the one that took longest first: its number, why it was kept, the thread that began it, when, how long it took, how many records it has, how many are cut, the first",
+    );
+    excluding(paths, &TASKS[..4])
+}
+
+/// The option of one path.
+fn path_arg<'a>(alloc: Global) -> Result<Arg<'a>, AllocError> {
+    let path = Arg::new(alloc, "path")
+        .long("path")
+        .value_name("NUMBER")
+        .value_parser(clap::value_parser!(u64))
+        .help(
+            "tell the records of the path of this number, and how long after its begin each was made",
+        );
+    excluding(path, &TASKS[..5])
 }
 
 /// The flags, of which one at most is given.
 fn flags<'a>(alloc: Global, command: Command<'a>) -> Result<Command<'a>, AllocError> {
     command
-        .arg(check_flag(alloc)?)?
+        .arg(check_flag(alloc))?
         .arg(repair_flag(alloc)?)?
         .arg(text_flag(alloc)?)?
-        .arg(json_flag(alloc))
+        .arg(json_flag(alloc)?)?
+        .arg(paths_flag(alloc)?)?
+        .arg(path_arg(alloc)?)
 }
 
 /// The option of `--json` that draws rows. A flag that is asked for is no longer wanted where another excludes it, so each of those is named.
 fn track_arg<'a>(alloc: Global) -> Result<Arg<'a>, AllocError> {
-    Arg::new(alloc, "track")
+    let track = Arg::new(alloc, "track")
         .long("track")
         .value_name("FIELD")
         .help(
             "with --json: a row for each value of the field of this name, as that of a path's number, named `FIELD VALUE`, of all records that have it, in each folder; the other records stay in the rows of their CPUs",
         )
-        .requires_arg("json")?
-        .conflicts_with("check")?
-        .conflicts_with("repair")?
-        .conflicts_with("text")
+        .requires_arg("json")?;
+    excluding(track, &["check", "repair", "text", "paths", "path"])
+}
+
+/// An option of `--paths`.
+fn choice_arg<'a>(
+    alloc: Global,
+    name: &'a str,
+    value: &'a str,
+    help: &'a str,
+) -> Result<Arg<'a>, AllocError> {
+    let choice = Arg::new(alloc, name)
+        .long(name)
+        .value_name(value)
+        .help(help)
+        .requires_arg("paths")?;
+    excluding(choice, &["check", "repair", "text", "json", "path"])
+}
+
+/// The options of `--paths`.
+fn choices<'a>(alloc: Global, command: Command<'a>) -> Result<Command<'a>, AllocError> {
+    let why = choice_arg(
+        alloc,
+        "why",
+        "LABEL",
+        "with --paths: those that were kept for this reason, as `failed`",
+    )?;
+    let longer = choice_arg(
+        alloc,
+        "longer",
+        "TIME",
+        "with --paths: those that took so long or longer, as `5ms`; in ns, us, ms or s",
+    )?;
+    let event = choice_arg(
+        alloc,
+        "event",
+        "NAME",
+        "with --paths: those with a record of this name",
+    )?;
+    command.arg(why)?.arg(longer)?.arg(event)
 }
 
 /// The subcommand that shows trace folders.
@@ -107,33 +181,52 @@ pub fn folder_command<'a>(alloc: Global) -> Result<Command<'a>, AllocError> {
     let command = Command::new(alloc, "folder").about(
         "sum up trace folders of the Common Trace Format: what each has, and when; or check, mend, tell or draw them. Several folders are merged by time where their clocks are one, or each tells when it began",
     );
-    let paths = Arg::new(alloc, "paths")
+    let folders = Arg::new(alloc, "folders")
         .value_name("DIR")
         .required(true)
         .action(ArgAction::Append)
         .num_args(1..)
         .help("a trace folder");
-    flags(alloc, command)?.arg(track_arg(alloc)?)?.arg(paths)
+    let command = flags(alloc, command)?.arg(track_arg(alloc)?)?;
+    choices(alloc, command)?.arg(folders)
 }
 
-/// What is done, by the flags.
-fn task_of<'a>(found: &ArgMatches<'a>) -> FolderTask<'a> {
+/// The paths that are asked for; None where the time isn't one.
+fn choice_of<'a>(found: &ArgMatches<'a>) -> Option<PathChoice<'a>> {
+    Some(PathChoice {
+        why: found.get_str("why"),
+        longer: match found.get_str("longer") {
+            Some(text) => span_of_words(text)?,
+            None => 0,
+        },
+        event: found.get_str("event"),
+    })
+}
+
+/// What is done, by the flags; None where a time isn't one.
+fn task_of<'a>(found: &ArgMatches<'a>) -> Option<FolderTask<'a>> {
     if found.get_flag("check") {
-        return FolderTask::Check;
+        return Some(FolderTask::Check);
     }
     if found.get_flag("repair") {
-        return FolderTask::Repair;
+        return Some(FolderTask::Repair);
     }
     if found.get_flag("text") {
-        return FolderTask::Text;
+        return Some(FolderTask::Text);
     }
     if let Some(field) = found.get_str("track") {
-        return FolderTask::Tracks(field);
+        return Some(FolderTask::Tracks(field));
     }
     if found.get_flag("json") {
-        return FolderTask::Json;
+        return Some(FolderTask::Json);
     }
-    FolderTask::Count
+    if found.get_flag("paths") {
+        return Some(FolderTask::Paths(choice_of(found)?));
+    }
+    if let Some(number) = found.get_one::<u64>("path") {
+        return Some(FolderTask::Path(number));
+    }
+    Some(FolderTask::Count)
 }
 
 /// A path without the slashes behind it.
@@ -142,16 +235,19 @@ fn trimmed<'a>(path: &'a str) -> &'a str {
     if short.is_empty() { path } else { short }
 }
 
-/// What is asked for.
-pub fn folder_ask<'a>(alloc: Global, found: &ArgMatches<'a>) -> Result<FolderAsk<'a>, AllocError> {
+/// What is asked for; None where a time isn't one.
+pub fn folder_ask<'a>(
+    alloc: Global,
+    found: &ArgMatches<'a>,
+) -> Result<Option<FolderAsk<'a>>, AllocError> {
+    let Some(task) = task_of(found) else {
+        return Ok(None);
+    };
     let mut paths = Vec::new(alloc);
-    if let Some(given) = found.get_strs("paths") {
+    if let Some(given) = found.get_strs("folders") {
         for path in given {
             paths.push(trimmed(*path))?;
         }
     }
-    Ok(FolderAsk {
-        task: task_of(found),
-        paths,
-    })
+    Ok(Some(FolderAsk { task, paths }))
 }

@@ -16,9 +16,10 @@
 //! `batch`. A schedule that the player refuses it refuses with the player's line, and one with a line that is no whole call with a status of
 //! its own.
 //!
-//! `specview folder [--check | --repair | --text | --json [--track FIELD]] DIR ..` sums up trace folders of ours, whoever wrote them; or checks them, by the
-//! definition of what their bytes say, and cuts off what a stopped writer left; or tells or draws all that they have, merged by time: all of
-//! it is of the crate `dspec_folder_view`.
+//! `specview folder [--check | --repair | --text | --json [--track FIELD] | --paths | --path NUMBER] DIR ..` sums up trace
+//! folders of ours, whoever wrote them; or checks them, by the definition of what their bytes say, and cuts off what a stopped writer left: both
+//! are of the crate `dspec_folder_view`. Or it tells or draws all that they have, merged by time, or tells the paths that a tracer kept: those
+//! are of `dspec_trace_view`.
 //!
 //! | File | What is in it |
 //! |---|---|
@@ -48,10 +49,9 @@ mod trace;
 
 use arguments::{PictureAsk, TraceAsk, ViewTask, ask_of};
 use dspec_command::{Input, ended, open, print_text, words_of};
-use dspec_folder_view::{
-    FolderViewFault, OutputFormat, count_folders, examine_folders, show_folders,
-};
+use dspec_folder_view::{FolderViewFault, count_folders, examine_folders};
 use dspec_replay::read_whole;
+use dspec_trace_view::{OutputFormat, show_folders};
 use fault::ViewFault;
 use folder::{OutputFolder, write_trace};
 use folder_asking::{FolderAsk, FolderTask};
@@ -139,6 +139,8 @@ fn run_folder<'a>(rt: &HostRuntime, ask: &FolderAsk<'a>) -> Result<bool, FolderV
         FolderTask::Text => show_folders(rt, paths, OutputFormat::Text),
         FolderTask::Json => show_folders(rt, paths, OutputFormat::Json),
         FolderTask::Tracks(field) => show_folders(rt, paths, OutputFormat::Tracks(field)),
+        FolderTask::Paths(choice) => show_folders(rt, paths, OutputFormat::Paths(choice)),
+        FolderTask::Path(number) => show_folders(rt, paths, OutputFormat::Path(number)),
     }
 }
 

@@ -4,3 +4,4 @@ pub use Rattle.dspec_ctf_reading.specs.declared.fault.MetadataReadFault.{Metadat
 pub use Rattle.dspec_ctf_reading.specs.declared.fault.MetadataReadFault.TheVariants.{Line, Memory as no_memory, TooLarge}
 pub use Rattle.dspec_ctf_reading.specs.declared.folder.check.Whose.{Whose}
 pub use Rattle.dspec_ctf_reading.specs.declared.folder.fault.FileFault.{FileFault}
+pub use Rattle.dspec_ctf_reading.specs.declared.folder.mark.Mark.{Mark}

@@ -1,16 +1,15 @@
 //! Traces as a document of Chrome's Trace Event form, which ui.perfetto.dev and chrome://tracing open: a process for each folder, and in
 //! it a row for each CPU.
 
-use crate::merging::{Merged, Source};
-use crate::showing::OpenedTraces;
 use dspec_ctf_reading::Metadata;
 use dspec_ctf_reading::folder::{Mark, Track, What, chrome_event, chrome_missed, chrome_name};
+use dspec_folder_view::{Merged, OpenedTraces, Source};
 use std::alloc::{AllocError, Global};
 use std::io;
 use std::io::Write;
 
 /// What stands before the events.
-pub(crate) const FRONT: &[u8] = b"{\"displayTimeUnit\":\"ns\",\"traceEvents\":[\n";
+pub(crate) const FRONT: &str = "{\"displayTimeUnit\":\"ns\",\"traceEvents\":[\n";
 
 /// What stands behind them.
 pub(crate) const END: &[u8] = b"\n]}\n";
@@ -117,6 +116,15 @@ fn nanoseconds_of(merged: &Merged, mark: &Mark, places: &mut [u64]) -> u64 {
     now
 }
 
+/// The number of the first row that isn't a CPU's: each CPU's is below it.
+pub(crate) fn first_number(merged: &Merged) -> u64 {
+    let mut first = 1u64;
+    for source in &merged.sources {
+        first = first.max(track_of(source).number.saturating_add(1));
+    }
+    first
+}
+
 /// Writes an event, behind a comma where it isn't the first.
 pub(crate) fn put_event<W: Write>(out: &mut W, first: bool, event: &str) -> io::Result<()> {
     if !first {
@@ -154,7 +162,7 @@ pub(crate) fn write_chart<W: Write>(
     traces: &OpenedTraces<'_, '_, '_>,
     merged: &Merged,
 ) -> io::Result<()> {
-    out.write_all(FRONT)?;
+    out.write_all(FRONT.as_bytes())?;
     put_names(alloc, out, traces, merged)?;
     let mut places = vec![in alloc; 0u64; merged.sources.len()]?;
     for mark in &merged.marks {

@@ -1,15 +1,18 @@
 //! Traces as lines of text.
 
-use crate::merging::{Merged, put_moment};
-use crate::showing::OpenedTraces;
 use dspec_ctf_reading::Metadata;
 use dspec_ctf_reading::folder::{Mark, What, event_text, missed_text};
+use dspec_folder_view::{Merged, OpenedTraces, put_moment};
 use std::alloc::{AllocError, Global};
 use std::io;
 use std::io::Write;
 
 /// Adds whose trace it is: its machine, program and process, where it tells them, else its folder.
-fn put_whose(out: &mut String, path: &str, metadata: &Metadata<'_>) -> Result<(), AllocError> {
+pub(crate) fn put_whose(
+    out: &mut String,
+    path: &str,
+    metadata: &Metadata<'_>,
+) -> Result<(), AllocError> {
     match metadata.process {
         Some(process) => {
             let (host, name, pid) = (process.host, process.name, process.pid);

@@ -2,14 +2,13 @@
 //! number: they stand in it in order of time, whichever CPUs they were made on.
 
 use crate::chart::{
-    END, FRONT, STEP, behind_begin, cpu_name, event_of, process_name, put_event, track_of,
+    END, FRONT, STEP, behind_begin, cpu_name, event_of, first_number, process_name, put_event,
 };
-use crate::merging::{Merged, Source};
-use crate::showing::OpenedTraces;
 use dspec_ctf_reading::EventText;
 use dspec_ctf_reading::folder::{
     Mark, RowRecord, Track, What, chrome_name, chrome_record, field_text,
 };
+use dspec_folder_view::{Merged, OpenedTraces, Source};
 use std::alloc::{AllocError, Global};
 use std::io;
 use std::io::Write;
@@ -126,15 +125,6 @@ fn rows_of(alloc: Global, all: &[Placed]) -> Result<Vec<TrackRow>, AllocError> {
     }
     rows.sort_by_key(|row| row.order)?;
     Ok(rows)
-}
-
-/// The number of the first row that isn't a CPU's: each CPU's is below it.
-fn first_number(merged: &Merged) -> u64 {
-    let mut first = 1u64;
-    for source in &merged.sources {
-        first = first.max(track_of(source).number.saturating_add(1));
-    }
-    first
 }
 
 /// What a row is called.
@@ -286,7 +276,7 @@ pub(crate) fn write_tracks<'s, W: Write>(
     };
     let all = placed_marks(alloc, traces, merged, field)?;
     let rows = rows_of(alloc, all.as_slice())?;
-    out.write_all(FRONT)?;
+    out.write_all(FRONT.as_bytes())?;
     put_processes(alloc, out, page)?;
     let mut number = first_number(merged);
     for row in &rows {

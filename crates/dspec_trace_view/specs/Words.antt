@@ -1,0 +1,2 @@
+-- Serves proofs. The words of this crate for its proofs and for the crates above, in one place. Declares nothing.
+pub use Rattle.dspec_trace_view.specs.Paths.{IsRecordOf}
