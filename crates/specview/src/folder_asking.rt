@@ -42,18 +42,6 @@ fn flag<'a>(alloc: Global, name: &'a str, help: &'a str) -> Arg<'a> {
         .help(help)
 }
 
-/// The names of what can be done with folders, of which one at most is asked for.
-const TASKS: [&str; 6] = ["check", "repair", "text", "json", "paths", "path"];
-
-/// An argument that none of these goes with.
-fn excluding<'a>(arg: Arg<'a>, names: &[&'a str]) -> Result<Arg<'a>, AllocError> {
-    let mut arg = arg;
-    for name in names {
-        arg = arg.conflicts_with(name)?;
-    }
-    Ok(arg)
-}
-
 /// The flag of a check.
 fn check_flag<'a>(alloc: Global) -> Arg<'a> {
     flag(
@@ -65,54 +53,64 @@ fn check_flag<'a>(alloc: Global) -> Arg<'a> {
 
 /// The flag of a repair.
 fn repair_flag<'a>(alloc: Global) -> Result<Arg<'a>, AllocError> {
-    let repair = flag(
+    flag(
         alloc,
         "repair",
         "the same, and cut off what a stopped writer left behind the last whole packet of a file; of folders that nobody writes to any more",
-    );
-    excluding(repair, &TASKS[..1])
+    )
+    .conflicts_with("check")
 }
 
 /// The flag of lines.
 fn text_flag<'a>(alloc: Global) -> Result<Arg<'a>, AllocError> {
-    let text = flag(
+    flag(
         alloc,
         "text",
         "tell all events, a line each; those of several folders by time, all of them in memory",
-    );
-    excluding(text, &TASKS[..2])
+    )
+    .conflicts_with("check")?
+    .conflicts_with("repair")
 }
 
 /// The flag of a document.
 fn json_flag<'a>(alloc: Global) -> Result<Arg<'a>, AllocError> {
-    let json = flag(
+    flag(
         alloc,
         "json",
         "the same as a document of Chrome's Trace Event form, which ui.perfetto.dev opens",
-    );
-    excluding(json, &TASKS[..3])
+    )
+    .conflicts_with("check")?
+    .conflicts_with("repair")?
+    .conflicts_with("text")
 }
 
 /// The flag of a table of paths.
 fn paths_flag<'a>(alloc: Global) -> Result<Arg<'a>, AllocError> {
-    let paths = flag(
+    flag(
         alloc,
         "paths",
         "tell the kept paths, a line each, the one that took longest first: its number, why it was kept, the thread that began it, when, how long it took, how many records it has, how many are cut, the first",
-    );
-    excluding(paths, &TASKS[..4])
+    )
+    .conflicts_with("check")?
+    .conflicts_with("repair")?
+    .conflicts_with("text")?
+    .conflicts_with("json")
 }
 
 /// The option of one path.
 fn path_arg<'a>(alloc: Global) -> Result<Arg<'a>, AllocError> {
-    let path = Arg::new(alloc, "path")
+    Arg::new(alloc, "path")
         .long("path")
         .value_name("NUMBER")
         .value_parser(clap::value_parser!(u64))
         .help(
             "tell the records of the path of this number, and how long after its begin each was made",
-        );
-    excluding(path, &TASKS[..5])
+        )
+        .conflicts_with("check")?
+        .conflicts_with("repair")?
+        .conflicts_with("text")?
+        .conflicts_with("json")?
+        .conflicts_with("paths")
 }
 
 /// The flags, of which one at most is given.
@@ -128,14 +126,18 @@ fn flags<'a>(alloc: Global, command: Command<'a>) -> Result<Command<'a>, AllocEr
 
 /// The option of `--json` that draws rows. A flag that is asked for is no longer wanted where another excludes it, so each of those is named.
 fn track_arg<'a>(alloc: Global) -> Result<Arg<'a>, AllocError> {
-    let track = Arg::new(alloc, "track")
+    Arg::new(alloc, "track")
         .long("track")
         .value_name("FIELD")
         .help(
             "with --json: a row for each value of the field of this name, as that of a path's number, named `FIELD VALUE`, of all records that have it, in each folder; the other records stay in the rows of their CPUs",
         )
-        .requires_arg("json")?;
-    excluding(track, &["check", "repair", "text", "paths", "path"])
+        .requires_arg("json")?
+        .conflicts_with("check")?
+        .conflicts_with("repair")?
+        .conflicts_with("text")?
+        .conflicts_with("paths")?
+        .conflicts_with("path")
 }
 
 /// An option of `--paths`.
@@ -145,12 +147,16 @@ fn choice_arg<'a>(
     value: &'a str,
     help: &'a str,
 ) -> Result<Arg<'a>, AllocError> {
-    let choice = Arg::new(alloc, name)
+    Arg::new(alloc, name)
         .long(name)
         .value_name(value)
         .help(help)
-        .requires_arg("paths")?;
-    excluding(choice, &["check", "repair", "text", "json", "path"])
+        .requires_arg("paths")?
+        .conflicts_with("check")?
+        .conflicts_with("repair")?
+        .conflicts_with("text")?
+        .conflicts_with("json")?
+        .conflicts_with("path")
 }
 
 /// The options of `--paths`.
